@@ -1,0 +1,48 @@
+-- How large the expressions of an accepted source are.
+use Rattle.std.specs.Prelude.{ℕ, ◌+◌, ◌-◌, ◌≤◌, max, List, [], ◌∷◌, length, Some, None, All}
+use Rattle.std.specs.List.{flat_map}
+use Rattle.om_lexer.specs.declared.token.Punctuator.TheVariants as punctuators
+use Rattle.om_lexer.specs.declared.token.Token.{Token}
+use Rattle.om_lexer.specs.declared.token.TokenKind.{TokenKind}
+use Rattle.om_lexer.specs.declared.token.TokenKind.TheVariants as kinds
+use Rattle.om_parser.specs.declared.unit.TheConstants.{NESTING_LIMIT, TOKEN_LIMIT}
+use Rattle.om_parser.specs.Spelling.{expression_spelling}
+use Rattle.om_parser.specs.Tree.{ExpressionTree, Name, Constant, Paren, Binary, Assign, StatementTree, Expression, Return, ItemTree, Declaration, Function, UnitTree}
+
+-- how many parentheses stand round the innermost part
+abbrev pub nesting : ExpressionTree → ℕ
+nesting (Name n) = 0
+nesting (Constant n) = 0
+nesting (Paren left e right) = nesting e + 1
+nesting (Binary a o at b) = max (nesting a) (nesting b)
+nesting (Assign a o at b) = max (nesting a) (nesting b)
+
+-- the expressions that are no part of another one (C17 6.8, full expressions)
+abbrev pub expressions_of_statement : StatementTree → List ExpressionTree
+expressions_of_statement (Expression e semicolon) = e ∷ []
+expressions_of_statement (Return at (Some e) semicolon) = e ∷ []
+expressions_of_statement (Return at None semicolon) = []
+
+abbrev pub expressions_of_item : ItemTree → List ExpressionTree
+expressions_of_item (Declaration d) = []
+expressions_of_item (Function f) = flat_map expressions_of_statement f.body.statements
+
+unfoldable pub whole_expressions : UnitTree → List ExpressionTree
+whole_expressions u = flat_map expressions_of_item u.items
+
+-- an expression of at most 4,096 tokens, in which parentheses nest at most 128 deep
+unfoldable pub IsSmall : ExpressionTree → Type 0
+IsSmall e = (nesting e ≤ NESTING_LIMIT) × (length (expression_spelling e) ≤ TOKEN_LIMIT)
+
+unfoldable pub IsWithinLimits : UnitTree → Type 0
+IsWithinLimits u = All IsSmall (whole_expressions u)
+
+-- how many parentheses stand open behind these tokens, where so many stood open before
+unfoldable pub still_open : ℕ → List Token → ℕ
+still_open n [] = n
+still_open n (t ∷ ts) = still_open (open_after n t.kind) ts
+  where
+    open_after : ℕ → TokenKind → ℕ
+    open_after n (kinds.Punctuator punctuators.OpenParen) = n + 1
+    open_after n (kinds.Punctuator punctuators.CloseParen) = n - 1
+    open_after n _ = n
