@@ -1,0 +1,92 @@
+-- The rules on names, each by the breaches that a tree has of it, in the order of the text.
+use Rattle.std.specs.Prelude.{ℕ, ◌+◌, List, [], ◌∷◌, ◌++◌, Option, None, Some, Bool, true, false, codes, map, nat_lt, if◌then◌else◌, not}
+use Rattle.std.specs.List.{list_any}
+use Rattle.std.specs.Str.{bytes_eq}
+use Rattle.om_lexer.specs.declared.fault.FaultCode.{FaultCode}
+use Rattle.om_lexer.specs.declared.fault.FaultCode.TheVariants as faults
+use Rattle.om_lexer.specs.declared.fault.SourceFault.{SourceFault}
+use Rattle.om_parser.specs.declared.tree.Declarator.{Declarator}
+use Rattle.om_parser.specs.declared.tree.Name as names
+use Rattle.om_parser.specs.declared.tree.Number.{Number}
+use Rattle.om_parser.specs.Tree.{ExpressionTree, Name, Constant, Paren, Binary, Assign, StatementTree, Expression, Return, FunctionTree, DeclarationTree, ItemTree, Declaration, Function, UnitTree}
+use Rattle.om_scope.specs.declared.symbols.Meaning.{Meaning}
+use Rattle.om_scope.specs.declared.symbols.Meaning.TheVariants as meanings
+use Rattle.om_scope.specs.declared.unit.TheConstants.{GLOBAL_LIMIT}
+use Rattle.om_scope.specs.Scopes.{Scopes, file_scope, body_scopes, meaning_of, is_declared, globals_in, with_global, with_function, declarators_of, scopes_after}
+
+-- a breach at a place, where there is one
+abbrev pub breach_if : Bool → FaultCode → ℕ → List SourceFault
+breach_if broken code at = if broken then record { code = code; at = at } ∷ [] else []
+
+-- S7: used where no declaration stands before; S9: a function that is used as a variable
+abbrev pub meaning_breaches : Option Meaning → ℕ → List SourceFault
+meaning_breaches None at = breach_if true faults.Undeclared at
+meaning_breaches (Some meanings.Function) at = breach_if true faults.Misuse at
+meaning_breaches (Some (meanings.Variable variable)) at = []
+
+abbrev pub use_breaches : Scopes → names.Name → List SourceFault
+use_breaches scopes name = meaning_breaches (meaning_of scopes name.text) name.span.start
+
+-- S10: a constant that no `int` holds
+abbrev pub constant_breaches : Number → List SourceFault
+constant_breaches number = breach_if (nat_lt 2147483647 number.value) faults.ConstantTooLarge number.span.start
+
+-- S8: declared again in the same scope (C17 6.7p3)
+abbrev pub redeclared_breaches : Scopes → names.Name → List SourceFault
+redeclared_breaches scopes name = breach_if (is_declared scopes name.text) faults.Redeclared name.span.start
+
+-- S9: a global named `main`; S11: more globals than a source may declare
+abbrev pub global_breaches : Scopes → names.Name → List SourceFault
+global_breaches scopes name =
+    breach_if (bytes_eq name.text (codes "main")) faults.Misuse name.span.start
+    ++ breach_if (nat_lt GLOBAL_LIMIT (globals_in scopes + 1)) faults.TooMany name.span.start
+
+unfoldable pub expression_breaches : Scopes → ExpressionTree → List SourceFault
+expression_breaches scopes (Name n) = use_breaches scopes n
+expression_breaches scopes (Constant n) = constant_breaches n
+expression_breaches scopes (Paren left e right) = expression_breaches scopes e
+expression_breaches scopes (Binary a o at b) = expression_breaches scopes a ++ expression_breaches scopes b
+expression_breaches scopes (Assign a o at b) = expression_breaches scopes a ++ expression_breaches scopes b
+
+unfoldable pub statement_breaches : Scopes → StatementTree → List SourceFault
+statement_breaches scopes (Expression e semicolon) = expression_breaches scopes e
+statement_breaches scopes (Return at (Some e) semicolon) = expression_breaches scopes e
+statement_breaches scopes (Return at None semicolon) = []
+
+unfoldable pub statements_breaches : Scopes → List StatementTree → List SourceFault
+statements_breaches scopes [] = []
+statements_breaches scopes (s ∷ ss) = statement_breaches scopes s ++ statements_breaches scopes ss
+
+-- a name is declared before its initializer, and before the next declarator
+unfoldable pub declarators_breaches : Scopes → List Declarator → List SourceFault
+declarators_breaches scopes [] = []
+declarators_breaches scopes (d ∷ ds) =
+    redeclared_breaches scopes d.name
+    ++ global_breaches scopes d.name
+    ++ initializer_breaches d.initializer
+    ++ declarators_breaches (with_global scopes d.name.text) ds
+
+unfoldable pub function_breaches : Scopes → FunctionTree → List SourceFault
+function_breaches scopes f =
+    redeclared_breaches scopes f.name
+    ++ statements_breaches (body_scopes (with_function scopes f.name.text)) f.body.statements
+
+unfoldable pub item_breaches : Scopes → ItemTree → List SourceFault
+item_breaches scopes (Declaration d) = declarators_breaches scopes (declarators_of d)
+item_breaches scopes (Function f) = function_breaches scopes f
+
+unfoldable pub items_breaches : Scopes → List ItemTree → List SourceFault
+items_breaches scopes [] = []
+items_breaches scopes (item ∷ items) = item_breaches scopes item ++ items_breaches (scopes_after scopes item) items
+
+abbrev pub is_main : ItemTree → Bool
+is_main (Declaration d) = false
+is_main (Function f) = bytes_eq f.name.text (codes "main")
+
+-- S15: no function is named `main`
+abbrev pub main_breaches : UnitTree → List SourceFault
+main_breaches unit = breach_if (not (list_any is_main unit.items)) faults.NoMain unit.end.start
+
+-- all breaches of a tree
+unfoldable pub breaches_of : UnitTree → List SourceFault
+breaches_of unit = items_breaches file_scope unit.items ++ main_breaches unit

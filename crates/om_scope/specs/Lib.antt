@@ -1,0 +1,5 @@
+pub mod Scopes
+pub mod Breaches
+pub mod ResolvedTree
+pub mod ResolvedView
+pub mod Resolution
