@@ -6,6 +6,7 @@ use Rattle.om_lexer.specs.declared.fault.FaultCode.{FaultCode}
 use Rattle.om_lexer.specs.declared.fault.FaultCode.TheVariants as faults
 use Rattle.om_lexer.specs.declared.fault.SourceFault.{SourceFault}
 use Rattle.om_parser.specs.declared.tree.Declarator.{Declarator}
+use Rattle.om_parser.specs.declared.tree.Initializer.{Initializer}
 use Rattle.om_parser.specs.declared.tree.Name as names
 use Rattle.om_parser.specs.declared.tree.Number.{Number}
 use Rattle.om_parser.specs.Tree.{ExpressionTree, Name, Constant, Paren, Binary, Assign, StatementTree, Expression, Return, FunctionTree, DeclarationTree, ItemTree, Declaration, Function, UnitTree}
@@ -13,6 +14,11 @@ use Rattle.om_scope.specs.declared.symbols.Meaning.{Meaning}
 use Rattle.om_scope.specs.declared.symbols.Meaning.TheVariants as meanings
 use Rattle.om_scope.specs.declared.unit.TheConstants.{GLOBAL_LIMIT}
 use Rattle.om_scope.specs.Scopes.{Scopes, file_scope, body_scopes, meaning_of, is_declared, globals_in, with_global, with_function, declarators_of, scopes_after}
+
+-- the first breach, if there is one
+abbrev pub first_of : List SourceFault → Option SourceFault
+first_of [] = None
+first_of (breach ∷ breaches) = Some breach
 
 -- a breach at a place, where there is one
 abbrev pub breach_if : Bool → FaultCode → ℕ → List SourceFault
@@ -30,6 +36,10 @@ use_breaches scopes name = meaning_breaches (meaning_of scopes name.text) name.s
 -- S10: a constant that no `int` holds
 abbrev pub constant_breaches : Number → List SourceFault
 constant_breaches number = breach_if (nat_lt 2147483647 number.value) faults.ConstantTooLarge number.span.start
+
+abbrev pub initializer_breaches : Option Initializer → List SourceFault
+initializer_breaches None = []
+initializer_breaches (Some initializer) = constant_breaches initializer.number
 
 -- S8: declared again in the same scope (C17 6.7p3)
 abbrev pub redeclared_breaches : Scopes → names.Name → List SourceFault
@@ -57,7 +67,7 @@ unfoldable pub statements_breaches : Scopes → List StatementTree → List Sour
 statements_breaches scopes [] = []
 statements_breaches scopes (s ∷ ss) = statement_breaches scopes s ++ statements_breaches scopes ss
 
--- a name is declared before its initializer, and before the next declarator
+-- the scope of a name begins behind the name itself (C17 6.2.1p7)
 unfoldable pub declarators_breaches : Scopes → List Declarator → List SourceFault
 declarators_breaches scopes [] = []
 declarators_breaches scopes (d ∷ ds) =

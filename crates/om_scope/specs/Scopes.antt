@@ -4,6 +4,8 @@ use Rattle.std.specs.Map.{lookup}
 use Rattle.std.specs.Option.{option_or}
 use Rattle.std.specs.Str.{bytes_eq}
 use Rattle.std.specs.declared.alloc.Global.{Global}
+use Rattle.om_parser.specs.declared.tree.Declarator.{Declarator}
+use Rattle.om_parser.specs.Tree.{DeclarationTree, ItemTree, Declaration, Function}
 use Rattle.om_scope.specs.declared.resolved.Variable.TheVariants as variables
 use Rattle.om_scope.specs.declared.symbols.Meaning.{Meaning}
 use Rattle.om_scope.specs.declared.symbols.Meaning.TheVariants as meanings
@@ -59,3 +61,21 @@ with_function scopes name = with_binding scopes (name, meanings.Function)
 -- the functions that are declared before any source (C17 7.21.6.3, OpenMP 5.2 section 18.2)
 abbrev pub file_scope : Scopes
 file_scope = ((codes "printf", meanings.Function) ∷ (codes "omp_get_thread_num", meanings.Function) ∷ (codes "omp_get_num_threads", meanings.Function) ∷ []) ∷ []
+
+-- the declarators of a declaration, in their order
+abbrev pub declarators_of : DeclarationTree → List Declarator
+declarators_of d = d.first ∷ map (λ further. further.1) d.rest
+
+-- the scopes behind declarators of globals
+abbrev pub with_declarators : Scopes → List Declarator → Scopes
+with_declarators scopes [] = scopes
+with_declarators scopes (d ∷ ds) = with_declarators (with_global scopes d.name.text) ds
+
+-- the scopes behind an item
+abbrev pub scopes_after : Scopes → ItemTree → Scopes
+scopes_after scopes (Declaration d) = with_declarators scopes (declarators_of d)
+scopes_after scopes (Function f) = with_function scopes f.name.text
+
+-- the scopes in a function's body: its own, in which nothing is declared, and those round the function
+abbrev pub body_scopes : Scopes → Scopes
+body_scopes scopes = [] ∷ scopes

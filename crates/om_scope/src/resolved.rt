@@ -38,7 +38,10 @@ pub enum ResolvedStatement {
         value: ResolvedExpression,
     },
     /// The function ends with this value (C17 6.8.6.4).
-    Return { line: u32, value: ResolvedExpression },
+    Return {
+        line: u32,
+        value: ResolvedExpression,
+    },
 }
 
 /// A function (C17 6.9.1).

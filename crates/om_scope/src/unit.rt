@@ -4,7 +4,7 @@ ghost use Rattle.std.specs.Prelude.{◌≡◌, ◌≢◌, [], Some, OnOk, IfOk, 
 ghost use Rattle.om_lexer.specs.Faults.{no_memory};
 ghost use Rattle.om_parser.specs.Formed.{IsUnit};
 ghost use Rattle.om_parser.specs.View.{view_unit};
-ghost use Rattle.om_scope.specs.Breaches.{breaches_of, first_breach};
+ghost use Rattle.om_scope.specs.Breaches.{breaches_of, first_of};
 ghost use Rattle.om_scope.specs.Resolution.{resolution_of};
 ghost use Rattle.om_scope.specs.ResolvedView.{view_resolved};
 
@@ -32,7 +32,7 @@ pub fn resolve(_alloc: Global, unit: Unit) -> Result<Resolved, SourceFault>
     requires formed { IsUnit (view_unit unit) }
     ensures no_breach { OnOk result (breaches_of (view_unit unit) ≡ []) }
     ensures resolved { IfOk result (λ resolved. resolution_of (view_unit unit) ≡ Some (view_resolved resolved)) }
-    ensures first_breach { IfErr result (λ fault. fault ≢ no_memory → first_breach (view_unit unit) ≡ Some fault) }
+    ensures first_breach { IfErr result (λ fault. fault ≢ no_memory → first_of (breaches_of (view_unit unit)) ≡ Some fault) }
 {
     let _unit = unit;
     Err(SourceFault {
