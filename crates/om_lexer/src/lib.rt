@@ -3,6 +3,7 @@
 
 mod fault;
 mod lexer;
+mod piece;
 mod token;
 
 pub use fault::{FaultCode, SourceFault};

@@ -1,0 +1,22 @@
+-- Integer constants (C17 6.4.4.1), without suffixes.
+use Rattle.std.specs.Prelude.{◌≡◌, ℕ, ◌+◌, ◌*◌, ◌<◌, List, length, drop, fold, codes, nat_eq, if◌then◌else◌, All}
+use Rattle.std.specs.List.{starts_with}
+use Rattle.std.specs.Char.{digit_value}
+
+-- a constant that begins with `0x` is hexadecimal, any other that begins with `0` octal, the rest are decimal
+unfoldable pub base_of : List ℕ → ℕ
+base_of text = if starts_with nat_eq text (codes "0x") then 16 else (if starts_with nat_eq text (codes "0") then 8 else 10)
+
+-- the digits of a constant: all of it but the prefix `0x`
+unfoldable pub digits_of : List ℕ → List ℕ
+digits_of text = if starts_with nat_eq text (codes "0x") then drop 2 text else text
+
+-- the number that digits stand for, the first of them the highest
+abbrev pub value_in : ℕ → List ℕ → ℕ
+value_in base digits = fold (λ value digit. value * base + digit_value digit) 0 digits
+
+-- the text is a constant of this value, however large
+pub record IsConstant (text : List ℕ) (value : ℕ) : Type 0 where
+  pub has_digits : 0 < length (digits_of text)
+  pub digits : All (λ digit. digit_value digit < base_of text) (digits_of text)
+  pub value_is : value ≡ value_in (base_of text) (digits_of text)

@@ -1,0 +1,55 @@
+-- Tokens: their spellings, and where one ends (C17 6.4).
+use Rattle.std.specs.Prelude.{◌≡◌, ℕ, ◌<◌, ◌≤◌, ◌⊎◌, Bool, true, false, List, length, slice_index, slice_range, All}
+use Rattle.std.specs.Char.{is_ascii_digit}
+use Rattle.om_lexer.specs.declared.token.TokenKind.{TokenKind}
+use Rattle.om_lexer.specs.declared.token.TokenKind.TheVariants as kinds
+use Rattle.om_lexer.specs.declared.token.Keyword.{Keyword}
+use Rattle.om_lexer.specs.declared.token.Punctuator.{Punctuator}
+use Rattle.om_lexer.specs.Characters.{is_word_byte}
+use Rattle.om_lexer.specs.Constants.{IsConstant}
+use Rattle.om_lexer.specs.Spellings.{keyword_text, punctuator_text}
+use Rattle.om_lexer.specs.WhiteSpace.{BeginsComment}
+
+-- a run of letters, digits and `_`
+pub record IsWord (text : List ℕ) : Type 0 where
+  pub some : 0 < length text
+  pub word_bytes : All (λ b. is_word_byte b ≡ true) text
+
+-- C17 6.4.2.1: an identifier that is no keyword, of at most 63 bytes
+pub record IsName (text : List ℕ) : Type 0 where
+  pub word : IsWord text
+  pub no_digit_first : is_ascii_digit (slice_index text 0) ≡ false
+  pub no_keyword : (k : Keyword) → text ≡ keyword_text k → ⊥
+  pub short : length text ≤ 63
+
+-- the text spells a token of this kind
+abbrev pub Spells : List ℕ → TokenKind → Type 0
+Spells text (kinds.Name name) = (name ≡ text) × IsName text
+Spells text (kinds.Constant value) = IsConstant text value × (value ≤ 2147483647)
+Spells text (kinds.Keyword k) = text ≡ keyword_text k
+Spells text (kinds.Punctuator p) = text ≡ punctuator_text p
+Spells text kinds.End = ⊥
+
+-- the text could be a token (C17's preprocessing tokens): names and constants are whole runs of letters, digits and `_`
+abbrev pub CouldBeToken : List ℕ → Type 0
+CouldBeToken text = IsWord text ⊎ ((p : Punctuator) × (text ≡ punctuator_text p))
+
+-- C17 6.4p4: the longest text from there on that could be a token, where no comment begins
+pub record IsLongest (source : List ℕ) (from to : ℕ) : Type 0 where
+  pub inside : to ≤ length source
+  pub could_be : CouldBeToken (slice_range source from to)
+  pub longest : (more : ℕ) → to < more → more ≤ length source → CouldBeToken (slice_range source from more) → ⊥
+  pub no_comment : BeginsComment source from → ⊥
+
+-- a token of this kind stands there
+pub record IsToken (source : List ℕ) (from to : ℕ) (kind : TokenKind) : Type 0 where
+  pub longest : IsLongest source from to
+  pub spelled : Spells (slice_range source from to) kind
+
+-- a constant above 2147483647 stands there
+pub record IsTooLarge (source : List ℕ) (from : ℕ) : Type 0 where
+  pub to : ℕ
+  pub value : ℕ
+  pub longest : IsLongest source from to
+  pub spelled : IsConstant (slice_range source from to) value
+  pub large : 2147483647 < value

@@ -1,0 +1,42 @@
+-- White space and comments, each from one byte of a source up to another.
+use Rattle.std.specs.Prelude.{◌≡◌, ℕ, ◌+◌, ◌<◌, ◌≤◌, ◌⊎◌, Bool, true, List, length, slice_index}
+use Rattle.om_lexer.specs.Characters.{is_blank}
+
+-- a line feed, or a carriage return and a line feed
+abbrev pub IsLineEnd : List ℕ → ℕ → ℕ → Type 0
+IsLineEnd source from to =
+    ((slice_index source from ≡ 10) × (to ≡ from + 1))
+    ⊎ ((slice_index source from ≡ 13) × (slice_index source (from + 1) ≡ 10) × (to ≡ from + 2))
+
+-- a space, a tab, a carriage return, or a backslash directly before a line end (C17 5.1.1.2, phase 2)
+abbrev pub IsSpace : List ℕ → ℕ → ℕ → Type 0
+IsSpace source from to =
+    ((is_blank (slice_index source from) ≡ true) × (to ≡ from + 1))
+    ⊎ ((slice_index source from ≡ 92) × IsLineEnd source (from + 1) to)
+
+-- C17 6.4.9: `/*` up to the first `*/` behind it
+pub record IsBlockComment (source : List ℕ) (from to : ℕ) : Type 0 where
+  pub slash : slice_index source from ≡ 47
+  pub star : slice_index source (from + 1) ≡ 42
+  pub last : ℕ
+  pub behind : from + 2 ≤ last
+  pub last_star : slice_index source last ≡ 42
+  pub last_slash : slice_index source (last + 1) ≡ 47
+  pub first : (k : ℕ) → from + 2 ≤ k → k < last → slice_index source k ≡ 42 → slice_index source (k + 1) ≡ 47 → ⊥
+  pub end : to ≡ last + 2
+
+-- C17 6.4.9: `//` up to a line feed, which is no part of it, or to the end of the source
+pub record IsLineComment (source : List ℕ) (from to : ℕ) : Type 0 where
+  pub slashes : (slice_index source from ≡ 47) × (slice_index source (from + 1) ≡ 47)
+  pub behind : from + 2 ≤ to
+  pub inside : to ≤ length source
+  pub one_line : (k : ℕ) → from ≤ k → k < to → slice_index source k ≡ 10 → ⊥
+  pub ends : to < length source → slice_index source to ≡ 10
+
+abbrev pub IsComment : List ℕ → ℕ → ℕ → Type 0
+IsComment source from to = IsBlockComment source from to ⊎ IsLineComment source from to
+
+-- the two bytes with which comments begin
+abbrev pub BeginsComment : List ℕ → ℕ → Type 0
+BeginsComment source from =
+    (slice_index source from ≡ 47) × ((slice_index source (from + 1) ≡ 42) ⊎ (slice_index source (from + 1) ≡ 47))
