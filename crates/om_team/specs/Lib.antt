@@ -1,3 +1,4 @@
 pub mod Stacks
 pub mod Rows
 pub mod Rules
+pub mod Counts

@@ -2,6 +2,7 @@
 #![tactic(auto)]
 
 mod footprint;
+pub mod laws;
 mod outcome;
 pub mod rows;
 mod stack;
