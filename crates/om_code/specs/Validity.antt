@@ -1,5 +1,5 @@
 -- Valid code: no operand, slot, global, body or place is ever missing.
-use Rattle.std.specs.Prelude.{◌≡◌, ℕ, ◌+◌, ◌≤◌, ◌<◌, ◌^◌, List, Option, Some, slice_get, Contains, All, length}
+use Rattle.std.specs.Prelude.{◌≡◌, ℕ, ◌≤◌, ◌<◌, ◌^◌, List, Some, slice_get, Contains, All, Any, length, ◌⊎◌}
 use Rattle.om_code.specs.declared.instruction.Instr.{Instr}
 use Rattle.om_code.specs.declared.instruction.Instr.TheVariants.{Constant, Load, Store, Binary, Finish}
 use Rattle.om_code.specs.declared.instruction.Place.{Place}
@@ -9,7 +9,7 @@ use Rattle.om_code.specs.declared.fault.CodeFault.TheVariants.{Memory, JumpOut, 
 use Rattle.om_code.specs.declared.raw.GlobalVariable.{GlobalVariable}
 use Rattle.om_code.specs.declared.raw.Body.{Body}
 use Rattle.om_code.specs.declared.raw.Raw.{Raw}
-use Rattle.om_code.specs.Ways.{pops, pushes, successors, Way}
+use Rattle.om_code.specs.Ways.{pops, successors, Way}
 
 -- a body begins at a place of it and never goes on to a place outside; places are numbers of 32 bits
 pub record StaysInside (code : List Instr) : Type 0 where
@@ -39,27 +39,33 @@ NamesKnown globals slots (Store place keeps) = IsKnownPlace globals slots place
 NamesKnown globals slots (Binary operator) = Unit {0}
 NamesKnown globals slots (Finish has_value) = Unit {0}
 
--- each instruction of a body has a line, and what it names exists
-pub record IsKnownBody (globals : List GlobalVariable) (body : Body) : Type 0 where
+-- each instruction has a line, and what it names exists
+pub record IsKnown (globals : List GlobalVariable) (body : Body) : Type 0 where
   pub lines : length body.lines ≡ length body.instructions
   pub names : All (λ instr. NamesKnown globals body.slots instr) body.instructions
 
--- every number that a program names is known
-pub record IsKnown (raw : Raw) : Type 0 where
-  pub main : raw.main < length raw.bodies
-  pub bodies : All (λ body. IsKnownBody raw.globals body) raw.bodies
+-- a valid body
+pub record IsValidBody (globals : List GlobalVariable) (body : Body) : Type 0 where
+  pub stays_inside : StaysInside body.instructions
+  pub one_height : HasOneHeight body.instructions
+  pub low : IsLow body.instructions
+  pub known : IsKnown globals body
 
 -- valid code
 pub record IsValid (raw : Raw) : Type 0 where
-  pub stays_inside : All (λ body. StaysInside body.instructions) raw.bodies
-  pub one_height : All (λ body. HasOneHeight body.instructions) raw.bodies
-  pub low : All (λ body. IsLow body.instructions) raw.bodies
-  pub known : IsKnown raw
+  pub main : raw.main < length raw.bodies
+  pub bodies : All (λ body. IsValidBody raw.globals body) raw.bodies
 
--- the rule that a fault names is broken
+-- a body breaks the rule that a fault names
+abbrev pub BreaksIn : CodeFault → List GlobalVariable → Body → Type 0
+BreaksIn Memory globals body = Unit {0}
+BreaksIn JumpOut globals body = ¬ (StaysInside body.instructions)
+BreaksIn Heights globals body = ¬ (HasOneHeight body.instructions)
+BreaksIn TooHigh globals body = ¬ (IsLow body.instructions)
+BreaksIn Unknown globals body = ¬ (IsKnown globals body)
+
+-- a program breaks the rule that a fault names: some body does, or its main is no body; want of memory says nothing
 abbrev pub Breaks : CodeFault → Raw → Type 0
 Breaks Memory raw = Unit {0}
-Breaks JumpOut raw = ¬ (All (λ body. StaysInside body.instructions) raw.bodies)
-Breaks Heights raw = ¬ (All (λ body. HasOneHeight body.instructions) raw.bodies)
-Breaks TooHigh raw = ¬ (All (λ body. IsLow body.instructions) raw.bodies)
-Breaks Unknown raw = ¬ (IsKnown raw)
+Breaks Unknown raw = (raw.main < length raw.bodies → ⊥) ⊎ Any (λ body. BreaksIn Unknown raw.globals body) raw.bodies
+Breaks fault raw = Any (λ body. BreaksIn fault raw.globals body) raw.bodies
