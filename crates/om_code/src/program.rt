@@ -69,7 +69,8 @@ impl Program {
 
     /// The instruction at a place of a body; `None` where there is no such body or place.
     pub fn instruction(&self, body: u32, at: u32) -> Option<Instr>
-        ensures { result ≡ instruction_at self.now body at }
+        ensures same { result ≡ instruction_at self.now body at }
+        ensures valid { IsValid self.now }
     {
         let body = self.raw.bodies.as_slice().get(body as usize)?;
         body.instructions.as_slice().get(at as usize).copied()

@@ -1,1 +1,3 @@
+pub mod Places
 pub mod Steady
+pub mod Steps

@@ -1,5 +1,5 @@
 -- The rules of a program: the state that it starts in, and what each worker's step names, does and shows as its line.
-use Rattle.std.specs.Prelude.{ℕ, pos, ℤ, Option, None, Some, option_map, unwrap_or, List, [], ◌∷◌, slice_get, nat_eq, if◌then◌else◌}
+use Rattle.std.specs.Prelude.{ℕ, ◌+◌, ◌<◌, ◌^◌, pos, ℤ, Option, None, Some, option_map, unwrap_or, List, [], ◌∷◌, slice_get, nat_eq, if◌then◌else◌}
 use Rattle.om_code.specs.declared.instruction.Instr.{Instr}
 use Rattle.om_code.specs.declared.raw.GlobalVariable.{GlobalVariable}
 use Rattle.om_code.specs.declared.raw.Raw.{Raw}
@@ -60,6 +60,14 @@ outcome_after stack (GoesOn operands further) = Updates (Put (Control (Running (
 outcome_after stack (Faults fault) = Updates (Put (Control (Faulted fault stack)) ∷ [])
 outcome_after stack (Finishes value) = Updates (Put (Control (control.Ended value)) ∷ [])
 outcome_after stack Lacks = Ended
+
+-- a running frame that goes on has a next place with a number of 32 bits
+abbrev pub HasNext : Option Frame → Turn → Type 0
+HasNext (Some frame) (GoesOn operands further) = frame.next + 1 < 2 ^ 32
+HasNext (Some frame) (Faults fault) = Unit {0}
+HasNext (Some frame) (Finishes value) = Unit {0}
+HasNext (Some frame) Lacks = Unit {0}
+HasNext None turn = Unit {0}
 
 -- the turn of a running frame
 abbrev pub turn_at : Frame → Option Instr → List Val → Turn
