@@ -8,7 +8,7 @@ use Rattle.om_code.specs.declared.raw.Body.{Body}
 use Rattle.om_code.specs.declared.raw.Raw.{Raw}
 use Rattle.om_code.specs.Places.{instruction_at}
 use Rattle.om_code.specs.Ways.{successors}
-use Rattle.om_code.specs.Validity.{IsValid, StaysInside}
+use Rattle.om_code.specs.Validity.{IsValid, IsValidBody, StaysInside}
 use Rattle.om_cells.specs.declared.control.Frame.{Frame}
 use Rattle.om_cells.specs.declared.control.Context.{Context}
 use Rattle.om_cells.specs.declared.value.Val.{Val}
@@ -30,7 +30,8 @@ all-found P xs k x all h = subst P (get_or_from_slice_get xs k x x h) (all k x (
 stays_inside_at : (program : Raw) (body at : ℕ) (i : Instr) → IsValid program → instruction_at program body at ≡ Some i → (b : Body) × StaysInside b.instructions × (slice_get b.instructions at ≡ Some i)
 stays_inside_at program body at i valid h =
     let here = found_in (slice_get program.bodies body) at i h in
-    (here.0, all-found (λ (b : Body). StaysInside b.instructions) program.bodies body here.0 valid.stays_inside here.1, here.2)
+    let valid_body = all-found (λ (b : Body). IsValidBody program.globals b) program.bodies body here.0 valid.bodies here.1 in
+    (here.0, valid_body.stays_inside, here.2)
 
 -- where an instruction that can go on to the next place stands, that place has a number of 32 bits
 next-fits : (program : Raw) (body at : ℕ) (i : Instr) → IsValid program → instruction_at program body at ≡ Some i → Contains (successors at i) (at + 1) → at + 1 < 2 ^ 32
