@@ -30,8 +30,8 @@ impl Model for Program {
 }
 
 impl Program {
-    /// The program of code that is valid.
-    pub(crate) fn of(raw: Raw) -> Program
+    /// The program of code that is known to be valid, as `validate` finds it or a proof says it.
+    pub fn of(raw: Raw) -> Program
         requires { IsValid raw }
         ensures { result ≡ raw }
     {
