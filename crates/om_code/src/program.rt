@@ -1,6 +1,6 @@
 //! A program whose code is known to be valid.
 
-ghost use Rattle.std.specs.Prelude.{◌≡◌};
+ghost use Rattle.std.specs.Prelude.{◌≡◌, ◌≤◌, ◌^◌, length};
 ghost use Rattle.om_code.specs.Places.{instruction_at, line_at};
 ghost use Rattle.om_code.specs.Validity.{IsValid};
 
@@ -46,9 +46,10 @@ impl Program {
         &self.raw
     }
 
-    /// The global variables, by their numbers.
+    /// The global variables, by their numbers, which are of 32 bits.
     pub fn globals(&self) -> &[GlobalVariable]
-        ensures { result.now ≡ self.now.globals }
+        ensures same { result.now ≡ self.now.globals }
+        ensures numbered { length result.now ≤ 2 ^ 32 }
     {
         self.raw.globals.as_slice()
     }
