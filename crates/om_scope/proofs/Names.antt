@@ -1,5 +1,5 @@
 -- Look-ups and counts in a table of names, as its scope shows it.
-use Rattle.std.proofs.Common.{◌≡◌, ℕ, ◌+◌, Bool, true, false, cond, List, [], ◌∷◌, ◌++◌, Option, None, Some, map, refl, sym, ap, ◌∙◌, arith, Vec}
+use Rattle.std.proofs.Common.{◌≡◌, ℕ, ◌+◌, Bool, true, false, cond, List, [], ◌∷◌, ◌++◌, Option, None, Some, is_some, map, refl, sym, ap, ◌∙◌, arith, Vec}
 use Rattle.std.specs.declared.alloc.Global.{Global}
 use Rattle.std.specs.Map.{lookup}
 use Rattle.std.specs.Option.{option_or}
@@ -13,6 +13,10 @@ lookup-scope_of test (entry ∷ entries) = ap (λ found. cond (test entry.0.item
 pub option_or-none : {A : Type 0} (x : Option A) → option_or x None ≡ x
 option_or-none None = refl
 option_or-none (Some x) = refl
+
+pub none-is_some : {A : Type 0} (x : Option A) → is_some x ≡ false → x ≡ None
+none-is_some None e = refl
+none-is_some (Some x) e = cc
 
 pub scope_of-push : (entries : List (Vec ℕ Global × Meaning)) (name : Vec ℕ Global) (meaning : Meaning) → scope_of (entries ++ (name, meaning) ∷ []) ≡ scope_of entries ++ (name.items, meaning) ∷ []
 scope_of-push [] name meaning = refl
