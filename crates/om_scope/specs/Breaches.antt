@@ -13,7 +13,7 @@ use Rattle.om_parser.specs.Tree.{ExpressionTree, Name, Constant, Paren, Binary, 
 use Rattle.om_scope.specs.declared.symbols.Meaning.{Meaning}
 use Rattle.om_scope.specs.declared.symbols.Meaning.TheVariants as meanings
 use Rattle.om_scope.specs.declared.unit.TheConstants.{GLOBAL_LIMIT}
-use Rattle.om_scope.specs.Scopes.{Scopes, file_scope, body_scopes, meaning_of, is_declared, globals_in, with_global, with_function, declarators_of, scopes_after}
+use Rattle.om_scope.specs.Scopes.{Scopes, file_scope, body_scopes, meaning_of, is_declared, globals_in, with_global, with_function, declarators_of, after_declarator, after_statement, after_item}
 
 -- the first breach, if there is one
 abbrev pub first_of : List SourceFault → Option SourceFault
@@ -63,31 +63,23 @@ statement_breaches scopes (Expression e semicolon) = expression_breaches scopes 
 statement_breaches scopes (Return at (Some e) semicolon) = expression_breaches scopes e
 statement_breaches scopes (Return at None semicolon) = []
 
-unfoldable pub statements_breaches : Scopes → List StatementTree → List SourceFault
-statements_breaches scopes [] = []
-statements_breaches scopes (s ∷ ss) = statement_breaches scopes s ++ statements_breaches scopes ss
+-- S8, S9, S11 at the name, S10 at the initializer
+unfoldable pub declarator_breaches : Scopes → Declarator → List SourceFault
+declarator_breaches scopes d = redeclared_breaches scopes d.name ++ global_breaches scopes d.name ++ initializer_breaches d.initializer
 
--- the scope of a name begins behind the name itself (C17 6.2.1p7)
-unfoldable pub declarators_breaches : Scopes → List Declarator → List SourceFault
-declarators_breaches scopes [] = []
-declarators_breaches scopes (d ∷ ds) =
-    redeclared_breaches scopes d.name
-    ++ global_breaches scopes d.name
-    ++ initializer_breaches d.initializer
-    ++ declarators_breaches (with_global scopes d.name.text) ds
+-- the breaches of parts in a row, each in the scopes behind those before it (C17 6.2.1p7)
+abbrev pub breaches_along : {X : Type 0} → (Scopes → X → List SourceFault) → (Scopes → X → Scopes) → Scopes → List X → List SourceFault
+breaches_along breaches after scopes [] = []
+breaches_along breaches after scopes (x ∷ xs) = breaches scopes x ++ breaches_along breaches after (after scopes x) xs
 
 unfoldable pub function_breaches : Scopes → FunctionTree → List SourceFault
 function_breaches scopes f =
     redeclared_breaches scopes f.name
-    ++ statements_breaches (body_scopes (with_function scopes f.name.text)) f.body.statements
+    ++ breaches_along statement_breaches after_statement (body_scopes (with_function scopes f.name.text)) f.body.statements
 
 unfoldable pub item_breaches : Scopes → ItemTree → List SourceFault
-item_breaches scopes (Declaration d) = declarators_breaches scopes (declarators_of d)
+item_breaches scopes (Declaration d) = breaches_along declarator_breaches after_declarator scopes (declarators_of d)
 item_breaches scopes (Function f) = function_breaches scopes f
-
-unfoldable pub items_breaches : Scopes → List ItemTree → List SourceFault
-items_breaches scopes [] = []
-items_breaches scopes (item ∷ items) = item_breaches scopes item ++ items_breaches (scopes_after scopes item) items
 
 abbrev pub is_main : ItemTree → Bool
 is_main (Declaration d) = false
@@ -99,4 +91,4 @@ main_breaches unit = breach_if (not (list_any is_main unit.items)) faults.NoMain
 
 -- all breaches of a tree
 unfoldable pub breaches_of : UnitTree → List SourceFault
-breaches_of unit = items_breaches file_scope unit.items ++ main_breaches unit
+breaches_of unit = breaches_along item_breaches after_item file_scope unit.items ++ main_breaches unit

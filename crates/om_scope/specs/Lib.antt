@@ -3,3 +3,4 @@ pub mod Breaches
 pub mod ResolvedTree
 pub mod ResolvedView
 pub mod Resolution
+pub mod Outcomes

@@ -12,7 +12,7 @@ use Rattle.om_scope.specs.declared.symbols.Meaning.{Meaning}
 use Rattle.om_scope.specs.declared.symbols.Meaning.TheVariants as meanings
 use Rattle.om_scope.specs.ResolvedTree as resolved
 use Rattle.om_scope.specs.ResolvedTree.{ResolvedExpressionTree, ResolvedStatementTree, ResolvedFunctionTree, ResolvedTree}
-use Rattle.om_scope.specs.Scopes.{Scopes, file_scope, body_scopes, meaning_of, with_function, declarators_of, scopes_after}
+use Rattle.om_scope.specs.Scopes.{Scopes, file_scope, body_scopes, meaning_of, with_function, declarators_of, after_statement, after_item}
 
 infixl 10 ◌>>=◌
 abbrev pub ◌>>=◌ : {A B : Type 0} → Option A → (A → Option B) → Option B
@@ -40,39 +40,36 @@ resolved_expression scopes (Binary a o at b) = do
 resolved_expression scopes (Assign a o at b) = None
 
 -- the assignment of a value to a name; its line is the name's
-unfoldable pub resolved_assignment : Scopes → ExpressionTree → ExpressionTree → Option ResolvedStatementTree
+unfoldable pub resolved_assignment : Scopes → ExpressionTree → ExpressionTree → Option (List ResolvedStatementTree)
 resolved_assignment scopes (Name n) value = do
   variable ← variable_named scopes n
   x ← resolved_expression scopes value
-  Some (resolved.Assign n.span.line variable x)
+  Some (resolved.Assign n.span.line variable x ∷ [])
 resolved_assignment scopes _ value = None
 
-unfoldable pub resolved_statement : Scopes → StatementTree → Option ResolvedStatementTree
+unfoldable pub resolved_statement : Scopes → StatementTree → Option (List ResolvedStatementTree)
 resolved_statement scopes (Expression (Assign a o at b) semicolon) = resolved_assignment scopes a b
 resolved_statement scopes (Expression _ semicolon) = None
-resolved_statement scopes (Return at (Some e) semicolon) = resolved_expression scopes e >>= λ x. Some (resolved.Return at.line x)
+resolved_statement scopes (Return at (Some e) semicolon) = resolved_expression scopes e >>= λ x. Some (resolved.Return at.line x ∷ [])
 resolved_statement scopes (Return at None semicolon) = None
 
-unfoldable pub resolved_statements : Scopes → List StatementTree → Option (List ResolvedStatementTree)
-resolved_statements scopes [] = Some []
-resolved_statements scopes (s ∷ ss) = do
-  x ← resolved_statement scopes s
-  xs ← resolved_statements scopes ss
-  Some (x ∷ xs)
+-- the resolutions of parts in a row, each in the scopes behind those before it
+abbrev pub resolved_along : {X Y : Type 0} → (Scopes → X → Option (List Y)) → (Scopes → X → Scopes) → Scopes → List X → Option (List Y)
+resolved_along resolved after scopes [] = Some []
+resolved_along resolved after scopes (x ∷ xs) = do
+  front ← resolved scopes x
+  rest ← resolved_along resolved after (after scopes x) xs
+  Some (front ++ rest)
 
 unfoldable pub resolved_function : Scopes → FunctionTree → Option ResolvedFunctionTree
 resolved_function scopes f = do
-  statements ← resolved_statements (body_scopes (with_function scopes f.name.text)) f.body.statements
+  statements ← resolved_along resolved_statement after_statement (body_scopes (with_function scopes f.name.text)) f.body.statements
   Some (record { name = f.name.text; name_at = f.name.span.start; statements = statements; closing_line = f.body.close_brace.line })
 
--- the functions among items, in their order
-unfoldable pub resolved_functions : Scopes → List ItemTree → Option (List ResolvedFunctionTree)
-resolved_functions scopes [] = Some []
-resolved_functions scopes (Declaration d ∷ items) = resolved_functions (scopes_after scopes (Declaration d)) items
-resolved_functions scopes (Function f ∷ items) = do
-  function ← resolved_function scopes f
-  functions ← resolved_functions (scopes_after scopes (Function f)) items
-  Some (function ∷ functions)
+-- the functions that an item defines
+unfoldable pub resolved_functions : Scopes → ItemTree → Option (List ResolvedFunctionTree)
+resolved_functions scopes (Declaration d) = Some []
+resolved_functions scopes (Function f) = resolved_function scopes f >>= λ function. Some (function ∷ [])
 
 -- what a global holds at the start: 0 without an initializer (C17 6.7.9p10)
 abbrev pub signed : {A : Type 0} → Option A → ℕ → ℤ
@@ -92,4 +89,4 @@ globals_of (Declaration d) = map global_of (declarators_of d)
 globals_of (Function f) = []
 
 unfoldable pub resolution_of : UnitTree → Option ResolvedTree
-resolution_of unit = resolved_functions file_scope unit.items >>= λ functions. Some (record { globals = flat_map globals_of unit.items; functions = functions })
+resolution_of unit = resolved_along resolved_functions after_item file_scope unit.items >>= λ functions. Some (record { globals = flat_map globals_of unit.items; functions = functions })

@@ -1,11 +1,11 @@
 -- Names, what they are declared as, and where that is seen (C17 6.2.1).
-use Rattle.std.specs.Prelude.{ℕ, ◌+◌, List, [], ◌∷◌, ◌++◌, Option, None, Some, Bool, true, false, codes, map, count_by, is_some, Vec}
+use Rattle.std.specs.Prelude.{ℕ, ◌+◌, List, [], ◌∷◌, ◌++◌, Option, None, Some, Bool, true, false, codes, map, fold, count_by, is_some, Vec}
 use Rattle.std.specs.Map.{lookup}
 use Rattle.std.specs.Option.{option_or}
 use Rattle.std.specs.Str.{bytes_eq}
 use Rattle.std.specs.declared.alloc.Global.{Global}
 use Rattle.om_parser.specs.declared.tree.Declarator.{Declarator}
-use Rattle.om_parser.specs.Tree.{DeclarationTree, ItemTree, Declaration, Function}
+use Rattle.om_parser.specs.Tree.{StatementTree, DeclarationTree, ItemTree, Declaration, Function}
 use Rattle.om_scope.specs.declared.resolved.Variable.TheVariants as variables
 use Rattle.om_scope.specs.declared.symbols.Meaning.{Meaning}
 use Rattle.om_scope.specs.declared.symbols.Meaning.TheVariants as meanings
@@ -66,15 +66,18 @@ file_scope = ((codes "printf", meanings.Function) ∷ (codes "omp_get_thread_num
 abbrev pub declarators_of : DeclarationTree → List Declarator
 declarators_of d = d.first ∷ map (λ further. further.1) d.rest
 
--- the scopes behind declarators of globals
-abbrev pub with_declarators : Scopes → List Declarator → Scopes
-with_declarators scopes [] = scopes
-with_declarators scopes (d ∷ ds) = with_declarators (with_global scopes d.name.text) ds
+-- the scopes behind the declarator of a global
+abbrev pub after_declarator : Scopes → Declarator → Scopes
+after_declarator scopes d = with_global scopes d.name.text
 
 -- the scopes behind an item
-abbrev pub scopes_after : Scopes → ItemTree → Scopes
-scopes_after scopes (Declaration d) = with_declarators scopes (declarators_of d)
-scopes_after scopes (Function f) = with_function scopes f.name.text
+abbrev pub after_item : Scopes → ItemTree → Scopes
+after_item scopes (Declaration d) = fold after_declarator scopes (declarators_of d)
+after_item scopes (Function f) = with_function scopes f.name.text
+
+-- the scopes behind a statement: it declares nothing
+abbrev pub after_statement : Scopes → StatementTree → Scopes
+after_statement scopes s = scopes
 
 -- the scopes in a function's body: its own, in which nothing is declared, and those round the function
 abbrev pub body_scopes : Scopes → Scopes
