@@ -64,3 +64,19 @@ fn resolve_statement(
         Statement::Return(_, None, _) => unreachable!(),
     }
 }
+
+/// Resolves the statements of a function's body.
+pub fn resolve_statements(
+    alloc: Global,
+    symbols: &Symbols,
+    statements: &[Statement],
+) -> Result<Vec<ResolvedStatement>, SourceFault>
+    requires formed { All IsStatement (map view_statement statements.now) }
+    ensures { Resolves (λ made. map view_resolved_statement made.items) result (breaches_along statement_breaches after_statement (body_scopes symbols.now) (map view_statement statements.now)) (resolved_along resolved_statement after_statement (body_scopes symbols.now) (map view_statement statements.now)) }
+{
+    let mut resolved = Vec::new(alloc);
+    for statement in statements {
+        resolved.push(resolve_statement(alloc, symbols, statement)?)?;
+    }
+    Ok(resolved)
+}

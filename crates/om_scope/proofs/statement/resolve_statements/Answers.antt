@@ -1,0 +1,20 @@
+use Rattle.std.proofs.Common.{◌≡◌, ◌+◌, ◌∷◌, [], map, drop, ap, ◌∙◌, arith, rules}
+use Rattle.om_parser.specs.Formed.{IsStatement}
+use Rattle.om_parser.specs.View.{view_statement}
+use Rattle.om_scope.specs.Breaches.{statement_breaches}
+use Rattle.om_scope.specs.Resolution.{resolved_statement}
+use Rattle.om_scope.specs.ResolvedView.{view_resolved_statement}
+use Rattle.om_scope.specs.Scopes.{after_statement}
+use Rattle.om_scope.proofs.Along.{left-step}
+use Rattle.om_scope.proofs.Items.{all-item, drop-item, map-push}
+use Rattle.om_scope.proofs.statement.resolve_statements.Goals as goal
+
+pub resolve_statement-requires : goal.resolve_statement-requires
+resolve_statement-requires c = record { formed = all-item IsStatement view_statement _ _ _ c.loop-statement-test.true c.statement-item.is c.requires.formed }
+
+pub loop-statement-preserved : goal.loop-statement-preserved
+loop-statement-preserved c =
+    let here = ap (map view_statement) (drop-item c.args.statements.now c.loop-statement.statement-index c.statement-item.result c.loop-statement-test.true c.statement-item.is) in
+    let left = rw here at c.loop-statement.invariant in
+    let made = ap (map view_resolved_statement) c.in_ok-push.ensures.items ∙ map-push view_resolved_statement c.loop-statement.resolved.items c.in_ok-resolve_statement.field-0 in
+    rw made (left-step statement_breaches resolved_statement after_statement left _ c.in_ok-resolve_statement.ensures.0 c.in_ok-resolve_statement.ensures.1)
