@@ -12,7 +12,7 @@ use Rattle.om_parser.specs.declared.tree.Number.{Number}
 use Rattle.om_parser.specs.Tree.{ExpressionTree, Name, Constant, Paren, Binary, Assign, StatementTree, Expression, Return, FunctionTree, DeclarationTree, ItemTree, Declaration, Function, UnitTree}
 use Rattle.om_scope.specs.declared.symbols.Meaning.{Meaning}
 use Rattle.om_scope.specs.declared.symbols.Meaning.TheVariants as meanings
-use Rattle.om_scope.specs.declared.unit.TheConstants.{GLOBAL_LIMIT}
+use Rattle.om_scope.specs.declared.declaration.TheConstants.{GLOBAL_LIMIT}
 use Rattle.om_scope.specs.Scopes.{Scopes, file_scope, body_scopes, meaning_of, is_declared, globals_in, with_global, with_function, declarators_of, after_declarator, after_statement, after_item}
 
 -- the first breach, if there is one

@@ -1,13 +1,15 @@
 //! Resolving: a tree to the tree in which every use has its variable (C17 6.2.1).
 #![tactic(auto)]
 
+mod declaration;
 mod expression;
 mod resolved;
 mod statement;
 mod symbols;
 mod unit;
 
+pub use declaration::GLOBAL_LIMIT;
 pub use resolved::{
     GlobalVariable, Resolved, ResolvedExpression, ResolvedFunction, ResolvedStatement, Variable,
 };
-pub use unit::{GLOBAL_LIMIT, resolve};
+pub use unit::resolve;

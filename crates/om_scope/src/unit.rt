@@ -13,9 +13,6 @@ use om_lexer::{FaultCode, SourceFault};
 use om_parser::Unit;
 use std::alloc::Global;
 
-/// How many globals a source may declare.
-pub const GLOBAL_LIMIT: u32 = 65_536;
-
 /// The unit, resolved: each use of a name has the variable of its innermost declaration (C17 6.2.1).
 ///
 /// The first breach of a rule in the unit's text is answered, at one place that of the lowest

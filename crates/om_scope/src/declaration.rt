@@ -1,0 +1,98 @@
+//! Declarations at file scope.
+
+ghost use Rattle.std.specs.Prelude.{◌≡◌, ◌<◌, ◌++◌, [], ◌∷◌, false, Some, OnOk, IfOk, IfErr, map, fold};
+ghost use Rattle.om_parser.specs.View.{view_declaration};
+ghost use Rattle.om_scope.specs.Breaches.{breaches_along, declarator_breaches, global_breaches, initializer_breaches, redeclared_breaches};
+ghost use Rattle.om_scope.specs.Outcomes.{Refuses, Resolves};
+ghost use Rattle.om_scope.specs.Resolution.{global_of, initial_of};
+ghost use Rattle.om_scope.specs.Scopes.{after_declarator, declarators_of, globals_in, is_declared};
+
+use crate::expression::constant_of;
+use crate::resolved::GlobalVariable;
+use crate::symbols::Symbols;
+use om_lexer::{FaultCode, SourceFault, Span};
+use om_parser::{Declaration, Declarator, Initializer, Name};
+use om_seq::Seq;
+use std::alloc::{AllocError, Global};
+
+/// How many globals a source may declare.
+pub const GLOBAL_LIMIT: u32 = 65_536;
+
+/// A copy of a name.
+pub fn copy_of(alloc: Global, name: &Name) -> Result<Seq<u8>, AllocError>
+    ensures { IfOk result (λ copy. copy ≡ name.now.text) }
+{
+    Ok(Seq::of(Vec::from_slice(alloc, name.text.as_slice())?))
+}
+
+/// That a name is not declared in this scope yet: S8.
+pub fn check_new(symbols: &Symbols, name: &Name) -> Result<(), SourceFault>
+    ensures is_new { OnOk result (is_declared symbols.now name.now.text ≡ false) }
+    ensures refused { IfErr result (Refuses (redeclared_breaches symbols.now name.now)) }
+{
+    if symbols.is_declared(name.text.as_slice()) {
+        return Err(SourceFault {
+            code: FaultCode::Redeclared,
+            at: name.span.start,
+        });
+    }
+    Ok(())
+}
+
+/// That a name may be that of a further global: S9, S11.
+fn check_global(symbols: &Symbols, name: &Name) -> Result<(), SourceFault>
+    ensures no_breach { OnOk result (global_breaches symbols.now name.now ≡ []) }
+    ensures has_room { OnOk result (globals_in symbols.now < GLOBAL_LIMIT) }
+    ensures refused { IfErr result (Refuses (global_breaches symbols.now name.now)) }
+{
+    let at = name.span.start;
+    if name.text.as_slice() == b"main".as_slice() {
+        return Err(SourceFault {
+            code: FaultCode::Misuse,
+            at,
+        });
+    }
+    if symbols.globals() >= GLOBAL_LIMIT {
+        return Err(SourceFault {
+            code: FaultCode::TooMany,
+            at,
+        });
+    }
+    Ok(())
+}
+
+/// What a global holds at the start: S10.
+fn initial_of(initializer: &Option<Initializer>) -> Result<i32, SourceFault>
+    ensures { Resolves (λ value. value) result (initializer_breaches initializer.now) (Some (initial_of initializer.now)) }
+{
+    let Some(initializer) = initializer else {
+        return Ok(0);
+    };
+    let value = constant_of(&initializer.number)?;
+    if initializer.minus.is_some() {
+        Ok(-value)
+    } else {
+        Ok(value)
+    }
+}
+
+/// Declares one global.
+fn declare(
+    alloc: Global,
+    symbols: &mut Symbols,
+    globals: &mut Vec<GlobalVariable>,
+    declarator: &Declarator,
+) -> Result<(), SourceFault>
+    ensures no_breach { OnOk result (declarator_breaches symbols.old declarator.now ≡ []) }
+    ensures in_scope { OnOk result (symbols.new ≡ after_declarator symbols.old declarator.now) }
+    ensures declared { OnOk result (globals.new.items ≡ globals.old.items ++ global_of declarator.now ∷ []) }
+    ensures refused { IfErr result (Refuses (declarator_breaches symbols.old declarator.now)) }
+{
+    check_new(symbols, &declarator.name)?;
+    check_global(symbols, &declarator.name)?;
+    let initial = initial_of(&declarator.initializer)?;
+    let name = copy_of(alloc, &declarator.name)?;
+    symbols.declare_global(alloc, name.as_slice())?;
+    globals.push(GlobalVariable { name, initial })?;
+    Ok(())
+}
