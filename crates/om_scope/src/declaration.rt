@@ -96,3 +96,37 @@ fn declare(
     globals.push(GlobalVariable { name, initial })?;
     Ok(())
 }
+
+/// Declares the globals behind the first of a declaration.
+fn declare_rest(
+    alloc: Global,
+    symbols: &mut Symbols,
+    globals: &mut Vec<GlobalVariable>,
+    rest: &[(Span, Declarator)],
+) -> Result<(), SourceFault>
+    ensures no_breach { OnOk result (breaches_along declarator_breaches after_declarator symbols.old (map (λ further. further.1) rest.now) ≡ []) }
+    ensures in_scope { OnOk result (symbols.new ≡ fold after_declarator symbols.old (map (λ further. further.1) rest.now)) }
+    ensures declared { OnOk result (globals.new.items ≡ globals.old.items ++ map global_of (map (λ further. further.1) rest.now)) }
+    ensures refused { IfErr result (Refuses (breaches_along declarator_breaches after_declarator symbols.old (map (λ further. further.1) rest.now))) }
+{
+    for further in rest {
+        declare(alloc, symbols, globals, &further.1)?;
+    }
+    Ok(())
+}
+
+/// Declares the globals of a declaration, in their order.
+pub fn declare_globals(
+    alloc: Global,
+    symbols: &mut Symbols,
+    globals: &mut Vec<GlobalVariable>,
+    declaration: &Declaration,
+) -> Result<(), SourceFault>
+    ensures no_breach { OnOk result (breaches_along declarator_breaches after_declarator symbols.old (declarators_of (view_declaration declaration.now)) ≡ []) }
+    ensures in_scope { OnOk result (symbols.new ≡ fold after_declarator symbols.old (declarators_of (view_declaration declaration.now))) }
+    ensures declared { OnOk result (globals.new.items ≡ globals.old.items ++ map global_of (declarators_of (view_declaration declaration.now))) }
+    ensures refused { IfErr result (Refuses (breaches_along declarator_breaches after_declarator symbols.old (declarators_of (view_declaration declaration.now)))) }
+{
+    declare(alloc, symbols, globals, &declaration.first)?;
+    declare_rest(alloc, symbols, globals, declaration.rest.as_slice())
+}

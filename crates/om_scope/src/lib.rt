@@ -3,6 +3,7 @@
 
 mod declaration;
 mod expression;
+mod function;
 mod resolved;
 mod statement;
 mod symbols;

@@ -1,0 +1,42 @@
+//! Definitions of functions.
+
+ghost use Rattle.std.specs.Prelude.{◌≡◌, OnOk};
+ghost use Rattle.om_parser.specs.Formed.{IsFunction};
+ghost use Rattle.om_parser.specs.View.{view_function};
+ghost use Rattle.om_scope.specs.Breaches.{function_breaches};
+ghost use Rattle.om_scope.specs.Outcomes.{Resolves};
+ghost use Rattle.om_scope.specs.Resolution.{resolved_function};
+ghost use Rattle.om_scope.specs.ResolvedView.{view_resolved_function};
+ghost use Rattle.om_scope.specs.Scopes.{with_function};
+
+use crate::declaration::{check_new, copy_of};
+use crate::resolved::ResolvedFunction;
+use crate::statement::resolve_statements;
+use crate::symbols::Symbols;
+use om_lexer::SourceFault;
+use om_parser::Function;
+use om_seq::Seq;
+use std::alloc::Global;
+
+/// Declares a function and resolves its body.
+#[tactic(auto, unfolding(om_parser::specs::Formed::IsFunction, crate::specs::Breaches::function_breaches, crate::specs::Resolution::resolved_function))]
+pub fn define_function(
+    alloc: Global,
+    symbols: &mut Symbols,
+    function: &Function,
+) -> Result<ResolvedFunction, SourceFault>
+    requires formed { IsFunction (view_function function.now) }
+    ensures resolves { Resolves view_resolved_function result (function_breaches symbols.old (view_function function.now)) (resolved_function symbols.old (view_function function.now)) }
+    ensures in_scope { OnOk result (symbols.new ≡ with_function symbols.old function.now.name.text) }
+{
+    check_new(symbols, &function.name)?;
+    let name = copy_of(alloc, &function.name)?;
+    symbols.declare_function(alloc, name.as_slice())?;
+    let statements = resolve_statements(alloc, symbols, function.body.statements.as_slice())?;
+    Ok(ResolvedFunction {
+        name,
+        name_at: function.name.span.start,
+        statements: Seq::of(statements),
+        closing_line: function.body.close_brace.line,
+    })
+}
