@@ -1,5 +1,5 @@
 -- Parts in a row, as a loop goes through them.
-use Rattle.std.proofs.Common.{◌≡◌, ℕ, List, [], ◌∷◌, ◌++◌, append_assoc, Option, None, Some, fold, option_map, refl, sym, ap, ◌∙◌}
+use Rattle.std.proofs.Common.{◌≡◌, List, [], ◌∷◌, ◌++◌, append_assoc, Option, None, Some, fold, option_map, refl, sym, ap, ◌∙◌}
 use Rattle.om_lexer.specs.declared.fault.SourceFault.{SourceFault}
 use Rattle.om_scope.specs.Breaches.{first_of, breaches_along}
 use Rattle.om_scope.specs.Outcomes.{Refuses}
@@ -26,7 +26,7 @@ module _ {X : Type 0} (breaches : Scopes → X → List SourceFault) (after : Sc
   pub unbroken-refuse : {start : Scopes} {all : List X} {scopes : Scopes} {x : X} {left : List X} {fault : SourceFault}
       → Unbroken start all scopes (x ∷ left) → Refuses (breaches scopes x) fault → Refuses (breaches_along breaches after start all) fault
   unbroken-refuse {start} {all} {scopes} {x} {left} {fault} l refused other =
-    ap first_of l.unbroken ∙ first_of_left (breaches scopes x) (breaches_along breaches after (after scopes x) left) fault (refused other)
+      ap first_of l.unbroken ∙ first_of_left (breaches scopes x) (breaches_along breaches after (after scopes x) left) fault (refused other)
 
 module _ {X Y : Type 0} (resolved : Scopes → X → Option (List Y)) (after : Scopes → X → Scopes) where
   -- these parts are left, in these scopes; this is made of those before them
@@ -44,10 +44,16 @@ module _ {X Y : Type 0} (resolved : Scopes → X → Option (List Y)) (after : S
   more_made made front None = refl
   more_made made front (Some rest) = ap Some (sym (append_assoc made front rest))
 
+  grown_made : (made grown : List Y) (front rest : Option (List Y)) → option_map (λ front. made ++ front) front ≡ Some grown
+      → option_map (λ rest. made ++ rest) (front >>= λ front. rest >>= λ rest. Some (front ++ rest)) ≡ option_map (λ rest. grown ++ rest) rest
+  grown_made made grown None rest e = cc
+  grown_made made grown (Some front) rest e =
+      let same : made ++ front ≡ grown = cc in
+      more_made made front rest ∙ ap (λ done. option_map (λ rest. done ++ rest) rest) same
+
   pub made-step : {start : Scopes} {all : List X} {scopes : Scopes} {x : X} {left : List X} {made : List Y}
-      → Made start all scopes (x ∷ left) made → (front : List Y) → resolved scopes x ≡ Some front → Made start all (after scopes x) left (made ++ front)
-  made-step {start} {all} {scopes} {x} {left} {made} l front found = record {
-    resolution = l.resolution
-      ∙ ap (λ here. option_map (λ rest. made ++ rest) (here >>= λ front. resolved_along resolved after (after scopes x) left >>= λ rest. Some (front ++ rest))) found
-      ∙ more_made made front (resolved_along resolved after (after scopes x) left);
+      → Made start all scopes (x ∷ left) made → (grown : List Y) → option_map (λ front. made ++ front) (resolved scopes x) ≡ Some grown
+      → Made start all (after scopes x) left grown
+  made-step {start} {all} {scopes} {x} {left} {made} l grown found = record {
+    resolution = l.resolution ∙ grown_made made grown (resolved scopes x) (resolved_along resolved after (after scopes x) left) found;
   }

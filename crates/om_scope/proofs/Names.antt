@@ -1,10 +1,10 @@
 -- Look-ups and counts in a table of names, as its scope shows it.
-use Rattle.std.proofs.Common.{◌≡◌, ℕ, ◌+◌, Bool, true, false, cond, List, [], ◌∷◌, ◌++◌, Option, None, Some, is_some, map, refl, sym, ap, ◌∙◌, arith, Vec}
+use Rattle.std.proofs.Common.{◌≡◌, ℕ, Bool, false, cond, List, [], ◌∷◌, ◌++◌, Option, None, Some, is_some, refl, ap, Vec}
 use Rattle.std.specs.declared.alloc.Global.{Global}
 use Rattle.std.specs.Map.{lookup}
 use Rattle.std.specs.Option.{option_or}
 use Rattle.om_scope.specs.declared.symbols.Meaning.{Meaning}
-use Rattle.om_scope.specs.Scopes.{Scope, scope_of}
+use Rattle.om_scope.specs.Scopes.{scope_of}
 
 pub lookup-scope_of : (test : List ℕ → Bool) (entries : List (Vec ℕ Global × Meaning)) → lookup test (scope_of entries) ≡ lookup (λ name. test name.items) entries
 lookup-scope_of test [] = refl

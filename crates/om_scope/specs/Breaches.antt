@@ -1,5 +1,5 @@
 -- The rules on names, each by the breaches that a tree has of it, in the order of the text.
-use Rattle.std.specs.Prelude.{ℕ, ◌+◌, List, [], ◌∷◌, ◌++◌, Option, None, Some, Bool, true, false, codes, map, nat_lt, if◌then◌else◌, not}
+use Rattle.std.specs.Prelude.{ℕ, ◌+◌, List, [], ◌∷◌, ◌++◌, Option, None, Some, Bool, true, false, codes, nat_lt, if◌then◌else◌, not}
 use Rattle.std.specs.List.{list_any}
 use Rattle.std.specs.Str.{bytes_eq}
 use Rattle.om_lexer.specs.declared.fault.FaultCode.{FaultCode}
@@ -9,11 +9,11 @@ use Rattle.om_parser.specs.declared.tree.Declarator.{Declarator}
 use Rattle.om_parser.specs.declared.tree.Initializer.{Initializer}
 use Rattle.om_parser.specs.declared.tree.Name as names
 use Rattle.om_parser.specs.declared.tree.Number.{Number}
-use Rattle.om_parser.specs.Tree.{ExpressionTree, Name, Constant, Paren, Binary, Assign, StatementTree, Expression, Return, FunctionTree, DeclarationTree, ItemTree, Declaration, Function, UnitTree}
+use Rattle.om_parser.specs.Tree.{ExpressionTree, Name, Constant, Paren, Binary, Assign, StatementTree, Expression, Return, FunctionTree, ItemTree, Declaration, Function, UnitTree}
 use Rattle.om_scope.specs.declared.symbols.Meaning.{Meaning}
 use Rattle.om_scope.specs.declared.symbols.Meaning.TheVariants as meanings
 use Rattle.om_scope.specs.declared.declaration.TheConstants.{GLOBAL_LIMIT}
-use Rattle.om_scope.specs.Scopes.{Scopes, file_scope, body_scopes, meaning_of, is_declared, globals_in, with_global, with_function, declarators_of, after_declarator, after_statement, after_item}
+use Rattle.om_scope.specs.Scopes.{Scopes, file_scope, body_scopes, meaning_of, is_declared, globals_in, with_function, declarators_of, after_declarator, after_statement, after_item}
 
 -- the first breach, if there is one
 abbrev pub first_of : List SourceFault → Option SourceFault

@@ -88,5 +88,9 @@ abbrev pub globals_of : ItemTree → List GlobalVariable
 globals_of (Declaration d) = map global_of (declarators_of d)
 globals_of (Function f) = []
 
+abbrev pub whole_resolution : List ItemTree → Option ResolvedTree
+whole_resolution items = resolved_along resolved_functions after_item file_scope items >>= λ functions. Some (record { globals = flat_map globals_of items; functions = functions })
+
+-- the resolution of a whole source
 unfoldable pub resolution_of : UnitTree → Option ResolvedTree
-resolution_of unit = resolved_along resolved_functions after_item file_scope unit.items >>= λ functions. Some (record { globals = flat_map globals_of unit.items; functions = functions })
+resolution_of unit = whole_resolution unit.items

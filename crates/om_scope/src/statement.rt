@@ -59,7 +59,10 @@ fn resolve_statement(
         Statement::Expression(..) => unreachable!(),
         Statement::Return(at, Some(value), _) => {
             let value = resolve_expression(alloc, symbols, value)?;
-            Ok(ResolvedStatement::Return { line: at.line, value })
+            Ok(ResolvedStatement::Return {
+                line: at.line,
+                value,
+            })
         }
         Statement::Return(_, None, _) => unreachable!(),
     }

@@ -1,17 +1,84 @@
 //! A whole source.
 
-ghost use Rattle.std.specs.Prelude.{◌≡◌, ◌≢◌, [], Some, OnOk, IfOk, IfErr};
+ghost use Rattle.std.specs.Prelude.{◌≡◌, ◌≢◌, ◌++◌, [], Some, OnOk, IfOk, IfErr, All, map, option_map};
+ghost use Rattle.std.specs.List.{list_any};
 ghost use Rattle.om_lexer.specs.Faults.{no_memory};
-ghost use Rattle.om_parser.specs.Formed.{IsUnit};
-ghost use Rattle.om_parser.specs.View.{view_unit};
-ghost use Rattle.om_scope.specs.Breaches.{breaches_of, first_of};
-ghost use Rattle.om_scope.specs.Resolution.{resolution_of};
-ghost use Rattle.om_scope.specs.ResolvedView.{view_resolved};
+ghost use Rattle.om_parser.specs.Formed.{IsItem, IsUnit};
+ghost use Rattle.om_parser.specs.View.{view_item, view_unit};
+ghost use Rattle.om_scope.specs.Breaches.{breaches_along, breaches_of, first_of, is_main, item_breaches};
+ghost use Rattle.om_scope.specs.Outcomes.{Refuses, Resolves};
+ghost use Rattle.om_scope.specs.Resolution.{globals_of, resolution_of, resolved_functions, whole_resolution};
+ghost use Rattle.om_scope.specs.ResolvedView.{view_resolved, view_resolved_function};
+ghost use Rattle.om_scope.specs.Scopes.{after_item, file_scope};
 
-use crate::resolved::Resolved;
+use crate::declaration::declare_globals;
+use crate::function::define_function;
+use crate::resolved::{GlobalVariable, Resolved, ResolvedFunction};
+use crate::symbols::Symbols;
 use om_lexer::{FaultCode, SourceFault};
-use om_parser::Unit;
+use om_parser::{Item, Unit};
+use om_seq::Seq;
 use std::alloc::Global;
+
+/// Resolves an item in the scopes behind those before it.
+#[tactic(auto, unfolding(om_parser::specs::Formed::IsItem, crate::specs::Breaches::item_breaches, crate::specs::Resolution::resolved_functions))]
+fn resolve_item(
+    alloc: Global,
+    symbols: &mut Symbols,
+    globals: &mut Vec<GlobalVariable>,
+    functions: &mut Vec<ResolvedFunction>,
+    item: &Item,
+) -> Result<(), SourceFault>
+    requires formed { IsItem (view_item item.now) }
+    ensures no_breach { OnOk result (item_breaches symbols.old (view_item item.now) ≡ []) }
+    ensures in_scope { OnOk result (symbols.new ≡ after_item symbols.old (view_item item.now)) }
+    ensures declared { OnOk result (globals.new.items ≡ globals.old.items ++ globals_of (view_item item.now)) }
+    ensures defined { OnOk result (option_map (λ front. map view_resolved_function functions.old.items ++ front) (resolved_functions symbols.old (view_item item.now)) ≡ Some (map view_resolved_function functions.new.items)) }
+    ensures refused { IfErr result (Refuses (item_breaches symbols.old (view_item item.now))) }
+{
+    match item {
+        Item::Declaration(declaration) => declare_globals(alloc, symbols, globals, declaration),
+        Item::Function(function) => {
+            let function = define_function(alloc, symbols, function)?;
+            functions.push(function)?;
+            Ok(())
+        }
+    }
+}
+
+/// Resolves the items of a source.
+fn resolve_items(alloc: Global, items: &[Item]) -> Result<Resolved, SourceFault>
+    requires formed { All IsItem (map view_item items.now) }
+    ensures { Resolves view_resolved result (breaches_along item_breaches after_item file_scope (map view_item items.now)) (whole_resolution (map view_item items.now)) }
+{
+    let mut symbols = Symbols::new(alloc)?;
+    let mut globals = Vec::new(alloc);
+    let mut functions = Vec::new(alloc);
+    for item in items {
+        resolve_item(alloc, &mut symbols, &mut globals, &mut functions, item)?;
+    }
+    Ok(Resolved {
+        globals: Seq::of(globals),
+        functions: Seq::of(functions),
+    })
+}
+
+/// Whether an item is a function named `main`.
+fn is_main(item: &Item) -> bool
+    ensures { result ≡ is_main (view_item item.now) }
+{
+    match item {
+        Item::Declaration(_) => false,
+        Item::Function(function) => function.name.text.as_slice() == b"main".as_slice(),
+    }
+}
+
+/// Whether one of the items is a function named `main`.
+fn has_main(items: &[Item]) -> bool
+    ensures { result ≡ list_any (λ item. is_main (view_item item)) items.now }
+{
+    items.iter().any(|item| is_main(item))
+}
 
 /// The unit, resolved: each use of a name has the variable of its innermost declaration (C17 6.2.1).
 ///
@@ -25,15 +92,19 @@ use std::alloc::Global;
 /// - S10 at a constant above 2147483647.
 /// - S11 at the name of the global past `GLOBAL_LIMIT`.
 /// - S15 at the end of the source: no function is named `main`.
-pub fn resolve(_alloc: Global, unit: Unit) -> Result<Resolved, SourceFault>
+#[tactic(auto, using(crate::proofs::Firsts::first_of_left), unfolding(om_parser::specs::Formed::IsUnit, crate::specs::Breaches::breaches_of, crate::specs::Resolution::resolution_of))]
+pub fn resolve(alloc: Global, unit: Unit) -> Result<Resolved, SourceFault>
     requires formed { IsUnit (view_unit unit) }
     ensures no_breach { OnOk result (breaches_of (view_unit unit) ≡ []) }
     ensures resolved { IfOk result (λ resolved. resolution_of (view_unit unit) ≡ Some (view_resolved resolved)) }
     ensures first_breach { IfErr result (λ fault. fault ≢ no_memory → first_of (breaches_of (view_unit unit)) ≡ Some fault) }
 {
-    let _unit = unit;
-    Err(SourceFault {
-        code: FaultCode::Memory,
-        at: 0,
-    })
+    let resolved = resolve_items(alloc, unit.items.as_slice())?;
+    if !has_main(unit.items.as_slice()) {
+        return Err(SourceFault {
+            code: FaultCode::NoMain,
+            at: unit.end.start,
+        });
+    }
+    Ok(resolved)
 }

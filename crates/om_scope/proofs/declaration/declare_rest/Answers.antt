@@ -1,4 +1,3 @@
-use Rattle.std.proofs.Common.{map, ap}
 use Rattle.std.proofs.lemmas.Result.{err_from_is_err_and}
 use Rattle.om_scope.specs.Breaches.{declarator_breaches}
 use Rattle.om_scope.specs.Scopes.{after_declarator}

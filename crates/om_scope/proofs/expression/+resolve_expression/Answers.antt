@@ -1,9 +1,6 @@
-use Rattle.std.proofs.Common.{rules, ◌≡◌, ◌≢◌, Some}
 use Rattle.std.proofs.lemmas.Result.{err_from_is_err_and}
-use Rattle.om_parser.specs.View.{view_expression}
 use Rattle.om_scope.specs.Breaches.{expression_breaches}
 use Rattle.om_scope.specs.Resolution.{resolved_expression}
-use Rattle.om_scope.specs.Scopes.{body_scopes}
 use Rattle.om_scope.proofs.Firsts.{first_of_left}
 use Rattle.om_scope.proofs.expression.+resolve_expression.Goals as goal
 

@@ -1,4 +1,4 @@
-use Rattle.std.proofs.Common.{◌≡◌, ◌+◌, ◌∷◌, [], map, drop, ap, ◌∙◌, arith, rules}
+use Rattle.std.proofs.Common.{◌++◌, option_map, map, ap, ◌∙◌}
 use Rattle.om_parser.specs.Formed.{IsStatement}
 use Rattle.om_parser.specs.View.{view_statement}
 use Rattle.om_scope.specs.Breaches.{statement_breaches}
@@ -18,4 +18,5 @@ loop-statement-preserved c =
     let left = rw here at c.loop-statement.invariant in
     let made = ap (map view_resolved_statement) c.in_ok-push.ensures.items ∙ map-push view_resolved_statement c.loop-statement.resolved.items c.in_ok-resolve_statement.field-0 in
     let one = c.in_ok-resolve_statement.ensures in
-    rw made (unbroken-step statement_breaches after_statement left.0 one.0, made-step resolved_statement after_statement left.1 _ one.1)
+    let grown = ap (option_map (λ front. map view_resolved_statement c.loop-statement.resolved.items ++ front)) one.1 in
+    rw made (unbroken-step statement_breaches after_statement left.0 one.0, made-step resolved_statement after_statement left.1 _ grown)

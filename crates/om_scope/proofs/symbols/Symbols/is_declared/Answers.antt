@@ -1,4 +1,4 @@
-use Rattle.std.proofs.Common.{◌≡◌, sym, ap, ◌∙◌, is_some}
+use Rattle.std.proofs.Common.{sym, ap, ◌∙◌, is_some}
 use Rattle.std.specs.Str.{bytes_eq}
 use Rattle.om_scope.specs.Scopes.{is_declared}
 use Rattle.om_scope.proofs.Names.{lookup-scope_of}

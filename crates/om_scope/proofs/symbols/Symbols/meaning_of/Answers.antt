@@ -1,4 +1,4 @@
-use Rattle.std.proofs.Common.{◌≡◌, sym, ap, ◌∙◌}
+use Rattle.std.proofs.Common.{sym, ap, ◌∙◌}
 use Rattle.std.specs.Str.{bytes_eq}
 use Rattle.om_scope.specs.Scopes.{meaning_of, scope_of}
 use Rattle.om_scope.proofs.Names.{lookup-scope_of, option_or-none}

@@ -1,0 +1,29 @@
+use Rattle.std.proofs.Common.{◌+◌, map, drop, ap, ◌∙◌, append_assoc}
+use Rattle.std.specs.List.{flat_map}
+use Rattle.std.proofs.lemmas.Result.{err_from_is_err_and}
+use Rattle.om_parser.specs.Formed.{IsItem}
+use Rattle.om_parser.specs.View.{view_item}
+use Rattle.om_scope.specs.Breaches.{item_breaches}
+use Rattle.om_scope.specs.Resolution.{globals_of, resolved_functions}
+use Rattle.om_scope.specs.Scopes.{after_item}
+use Rattle.om_scope.proofs.Along.{made-step, unbroken-refuse, unbroken-step}
+use Rattle.om_scope.proofs.Items.{all-item, drop-item}
+use Rattle.om_scope.proofs.unit.resolve_items.Goals as goal
+
+pub resolve_item-requires : goal.resolve_item-requires
+resolve_item-requires c = record { formed = all-item IsItem view_item _ _ _ c.loop-item-test.true c.item-item.is c.requires.formed }
+
+pub returns-in_err-resolve_item : goal.returns-in_err-resolve_item
+returns-in_err-resolve_item c =
+    let p = err_from_is_err_and c.from_residual-in_err-resolve_item.result c.from_residual-in_err-resolve_item.ensures.1 in
+    let here = ap (map view_item) (drop-item c.args.items.now c.loop-item.item-index c.item-item.result c.loop-item-test.true c.item-item.is) in
+    let left = rw here at c.loop-item.invariant in
+    rw (p.1, p.2) (unbroken-refuse item_breaches after_item left.0 c.in_err-resolve_item.ensures.refused)
+
+pub loop-item-preserved : goal.loop-item-preserved
+loop-item-preserved c =
+    let here = ap (map view_item) (drop-item c.args.items.now c.loop-item.item-index c.item-item.result c.loop-item-test.true c.item-item.is) in
+    let left = rw here at c.loop-item.invariant in
+    let one = c.in_ok-resolve_item.ensures in
+    rw (one.in_scope, one.declared)
+    (unbroken-step item_breaches after_item left.0 one.no_breach, made-step resolved_functions after_item left.1 _ one.defined, append_assoc c.loop-item.globals.items (globals_of (view_item c.item-item.result)) (flat_map globals_of (map view_item (drop (c.loop-item.item-index + 1) c.args.items.now))) ∙ left.2)
