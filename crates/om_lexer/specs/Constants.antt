@@ -2,6 +2,8 @@
 use Rattle.std.specs.Prelude.{◌≡◌, ℕ, ◌+◌, ◌*◌, ◌<◌, List, length, drop, fold, codes, nat_eq, if◌then◌else◌, All}
 use Rattle.std.specs.List.{starts_with}
 use Rattle.std.specs.Char.{digit_value}
+use Rattle.om_lexer.specs.declared.fault.FaultCode.{FaultCode}
+use Rattle.om_lexer.specs.declared.fault.FaultCode.TheVariants as codes
 
 -- a constant that begins with `0x` is hexadecimal, any other that begins with `0` octal, the rest are decimal
 unfoldable pub base_of : List ℕ → ℕ
@@ -20,3 +22,9 @@ pub record IsConstant (text : List ℕ) (value : ℕ) : Type 0 where
   pub has_digits : 0 < length (digits_of text)
   pub digits : All (λ digit. digit_value digit < base_of text) (digits_of text)
   pub value_is : value ≡ value_in (base_of text) (digits_of text)
+
+-- the text is no constant, or one above 2147483647
+abbrev pub IsWrongConstant : List ℕ → FaultCode → Type 0
+IsWrongConstant text codes.BadToken = (value : ℕ) → IsConstant text value → ⊥
+IsWrongConstant text codes.ConstantTooLarge = (value : ℕ) × IsConstant text value × (2147483647 < value)
+IsWrongConstant text _ = ⊥

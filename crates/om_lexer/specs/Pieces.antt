@@ -1,5 +1,6 @@
 -- Translation phase 3 (C17 5.1.1.2): a source is decomposed into tokens and white space; a comment is white space.
 use Rattle.std.specs.Prelude.{◌≡◌, ℕ, ◌+◌, Bool, true, false, List, [], ◌∷◌, ◌++◌, ◌==◌, slice_index, take, count_by}
+use Rattle.om_lexer.specs.declared.token.Span.{Span}
 use Rattle.om_lexer.specs.declared.token.Token.{Token}
 use Rattle.om_lexer.specs.declared.piece.Piece.{Piece}
 use Rattle.om_lexer.specs.declared.piece.PieceKind.{PieceKind}
@@ -27,15 +28,19 @@ Decomposes source from (piece ∷ rest) to = IsPiece source from piece × Decomp
 abbrev pub line_at : List ℕ → ℕ → ℕ
 line_at source at = 1 + count_by (λ b. b == 10) (take at source)
 
+-- the place of what stands from one byte up to another
+abbrev pub span_of : List ℕ → ℕ → ℕ → Span
+span_of source from to = record { start = from; end = to; line = line_at source from }
+
 -- a piece that is a token, with its place
-abbrev pub token_in : List ℕ → ℕ → ℕ → PieceKind → List Token
-token_in source from to (pieces.Token kind) = record { kind = kind; span = record { start = from; end = to; line = line_at source from } } ∷ []
-token_in source from to _ = []
+abbrev pub token_in : Span → PieceKind → List Token
+token_in span (pieces.Token kind) = record { kind = kind; span = span } ∷ []
+token_in span _ = []
 
 -- the tokens among the pieces
 abbrev pub tokens_of : List ℕ → ℕ → List Piece → List Token
 tokens_of source from [] = []
-tokens_of source from (piece ∷ rest) = token_in source from piece.end piece.kind ++ tokens_of source piece.end rest
+tokens_of source from (piece ∷ rest) = token_in (span_of source from piece.end) piece.kind ++ tokens_of source piece.end rest
 
 -- whether no token stands on the line, behind a piece: a line feed in a comment or behind a backslash ends no line
 abbrev pub starts_after : Bool → PieceKind → Bool

@@ -8,7 +8,7 @@ use Rattle.om_lexer.specs.declared.fault.FaultCode.TheVariants as codes
 use Rattle.om_lexer.specs.declared.fault.SourceFault.{SourceFault}
 use Rattle.om_lexer.specs.Faults.{no_memory}
 use Rattle.om_lexer.specs.Tokens.{IsTooLarge}
-use Rattle.om_lexer.specs.Pieces.{IsPiece, Decomposes, tokens_of, line_at, starts_line}
+use Rattle.om_lexer.specs.Pieces.{IsPiece, Decomposes, tokens_of, span_of, starts_line}
 
 -- the bytes that a source may have
 abbrev pub source_limit : ℕ
@@ -16,7 +16,7 @@ source_limit = 1048576
 
 -- the last token, at the end of the source
 abbrev pub end_token : List ℕ → Token
-end_token source = record { kind = kinds.End; span = record { start = length source; end = length source; line = line_at source (length source) } }
+end_token source = record { kind = kinds.End; span = span_of source (length source) (length source) }
 
 -- the source is within the limit, and these are its tokens
 pub record IsTokens (source : List ℕ) (tokens : List Token) : Type 0 where
@@ -42,6 +42,10 @@ IsWrong source starts at codes.BadToken = IsBadToken source starts at
 IsWrong source starts at codes.BadHashLine = BeginsHashLine source starts at
 IsWrong source starts at codes.ConstantTooLarge = IsTooLarge source at
 IsWrong source starts at _ = ⊥
+
+-- a refusal at a byte: want of memory, or what is wrong there
+abbrev pub IsWrongAt : List ℕ → Bool → ℕ → SourceFault → Type 0
+IsWrongAt source starts at fault = (fault ≡ no_memory) ⊎ ((fault.at ≡ at) × IsWrong source starts at fault.code)
 
 -- the source is pieces up to that byte, and there it is wrong
 pub record GoesWrong (source : List ℕ) (code : FaultCode) (at : ℕ) : Type 0 where

@@ -5,8 +5,10 @@ use Rattle.om_lexer.specs.declared.token.TokenKind.{TokenKind}
 use Rattle.om_lexer.specs.declared.token.TokenKind.TheVariants as kinds
 use Rattle.om_lexer.specs.declared.token.Keyword.{Keyword}
 use Rattle.om_lexer.specs.declared.token.Punctuator.{Punctuator}
+use Rattle.om_lexer.specs.declared.fault.FaultCode.{FaultCode}
+use Rattle.om_lexer.specs.declared.fault.FaultCode.TheVariants as codes
 use Rattle.om_lexer.specs.Characters.{is_word_byte}
-use Rattle.om_lexer.specs.Constants.{IsConstant}
+use Rattle.om_lexer.specs.Constants.{IsConstant, IsWrongConstant}
 use Rattle.om_lexer.specs.Spellings.{keyword_text, punctuator_text}
 use Rattle.om_lexer.specs.WhiteSpace.{BeginsComment}
 
@@ -53,3 +55,9 @@ pub record IsTooLarge (source : List ℕ) (from : ℕ) : Type 0 where
   pub longest : IsLongest source from to
   pub spelled : IsConstant (slice_range source from to) value
   pub large : 2147483647 < value
+
+-- what is wrong with a text that could be a token: it spells none, or a constant above 2147483647
+abbrev pub IsWrongText : List ℕ → FaultCode → Type 0
+IsWrongText text codes.BadToken = ((kind : TokenKind) → Spells text kind → ⊥) × IsWrongConstant text codes.BadToken
+IsWrongText text codes.ConstantTooLarge = IsWrongConstant text codes.ConstantTooLarge
+IsWrongText text _ = ⊥

@@ -1,11 +1,17 @@
 //! The tokens of a source.
 
-ghost use Rattle.std.specs.Prelude.{IfOk, IfErr};
+ghost use Rattle.std.specs.Prelude.{◌≡◌, ◌==◌, ◌++◌, ◌<◌, ◌^◌, length, count_by, IfOk, IfErr, OnOk};
+ghost use Rattle.om_lexer.specs.Pieces.{token_in};
 ghost use Rattle.om_lexer.specs.Sources.{IsTokens, IsRefusal};
 
 use crate::fault::{FaultCode, SourceFault};
-use crate::token::Token;
-use std::alloc::Global;
+use crate::piece::PieceKind;
+use crate::scan::piece_at;
+use crate::token::{Span, Token, TokenKind};
+use std::alloc::{AllocError, Global};
+
+/// The bytes that a source may have.
+const SOURCE_LIMIT: usize = 1_048_576;
 
 /// The tokens of a source, in order; the last is the end of the source.
 ///
@@ -13,12 +19,63 @@ use std::alloc::Global;
 /// A refusal is want of memory (S0), or the first fault of the source: bytes that are no white space, comment or token (S2),
 /// a `#` line (S4, at its `#`) or a constant above 2147483647 (S10), where one stands below byte 1,048,576;
 /// else that the source has more than 1,048,576 bytes (S1, there).
-pub fn lex(_alloc: Global, _source: &[u8]) -> Result<Vec<Token>, SourceFault>
-    ensures tokens { IfOk result (λ tokens. IsTokens _source.now tokens.items) }
-    ensures refusal { IfErr result (IsRefusal _source.now) }
+pub fn lex(alloc: Global, source: &[u8]) -> Result<Vec<Token>, SourceFault>
+    ensures tokens { IfOk result (λ tokens. IsTokens source.now tokens.items) }
+    ensures refusal { IfErr result (IsRefusal source.now) }
 {
-    Err(SourceFault {
-        code: FaultCode::Memory,
-        at: 0,
-    })
+    let mut tokens = Vec::new(alloc);
+    let mut at = 0;
+    let mut line = 1;
+    let mut starts_line = true;
+    while at < source.len() {
+        let piece = piece_at(alloc, source, at, starts_line)?;
+        let end = piece.end;
+        if source.len() > SOURCE_LIMIT && end >= SOURCE_LIMIT {
+            return Err(SourceFault {
+                code: FaultCode::SourceTooLong,
+                at: SOURCE_LIMIT as u32,
+            });
+        }
+        starts_line = piece.kind.starts_after(starts_line);
+        let span = Span {
+            start: at as u32,
+            end: end as u32,
+            line,
+        };
+        add_token(&mut tokens, piece.kind, span)?;
+        line += line_feeds(&source[at..end]);
+        at = end;
+    }
+    tokens.push(Token {
+        kind: TokenKind::End,
+        span: Span {
+            start: at as u32,
+            end: at as u32,
+            line,
+        },
+    })?;
+    Ok(tokens)
+}
+
+/// Adds a piece that is a token. Without memory the tokens are lost to the caller.
+fn add_token(tokens: &mut Vec<Token>, kind: PieceKind, span: Span) -> Result<(), AllocError>
+    ensures { OnOk result (tokens.new.items ≡ tokens.old.items ++ token_in span kind) }
+{
+    match kind {
+        PieceKind::LineFeed => Ok(()),
+        PieceKind::Space => Ok(()),
+        PieceKind::Comment => Ok(()),
+        PieceKind::Token(kind) => {
+            tokens.push(Token { kind, span })?;
+            Ok(())
+        }
+    }
+}
+
+/// How many line feeds there are.
+fn line_feeds(bytes: &[u8]) -> u32
+    requires { length bytes.now < 2 ^ 32 }
+    ensures { result ≡ count_by (λ b. b == 10) bytes.now }
+{
+    bytes.iter().filter(|byte| **byte == b'\n').count() as u32
 }

@@ -1,0 +1,6 @@
+use Rattle.std.proofs.Common.{◌≡◌, ℕ, ◌-◌, ◌<◌, ◌≤◌, true, length, take}
+use Rattle.om_lexer.specs.Constants.{value_in}
+use Rattle.om_lexer.proofs.constant.value_in.Given as goal
+
+abbrev pub invariant-loop-digit : goal.invariant-loop-digit
+invariant-loop-digit l = l.value ≡ value_in l.base (take l.digit-index l.digits)
