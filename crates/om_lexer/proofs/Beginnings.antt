@@ -84,11 +84,14 @@ could_be_apart text (inr p) = other_apart _ (ap (λ t. is_other (slice_index t 0
 pub token_apart : (source : List ℕ) (from to : ℕ) → CouldBeToken (slice_range source from to) → IsApart (slice_index source from)
 token_apart source from to could_be = subst IsApart (first_of_slice source from to (could_be_some _ could_be)) (could_be_apart _ could_be)
 
+-- a punctuator begins with no byte of a word
+pub punctuator_no_word : (text : List ℕ) (p : Punctuator) → text ≡ punctuator_text p → is_word_byte (slice_index text 0) ≡ false
+punctuator_no_word text p same = other_no_word _ (ap (λ t. is_other (slice_index t 0)) same ∙ punctuator_other p)
+
 -- a text that could be a token and begins with a byte of a word is a word
 pub word_from_first : (text : List ℕ) → CouldBeToken text → is_word_byte (slice_index text 0) ≡ true → IsWord text
 word_from_first text (inl word) first = word
-word_from_first text (inr p) first =
-    absurd (both_ways _ (other_no_word _ (ap (λ t. is_other (slice_index t 0)) p.1 ∙ punctuator_other p.0)) first)
+word_from_first text (inr p) first = absurd (both_ways _ (punctuator_no_word text p.0 p.1) first)
 
 -- .. and else a punctuator
 pub punctuator_from_first : (text : List ℕ) → CouldBeToken text → is_word_byte (slice_index text 0) ≡ false → (p : Punctuator) × (text ≡ punctuator_text p)
@@ -96,8 +99,11 @@ punctuator_from_first text (inl word) first = absurd (both_ways _ first (word.wo
 punctuator_from_first text (inr p) first = p
 
 pub no_word_punctuator : (text : List ℕ) (p : Punctuator) → IsWord text → text ≡ punctuator_text p → ⊥
-no_word_punctuator text p word same =
-    both_ways _ (other_no_word _ (ap (λ t. is_other (slice_index t 0)) same ∙ punctuator_other p)) (word.word_bytes 0 0 word.some)
+no_word_punctuator text p word same = both_ways _ (punctuator_no_word text p same) (word.word_bytes 0 0 word.some)
+
+-- a byte that is no blank
+pub no_blank_at : (b n : ℕ) → b ≡ n → is_blank n ≡ false → is_blank b ≡ true → ⊥
+no_blank_at b n same no_blank blank = both_ways _ (ap is_blank same ∙ no_blank) blank
 
 -- no keyword begins with a digit
 pub keyword_no_digit : (k : Keyword) → is_ascii_digit (slice_index (keyword_text k) 0) ≡ false

@@ -5,3 +5,5 @@ pub mod Words
 pub mod Longest
 pub mod Wrong
 pub mod Progress
+pub mod OnePiece
+pub mod OneReading

@@ -17,7 +17,7 @@ use Rattle.om_lexer.proofs.Beginnings.{could_be_some}
 use Rattle.om_lexer.proofs.Longest.{length_slice}
 
 -- a byte other than 0 is one of the source
-byte_inside : (source : List ℕ) (k : ℕ) → 0 < slice_index source k → k < length source
+pub byte_inside : (source : List ℕ) (k : ℕ) → 0 < slice_index source k → k < length source
 byte_inside source k some = ⊎_elim (λ inside. inside) (λ past. let none = get_or_past source k 0 past in absurd (omega arith)) (cases_lt k (length source))
 
 -- every piece has a byte

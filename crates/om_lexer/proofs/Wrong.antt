@@ -15,7 +15,7 @@ use Rattle.om_lexer.specs.WhiteSpace.{IsLineEnd, IsSpace, IsBlockComment, IsComm
 use Rattle.om_lexer.specs.Tokens.{IsLongest, IsTooLarge, IsWrongText}
 use Rattle.om_lexer.specs.Pieces.{Stands}
 use Rattle.om_lexer.specs.Sources.{IsBadToken, IsWrong, IsWrongAt, BeginsHashLine}
-use Rattle.om_lexer.proofs.Beginnings.{token_apart, word_apart, word_no_slash, could_be_some, first_of_slice, punctuator_from_first, punctuator_long}
+use Rattle.om_lexer.proofs.Beginnings.{no_blank_at, token_apart, word_apart, word_no_slash, could_be_some, first_of_slice, punctuator_from_first, punctuator_long}
 use Rattle.om_lexer.proofs.Longest.{longest_one, starts_to}
 
 -- what may begin at a byte, each refuted
@@ -40,10 +40,6 @@ bad_token source starts at barren = record {
   not_too_large = λ large. (barren.no_token large.to large.longest).1 large.value large.spelled;
   no_hash_line = barren.no_hash_line;
 }
-
--- a byte that is none of those is no blank
-no_blank_at : (b n : ℕ) → b ≡ n → is_blank n ≡ false → is_blank b ≡ true → ⊥
-no_blank_at b n same no_blank blank = both_ways _ (ap is_blank same ∙ no_blank) blank
 
 -- a backslash with no line end behind it
 pub lone_backslash : (source : List ℕ) (starts : Bool) (at : ℕ) → at < length source → slice_index source at ≡ 92 → ((to : ℕ) → IsLineEnd source (at + 1) to → ⊥) → IsBadToken source starts at

@@ -1,8 +1,10 @@
 //! The tokens of a source.
 
-ghost use Rattle.std.specs.Prelude.{◌≡◌, ◌==◌, ◌++◌, ◌<◌, ◌^◌, length, count_by, IfOk, IfErr, OnOk};
+ghost use Rattle.std.specs.Prelude.{◌≡◌, ◌==◌, ◌++◌, ◌<◌, ◌^◌, ℕ, List, length, count_by, IfOk, IfErr, OnOk};
+ghost use Rattle.om_lexer.specs.declared.fault.FaultCode.{FaultCode};
+ghost use Rattle.om_lexer.specs.declared.token.Token.{Token};
 ghost use Rattle.om_lexer.specs.Pieces.{token_in};
-ghost use Rattle.om_lexer.specs.Sources.{IsTokens, IsRefusal};
+ghost use Rattle.om_lexer.specs.Sources.{IsTokens, IsFault, IsRefusal};
 
 use crate::fault::{FaultCode, SourceFault};
 use crate::piece::PieceKind;
@@ -56,6 +58,15 @@ pub fn lex(alloc: Global, source: &[u8]) -> Result<Vec<Token>, SourceFault>
     })?;
     Ok(tokens)
 }
+
+/// A source has one list of tokens or one fault, and not both.
+pub fn one_reading()
+    ensures one_token_list { (source : List ℕ) (ts us : List Token) → IsTokens source ts → IsTokens source us → ts ≡ us }
+    ensures tokens_or_fault { (source : List ℕ) (ts : List Token) (code : FaultCode) (at : ℕ) →
+        IsTokens source ts → IsFault source code at → ⊥ }
+    ensures one_fault { (source : List ℕ) (c d : FaultCode) (a b : ℕ) →
+        IsFault source c a → IsFault source d b → (c ≡ d) × (a ≡ b) }
+{}
 
 /// Adds a piece that is a token. Without memory the tokens are lost to the caller.
 fn add_token(tokens: &mut Vec<Token>, kind: PieceKind, span: Span) -> Result<(), AllocError>

@@ -8,10 +8,12 @@ mod lexer;
 mod piece;
 mod scan;
 mod spelling;
+#[cfg(test)]
+mod tests;
 mod token;
 mod white_space;
 mod word;
 
 pub use fault::{FaultCode, SourceFault};
-pub use lexer::lex;
+pub use lexer::{lex, one_reading};
 pub use token::{Keyword, Punctuator, Span, Token, TokenKind};
