@@ -4,3 +4,9 @@ pub mod Exchange
 pub mod Removal
 pub mod Undoing
 pub mod Remaining
+pub mod Bounds
+pub mod Logs
+pub mod Places
+pub mod Rooms
+pub mod Starting
+pub mod Soundness

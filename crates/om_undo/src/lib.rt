@@ -2,6 +2,11 @@
 #![tactic(auto)]
 
 pub mod laws;
+pub mod machine;
+mod records;
 pub mod reply;
+mod start;
+mod updates;
 
+pub use machine::Machine;
 pub use reply::{StepReply, UndoReply};
