@@ -4,3 +4,6 @@ pub mod Formed
 pub mod Limits
 pub mod View
 pub mod Parsing
+pub mod Reading
+pub mod ExpressionReading
+pub mod UnitReading

@@ -30,12 +30,20 @@ expressions_of_item (Function f) = flat_map expressions_of_statement f.body.stat
 unfoldable pub whole_expressions : UnitTree → List ExpressionTree
 whole_expressions u = flat_map expressions_of_item u.items
 
--- an expression of at most 4,096 tokens, in which parentheses nest at most 128 deep
-unfoldable pub IsSmall : ExpressionTree → Type 0
-IsSmall e = (nesting e ≤ NESTING_LIMIT) × (length (expression_spelling e) ≤ TOKEN_LIMIT)
+-- how deep parentheses may nest in an expression, and how many tokens a whole one may have
+pub record Limits : Type 0 where
+  pub nested : ℕ
+  pub tokens : ℕ
+
+-- those of an accepted source
+abbrev pub accepted : Limits
+accepted = record { nested = NESTING_LIMIT; tokens = TOKEN_LIMIT }
+
+unfoldable pub IsWithin : Limits → ExpressionTree → Type 0
+IsWithin l e = (nesting e ≤ l.nested) × (length (expression_spelling e) ≤ l.tokens)
 
 unfoldable pub IsWithinLimits : UnitTree → Type 0
-IsWithinLimits u = All IsSmall (whole_expressions u)
+IsWithinLimits u = All (IsWithin accepted) (whole_expressions u)
 
 -- how many parentheses stand open behind these tokens, where so many stood open before
 unfoldable pub still_open : ℕ → List Token → ℕ

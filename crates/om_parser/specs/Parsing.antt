@@ -6,9 +6,8 @@ use Rattle.om_lexer.specs.declared.token.Punctuator.TheVariants as punctuators
 use Rattle.om_lexer.specs.declared.token.Token.{Token}
 use Rattle.om_lexer.specs.declared.token.TokenKind.TheVariants as kinds
 use Rattle.om_parser.specs.declared.tree.Unit as units
-use Rattle.om_parser.specs.declared.unit.TheConstants.{NESTING_LIMIT, TOKEN_LIMIT}
 use Rattle.om_parser.specs.Formed.{IsUnit}
-use Rattle.om_parser.specs.Limits.{whole_expressions, still_open}
+use Rattle.om_parser.specs.Limits.{Limits, accepted, whole_expressions, still_open}
 use Rattle.om_parser.specs.Spelling.{expression_spelling, unit_spelling}
 use Rattle.om_parser.specs.Tree.{ExpressionTree, UnitTree}
 use Rattle.om_parser.specs.View.{view_unit}
@@ -18,28 +17,32 @@ pub record IsTreeOf (tokens : List Token) (u : UnitTree) : Type 0 where
   pub formed : IsUnit u
   pub spelled : unit_spelling u ≡ tokens
 
--- the token behind these of one whole expression is too many, or it is a parenthesis that nests too deep
-abbrev pub IsTooMuch : List Token → Token → Type 0
-IsTooMuch begun t = (length begun ≡ TOKEN_LIMIT) ⊎ ((t.kind ≡ kinds.Punctuator punctuators.OpenParen) × (still_open 0 begun ≡ NESTING_LIMIT))
+-- the token behind these of one whole expression is one too many, or a parenthesis that nests too deep
+abbrev pub IsTooMuch : Limits → List Token → Token → Type 0
+IsTooMuch l begun t = (length begun ≡ l.tokens) ⊎ ((t.kind ≡ kinds.Punctuator punctuators.OpenParen) × (still_open 0 begun ≡ l.nested))
 
--- A limit is passed at this place: some well-formed unit begins with the same tokens up to there,
--- and there one of its whole expressions has its 4,097th token, or its 129th parenthesis that stands open.
-pub record IsLimitPassed (tokens : List Token) (place : ℕ) : Type 0 where
-  pub unit : UnitTree
-  pub formed : IsUnit unit
+-- A limit is passed at this place: some well-formed part of a program begins with the same tokens up to there,
+-- and there one of its whole expressions has too many tokens, or parentheses that nest too deep.
+pub record PassesLimit {A : Type 0} (spelling : A → List Token) (IsFormed : A → Type 0) (expressions : A → List ExpressionTree) (l : Limits) (tokens : List Token) (place : ℕ) : Type 0 where
+  pub part : A
+  pub formed : IsFormed part
   pub expression : ExpressionTree
-  pub whole : Contains (whole_expressions unit) expression
+  pub whole : Contains (expressions part) expression
   pub before : List Token
   pub begun : List Token
   pub token : Token
   pub after : List Token
   pub rest_of_expression : List Token
-  pub rest_of_unit : List Token
+  pub rest_of_part : List Token
   pub stands : tokens ≡ before ++ begun ++ token ∷ after
   pub in_expression : expression_spelling expression ≡ begun ++ token ∷ rest_of_expression
-  pub in_unit : unit_spelling unit ≡ before ++ expression_spelling expression ++ rest_of_unit
+  pub in_part : spelling part ≡ before ++ expression_spelling expression ++ rest_of_part
   pub at_place : token.span.start ≡ place
-  pub too_much : IsTooMuch begun token
+  pub too_much : IsTooMuch l begun token
+
+-- the same of a whole unit
+abbrev pub IsLimitPassed : List Token → ℕ → Type 0
+IsLimitPassed = PassesLimit unit_spelling IsUnit whole_expressions accepted
 
 -- the tree, unless memory ran out
 abbrev pub IsTreeOrMemory : UnitTree → Result units.Unit SourceFault → Type 0

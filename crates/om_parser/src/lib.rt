@@ -1,6 +1,11 @@
 //! The parser: the tokens of a C source to its tree (C17 6.5 to 6.9).
 #![tactic(auto)]
 
+mod declaration;
+mod expression;
+mod front;
+mod function;
+mod statement;
 mod tree;
 mod unit;
 
@@ -8,4 +13,4 @@ pub use tree::{
     AssignOperator, BinaryOperator, Block, Declaration, Declarator, Expression, Function,
     Initializer, Item, Name, Number, Statement, Unit,
 };
-pub use unit::{NESTING_LIMIT, TOKEN_LIMIT, parse};
+pub use unit::{NESTING_LIMIT, TOKEN_LIMIT, one_tree, parse};

@@ -1,15 +1,22 @@
 //! A whole source.
 
-ghost use Rattle.std.specs.Prelude.{◌≡◌, ◌⊎◌, IfOk, IfErr};
+ghost use Rattle.std.specs.Prelude.{◌≡◌, ◌⊎◌, [], IfOk, IfErr, length, map, option_map};
 ghost use Rattle.om_lexer.specs.Faults.{no_memory};
 ghost use Rattle.om_lexer.specs.declared.fault.FaultCode.TheVariants.{Syntax, TooDeep};
-ghost use Rattle.om_parser.specs.Limits.{IsWithinLimits};
+ghost use Rattle.om_parser.specs.Formed.{IsUnit};
+ghost use Rattle.om_parser.specs.Limits.{accepted, IsWithinLimits};
 ghost use Rattle.om_parser.specs.Parsing.{IsTreeOf, IsTreeOrMemory, IsLimitPassed};
+ghost use Rattle.om_parser.specs.Reading.{Reads};
+ghost use Rattle.om_parser.specs.Spelling.{unit_spelling};
 ghost use Rattle.om_parser.specs.Tree.{UnitTree};
-ghost use Rattle.om_parser.specs.View.{view_unit};
+ghost use Rattle.om_parser.specs.UnitReading.{until, unit_at, take_end, item_at};
+ghost use Rattle.om_parser.specs.View.{view_item, view_unit};
 
-use crate::tree::Unit;
-use om_lexer::{FaultCode, SourceFault, Token};
+use crate::declaration::declaration_after;
+use crate::front::{name, word};
+use crate::function::{function_after, take_parameters};
+use crate::tree::{Item, Unit};
+use om_lexer::{Keyword, SourceFault, Span, Token, TokenKind};
 use std::alloc::Global;
 
 /// How deep parentheses may nest in an expression.
@@ -27,7 +34,7 @@ pub const TOKEN_LIMIT: usize = 4096;
 ///   that no well-formed unit has there, after the tokens before it.
 /// - S16: at this token an expression has more than `TOKEN_LIMIT` tokens, or its parentheses
 ///   nest deeper than `NESTING_LIMIT`. Where a token is both, it is S3.
-pub fn parse(_alloc: Global, tokens: &[Token]) -> Result<Unit, SourceFault>
+pub fn parse(alloc: Global, tokens: &[Token]) -> Result<Unit, SourceFault>
     // What is found is well-formed and has these tokens.
     ensures found { IfOk result (λ unit. IsTreeOf tokens.now (view_unit unit)) }
     ensures found_within_limits { IfOk result (λ unit. IsWithinLimits (view_unit unit)) }
@@ -39,9 +46,64 @@ pub fn parse(_alloc: Global, tokens: &[Token]) -> Result<Unit, SourceFault>
     ensures too_deep_passes_a_limit { IfErr result (λ fault. fault.code ≡ TooDeep → IsLimitPassed tokens.now fault.at) }
     ensures no_other_refusal { IfErr result (λ fault. (fault ≡ no_memory) ⊎ (fault.code ≡ Syntax) ⊎ (fault.code ≡ TooDeep)) }
 {
-    let _tokens = tokens;
-    Err(SourceFault {
-        code: FaultCode::Memory,
-        at: 0,
-    })
+    unit(alloc, tokens)
+}
+
+/// Two well-formed units that have the same tokens are one.
+pub fn one_tree()
+    ensures { (unit other : UnitTree) → IsUnit unit → IsUnit other → unit_spelling unit ≡ unit_spelling other → unit ≡ other }
+{}
+
+// The unit that these tokens are.
+#[tactic(auto, unfolding(crate::specs::UnitReading::unit_at))]
+fn unit(alloc: Global, tokens: &[Token]) -> Result<Unit, SourceFault>
+    ensures { Reads view_unit result (unit_at accepted tokens.now) }
+{
+    let (items, end) = items(alloc, tokens)?;
+    Ok(Unit { items, end })
+}
+
+// Declarations and functions up to the end of the source, and its span.
+fn items(alloc: Global, tokens: &[Token]) -> Result<(Vec<Item>, Span), SourceFault>
+    ensures { Reads (λ x. (map view_item x.0.items, x.1, [])) result (until take_end (item_at accepted) (length tokens.now) tokens.now) }
+{
+    let mut items = Vec::new(alloc);
+    let mut rest = tokens;
+    'items: loop {
+        if let Some(end) = take_end(rest) {
+            return Ok((items, end));
+        }
+        let (next, after) = item(alloc, rest)?;
+        items.push(next)?;
+        rest = after;
+    }
+}
+
+// The span of the end of the source, where nothing else is left.
+#[tactic(auto, unfolding(crate::specs::UnitReading::take_end))]
+fn take_end(tokens: &[Token]) -> Option<Span>
+    ensures { option_map (λ x. (x, [])) result ≡ take_end tokens.now }
+{
+    match tokens {
+        [end] => match end.kind {
+            TokenKind::End => Some(end.span),
+            _ => None,
+        },
+        _ => None,
+    }
+}
+
+// A declaration or a function, and the tokens behind it.
+#[tactic(auto, unfolding(crate::specs::UnitReading::item_at))]
+fn item(alloc: Global, tokens: &[Token]) -> Result<(Item, &[Token]), SourceFault>
+    ensures { Reads (λ x. (view_item x.0, x.1.now)) result (item_at accepted tokens.now) }
+{
+    let (int, rest) = word(tokens, Keyword::Int)?;
+    let (name, rest) = name(alloc, rest)?;
+    if let Some((open_paren, rest)) = take_parameters(&name, rest) {
+        let (function, rest) = function_after(alloc, int, name, open_paren, rest)?;
+        return Ok((Item::Function(function), rest));
+    }
+    let (declaration, rest) = declaration_after(alloc, int, name, rest)?;
+    Ok((Item::Declaration(declaration), rest))
 }

@@ -1,0 +1,67 @@
+-- What is spelled is taken again, and answers that only a limit hinders.
+use Rattle.std.proofs.Common.{◌≡◌, ℕ, ◌<◌, List, ◌∷◌, length, Err, refl, sym, subst, Bool, true, false, cond, arith, ◌⊎◌, inl, inr}
+use Rattle.std.proofs.lemmas.Bool.{leb-true}
+use Rattle.std.specs.Prelude.{nat_le}
+use denote.Enum.Bare.{true_same}
+use Rattle.om_lexer.specs.contracts.token.Keyword.{the_type as the_keywords}
+use Rattle.om_lexer.specs.contracts.token.Punctuator.{the_type as the_punctuators}
+use Rattle.om_lexer.specs.declared.token.Keyword.{Keyword}
+use Rattle.om_lexer.specs.declared.token.Punctuator.{Punctuator}
+use Rattle.om_lexer.specs.declared.token.Span.{Span}
+use Rattle.om_lexer.specs.declared.token.Token.{Token}
+use Rattle.om_parser.specs.declared.tree.BinaryOperator.{BinaryOperator}
+use Rattle.om_parser.specs.declared.tree.BinaryOperator.TheVariants as binaries
+use Rattle.om_parser.specs.declared.tree.Name as names
+use Rattle.om_parser.specs.declared.tree.Number.{Number}
+use Rattle.om_parser.specs.ExpressionReading.{within, take_binary}
+use Rattle.om_parser.specs.Reading.{◌>>=◌, Outcome, too_deep, take, same_mark, same_word, take_mark, take_word, take_name, take_number, mark_at, word_at, name_at, number_at}
+use Rattle.om_parser.specs.Spelling.{mark, word, name, number, binary_mark}
+use Rattle.om_parser.proofs.Outcomes.{ok, some}
+
+pub take_mark_again : (p : Punctuator) (s : Span) (ts : List Token) → take_mark p (mark p s ∷ ts) ≡ some (s, ts)
+unfolding take_mark take same_mark
+take_mark_again p s ts = rw (true_same the_punctuators p p refl) refl
+
+pub take_word_again : (k : Keyword) (s : Span) (ts : List Token) → take_word k (word k s ∷ ts) ≡ some (s, ts)
+unfolding take_word take same_word
+take_word_again k s ts = rw (true_same the_keywords k k refl) refl
+
+pub take_number_again : (n : Number) (ts : List Token) → take_number (number n ∷ ts) ≡ some (n, ts)
+unfolding take_number take
+take_number_again n ts = refl
+
+pub take_binary_again : (o : BinaryOperator) (s : Span) (ts : List Token) → take_binary (mark (binary_mark o) s ∷ ts) ≡ some ((o, s), ts)
+unfolding take_binary take
+take_binary_again binaries.Add s ts = refl
+
+pub mark_again : (p : Punctuator) (s : Span) (ts : List Token) → mark_at p (mark p s ∷ ts) ≡ ok (s, ts)
+unfolding mark_at
+mark_again p s ts = rw (take_mark_again p s ts) refl
+
+pub word_again : (k : Keyword) (s : Span) (ts : List Token) → word_at k (word k s ∷ ts) ≡ ok (s, ts)
+unfolding word_at
+word_again k s ts = rw (take_word_again k s ts) refl
+
+pub name_again : (n : names.Name) (ts : List Token) → name_at (name n ∷ ts) ≡ ok (n, ts)
+unfolding name_at take_name take
+name_again n ts = refl
+
+pub number_again : (n : Number) (ts : List Token) → number_at (number n ∷ ts) ≡ ok (n, ts)
+unfolding number_at
+number_again n ts = rw (take_number_again n ts) refl
+
+-- the item is read, or it is too deep, and then it does not fit the limits
+abbrev pub IsAnswer : {A : Type 0} → (Fits : Type 0) → Outcome A → A → Type 0
+IsAnswer Fits read x = (read ≡ ok x) ⊎ ((s : Span) × (read ≡ Err (too_deep s)) × (Fits → ⊥))
+
+pub bind_answer : {A B : Type 0} {Part Whole : Type 0} (read : Outcome A) (f : A → Outcome B) (x : A) (y : B) → (Whole → Part) → IsAnswer Part read x → IsAnswer Whole (f x) y → IsAnswer Whole (read >>= f) y
+bind_answer {A} {B} {Part} {Whole} read f x y part (inl e) h = subst (λ r. IsAnswer Whole (r >>= f) y) (sym e) h
+bind_answer {A} {B} {Part} {Whole} read f x y part (inr (s, e, never)) h = inr (s, rw e refl, λ w. never (part w))
+
+pub within_answer : {A : Type 0} {Fits : Type 0} (beyond : ℕ) (s : Span) (ts : List Token) (read : Outcome A) (x : A) → (Fits → beyond < length ts) → IsAnswer Fits read x → IsAnswer Fits (within beyond s ts read) x
+unfolding within
+within_answer {A} {Fits} beyond s ts read x inside h = go (nat_le (length ts) beyond) refl
+  where
+    go : (b : Bool) → nat_le (length ts) beyond ≡ b → IsAnswer Fits (cond b (Err (too_deep s)) read) x
+    go true is = inr (s, refl, λ w. let lt = inside w in let le = leb-true _ _ is in omega arith)
+    go false is = h

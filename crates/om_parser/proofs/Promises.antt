@@ -1,0 +1,71 @@
+-- What parsing promises, from what is read.
+use Rattle.std.proofs.Common.{◌≡◌, List, Result, Ok, Err, sym, ap, subst, ◌∙◌, arith, ◌⊎◌, inl, inr}
+use Rattle.std.specs.Prelude.{IfOk, IfErr}
+use Rattle.om_lexer.specs.Faults.{no_memory}
+use Rattle.om_lexer.specs.declared.fault.FaultCode.TheVariants as codes
+use Rattle.om_lexer.specs.declared.fault.SourceFault.{SourceFault}
+use Rattle.om_lexer.specs.declared.token.Token.{Token}
+use Rattle.om_parser.specs.declared.tree.Unit as units
+use Rattle.om_parser.specs.Limits.{accepted, IsWithinLimits}
+use Rattle.om_parser.specs.Parsing.{IsTreeOf, IsTreeOrMemory, IsLimitPassed}
+use Rattle.om_parser.specs.Reading.{Reads}
+use Rattle.om_parser.specs.Tree.{UnitTree}
+use Rattle.om_parser.specs.UnitReading.{unit_at}
+use Rattle.om_parser.specs.View.{view_unit}
+use Rattle.om_parser.proofs.Outcomes.{ok, ok_is}
+use Rattle.om_parser.proofs.Again.{IsAnswer}
+use Rattle.om_parser.proofs.ExpressionCut.{err_is}
+use Rattle.om_parser.proofs.UnitSound.{unit_sound}
+use Rattle.om_parser.proofs.UnitComplete.{unit_again}
+use Rattle.om_parser.proofs.UnitCut.{unit_cut}
+use Rattle.om_parser.proofs.Refusals.{unit_refuses}
+
+memory_only : (f : SourceFault) → f ≡ no_memory → f.code ≡ codes.Memory
+memory_only f e = ap (λ (g : SourceFault). g.code) e
+
+module _ (ts : List Token) where
+  Read : Result units.Unit SourceFault → Type 0
+  Read r = Reads view_unit r (unit_at accepted ts)
+
+  pub is_found : (r : Result units.Unit SourceFault) → Reads view_unit r (unit_at accepted ts) → IfOk r (λ unit. IsTreeOf ts (view_unit unit))
+  is_found (Ok u) h = let s = unit_sound accepted ts (view_unit u) h in record { formed = s.0; spelled = s.1 }
+  is_found (Err f) h = tt
+
+  pub is_within : (r : Result units.Unit SourceFault) → Reads view_unit r (unit_at accepted ts) → IfOk r (λ unit. IsWithinLimits (view_unit unit))
+  unfolding IsWithinLimits
+  is_within (Ok u) h = (unit_sound accepted ts (view_unit u) h).2
+  is_within (Err f) h = tt
+
+  -- a tree with these tokens is read again
+  again : (u : UnitTree) → IsTreeOf ts u → IsAnswer (IsWithinLimits u) (unit_at accepted ts) u
+  unfolding IsWithinLimits
+  again u t = subst (λ us. IsAnswer (IsWithinLimits u) (unit_at accepted us) u) t.spelled (unit_again accepted u t.formed)
+
+  pub is_only : (r : Result units.Unit SourceFault) → Reads view_unit r (unit_at accepted ts) → (u : UnitTree) → IsTreeOf ts u → IsWithinLimits u → IsTreeOrMemory u r
+  is_only (Ok found) h u t w = elim (again u t) [
+    | inl e ↦ ok_is (view_unit found) u (sym h ∙ e)
+    | inr (s, e, never) ↦ absurd (never w)
+  ]
+  is_only (Err f) (inl memory) u t w = memory
+  is_only (Err f) (inr e) u t w = elim (again u t) [
+    | inl read ↦ let both : ok u ≡ Err f = sym read ∙ e in absurd cc
+    | inr (s, e, never) ↦ absurd (never w)
+  ]
+
+  pub is_syntax : (r : Result units.Unit SourceFault) → Reads view_unit r (unit_at accepted ts) → IfErr r (λ f. f.code ≡ codes.Syntax → (u : UnitTree) → IsTreeOf ts u → ⊥)
+  is_syntax (Ok u) h = tt
+  is_syntax (Err f) (inl memory) = λ wrong u t. let m = memory_only f memory in absurd cc
+  is_syntax (Err f) (inr e) = λ wrong u t. elim (again u t) [
+    | inl read ↦ let both : ok u ≡ Err f = sym read ∙ e in absurd cc
+    | inr (s, deep, never) ↦ let both = ap (λ (g : SourceFault). g.code) (err_is _ f (sym deep ∙ e)) in absurd cc
+  ]
+
+  pub is_too_deep : (r : Result units.Unit SourceFault) → Reads view_unit r (unit_at accepted ts) → IfErr r (λ f. f.code ≡ codes.TooDeep → IsLimitPassed ts f.at)
+  is_too_deep (Ok u) h = tt
+  is_too_deep (Err f) (inl memory) = λ deep. let m = memory_only f memory in absurd cc
+  is_too_deep (Err f) (inr e) = λ deep. unit_cut accepted (omega arith) ts f e deep
+
+  pub is_no_other : (r : Result units.Unit SourceFault) → Reads view_unit r (unit_at accepted ts) → IfErr r (λ f. (f ≡ no_memory) ⊎ (f.code ≡ codes.Syntax) ⊎ (f.code ≡ codes.TooDeep))
+  is_no_other (Ok u) h = tt
+  is_no_other (Err f) (inl memory) = inl memory
+  is_no_other (Err f) (inr e) = inr (unit_refuses accepted ts f e)

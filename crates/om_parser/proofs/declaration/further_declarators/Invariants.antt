@@ -1,0 +1,12 @@
+use Rattle.std.proofs.Common.{length}
+use Rattle.om_lexer.specs.declared.token.Punctuator.TheVariants.{Semicolon}
+use Rattle.om_parser.specs.Reading.{take_mark}
+use Rattle.om_parser.specs.UnitReading.{until, further_at}
+use Rattle.om_parser.proofs.Loops.{GoesOn}
+use Rattle.om_parser.proofs.declaration.further_declarators.Given as goal
+
+abbrev pub invariant-declarators : goal.invariant-declarators
+invariant-declarators l = GoesOn (take_mark Semicolon) further_at l.declarators.items l.rest (until (take_mark Semicolon) further_at (length l.tokens) l.tokens)
+
+abbrev pub decreases-declarators : goal.decreases-declarators
+decreases-declarators l = length l.rest

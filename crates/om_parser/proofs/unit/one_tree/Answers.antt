@@ -1,0 +1,5 @@
+use Rattle.om_parser.proofs.OneTree.{same_unit}
+use Rattle.om_parser.proofs.unit.one_tree.Goals as goal
+
+pub returns : goal.returns
+returns c = same_unit

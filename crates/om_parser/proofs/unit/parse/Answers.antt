@@ -1,0 +1,20 @@
+use Rattle.om_parser.proofs.Promises.{is_found, is_within, is_only, is_syntax, is_too_deep, is_no_other}
+use Rattle.om_parser.proofs.unit.parse.Goals as goal
+
+pub returns-clause-found : goal.returns-clause-found
+returns-clause-found c = is_found c.args.tokens.now c.unit.result c.unit.ensures
+
+pub returns-clause-found_within_limits : goal.returns-clause-found_within_limits
+returns-clause-found_within_limits c = is_within c.args.tokens.now c.unit.result c.unit.ensures
+
+pub returns-clause-every_tree_is_found : goal.returns-clause-every_tree_is_found
+returns-clause-every_tree_is_found c = is_only c.args.tokens.now c.unit.result c.unit.ensures
+
+pub returns-clause-syntax_has_no_tree : goal.returns-clause-syntax_has_no_tree
+returns-clause-syntax_has_no_tree c = is_syntax c.args.tokens.now c.unit.result c.unit.ensures
+
+pub returns-clause-too_deep_passes_a_limit : goal.returns-clause-too_deep_passes_a_limit
+returns-clause-too_deep_passes_a_limit c = is_too_deep c.args.tokens.now c.unit.result c.unit.ensures
+
+pub returns-clause-no_other_refusal : goal.returns-clause-no_other_refusal
+returns-clause-no_other_refusal c = is_no_other c.args.tokens.now c.unit.result c.unit.ensures

@@ -1,0 +1,104 @@
+-- Reading from the left, as the parser does: an item and the tokens behind it, or the fault that stops it.
+use Rattle.std.specs.Prelude.{◌≡◌, ℕ, List, [], ◌∷◌, Option, Some, None, Result, Ok, Err, Bool, ◌⊎◌, if◌then◌else◌}
+use denote.Enum.Bare.{sameb}
+use Rattle.om_lexer.specs.Faults.{no_memory}
+use Rattle.om_lexer.specs.contracts.token.Keyword.{the_type as the_keywords}
+use Rattle.om_lexer.specs.contracts.token.Punctuator.{the_type as the_punctuators}
+use Rattle.om_lexer.specs.declared.fault.FaultCode.TheVariants as codes
+use Rattle.om_lexer.specs.declared.fault.SourceFault.{SourceFault}
+use Rattle.om_lexer.specs.declared.token.Keyword.{Keyword}
+use Rattle.om_lexer.specs.declared.token.Punctuator.{Punctuator}
+use Rattle.om_lexer.specs.declared.token.Span.{Span}
+use Rattle.om_lexer.specs.declared.token.Token.{Token}
+use Rattle.om_lexer.specs.declared.token.TokenKind.{TokenKind}
+use Rattle.om_lexer.specs.declared.token.TokenKind.TheVariants as kinds
+use Rattle.om_parser.specs.declared.tree.Name as names
+use Rattle.om_parser.specs.declared.tree.Number.{Number}
+
+abbrev pub Outcome : Type 0 → Type 0
+Outcome A = Result A SourceFault
+
+infixl 10 ◌>>=◌
+abbrev pub ◌>>=◌ : {A B : Type 0} → Outcome A → (A → Outcome B) → Outcome B
+(Ok x) >>= f = f x
+(Err e) >>= f = Err e
+
+-- goes on with what is there, or gives the other value
+abbrev pub choose : {A B : Type 0} → Option A → (A → B) → B → B
+choose (Some x) f other = f x
+choose None f other = other
+
+-- an item that stands first, and the tokens behind it
+abbrev pub Reader : Type 0 → Type 0
+Reader A = List Token → Outcome (A × List Token)
+
+-- where the first token starts; past every source where there is none
+abbrev pub place : List Token → ℕ
+place [] = 4294967295
+place (t ∷ ts) = t.span.start
+
+abbrev pub syntax : List Token → SourceFault
+syntax ts = record { code = codes.Syntax; at = place ts }
+
+abbrev pub too_deep : Span → SourceFault
+too_deep s = record { code = codes.TooDeep; at = s.start }
+
+abbrev pub known : {A : Type 0} → List Token → Option A → Outcome A
+known ts (Some x) = Ok x
+known ts None = Err (syntax ts)
+
+-- what the first token is, and the tokens behind it
+unfoldable pub take : {A : Type 0} → (Token → Option A) → List Token → Option (A × List Token)
+take f [] = None
+take f (t ∷ ts) = choose (f t) (λ x. Some (x, ts)) None
+
+unfoldable pub same_mark : Punctuator → Punctuator → Bool
+same_mark = sameb the_punctuators
+
+unfoldable pub same_word : Keyword → Keyword → Bool
+same_word = sameb the_keywords
+
+abbrev pub mark_of : Punctuator → TokenKind → Span → Option Span
+mark_of p (kinds.Punctuator q) s = if same_mark q p then Some s else None
+mark_of p _ s = None
+
+abbrev pub word_of : Keyword → TokenKind → Span → Option Span
+word_of k (kinds.Keyword j) s = if same_word j k then Some s else None
+word_of k _ s = None
+
+abbrev pub name_of : TokenKind → Span → Option names.Name
+name_of (kinds.Name text) s = Some (record { text = text; span = s })
+name_of _ s = None
+
+abbrev pub number_of : TokenKind → Span → Option Number
+number_of (kinds.Constant value) s = Some (record { value = value; span = s })
+number_of _ s = None
+
+unfoldable pub take_mark : Punctuator → List Token → Option (Span × List Token)
+take_mark p = take (λ t. mark_of p t.kind t.span)
+
+unfoldable pub take_word : Keyword → List Token → Option (Span × List Token)
+take_word k = take (λ t. word_of k t.kind t.span)
+
+unfoldable pub take_name : List Token → Option (names.Name × List Token)
+take_name = take (λ t. name_of t.kind t.span)
+
+unfoldable pub take_number : List Token → Option (Number × List Token)
+take_number = take (λ t. number_of t.kind t.span)
+
+unfoldable pub mark_at : Punctuator → Reader Span
+mark_at p ts = known ts (take_mark p ts)
+
+unfoldable pub word_at : Keyword → Reader Span
+word_at k ts = known ts (take_word k ts)
+
+unfoldable pub name_at : Reader names.Name
+name_at ts = known ts (take_name ts)
+
+unfoldable pub number_at : Reader Number
+number_at ts = known ts (take_number ts)
+
+-- what a function returned is what reading gives, unless memory ran out
+abbrev pub Reads : {X Y : Type 0} → (X → Y) → Result X SourceFault → Outcome Y → Type 0
+Reads f (Ok x) read = read ≡ Ok (f x)
+Reads f (Err e) read = (e ≡ no_memory) ⊎ (read ≡ Err e)

@@ -1,0 +1,91 @@
+//! Declarations of variables (C17 6.7).
+
+ghost use Rattle.std.specs.Prelude.{◌≡◌, length};
+ghost use Rattle.om_lexer.specs.declared.token.Punctuator.TheVariants.{Semicolon};
+ghost use Rattle.om_parser.specs.Reading.{take_mark, Reads};
+ghost use Rattle.om_parser.specs.Tree as trees;
+ghost use Rattle.om_parser.specs.UnitReading.{until, declarator_after, further_at, declaration_after};
+ghost use Rattle.om_parser.specs.View.{view_declaration};
+
+use crate::front::{mark, name, number, take_mark};
+use crate::tree::{Declaration, Declarator, Initializer, Name};
+use om_lexer::{Punctuator, SourceFault, Span, Token};
+use std::alloc::Global;
+
+// The rest of a declaration, of which `int` and the first name are taken.
+#[tactic(auto, unfolding(crate::specs::UnitReading::declaration_after))]
+pub fn declaration_after(
+    alloc: Global,
+    int: Span,
+    name: Name,
+    tokens: &[Token],
+) -> Result<(Declaration, &[Token]), SourceFault>
+    ensures { Reads (λ x. (trees.Declaration (view_declaration x.0), x.1.now)) result (declaration_after int name tokens.now) }
+{
+    let (first, rest) = declarator_after(name, tokens)?;
+    let (others, semicolon, rest) = further_declarators(alloc, rest)?;
+    Ok((
+        Declaration {
+            int,
+            first,
+            rest: others,
+            semicolon,
+        },
+        rest,
+    ))
+}
+
+// Declarators behind commas up to a semicolon, its span, and the tokens behind it.
+fn further_declarators(
+    alloc: Global,
+    tokens: &[Token],
+) -> Result<(Vec<(Span, Declarator)>, Span, &[Token]), SourceFault>
+    ensures { Reads (λ x. (x.0.items, x.1, x.2.now)) result (until (take_mark Semicolon) further_at (length tokens.now) tokens.now) }
+{
+    let mut declarators = Vec::new(alloc);
+    let mut rest = tokens;
+    'declarators: loop {
+        if let Some((semicolon, after)) = take_mark(rest, Punctuator::Semicolon) {
+            return Ok((declarators, semicolon, after));
+        }
+        let (comma, next, after) = further_declarator(alloc, rest)?;
+        declarators.push((comma, next))?;
+        rest = after;
+    }
+}
+
+// A comma, the declarator behind it, and the tokens behind that.
+#[tactic(auto, unfolding(crate::specs::UnitReading::further_at))]
+fn further_declarator(
+    alloc: Global,
+    tokens: &[Token],
+) -> Result<(Span, Declarator, &[Token]), SourceFault>
+    ensures { Reads (λ x. ((x.0, x.1), x.2.now)) result (further_at tokens.now) }
+{
+    let (comma, rest) = mark(tokens, Punctuator::Comma)?;
+    let (name, rest) = name(alloc, rest)?;
+    let (declarator, rest) = declarator_after(name, rest)?;
+    Ok((comma, declarator, rest))
+}
+
+// The rest of a declarator, of which the name is taken.
+#[tactic(auto, unfolding(crate::specs::UnitReading::declarator_after))]
+fn declarator_after(name: Name, tokens: &[Token]) -> Result<(Declarator, &[Token]), SourceFault>
+    ensures { Reads (λ x. (x.0, x.1.now)) result (declarator_after name tokens.now) }
+{
+    let Some((equal, rest)) = take_mark(tokens, Punctuator::Equal) else {
+        let initializer = None;
+        return Ok((Declarator { name, initializer }, tokens));
+    };
+    let (minus, rest) = match take_mark(rest, Punctuator::Minus) {
+        Some((minus, rest)) => (Some(minus), rest),
+        None => (None, rest),
+    };
+    let (number, rest) = number(rest)?;
+    let initializer = Some(Initializer {
+        equal,
+        minus,
+        number,
+    });
+    Ok((Declarator { name, initializer }, rest))
+}
