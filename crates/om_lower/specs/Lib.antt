@@ -1,3 +1,4 @@
 pub mod Code
 pub mod Limits
+pub mod Written
 pub mod Resolved

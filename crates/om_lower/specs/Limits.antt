@@ -34,6 +34,9 @@ is_too_high statement = nat_lt 256 (operand_height (value_of statement))
 abbrev pub passes_limit : ResolvedFunctionTree → Bool
 passes_limit function = nat_lt 65536 (function_size function) || list_any is_too_high function.statements
 
--- S11 at the name of each function that passes a limit
+-- S11 at the function's name where it passes a limit
+abbrev pub function_breaches : ResolvedFunctionTree → List SourceFault
+function_breaches function = breach_if (passes_limit function) faults.TooMany function.name_at
+
 abbrev pub limit_breaches : ResolvedTree → List SourceFault
-limit_breaches tree = flat_map (λ function. breach_if (passes_limit function) faults.TooMany function.name_at) tree.functions
+limit_breaches tree = flat_map function_breaches tree.functions

@@ -2,7 +2,7 @@
 use Rattle.std.specs.Prelude.{ℕ, ◌<◌, ◌≤◌, ◌≡◌, true, All, Any, length}
 use Rattle.om_scope.specs.declared.resolved.Variable as variables
 use Rattle.om_scope.specs.declared.resolved.Variable.TheVariants as named
-use Rattle.om_scope.specs.ResolvedTree.{ResolvedExpressionTree, Variable, Constant, Binary, ResolvedStatementTree, Assign, Return, ResolvedFunctionTree, ResolvedTree}
+use Rattle.om_scope.specs.ResolvedTree.{ResolvedExpressionTree, Variable, Constant, Binary, ResolvedStatementTree, Assign, Return, ResolvedTree}
 use Rattle.om_lower.specs.Code.{is_main}
 
 -- a variable is one of so many globals

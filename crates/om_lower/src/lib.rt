@@ -1,5 +1,8 @@
 //! Lowering: a resolved tree to its code, and what the code still knows of the source.
 #![tactic(auto)]
 
+mod emit;
+pub mod laws;
+pub mod limit;
 pub mod look;
 pub mod lower;

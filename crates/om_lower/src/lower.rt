@@ -1,17 +1,23 @@
 //! From a resolved tree to its code.
 
-ghost use Rattle.std.specs.Prelude.{◌≡◌, ◌≢◌, [], Some, OnOk, IfOk, IfErr};
+ghost use Rattle.std.specs.Prelude.{◌≡◌, ◌≢◌, ◌≤◌, ◌<◌, [], ◌∷◌, Some, true, OnOk, IfOk, IfErr, IfSome, Any, map, length, position};
 ghost use Rattle.om_lexer.specs.Faults.{no_memory};
-ghost use Rattle.om_lower.specs.Code.{IsCodeOf};
-ghost use Rattle.om_lower.specs.Limits.{limit_breaches};
+ghost use Rattle.om_lower.specs.Code.{IsCodeOf, global_of, is_main};
+ghost use Rattle.om_lower.specs.Limits.{limit_breaches, function_breaches};
 ghost use Rattle.om_lower.specs.Resolved.{IsResolved};
-ghost use Rattle.om_scope.specs.Breaches.{first_of};
-ghost use Rattle.om_scope.specs.ResolvedView.{view_resolved};
+ghost use Rattle.om_lower.specs.Written.{body_of};
+ghost use Rattle.om_lexer.specs.declared.fault.FaultCode.TheVariants.{TooMany};
+ghost use Rattle.om_scope.specs.Breaches.{first_of, breach_if};
+ghost use Rattle.om_scope.specs.ResolvedView.{view_resolved, view_resolved_function};
 
+use crate::emit::emit_function;
+use crate::limit::{INSTRUCTION_LIMIT, needs_too_many_operands};
 use om_code::program::Program;
+use om_code::raw::{self, Body, Raw};
 use om_lexer::{FaultCode, SourceFault};
-use om_scope::Resolved;
-use std::alloc::Global;
+use om_scope::{GlobalVariable, Resolved, ResolvedFunction};
+use om_seq::Seq;
+use std::alloc::{AllocError, Global};
 
 /// The program whose bodies are the code of the tree's functions and whose `main` is the body of `main`.
 ///
@@ -25,10 +31,92 @@ pub fn lower(alloc: Global, resolved: &Resolved) -> Result<Program, SourceFault>
     ensures no_breach { OnOk result (limit_breaches (view_resolved resolved.now) ≡ []) }
     ensures first_breach { IfErr result (λ fault. fault ≢ no_memory → first_of (limit_breaches (view_resolved resolved.now)) ≡ Some fault) }
 {
-    let _alloc = alloc;
-    let _resolved = resolved;
-    Err(SourceFault {
-        code: FaultCode::Memory,
-        at: 0,
+    let mut bodies = Vec::new(alloc);
+    for function in resolved.functions.as_slice() {
+        bodies.push(lower_function(alloc, function)?)?;
+    }
+    let globals = copy_globals(alloc, resolved.globals.as_slice())?;
+    Ok(Program::of(Raw {
+        globals,
+        bodies: Seq::of(bodies),
+        main: main_of(resolved.functions.as_slice()),
+    }))
+}
+
+/// The body of a function, if it passes no limit.
+fn lower_function(alloc: Global, function: &ResolvedFunction) -> Result<Body, SourceFault>
+    ensures body { IfOk result (λ body. body ≡ body_of (view_resolved_function function.now)) }
+    ensures within { OnOk result (function_breaches (view_resolved_function function.now) ≡ []) }
+    ensures refused { IfErr result (λ fault. fault ≢ no_memory → function_breaches (view_resolved_function function.now) ≡ fault ∷ []) }
+{
+    if needs_too_many_operands(function) {
+        return Err(too_many(function));
+    }
+    let body = emit_function(alloc, function)?;
+    if body.instructions.len() > INSTRUCTION_LIMIT {
+        return Err(too_many(function));
+    }
+    Ok(body)
+}
+
+/// S11 at the function's name.
+fn too_many(function: &ResolvedFunction) -> SourceFault
+    ensures { breach_if true TooMany function.now.name_at ≡ result ∷ [] }
+{
+    SourceFault {
+        code: FaultCode::TooMany,
+        at: function.name_at,
+    }
+}
+
+/// The global variables of the code.
+fn copy_globals(
+    alloc: Global,
+    globals: &[GlobalVariable],
+) -> Result<Seq<raw::GlobalVariable>, AllocError>
+    ensures { IfOk result (λ copied. copied ≡ map global_of globals.now) }
+{
+    let mut copied = Vec::new(alloc);
+    for global in globals {
+        copied.push(copy_global(alloc, global)?)?;
+    }
+    Ok(Seq::of(copied))
+}
+
+/// A global variable of the code.
+fn copy_global(alloc: Global, global: &GlobalVariable) -> Result<raw::GlobalVariable, AllocError>
+    ensures { IfOk result (λ copied. copied ≡ global_of global.now) }
+{
+    let name = global.name.as_slice().to_vec(alloc)?;
+    Ok(raw::GlobalVariable {
+        name: Seq::of(name),
+        initial: global.initial,
     })
+}
+
+/// The number of the function `main`.
+fn main_of(functions: &[ResolvedFunction]) -> u32
+    requires few { length functions.now ≤ 256 }
+    requires has_main { Any (λ function. is_main (view_resolved_function function) ≡ true) functions.now }
+    ensures { position (λ function. is_main (view_resolved_function function)) functions.now ≡ Some result }
+{
+    match index_of_main(functions) {
+        Some(index) => index as u32,
+        None => unreachable!(),
+    }
+}
+
+/// The index of the first function named `main`.
+fn index_of_main(functions: &[ResolvedFunction]) -> Option<usize>
+    ensures index { result ≡ position (λ function. is_main (view_resolved_function function)) functions.now }
+    ensures within { IfSome result (λ index. index < length functions.now) }
+{
+    functions.iter().position(is_main)
+}
+
+/// Whether a function is `main`.
+fn is_main(function: &ResolvedFunction) -> bool
+    ensures { result ≡ is_main (view_resolved_function function.now) }
+{
+    function.name.as_slice() == b"main".as_slice()
 }
