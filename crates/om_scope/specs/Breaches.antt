@@ -12,7 +12,7 @@ use Rattle.om_parser.specs.declared.tree.Number.{Number}
 use Rattle.om_parser.specs.Tree.{ExpressionTree, Name, Constant, Paren, Binary, Assign, StatementTree, Expression, Return, FunctionTree, ItemTree, Declaration, Function, UnitTree}
 use Rattle.om_scope.specs.declared.symbols.Meaning.{Meaning}
 use Rattle.om_scope.specs.declared.symbols.Meaning.TheVariants as meanings
-use Rattle.om_scope.specs.declared.declaration.TheConstants.{GLOBAL_LIMIT}
+use Rattle.om_scope.specs.declared.declaration.TheConstants.{GLOBAL_CELL_LIMIT}
 use Rattle.om_scope.specs.Scopes.{Scopes, file_scope, body_scopes, meaning_of, is_declared, globals_in, with_function, declarators_of, after_declarator, after_statement, after_item}
 
 -- the first breach, if there is one
@@ -49,7 +49,7 @@ redeclared_breaches scopes name = breach_if (is_declared scopes name.text) fault
 abbrev pub global_breaches : Scopes → names.Name → List SourceFault
 global_breaches scopes name =
     breach_if (bytes_eq name.text (codes "main")) faults.Misuse name.span.start
-    ++ breach_if (nat_lt GLOBAL_LIMIT (globals_in scopes + 1)) faults.TooMany name.span.start
+    ++ breach_if (nat_lt GLOBAL_CELL_LIMIT (globals_in scopes + 1)) faults.TooMany name.span.start
 
 unfoldable pub expression_breaches : Scopes → ExpressionTree → List SourceFault
 expression_breaches scopes (Name n) = use_breaches scopes n
@@ -72,14 +72,23 @@ abbrev pub breaches_along : {X : Type 0} → (Scopes → X → List SourceFault)
 breaches_along breaches after scopes [] = []
 breaches_along breaches after scopes (x ∷ xs) = breaches scopes x ++ breaches_along breaches after (after scopes x) xs
 
+abbrev pub declarators_breaches : Scopes → List Declarator → List SourceFault
+declarators_breaches = breaches_along declarator_breaches after_declarator
+
+abbrev pub statements_breaches : Scopes → List StatementTree → List SourceFault
+statements_breaches = breaches_along statement_breaches after_statement
+
 unfoldable pub function_breaches : Scopes → FunctionTree → List SourceFault
 function_breaches scopes f =
     redeclared_breaches scopes f.name
-    ++ breaches_along statement_breaches after_statement (body_scopes (with_function scopes f.name.text)) f.body.statements
+    ++ statements_breaches (body_scopes (with_function scopes f.name.text)) f.body.statements
 
 unfoldable pub item_breaches : Scopes → ItemTree → List SourceFault
-item_breaches scopes (Declaration d) = breaches_along declarator_breaches after_declarator scopes (declarators_of d)
+item_breaches scopes (Declaration d) = declarators_breaches scopes (declarators_of d)
 item_breaches scopes (Function f) = function_breaches scopes f
+
+abbrev pub items_breaches : Scopes → List ItemTree → List SourceFault
+items_breaches = breaches_along item_breaches after_item
 
 abbrev pub is_main : ItemTree → Bool
 is_main (Declaration d) = false
@@ -91,4 +100,4 @@ main_breaches unit = breach_if (not (list_any is_main unit.items)) faults.NoMain
 
 -- all breaches of a tree
 unfoldable pub breaches_of : UnitTree → List SourceFault
-breaches_of unit = breaches_along item_breaches after_item file_scope unit.items ++ main_breaches unit
+breaches_of unit = items_breaches file_scope unit.items ++ main_breaches unit

@@ -61,15 +61,18 @@ resolved_along resolved after scopes (x ∷ xs) = do
   rest ← resolved_along resolved after (after scopes x) xs
   Some (front ++ rest)
 
+abbrev pub resolved_statements : Scopes → List StatementTree → Option (List ResolvedStatementTree)
+resolved_statements = resolved_along resolved_statement after_statement
+
 unfoldable pub resolved_function : Scopes → FunctionTree → Option ResolvedFunctionTree
 resolved_function scopes f = do
-  statements ← resolved_along resolved_statement after_statement (body_scopes (with_function scopes f.name.text)) f.body.statements
+  statements ← resolved_statements (body_scopes (with_function scopes f.name.text)) f.body.statements
   Some (record { name = f.name.text; name_at = f.name.span.start; statements = statements; closing_line = f.body.close_brace.line })
 
 -- the functions that an item defines
-unfoldable pub resolved_functions : Scopes → ItemTree → Option (List ResolvedFunctionTree)
-resolved_functions scopes (Declaration d) = Some []
-resolved_functions scopes (Function f) = resolved_function scopes f >>= λ function. Some (function ∷ [])
+unfoldable pub item_functions : Scopes → ItemTree → Option (List ResolvedFunctionTree)
+item_functions scopes (Declaration d) = Some []
+item_functions scopes (Function f) = resolved_function scopes f >>= λ function. Some (function ∷ [])
 
 -- what a global holds at the start: 0 without an initializer (C17 6.7.9p10)
 abbrev pub signed : {A : Type 0} → Option A → ℕ → ℤ
@@ -88,9 +91,9 @@ abbrev pub globals_of : ItemTree → List GlobalVariable
 globals_of (Declaration d) = map global_of (declarators_of d)
 globals_of (Function f) = []
 
-abbrev pub whole_resolution : List ItemTree → Option ResolvedTree
-whole_resolution items = resolved_along resolved_functions after_item file_scope items >>= λ functions. Some (record { globals = flat_map globals_of items; functions = functions })
+abbrev pub items_resolution : List ItemTree → Option ResolvedTree
+items_resolution items = resolved_along item_functions after_item file_scope items >>= λ functions. Some (record { globals = flat_map globals_of items; functions = functions })
 
 -- the resolution of a whole source
 unfoldable pub resolution_of : UnitTree → Option ResolvedTree
-resolution_of unit = whole_resolution unit.items
+resolution_of unit = items_resolution unit.items

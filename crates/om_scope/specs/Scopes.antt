@@ -4,6 +4,7 @@ use Rattle.std.specs.Map.{lookup}
 use Rattle.std.specs.Option.{option_or}
 use Rattle.std.specs.Str.{bytes_eq}
 use Rattle.std.specs.declared.alloc.Global.{Global}
+use Rattle.om_lexer.specs.declared.token.Span.{Span}
 use Rattle.om_parser.specs.declared.tree.Declarator.{Declarator}
 use Rattle.om_parser.specs.Tree.{StatementTree, DeclarationTree, ItemTree, Declaration, Function}
 use Rattle.om_scope.specs.declared.resolved.Variable.TheVariants as variables
@@ -62,17 +63,24 @@ with_function scopes name = with_binding scopes (name, meanings.Function)
 abbrev pub file_scope : Scopes
 file_scope = ((codes "printf", meanings.Function) ∷ (codes "omp_get_thread_num", meanings.Function) ∷ (codes "omp_get_num_threads", meanings.Function) ∷ []) ∷ []
 
+-- the declarators behind commas
+abbrev pub behind_commas : List (Span × Declarator) → List Declarator
+behind_commas rest = map (λ further. further.1) rest
+
 -- the declarators of a declaration, in their order
 abbrev pub declarators_of : DeclarationTree → List Declarator
-declarators_of d = d.first ∷ map (λ further. further.1) d.rest
+declarators_of d = d.first ∷ behind_commas d.rest
 
 -- the scopes behind the declarator of a global
 abbrev pub after_declarator : Scopes → Declarator → Scopes
 after_declarator scopes d = with_global scopes d.name.text
 
+abbrev pub after_declarators : Scopes → List Declarator → Scopes
+after_declarators scopes ds = fold after_declarator scopes ds
+
 -- the scopes behind an item
 abbrev pub after_item : Scopes → ItemTree → Scopes
-after_item scopes (Declaration d) = fold after_declarator scopes (declarators_of d)
+after_item scopes (Declaration d) = after_declarators scopes (declarators_of d)
 after_item scopes (Function f) = with_function scopes f.name.text
 
 -- the scopes behind a statement: it declares nothing

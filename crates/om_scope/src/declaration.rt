@@ -1,11 +1,11 @@
 //! Declarations at file scope.
 
-ghost use Rattle.std.specs.Prelude.{◌≡◌, ◌<◌, ◌++◌, [], ◌∷◌, false, Some, OnOk, IfOk, IfErr, map, fold};
+ghost use Rattle.std.specs.Prelude.{◌≡◌, ◌<◌, ◌++◌, [], ◌∷◌, false, Some, OnOk, IfOk, IfErr, map};
 ghost use Rattle.om_parser.specs.View.{view_declaration};
-ghost use Rattle.om_scope.specs.Breaches.{breaches_along, declarator_breaches, global_breaches, initializer_breaches, redeclared_breaches};
+ghost use Rattle.om_scope.specs.Breaches.{declarator_breaches, declarators_breaches, global_breaches, initializer_breaches, redeclared_breaches};
 ghost use Rattle.om_scope.specs.Outcomes.{Refuses, Resolves};
 ghost use Rattle.om_scope.specs.Resolution.{global_of, initial_of};
-ghost use Rattle.om_scope.specs.Scopes.{after_declarator, declarators_of, globals_in, is_declared};
+ghost use Rattle.om_scope.specs.Scopes.{after_declarator, after_declarators, behind_commas, declarators_of, globals_in, is_declared};
 
 use crate::expression::constant_of;
 use crate::resolved::GlobalVariable;
@@ -15,8 +15,8 @@ use om_parser::{Declaration, Declarator, Initializer, Name};
 use om_seq::Seq;
 use std::alloc::{AllocError, Global};
 
-/// How many globals a source may declare.
-pub const GLOBAL_LIMIT: u32 = 65_536;
+/// How many cells the globals of a source may have. A scalar has one.
+pub const GLOBAL_CELL_LIMIT: u32 = 65_536;
 
 /// A copy of a name.
 pub fn copy_of(alloc: Global, name: &Name) -> Result<Seq<u8>, AllocError>
@@ -42,7 +42,7 @@ pub fn check_new(symbols: &Symbols, name: &Name) -> Result<(), SourceFault>
 /// That a name may be that of a further global: S9, S11.
 fn check_global(symbols: &Symbols, name: &Name) -> Result<(), SourceFault>
     ensures no_breach { OnOk result (global_breaches symbols.now name.now ≡ []) }
-    ensures has_room { OnOk result (globals_in symbols.now < GLOBAL_LIMIT) }
+    ensures has_room { OnOk result (globals_in symbols.now < GLOBAL_CELL_LIMIT) }
     ensures refused { IfErr result (Refuses (global_breaches symbols.now name.now)) }
 {
     let at = name.span.start;
@@ -52,7 +52,7 @@ fn check_global(symbols: &Symbols, name: &Name) -> Result<(), SourceFault>
             at,
         });
     }
-    if symbols.globals() >= GLOBAL_LIMIT {
+    if symbols.globals() >= GLOBAL_CELL_LIMIT {
         return Err(SourceFault {
             code: FaultCode::TooMany,
             at,
@@ -104,10 +104,10 @@ fn declare_rest(
     globals: &mut Vec<GlobalVariable>,
     rest: &[(Span, Declarator)],
 ) -> Result<(), SourceFault>
-    ensures no_breach { OnOk result (breaches_along declarator_breaches after_declarator symbols.old (map (λ further. further.1) rest.now) ≡ []) }
-    ensures in_scope { OnOk result (symbols.new ≡ fold after_declarator symbols.old (map (λ further. further.1) rest.now)) }
-    ensures declared { OnOk result (globals.new.items ≡ globals.old.items ++ map global_of (map (λ further. further.1) rest.now)) }
-    ensures refused { IfErr result (Refuses (breaches_along declarator_breaches after_declarator symbols.old (map (λ further. further.1) rest.now))) }
+    ensures no_breach { OnOk result (declarators_breaches symbols.old (behind_commas rest.now) ≡ []) }
+    ensures in_scope { OnOk result (symbols.new ≡ after_declarators symbols.old (behind_commas rest.now)) }
+    ensures declared { OnOk result (globals.new.items ≡ globals.old.items ++ map global_of (behind_commas rest.now)) }
+    ensures refused { IfErr result (Refuses (declarators_breaches symbols.old (behind_commas rest.now))) }
 {
     for further in rest {
         declare(alloc, symbols, globals, &further.1)?;
@@ -122,10 +122,11 @@ pub fn declare_globals(
     globals: &mut Vec<GlobalVariable>,
     declaration: &Declaration,
 ) -> Result<(), SourceFault>
-    ensures no_breach { OnOk result (breaches_along declarator_breaches after_declarator symbols.old (declarators_of (view_declaration declaration.now)) ≡ []) }
-    ensures in_scope { OnOk result (symbols.new ≡ fold after_declarator symbols.old (declarators_of (view_declaration declaration.now))) }
-    ensures declared { OnOk result (globals.new.items ≡ globals.old.items ++ map global_of (declarators_of (view_declaration declaration.now))) }
-    ensures refused { IfErr result (Refuses (breaches_along declarator_breaches after_declarator symbols.old (declarators_of (view_declaration declaration.now)))) }
+    ensures no_breach { OnOk result (declarators_breaches symbols.old (declarators_of (view_declaration declaration.now)) ≡ []) }
+    ensures in_scope { OnOk result (symbols.new ≡ after_declarators symbols.old (declarators_of (view_declaration declaration.now))) }
+    ensures declared { let declarators = declarators_of (view_declaration declaration.now) in
+        OnOk result (globals.new.items ≡ globals.old.items ++ map global_of declarators) }
+    ensures refused { IfErr result (Refuses (declarators_breaches symbols.old (declarators_of (view_declaration declaration.now)))) }
 {
     declare(alloc, symbols, globals, &declaration.first)?;
     declare_rest(alloc, symbols, globals, declaration.rest.as_slice())

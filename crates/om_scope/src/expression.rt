@@ -17,7 +17,8 @@ use std::alloc::Global;
 
 /// The variable that a name stands for in a function's body: S7, S9.
 pub fn variable_named(symbols: &Symbols, name: &Name) -> Result<Variable, SourceFault>
-    ensures { Resolves (λ variable. variable) result (use_breaches (body_scopes symbols.now) name.now) (variable_named (body_scopes symbols.now) name.now) }
+    ensures { let scopes = body_scopes symbols.now in
+        Resolves (λ variable. variable) result (use_breaches scopes name.now) (variable_named scopes name.now) }
 {
     let at = name.span.start;
     match symbols.meaning_of(name.text.as_slice()) {
@@ -55,7 +56,9 @@ pub fn resolve_expression(
 ) -> Result<ResolvedExpression, SourceFault>
     requires formed { IsExpression (view_expression expression.now) }
     requires is_value { 2 ≤ level (view_expression expression.now) }
-    ensures { Resolves view_resolved_expression result (expression_breaches (body_scopes symbols.now) (view_expression expression.now)) (resolved_expression (body_scopes symbols.now) (view_expression expression.now)) }
+    ensures { let scopes = body_scopes symbols.now in
+        let tree = view_expression expression.now in
+        Resolves view_resolved_expression result (expression_breaches scopes tree) (resolved_expression scopes tree) }
 {
     match expression {
         Expression::Name(name) => Ok(ResolvedExpression::Variable(variable_named(symbols, name)?)),

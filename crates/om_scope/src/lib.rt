@@ -9,7 +9,7 @@ mod statement;
 mod symbols;
 mod unit;
 
-pub use declaration::GLOBAL_LIMIT;
+pub use declaration::GLOBAL_CELL_LIMIT;
 pub use resolved::{
     GlobalVariable, Resolved, ResolvedExpression, ResolvedFunction, ResolvedStatement, Variable,
 };

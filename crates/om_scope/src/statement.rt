@@ -1,14 +1,13 @@
 //! Statements.
 
-ghost use Rattle.std.specs.Prelude.{◌≤◌, [], ◌∷◌, All, map};
+ghost use Rattle.std.specs.Prelude.{◌≤◌, [], ◌∷◌, ◌++◌, All, map};
 ghost use Rattle.om_parser.specs.Formed.{IsExpression, IsStatement, IsTarget, level};
 ghost use Rattle.om_parser.specs.View.{view_expression, view_statement};
-ghost use Rattle.om_scope.specs.Breaches.{breaches_along, expression_breaches, statement_breaches};
+ghost use Rattle.om_scope.specs.Breaches.{expression_breaches, statement_breaches, statements_breaches};
 ghost use Rattle.om_scope.specs.Outcomes.{Resolves};
-ghost use Rattle.om_scope.specs.Resolution.{resolved_along, resolved_assignment, resolved_statement};
+ghost use Rattle.om_scope.specs.Resolution.{resolved_assignment, resolved_statement, resolved_statements};
 ghost use Rattle.om_scope.specs.ResolvedView.{view_resolved_statement};
-ghost use Rattle.om_scope.specs.Scopes.{after_statement, body_scopes};
-ghost use Rattle.std.specs.Prelude.{◌++◌};
+ghost use Rattle.om_scope.specs.Scopes.{body_scopes};
 
 use crate::expression::{resolve_expression, variable_named};
 use crate::resolved::ResolvedStatement;
@@ -28,7 +27,12 @@ fn resolve_assignment(
     requires target { IsTarget (view_expression target.now) }
     requires formed { IsExpression (view_expression value.now) }
     requires is_value { 2 ≤ level (view_expression value.now) }
-    ensures { Resolves (λ made. view_resolved_statement made ∷ []) result (expression_breaches (body_scopes symbols.now) (view_expression target.now) ++ expression_breaches (body_scopes symbols.now) (view_expression value.now)) (resolved_assignment (body_scopes symbols.now) (view_expression target.now) (view_expression value.now)) }
+    ensures { let scopes = body_scopes symbols.now in
+        let assigned = view_expression target.now in
+        let computed = view_expression value.now in
+        Resolves (λ statement. view_resolved_statement statement ∷ []) result
+        (expression_breaches scopes assigned ++ expression_breaches scopes computed)
+        (resolved_assignment scopes assigned computed) }
 {
     let Expression::Name(name) = target else {
         unreachable!();
@@ -50,7 +54,11 @@ fn resolve_statement(
     statement: &Statement,
 ) -> Result<ResolvedStatement, SourceFault>
     requires formed { IsStatement (view_statement statement.now) }
-    ensures { Resolves (λ made. view_resolved_statement made ∷ []) result (statement_breaches (body_scopes symbols.now) (view_statement statement.now)) (resolved_statement (body_scopes symbols.now) (view_statement statement.now)) }
+    ensures { let scopes = body_scopes symbols.now in
+        let tree = view_statement statement.now in
+        Resolves (λ statement. view_resolved_statement statement ∷ []) result
+        (statement_breaches scopes tree)
+        (resolved_statement scopes tree) }
 {
     match statement {
         Statement::Expression(Expression::Assign(target, _, _, value), _) => {
@@ -75,7 +83,11 @@ pub fn resolve_statements(
     statements: &[Statement],
 ) -> Result<Vec<ResolvedStatement>, SourceFault>
     requires formed { All IsStatement (map view_statement statements.now) }
-    ensures { Resolves (λ made. map view_resolved_statement made.items) result (breaches_along statement_breaches after_statement (body_scopes symbols.now) (map view_statement statements.now)) (resolved_along resolved_statement after_statement (body_scopes symbols.now) (map view_statement statements.now)) }
+    ensures { let scopes = body_scopes symbols.now in
+        let trees = map view_statement statements.now in
+        Resolves (λ resolved. map view_resolved_statement resolved.items) result
+        (statements_breaches scopes trees)
+        (resolved_statements scopes trees) }
 {
     let mut resolved = Vec::new(alloc);
     for statement in statements {

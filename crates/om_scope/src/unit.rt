@@ -5,9 +5,9 @@ ghost use Rattle.std.specs.List.{list_any};
 ghost use Rattle.om_lexer.specs.Faults.{no_memory};
 ghost use Rattle.om_parser.specs.Formed.{IsItem, IsUnit};
 ghost use Rattle.om_parser.specs.View.{view_item, view_unit};
-ghost use Rattle.om_scope.specs.Breaches.{breaches_along, breaches_of, first_of, is_main, item_breaches};
+ghost use Rattle.om_scope.specs.Breaches.{breaches_of, first_of, is_main, item_breaches, items_breaches};
 ghost use Rattle.om_scope.specs.Outcomes.{Refuses, Resolves};
-ghost use Rattle.om_scope.specs.Resolution.{globals_of, resolution_of, resolved_functions, whole_resolution};
+ghost use Rattle.om_scope.specs.Resolution.{globals_of, item_functions, items_resolution, resolution_of};
 ghost use Rattle.om_scope.specs.ResolvedView.{view_resolved, view_resolved_function};
 ghost use Rattle.om_scope.specs.Scopes.{after_item, file_scope};
 
@@ -21,7 +21,7 @@ use om_seq::Seq;
 use std::alloc::Global;
 
 /// Resolves an item in the scopes behind those before it.
-#[tactic(auto, unfolding(om_parser::specs::Formed::IsItem, crate::specs::Breaches::item_breaches, crate::specs::Resolution::resolved_functions))]
+#[tactic(auto, unfolding(om_parser::specs::Formed::IsItem, crate::specs::Breaches::item_breaches, crate::specs::Resolution::item_functions))]
 fn resolve_item(
     alloc: Global,
     symbols: &mut Symbols,
@@ -33,7 +33,9 @@ fn resolve_item(
     ensures no_breach { OnOk result (item_breaches symbols.old (view_item item.now) ≡ []) }
     ensures in_scope { OnOk result (symbols.new ≡ after_item symbols.old (view_item item.now)) }
     ensures declared { OnOk result (globals.new.items ≡ globals.old.items ++ globals_of (view_item item.now)) }
-    ensures defined { OnOk result (option_map (λ front. map view_resolved_function functions.old.items ++ front) (resolved_functions symbols.old (view_item item.now)) ≡ Some (map view_resolved_function functions.new.items)) }
+    ensures defined { let before = map view_resolved_function functions.old.items in
+        let after = map view_resolved_function functions.new.items in
+        OnOk result (option_map (λ own. before ++ own) (item_functions symbols.old (view_item item.now)) ≡ Some after) }
     ensures refused { IfErr result (Refuses (item_breaches symbols.old (view_item item.now))) }
 {
     match item {
@@ -49,7 +51,8 @@ fn resolve_item(
 /// Resolves the items of a source.
 fn resolve_items(alloc: Global, items: &[Item]) -> Result<Resolved, SourceFault>
     requires formed { All IsItem (map view_item items.now) }
-    ensures { Resolves view_resolved result (breaches_along item_breaches after_item file_scope (map view_item items.now)) (whole_resolution (map view_item items.now)) }
+    ensures { let trees = map view_item items.now in
+        Resolves view_resolved result (items_breaches file_scope trees) (items_resolution trees) }
 {
     let mut symbols = Symbols::new(alloc)?;
     let mut globals = Vec::new(alloc);
@@ -90,7 +93,7 @@ fn has_main(items: &[Item]) -> bool
 ///   `omp_get_num_threads` count as declared before the source.
 /// - S9 at the name: a global named `main`, or a function used as a variable.
 /// - S10 at a constant above 2147483647.
-/// - S11 at the name of the global past `GLOBAL_LIMIT`.
+/// - S11 at the name of the global past `GLOBAL_CELL_LIMIT`.
 /// - S15 at the end of the source: no function is named `main`.
 #[tactic(auto, using(crate::proofs::Firsts::first_of_left), unfolding(om_parser::specs::Formed::IsUnit, crate::specs::Breaches::breaches_of, crate::specs::Resolution::resolution_of))]
 pub fn resolve(alloc: Global, unit: Unit) -> Result<Resolved, SourceFault>

@@ -4,7 +4,7 @@ use Rattle.std.proofs.lemmas.Result.{err_from_is_err_and}
 use Rattle.om_parser.specs.Formed.{IsItem}
 use Rattle.om_parser.specs.View.{view_item}
 use Rattle.om_scope.specs.Breaches.{item_breaches}
-use Rattle.om_scope.specs.Resolution.{globals_of, resolved_functions}
+use Rattle.om_scope.specs.Resolution.{globals_of, item_functions}
 use Rattle.om_scope.specs.Scopes.{after_item}
 use Rattle.om_scope.proofs.Along.{made-step, unbroken-refuse, unbroken-step}
 use Rattle.om_scope.proofs.Items.{all-item, drop-item}
@@ -26,4 +26,4 @@ loop-item-preserved c =
     let left = rw here at c.loop-item.invariant in
     let one = c.in_ok-resolve_item.ensures in
     rw (one.in_scope, one.declared)
-    (unbroken-step item_breaches after_item left.0 one.no_breach, made-step resolved_functions after_item left.1 _ one.defined, append_assoc c.loop-item.globals.items (globals_of (view_item c.item-item.result)) (flat_map globals_of (map view_item (drop (c.loop-item.item-index + 1) c.args.items.now))) ∙ left.2)
+    (unbroken-step item_breaches after_item left.0 one.no_breach, made-step item_functions after_item left.1 _ one.defined, append_assoc c.loop-item.globals.items (globals_of (view_item c.item-item.result)) (flat_map globals_of (map view_item (drop (c.loop-item.item-index + 1) c.args.items.now))) ∙ left.2)
