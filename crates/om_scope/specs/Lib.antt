@@ -4,3 +4,4 @@ pub mod ResolvedTree
 pub mod ResolvedView
 pub mod Resolution
 pub mod Outcomes
+pub mod Laws

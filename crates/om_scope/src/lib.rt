@@ -4,6 +4,7 @@
 mod declaration;
 mod expression;
 mod function;
+pub mod laws;
 mod resolved;
 mod statement;
 mod symbols;
