@@ -11,7 +11,7 @@ use Rattle.om_lexer.specs.declared.piece.PieceKind.TheVariants as pieces
 use Rattle.om_lexer.specs.Characters.{is_blank}
 use Rattle.om_lexer.specs.Tokens.{IsTooLarge}
 use Rattle.om_lexer.specs.Pieces.{IsPiece, Stands, Decomposes, tokens_of, starts_line}
-use Rattle.om_lexer.specs.Sources.{IsTokens, IsBadToken, BeginsHashLine, IsWrong, GoesWrong, IsTooLong, IsFault, end_token}
+use Rattle.om_lexer.specs.Sources.{source_limit, IsTokens, IsBadToken, BeginsHashLine, IsWrong, GoesWrong, IsTooLong, IsFault, end_token}
 use Rattle.om_lexer.proofs.Beginnings.{could_be_some, no_blank_at}
 use Rattle.om_lexer.proofs.Longest.{length_slice}
 use Rattle.om_lexer.proofs.Progress.{piece_moves, byte_inside}
@@ -143,7 +143,7 @@ one_token_list source ts us x y =
 
 -- the two kinds of fault
 fault_cases : (source : List ℕ) (code : FaultCode) (at : ℕ) → IsFault source code at
-    → ((code ≡ codes.SourceTooLong) × (at ≡ 1048576) × IsTooLong source) ⊎ ((at < 1048576) × GoesWrong source code at)
+    → ((code ≡ codes.SourceTooLong) × (at ≡ source_limit) × IsTooLong source) ⊎ ((at < source_limit) × GoesWrong source code at)
 fault_cases source codes.SourceTooLong at fault = inl (refl, fault.0, fault.1)
 fault_cases source codes.Memory at fault = inr fault
 fault_cases source codes.BadToken at fault = inr fault
@@ -174,7 +174,7 @@ tokens_no_fault source ts code at tokens fault =
     omega (arith, past, wrong_inside source (starts_line true wrong.1.pieces) at code wrong.1.wrong))
     (fault_cases source code at fault)
 
-wrong_not_long : (source : List ℕ) (code : FaultCode) (at : ℕ) → at < 1048576 → GoesWrong source code at → IsTooLong source → ⊥
+wrong_not_long : (source : List ℕ) (code : FaultCode) (at : ℕ) → at < source_limit → GoesWrong source code at → IsTooLong source → ⊥
 wrong_not_long source code at below wrong long =
     omega (arith, long.past, stops_last source wrong.pieces long.pieces at long.reached wrong.before long.before (stops_wrong source code at wrong))
 

@@ -12,7 +12,7 @@ use Rattle.om_lexer.specs.declared.piece.Piece.{Piece}
 use Rattle.om_lexer.specs.declared.piece.PieceKind.{PieceKind}
 use Rattle.om_lexer.specs.declared.piece.PieceKind.TheVariants as pieces
 use Rattle.om_lexer.specs.Pieces.{IsPiece, Stands, Decomposes, tokens_of, token_in, span_of, line_at, starts_after, starts_line}
-use Rattle.om_lexer.specs.Sources.{IsTokens, IsWrong, IsWrongAt, GoesWrong, IsFault, IsRefusal, IsTooLong, end_token}
+use Rattle.om_lexer.specs.Sources.{source_limit, IsTokens, IsWrong, IsWrongAt, GoesWrong, IsFault, IsRefusal, IsTooLong, end_token}
 use Rattle.om_lexer.proofs.Beginnings.{could_be_some}
 use Rattle.om_lexer.proofs.Longest.{length_slice}
 
@@ -106,8 +106,8 @@ read_more source tokens tokens' at line feeds starts starts' p read is_piece tok
     }
 
 -- a byte that is left is below the limit
-pub below_limit : (length at : ℕ) → at < length → (1048576 < length → at < 1048576) → at < 1048576
-below_limit length at left below = ⊎_elim below (λ short. omega arith) (cases_lt 1048576 length)
+pub below_limit : (length at : ℕ) → at < length → (source_limit < length → at < source_limit) → at < source_limit
+below_limit length at left below = ⊎_elim below (λ short. omega arith) (cases_lt source_limit length)
 
 -- a line feed at most for each byte
 pub few_feeds : (source : List ℕ) (at to feeds : ℕ) → feeds ≡ count_by (λ b. b == 10) (slice_range source at to) → feeds ≤ to - at
@@ -117,7 +117,7 @@ few_feeds source at to feeds same =
     omega (arith, most, long, same)
 
 -- at the end
-pub all_read : (source : List ℕ) (tokens : List Token) (line : ℕ) (starts : Bool) → length source ≤ 1048576 → IsReadTo source tokens (length source) line starts
+pub all_read : (source : List ℕ) (tokens : List Token) (line : ℕ) (starts : Bool) → length source ≤ source_limit → IsReadTo source tokens (length source) line starts
     → IsTokens source (tokens ++ record { kind = kinds.End; span = record { start = length source; end = length source; line = line } } ∷ [])
 all_read source tokens line starts within read = record {
   within = within;
@@ -127,7 +127,7 @@ all_read source tokens line starts within read = record {
 }
 
 -- past the limit
-pub too_long : (source : List ℕ) (tokens : List Token) (at line : ℕ) (starts : Bool) (p : Piece) → 1048576 < length source → 1048576 ≤ p.end → IsReadTo source tokens at line starts → IsPiece source at p → IsTooLong source
+pub too_long : (source : List ℕ) (tokens : List Token) (at line : ℕ) (starts : Bool) (p : Piece) → source_limit < length source → source_limit ≤ p.end → IsReadTo source tokens at line starts → IsPiece source at p → IsTooLong source
 too_long source tokens at line starts p above past read is_piece = record {
   above = above;
   pieces = read.pieces ++ p ∷ [];
@@ -137,7 +137,7 @@ too_long source tokens at line starts p above past read is_piece = record {
 }
 
 -- what is wrong where the reading has come is the source's fault
-fault_there : (source : List ℕ) (at : ℕ) (code : FaultCode) → at < 1048576 → GoesWrong source code at → IsFault source code at
+fault_there : (source : List ℕ) (at : ℕ) (code : FaultCode) → at < source_limit → GoesWrong source code at → IsFault source code at
 fault_there source at codes.SourceTooLong below wrong = absurd wrong.wrong
 fault_there source at codes.Memory below wrong = (below, wrong)
 fault_there source at codes.BadToken below wrong = (below, wrong)
@@ -156,7 +156,7 @@ fault_there source at codes.LeavesConstruct below wrong = (below, wrong)
 fault_there source at codes.NoMain below wrong = (below, wrong)
 fault_there source at codes.TooDeep below wrong = (below, wrong)
 
-pub refused_there : (source : List ℕ) (tokens : List Token) (at line : ℕ) (starts : Bool) (fault : SourceFault) → at < 1048576 → IsReadTo source tokens at line starts → IsWrongAt source starts at fault → IsRefusal source fault
+pub refused_there : (source : List ℕ) (tokens : List Token) (at line : ℕ) (starts : Bool) (fault : SourceFault) → at < source_limit → IsReadTo source tokens at line starts → IsWrongAt source starts at fault → IsRefusal source fault
 refused_there source tokens at line starts fault below read (inl memory) = inl memory
 refused_there source tokens at line starts fault below read (inr wrong) =
     let place = sym wrong.0 in

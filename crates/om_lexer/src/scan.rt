@@ -4,7 +4,7 @@ ghost use Rattle.std.specs.Prelude.{◌≡◌, ◌+◌, ◌<◌, ◌≤◌, Bool
 ghost use Rattle.om_lexer.specs.Characters.{is_blank, is_word_byte};
 ghost use Rattle.om_lexer.specs.WhiteSpace.{BeginsComment};
 ghost use Rattle.om_lexer.specs.Pieces.{IsPiece};
-ghost use Rattle.om_lexer.specs.Sources.{IsWrongAt, BeginsHashLine};
+ghost use Rattle.om_lexer.specs.Sources.{IsWrongAt, BeginsHashLine, source_limit};
 
 use crate::character::{is_blank, is_word_byte};
 use crate::fault::{FaultCode, SourceFault};
@@ -23,7 +23,7 @@ pub(crate) fn piece_at(
     starts_line: bool,
 ) -> Result<Piece, SourceFault>
     requires inside { at < length source.now }
-    requires below { at < 1048576 }
+    requires below { at < source_limit }
     ensures piece { IfOk result (IsPiece source.now at) }
     ensures moves { IfOk result (λ piece. at < piece.end) }
     ensures inside { IfOk result (λ piece. piece.end ≤ length source.now) }
@@ -32,6 +32,7 @@ pub(crate) fn piece_at(
     read_piece(alloc, source, at, starts_line)
 }
 
+/// The same, told of its kind alone: a piece has a byte at least and ends in the source.
 fn read_piece(
     alloc: Global,
     source: &[u8],
@@ -39,7 +40,7 @@ fn read_piece(
     starts_line: bool,
 ) -> Result<Piece, SourceFault>
     requires inside { at < length source.now }
-    requires below { at < 1048576 }
+    requires below { at < source_limit }
     ensures piece { IfOk result (IsPiece source.now at) }
     ensures fault { IfErr result (IsWrongAt source.now starts_line at) }
 {
@@ -68,17 +69,7 @@ fn read_piece(
             at: at as u32,
         });
     }
-    let next = byte_at(source, at + 1);
-    if byte == b'/' && next == b'*' {
-        return block_comment_at(source, at);
-    }
-    if byte == b'/' && next == b'/' {
-        return Ok(Piece {
-            kind: PieceKind::Comment,
-            end: line_comment_end(source, at),
-        });
-    }
-    punctuator_at(source, at)
+    comment_or_punctuator_at(source, at)
 }
 
 /// The byte there, or 0 behind the end.
@@ -91,7 +82,7 @@ fn byte_at(source: &[u8], at: usize) -> u8
 /// A backslash and the line end behind it, or S2.
 fn continuation_at(source: &[u8], at: usize) -> Result<Piece, SourceFault>
     requires inside { at < length source.now }
-    requires below { at < 1048576 }
+    requires below { at < source_limit }
     requires backslash { slice_index source.now at ≡ 92 }
     ensures piece { IfOk result (IsPiece source.now at) }
     ensures fault { (starts : Bool) → IfErr result (IsWrongAt source.now starts at) }
@@ -108,10 +99,35 @@ fn continuation_at(source: &[u8], at: usize) -> Result<Piece, SourceFault>
     }
 }
 
+/// A comment or a punctuator; S2 where none begins, as nothing else does there.
+fn comment_or_punctuator_at(source: &[u8], at: usize) -> Result<Piece, SourceFault>
+    requires inside { at < length source.now }
+    requires below { at < source_limit }
+    requires no_line_feed { slice_index source.now at ≡ 10 → ⊥ }
+    requires no_blank { is_blank (slice_index source.now at) ≡ false }
+    requires no_backslash { slice_index source.now at ≡ 92 → ⊥ }
+    requires no_word { is_word_byte (slice_index source.now at) ≡ false }
+    ensures piece { IfOk result (IsPiece source.now at) }
+    ensures fault { (starts : Bool) → (BeginsHashLine source.now starts at → ⊥) → IfErr result (IsWrongAt source.now starts at) }
+{
+    let byte = source[at];
+    let next = byte_at(source, at + 1);
+    if byte == b'/' && next == b'*' {
+        return block_comment_at(source, at);
+    }
+    if byte == b'/' && next == b'/' {
+        return Ok(Piece {
+            kind: PieceKind::Comment,
+            end: line_comment_end(source, at),
+        });
+    }
+    punctuator_at(source, at)
+}
+
 /// A block comment, or S2 where it never ends.
 fn block_comment_at(source: &[u8], at: usize) -> Result<Piece, SourceFault>
     requires inside { at < length source.now }
-    requires below { at < 1048576 }
+    requires below { at < source_limit }
     requires slash { slice_index source.now at ≡ 47 }
     requires star { slice_index source.now (at + 1) ≡ 42 }
     ensures piece { IfOk result (IsPiece source.now at) }
@@ -132,7 +148,7 @@ fn block_comment_at(source: &[u8], at: usize) -> Result<Piece, SourceFault>
 /// A name, a constant or a keyword; S2 or S10 where the word is none.
 fn word_at(alloc: Global, source: &[u8], at: usize) -> Result<Piece, SourceFault>
     requires inside { at < length source.now }
-    requires below { at < 1048576 }
+    requires below { at < source_limit }
     requires word { is_word_byte (slice_index source.now at) ≡ true }
     ensures piece { IfOk result (IsPiece source.now at) }
     ensures fault { (starts : Bool) → IfErr result (IsWrongAt source.now starts at) }
@@ -148,7 +164,7 @@ fn word_at(alloc: Global, source: &[u8], at: usize) -> Result<Piece, SourceFault
 /// A punctuator, or S2 where nothing else begins either.
 fn punctuator_at(source: &[u8], at: usize) -> Result<Piece, SourceFault>
     requires inside { at < length source.now }
-    requires below { at < 1048576 }
+    requires below { at < source_limit }
     requires no_line_feed { slice_index source.now at ≡ 10 → ⊥ }
     requires no_blank { is_blank (slice_index source.now at) ≡ false }
     requires no_backslash { slice_index source.now at ≡ 92 → ⊥ }

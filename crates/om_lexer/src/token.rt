@@ -7,8 +7,11 @@ use om_seq::Seq;
 /// A line is 1 and the line feeds before it, those behind a backslash and in comments too.
 #[derive(Clone, Copy, Debug)]
 pub struct Span {
+    /// The first byte, from 0.
     pub start: u32,
+    /// The byte behind the last.
     pub end: u32,
+    /// The line of `start`, from 1.
     pub line: u32,
 }
 

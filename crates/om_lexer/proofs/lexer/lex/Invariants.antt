@@ -1,11 +1,12 @@
 use Rattle.std.proofs.Common.{ℕ, ◌+◌, ◌-◌, ◌<◌, ◌≤◌, length}
+use Rattle.om_lexer.specs.Sources.{source_limit}
 use Rattle.om_lexer.proofs.Progress.{IsReadTo}
 use Rattle.om_lexer.proofs.lexer.lex.Given as goal
 
 abbrev pub invariant-loop-at : goal.invariant-loop-at
 invariant-loop-at l = record {
   inside : l.at ≤ length l.source;
-  below : 1048576 < length l.source → l.at < 1048576;
+  below : source_limit < length l.source → l.at < source_limit;
   line_fits : l.line ≤ l.at + 1;
   read : IsReadTo l.source l.tokens.items l.at l.line l.starts_line;
 }
