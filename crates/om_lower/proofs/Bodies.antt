@@ -8,9 +8,10 @@ use Rattle.om_code.specs.declared.instruction.Instr.TheVariants as instrs
 use Rattle.om_code.specs.declared.raw.Body.{Body}
 use Rattle.om_code.specs.declared.raw.Raw.{Raw}
 use Rattle.om_scope.specs.ResolvedTree.{ResolvedStatementTree, Assign, Return, ResolvedFunctionTree, ResolvedTree}
-use Rattle.om_lower.specs.Code.{Stands, HasExpression, HasStatement, HasStatements, IsBodyOf, IsCodeOf, is_main}
+use Rattle.om_lower.specs.Code.{Stands, HasExpression, HasStatement, HasStatements, IsBodyOf, IsCodeOf}
 use Rattle.om_lower.specs.Limits.{value_of}
 use Rattle.om_lower.specs.Written.{expression_code, last_of, line_of_statement, statement_code, statement_lines, statements_code, statements_lines, body_of, raw_of}
+use Rattle.om_scope.specs.Uses.{is_main_function}
 use Rattle.om_lower.proofs.Standing.{HasAt, has_front, has_back, has_one, has_all, has_append, has_single, same_list, lines_front, lines_back, lines_as, lines_replicate, replicate_lines, one_stands, expression_stands, one_written, both_written, expression_written}
 
 length-statement_lines : (s : ResolvedStatementTree) → length (statement_lines s) ≡ length (statement_code s)
@@ -124,5 +125,5 @@ same_code tree one other a b =
     same_raw one other (a.globals ∙ sym b.globals) (bodies_are tree.functions one.bodies a.bodies ∙ sym (bodies_are tree.functions other.bodies b.bodies)) main
 
 -- what is written is the code of the tree
-pub raw_stands : (tree : ResolvedTree) (main : ℕ) → position is_main tree.functions ≡ Some main → IsCodeOf tree (raw_of tree main)
+pub raw_stands : (tree : ResolvedTree) (main : ℕ) → position is_main_function tree.functions ≡ Some main → IsCodeOf tree (raw_of tree main)
 raw_stands tree main e = record { globals = refl; bodies = bodies_stand tree.functions; main = e }

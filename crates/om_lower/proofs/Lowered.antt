@@ -14,9 +14,9 @@ use Rattle.om_scope.specs.declared.resolved.Resolved.{Resolved}
 use Rattle.om_scope.specs.declared.resolved.ResolvedFunction.{ResolvedFunction}
 use Rattle.om_scope.specs.Breaches.{first_of}
 use Rattle.om_scope.specs.ResolvedView.{view_resolved, view_resolved_function}
-use Rattle.om_lower.specs.Code.{IsCodeOf, global_of, is_main}
+use Rattle.om_lower.specs.Code.{IsCodeOf, global_of}
 use Rattle.om_lower.specs.Limits.{function_breaches, limit_breaches}
-use Rattle.om_lower.specs.Resolved.{IsResolved}
+use Rattle.om_scope.specs.Uses.{is_main_function, IsResolved}
 use Rattle.om_lower.specs.Written.{body_of, raw_of}
 use Rattle.om_lower.proofs.Bodies.{same_raw, raw_stands}
 use Rattle.om_lower.proofs.Lists.{position-map}
@@ -48,13 +48,13 @@ first_refused resolved functions i f fault same lt at none last =
 pub record IsLowered (resolved : Resolved) (raw : Raw) : Type 0 where
   pub no_breach : limit_breaches (view_resolved resolved) ≡ []
   pub raw_is : raw ≡ raw_of (view_resolved resolved) raw.main
-  pub main : position is_main (view_resolved resolved).functions ≡ Some raw.main
+  pub main : position is_main_function (view_resolved resolved).functions ≡ Some raw.main
 
-pub lowered : (resolved : Resolved) (n : ℕ) (functions functions' : List ResolvedFunction) (globals' : List scopes.GlobalVariable) (made bodies : List Body) (globals : List GlobalVariable) (main : ℕ) → functions ≡ resolved.functions → length functions ≤ n → (made ≡ map (λ f. body_of (view_resolved_function f)) (take n resolved.functions)) × (flat_map (λ f. function_breaches (view_resolved_function f)) (take n resolved.functions) ≡ []) → bodies ≡ made → globals' ≡ resolved.globals → globals ≡ map global_of globals' → functions' ≡ resolved.functions → position (λ f. is_main (view_resolved_function f)) functions' ≡ Some main → IsLowered resolved (record { globals = globals; bodies = bodies; main = main })
+pub lowered : (resolved : Resolved) (n : ℕ) (functions functions' : List ResolvedFunction) (globals' : List scopes.GlobalVariable) (made bodies : List Body) (globals : List GlobalVariable) (main : ℕ) → functions ≡ resolved.functions → length functions ≤ n → (made ≡ map (λ f. body_of (view_resolved_function f)) (take n resolved.functions)) × (flat_map (λ f. function_breaches (view_resolved_function f)) (take n resolved.functions) ≡ []) → bodies ≡ made → globals' ≡ resolved.globals → globals ≡ map global_of globals' → functions' ≡ resolved.functions → position (λ f. is_main_function (view_resolved_function f)) functions' ≡ Some main → IsLowered resolved (record { globals = globals; bodies = bodies; main = main })
 lowered resolved n functions functions' globals' made bodies globals main same le inv eb eg' eg same' em = record {
   no_breach = flat_map-map function_breaches view_resolved_function resolved.functions ∙ ap (λ l. flat_map (λ f. function_breaches (view_resolved_function f)) l) (sym all) ∙ inv.1;
   raw_is = same_raw (record { globals = globals; bodies = bodies; main = main }) (raw_of (view_resolved resolved) main) (eg ∙ ap (λ l. map global_of l) eg') (eb ∙ inv.0 ∙ ap (λ l. map (λ f. body_of (view_resolved_function f)) l) all ∙ sym (map-map resolved.functions)) refl;
-  main = position-map is_main view_resolved_function resolved.functions ∙ ap (λ l. position (λ f. is_main (view_resolved_function f)) l) (sym same') ∙ em;
+  main = position-map is_main_function view_resolved_function resolved.functions ∙ ap (λ l. position (λ f. is_main_function (view_resolved_function f)) l) (sym same') ∙ em;
 }
   where
     all : take n resolved.functions ≡ resolved.functions

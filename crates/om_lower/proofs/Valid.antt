@@ -14,11 +14,11 @@ use Rattle.om_code.proofs.Staying.{stays_inside}
 use Rattle.om_scope.specs.declared.resolved.Variable as variables
 use Rattle.om_scope.specs.declared.resolved.Variable.TheVariants as named
 use Rattle.om_scope.specs.ResolvedTree.{ResolvedExpressionTree, Variable, Constant, Binary, ResolvedStatementTree, Assign, Return, ResolvedFunctionTree, ResolvedTree}
-use Rattle.om_lower.specs.Code.{place_of, operator_of, global_of, is_main}
+use Rattle.om_lower.specs.Code.{place_of, operator_of, global_of}
 use Rattle.om_lexer.specs.declared.fault.FaultCode.TheVariants as faults
 use Rattle.om_scope.specs.Breaches.{breach_if}
 use Rattle.om_lower.specs.Limits.{operand_height, value_of, is_too_high, function_size, function_breaches, limit_breaches}
-use Rattle.om_lower.specs.Resolved.{IsVariable, UsesVariables, StatementUsesVariables, IsResolved}
+use Rattle.om_scope.specs.Uses.{is_main_function, IsVariable, UsesVariables, StatementUsesVariables, IsResolved}
 use Rattle.om_lower.specs.Written.{expression_code, statement_code, statements_code, body_of, raw_of}
 use Rattle.om_lower.proofs.Bodies.{body_stands}
 use Rattle.om_lower.proofs.Lists.{length-mapped, position-within}
@@ -143,10 +143,10 @@ valid_bodies globals (f ∷ fs) uses h =
     let within = within_limits f none.0 in
     All-cons (λ body. IsValidBody globals body) (body_of f) (map body_of fs) (valid_body globals f (All-head (λ g. All (λ s. StatementUsesVariables (length globals) s) g.statements) f fs uses) within.0 within.1) (valid_bodies globals fs (All-tail (λ g. All (λ s. StatementUsesVariables (length globals) s) g.statements) f fs uses) none.1)
 
-pub raw_valid : (tree : ResolvedTree) (main : ℕ) → IsResolved tree → position is_main tree.functions ≡ Some main → limit_breaches tree ≡ [] → IsValid (raw_of tree main)
+pub raw_valid : (tree : ResolvedTree) (main : ℕ) → IsResolved tree → position is_main_function tree.functions ≡ Some main → limit_breaches tree ≡ [] → IsValid (raw_of tree main)
 raw_valid tree main resolved e none =
     let count : length (map global_of tree.globals) ≡ length tree.globals = length-mapped global_of tree.globals in
-    let at = position-within is_main tree.functions main e in record {
+    let at = position-within is_main_function tree.functions main e in record {
       numbers = record {
         globals = omega (arith, resolved.globals, count);
         main = omega (arith, at, length-mapped body_of tree.functions);

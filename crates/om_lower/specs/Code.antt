@@ -1,7 +1,6 @@
 -- The code of a resolved tree: between two places of a body stand the parts of the tree's row, in order.
-use Rattle.std.specs.Prelude.{◌≡◌, ℕ, ◌+◌, List, [], ◌∷◌, Bool, true, false, Some, slice_get, length, map, position, codes}
+use Rattle.std.specs.Prelude.{◌≡◌, ℕ, ◌+◌, List, [], ◌∷◌, true, false, Some, slice_get, length, map, position}
 use Rattle.std.specs.List.{AllZip}
-use Rattle.std.specs.Str.{bytes_eq}
 use Rattle.om_code.specs.declared.instruction.BinaryOperator as instructions
 use Rattle.om_code.specs.declared.instruction.BinaryOperator.TheVariants as operators
 use Rattle.om_code.specs.declared.instruction.Instr.{Instr}
@@ -16,6 +15,7 @@ use Rattle.om_parser.specs.declared.tree.BinaryOperator.TheVariants as sources
 use Rattle.om_scope.specs.declared.resolved.GlobalVariable.{GlobalVariable}
 use Rattle.om_scope.specs.declared.resolved.Variable as variables
 use Rattle.om_scope.specs.declared.resolved.Variable.TheVariants as named
+use Rattle.om_scope.specs.Uses.{is_main_function}
 use Rattle.om_scope.specs.ResolvedTree.{ResolvedExpressionTree, Variable, Constant, Binary, ResolvedStatementTree, Assign, Return, ResolvedFunctionTree, ResolvedTree}
 
 -- where a variable lies
@@ -62,11 +62,8 @@ pub record IsBodyOf (function : ResolvedFunctionTree) (body : Body) : Type 0 whe
 abbrev pub global_of : GlobalVariable → raws.GlobalVariable
 global_of global = record { name = global.name; initial = global.initial }
 
-abbrev pub is_main : ResolvedFunctionTree → Bool
-is_main function = bytes_eq function.name (codes "main")
-
 -- code is that of a resolved tree
 pub record IsCodeOf (tree : ResolvedTree) (raw : Raw) : Type 0 where
   pub globals : raw.globals ≡ map global_of tree.globals
   pub bodies : AllZip IsBodyOf tree.functions raw.bodies
-  pub main : position is_main tree.functions ≡ Some raw.main
+  pub main : position is_main_function tree.functions ≡ Some raw.main

@@ -1,4 +1,3 @@
 pub mod Code
 pub mod Limits
 pub mod Written
-pub mod Resolved

@@ -2,9 +2,9 @@
 
 ghost use Rattle.std.specs.Prelude.{◌≡◌, ◌≢◌, ◌≤◌, ◌<◌, [], ◌∷◌, Some, true, OnOk, IfOk, IfErr, IfSome, Any, map, length, position};
 ghost use Rattle.om_lexer.specs.Faults.{no_memory};
-ghost use Rattle.om_lower.specs.Code.{IsCodeOf, global_of, is_main};
+ghost use Rattle.om_lower.specs.Code.{IsCodeOf, global_of};
 ghost use Rattle.om_lower.specs.Limits.{limit_breaches, function_breaches};
-ghost use Rattle.om_lower.specs.Resolved.{IsResolved};
+ghost use Rattle.om_scope.specs.Uses.{IsResolved, is_main_function};
 ghost use Rattle.om_lower.specs.Written.{body_of};
 ghost use Rattle.om_lexer.specs.declared.fault.FaultCode.TheVariants.{TooMany};
 ghost use Rattle.om_scope.specs.Breaches.{first_of, breach_if};
@@ -97,8 +97,8 @@ fn copy_global(alloc: Global, global: &GlobalVariable) -> Result<raw::GlobalVari
 /// The number of the function `main`.
 fn main_of(functions: &[ResolvedFunction]) -> u32
     requires few { length functions.now ≤ 256 }
-    requires has_main { Any (λ function. is_main (view_resolved_function function) ≡ true) functions.now }
-    ensures { position (λ function. is_main (view_resolved_function function)) functions.now ≡ Some result }
+    requires has_main { Any (λ function. is_main_function (view_resolved_function function) ≡ true) functions.now }
+    ensures { position (λ function. is_main_function (view_resolved_function function)) functions.now ≡ Some result }
 {
     match index_of_main(functions) {
         Some(index) => index as u32,
@@ -108,7 +108,7 @@ fn main_of(functions: &[ResolvedFunction]) -> u32
 
 /// The index of the first function named `main`.
 fn index_of_main(functions: &[ResolvedFunction]) -> Option<usize>
-    ensures index { result ≡ position (λ function. is_main (view_resolved_function function)) functions.now }
+    ensures index { result ≡ position (λ function. is_main_function (view_resolved_function function)) functions.now }
     ensures within { IfSome result (λ index. index < length functions.now) }
 {
     functions.iter().position(is_main)
@@ -116,7 +116,7 @@ fn index_of_main(functions: &[ResolvedFunction]) -> Option<usize>
 
 /// Whether a function is `main`.
 fn is_main(function: &ResolvedFunction) -> bool
-    ensures { result ≡ is_main (view_resolved_function function.now) }
+    ensures { result ≡ is_main_function (view_resolved_function function.now) }
 {
     function.name.as_slice() == b"main".as_slice()
 }

@@ -10,6 +10,7 @@ ghost use Rattle.om_scope.specs.Outcomes.{Refuses, Resolves};
 ghost use Rattle.om_scope.specs.Resolution.{globals_of, item_functions, items_resolution, resolution_of};
 ghost use Rattle.om_scope.specs.ResolvedView.{view_resolved, view_resolved_function};
 ghost use Rattle.om_scope.specs.Scopes.{after_item, file_scope};
+ghost use Rattle.om_scope.specs.Uses.{IsResolved};
 
 use crate::declaration::declare_globals;
 use crate::function::define_function;
@@ -100,6 +101,7 @@ pub fn resolve(alloc: Global, unit: Unit) -> Result<Resolved, SourceFault>
     requires formed { IsUnit (view_unit unit) }
     ensures no_breach { OnOk result (breaches_of (view_unit unit) ≡ []) }
     ensures resolved { IfOk result (λ resolved. resolution_of (view_unit unit) ≡ Some (view_resolved resolved)) }
+    ensures every_use_has_its_variable { IfOk result (λ resolved. IsResolved (view_resolved resolved)) }
     ensures first_breach { IfErr result (λ fault. fault ≢ no_memory → first_of (breaches_of (view_unit unit)) ≡ Some fault) }
 {
     let resolved = resolve_items(alloc, unit.items.as_slice())?;

@@ -1,8 +1,8 @@
 use Rattle.std.proofs.Common.{◌≡◌, true, subst, sym}
 use Rattle.std.specs.Prelude.{Any}
 use Rattle.std.proofs.lemmas.Result.{err_from_is_err_and}
-use Rattle.om_lower.specs.Code.{is_main}
 use Rattle.om_scope.specs.ResolvedView.{view_resolved_function}
+use Rattle.om_scope.specs.Uses.{is_main_function}
 use Rattle.om_lower.proofs.Lowered.{any_unmapped, first_refused, lowered, lowered_valid, lowered_code}
 use Rattle.om_lower.proofs.lower.lower.Goals as goal
 
@@ -14,7 +14,7 @@ returns-in_err-lower_function-clause-first_breach c =
 
 pub main_of-requires-clause-has_main : goal.main_of-requires-clause-has_main
 main_of-requires-clause-has_main c =
-    subst (λ l. Any (λ f. is_main (view_resolved_function f) ≡ true) l) (sym c.as_slice-2.ensures) (any_unmapped is_main view_resolved_function _ c.requires.main)
+    subst (λ l. Any (λ f. is_main_function (view_resolved_function f) ≡ true) l) (sym c.as_slice-2.ensures) (any_unmapped is_main_function view_resolved_function _ c.requires.main)
 
 pub of-requires-2 : goal.of-requires-2
 of-requires-2 c =
