@@ -19,7 +19,7 @@ use Rattle.om_scope.specs.declared.resolved.Variable.TheVariants as variables
 use Rattle.om_scope.specs.declared.symbols.Meaning.{Meaning}
 use Rattle.om_scope.specs.declared.symbols.Meaning.TheVariants as meanings
 use Rattle.om_scope.specs.Breaches.{breach_if, breaches_along, breaches_of, is_main, main_breaches, item_breaches, function_breaches, statement_breaches, declarator_breaches, redeclared_breaches, global_breaches, initializer_breaches}
-use Rattle.om_scope.specs.Resolution.{resolution_of, whole_resolution, resolved_along, resolved_expression, resolved_assignment, resolved_statement, resolved_function, resolved_functions, variable_of, variable_named, global_of, globals_of, ◌>>=◌}
+use Rattle.om_scope.specs.Resolution.{resolution_of, items_resolution, resolved_along, resolved_expression, resolved_assignment, resolved_statement, resolved_function, item_functions, variable_of, variable_named, global_of, globals_of, ◌>>=◌}
 use Rattle.om_scope.specs.ResolvedTree as resolved
 use Rattle.om_scope.specs.ResolvedTree.{ResolvedExpressionTree, ResolvedStatementTree, ResolvedFunctionTree, ResolvedTree}
 use Rattle.om_scope.specs.Scopes.{Binding, Scope, Scopes, meaning_of, is_declared, with_binding, is_global, globals_in, with_global, with_function, file_scope, declarators_of, after_declarator, after_item, after_statement, body_scopes}
@@ -222,8 +222,8 @@ counts_item scopes (Function f) counts none =
     plus_none n = omega arith
 
 -- the functions of an item use the globals so far
-item_uses : (n : ℕ) (scopes : Scopes) (item : ItemTree) (xs : List ResolvedFunctionTree) → Below n scopes → resolved_functions scopes item ≡ Some xs → All (λ f. FunctionUsesVariables n f) xs
-unfolding resolved_functions
+item_uses : (n : ℕ) (scopes : Scopes) (item : ItemTree) (xs : List ResolvedFunctionTree) → Below n scopes → item_functions scopes item ≡ Some xs → All (λ f. FunctionUsesVariables n f) xs
+unfolding item_functions
 item_uses n scopes (Declaration d) xs h e = let s : [] ≡ xs = cc in subst (λ ys. All (λ f. FunctionUsesVariables n f) ys) s (All-nil (λ f. FunctionUsesVariables n f))
 item_uses n scopes (Function f) xs h e =
     let x = bound (resolved_function scopes f) _ xs e in
@@ -231,13 +231,13 @@ item_uses n scopes (Function f) xs h e =
     subst (λ ys. All (λ g. FunctionUsesVariables n g) ys) s (All-cons (λ g. FunctionUsesVariables n g) x.0 [] (function_uses n scopes f x.0 h x.1) (All-nil (λ g. FunctionUsesVariables n g)))
 
 -- all functions use the globals of the whole source
-items_use : (items : List ItemTree) (scopes : Scopes) (n : ℕ) (xs : List ResolvedFunctionTree) → Counts scopes → n ≡ globals_in scopes + length (flat_map globals_of items) → breaches_along item_breaches after_item scopes items ≡ [] → resolved_along resolved_functions after_item scopes items ≡ Some xs → All (λ f. FunctionUsesVariables n f) xs × (n ≤ 65536)
+items_use : (items : List ItemTree) (scopes : Scopes) (n : ℕ) (xs : List ResolvedFunctionTree) → Counts scopes → n ≡ globals_in scopes + length (flat_map globals_of items) → breaches_along item_breaches after_item scopes items ≡ [] → resolved_along item_functions after_item scopes items ≡ Some xs → All (λ f. FunctionUsesVariables n f) xs × (n ≤ 65536)
 items_use [] scopes n xs counts total none e = let s : [] ≡ xs = cc in (subst (λ ys. All (λ f. FunctionUsesVariables n f) ys) s (All-nil (λ f. FunctionUsesVariables n f)), omega (arith, total, counts.few))
 items_use (item ∷ items) scopes n xs counts total none e =
     let parts = empty (item_breaches scopes item) (breaches_along item_breaches after_item (after_item scopes item) items) none in
     let one = counts_item scopes item counts parts.0 in
-    let front = bound (resolved_functions scopes item) _ xs e in
-    let rest = bound (resolved_along resolved_functions after_item (after_item scopes item) items) _ xs front.2 in
+    let front = bound (item_functions scopes item) _ xs e in
+    let rest = bound (resolved_along item_functions after_item (after_item scopes item) items) _ xs front.2 in
     let same : front.0 ++ rest.0 ≡ xs = let f : Some (front.0 ++ rest.0) ≡ Some xs = rest.2 in cc in
     let left = length-append (globals_of item) (flat_map globals_of items) in
     let others = items_use items (after_item scopes item) n rest.0 one.0 (omega (arith, total, one.1, left)) parts.1 rest.1 in
@@ -274,12 +274,12 @@ function_declared [] name h = ap (λ t. is_some (cond t (Some meanings.Function)
 function_declared (scope ∷ outer) name h = lookup_pushed (bytes_eq name) scope name meanings.Function h
 
 -- where `main` is declared, no function follows
-no_more_functions : (items : List ItemTree) (scopes : Scopes) (xs : List ResolvedFunctionTree) → is_declared scopes (codes "main") ≡ true → All IsItem items → breaches_along item_breaches after_item scopes items ≡ [] → resolved_along resolved_functions after_item scopes items ≡ Some xs → xs ≡ []
-unfolding item_breaches function_breaches resolved_functions IsItem IsFunction
+no_more_functions : (items : List ItemTree) (scopes : Scopes) (xs : List ResolvedFunctionTree) → is_declared scopes (codes "main") ≡ true → All IsItem items → breaches_along item_breaches after_item scopes items ≡ [] → resolved_along item_functions after_item scopes items ≡ Some xs → xs ≡ []
+unfolding item_breaches function_breaches item_functions IsItem IsFunction
 no_more_functions [] scopes xs h formed none e = cc
 no_more_functions (Declaration d ∷ items) scopes xs h formed none e =
     let parts = empty (item_breaches scopes (Declaration d)) _ none in
-    let rest = bound (resolved_along resolved_functions after_item (after_item scopes (Declaration d)) items) _ xs e in
+    let rest = bound (resolved_along item_functions after_item (after_item scopes (Declaration d)) items) _ xs e in
     let same : rest.0 ≡ xs = let f : Some (rest.0) ≡ Some xs = rest.2 in cc in
     sym same ∙ no_more_functions items (after_item scopes (Declaration d)) rest.0 (declarators_keep (declarators_of d) scopes (codes "main") h) (All-tail IsItem (Declaration d) items formed) parts.1 rest.1
 no_more_functions (Function f ∷ items) scopes xs h formed none e =
@@ -299,20 +299,20 @@ resolved_name scopes f x e =
     sym (ap (λ y. y.name) same)
 
 -- there is at most one function, and where an item is `main` there is one
-one_function : (items : List ItemTree) (scopes : Scopes) (xs : List ResolvedFunctionTree) → All IsItem items → breaches_along item_breaches after_item scopes items ≡ [] → resolved_along resolved_functions after_item scopes items ≡ Some xs → (length xs ≤ 1) × (list_any is_main items ≡ true → Any (λ f. is_main_function f ≡ true) xs)
-unfolding item_breaches function_breaches resolved_functions IsItem IsFunction
+one_function : (items : List ItemTree) (scopes : Scopes) (xs : List ResolvedFunctionTree) → All IsItem items → breaches_along item_breaches after_item scopes items ≡ [] → resolved_along item_functions after_item scopes items ≡ Some xs → (length xs ≤ 1) × (list_any is_main items ≡ true → Any (λ f. is_main_function f ≡ true) xs)
+unfolding item_breaches function_breaches item_functions IsItem IsFunction
 one_function [] scopes xs formed none e = let s : [] ≡ xs = cc in subst (λ ys. (length ys ≤ 1) × (false ≡ true → Any (λ f. is_main_function f ≡ true) ys)) s (omega arith, λ g. cc)
 one_function (Declaration d ∷ items) scopes xs formed none e =
     let parts = empty (item_breaches scopes (Declaration d)) _ none in
-    let rest = bound (resolved_along resolved_functions after_item (after_item scopes (Declaration d)) items) _ xs e in
+    let rest = bound (resolved_along item_functions after_item (after_item scopes (Declaration d)) items) _ xs e in
     let same : rest.0 ≡ xs = let f : Some (rest.0) ≡ Some xs = rest.2 in cc in
     subst (λ ys. (length ys ≤ 1) × (list_any is_main items ≡ true → Any (λ f. is_main_function f ≡ true) ys)) same (one_function items (after_item scopes (Declaration d)) rest.0 (All-tail IsItem (Declaration d) items formed) parts.1 rest.1)
 one_function (Function f ∷ items) scopes xs formed none e =
     let is = All-head IsItem (Function f) items formed in
     let parts = empty (function_breaches scopes f) _ none in
-    let front = bound (resolved_functions scopes (Function f)) _ xs e in
+    let front = bound (item_functions scopes (Function f)) _ xs e in
     let x = bound (resolved_function scopes f) _ front.0 front.1 in
-    let rest = bound (resolved_along resolved_functions after_item (after_item scopes (Function f)) items) _ xs front.2 in
+    let rest = bound (resolved_along item_functions after_item (after_item scopes (Function f)) items) _ xs front.2 in
     let own : x.0 ∷ [] ≡ front.0 = let g : Some (x.0 ∷ []) ≡ Some (front.0) = x.2 in cc in
     let declared = ap (λ name. is_declared (with_function scopes f.name.text) name) (sym is.0) ∙ function_declared scopes f.name.text (ap (λ name. bytes_eq name name) is.0) in
     let nothing = no_more_functions items (after_item scopes (Function f)) rest.0 declared (All-tail IsItem (Function f) items formed) parts.1 rest.1 in
@@ -330,7 +330,7 @@ pub is_resolved : (unit : UnitTree) (tree : ResolvedTree) → IsUnit unit → br
 unfolding breaches_of resolution_of IsUnit
 is_resolved unit tree formed none e =
     let parts = empty (breaches_along item_breaches after_item file_scope unit.items) (main_breaches unit) none in
-    let functions = bound (resolved_along resolved_functions after_item file_scope unit.items) _ tree e in
+    let functions = bound (resolved_along item_functions after_item file_scope unit.items) _ tree e in
     let made : ResolvedTree = record { globals = flat_map globals_of unit.items; functions = functions.0 } in
     let same : made ≡ tree = let f : Some made ≡ Some tree = functions.2 in cc in
     let counts : Counts file_scope = record { below = ((tt, (tt, (tt, tt))), tt); few = omega arith } in
