@@ -1,0 +1,8 @@
+int total;
+
+int main(void)
+{
+    total = 40;
+    total = total + 2;
+    return total;
+}
