@@ -1,5 +1,5 @@
 -- With which bytes tokens begin.
-use Rattle.std.proofs.Common.{◌≡◌, ℕ, ◌+◌, ◌-◌, ◌<◌, ◌≤◌, ◌⊎◌, min, Bool, true, false, not, ◌||◌, ◌==◌, ltb, List, length, take, drop, get_or, arith, refl, sym, ap, subst, ◌∙◌, ⊎_elim, inl, inr, add-zero, length-take, get_or-take, get_or-drop, slice_index, slice_range}
+use Rattle.std.proofs.Common.{◌≡◌, ℕ, ◌-◌, ◌<◌, ◌⊎◌, min, Bool, true, false, not, ◌||◌, ◌==◌, ltb, List, length, take, drop, get_or, arith, refl, ap, subst, ◌∙◌, ⊎_elim, inl, inr, add-zero, length-take, get_or-take, get_or-drop, slice_index, slice_range}
 use Rattle.std.proofs.lemmas.Bool.{both_ways, or_cases, or_left, eqb-true, ltb-true, not-true, not_from_true, false_from_ne_true}
 use Rattle.std.specs.Char.{is_ascii_digit}
 use Rattle.om_lexer.specs.declared.token.Keyword.{Keyword}

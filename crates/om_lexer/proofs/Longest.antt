@@ -1,6 +1,6 @@
 -- The longest text that could be a token.
-use Rattle.std.proofs.Common.{◌≡◌, ℕ, ◌+◌, ◌-◌, ◌<◌, ◌≤◌, ◌⊎◌, min, true, false, List, length, take, drop, get_or, nat_eq, arith, refl, sym, ap, subst, ◌∙◌, ⊎_elim, inl, inr, length-take, length-drop, get_or-take, get_or-drop, slice_index, slice_range}
-use Rattle.std.proofs.lemmas.Bool.{both_ways, cases_order, cases_lt}
+use Rattle.std.proofs.Common.{◌≡◌, ℕ, ◌+◌, ◌-◌, ◌<◌, ◌≤◌, min, true, false, List, length, take, drop, get_or, nat_eq, arith, sym, ap, ◌∙◌, ⊎_elim, inl, inr, length-take, length-drop, get_or-take, get_or-drop, slice_index, slice_range}
+use Rattle.std.proofs.lemmas.Bool.{both_ways, cases_order}
 use Rattle.std.proofs.lemmas.List.{get_or_default}
 use Rattle.std.proofs.lemmas.Slice.Eq.{bytes_eq-Decides}
 use Rattle.std.specs.List.{starts_with}
@@ -8,7 +8,7 @@ use Rattle.om_lexer.specs.declared.token.Punctuator.{Punctuator}
 use Rattle.om_lexer.specs.Characters.{is_word_byte}
 use Rattle.om_lexer.specs.Spellings.{punctuator_text}
 use Rattle.om_lexer.specs.WhiteSpace.{BeginsComment}
-use Rattle.om_lexer.specs.Tokens.{IsWord, CouldBeToken, IsLongest}
+use Rattle.om_lexer.specs.Tokens.{IsWord, IsLongest}
 use Rattle.om_lexer.proofs.Beginnings.{could_be_some, first_of_slice, word_from_first, punctuator_from_first, punctuator_long, word_no_slash}
 
 -- there is one longest

@@ -1,6 +1,6 @@
 -- A text spells one token at most, and one piece at most stands at a byte.
-use Rattle.std.proofs.Common.{◌≡◌, ℕ, ◌+◌, ◌<◌, ◌≤◌, ◌⊎◌, Bool, true, false, ◌||◌, ◌==◌, List, [], ◌∷◌, length, Option, Some, arith, refl, sym, ap, subst, ◌∙◌, ⊎_elim, inl, inr, slice_index, slice_range}
-use Rattle.std.proofs.lemmas.Bool.{both_ways, cases_order, or_left, and_parts, and_from}
+use Rattle.std.proofs.Common.{◌≡◌, ℕ, ◌+◌, ◌<◌, true, List, Some, arith, refl, sym, ap, subst, ◌∙◌, ⊎_elim, inl, inr, slice_index, slice_range}
+use Rattle.std.proofs.lemmas.Bool.{both_ways, cases_order, or_left}
 use Rattle.std.specs.List.{find}
 use Rattle.std.specs.Str.{bytes_eq}
 use Rattle.std.specs.Char.{is_ascii_digit}

@@ -1,7 +1,6 @@
 -- A source has one list of tokens or one fault, and not both.
-use Rattle.std.proofs.Common.{◌≡◌, ℕ, ◌<◌, ◌≤◌, ◌⊎◌, Bool, true, List, [], ◌∷◌, ◌++◌, length, arith, refl, sym, ap, subst, ◌∙◌, ⊎_elim, inl, inr, append-nil, slice_index, slice_range}
+use Rattle.std.proofs.Common.{◌≡◌, ℕ, ◌<◌, ◌≤◌, ◌⊎◌, Bool, true, List, [], ◌∷◌, ◌++◌, length, arith, refl, sym, ap, subst, ◌∙◌, ⊎_elim, inl, inr, append-nil, slice_index}
 use Rattle.std.proofs.lemmas.List.{get_or_past}
-use Rattle.std.proofs.lemmas.Bool.{cases_lt}
 use Rattle.om_lexer.specs.declared.token.Token.{Token}
 use Rattle.om_lexer.specs.declared.fault.FaultCode.{FaultCode}
 use Rattle.om_lexer.specs.declared.fault.FaultCode.TheVariants as codes

@@ -1,5 +1,5 @@
 -- How far a source has been read.
-use Rattle.std.proofs.Common.{◌≡◌, ◌==◌, ℕ, ◌+◌, ◌-◌, ◌<◌, ◌≤◌, ◌⊎◌, Bool, true, cond, List, [], ◌∷◌, ◌++◌, length, take, drop, count_by, arith, refl, sym, ap, subst, ◌∙◌, ⊎_elim, inl, inr, append-nil, append_assoc, take-append-drop, slice_index, slice_range}
+use Rattle.std.proofs.Common.{◌≡◌, ◌==◌, ℕ, ◌+◌, ◌-◌, ◌<◌, ◌≤◌, Bool, true, cond, List, [], ◌∷◌, ◌++◌, length, take, drop, count_by, arith, refl, sym, ap, subst, ◌∙◌, ⊎_elim, inl, inr, append-nil, append_assoc, take-append-drop, slice_index, slice_range}
 use Rattle.std.proofs.lemmas.List.{take-take, drop-take, get_or_past}
 use Rattle.std.proofs.lemmas.List.Sums.{sum_by-append, count_by-le-length}
 use Rattle.std.proofs.lemmas.Bool.{cases_lt}

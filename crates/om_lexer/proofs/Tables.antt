@@ -6,7 +6,7 @@ use Rattle.om_lexer.specs.declared.token.Keyword.{Keyword}
 use Rattle.om_lexer.specs.declared.token.Keyword.TheVariants as keywords
 use Rattle.om_lexer.specs.declared.token.Punctuator.{Punctuator}
 use Rattle.om_lexer.specs.declared.token.Punctuator.TheVariants as punctuators
-use Rattle.om_lexer.specs.Spellings.{keyword_text, punctuator_text}
+use Rattle.om_lexer.specs.Spellings.{punctuator_text}
 
 -- the keywords, in the order of the table
 unfoldable pub all_keywords : List Keyword

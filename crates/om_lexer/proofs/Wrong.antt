@@ -12,7 +12,7 @@ use Rattle.om_lexer.specs.Faults.{no_memory}
 use Rattle.om_lexer.specs.Characters.{is_word_byte, is_blank}
 use Rattle.om_lexer.specs.Spellings.{punctuator_text}
 use Rattle.om_lexer.specs.WhiteSpace.{IsLineEnd, IsSpace, IsBlockComment, IsComment, BeginsComment}
-use Rattle.om_lexer.specs.Tokens.{IsLongest, IsTooLarge, IsWrongText}
+use Rattle.om_lexer.specs.Tokens.{IsLongest, IsWrongText}
 use Rattle.om_lexer.specs.Pieces.{Stands}
 use Rattle.om_lexer.specs.Sources.{IsBadToken, IsWrong, IsWrongAt, BeginsHashLine}
 use Rattle.om_lexer.proofs.Beginnings.{no_blank_at, token_apart, word_apart, word_no_slash, could_be_some, first_of_slice, punctuator_from_first, punctuator_long}

@@ -1,5 +1,5 @@
 -- White space and comments, each from one byte of a source up to another.
-use Rattle.std.specs.Prelude.{◌≡◌, ℕ, ◌+◌, ◌<◌, ◌≤◌, ◌⊎◌, Bool, true, List, length, slice_index}
+use Rattle.std.specs.Prelude.{◌≡◌, ℕ, ◌+◌, ◌<◌, ◌≤◌, ◌⊎◌, true, List, length, slice_index}
 use Rattle.om_lexer.specs.Characters.{is_blank}
 
 -- a line feed, or a carriage return and a line feed

@@ -1,4 +1,4 @@
-use Rattle.std.proofs.Common.{◌≡◌, ℕ, ◌-◌, ◌<◌, ◌≤◌, true, length, take}
+use Rattle.std.proofs.Common.{◌≡◌, take}
 use Rattle.om_lexer.specs.Constants.{value_in}
 use Rattle.om_lexer.proofs.constant.value_in.Given as goal
 

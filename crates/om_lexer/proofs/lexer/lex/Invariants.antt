@@ -1,4 +1,4 @@
-use Rattle.std.proofs.Common.{ℕ, ◌+◌, ◌-◌, ◌<◌, ◌≤◌, length}
+use Rattle.std.proofs.Common.{◌+◌, ◌-◌, ◌<◌, ◌≤◌, length}
 use Rattle.om_lexer.specs.Sources.{source_limit}
 use Rattle.om_lexer.proofs.Progress.{IsReadTo}
 use Rattle.om_lexer.proofs.lexer.lex.Given as goal

@@ -1,7 +1,6 @@
-use Rattle.std.proofs.Common.{◌≡◌, ◌+◌, ◌≤◌, length, drop, true, nat_eq, inr, refl, sym, ap, subst, arith, ◌∙◌, slice_range}
+use Rattle.std.proofs.Common.{◌≡◌, ◌+◌, length, drop, true, nat_eq, inr, refl, sym, ap, subst, arith, ◌∙◌}
 use Rattle.std.proofs.lemmas.List.{take_rest}
 use Rattle.std.specs.List.{starts_with}
-use Rattle.om_lexer.specs.declared.token.Punctuator.{Punctuator}
 use Rattle.om_lexer.specs.Spellings.{punctuator_text}
 use Rattle.om_lexer.specs.Tokens.{IsToken}
 use Rattle.om_lexer.specs.declared.token.TokenKind.TheVariants as kinds

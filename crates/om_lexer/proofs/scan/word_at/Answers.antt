@@ -1,4 +1,4 @@
-use Rattle.std.proofs.Common.{◌≡◌, ◌<◌, true, arith, ap, sym, ◌∙◌, ⊎_elim, slice_index}
+use Rattle.std.proofs.Common.{◌≡◌, arith, ap, ◌∙◌, ⊎_elim, slice_index}
 use Rattle.std.proofs.lemmas.Bool.{both_ways, cases_lt}
 use Rattle.std.proofs.lemmas.Result.{err_from_is_err_and}
 use Rattle.om_lexer.specs.Characters.{is_word_byte}

@@ -1,4 +1,4 @@
-use Rattle.std.proofs.Common.{◌≡◌, ◌≤◌, refl, sym, ap, ◌∙◌, arith, below_more, length, nat_eq, subst, true, false, ⊎_elim}
+use Rattle.std.proofs.Common.{◌≡◌, ◌≤◌, refl, sym, ap, ◌∙◌, arith, below_more, length, nat_eq, subst, true, ⊎_elim}
 use Rattle.std.specs.List.{starts_with}
 use Rattle.std.proofs.lemmas.Bool.{both_ways, cases_lt}
 use Rattle.om_lexer.specs.Spellings.{punctuator_text}
