@@ -6,3 +6,5 @@ pub mod laws;
 pub mod limit;
 pub mod look;
 pub mod lower;
+#[cfg(test)]
+mod tests;

@@ -5,13 +5,11 @@ ghost use Rattle.std.specs.List.{list_any};
 ghost use Rattle.om_lower.specs.Limits.{is_too_high, operand_height};
 ghost use Rattle.om_scope.specs.ResolvedView.{view_resolved_expression, view_resolved_statement};
 
+use om_code::program::OPERAND_LIMIT;
 use om_scope::{ResolvedExpression, ResolvedFunction, ResolvedStatement};
 
 /// How many instructions a function may have.
 pub const INSTRUCTION_LIMIT: usize = 65_536;
-
-/// How many operands a function may need at once.
-pub const OPERAND_LIMIT: u32 = 256;
 
 /// Whether a statement of the function needs more operands at once than it may.
 pub(crate) fn needs_too_many_operands(function: &ResolvedFunction) -> bool
@@ -31,7 +29,7 @@ fn is_too_high(statement: &ResolvedStatement) -> bool
 }
 
 /// Whether this many operands are enough for an expression.
-fn fits(expression: &ResolvedExpression, room: u32) -> bool
+pub(crate) fn fits(expression: &ResolvedExpression, room: u32) -> bool
     ensures { IsTrue result ↔ (operand_height (view_resolved_expression expression.now) ≤ room) }
 {
     match expression {
