@@ -1,14 +1,16 @@
 //! A machine driven through programs given as instructions.
 
-use crate::{Machine, StepReply, UndoReply};
-use om_cells::{Blocked, Choice, Control, Fault, Val};
+ghost use Rattle.std.specs.Prelude.{◌≡◌, ◌<◌, ◌≤◌, ◌+◌, IfOk, OnOk};
+
+use crate::{Machine, StepReply, UndoReply, laws};
+use om_cells::{Blocked, Choice, Fault};
 use om_code::instruction::{BinaryOperator, Instr, Place};
 use om_code::program::Program;
 use om_code::raw::{Body, GlobalVariable, Raw};
 use om_code::validate::validate;
 use om_foot::Obj;
 use om_seq::Seq;
-use std::alloc::Global;
+use std::alloc::{AllocError, Global};
 use std::test::Fail;
 
 const X: Place = Place::Global(0);
@@ -43,11 +45,51 @@ fn program_of(alloc: Global, initial: i32, code: &[Instr]) -> Result<Program, Fa
     Ok(validate(alloc, raw)?)
 }
 
+/// A machine of two workers.
+fn machine_of(alloc: Global, initial: i32, code: &[Instr]) -> Result<Machine, Fail>
+    ensures workers { IfOk result (λ m. m.workers ≡ 2) }
+    ensures made { IfOk result (λ m. m.history.made ≡ 0) }
+{
+    let program = program_of(alloc, initial, code)?;
+    Ok(Machine::new(alloc, program, 2)?)
+}
+
+/// A step of a machine of two workers.
+fn step(machine: &mut Machine, alloc: Global, worker: u8) -> Result<StepReply, AllocError>
+    requires worker { worker < 2 }
+    requires workers { machine.old.workers ≡ 2 }
+    requires made { machine.old.history.made < 1000 }
+    ensures workers { OnOk result (machine.new.workers ≡ 2) }
+    ensures made { OnOk result (machine.new.history.made ≤ machine.old.history.made + 1) }
+{
+    machine.step(alloc, worker, Choice::Next)
+}
+
+/// An undo of a machine of two workers.
+fn undo(machine: &mut Machine, worker: u8) -> UndoReply
+    requires worker { worker < 2 }
+    requires workers { machine.old.workers ≡ 2 }
+    ensures workers { machine.new.workers ≡ 2 }
+    ensures made { machine.new.history.made ≡ machine.old.history.made }
+{
+    machine.undo(worker)
+}
+
 /// What `x` holds.
-fn x_of(alloc: Global, machine: &Machine) -> Result<Option<i32>, Fail> {
+fn x_of(alloc: Global, machine: &Machine) -> Result<Option<i32>, AllocError> {
     Ok(machine.look(alloc, &Obj::Global(0, 0))?.int())
 }
 
+/// The serials of the entries.
+fn serials(alloc: Global, machine: &Machine) -> Result<Vec<u64>, AllocError> {
+    let mut serials = Vec::new(alloc);
+    for entry in &machine.history(alloc)? {
+        serials.push(entry.serial)?;
+    }
+    Ok(serials)
+}
+
+/// The reply of a step that ended with no fault.
 fn done(serial: u64, line: u32) -> StepReply {
     StepReply::Done {
         serial,
@@ -56,92 +98,75 @@ fn done(serial: u64, line: u32) -> StepReply {
     }
 }
 
+/// The reply of a step that ended with an overflow.
+fn faulted(serial: u64, line: u32) -> StepReply {
+    StepReply::Done {
+        serial,
+        line,
+        fault: Some(Fault::Overflow),
+    }
+}
+
+/// The reply of an undo that was done.
+fn undone(serial: u64, line: u32) -> UndoReply {
+    UndoReply::Undone { serial, line }
+}
+
 #[test]
-fn steps_and_undos_of_one_worker(rt: HostRuntime) -> Result<(), Fail> {
+fn a_step_and_its_undo(rt: HostRuntime) -> Result<(), Fail> {
     let alloc = rt.alloc();
     let code = [
         Instr::Constant(1),
         STORE_X,
-        Instr::Load(X),
-        Instr::Constant(2),
-        Instr::Binary(BinaryOperator::Add),
-        STORE_X,
-        Instr::Load(X),
-        Instr::Finish { has_value: true },
+        Instr::Finish { has_value: false },
     ];
-    let mut machine = Machine::new(alloc, program_of(alloc, 7, &code)?, 2)?;
-    assert_eq!(rt; machine.workers(), 2);
-    assert_eq!(rt; machine.program().main(), 0);
-    assert_eq!(rt; x_of(alloc, &machine)?, Some(7));
-    assert_eq!(rt; machine.undo(0), UndoReply::Nothing);
-    for line in 1..=6 {
-        assert_eq!(rt; machine.line(0), line);
-        assert_eq!(rt;
-            machine.peek(alloc, 0, Choice::Next)?,
-            done(line as u64, line)
-        );
-        assert_eq!(rt;
-            machine.step(alloc, 0, Choice::Next)?,
-            done(line as u64, line)
-        );
-    }
-    assert_eq!(rt; x_of(alloc, &machine)?, Some(3));
-    assert_eq!(rt; machine.undo(0), UndoReply::Undone { serial: 6, line: 6 });
-    assert_eq!(rt; x_of(alloc, &machine)?, Some(1));
-    assert_eq!(rt; machine.step(alloc, 0, Choice::Next)?, done(7, 6));
-    assert_eq!(rt; machine.step(alloc, 0, Choice::Next)?, done(8, 7));
-    assert_eq!(rt; machine.step(alloc, 0, Choice::Next)?, done(9, 8));
-    assert_eq!(rt; machine.step(alloc, 0, Choice::Next)?, StepReply::Ended);
-    assert_eq!(rt; machine.line(0), 0);
-    let control = machine.look(alloc, &Obj::Control(0))?;
-    assert!(rt; matches!(control, Val::Control(Control::Ended(3))));
-    let entries = machine.history(alloc)?;
-    assert_eq!(rt; entries.len(), 8);
-    assert_eq!(rt; entries[5].serial, 7);
-    for _ in 0..8 {
-        assert!(rt; matches!(machine.undo(0), UndoReply::Undone { .. }));
-    }
-    assert_eq!(rt; machine.undo(0), UndoReply::Nothing);
-    assert_eq!(rt; x_of(alloc, &machine)?, Some(7));
-    assert_eq!(rt; machine.step(alloc, 0, Choice::Next)?, done(10, 1));
+    let mut machine = machine_of(alloc, 8, &code)?;
+    let _first = step(&mut machine, alloc, 0)?;
+    assert!(rt; x_of(alloc, &machine)? == Some(8));
+    let peeked = machine.peek(alloc, 0, Choice::Next)?;
+    assert!(rt; step(&mut machine, alloc, 0)? == peeked);
+    assert!(rt; x_of(alloc, &machine)? == Some(1));
+    assert!(rt; undo(&mut machine, 0) == undone(2, 2));
+    assert!(rt; x_of(alloc, &machine)? == Some(8));
+    assert!(rt; step(&mut machine, alloc, 0)? == done(3, 2));
+    assert!(rt; serials(alloc, &machine)?.as_slice() == [1, 3].as_slice());
     Ok(())
 }
 
 #[test]
-fn a_fault_is_undone_as_any_step(rt: HostRuntime) -> Result<(), Fail> {
+fn a_fault_is_a_step(rt: HostRuntime) -> Result<(), Fail> {
     let alloc = rt.alloc();
     let code = [
         Instr::Load(X),
-        Instr::Constant(1),
+        Instr::Load(X),
         Instr::Binary(BinaryOperator::Add),
         Instr::Finish { has_value: true },
     ];
-    let mut machine = Machine::new(alloc, program_of(alloc, 2147483647, &code)?, 1)?;
-    assert_eq!(rt; machine.step(alloc, 0, Choice::Next)?, done(1, 1));
-    assert_eq!(rt; machine.step(alloc, 0, Choice::Next)?, done(2, 2));
-    let faulted = StepReply::Done {
-        serial: 3,
-        line: 3,
-        fault: Some(Fault::Overflow),
-    };
-    assert_eq!(rt; machine.step(alloc, 0, Choice::Next)?, faulted);
-    assert_eq!(rt; machine.line(0), 3);
-    assert_eq!(rt; machine.step(alloc, 0, Choice::Next)?, StepReply::Ended);
-    assert_eq!(rt; machine.undo(0), UndoReply::Undone { serial: 3, line: 3 });
-    assert_eq!(rt; machine.line(0), 3);
+    let mut machine = machine_of(alloc, 2147483647, &code)?;
+    let _first = step(&mut machine, alloc, 0)?;
+    let _second = step(&mut machine, alloc, 0)?;
+    assert!(rt; step(&mut machine, alloc, 0)? == faulted(3, 3));
+    assert!(rt; machine.line(0) == 3);
+    assert!(rt; step(&mut machine, alloc, 0)? == StepReply::Ended);
     Ok(())
 }
 
 #[test]
 fn an_idle_worker_is_blocked(rt: HostRuntime) -> Result<(), Fail> {
     let alloc = rt.alloc();
-    let code = [Instr::Finish { has_value: false }];
-    let mut machine = Machine::new(alloc, program_of(alloc, 0, &code)?, 8)?;
-    let blocked = StepReply::Blocked(Blocked::Idle);
-    assert_eq!(rt; machine.step(alloc, 7, Choice::Next)?, blocked);
-    assert_eq!(rt; machine.peek(alloc, 1, Choice::Next)?, blocked);
-    assert_eq!(rt; machine.line(1), 0);
-    assert_eq!(rt; machine.undo(7), UndoReply::Nothing);
-    assert!(rt; machine.history(alloc)?.is_empty());
+    let mut machine = machine_of(alloc, 0, &[Instr::Finish { has_value: false }])?;
+    assert!(rt; machine.workers() == 2);
+    assert!(rt; machine.program().main() == 0);
+    assert!(rt; step(&mut machine, alloc, 1)? == StepReply::Blocked(Blocked::Idle));
+    assert!(rt; undo(&mut machine, 1) == UndoReply::Nothing);
     Ok(())
+}
+
+#[test]
+fn the_laws_can_be_called() {
+    laws::dependence();
+    laws::commutation();
+    laws::removal();
+    laws::step_then_undo();
+    laws::remaining_steps();
 }
