@@ -277,6 +277,7 @@ fn a_line_is_that_of_the_instruction_that_runs(rt: HostRuntime) -> Result<(), Fa
 }
 
 #[test]
-fn no_count_moves_by_more_than_one() {
+fn the_laws_are_there() {
     crate::laws::steady_counts();
+    crate::laws::ends_only_when_over();
 }
