@@ -1,0 +1,9 @@
+mod Bytes
+mod LineEnds
+mod LineLaws
+mod SourceLaws
+mod Advances
+mod SessionLaws
+mod Refusals
+mod ServeLaws
+mod RunLaws

@@ -1,0 +1,39 @@
+-- Which pass refuses a source.
+use Rattle.std.proofs.Common.{◌≡◌, ◌≢◌, ◌⊎◌, inl, inr, ℕ, List, Some, Result, Ok, Err, IfErr}
+use Rattle.om_lexer.specs.declared.fault.FaultCode.TheVariants.{Syntax, TooDeep}
+use Rattle.om_lexer.specs.declared.fault.SourceFault.{SourceFault}
+use Rattle.om_lexer.specs.declared.token.Token.{Token}
+use Rattle.om_lexer.specs.Faults.{no_memory}
+use Rattle.om_lexer.specs.Sources.{IsTokens, IsRefusal}
+use Rattle.om_parser.specs.Parsing.{IsTreeOf, IsLimitPassed}
+use Rattle.om_parser.specs.Tree.{UnitTree}
+use Rattle.om_scope.specs.Breaches.{breaches_of, first_of}
+use Rattle.om_scope.specs.ResolvedTree.{ResolvedTree}
+use Rattle.om_lower.specs.Limits.{limit_breaches}
+use Rattle.om_shell.specs.Verdict.{IsTreeOfSource, IsResolutionOfSource, IsSyntaxFault, IsRefused, by_lexer, by_parser, by_names, by_code}
+
+abbrev pub Refuses : List ℕ → SourceFault → Type 0
+Refuses source fault = fault ≢ no_memory → IsRefused source fault
+
+pub lexer_refuses : (source : List ℕ) (fault : SourceFault) → IsRefusal source fault → Refuses source fault
+lexer_refuses source fault (inl none) other = absurd (other none)
+lexer_refuses source fault (inr p) other = by_lexer p
+
+pub parser_refuses : {X : Type 0} (source : List ℕ) (tokens : List Token) (r : Result X SourceFault) → IsTokens source tokens
+    → IfErr r (λ fault. fault.code ≡ Syntax → (tree : UnitTree) → ¬ IsTreeOf tokens tree)
+    → IfErr r (λ fault. fault.code ≡ TooDeep → IsLimitPassed tokens fault.at)
+    → IfErr r (λ fault. (fault ≡ no_memory) ⊎ (fault.code ≡ Syntax) ⊎ (fault.code ≡ TooDeep))
+    → IfErr r (Refuses source)
+parser_refuses source tokens (Ok x) lexed syntax deep other = tt
+parser_refuses source tokens (Err fault) lexed syntax deep other =
+    λ memory. elim other [ inl none ↦ absurd (memory none) | inr rest ↦ elim rest [ inl e ↦ by_parser tokens lexed (inl (e, syntax e)) | inr e ↦ by_parser tokens lexed (inr (e, deep e)) ] ]
+
+pub names_refuse : {X : Type 0} (source : List ℕ) (tree : UnitTree) (r : Result X SourceFault) → IsTreeOfSource source tree
+    → IfErr r (λ fault. fault ≢ no_memory → first_of (breaches_of tree) ≡ Some fault) → IfErr r (Refuses source)
+names_refuse source tree (Ok x) has_tree first = tt
+names_refuse source tree (Err fault) has_tree first = λ memory. by_names tree has_tree (first memory)
+
+pub code_refuses : {X : Type 0} (source : List ℕ) (resolved : ResolvedTree) (r : Result X SourceFault) → IsResolutionOfSource source resolved
+    → IfErr r (λ fault. fault ≢ no_memory → first_of (limit_breaches resolved) ≡ Some fault) → IfErr r (Refuses source)
+code_refuses source resolved (Ok x) has_resolution first = tt
+code_refuses source resolved (Err fault) has_resolution first = λ memory. by_code resolved has_resolution (first memory)

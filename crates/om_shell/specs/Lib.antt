@@ -1,0 +1,12 @@
+pub mod Lines
+pub mod Transcript
+pub mod Progress
+pub mod Batch
+pub mod Source
+pub mod Commands
+pub mod Replies
+pub mod Places
+pub mod Verdict
+pub mod Script
+pub mod Ends
+pub mod Serving

@@ -1,0 +1,58 @@
+-- What is done for a source that is read.
+use Rattle.std.specs.Prelude.{◌≡◌, ◌≢◌, ◌⊎◌, ℕ, List, [], Option, Result}
+use Rattle.std.specs.Io.KnownBytes.{Consumes, Appends}
+use Rattle.std.specs.Str.Lines.{lines}
+use Rattle.om_code.specs.declared.raw.Raw.{Raw}
+use Rattle.om_lexer.specs.declared.fault.SourceFault.{SourceFault}
+use Rattle.om_undo.specs.Machines.{MachineView}
+use Rattle.om_shell.specs.declared.fault.ShellFault.{ShellFault}
+use Rattle.om_shell.specs.declared.fault.ShellFault.TheVariants.{Read}
+use Rattle.om_shell.specs.Ends.{status_of}
+use Rattle.om_shell.specs.Progress.{AppendsPart, BreaksOff, IsDone}
+use Rattle.om_shell.specs.Script.{transcript_of}
+use Rattle.om_shell.specs.Transcript.{Transcript}
+use Rattle.om_shell.specs.Verdict.{IsVerdict}
+
+-- what is due for the bytes behind a source
+abbrev pub due_for : Result Raw SourceFault → ℕ → List ℕ → List ℕ → Transcript MachineView
+due_for verdict workers source bytes = transcript_of verdict workers source (lines bytes)
+
+-- by a verdict on the source, all that was due is done
+pub record Serves (left_before left_after held_before held_after : Option (List ℕ)) (pending : List ℕ) (workers : ℕ) (source : List ℕ) (status : ℕ) (machine : Option MachineView) : Type 0 where
+  pub verdict : Result Raw SourceFault
+  pub judged : IsVerdict source verdict
+  pub status_is : status ≡ status_of verdict
+  pub done : IsDone left_before left_after held_before held_after pending (due_for verdict workers source) machine
+
+-- by a verdict on the source, a part of what was due is done
+pub record ServesPart (left_before left_after held_before held_after : Option (List ℕ)) (pending : List ℕ) (workers : ℕ) (source : List ℕ) (fault : ShellFault) : Type 0 where
+  pub verdict : Result Raw SourceFault
+  pub judged : IsVerdict source verdict
+  pub part : BreaksOff left_before left_after held_before held_after pending (due_for verdict workers source) fault
+
+-- no read failed, and nothing was taken or written
+pub record IsUntouched (left_before left_after held_before held_after : Option (List ℕ)) (fault : ShellFault) : Type 0 where
+  pub consumes : Consumes left_before left_after []
+  pub appends : Appends held_before held_after []
+  pub no_read : fault ≢ Read
+
+abbrev pub BreaksOffServing : Option (List ℕ) → Option (List ℕ) → Option (List ℕ) → Option (List ℕ) → List ℕ → ℕ → List ℕ → ShellFault → Type 0
+BreaksOffServing left_before left_after held_before held_after pending workers source fault =
+    IsUntouched left_before left_after held_before held_after fault ⊎ ServesPart left_before left_after held_before held_after pending workers source fault
+
+-- a source that no command follows
+pub record ServesAlone (held_before held_after : Option (List ℕ)) (workers : ℕ) (source : List ℕ) (status : ℕ) (machine : Option MachineView) : Type 0 where
+  pub verdict : Result Raw SourceFault
+  pub judged : IsVerdict source verdict
+  pub status_is : status ≡ status_of verdict
+  pub appends : Appends held_before held_after (transcript_of verdict workers source []).text
+  pub machine_is : machine ≡ (transcript_of verdict workers source []).machine
+
+pub record ServesAlonePart (held_before held_after : Option (List ℕ)) (workers : ℕ) (source : List ℕ) : Type 0 where
+  pub verdict : Result Raw SourceFault
+  pub judged : IsVerdict source verdict
+  pub part : AppendsPart held_before held_after (transcript_of verdict workers source []).text
+
+pub record BreaksOffAlone (held_before held_after : Option (List ℕ)) (workers : ℕ) (source : List ℕ) (fault : ShellFault) : Type 0 where
+  pub no_read : fault ≢ Read
+  pub part : Appends held_before held_after [] ⊎ ServesAlonePart held_before held_after workers source

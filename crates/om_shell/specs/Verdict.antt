@@ -1,0 +1,52 @@
+-- What a source comes to: its program, or its refusal.
+use Rattle.std.specs.Prelude.{◌≡◌, ◌⊎◌, ℕ, List, [], Some, Result, Ok, Err}
+use Rattle.om_code.specs.declared.raw.Raw.{Raw}
+use Rattle.om_lexer.specs.declared.fault.FaultCode.TheVariants.{Syntax, TooDeep}
+use Rattle.om_lexer.specs.declared.fault.SourceFault.{SourceFault}
+use Rattle.om_lexer.specs.declared.token.Token.{Token}
+use Rattle.om_lexer.specs.Sources.{IsTokens, IsFault}
+use Rattle.om_parser.specs.Limits.{IsWithinLimits}
+use Rattle.om_parser.specs.Parsing.{IsTreeOf, IsLimitPassed}
+use Rattle.om_parser.specs.Tree.{UnitTree}
+use Rattle.om_scope.specs.Breaches.{breaches_of, first_of}
+use Rattle.om_scope.specs.Resolution.{resolution_of}
+use Rattle.om_scope.specs.ResolvedTree.{ResolvedTree}
+use Rattle.om_lower.specs.Code.{IsCodeOf}
+use Rattle.om_lower.specs.Limits.{limit_breaches}
+
+-- the source has tokens, and they a tree within the limits
+pub record IsTreeOfSource (source : List ℕ) (tree : UnitTree) : Type 0 where
+  pub tokens : List Token
+  pub lexed : IsTokens source tokens
+  pub parsed : IsTreeOf tokens tree
+  pub within_limits : IsWithinLimits tree
+
+-- and the tree has a resolution, as it breaks no rule on names
+pub record IsResolutionOfSource (source : List ℕ) (resolved : ResolvedTree) : Type 0 where
+  pub tree : UnitTree
+  pub has_tree : IsTreeOfSource source tree
+  pub no_breach : breaches_of tree ≡ []
+  pub resolves : resolution_of tree ≡ Some resolved
+
+-- and the resolution has its code, within the limits of code
+pub record IsProgramOf (source : List ℕ) (program : Raw) : Type 0 where
+  pub resolved : ResolvedTree
+  pub has_resolution : IsResolutionOfSource source resolved
+  pub no_breach : limit_breaches resolved ≡ []
+  pub code : IsCodeOf resolved program
+
+-- no tree has these tokens, or a limit on expressions is passed at this place
+abbrev pub IsSyntaxFault : List Token → SourceFault → Type 0
+IsSyntaxFault tokens fault = ((fault.code ≡ Syntax) × ((tree : UnitTree) → ¬ IsTreeOf tokens tree)) ⊎ ((fault.code ≡ TooDeep) × IsLimitPassed tokens fault.at)
+
+-- why a source is refused: the passes run in the order lexer, parser, names, code, and the first that refuses answers
+pub data IsRefused (source : List ℕ) (fault : SourceFault) : Type 0 where
+  by_lexer : IsFault source fault.code fault.at → IsRefused source fault
+  by_parser : (tokens : List Token) → IsTokens source tokens → IsSyntaxFault tokens fault → IsRefused source fault
+  by_names : (tree : UnitTree) → IsTreeOfSource source tree → first_of (breaches_of tree) ≡ Some fault → IsRefused source fault
+  by_code : (resolved : ResolvedTree) → IsResolutionOfSource source resolved → first_of (limit_breaches resolved) ≡ Some fault → IsRefused source fault
+
+-- what a source comes to
+abbrev pub IsVerdict : List ℕ → Result Raw SourceFault → Type 0
+IsVerdict source (Ok program) = IsProgramOf source program
+IsVerdict source (Err fault) = IsRefused source fault

@@ -1,0 +1,42 @@
+//! How a run ended.
+ghost use Rattle.std.specs.Prelude.{◌≡◌, None, Some};
+
+use om_undo::Machine;
+
+// The exit status after an accepted source, and after a refused one.
+const ACCEPTED: u8 = 0;
+
+const REFUSED: u8 = 1;
+
+/// How a run ended.
+#[derive(Drop)]
+pub struct Ended {
+    /// The exit status: 0, or 1 where the source was refused.
+    pub status: u8,
+    /// The machine as the commands left it; `None` where the source was refused.
+    pub machine: Option<Machine>,
+}
+
+impl Ended {
+    /// The end of a run of an accepted source.
+    pub(crate) fn accepted(machine: Machine) -> Ended
+        ensures status { result.status ≡ 0 }
+        ensures machine { result.machine ≡ Some machine }
+    {
+        Ended {
+            status: ACCEPTED,
+            machine: Some(machine),
+        }
+    }
+
+    /// The end of a run of a refused source.
+    pub(crate) fn refused() -> Ended
+        ensures status { result.status ≡ 1 }
+        ensures machine { result.machine ≡ None }
+    {
+        Ended {
+            status: REFUSED,
+            machine: None,
+        }
+    }
+}

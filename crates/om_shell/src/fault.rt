@@ -1,0 +1,19 @@
+//! Why a run stops before its end.
+
+use thiserror::Error;
+
+/// A fault of a run. The run is over then, and nothing of it is kept but what was written.
+///
+/// Its text is what the program writes on standard error.
+#[derive(Clone, Copy, Debug, Drop, PartialEq, Eq, Error)]
+pub enum ShellFault {
+    /// A read failed, or 2^32 reads were made in this run.
+    #[error("H3")]
+    Read,
+    /// A write or a flush failed, or a write took no byte.
+    #[error("H4")]
+    Write,
+    /// There was no memory, wherever it was asked for.
+    #[error("H5")]
+    Memory,
+}

@@ -1,0 +1,45 @@
+//! From a source to its program: lexer, parser, names, code.
+ghost use Rattle.std.specs.Prelude.{◌≢◌, IfOk, IfErr};
+ghost use Rattle.om_lexer.specs.Faults.{no_memory};
+ghost use Rattle.om_parser.specs.View.{view_unit};
+ghost use Rattle.om_scope.specs.ResolvedView.{view_resolved};
+ghost use Rattle.om_scope.specs.Uses.{IsResolved};
+ghost use Rattle.om_shell.specs.Verdict.{IsTreeOfSource, IsResolutionOfSource, IsProgramOf, IsRefused};
+
+use om_code::program::Program;
+use om_lexer::{SourceFault, lex};
+use om_lower::lower::lower;
+use om_parser::{Unit, parse};
+use om_scope::{Resolved, resolve};
+use std::alloc::Global;
+
+// The tree of a source.
+fn tree_of(alloc: Global, source: &[u8]) -> Result<Unit, SourceFault>
+    ensures tree { IfOk result (λ unit. IsTreeOfSource source.now (view_unit unit)) }
+    ensures refused { IfErr result (λ fault. fault ≢ no_memory → IsRefused source.now fault) }
+{
+    let tokens = lex(alloc, source)?;
+    parse(alloc, &tokens)
+}
+
+// The tree of a source, with its names resolved.
+fn resolution_of(alloc: Global, source: &[u8]) -> Result<Resolved, SourceFault>
+    ensures resolution { IfOk result (λ resolved. IsResolutionOfSource source.now (view_resolved resolved)) }
+    ensures every_use_has_its_variable { IfOk result (λ resolved. IsResolved (view_resolved resolved)) }
+    ensures refused { IfErr result (λ fault. fault ≢ no_memory → IsRefused source.now fault) }
+{
+    let unit = tree_of(alloc, source)?;
+    resolve(alloc, unit)
+}
+
+/// The program of a source.
+///
+/// The passes run in turn, and the first that refuses answers; nothing is kept then. Want of memory is S0 in any of
+/// them.
+pub(crate) fn program_of(alloc: Global, source: &[u8]) -> Result<Program, SourceFault>
+    ensures program { IfOk result (λ program. IsProgramOf source.now program) }
+    ensures refused { IfErr result (λ fault. fault ≢ no_memory → IsRefused source.now fault) }
+{
+    let resolved = resolution_of(alloc, source)?;
+    lower(alloc, &resolved)
+}

@@ -1,0 +1,72 @@
+//! What was read and is not yet answered.
+ghost use Rattle.std.specs.Prelude.{◌≡◌, ◌<◌, ◌≤◌, ◌+◌, ◌*◌, ◌^◌, ◌++◌, [], length, drop, false, List, ℕ, IfOk, IfErr, OnOk};
+ghost use Rattle.std.specs.Io.KnownBytes.{Consumes, IsAtEnd};
+ghost use Rattle.om_shell.specs.Progress.{ReadFails};
+
+use crate::fault::ShellFault;
+use std::alloc::Global;
+use std::io::{ErrorKind, Read};
+
+// How many reads a run makes at most.
+const MOST_READS: u64 = 1 << 32;
+
+// How many bytes a read asks for.
+const CHUNK: usize = 4096;
+
+/// The bytes that were read and not yet answered, and how many more reads there may be.
+#[derive(Drop)]
+pub(crate) struct Input {
+    pub(crate) pending: Vec<u8>,
+    pub(crate) reads_left: u64,
+}
+
+impl Input {
+    /// Nothing is read yet. It takes no memory.
+    pub(crate) fn new(alloc: Global) -> Input
+        ensures pending { result.pending.items ≡ [] }
+        ensures reads { result.reads_left ≡ 2 ^ 32 }
+    {
+        Input {
+            pending: Vec::new(alloc),
+            reads_left: MOST_READS,
+        }
+    }
+
+    /// Lets the first `used` pending bytes go.
+    pub(crate) fn discard(&mut self, used: usize)
+        requires { used ≤ length self.old.pending.items }
+        ensures pending { self.new.pending.items ≡ drop used self.old.pending.items }
+        ensures reads { self.new.reads_left ≡ self.old.reads_left }
+    {
+        if used > 0 {
+            self.pending.drain(..used);
+        }
+    }
+
+    /// Reads once, and answers whether the input may go on.
+    pub(crate) fn read_more<R: Read>(&mut self, reader: &mut R) -> Result<bool, ShellFault>
+        ensures read { IfOk result (λ _. (bytes : List ℕ) × (Consumes (R.remaining reader.old) (R.remaining reader.new) bytes)
+            × (self.new.pending.items ≡ self.old.pending.items ++ bytes)) }
+        ensures ended { IfOk result (λ more. more ≡ false → IsAtEnd (R.remaining reader.new) × (self.new.pending.items ≡ self.old.pending.items)) }
+        ensures failed { IfErr result (ReadFails (R.remaining reader.old) (R.remaining reader.new)) }
+        ensures fewer_left { OnOk result (self.new.reads_left < self.old.reads_left) }
+        ensures room { OnOk result (length self.new.pending.items + CHUNK * self.new.reads_left ≤ length self.old.pending.items + CHUNK * self.old.reads_left) }
+    {
+        if self.reads_left == 0 {
+            return Err(ShellFault::Read);
+        }
+        self.reads_left -= 1;
+        let mut chunk = [0; CHUNK];
+        match reader.read(&mut chunk) {
+            Ok(0) => Ok(false),
+            Ok(n) => {
+                self.pending
+                    .extend_from_slice(&chunk[..n])
+                    .map_err(|_| ShellFault::Memory)?;
+                Ok(true)
+            }
+            Err(e) if e.kind() == ErrorKind::Interrupted => Ok(true),
+            Err(_) => Err(ShellFault::Read),
+        }
+    }
+}

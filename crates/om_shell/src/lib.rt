@@ -1,0 +1,25 @@
+//! The command language: a source and commands go in as bytes, and replies come out as bytes.
+#![tactic(auto)]
+
+mod command;
+mod conversation;
+mod ended;
+mod fault;
+mod front_end;
+mod input;
+mod lines;
+mod options;
+mod output;
+mod refusal;
+mod reply;
+mod serve;
+mod session;
+mod shell;
+mod source;
+#[cfg(test)]
+mod tests;
+
+pub use ended::Ended;
+pub use fault::ShellFault;
+pub use options::Options;
+pub use shell::run;

@@ -1,0 +1,118 @@
+//! What is done for a source that is read: its commands are answered, or its refusal is told.
+ghost use Rattle.std.specs.Prelude.{◌≡◌, ◌<◌, ◌≤◌, ◌+◌, ◌*◌, ◌^◌, ◌≢◌, [], None, Some, length, IfOk, IfErr, OnOk};
+ghost use Rattle.std.specs.Io.KnownBytes.{Appends};
+ghost use Rattle.om_lexer.specs.declared.fault.FaultCode.TheVariants.{Memory};
+ghost use Rattle.om_shell.specs.Places.{refusal_text};
+ghost use Rattle.om_shell.specs.Progress.{AppendsPart, BreaksOff, IsDone};
+ghost use Rattle.om_shell.specs.Replies.{due};
+ghost use Rattle.om_shell.specs.Script.{started};
+ghost use Rattle.om_shell.specs.Serving.{Serves, BreaksOffServing, ServesAlone, BreaksOffAlone};
+
+use crate::conversation::converse;
+use crate::ended::Ended;
+use crate::fault::ShellFault;
+use crate::front_end::program_of;
+use crate::input::Input;
+use crate::output::send;
+use crate::refusal::push_refusal;
+use crate::session::Session;
+use om_code::program::Program;
+use om_lexer::{FaultCode, SourceFault};
+use std::alloc::Global;
+use std::io::{Read, Write};
+
+// Tells why a source is refused.
+fn tell<W: Write>(
+    alloc: Global,
+    source: &[u8],
+    fault: SourceFault,
+    writer: &mut W,
+) -> Result<(), ShellFault>
+    ensures told { OnOk result (Appends (W.contents writer.old) (W.contents writer.new) (refusal_text source.now fault)) }
+    ensures begun_on_error { IfErr result (λ e. (e ≢ ShellFault.Read) × AppendsPart (W.contents writer.old) (W.contents writer.new) (refusal_text source.now fault)) }
+{
+    let mut text = Vec::new(alloc);
+    push_refusal(&mut text, source, fault).map_err(|_| ShellFault::Memory)?;
+    send(writer, &text)
+}
+
+// Answers the commands to a program.
+fn answer_commands<R: Read, W: Write>(
+    alloc: Global,
+    workers: u8,
+    program: Program,
+    input: &mut Input,
+    reader: &mut R,
+    writer: &mut W,
+) -> Result<Ended, ShellFault>
+    requires at_least_one { 0 < workers }
+    requires at_most_eight { workers ≤ 8 }
+    requires few { length input.old.pending.items + 4096 * input.old.reads_left < 2 ^ 61 }
+    ensures status { IfOk result (λ ended. ended.status ≡ 0) }
+    ensures done { IfOk result (λ ended. IsDone (R.remaining reader.old) (R.remaining reader.new) (W.contents writer.old) (W.contents writer.new)
+        input.old.pending.items (due (started program workers)) ended.machine) }
+    ensures broken_off { IfErr result (BreaksOff (R.remaining reader.old) (R.remaining reader.new) (W.contents writer.old) (W.contents writer.new)
+        input.old.pending.items (due (started program workers))) }
+{
+    let mut session = Session::new(alloc, program, workers).map_err(|_| ShellFault::Memory)?;
+    converse(alloc, &mut session, input, reader, writer)?;
+    Ok(Ended::accepted(session.into_machine()))
+}
+
+/// Serves a source and the commands behind it.
+///
+/// Without memory for its program nothing is read or written.
+pub(crate) fn serve<R: Read, W: Write>(
+    alloc: Global,
+    workers: u8,
+    source: &[u8],
+    input: &mut Input,
+    reader: &mut R,
+    writer: &mut W,
+) -> Result<Ended, ShellFault>
+    requires at_least_one { 0 < workers }
+    requires at_most_eight { workers ≤ 8 }
+    requires few { length input.old.pending.items + 4096 * input.old.reads_left < 2 ^ 61 }
+    ensures served { IfOk result (λ ended. Serves (R.remaining reader.old) (R.remaining reader.new) (W.contents writer.old) (W.contents writer.new)
+        input.old.pending.items workers source.now ended.status ended.machine) }
+    ensures broken_off { IfErr result (BreaksOffServing (R.remaining reader.old) (R.remaining reader.new) (W.contents writer.old) (W.contents writer.new)
+        input.old.pending.items workers source.now) }
+{
+    match program_of(alloc, source) {
+        Ok(program) => answer_commands(alloc, workers, program, input, reader, writer),
+        Err(fault) => {
+            if fault.code == FaultCode::Memory {
+                return Err(ShellFault::Memory);
+            }
+            tell(alloc, source, fault, writer)?;
+            Ok(Ended::refused())
+        }
+    }
+}
+
+/// Serves a source that no command can follow, as the input has ended. Nothing more is read.
+pub(crate) fn serve_alone<W: Write>(
+    alloc: Global,
+    workers: u8,
+    source: &[u8],
+    writer: &mut W,
+) -> Result<Ended, ShellFault>
+    requires at_least_one { 0 < workers }
+    requires at_most_eight { workers ≤ 8 }
+    ensures served { IfOk result (λ ended. ServesAlone (W.contents writer.old) (W.contents writer.new) workers source.now ended.status ended.machine) }
+    ensures broken_off { IfErr result (BreaksOffAlone (W.contents writer.old) (W.contents writer.new) workers source.now) }
+{
+    match program_of(alloc, source) {
+        Ok(program) => {
+            let session = Session::new(alloc, program, workers).map_err(|_| ShellFault::Memory)?;
+            Ok(Ended::accepted(session.into_machine()))
+        }
+        Err(fault) => {
+            if fault.code == FaultCode::Memory {
+                return Err(ShellFault::Memory);
+            }
+            tell(alloc, source, fault, writer)?;
+            Ok(Ended::refused())
+        }
+    }
+}

@@ -1,0 +1,108 @@
+//! A run: a source, and then commands, each answered before more is read.
+ghost use Rattle.std.specs.Prelude.{◌≡◌, ◌<◌, ◌≤◌, None, take, length, IfOk, IfErr, OnOk, IfSome, option_copied};
+ghost use Rattle.std.specs.Io.KnownBytes.{Appends};
+ghost use Rattle.om_undo.specs.Machines.{MachineView};
+ghost use Rattle.om_shell.specs.Ends.{RunsToEnd, BreaksOffRun, WritesScript};
+
+use crate::ended::Ended;
+use crate::fault::ShellFault;
+use crate::input::Input;
+use crate::options::Options;
+use crate::serve::{serve, serve_alone};
+use crate::source::read_source;
+use std::alloc::Global;
+use std::io::{Read, Write};
+
+// A copy of the first bytes.
+fn source_bytes(alloc: Global, bytes: &[u8], end: usize) -> Result<Vec<u8>, ShellFault>
+    requires { end ≤ length bytes.now }
+    ensures source { IfOk result (λ source. source.items ≡ take end bytes.now) }
+    ensures want_of_memory { IfErr result (λ fault. fault ≡ ShellFault.Memory) }
+{
+    Vec::from_slice(alloc, &bytes[..end]).map_err(|_| ShellFault::Memory)
+}
+
+// A run whose source stands at the front of the input.
+fn run_from_input<R: Read, W: Write>(
+    alloc: Global,
+    workers: u8,
+    reader: &mut R,
+    writer: &mut W,
+) -> Result<Ended, ShellFault>
+    requires at_least_one { 0 < workers }
+    requires at_most_eight { workers ≤ 8 }
+    ensures to_end { IfOk result (λ ended. RunsToEnd (R.remaining reader.old) (R.remaining reader.new) (W.contents writer.old) (W.contents writer.new)
+        workers None ended.status ended.machine) }
+    ensures broken_off { IfErr result (BreaksOffRun (R.remaining reader.old) (R.remaining reader.new) (W.contents writer.old) (W.contents writer.new)
+        workers None) }
+{
+    let mut input = Input::new(alloc);
+    let (end, after) = read_source(&mut input, reader)?;
+    let source = source_bytes(alloc, &input.pending, end)?;
+    match after {
+        Some(after) => {
+            input.discard(after);
+            serve(alloc, workers, &source, &mut input, reader, writer)
+        }
+        None => serve_alone(alloc, workers, &source, writer),
+    }
+}
+
+fn run_by<R: Read, W: Write>(
+    alloc: Global,
+    reader: &mut R,
+    writer: &mut W,
+    workers: u8,
+    source: Option<&[u8]>,
+) -> Result<Ended, ShellFault>
+    requires at_least_one { 0 < workers }
+    requires at_most_eight { workers ≤ 8 }
+    ensures to_end { IfOk result (λ ended. RunsToEnd (R.remaining reader.old) (R.remaining reader.new) (W.contents writer.old) (W.contents writer.new)
+        workers (option_copied source.entry) ended.status ended.machine) }
+    ensures broken_off { IfErr result (BreaksOffRun (R.remaining reader.old) (R.remaining reader.new) (W.contents writer.old) (W.contents writer.new)
+        workers (option_copied source.entry)) }
+{
+    match source {
+        Some(source) => serve(
+            alloc,
+            workers,
+            source,
+            &mut Input::new(alloc),
+            reader,
+            writer,
+        ),
+        None => run_from_input(alloc, workers, reader, writer),
+    }
+}
+
+/// Reads a source, unless one is handed in, and commands, and answers each before it reads on.
+///
+/// Bytes are taken from the reader in pieces, up to 2^32 of them, and each reply is written and flushed before the
+/// next read. Without a fault it stops at the end of the input, at the command `quit`, or where a source that was read
+/// to its end is refused. Faults:
+/// - `Read` (H3): a read failed, or 2^32 reads were made.
+/// - `Write` (H4): a write or a flush failed.
+/// - `Memory` (H5): there was no memory, in whatever part.
+pub fn run<R: Read, W: Write>(
+    alloc: Global,
+    reader: &mut R,
+    writer: &mut W,
+    options: Options<'_>,
+) -> Result<Ended, ShellFault>
+    requires at_least_one_worker { 0 < options.workers }
+    requires at_most_eight_workers { options.workers ≤ 8 }
+
+    // What was written is the script of the bytes that were taken, and nothing further could change it.
+    ensures runs_to_end { IfOk result (λ ended. RunsToEnd (R.remaining reader.old) (R.remaining reader.new) (W.contents writer.old) (W.contents writer.new)
+        options.entry.workers (option_copied options.entry.source) ended.status ended.machine) }
+
+    // So it is the script of all that the reader had.
+    ensures writes_the_script { OnOk result (IfSome (R.remaining reader.old) (λ input.
+        WritesScript (W.contents writer.old) (W.contents writer.new) options.entry.workers (option_copied options.entry.source) input)) }
+
+    // After a fault it is a beginning of the script of the bytes that were taken.
+    ensures begun_on_error { IfErr result (BreaksOffRun (R.remaining reader.old) (R.remaining reader.new) (W.contents writer.old) (W.contents writer.new)
+        options.entry.workers (option_copied options.entry.source)) }
+{
+    run_by(alloc, reader, writer, options.workers, options.source)
+}
