@@ -16,10 +16,8 @@ use Rattle.om_parser.specs.UnitReading.{optional, declarator_after, further_at, 
 use Rattle.om_parser.proofs.Outcomes.{ok}
 use Rattle.om_parser.proofs.Again.{take_mark_again, mark_again, name_again, number_again}
 use Rattle.om_parser.proofs.Shorter.{further_some}
+use Rattle.om_parser.proofs.DeclarationSound.{IsAny}
 use Rattle.om_parser.proofs.ItemsComplete.{AreAgain}
-
-abbrev pub IsAny : {A : Type 0} → A → Type 0
-IsAny a = Unit {0}
 
 abbrev pub NoInitializer : List Token → Type 0
 NoInitializer ts = take_mark punctuators.Equal ts ≡ None

@@ -24,9 +24,6 @@ memory_only : (f : SourceFault) → f ≡ no_memory → f.code ≡ codes.Memory
 memory_only f e = ap (λ (g : SourceFault). g.code) e
 
 module _ (ts : List Token) where
-  Read : Result units.Unit SourceFault → Type 0
-  Read r = Reads view_unit r (unit_at accepted ts)
-
   pub is_found : (r : Result units.Unit SourceFault) → Reads view_unit r (unit_at accepted ts) → IfOk r (λ unit. IsTreeOf ts (view_unit unit))
   is_found (Ok u) h = let s = unit_sound accepted ts (view_unit u) h in record { formed = s.0; spelled = s.1 }
   is_found (Err f) h = tt

@@ -19,7 +19,8 @@ use Rattle.om_parser.proofs.Outcomes.{some}
 use Rattle.om_parser.proofs.Again.{take_mark_again, mark_again, word_again, name_again, IsAnswer, bind_answer}
 use Rattle.om_parser.proofs.Shorter.{item_some}
 use Rattle.om_parser.proofs.ItemsComplete.{flat_all, AreAgain, until_again}
-use Rattle.om_parser.proofs.DeclarationComplete.{IsAny, NoInitializer, all_any, declarator_again, all_further_again, further_none, no_parameters}
+use Rattle.om_parser.proofs.DeclarationSound.{IsAny}
+use Rattle.om_parser.proofs.DeclarationComplete.{NoInitializer, all_any, declarator_again, all_further_again, further_none, no_parameters}
 use Rattle.om_parser.proofs.StatementComplete.{block_again}
 
 module _ (l : Limits) where

@@ -9,6 +9,7 @@ use Rattle.om_parser.specs.Tree.{ExpressionTree, Name, Constant, Paren, Binary, 
 abbrev pub binary_level : BinaryOperator → ℕ
 binary_level binaries.Add = 7
 
+-- how tightly the outermost operator of an expression binds
 abbrev pub level : ExpressionTree → ℕ
 level (Name n) = 10
 level (Constant n) = 10
@@ -40,9 +41,11 @@ IsStatement (Return at None semicolon) = ⊥
 unfoldable pub IsFunction : FunctionTree → Type 0
 IsFunction f = (f.name.text ≡ codes "main") × All IsStatement f.body.statements
 
+-- any declaration, and `main`
 unfoldable pub IsItem : ItemTree → Type 0
 IsItem (Declaration d) = Unit {0}
 IsItem (Function f) = IsFunction f
 
+-- a whole source (C17 6.9)
 unfoldable pub IsUnit : UnitTree → Type 0
 IsUnit u = All IsItem u.items

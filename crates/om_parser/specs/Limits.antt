@@ -23,10 +23,12 @@ expressions_of_statement (Expression e semicolon) = e ∷ []
 expressions_of_statement (Return at (Some e) semicolon) = e ∷ []
 expressions_of_statement (Return at None semicolon) = []
 
+-- those of the function's body
 abbrev pub expressions_of_item : ItemTree → List ExpressionTree
 expressions_of_item (Declaration d) = []
 expressions_of_item (Function f) = flat_map expressions_of_statement f.body.statements
 
+-- those of a whole source
 unfoldable pub whole_expressions : UnitTree → List ExpressionTree
 whole_expressions u = flat_map expressions_of_item u.items
 
@@ -39,9 +41,11 @@ pub record Limits : Type 0 where
 abbrev pub accepted : Limits
 accepted = record { nested = NESTING_LIMIT; tokens = TOKEN_LIMIT }
 
+-- the parentheses and the tokens of an expression keep these limits
 unfoldable pub IsWithin : Limits → ExpressionTree → Type 0
 IsWithin l e = (nesting e ≤ l.nested) × (length (expression_spelling e) ≤ l.tokens)
 
+-- each whole expression of a source keeps the limits
 unfoldable pub IsWithinLimits : UnitTree → Type 0
 IsWithinLimits u = All (IsWithin accepted) (whole_expressions u)
 

@@ -15,9 +15,11 @@ use Rattle.om_lexer.specs.declared.token.TokenKind.TheVariants as kinds
 use Rattle.om_parser.specs.declared.tree.Name as names
 use Rattle.om_parser.specs.declared.tree.Number.{Number}
 
+-- what reading gives: a value, or the fault that stops it
 abbrev pub Outcome : Type 0 → Type 0
 Outcome A = Result A SourceFault
 
+-- the next step, where this one gives a value
 infixl 10 ◌>>=◌
 abbrev pub ◌>>=◌ : {A B : Type 0} → Outcome A → (A → Outcome B) → Outcome B
 (Ok x) >>= f = f x
@@ -37,12 +39,15 @@ abbrev pub place : List Token → ℕ
 place [] = 4294967295
 place (t ∷ ts) = t.span.start
 
+-- no tree goes on with the first of these tokens
 abbrev pub syntax : List Token → SourceFault
 syntax ts = record { code = codes.Syntax; at = place ts }
 
+-- a limit is passed at this token
 abbrev pub too_deep : Span → SourceFault
 too_deep s = record { code = codes.TooDeep; at = s.start }
 
+-- what must stand first
 abbrev pub known : {A : Type 0} → List Token → Option A → Outcome A
 known ts (Some x) = Ok x
 known ts None = Err (syntax ts)
@@ -52,49 +57,63 @@ unfoldable pub take : {A : Type 0} → (Token → Option A) → List Token → O
 take f [] = None
 take f (t ∷ ts) = choose (f t) (λ x. Some (x, ts)) None
 
+-- whether two punctuators are one
 unfoldable pub same_mark : Punctuator → Punctuator → Bool
 same_mark = sameb the_punctuators
 
+-- whether two keywords are one
 unfoldable pub same_word : Keyword → Keyword → Bool
 same_word = sameb the_keywords
 
+-- the span of a token of this kind and span, if it is this punctuator
 abbrev pub mark_of : Punctuator → TokenKind → Span → Option Span
 mark_of p (kinds.Punctuator q) s = if same_mark q p then Some s else None
 mark_of p _ s = None
 
+-- the same of a keyword
 abbrev pub word_of : Keyword → TokenKind → Span → Option Span
 word_of k (kinds.Keyword j) s = if same_word j k then Some s else None
 word_of k _ s = None
 
+-- the name that a token is
 abbrev pub name_of : TokenKind → Span → Option names.Name
 name_of (kinds.Name text) s = Some (record { text = text; span = s })
 name_of _ s = None
 
+-- the constant that a token is
 abbrev pub number_of : TokenKind → Span → Option Number
 number_of (kinds.Constant value) s = Some (record { value = value; span = s })
 number_of _ s = None
 
+-- this punctuator, if it stands first
 unfoldable pub take_mark : Punctuator → List Token → Option (Span × List Token)
 take_mark p = take (λ t. mark_of p t.kind t.span)
 
+-- this keyword, if it stands first
 unfoldable pub take_word : Keyword → List Token → Option (Span × List Token)
 take_word k = take (λ t. word_of k t.kind t.span)
 
+-- a name, if one stands first
 unfoldable pub take_name : List Token → Option (names.Name × List Token)
 take_name = take (λ t. name_of t.kind t.span)
 
+-- a constant, if one stands first
 unfoldable pub take_number : List Token → Option (Number × List Token)
 take_number = take (λ t. number_of t.kind t.span)
 
+-- this punctuator, which must stand first
 unfoldable pub mark_at : Punctuator → Reader Span
 mark_at p ts = known ts (take_mark p ts)
 
+-- this keyword, which must stand first
 unfoldable pub word_at : Keyword → Reader Span
 word_at k ts = known ts (take_word k ts)
 
+-- a name, which must stand first
 unfoldable pub name_at : Reader names.Name
 name_at ts = known ts (take_name ts)
 
+-- a constant, which must stand first
 unfoldable pub number_at : Reader Number
 number_at ts = known ts (take_number ts)
 
@@ -102,3 +121,8 @@ number_at ts = known ts (take_number ts)
 abbrev pub Reads : {X Y : Type 0} → (X → Y) → Result X SourceFault → Outcome Y → Type 0
 Reads f (Ok x) read = read ≡ Ok (f x)
 Reads f (Err e) read = (e ≡ no_memory) ⊎ (read ≡ Err e)
+
+-- the same of a function that takes no memory
+abbrev pub ReadsAlways : {X Y : Type 0} → (X → Y) → Result X SourceFault → Outcome Y → Type 0
+ReadsAlways f (Ok x) read = read ≡ Ok (f x)
+ReadsAlways f (Err e) read = read ≡ Err e

@@ -31,12 +31,14 @@ until ender item (suc k) ts = choose (ender ts)
 unfoldable pub value_at : Limits → (begins : List Token) → Reader ExpressionTree
 value_at l begins ts = sum_at (length begins - l.tokens) l.nested ts
 
+-- a value and its semicolon, behind `return` (C17 6.8.6.4)
 unfoldable pub return_after : Limits → Span → Reader StatementTree
 return_after l at ts = do
   e ← value_at l ts ts
   s ← mark_at punctuators.Semicolon e.1
   Ok (Return at (Some e.0) s.0, s.1)
 
+-- a name, `=`, a value and a semicolon (C17 6.8.3)
 unfoldable pub assignment_at : Limits → Reader StatementTree
 assignment_at l ts = do
   n ← name_at ts
@@ -45,9 +47,11 @@ assignment_at l ts = do
   s ← mark_at punctuators.Semicolon e.1
   Ok (Expression (Assign (Name n.0) assigns.Set q.0 e.0) s.0, s.1)
 
+-- a statement (C17 6.8)
 unfoldable pub statement_at : Limits → Reader StatementTree
 statement_at l ts = choose (take_word keywords.Return ts) (λ r. return_after l r.0 r.1) (assignment_at l ts)
 
+-- statements in braces (C17 6.8.2)
 unfoldable pub block_at : Limits → Reader BlockTree
 block_at l ts = do
   o ← mark_at punctuators.OpenBrace ts
@@ -56,11 +60,13 @@ block_at l ts = do
 
 -- ---- declarations
 
+-- the initializer, where one stands, behind the declared name (C17 6.7.6)
 unfoldable pub declarator_after : names.Name → Reader Declarator
 declarator_after name ts = choose (take_mark punctuators.Equal ts)
     (λ q. let m = optional (take_mark punctuators.Minus q.1) q.1 in number_at m.1 >>= λ k. Ok (record { name = name; initializer = Some (record { equal = q.0; minus = m.0; number = k.0 }) }, k.1))
     (Ok (record { name = name; initializer = None }, ts))
 
+-- a comma and a declarator
 unfoldable pub further_at : Reader (Span × Declarator)
 further_at ts = do
   c ← mark_at punctuators.Comma ts
@@ -68,6 +74,7 @@ further_at ts = do
   d ← declarator_after n.0 n.1
   Ok ((c.0, d.0), d.1)
 
+-- the rest of a declaration, behind `int` and the first name (C17 6.7)
 unfoldable pub declaration_after : Span → names.Name → Reader ItemTree
 declaration_after int name ts = do
   d ← declarator_after name ts
@@ -76,6 +83,7 @@ declaration_after int name ts = do
 
 -- ---- functions and the whole
 
+-- the rest of a function, behind its left parenthesis (C17 6.9.1)
 unfoldable pub function_after : Limits → Span → names.Name → Span → Reader ItemTree
 function_after l result name left ts = do
   let v = optional (take_word keywords.Void ts) ts
@@ -87,12 +95,14 @@ function_after l result name left ts = do
 unfoldable pub take_parameters : names.Name → List Token → Option (Span × List Token)
 take_parameters name ts = if bytes_eq name.text (codes "main") then take_mark punctuators.OpenParen ts else None
 
+-- a declaration or a function (C17 6.9)
 unfoldable pub item_at : Limits → Reader ItemTree
 item_at l ts = do
   i ← word_at keywords.Int ts
   n ← name_at i.1
   choose (take_parameters n.0 n.1) (λ p. function_after l i.0 n.0 p.0 p.1) (declaration_after i.0 n.0 n.1)
 
+-- the end of the source, where nothing stands behind it
 abbrev pub end_of : Token → List Token → Option (Span × List Token)
 end_of t [] = end_in t.kind t.span
   where
@@ -106,6 +116,7 @@ unfoldable pub take_end : List Token → Option (Span × List Token)
 take_end [] = None
 take_end (t ∷ ts) = end_of t ts
 
+-- all of the tokens, as a unit
 unfoldable pub unit_at : Limits → List Token → Outcome UnitTree
 unit_at l ts = do
   u ← until take_end (item_at l) (length ts) ts

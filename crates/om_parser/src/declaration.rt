@@ -2,7 +2,7 @@
 
 ghost use Rattle.std.specs.Prelude.{◌≡◌, length};
 ghost use Rattle.om_lexer.specs.declared.token.Punctuator.TheVariants.{Semicolon};
-ghost use Rattle.om_parser.specs.Reading.{take_mark, Reads};
+ghost use Rattle.om_parser.specs.Reading.{take_mark, Reads, ReadsAlways};
 ghost use Rattle.om_parser.specs.Tree as trees;
 ghost use Rattle.om_parser.specs.UnitReading.{until, declarator_after, further_at, declaration_after};
 ghost use Rattle.om_parser.specs.View.{view_declaration};
@@ -12,7 +12,7 @@ use crate::tree::{Declaration, Declarator, Initializer, Name};
 use om_lexer::{Punctuator, SourceFault, Span, Token};
 use std::alloc::Global;
 
-// The rest of a declaration, of which `int` and the first name are taken.
+/// The rest of a declaration, of which `int` and the first name are taken.
 #[tactic(auto, unfolding(crate::specs::UnitReading::declaration_after))]
 pub fn declaration_after(
     alloc: Global,
@@ -35,7 +35,7 @@ pub fn declaration_after(
     ))
 }
 
-// Declarators behind commas up to a semicolon, its span, and the tokens behind it.
+/// Declarators behind commas up to a semicolon, its span, and the tokens behind it.
 fn further_declarators(
     alloc: Global,
     tokens: &[Token],
@@ -54,7 +54,7 @@ fn further_declarators(
     }
 }
 
-// A comma, the declarator behind it, and the tokens behind that.
+/// A comma, the declarator behind it, and the tokens behind that.
 #[tactic(auto, unfolding(crate::specs::UnitReading::further_at))]
 fn further_declarator(
     alloc: Global,
@@ -68,10 +68,10 @@ fn further_declarator(
     Ok((comma, declarator, rest))
 }
 
-// The rest of a declarator, of which the name is taken.
+/// The rest of a declarator, of which the name is taken.
 #[tactic(auto, unfolding(crate::specs::UnitReading::declarator_after))]
 fn declarator_after(name: Name, tokens: &[Token]) -> Result<(Declarator, &[Token]), SourceFault>
-    ensures { Reads (λ x. (x.0, x.1.now)) result (declarator_after name tokens.now) }
+    ensures { ReadsAlways (λ x. (x.0, x.1.now)) result (declarator_after name tokens.now) }
 {
     let Some((equal, rest)) = take_mark(tokens, Punctuator::Equal) else {
         let initializer = None;

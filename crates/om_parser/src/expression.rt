@@ -10,6 +10,7 @@ use crate::tree::{BinaryOperator, Expression};
 use om_lexer::{Punctuator, SourceFault, Span, Token, TokenKind};
 use std::alloc::Global;
 
+/// The binary operator that a token of this kind is (C17 6.5.5 to 6.5.14).
 fn binary_operator(kind: &TokenKind) -> Option<BinaryOperator>
     ensures { result ≡ binary_of kind.now }
 {
@@ -19,7 +20,7 @@ fn binary_operator(kind: &TokenKind) -> Option<BinaryOperator>
     }
 }
 
-// The operator that stands first, its span, and the tokens behind it.
+/// The operator that stands first, its span, and the tokens behind it.
 #[tactic(auto, unfolding(crate::specs::ExpressionReading::take_binary, crate::specs::Reading::take))]
 fn take_binary(tokens: &[Token]) -> Option<(BinaryOperator, Span, &[Token])>
     ensures { option_map (λ x. ((x.0, x.1), x.2.now)) result ≡ take_binary tokens.now }
@@ -33,8 +34,8 @@ fn take_binary(tokens: &[Token]) -> Option<(BinaryOperator, Span, &[Token])>
     }
 }
 
-// Refuses the first of these tokens, at its span, where only the `beyond` tokens that the
-// expression may not have are left.
+/// Refuses the first of these tokens, at its span, where only the `beyond` tokens that the
+/// expression may not have are left.
 fn within(tokens: &[Token], span: Span, beyond: usize) -> Result<(), SourceFault>
     ensures { IsTakenWithin beyond span tokens.now result }
 {
@@ -44,7 +45,7 @@ fn within(tokens: &[Token], span: Span, beyond: usize) -> Result<(), SourceFault
     Ok(())
 }
 
-// A sum, in at most `room` parentheses, and the tokens behind it.
+/// A sum, in at most `room` parentheses, and the tokens behind it.
 #[cycle(expression)]
 #[tactic(auto, unfolding(crate::specs::ExpressionReading::sum_at, crate::specs::ExpressionReading::sum_step))]
 pub fn sum(
@@ -70,7 +71,7 @@ pub fn sum(
     Ok((left, rest))
 }
 
-// A name, a constant or a sum in parentheses, and the tokens behind it.
+/// A name, a constant or a sum in parentheses, and the tokens behind it.
 #[cycle(expression)]
 #[tactic(auto, unfolding(crate::specs::ExpressionReading::primary_at, crate::specs::ExpressionReading::primary_step, crate::specs::ExpressionReading::sum_at, crate::specs::ExpressionReading::within))]
 fn primary(
@@ -97,7 +98,7 @@ fn primary(
     Ok((Expression::Name(name), rest))
 }
 
-// The rest of a sum in parentheses, of which the left one is taken.
+/// The rest of a sum in parentheses, of which the left one is taken.
 #[cycle(expression)]
 #[tactic(auto, unfolding(crate::specs::ExpressionReading::paren_after, crate::specs::ExpressionReading::sum_at, crate::specs::ExpressionReading::within, crate::specs::Reading::mark_at))]
 fn paren_after(

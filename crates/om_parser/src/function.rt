@@ -13,8 +13,8 @@ use crate::tree::{Function, Name};
 use om_lexer::{Keyword, Punctuator, SourceFault, Span, Token};
 use std::alloc::Global;
 
-// The span of the parenthesis that makes a function of this name, which is `main`, and the
-// tokens behind it.
+/// The span of the parenthesis that makes a function of this name, which is `main`, and the
+/// tokens behind it.
 #[tactic(auto, unfolding(crate::specs::UnitReading::take_parameters))]
 pub fn take_parameters<'a>(name: &Name, tokens: &'a [Token]) -> Option<(Span, &'a [Token])>
     ensures { option_map (λ x. (x.0, x.1.now)) result ≡ take_parameters name.now tokens.now }
@@ -26,7 +26,7 @@ pub fn take_parameters<'a>(name: &Name, tokens: &'a [Token]) -> Option<(Span, &'
     }
 }
 
-// The rest of a function, of which all up to the left parenthesis is taken.
+/// The rest of a function, of which all up to the left parenthesis is taken.
 #[tactic(auto, unfolding(crate::specs::UnitReading::function_after))]
 pub fn function_after(
     alloc: Global,

@@ -14,3 +14,6 @@ pub use tree::{
     Initializer, Item, Name, Number, Statement, Unit,
 };
 pub use unit::{NESTING_LIMIT, TOKEN_LIMIT, one_tree, parse};
+
+#[cfg(test)]
+mod tests;

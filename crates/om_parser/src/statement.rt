@@ -14,7 +14,7 @@ use crate::unit::{NESTING_LIMIT, TOKEN_LIMIT};
 use om_lexer::{Keyword, Punctuator, SourceFault, Span, Token};
 use std::alloc::Global;
 
-// Statements in braces, and the tokens behind them.
+/// Statements in braces, and the tokens behind them.
 #[tactic(auto, unfolding(crate::specs::UnitReading::block_at))]
 pub fn block(alloc: Global, tokens: &[Token]) -> Result<(Block, &[Token]), SourceFault>
     ensures { Reads (λ x. (view_block x.0, x.1.now)) result (block_at accepted tokens.now) }
@@ -31,7 +31,7 @@ pub fn block(alloc: Global, tokens: &[Token]) -> Result<(Block, &[Token]), Sourc
     ))
 }
 
-// Statements up to a closing brace, its span, and the tokens behind it.
+/// Statements up to a closing brace, its span, and the tokens behind it.
 fn statements(
     alloc: Global,
     tokens: &[Token],
@@ -50,7 +50,7 @@ fn statements(
     }
 }
 
-// A statement, and the tokens behind it.
+/// A statement, and the tokens behind it.
 #[tactic(auto, unfolding(crate::specs::UnitReading::statement_at))]
 fn statement(alloc: Global, tokens: &[Token]) -> Result<(Statement, &[Token]), SourceFault>
     ensures { Reads (λ x. (view_statement x.0, x.1.now)) result (statement_at accepted tokens.now) }
@@ -61,7 +61,7 @@ fn statement(alloc: Global, tokens: &[Token]) -> Result<(Statement, &[Token]), S
     }
 }
 
-// The value that is returned, its semicolon, and the tokens behind them.
+/// The value that is returned, its semicolon, and the tokens behind them.
 #[tactic(auto, unfolding(crate::specs::UnitReading::return_after))]
 fn return_after(
     alloc: Global,
@@ -75,7 +75,7 @@ fn return_after(
     Ok((Statement::Return(at, Some(value), semicolon), rest))
 }
 
-// An assignment to a name, and the tokens behind it.
+/// An assignment to a name, and the tokens behind it.
 #[tactic(auto, unfolding(crate::specs::UnitReading::assignment_at))]
 fn assignment(alloc: Global, tokens: &[Token]) -> Result<(Statement, &[Token]), SourceFault>
     ensures { Reads (λ x. (view_statement x.0, x.1.now)) result (assignment_at accepted tokens.now) }
@@ -93,7 +93,7 @@ fn assignment(alloc: Global, tokens: &[Token]) -> Result<(Statement, &[Token]), 
     Ok((Statement::Expression(assignment, semicolon), rest))
 }
 
-// A sum, in a whole expression that begins with the first token of `begins`.
+/// A sum, in a whole expression that begins with the first token of `begins`.
 #[tactic(auto, unfolding(crate::specs::UnitReading::value_at))]
 fn value<'a>(
     alloc: Global,

@@ -31,7 +31,8 @@ pub const TOKEN_LIMIT: usize = 4096;
 /// assignments and returns of sums. Refusals:
 /// - S0 at byte 0: no memory.
 /// - S3: no tree of any size has these tokens. Its place is the start of the first token
-///   that no well-formed unit has there, after the tokens before it.
+///   that no well-formed unit has there, after the tokens before it. Tokens that lack the
+///   end of the source are S3 at 4294967295, past every source.
 /// - S16: at this token an expression has more than `TOKEN_LIMIT` tokens, or its parentheses
 ///   nest deeper than `NESTING_LIMIT`. Where a token is both, it is S3.
 pub fn parse(alloc: Global, tokens: &[Token]) -> Result<Unit, SourceFault>
@@ -54,7 +55,7 @@ pub fn one_tree()
     ensures { (unit other : UnitTree) → IsUnit unit → IsUnit other → unit_spelling unit ≡ unit_spelling other → unit ≡ other }
 {}
 
-// The unit that these tokens are.
+/// The unit that these tokens are.
 #[tactic(auto, unfolding(crate::specs::UnitReading::unit_at))]
 fn unit(alloc: Global, tokens: &[Token]) -> Result<Unit, SourceFault>
     ensures { Reads view_unit result (unit_at accepted tokens.now) }
@@ -63,7 +64,7 @@ fn unit(alloc: Global, tokens: &[Token]) -> Result<Unit, SourceFault>
     Ok(Unit { items, end })
 }
 
-// Declarations and functions up to the end of the source, and its span.
+/// Declarations and functions up to the end of the source, and its span.
 fn items(alloc: Global, tokens: &[Token]) -> Result<(Vec<Item>, Span), SourceFault>
     ensures { Reads (λ x. (map view_item x.0.items, x.1, [])) result (until take_end (item_at accepted) (length tokens.now) tokens.now) }
 {
@@ -79,7 +80,7 @@ fn items(alloc: Global, tokens: &[Token]) -> Result<(Vec<Item>, Span), SourceFau
     }
 }
 
-// The span of the end of the source, where nothing else is left.
+/// The span of the end of the source, where nothing else is left.
 #[tactic(auto, unfolding(crate::specs::UnitReading::take_end))]
 fn take_end(tokens: &[Token]) -> Option<Span>
     ensures { option_map (λ x. (x, [])) result ≡ take_end tokens.now }
@@ -93,7 +94,7 @@ fn take_end(tokens: &[Token]) -> Option<Span>
     }
 }
 
-// A declaration or a function, and the tokens behind it.
+/// A declaration or a function, and the tokens behind it.
 #[tactic(auto, unfolding(crate::specs::UnitReading::item_at))]
 fn item(alloc: Global, tokens: &[Token]) -> Result<(Item, &[Token]), SourceFault>
     ensures { Reads (λ x. (view_item x.0, x.1.now)) result (item_at accepted tokens.now) }
