@@ -1,0 +1,94 @@
+//! The program: its words, its files and its exit status.
+#![tactic(auto)]
+
+ghost use Rattle.std.specs.Prelude.{◌<◌, ◌≤◌};
+
+mod file;
+mod outcome;
+#[cfg(test)]
+mod tests;
+mod words;
+
+use crate::file::read_all;
+use crate::outcome::{Outcome, status};
+use crate::words::{Words, words_in};
+use om_shell::{Options, ShellFault, run};
+use std::alloc::{AllocError, Global};
+use std::io;
+use std::process::ExitCode;
+use std::rt::Files;
+
+// The source in a file, if one is named.
+fn source_in<R: Files>(
+    rt: &R,
+    alloc: Global,
+    file: Option<&str>,
+) -> Result<Option<Vec<u8>>, ShellFault> {
+    let Some(path) = file else {
+        return Ok(None);
+    };
+    match std::fs::open(rt, path) {
+        Ok(mut reader) => Ok(Some(read_all(alloc, &mut reader)?)),
+        Err(_) => Err(ShellFault::Read),
+    }
+}
+
+// Runs the shell over standard input and output, and answers its status.
+fn session<R: Files + Input + Print>(rt: &R, alloc: Global, words: Words) -> Result<u8, ShellFault>
+    requires least { 0 < words.workers }
+    requires most { words.workers ≤ 8 }
+{
+    let source = source_in(rt, alloc, words.file)?;
+    let mut reader = rt.reader();
+    let mut writer = io::writer(rt);
+    let options = Options {
+        workers: words.workers,
+        source: source.as_ref().map(|bytes| bytes.as_slice()),
+    };
+    let ended = run(alloc, &mut reader, &mut writer, options)?;
+    Ok(ended.status)
+}
+
+// Does what the words of the command line ask for, the first of which names the program.
+fn outcome_for(rt: &HostRuntime, words: &[&str]) -> Result<Outcome, AllocError> {
+    let alloc = rt.alloc();
+    match words_in(alloc, words) {
+        Ok(words) => match session(rt, alloc, words) {
+            Ok(status) => Ok(Outcome::Ran(status)),
+            Err(fault) => Ok(Outcome::Fault(fault)),
+        },
+        Err(error) if error.kind() == clap::error::ErrorKind::OutOfMemory => Err(AllocError),
+        Err(error) => {
+            let _ = rt.eprint(&error);
+            Ok(Outcome::Words)
+        }
+    }
+}
+
+// Reads the command line and does what it asks for.
+fn program(rt: &HostRuntime) -> Result<Outcome, AllocError> {
+    let alloc = rt.alloc();
+    match std::env::args(rt) {
+        Ok(args) => {
+            let words: Vec<String> = args.collect(alloc)?;
+            let words: Vec<&str> = words.iter().map(|word| word.as_str()).collect(alloc)?;
+            outcome_for(rt, words.as_slice())
+        }
+        Err(error) if error.kind() == io::ErrorKind::OutOfMemory => Err(AllocError),
+        Err(error) => {
+            let _ = rt.eprintln(error);
+            Ok(Outcome::Words)
+        }
+    }
+}
+
+fn main(rt: HostRuntime) -> ExitCode {
+    let outcome = match program(&rt) {
+        Ok(outcome) => outcome,
+        Err(_) => Outcome::Fault(ShellFault::Memory),
+    };
+    if let Outcome::Fault(fault) = outcome {
+        let _ = rt.eprintln(fault);
+    }
+    ExitCode::from(status(outcome))
+}

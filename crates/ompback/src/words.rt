@@ -1,0 +1,69 @@
+//! The words of the command line.
+ghost use Rattle.std.specs.Prelude.{◌<◌, ◌≤◌, IfOk};
+
+use clap::{Arg, ArgAction, Command, Error};
+use std::alloc::Global;
+
+/// What the words ask for.
+#[derive(Clone, Copy, Debug)]
+pub struct Words<'a> {
+    /// How many workers there are, 1 to 8.
+    pub workers: u8,
+    /// The file of the source; where there is none, the source is at the front of the input.
+    pub file: Option<&'a str>,
+}
+
+const ABOUT: &str = "Steps an OpenMP program in C forwards and backwards, one worker at a time.";
+
+const COMMANDS: &str =
+    "Without FILE, standard input holds the source up to a line `%%`, and then commands.
+With FILE, standard input holds commands alone. Each is a line:
+  step W      worker W takes its next step
+  undo W      takes back the last step of worker W, where no later step conflicts with it
+  print VAR   the value of a global variable
+  quit        ends the session
+
+Exit status:
+  0  at `quit` or the end of the commands
+  1  the source is refused; standard output tells why and where
+  2  wrong words, or help
+  3  a fault, told on standard error: H3 a read failed, H4 a write failed, H5 no memory";
+
+/// What the words ask for. An error is wrong words, a call for help, or want of memory.
+pub fn words_in<'a>(alloc: Global, words: &'a [&'a str]) -> Result<Words<'a>, Error>
+    ensures least { IfOk result (λ words. 0 < words.workers) }
+    ensures most { IfOk result (λ words. words.workers ≤ 8) }
+{
+    let threads = Arg::new(alloc, "threads")
+        .long("threads")
+        .value_name("N")
+        .help("How many workers there are, 1 to 8")
+        .default_value("2")
+        .action(ArgAction::Set)
+        .value_parser(clap::value_parser!(u8).range(1..=8));
+    let file = Arg::new(alloc, "file")
+        .value_name("FILE")
+        .help("The C source")
+        .action(ArgAction::Set);
+    let command = Command::new(alloc, "ompback")
+        .about(ABOUT)
+        .after_help(COMMANDS)
+        .arg(threads)?
+        .arg(file)?;
+    let matches = command.try_get_matches_from(words)?;
+    Ok(Words {
+        workers: workers_or_two(matches.get_one::<u8>("threads")),
+        file: matches.get_str("file"),
+    })
+}
+
+// The number of workers that is given, if it is one; it always is, by the parse.
+fn workers_or_two(given: Option<u8>) -> u8
+    ensures least { 0 < result }
+    ensures most { result ≤ 8 }
+{
+    match given {
+        Some(n) if 1 <= n && n <= 8 => n,
+        _ => 2,
+    }
+}
