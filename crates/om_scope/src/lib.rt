@@ -15,3 +15,6 @@ pub use resolved::{
     GlobalVariable, Resolved, ResolvedExpression, ResolvedFunction, ResolvedStatement, Variable,
 };
 pub use unit::resolve;
+
+#[cfg(test)]
+mod tests;

@@ -1,0 +1,118 @@
+//! Sources, and what resolving them answers.
+
+use crate::{
+    GLOBAL_CELL_LIMIT, Resolved, ResolvedExpression, ResolvedStatement, Variable, resolve,
+};
+use om_lexer::{SourceFault, lex};
+use om_parser::parse;
+use std::alloc::{AllocError, Global};
+use std::test::Fail;
+
+fn resolved(alloc: Global, source: &[u8]) -> Result<Resolved, SourceFault> {
+    let tokens = lex(alloc, source)?;
+    resolve(alloc, parse(alloc, tokens.as_slice())?)
+}
+
+/// The number and the byte of a refusal.
+fn refusal(alloc: Global, source: &[u8]) -> Option<(u8, u32)> {
+    match resolved(alloc, source) {
+        Ok(_) => None,
+        Err(fault) => Some((fault.code.number(), fault.at)),
+    }
+}
+
+#[test]
+fn near_misses_are_accepted(rt: HostRuntime) {
+    for source in [
+        "int main(void){}",
+        "int x; int main(){ x = x; } int y;",
+        "int x; int main(void){ return x; } int y, z = 1;",
+        "int mains, main1, Main; int main(void){ mains = Main; }",
+        "int printfs, omp_get_thread_nums; int main(void){ printfs = 1; }",
+        "int print, omp_get_num_thread; int main(void){ return print; }",
+        "int x; int main(void){ x = (x + 2147483647) + x; return x; x = 1; }",
+    ] {
+        assert_eq!(rt; refusal(rt.alloc(), source.as_bytes()), None, "{source}");
+    }
+}
+
+#[test]
+fn each_rule_is_answered_at_its_place(rt: HostRuntime) {
+    for (source, number, at) in [
+        // A name that no declaration before it declares.
+        ("int main(void){ y = 1; }", 7, 16),
+        ("int x; int main(void){ x = y; }", 7, 27),
+        ("int x; int main(void){ return (x + y); }", 7, 35),
+        ("int main(void){ x = 1; } int x;", 7, 16),
+        // A name that is declared again.
+        ("int x, x; int main(void){}", 8, 7),
+        ("int x; int y, x = 3; int main(void){}", 8, 14),
+        ("int x; int main(void){} int x;", 8, 28),
+        ("int main(void){} int main(void){}", 8, 21),
+        ("int main(void){} int x, main;", 8, 24),
+        ("int printf; int main(void){}", 8, 4),
+        ("int x, omp_get_thread_num; int main(void){}", 8, 7),
+        ("int omp_get_num_threads; int main(void){}", 8, 4),
+        // A function that is used as a variable, and a global named `main`.
+        ("int main;", 9, 4),
+        ("int x, main; int main(void){}", 9, 7),
+        ("int main(void){ main = 1; }", 9, 16),
+        ("int main(void){ return main; }", 9, 23),
+        ("int x; int main(void){ x = 1 + (printf); }", 9, 32),
+        ("int main(void){ omp_get_thread_num = 1; }", 9, 16),
+        ("int main(void){ return 1 + omp_get_num_threads; }", 9, 27),
+        // No function named `main`.
+        ("", 15, 0),
+        ("int x;", 15, 6),
+        ("int x; /* int main(void){} */ \n", 15, 31),
+    ] {
+        assert_eq!(rt;
+            refusal(rt.alloc(), source.as_bytes()),
+            Some((number, at)),
+            "{source}"
+        );
+    }
+}
+
+#[test]
+fn of_two_breaches_the_first_is_answered(rt: HostRuntime) {
+    for (source, number, at) in [
+        ("int main(void){ y = main; }", 7, 16),
+        ("int main(void){ main = y; }", 9, 16),
+        ("int x, x; int main(void){ y = 1; }", 8, 7),
+        ("int main(void){ y = 1; } int x, x;", 7, 16),
+        ("int x; int main(void){ x = a + b; }", 7, 27),
+        ("int x; int main(void){ x = b + (a + printf); }", 7, 27),
+        ("int x; int main(void){ x = printf + (a + b); }", 9, 27),
+        ("int main, x, x;", 9, 4),
+        ("int x, x, main;", 8, 7),
+        ("int x, x;", 8, 7),
+        ("int main; int main(void){}", 9, 4),
+    ] {
+        assert_eq!(rt;
+            refusal(rt.alloc(), source.as_bytes()),
+            Some((number, at)),
+            "{source}"
+        );
+    }
+}
+
+/// `int a0`, then `,a1` and so on, and `main`.
+fn with_globals(alloc: Global, count: u32) -> Result<String, AllocError> {
+    let mut source = String::from_str(alloc, "int a0")?;
+    for number in 1..count {
+        write!(source, ",a{number}")?;
+    }
+    source.push_str(";int main(void){}")?;
+    Ok(source)
+}
+
+#[test]
+fn the_first_global_past_the_limit_is_refused(rt: HostRuntime) -> Result<(), Fail> {
+    let alloc = rt.alloc();
+    let source = with_globals(alloc, GLOBAL_CELL_LIMIT + 1)?;
+    // Behind the name `a65536` stand `;int main(void){}`.
+    let at = source.len().saturating_sub(6 + 17);
+    assert_eq!(rt; refusal(alloc, source.as_bytes()), Some((11, at as u32)));
+    Ok(())
+}
