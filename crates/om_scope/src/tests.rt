@@ -116,3 +116,101 @@ fn the_first_global_past_the_limit_is_refused(rt: HostRuntime) -> Result<(), Fai
     assert_eq!(rt; refusal(alloc, source.as_bytes()), Some((11, at as u32)));
     Ok(())
 }
+
+/// The text of an expression, with `#3` for global 3.
+fn write_expression(text: &mut String, expression: &ResolvedExpression) -> Result<(), AllocError> {
+    match expression {
+        ResolvedExpression::Variable(Variable::Global(number)) => write!(text, "#{number}"),
+        ResolvedExpression::Constant(value) => write!(text, "{value}"),
+        ResolvedExpression::Binary(left, _, right) => {
+            text.push_str("(")?;
+            write_expression(text, left)?;
+            text.push_str(" + ")?;
+            write_expression(text, right)?;
+            text.push_str(")")
+        }
+    }
+}
+
+fn write_statement(text: &mut String, statement: &ResolvedStatement) -> Result<(), AllocError> {
+    let value = match statement {
+        ResolvedStatement::Assign {
+            line,
+            variable: Variable::Global(number),
+            value,
+        } => {
+            write!(text, "line {line}: #{number} = ")?;
+            value
+        }
+        ResolvedStatement::Return { line, value } => {
+            write!(text, "line {line}: return ")?;
+            value
+        }
+    };
+    write_expression(text, value)?;
+    text.push_str("; ")
+}
+
+fn write_resolved(text: &mut String, resolved: &Resolved) -> Result<(), AllocError> {
+    for global in resolved.globals.as_slice() {
+        let length = global.name.len();
+        let initial = global.initial;
+        write!(text, "{length} bytes = {initial}; ")?;
+    }
+    for function in resolved.functions.as_slice() {
+        let at = function.name_at;
+        write!(text, "function at {at}: ")?;
+        for statement in function.statements.as_slice() {
+            write_statement(text, statement)?;
+        }
+        let closing = function.closing_line;
+        write!(text, "end at line {closing}; ")?;
+    }
+    Ok(())
+}
+
+#[test]
+fn uses_have_their_globals_and_statements_their_lines(rt: HostRuntime) -> Result<(), Fail> {
+    let alloc = rt.alloc();
+    let source = "int a = 5, bb;\nint ccc = -7, d = -0, e = 0x10;\nint main(void) {\n  \
+        bb = (a + (ccc + 010))\n    + bb;\n\n  return\n  e;\n}\nint f;\n";
+    let resolved = resolved(alloc, source.as_bytes())?;
+    let mut text = String::new(alloc);
+    write_resolved(&mut text, &resolved)?;
+    assert_eq!(rt;
+        text.as_str(),
+        "1 bytes = 5; 2 bytes = 0; 3 bytes = -7; 1 bytes = 0; 1 bytes = 16; 1 bytes = 0; \
+        function at 51: line 4: #1 = ((#0 + (#2 + 8)) + #1); line 7: return #4; end at line 9; "
+    );
+    Ok(())
+}
+
+/// `open` parentheses, a 1, as many that close, and `count` times `+1`.
+fn with_sum(alloc: Global, open: u32, count: u32) -> Result<String, AllocError> {
+    let mut source = String::from_str(alloc, "int x; int main(void){ x = ")?;
+    for _ in 0..open {
+        source.push_str("(")?;
+    }
+    source.push_str("1")?;
+    for _ in 0..open {
+        source.push_str(")")?;
+    }
+    for _ in 0..count {
+        source.push_str("+1")?;
+    }
+    source.push_str("; }")?;
+    Ok(source)
+}
+
+#[test]
+fn the_longest_sums_are_resolved(rt: HostRuntime) -> Result<(), Fail> {
+    for (open, count) in [(0, 2046), (128, 1918)] {
+        let source = with_sum(rt.alloc(), open, count)?;
+        assert_eq!(rt;
+            refusal(rt.alloc(), source.as_bytes()),
+            None,
+            "{open} {count}"
+        );
+    }
+    Ok(())
+}
