@@ -2,8 +2,8 @@
 
 ghost use Rattle.std.specs.Prelude.{◌≡◌, ◌<◌, ◌++◌, [], ◌∷◌, false, Some, OnOk, IfOk, IfErr, map};
 ghost use Rattle.om_parser.specs.View.{view_declaration};
-ghost use Rattle.om_scope.specs.Breaches.{declarator_breaches, declarators_breaches, global_breaches, initializer_breaches, redeclared_breaches};
-ghost use Rattle.om_scope.specs.Outcomes.{Refuses, Resolves};
+ghost use Rattle.om_scope.specs.Breaches.{declarator_breaches, declarators_breaches, first_of, global_breaches, initializer_breaches, redeclared_breaches};
+ghost use Rattle.om_scope.specs.Outcomes.{ResolvesExactly, Refuses};
 ghost use Rattle.om_scope.specs.Resolution.{global_of, initial_of};
 ghost use Rattle.om_scope.specs.Scopes.{after_declarator, after_declarators, behind_commas, declarators_of, globals_in, is_declared};
 
@@ -28,7 +28,7 @@ pub fn copy_of(alloc: Global, name: &Name) -> Result<Seq<u8>, AllocError>
 /// That a name is not declared in this scope yet: S8.
 pub fn check_new(symbols: &Symbols, name: &Name) -> Result<(), SourceFault>
     ensures is_new { OnOk result (is_declared symbols.now name.now.text ≡ false) }
-    ensures refused { IfErr result (Refuses (redeclared_breaches symbols.now name.now)) }
+    ensures refused { IfErr result (λ fault. first_of (redeclared_breaches symbols.now name.now) ≡ Some fault) }
 {
     if symbols.is_declared(name.text.as_slice()) {
         return Err(SourceFault {
@@ -43,7 +43,7 @@ pub fn check_new(symbols: &Symbols, name: &Name) -> Result<(), SourceFault>
 fn check_global(symbols: &Symbols, name: &Name) -> Result<(), SourceFault>
     ensures no_breach { OnOk result (global_breaches symbols.now name.now ≡ []) }
     ensures has_room { OnOk result (globals_in symbols.now < GLOBAL_CELL_LIMIT) }
-    ensures refused { IfErr result (Refuses (global_breaches symbols.now name.now)) }
+    ensures refused { IfErr result (λ fault. first_of (global_breaches symbols.now name.now) ≡ Some fault) }
 {
     let at = name.span.start;
     if name.text.as_slice() == b"main".as_slice() {
@@ -63,7 +63,7 @@ fn check_global(symbols: &Symbols, name: &Name) -> Result<(), SourceFault>
 
 /// What a global holds at the start: S10.
 fn initial_of(initializer: &Option<Initializer>) -> Result<i32, SourceFault>
-    ensures { Resolves (λ value. value) result (initializer_breaches initializer.now) (Some (initial_of initializer.now)) }
+    ensures { ResolvesExactly (λ value. value) result (initializer_breaches initializer.now) (Some (initial_of initializer.now)) }
 {
     let Some(initializer) = initializer else {
         return Ok(0);

@@ -4,7 +4,7 @@ ghost use Rattle.std.specs.Prelude.{pos, ◌≤◌, Some};
 ghost use Rattle.om_parser.specs.Formed.{IsExpression, level};
 ghost use Rattle.om_parser.specs.View.{view_expression};
 ghost use Rattle.om_scope.specs.Breaches.{use_breaches, constant_breaches, expression_breaches};
-ghost use Rattle.om_scope.specs.Outcomes.{Resolves};
+ghost use Rattle.om_scope.specs.Outcomes.{ResolvesExactly, Resolves};
 ghost use Rattle.om_scope.specs.Resolution.{variable_named, resolved_expression};
 ghost use Rattle.om_scope.specs.ResolvedView.{view_resolved_expression};
 ghost use Rattle.om_scope.specs.Scopes.{body_scopes};
@@ -18,7 +18,7 @@ use std::alloc::Global;
 /// The variable that a name stands for in a function's body: S7, S9.
 pub fn variable_named(symbols: &Symbols, name: &Name) -> Result<Variable, SourceFault>
     ensures { let scopes = body_scopes symbols.now in
-        Resolves (λ variable. variable) result (use_breaches scopes name.now) (variable_named scopes name.now) }
+        ResolvesExactly (λ variable. variable) result (use_breaches scopes name.now) (variable_named scopes name.now) }
 {
     let at = name.span.start;
     match symbols.meaning_of(name.text.as_slice()) {
@@ -36,7 +36,7 @@ pub fn variable_named(symbols: &Symbols, name: &Name) -> Result<Variable, Source
 
 /// The value of a constant: S10.
 pub fn constant_of(number: &Number) -> Result<i32, SourceFault>
-    ensures { Resolves (λ value. value) result (constant_breaches number.now) (Some (pos number.now.value)) }
+    ensures { ResolvesExactly (λ value. value) result (constant_breaches number.now) (Some (pos number.now.value)) }
 {
     if number.value > 2147483647 {
         return Err(SourceFault {

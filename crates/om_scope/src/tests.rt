@@ -1,7 +1,7 @@
 //! Sources, and what resolving them answers.
 
 use crate::{
-    GLOBAL_CELL_LIMIT, Resolved, ResolvedExpression, ResolvedStatement, Variable, resolve,
+    GLOBAL_CELL_LIMIT, Resolved, ResolvedExpression, ResolvedStatement, Variable, laws, resolve,
 };
 use om_lexer::{SourceFault, lex};
 use om_parser::parse;
@@ -14,10 +14,10 @@ fn resolved(alloc: Global, source: &[u8]) -> Result<Resolved, SourceFault> {
 }
 
 /// The number and the byte of a refusal.
-fn refusal(alloc: Global, source: &[u8]) -> Option<(u8, u32)> {
+fn refusal(alloc: Global, source: &[u8]) -> Option<(u8, usize)> {
     match resolved(alloc, source) {
         Ok(_) => None,
-        Err(fault) => Some((fault.code.number(), fault.at)),
+        Err(fault) => Some((fault.code.number(), fault.at as usize)),
     }
 }
 
@@ -113,7 +113,7 @@ fn the_first_global_past_the_limit_is_refused(rt: HostRuntime) -> Result<(), Fai
     let source = with_globals(alloc, GLOBAL_CELL_LIMIT + 1)?;
     // Behind the name `a65536` stand `;int main(void){}`.
     let at = source.len().saturating_sub(6 + 17);
-    assert_eq!(rt; refusal(alloc, source.as_bytes()), Some((11, at as u32)));
+    assert_eq!(rt; refusal(alloc, source.as_bytes()), Some((11, at)));
     Ok(())
 }
 
@@ -213,4 +213,10 @@ fn the_longest_sums_are_resolved(rt: HostRuntime) -> Result<(), Fail> {
         );
     }
     Ok(())
+}
+
+#[test]
+fn the_laws_are_stated() {
+    laws::numbers_name_globals();
+    laws::unbroken_trees_resolve();
 }
