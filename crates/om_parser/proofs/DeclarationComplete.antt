@@ -12,7 +12,9 @@ use Rattle.om_parser.specs.declared.tree.Name as names
 use Rattle.om_parser.specs.declared.tree.Number.{Number}
 use Rattle.om_parser.specs.Reading.{take, same_mark, take_mark}
 use Rattle.om_parser.specs.Spelling.{mark, name, number, perhaps, initializer_spelling, declarator_spelling, further_spelling}
-use Rattle.om_parser.specs.UnitReading.{optional, declarator_after, further_at, take_parameters}
+use Rattle.om_parser.specs.Repetition.{optional}
+use Rattle.om_parser.specs.DeclarationReading.{declarator_after, further_at}
+use Rattle.om_parser.specs.UnitReading.{take_parameters}
 use Rattle.om_parser.proofs.Outcomes.{ok}
 use Rattle.om_parser.proofs.Again.{take_mark_again, mark_again, name_again, number_again}
 use Rattle.om_parser.proofs.Shorter.{further_some}

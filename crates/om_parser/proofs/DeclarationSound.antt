@@ -6,7 +6,8 @@ use Rattle.om_parser.specs.declared.tree.Declarator.{Declarator}
 use Rattle.om_parser.specs.declared.tree.Name as names
 use Rattle.om_parser.specs.Reading.{take_mark, mark_at, name_at, number_at}
 use Rattle.om_parser.specs.Spelling.{mark, name, number, perhaps, initializer_spelling, declarator_spelling, further_spelling}
-use Rattle.om_parser.specs.UnitReading.{optional, declarator_after, further_at}
+use Rattle.om_parser.specs.Repetition.{optional}
+use Rattle.om_parser.specs.DeclarationReading.{declarator_after, further_at}
 use Rattle.om_parser.proofs.Outcomes.{ok, ok_is, some, bind_ok, choose_cases, after_front, after_token}
 use Rattle.om_parser.proofs.Taken.{take_mark_is, mark_at_is, name_at_is, number_at_is}
 use Rattle.om_parser.proofs.ItemsSound.{IsRead, IsSound}

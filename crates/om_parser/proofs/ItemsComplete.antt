@@ -5,7 +5,7 @@ use Rattle.std.proofs.lemmas.List.Elements.{All-nil, All-cons, All-head, All-tai
 use Rattle.om_lexer.specs.declared.token.Span.{Span}
 use Rattle.om_lexer.specs.declared.token.Token.{Token}
 use Rattle.om_parser.specs.Reading.{Reader}
-use Rattle.om_parser.specs.UnitReading.{until}
+use Rattle.om_parser.specs.Repetition.{until}
 use Rattle.om_parser.proofs.Outcomes.{some}
 use Rattle.om_parser.proofs.Again.{IsAnswer, bind_answer}
 use Rattle.om_parser.proofs.Loops.{Ender}

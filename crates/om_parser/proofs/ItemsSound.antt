@@ -5,7 +5,7 @@ use Rattle.std.proofs.lemmas.List.Elements.{All-nil, All-cons, All-append, All-h
 use Rattle.om_lexer.specs.declared.token.Span.{Span}
 use Rattle.om_lexer.specs.declared.token.Token.{Token}
 use Rattle.om_parser.specs.Reading.{Reader}
-use Rattle.om_parser.specs.UnitReading.{until}
+use Rattle.om_parser.specs.Repetition.{until}
 use Rattle.om_parser.proofs.Outcomes.{ok, ok_is, some, bind_ok, choose_cases, after_front}
 use Rattle.om_parser.proofs.Loops.{Ender}
 

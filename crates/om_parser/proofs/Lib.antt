@@ -16,6 +16,13 @@ pub mod DeclarationComplete
 pub mod UnitComplete
 pub mod OneTree
 pub mod ExpressionCut
+pub mod ItemsCut
+pub mod DeclarationCut
+pub mod StatementCut
 pub mod UnitCut
 pub mod Refusals
+pub mod ExpressionRefusals
+pub mod DeclarationRefusals
+pub mod StatementRefusals
+pub mod UnitRefusals
 pub mod Promises

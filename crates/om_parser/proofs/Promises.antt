@@ -18,7 +18,7 @@ use Rattle.om_parser.proofs.ExpressionCut.{err_is}
 use Rattle.om_parser.proofs.UnitSound.{unit_sound}
 use Rattle.om_parser.proofs.UnitComplete.{unit_again}
 use Rattle.om_parser.proofs.UnitCut.{unit_cut}
-use Rattle.om_parser.proofs.Refusals.{unit_refuses}
+use Rattle.om_parser.proofs.UnitRefusals.{unit_refuses}
 
 memory_only : (f : SourceFault) → f ≡ no_memory → f.code ≡ codes.Memory
 memory_only f e = ap (λ (g : SourceFault). g.code) e

@@ -9,7 +9,9 @@ use Rattle.om_parser.specs.Limits.{Limits}
 use Rattle.om_parser.specs.Reading.{take_mark}
 use Rattle.om_parser.specs.Spelling.{mark, expression_spelling, statement_spelling, further_spelling, declaration_spelling, function_spelling, item_spelling}
 use Rattle.om_parser.specs.Tree.{StatementTree, Expression, Return, ItemTree, Declaration, Function}
-use Rattle.om_parser.specs.UnitReading.{statement_at, further_at, item_at, take_end}
+use Rattle.om_parser.specs.DeclarationReading.{further_at}
+use Rattle.om_parser.specs.StatementReading.{statement_at}
+use Rattle.om_parser.specs.UnitReading.{item_at, take_end}
 use Rattle.om_parser.proofs.Outcomes.{ok, some}
 use Rattle.om_parser.proofs.Taken.{take_mark_is}
 use Rattle.om_parser.proofs.StatementSound.{statement_sound}

@@ -15,7 +15,8 @@ use Rattle.om_parser.specs.Limits.{Limits, IsWithin, expressions_of_statement}
 use Rattle.om_parser.specs.Reading.{take, same_mark, take_mark, take_word}
 use Rattle.om_parser.specs.Spelling.{mark, name, expression_spelling, statement_spelling, block_spelling}
 use Rattle.om_parser.specs.Tree.{ExpressionTree, Name, Constant, Paren, Binary, Assign, StatementTree, Expression, Return, BlockTree}
-use Rattle.om_parser.specs.UnitReading.{until, value_at, return_after, assignment_at, statement_at, block_at}
+use Rattle.om_parser.specs.Repetition.{until}
+use Rattle.om_parser.specs.StatementReading.{value_at, return_after, assignment_at, statement_at, block_at}
 use Rattle.om_parser.proofs.Again.{take_mark_again, take_word_again, mark_again, name_again, IsAnswer, bind_answer}
 use Rattle.om_parser.proofs.ExpressionComplete.{sum_again}
 use Rattle.om_parser.proofs.Shorter.{statement_some}

@@ -12,7 +12,8 @@ use Rattle.om_parser.specs.Limits.{Limits, IsWithin, expressions_of_statement}
 use Rattle.om_parser.specs.Reading.{take_mark, take_word, mark_at, name_at}
 use Rattle.om_parser.specs.Spelling.{mark, word, name, expression_spelling, statement_spelling, block_spelling}
 use Rattle.om_parser.specs.Tree.{ExpressionTree, Name, Assign, StatementTree, Expression, Return, BlockTree}
-use Rattle.om_parser.specs.UnitReading.{until, value_at, return_after, assignment_at, statement_at, block_at}
+use Rattle.om_parser.specs.Repetition.{until}
+use Rattle.om_parser.specs.StatementReading.{value_at, return_after, assignment_at, statement_at, block_at}
 use Rattle.om_parser.proofs.Outcomes.{ok, ok_is, bind_ok, choose_cases, after_front, after_token}
 use Rattle.om_parser.proofs.Taken.{take_mark_is, take_word_is, mark_at_is, name_at_is}
 use Rattle.om_parser.proofs.ExpressionSound.{sum_sound}

@@ -14,7 +14,10 @@ use Rattle.om_parser.specs.Limits.{Limits, IsWithin, whole_expressions, expressi
 use Rattle.om_parser.specs.Reading.{take, same_word, take_mark, take_word}
 use Rattle.om_parser.specs.Spelling.{token, mark, word, name, perhaps, block_spelling, initializer_spelling, declarator_spelling, further_spelling, declaration_spelling, function_spelling, item_spelling, unit_spelling}
 use Rattle.om_parser.specs.Tree.{FunctionTree, DeclarationTree, ItemTree, Declaration, Function, UnitTree}
-use Rattle.om_parser.specs.UnitReading.{optional, until, block_at, further_at, declaration_after, function_after, take_parameters, item_at, take_end, unit_at}
+use Rattle.om_parser.specs.Repetition.{optional, until}
+use Rattle.om_parser.specs.DeclarationReading.{further_at, declaration_after}
+use Rattle.om_parser.specs.StatementReading.{block_at}
+use Rattle.om_parser.specs.UnitReading.{function_after, take_parameters, item_at, take_end, unit_at}
 use Rattle.om_parser.proofs.Outcomes.{some}
 use Rattle.om_parser.proofs.Again.{take_mark_again, mark_again, word_again, name_again, IsAnswer, bind_answer}
 use Rattle.om_parser.proofs.Shorter.{item_some}

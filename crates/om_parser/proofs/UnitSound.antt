@@ -17,7 +17,10 @@ use Rattle.om_parser.specs.Limits.{Limits, IsWithin, whole_expressions, expressi
 use Rattle.om_parser.specs.Reading.{Reader, take_mark, take_word, mark_at, word_at, name_at}
 use Rattle.om_parser.specs.Spelling.{token, mark, word, name, perhaps, block_spelling, declarator_spelling, further_spelling, declaration_spelling, function_spelling, item_spelling, unit_spelling}
 use Rattle.om_parser.specs.Tree.{ItemTree, UnitTree}
-use Rattle.om_parser.specs.UnitReading.{optional, until, block_at, declarator_after, further_at, declaration_after, function_after, take_parameters, item_at, end_of, take_end, unit_at}
+use Rattle.om_parser.specs.Repetition.{optional, until}
+use Rattle.om_parser.specs.DeclarationReading.{declarator_after, further_at, declaration_after}
+use Rattle.om_parser.specs.StatementReading.{block_at}
+use Rattle.om_parser.specs.UnitReading.{function_after, take_parameters, item_at, end_of, take_end, unit_at}
 use Rattle.om_parser.proofs.Outcomes.{ok, ok_is, some, some_is, bind_ok, choose_cases, after_front, after_token}
 use Rattle.om_parser.proofs.Taken.{take_mark_is, take_word_is, mark_at_is, word_at_is, name_at_is}
 use Rattle.om_parser.proofs.ItemsSound.{IsRead, IsSound, until_sound, all_flat}

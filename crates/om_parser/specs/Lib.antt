@@ -6,4 +6,7 @@ pub mod View
 pub mod Parsing
 pub mod Reading
 pub mod ExpressionReading
+pub mod Repetition
+pub mod DeclarationReading
+pub mod StatementReading
 pub mod UnitReading

@@ -4,7 +4,8 @@ ghost use Rattle.std.specs.Prelude.{◌≡◌, length};
 ghost use Rattle.om_lexer.specs.declared.token.Punctuator.TheVariants.{Semicolon};
 ghost use Rattle.om_parser.specs.Reading.{take_mark, Reads, ReadsAlways};
 ghost use Rattle.om_parser.specs.Tree as trees;
-ghost use Rattle.om_parser.specs.UnitReading.{until, declarator_after, further_at, declaration_after};
+ghost use Rattle.om_parser.specs.Repetition.{until};
+ghost use Rattle.om_parser.specs.DeclarationReading.{declarator_after, further_at, declaration_after};
 ghost use Rattle.om_parser.specs.View.{view_declaration};
 
 use crate::front::{mark, name, number, take_mark};
@@ -13,7 +14,7 @@ use om_lexer::{Punctuator, SourceFault, Span, Token};
 use std::alloc::Global;
 
 /// The rest of a declaration, of which `int` and the first name are taken.
-#[tactic(auto, unfolding(crate::specs::UnitReading::declaration_after))]
+#[tactic(auto, unfolding(crate::specs::DeclarationReading::declaration_after))]
 pub fn declaration_after(
     alloc: Global,
     int: Span,
@@ -55,7 +56,7 @@ fn further_declarators(
 }
 
 /// A comma, the declarator behind it, and the tokens behind that.
-#[tactic(auto, unfolding(crate::specs::UnitReading::further_at))]
+#[tactic(auto, unfolding(crate::specs::DeclarationReading::further_at))]
 fn further_declarator(
     alloc: Global,
     tokens: &[Token],
@@ -69,7 +70,7 @@ fn further_declarator(
 }
 
 /// The rest of a declarator, of which the name is taken.
-#[tactic(auto, unfolding(crate::specs::UnitReading::declarator_after))]
+#[tactic(auto, unfolding(crate::specs::DeclarationReading::declarator_after))]
 fn declarator_after(name: Name, tokens: &[Token]) -> Result<(Declarator, &[Token]), SourceFault>
     ensures { ReadsAlways (λ x. (x.0, x.1.now)) result (declarator_after name tokens.now) }
 {

@@ -4,7 +4,8 @@ ghost use Rattle.std.specs.Prelude.{◌≡◌, length, map};
 ghost use Rattle.om_lexer.specs.declared.token.Punctuator.TheVariants.{CloseBrace};
 ghost use Rattle.om_parser.specs.Limits.{accepted};
 ghost use Rattle.om_parser.specs.Reading.{take_mark, Reads};
-ghost use Rattle.om_parser.specs.UnitReading.{until, value_at, return_after, assignment_at, statement_at, block_at};
+ghost use Rattle.om_parser.specs.Repetition.{until};
+ghost use Rattle.om_parser.specs.StatementReading.{value_at, return_after, assignment_at, statement_at, block_at};
 ghost use Rattle.om_parser.specs.View.{view_expression, view_statement, view_block};
 
 use crate::expression::sum;
@@ -15,7 +16,7 @@ use om_lexer::{Keyword, Punctuator, SourceFault, Span, Token};
 use std::alloc::Global;
 
 /// Statements in braces, and the tokens behind them.
-#[tactic(auto, unfolding(crate::specs::UnitReading::block_at))]
+#[tactic(auto, unfolding(crate::specs::StatementReading::block_at))]
 pub fn block(alloc: Global, tokens: &[Token]) -> Result<(Block, &[Token]), SourceFault>
     ensures { Reads (λ x. (view_block x.0, x.1.now)) result (block_at accepted tokens.now) }
 {
@@ -51,7 +52,7 @@ fn statements(
 }
 
 /// A statement, and the tokens behind it.
-#[tactic(auto, unfolding(crate::specs::UnitReading::statement_at))]
+#[tactic(auto, unfolding(crate::specs::StatementReading::statement_at))]
 fn statement(alloc: Global, tokens: &[Token]) -> Result<(Statement, &[Token]), SourceFault>
     ensures { Reads (λ x. (view_statement x.0, x.1.now)) result (statement_at accepted tokens.now) }
 {
@@ -62,7 +63,7 @@ fn statement(alloc: Global, tokens: &[Token]) -> Result<(Statement, &[Token]), S
 }
 
 /// The value that is returned, its semicolon, and the tokens behind them.
-#[tactic(auto, unfolding(crate::specs::UnitReading::return_after))]
+#[tactic(auto, unfolding(crate::specs::StatementReading::return_after))]
 fn return_after(
     alloc: Global,
     at: Span,
@@ -76,7 +77,7 @@ fn return_after(
 }
 
 /// An assignment to a name, and the tokens behind it.
-#[tactic(auto, unfolding(crate::specs::UnitReading::assignment_at))]
+#[tactic(auto, unfolding(crate::specs::StatementReading::assignment_at))]
 fn assignment(alloc: Global, tokens: &[Token]) -> Result<(Statement, &[Token]), SourceFault>
     ensures { Reads (λ x. (view_statement x.0, x.1.now)) result (assignment_at accepted tokens.now) }
 {
@@ -94,7 +95,7 @@ fn assignment(alloc: Global, tokens: &[Token]) -> Result<(Statement, &[Token]), 
 }
 
 /// A sum, in a whole expression that begins with the first token of `begins`.
-#[tactic(auto, unfolding(crate::specs::UnitReading::value_at))]
+#[tactic(auto, unfolding(crate::specs::StatementReading::value_at))]
 fn value<'a>(
     alloc: Global,
     begins: &[Token],

@@ -9,7 +9,8 @@ ghost use Rattle.om_parser.specs.Parsing.{IsTreeOf, IsTreeOrMemory, IsLimitPasse
 ghost use Rattle.om_parser.specs.Reading.{Reads};
 ghost use Rattle.om_parser.specs.Spelling.{unit_spelling};
 ghost use Rattle.om_parser.specs.Tree.{UnitTree};
-ghost use Rattle.om_parser.specs.UnitReading.{until, unit_at, take_end, item_at};
+ghost use Rattle.om_parser.specs.Repetition.{until};
+ghost use Rattle.om_parser.specs.UnitReading.{unit_at, take_end, item_at};
 ghost use Rattle.om_parser.specs.View.{view_item, view_unit};
 
 use crate::declaration::declaration_after;

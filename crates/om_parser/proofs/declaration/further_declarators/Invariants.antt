@@ -1,7 +1,8 @@
 use Rattle.std.proofs.Common.{length}
 use Rattle.om_lexer.specs.declared.token.Punctuator.TheVariants.{Semicolon}
 use Rattle.om_parser.specs.Reading.{take_mark}
-use Rattle.om_parser.specs.UnitReading.{until, further_at}
+use Rattle.om_parser.specs.Repetition.{until}
+use Rattle.om_parser.specs.DeclarationReading.{further_at}
 use Rattle.om_parser.proofs.Loops.{GoesOn}
 use Rattle.om_parser.proofs.declaration.further_declarators.Given as goal
 

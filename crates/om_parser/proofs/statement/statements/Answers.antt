@@ -4,7 +4,8 @@ use Rattle.std.proofs.lemmas.List.{map_push}
 use Rattle.om_lexer.specs.declared.token.Punctuator.TheVariants.{CloseBrace}
 use Rattle.om_parser.specs.Reading.{take_mark}
 use Rattle.om_parser.specs.Limits.{accepted}
-use Rattle.om_parser.specs.UnitReading.{until, statement_at}
+use Rattle.om_parser.specs.Repetition.{until}
+use Rattle.om_parser.specs.StatementReading.{statement_at}
 use Rattle.om_parser.specs.View.{view_statement}
 use Rattle.om_parser.proofs.Loops.{until_begins, until_ends, until_fails, until_goes_on}
 use Rattle.om_parser.proofs.Shorter.{mark_shorter, statement_shorter}

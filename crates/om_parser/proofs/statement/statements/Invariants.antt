@@ -2,7 +2,8 @@ use Rattle.std.proofs.Common.{length, map}
 use Rattle.om_lexer.specs.declared.token.Punctuator.TheVariants.{CloseBrace}
 use Rattle.om_parser.specs.Reading.{take_mark}
 use Rattle.om_parser.specs.Limits.{accepted}
-use Rattle.om_parser.specs.UnitReading.{until, statement_at}
+use Rattle.om_parser.specs.Repetition.{until}
+use Rattle.om_parser.specs.StatementReading.{statement_at}
 use Rattle.om_parser.specs.View.{view_statement}
 use Rattle.om_parser.proofs.Loops.{GoesOn}
 use Rattle.om_parser.proofs.statement.statements.Given as goal
