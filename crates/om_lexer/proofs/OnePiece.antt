@@ -155,10 +155,25 @@ spells_one text (kinds.Punctuator p) (kinds.Name m) s t = absurd (no_word_punctu
 spells_one text (kinds.Punctuator p) (kinds.Constant w) s t = absurd (constant_punctuator text w p t.0 s)
 spells_one text (kinds.Punctuator p) (kinds.Keyword l) s t = absurd (keyword_punctuator text l p t s)
 spells_one text (kinds.Punctuator p) (kinds.Punctuator q) s t = ap kinds.Punctuator (punctuator_one p q (sym s ∙ t))
+spells_one text (kinds.Text c) l s t = absurd s
+spells_one text kinds.DirectiveBegin l s t = absurd s
+spells_one text kinds.DirectiveEnd l s t = absurd s
 spells_one text kinds.End l s t = absurd s
+spells_one text (kinds.Name n) (kinds.Text c) s t = absurd t
+spells_one text (kinds.Name n) kinds.DirectiveBegin s t = absurd t
+spells_one text (kinds.Name n) kinds.DirectiveEnd s t = absurd t
 spells_one text (kinds.Name n) kinds.End s t = absurd t
+spells_one text (kinds.Constant v) (kinds.Text c) s t = absurd t
+spells_one text (kinds.Constant v) kinds.DirectiveBegin s t = absurd t
+spells_one text (kinds.Constant v) kinds.DirectiveEnd s t = absurd t
 spells_one text (kinds.Constant v) kinds.End s t = absurd t
+spells_one text (kinds.Keyword k) (kinds.Text c) s t = absurd t
+spells_one text (kinds.Keyword k) kinds.DirectiveBegin s t = absurd t
+spells_one text (kinds.Keyword k) kinds.DirectiveEnd s t = absurd t
 spells_one text (kinds.Keyword k) kinds.End s t = absurd t
+spells_one text (kinds.Punctuator p) (kinds.Text c) s t = absurd t
+spells_one text (kinds.Punctuator p) kinds.DirectiveBegin s t = absurd t
+spells_one text (kinds.Punctuator p) kinds.DirectiveEnd s t = absurd t
 spells_one text (kinds.Punctuator p) kinds.End s t = absurd t
 
 -- a constant above the limit spells no token
@@ -167,6 +182,9 @@ large_spells_nothing text value (kinds.Name n) constant large s = name_constant 
 large_spells_nothing text value (kinds.Constant w) constant large s = omega (arith, constant.value_is, s.0.value_is, s.1)
 large_spells_nothing text value (kinds.Keyword k) constant large s = keyword_constant text k value s constant
 large_spells_nothing text value (kinds.Punctuator p) constant large s = constant_punctuator text value p constant s
+large_spells_nothing text value (kinds.Text characters) constant large s = s
+large_spells_nothing text value kinds.DirectiveBegin constant large s = s
+large_spells_nothing text value kinds.DirectiveEnd constant large s = s
 large_spells_nothing text value kinds.End constant large s = s
 
 -- ---- pieces

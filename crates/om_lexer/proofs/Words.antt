@@ -49,6 +49,9 @@ no_constant_spells_nothing text word digit wrong = (spells, wrong) where
   spells (kinds.Constant value) s = wrong value s.0
   spells (kinds.Keyword k) s = both_ways _ (keyword_no_digit k) (ap (λ t. is_ascii_digit (slice_index t 0)) (sym s) ∙ digit)
   spells (kinds.Punctuator p) s = no_word_punctuator text p word s
+  spells (kinds.Text characters) s = s
+  spells kinds.DirectiveBegin s = s
+  spells kinds.DirectiveEnd s = s
   spells kinds.End s = s
 
 -- a long word that is no keyword and has no digit first spells nothing
@@ -62,4 +65,7 @@ long_word_spells_nothing text word no_digit no_keyword long = (spells, wrong) wh
   spells (kinds.Constant value) s = wrong value s.0
   spells (kinds.Keyword k) s = no_keyword k s
   spells (kinds.Punctuator p) s = no_word_punctuator text p word s
+  spells (kinds.Text characters) s = s
+  spells kinds.DirectiveBegin s = s
+  spells kinds.DirectiveEnd s = s
   spells kinds.End s = s

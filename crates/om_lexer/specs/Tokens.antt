@@ -30,6 +30,9 @@ Spells text (kinds.Name name) = (name ≡ text) × IsName text
 Spells text (kinds.Constant value) = IsConstant text value × (value ≤ 2147483647)
 Spells text (kinds.Keyword k) = text ≡ keyword_text k
 Spells text (kinds.Punctuator p) = text ≡ punctuator_text p
+Spells text (kinds.Text characters) = ⊥
+Spells text kinds.DirectiveBegin = ⊥
+Spells text kinds.DirectiveEnd = ⊥
 Spells text kinds.End = ⊥
 
 -- the text could be a token (C17's preprocessing tokens): names and constants are whole runs of letters, digits and `_`

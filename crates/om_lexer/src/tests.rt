@@ -32,6 +32,12 @@ fn kind_text(alloc: Global, kind: &TokenKind) -> Result<String, AllocError> {
         TokenKind::Constant(value) => format!(in alloc; "{value}"),
         TokenKind::Keyword(keyword) => format!(in alloc; "{keyword:?}"),
         TokenKind::Punctuator(punctuator) => format!(in alloc; "{punctuator:?}"),
+        TokenKind::Text(text) => {
+            let bytes = text.as_slice().len();
+            format!(in alloc; "text of {bytes}")
+        }
+        TokenKind::DirectiveBegin => format!(in alloc; "DirectiveBegin"),
+        TokenKind::DirectiveEnd => format!(in alloc; "DirectiveEnd"),
         TokenKind::End => format!(in alloc; "End"),
     }
 }

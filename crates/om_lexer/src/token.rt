@@ -30,7 +30,13 @@ pub enum TokenKind {
     /// An integer constant (C17 6.4.4.1), at most 2147483647.
     Constant(u32),
     Keyword(Keyword),
+    /// A string literal (C17 6.4.5): the characters that it stands for.
+    Text(Seq<u8>),
     Punctuator(Punctuator),
+    /// The `#` of a `#pragma omp` line. The words and marks of the line follow, `pragma` and `omp` first.
+    DirectiveBegin,
+    /// The end of a `#pragma omp` line: of no width, behind its last token.
+    DirectiveEnd,
     /// The end of the source: of no width, at its length.
     End,
 }
