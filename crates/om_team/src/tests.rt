@@ -73,8 +73,8 @@ fn program(alloc: Global) -> Result<Program, Fail> {
     Ok(validate(alloc, raw)?)
 }
 
-/// The control of a worker that runs the instruction at a place with these operands.
-fn at(alloc: Global, next: u32, operands: &[i32]) -> Result<Control, AllocError> {
+/// The stack whose frame is at a place with these operands.
+fn stack_at(alloc: Global, next: u32, operands: &[i32]) -> Result<Seq<Context>, AllocError> {
     let mut frames = Seq::new(alloc);
     frames.push(Frame {
         body: 0,
@@ -83,7 +83,12 @@ fn at(alloc: Global, next: u32, operands: &[i32]) -> Result<Control, AllocError>
     })?;
     let mut stack = Seq::new(alloc);
     stack.push(Context { frames })?;
-    Ok(Control::Running(stack))
+    Ok(stack)
+}
+
+/// The control of a worker that runs the instruction at a place with these operands.
+fn at(alloc: Global, next: u32, operands: &[i32]) -> Result<Control, AllocError> {
+    Ok(Control::Running(stack_at(alloc, next, operands)?))
 }
 
 /// What comes of worker 0's step with this control where `x` holds 9.
@@ -273,6 +278,15 @@ fn a_line_is_that_of_the_instruction_that_runs(rt: HostRuntime) -> Result<(), Fa
     let program = program(alloc)?;
     assert_eq!(rt; line(&program, &at(alloc, 8, &[])?), 19);
     assert_eq!(rt; line(&program, &Control::Idle), 0);
+    Ok(())
+}
+
+#[test]
+fn a_fault_has_the_line_of_what_met_it(rt: HostRuntime) -> Result<(), Fail> {
+    let alloc = rt.alloc();
+    let program = program(alloc)?;
+    let fault = Control::Faulted(Fault::Overflow, stack_at(alloc, 4, &[i32::MAX, 1])?);
+    assert_eq!(rt; line(&program, &fault), 15);
     Ok(())
 }
 
