@@ -1,0 +1,140 @@
+//! Clauses of directives (OpenMP API 5.2, chapter 3).
+
+use crate::name::{Name, NameList, Number};
+use om_lexer::Span;
+use om_seq::Seq;
+
+/// Which clause, whatever stands in its parentheses.
+#[derive(Clone, Copy, Debug, PartialEq, Eq)]
+pub enum ClauseKind {
+    NumThreads,
+    Filter,
+    Default,
+    Shared,
+    Private,
+    Firstprivate,
+    Reduction,
+    Schedule,
+    Nowait,
+    Update,
+    Read,
+    Write,
+    SeqCst,
+    Relaxed,
+}
+
+/// A clause with an expression.
+#[derive(Clone, Copy, Debug, PartialEq, Eq)]
+pub enum ValueClause {
+    NumThreads,
+    Filter,
+}
+
+/// A clause that says how the variables of its list are shared.
+#[derive(Clone, Copy, Debug, PartialEq, Eq)]
+pub enum DataSharing {
+    Shared,
+    Private,
+    Firstprivate,
+}
+
+/// A clause of one word.
+#[derive(Clone, Copy, Debug, PartialEq, Eq)]
+pub enum PlainClause {
+    Nowait,
+    Update,
+    Read,
+    Write,
+    SeqCst,
+    Relaxed,
+}
+
+/// What `default` says of variables that no clause lists.
+#[derive(Clone, Copy, Debug, PartialEq, Eq)]
+pub enum Sharing {
+    Shared,
+    None,
+}
+
+/// How a reduction combines.
+#[derive(Clone, Copy, Debug, PartialEq, Eq)]
+pub enum ReductionOperator {
+    /// `+`
+    Add,
+    /// `*`
+    Multiply,
+    /// `max`
+    Max,
+    /// `min`
+    Min,
+}
+
+/// How iterations are dealt out.
+#[derive(Clone, Copy, Debug, PartialEq, Eq)]
+pub enum ScheduleKind {
+    Static,
+    Dynamic,
+}
+
+/// An expression in parentheses.
+#[derive(Debug, Drop)]
+pub struct Value<E> {
+    pub open_paren: Span,
+    pub expression: E,
+    pub close_paren: Span,
+}
+
+/// `(shared)` or `(none)`.
+#[derive(Clone, Copy, Debug)]
+pub struct DefaultArgument {
+    pub open_paren: Span,
+    pub sharing: Sharing,
+    /// The span of `shared` or `none`.
+    pub word: Span,
+    pub close_paren: Span,
+}
+
+/// `(operator: names)`.
+#[derive(Debug, Drop)]
+pub struct Reduction {
+    pub open_paren: Span,
+    pub operator: ReductionOperator,
+    /// The span of the operator.
+    pub sign: Span,
+    pub colon: Span,
+    pub first: Name,
+    /// Each further name, behind the span of its comma.
+    pub rest: Seq<(Span, Name)>,
+    pub close_paren: Span,
+}
+
+/// `(kind)` or `(kind, chunk)`.
+#[derive(Clone, Copy, Debug)]
+pub struct Schedule {
+    pub open_paren: Span,
+    pub kind: ScheduleKind,
+    /// The span of the kind.
+    pub word: Span,
+    /// The chunk, which is at least 1, behind the span of its comma.
+    pub chunk: Option<(Span, Number)>,
+    pub close_paren: Span,
+}
+
+/// A clause, with the span of its word.
+#[derive(Debug, Drop)]
+pub enum Clause<E> {
+    Value(ValueClause, Span, Value<E>),
+    Default(Span, DefaultArgument),
+    Data(DataSharing, Span, NameList),
+    Reduction(Span, Reduction),
+    Schedule(Span, Schedule),
+    Plain(PlainClause, Span),
+}
+
+/// A clause in its row.
+#[derive(Debug, Drop)]
+pub struct ClauseItem<E> {
+    /// The comma between it and the clause before it, where one stands.
+    pub comma: Option<Span>,
+    pub clause: Clause<E>,
+}

@@ -1,0 +1,17 @@
+//! Directive lines: the tokens of one `#pragma omp` line to its directive (OpenMP API 5.2).
+#![tactic(auto)]
+
+mod clause;
+
+mod name;
+mod reading;
+mod tree;
+
+pub use clause::{
+    Clause, ClauseItem, ClauseKind, DataSharing, DefaultArgument, PlainClause, Reduction,
+    ReductionOperator, Schedule, ScheduleKind, Sharing, Value, ValueClause,
+};
+
+pub use name::{Name, NameList, Number};
+pub use reading::directive;
+pub use tree::{Directive, DirectiveName};

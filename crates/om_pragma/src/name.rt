@@ -1,0 +1,30 @@
+//! Names and constants where they stand.
+
+use om_lexer::Span;
+use om_seq::Seq;
+
+/// A name where it stands.
+#[derive(Debug, Drop)]
+pub struct Name {
+    /// Its letters, digits and `_`.
+    pub text: Seq<u8>,
+    pub span: Span,
+}
+
+/// A constant where it stands.
+#[derive(Clone, Copy, Debug)]
+pub struct Number {
+    /// At most 2147483647.
+    pub value: u32,
+    pub span: Span,
+}
+
+/// One or more names in parentheses, with commas between them.
+#[derive(Debug, Drop)]
+pub struct NameList {
+    pub open_paren: Span,
+    pub first: Name,
+    /// Each further name, behind the span of its comma.
+    pub rest: Seq<(Span, Name)>,
+    pub close_paren: Span,
+}
