@@ -1,1 +1,5 @@
 pub mod Words
+pub mod Spelling
+pub mod Expressions
+pub mod Table
+pub mod Refusals

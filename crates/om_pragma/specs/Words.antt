@@ -1,21 +1,73 @@
-use Rattle.std.specs.Prelude.{List, Option, Some, None, map}
-use Rattle.om_lexer.specs.declared.token.Token.{Token}
-use Rattle.om_pragma.specs.declared.tree.Directive.{Directive}
-use Rattle.om_pragma.specs.declared.clause.ClauseItem.{ClauseItem}
-use Rattle.om_pragma.specs.declared.clause.Clause.{Clause}
-use Rattle.om_pragma.specs.declared.clause.Clause.TheVariants as clauses
-use Rattle.om_pragma.specs.declared.clause.Value as values
+-- How the words of directive lines are spelled.
+use Rattle.std.specs.Prelude.{Bool, true, false, List, [], ◌∷◌, codes}
+use Rattle.om_lexer.specs.declared.token.Keyword.TheVariants as keywords
+use Rattle.om_lexer.specs.declared.token.Punctuator.TheVariants as punctuators
+use Rattle.om_lexer.specs.declared.token.TokenKind.{TokenKind}
+use Rattle.om_lexer.specs.declared.token.TokenKind.TheVariants as kinds
+use Rattle.om_pragma.specs.declared.clause.ClauseKind.{ClauseKind}
+use Rattle.om_pragma.specs.declared.clause.ClauseKind.TheVariants as clauses
+use Rattle.om_pragma.specs.declared.clause.ReductionOperator.{ReductionOperator}
+use Rattle.om_pragma.specs.declared.clause.ReductionOperator.TheVariants as operators
+use Rattle.om_pragma.specs.declared.clause.ScheduleKind.{ScheduleKind}
+use Rattle.om_pragma.specs.declared.clause.ScheduleKind.TheVariants as schedules
+use Rattle.om_pragma.specs.declared.clause.Sharing.{Sharing}
+use Rattle.om_pragma.specs.declared.clause.Sharing.TheVariants as sharings
+use Rattle.om_pragma.specs.declared.word.DirectiveWord.{DirectiveWord}
+use Rattle.om_pragma.specs.declared.word.DirectiveWord.TheVariants as directives
 
-abbrev pub map_clause : {E F : Type 0} → (E → F) → Clause E → Clause F
-map_clause f (clauses.Value k s v) = clauses.Value k s (record { open_paren = v.open_paren; expression = f v.expression; close_paren = v.close_paren })
-map_clause f (clauses.Default s a) = clauses.Default s a
-map_clause f (clauses.Data k s a) = clauses.Data k s a
-map_clause f (clauses.Reduction s a) = clauses.Reduction s a
-map_clause f (clauses.Schedule s a) = clauses.Schedule s a
-map_clause f (clauses.Plain k s) = clauses.Plain k s
+-- a name or a keyword
+abbrev pub is_word : TokenKind → Bool
+is_word (kinds.Name text) = true
+is_word (kinds.Keyword k) = true
+is_word _ = false
 
-abbrev pub map_directive : {E F : Type 0} → (E → F) → Directive E → Directive F
-map_directive f d = record { hash = d.hash; pragma = d.pragma; omp = d.omp; name = d.name; clauses = map (λ c. record { comma = c.comma; clause = map_clause f c.clause }) d.clauses; end = d.end }
+-- the first word of a directive (OpenMP API 5.2)
+abbrev pub directive_word : DirectiveWord → TokenKind
+directive_word directives.Parallel = kinds.Name (codes "parallel")
+directive_word directives.For = kinds.Keyword keywords.For
+directive_word directives.Sections = kinds.Name (codes "sections")
+directive_word directives.Section = kinds.Name (codes "section")
+directive_word directives.Single = kinds.Name (codes "single")
+directive_word directives.Masked = kinds.Name (codes "masked")
+directive_word directives.Master = kinds.Name (codes "master")
+directive_word directives.Critical = kinds.Name (codes "critical")
+directive_word directives.Atomic = kinds.Name (codes "atomic")
+directive_word directives.Task = kinds.Name (codes "task")
+directive_word directives.Barrier = kinds.Name (codes "barrier")
+directive_word directives.Taskwait = kinds.Name (codes "taskwait")
+directive_word directives.Taskyield = kinds.Name (codes "taskyield")
+directive_word directives.Flush = kinds.Name (codes "flush")
 
-abbrev pub expression_now : Directive (Bor (List Token)) → Directive (List Token)
-expression_now d = map_directive (λ e. e.now) d
+-- the word of a clause
+abbrev pub clause_word : ClauseKind → TokenKind
+clause_word clauses.NumThreads = kinds.Name (codes "num_threads")
+clause_word clauses.Filter = kinds.Name (codes "filter")
+clause_word clauses.Default = kinds.Keyword keywords.Default
+clause_word clauses.Shared = kinds.Name (codes "shared")
+clause_word clauses.Private = kinds.Name (codes "private")
+clause_word clauses.Firstprivate = kinds.Name (codes "firstprivate")
+clause_word clauses.Reduction = kinds.Name (codes "reduction")
+clause_word clauses.Schedule = kinds.Name (codes "schedule")
+clause_word clauses.Nowait = kinds.Name (codes "nowait")
+clause_word clauses.Update = kinds.Name (codes "update")
+clause_word clauses.Read = kinds.Name (codes "read")
+clause_word clauses.Write = kinds.Name (codes "write")
+clause_word clauses.SeqCst = kinds.Name (codes "seq_cst")
+clause_word clauses.Relaxed = kinds.Name (codes "relaxed")
+
+-- what stands in `default(..)`
+abbrev pub sharing_word : Sharing → TokenKind
+sharing_word sharings.Shared = kinds.Name (codes "shared")
+sharing_word sharings.None = kinds.Name (codes "none")
+
+-- the operator of a reduction
+abbrev pub operator_word : ReductionOperator → TokenKind
+operator_word operators.Add = kinds.Punctuator punctuators.Plus
+operator_word operators.Multiply = kinds.Punctuator punctuators.Star
+operator_word operators.Max = kinds.Name (codes "max")
+operator_word operators.Min = kinds.Name (codes "min")
+
+-- the kind of a schedule
+abbrev pub schedule_word : ScheduleKind → TokenKind
+schedule_word schedules.Static = kinds.Keyword keywords.Static
+schedule_word schedules.Dynamic = kinds.Name (codes "dynamic")

@@ -6,6 +6,7 @@ mod clause;
 mod name;
 mod reading;
 mod tree;
+mod word;
 
 pub use clause::{
     Clause, ClauseItem, ClauseKind, DataSharing, DefaultArgument, PlainClause, Reduction,

@@ -1,0 +1,67 @@
+-- The expressions of a directive.
+use Rattle.std.specs.Prelude.{◌≡◌, ◌≢◌, ℕ, zero, suc, List, [], ◌∷◌, map, Option, Some, None, IsSomeAnd, All}
+use Rattle.std.specs.List.{flat_map}
+use denote.Ref.{Bor}
+use Rattle.om_lexer.specs.declared.token.Punctuator.{Punctuator}
+use Rattle.om_lexer.specs.declared.token.Punctuator.TheVariants as punctuators
+use Rattle.om_lexer.specs.declared.token.Token.{Token}
+use Rattle.om_lexer.specs.declared.token.TokenKind.{TokenKind}
+use Rattle.om_lexer.specs.declared.token.TokenKind.TheVariants as kinds
+use Rattle.om_pragma.specs.declared.clause.Clause.{Clause}
+use Rattle.om_pragma.specs.declared.clause.Clause.TheVariants as clauses
+use Rattle.om_pragma.specs.declared.clause.ClauseItem.{ClauseItem}
+use Rattle.om_pragma.specs.declared.clause.Value as values
+use Rattle.om_pragma.specs.declared.tree.Directive.{Directive}
+
+-- the expression of a clause, if it has one
+abbrev pub clause_expressions : {E : Type 0} → Clause E → List E
+clause_expressions (clauses.Value k s v) = v.expression ∷ []
+clause_expressions (clauses.Default s a) = []
+clause_expressions (clauses.Data k s l) = []
+clause_expressions (clauses.Reduction s r) = []
+clause_expressions (clauses.Schedule s a) = []
+clause_expressions (clauses.Plain k s) = []
+
+-- the expressions of a directive
+unfoldable pub expressions : {E : Type 0} → Directive E → List E
+expressions d = flat_map (λ i. clause_expressions i.clause) d.clauses
+
+-- a clause with another expression in place of its own
+abbrev pub map_clause : {E F : Type 0} → (E → F) → Clause E → Clause F
+map_clause f (clauses.Value k s v) = clauses.Value k s (record { open_paren = v.open_paren; expression = f v.expression; close_paren = v.close_paren })
+map_clause f (clauses.Default s a) = clauses.Default s a
+map_clause f (clauses.Data k s l) = clauses.Data k s l
+map_clause f (clauses.Reduction s r) = clauses.Reduction s r
+map_clause f (clauses.Schedule s a) = clauses.Schedule s a
+map_clause f (clauses.Plain k s) = clauses.Plain k s
+
+abbrev pub map_item : {E F : Type 0} → (E → F) → ClauseItem E → ClauseItem F
+map_item f i = record { comma = i.comma; clause = map_clause f i.clause }
+
+-- a directive with other expressions in place of its own
+abbrev pub map_directive : {E F : Type 0} → (E → F) → Directive E → Directive F
+map_directive f d = record { hash = d.hash; pragma = d.pragma; omp = d.omp; name = d.name; clauses = map (map_item f) d.clauses; end = d.end }
+
+-- the tokens that a slice has
+abbrev pub tokens_in : Bor (List Token) → List Token
+tokens_in slice = slice.now
+
+-- a directive whose expressions are lists of tokens, of one whose expressions are slices
+abbrev pub with_tokens : Directive (Bor (List Token)) → Directive (List Token)
+with_tokens = map_directive tokens_in
+
+-- how many parentheses are open behind a token; none of them may be closed that was not opened
+abbrev pub open_behind : TokenKind → ℕ → Option ℕ
+open_behind (kinds.Punctuator punctuators.OpenParen) n = Some (suc n)
+open_behind (kinds.Punctuator punctuators.CloseParen) zero = None
+open_behind (kinds.Punctuator punctuators.CloseParen) (suc n) = Some n
+open_behind _ n = Some n
+
+-- each parenthesis among the tokens is closed among them, and so many that are open before them
+unfoldable pub Closes : ℕ → List Token → Type 0
+Closes n [] = n ≡ 0
+Closes n (t ∷ ts) = IsSomeAnd (open_behind t.kind n) (λ m. Closes m ts)
+
+-- one or more tokens whose parentheses are paired among them
+abbrev pub IsClosed : List Token → Type 0
+IsClosed tokens = (tokens ≢ []) × Closes 0 tokens

@@ -1,0 +1,110 @@
+-- Why the tokens of a directive line are refused, and where.
+use Rattle.std.specs.Prelude.{◌≡◌, ◌≢◌, ℕ, true, false, ◌⊎◌, List, [], ◌∷◌, ◌++◌, Option, Some, None, Result, Ok, Err, All}
+use Rattle.std.specs.List.{flat_map}
+use denote.Ref.{Bor}
+use Rattle.om_lexer.specs.declared.fault.FaultCode.{FaultCode}
+use Rattle.om_lexer.specs.declared.fault.FaultCode.TheVariants as codes
+use Rattle.om_lexer.specs.declared.fault.SourceFault.{SourceFault}
+use Rattle.om_lexer.specs.declared.token.Punctuator.TheVariants as punctuators
+use Rattle.om_lexer.specs.declared.token.Span.{Span}
+use Rattle.om_lexer.specs.declared.token.Token.{Token}
+use Rattle.om_lexer.specs.declared.token.TokenKind.{TokenKind}
+use Rattle.om_lexer.specs.declared.token.TokenKind.TheVariants as kinds
+use Rattle.om_lexer.specs.Faults.{no_memory}
+use Rattle.om_pragma.specs.declared.clause.Clause.{Clause}
+use Rattle.om_pragma.specs.declared.clause.ClauseItem.{ClauseItem}
+use Rattle.om_pragma.specs.declared.clause.ClauseKind.{ClauseKind}
+use Rattle.om_pragma.specs.declared.tree.Directive.{Directive}
+use Rattle.om_pragma.specs.declared.tree.DirectiveName.{DirectiveName}
+use Rattle.om_pragma.specs.declared.tree.DirectiveName.TheVariants as directives
+use Rattle.om_pragma.specs.declared.word.DirectiveWord.{DirectiveWord}
+use Rattle.om_pragma.specs.declared.word.DirectiveWord.TheVariants as words
+use Rattle.om_pragma.specs.Expressions.{clause_expressions, IsClosed, with_tokens}
+use Rattle.om_pragma.specs.Spelling.{token, name_spelling, opening_spelling, item_spelling, comma_spelling, clause_spelling, kind_of}
+use Rattle.om_pragma.specs.Table.{may_stand, kinds_of, CanStand, IsBetween, IsDirectiveOf}
+use Rattle.om_pragma.specs.Words.{is_word, directive_word, clause_word}
+
+-- a clause whose expression, if it has one, is closed
+abbrev pub IsClosedClause : Clause (List Token) → Type 0
+IsClosedClause c = All IsClosed (clause_expressions c)
+
+-- the words of a directive go on with this token: to those of a combined one, to the name of `critical` or to the list of `flush`
+abbrev pub GoesOnWith : DirectiveName → TokenKind → Type 0
+GoesOnWith (directives.Parallel s) k = (k ≡ directive_word words.For) ⊎ (k ≡ directive_word words.Sections)
+GoesOnWith (directives.Critical s None) k = k ≡ kinds.Punctuator punctuators.OpenParen
+GoesOnWith (directives.Flush s None) k = k ≡ kinds.Punctuator punctuators.OpenParen
+GoesOnWith _ k = ⊥
+
+-- Behind the words of a directive, some of its clauses and perhaps a comma, these tokens stand where a clause is expected.
+pub record StandsClause (tokens : List Token) (name : DirectiveName) (before : List (ClauseItem (List Token))) (rest : List Token) : Type 0 where
+  pub hash : Span
+  pub pragma : Span
+  pub omp : Span
+  pub comma : Option Span
+  pub behind_name : List Token
+  pub parts : tokens ≡ opening_spelling hash pragma omp ++ (name_spelling name ++ behind_name)
+  pub behind_parts : behind_name ≡ flat_map (item_spelling (λ e. e)) before ++ (comma_spelling comma ++ rest)
+  pub whole_name : (t : Token) (more : List Token) → behind_name ≡ t ∷ more → GoesOnWith name t.kind → ⊥
+  pub can_stand : CanStand name [] before
+  pub closed : All (λ i. IsClosedClause i.clause) before
+  pub between : IsBetween before comma
+
+-- S5: where the directive must stand, a word stands that the table does not have as one.
+pub record IsUnknownDirective (tokens : List Token) (at : ℕ) : Type 0 where
+  pub hash : Span
+  pub pragma : Span
+  pub omp : Span
+  pub word : Token
+  pub rest : List Token
+  pub parts : tokens ≡ opening_spelling hash pragma omp ++ word ∷ rest
+  pub some_word : is_word word.kind ≡ true
+  pub unknown : (w : DirectiveWord) → word.kind ≢ directive_word w
+  pub place : word.span.start ≡ at
+
+-- S5: where a clause is expected, a word stands that the table does not have as one.
+pub record IsUnknownClause (tokens : List Token) (at : ℕ) : Type 0 where
+  pub name : DirectiveName
+  pub before : List (ClauseItem (List Token))
+  pub word : Token
+  pub rest : List Token
+  pub stands : StandsClause tokens name before (word ∷ rest)
+  pub some_word : is_word word.kind ≡ true
+  pub unknown : (k : ClauseKind) → word.kind ≢ clause_word k
+  pub place : word.span.start ≡ at
+
+-- S6: where a clause is expected, the word of one stands that the directive does not have, or not once more, or behind which
+-- nothing stands that makes it a clause.
+pub record IsBadClause (tokens : List Token) (at : ℕ) : Type 0 where
+  pub name : DirectiveName
+  pub before : List (ClauseItem (List Token))
+  pub kind : ClauseKind
+  pub word : Span
+  pub rest : List Token
+  pub stands : StandsClause tokens name before (token (clause_word kind) word ∷ rest)
+  pub bad : (may_stand name (kinds_of before) kind ≡ false)
+    ⊎ ((c : Clause (List Token)) (behind : List Token) → IsClosedClause c → token (clause_word kind) word ∷ rest ≢ clause_spelling (λ e. e) c ++ behind)
+  pub place : word.start ≡ at
+
+-- S5 or S6 stands at a place
+abbrev pub IsWordFault : List Token → FaultCode → ℕ → Type 0
+IsWordFault tokens codes.UnknownDirective at = IsUnknownDirective tokens at ⊎ IsUnknownClause tokens at
+IsWordFault tokens codes.BadClause at = IsBadClause tokens at
+IsWordFault tokens _ at = ⊥
+
+-- S3: the tokens are no directive, and neither S5 nor S6 stands at one of them.
+pub record IsSyntax (tokens : List Token) : Type 0 where
+  pub no_directive : (d : Directive (List Token)) → IsDirectiveOf tokens d → ⊥
+  pub no_other : (code : FaultCode) (at : ℕ) → IsWordFault tokens code at → ⊥
+
+-- why tokens are refused
+abbrev pub IsRefusal : List Token → SourceFault → Type 0
+IsRefusal tokens fault = refusal fault.code
+  where
+    refusal : FaultCode → Type 0
+    refusal codes.Syntax = IsSyntax tokens
+    refusal code = IsWordFault tokens code fault.at
+
+-- the directive, unless memory ran out
+abbrev pub IsFound : Directive (List Token) → Result (Directive (Bor (List Token))) SourceFault → Type 0
+IsFound d (Ok found) = with_tokens found ≡ d
+IsFound d (Err fault) = fault ≡ no_memory
