@@ -18,11 +18,15 @@ fn program_of(alloc: Global, source: &[u8]) -> Result<Program, SourceFault> {
     lower(alloc, &resolved)
 }
 
+const HEAD: &[u8] = b"int x;int main(void){";
+
+const ASSIGNMENT: &[u8] = b"x=1;";
+
 /// `int main(void){ .. }` of so many assignments.
 fn assignments(alloc: Global, count: usize) -> Result<Vec<u8>, AllocError> {
-    let mut source = b"int x;int main(void){".to_vec(alloc)?;
+    let mut source = HEAD.to_vec(alloc)?;
     for _ in 0..count {
-        source.extend_from_slice(b"x=1;".as_slice())?;
+        source.extend_from_slice(ASSIGNMENT)?;
     }
     source.push(b'}')?;
     Ok(source)
@@ -30,47 +34,61 @@ fn assignments(alloc: Global, count: usize) -> Result<Vec<u8>, AllocError> {
 
 const X: Place = Place::Global(0);
 
+const Y: Place = Place::Global(1);
+
+const ADD: Instr = Instr::Binary(BinaryOperator::Add);
+
+const SET_X: Instr = Instr::Store {
+    place: X,
+    keeps: false,
+};
+
+const SET_Y: Instr = Instr::Store {
+    place: Y,
+    keeps: false,
+};
+
+const SUMS: &[u8] = b"int x, y = -3;\nint main(void){\nx = 1;\ny = (x +\n2) + y;\nreturn y;\n}";
+
+// The instructions of `SUMS`, each with its place and its line.
+const CODE: [(u32, Instr, u32); 11] = [
+    (0, Instr::Constant(1), 3),
+    (1, SET_X, 3),
+    (2, Instr::Load(X), 4),
+    (3, Instr::Constant(2), 4),
+    (4, ADD, 4),
+    (5, Instr::Load(Y), 4),
+    (6, ADD, 4),
+    (7, SET_Y, 4),
+    (8, Instr::Load(Y), 6),
+    (9, Instr::Finish { has_value: true }, 6),
+    (10, Instr::Finish { has_value: false }, 7),
+];
+
 #[test]
 fn statements_follow_one_another(rt: HostRuntime) -> Result<(), Fail> {
-    let source = b"int x, y = -3;\nint main(void){\nx = 1;\ny = (x +\n2) + y;\nreturn y;\n}";
-    let program = program_of(rt.alloc(), source.as_slice())?;
-    let set = |place| Instr::Store {
-        place,
-        keeps: false,
-    };
-    let y = Place::Global(1);
-    let add = Instr::Binary(BinaryOperator::Add);
-    let code = [
-        (0, Instr::Constant(1), 3),
-        (1, set(X), 3),
-        (2, Instr::Load(X), 4),
-        (3, Instr::Constant(2), 4),
-        (4, add, 4),
-        (5, Instr::Load(y), 4),
-        (6, add, 4),
-        (7, set(y), 4),
-        (8, Instr::Load(y), 6),
-        (9, Instr::Finish { has_value: true }, 6),
-        (10, Instr::Finish { has_value: false }, 7),
-    ];
-    for (at, instr, line) in code {
-        assert_eq!(rt; program.instruction(0, at), Some(instr));
+    let program = program_of(rt.alloc(), SUMS)?;
+    for (at, instr, line) in CODE {
+        assert!(rt; program.instruction(0, at) == Some(instr), "at {at}");
         assert_eq!(rt; line_of(&program, 0, at), line);
     }
-    assert_eq!(rt; program.instruction(0, 11), None);
+    assert!(rt; program.instruction(0, 11).is_none());
     assert_eq!(rt; line_of(&program, 0, 11), 0);
     assert_eq!(rt; program.main(), 0);
     Ok(())
 }
 
+const GLOBALS: &[u8] = b"int x, y = -3;int main(){return 0;}";
+
+const NUMBERS: [(&[u8], Option<u32>); 3] = [(b"x", Some(0)), (b"y", Some(1)), (b"main", None)];
+
 #[test]
 fn globals_have_their_names_and_values(rt: HostRuntime) -> Result<(), Fail> {
-    let source = b"int x, y = -3;int main(){return 0;}";
-    let program = program_of(rt.alloc(), source.as_slice())?;
-    assert_eq!(rt; global_named(&program, b"x".as_slice()), Some(0));
-    assert_eq!(rt; global_named(&program, b"y".as_slice()), Some(1));
-    assert_eq!(rt; global_named(&program, b"main".as_slice()), None);
-    assert_eq!(rt; program.globals().len(), 2);
+    let program = program_of(rt.alloc(), GLOBALS)?;
+    for (name, number) in NUMBERS {
+        assert_eq!(rt; global_named(&program, name), number);
+    }
+    assert!(rt; program.globals().len() == 2);
     assert_eq!(rt; program.globals()[1].initial, -3);
     Ok(())
 }

@@ -1,5 +1,7 @@
 //! Scripts over readers and writers in memory.
 
+ghost use Rattle.std.specs.Prelude.{◌<◌, ◌≤◌};
+
 use crate::{Options, ShellFault, run};
 use std::alloc::Global;
 use std::io;
@@ -50,10 +52,47 @@ impl Write for Sink {
     }
 }
 
-const FROM_INPUT: Options = Options {
-    workers: 2,
-    source: None,
-};
+// How a run ended, and what it wrote.
+#[derive(Drop)]
+struct Told {
+    status: Result<u8, ShellFault>,
+    has_machine: bool,
+    text: Vec<u8>,
+}
+
+// A run of this many workers over these ends.
+fn run_over(
+    alloc: Global,
+    workers: u8,
+    source: Option<&[u8]>,
+    mut reader: Pieces<'_>,
+    writes_left: u64,
+) -> Told
+    requires at_least_one { 0 < workers }
+    requires at_most_eight { workers ≤ 8 }
+{
+    let mut writer = Sink {
+        bytes: Vec::new(alloc),
+        writes_left,
+    };
+    let ended = run(alloc, &mut reader, &mut writer, Options { workers, source });
+    let has_machine = ended.as_ref().is_ok_and(|ended| ended.machine.is_some());
+    Told {
+        status: ended.map(|ended| ended.status),
+        has_machine,
+        text: writer.bytes,
+    }
+}
+
+// A run of two workers whose source stands in the input, and whose ends never fail.
+fn answered(alloc: Global, input: &[u8], most: usize) -> Told {
+    let reader = Pieces {
+        bytes: input,
+        most,
+        reads_left: 1000,
+    };
+    run_over(alloc, 2, None, reader, 1000)
+}
 
 // The stored run.
 const INPUT: &[u8] =
@@ -62,125 +101,109 @@ const INPUT: &[u8] =
 const OUTPUT: &[u8] =
     b"#1 worker 0 line 1\n#2 worker 0 line 1\n#3 worker 0 line 1\n#4 worker 0 line 1\n#5 worker 0 line 1\n#6 worker 0 line 1\nx = 3\nundone #6 worker 0 line 1\nx = 1\n";
 
-fn empty_sink(alloc: Global, writes_left: u64) -> Sink {
-    Sink {
-        bytes: Vec::new(alloc),
-        writes_left,
-    }
-}
-
 #[test]
-fn answers_in_any_pieces(rt: HostRuntime) -> Result<(), Fail> {
+fn answers_in_any_pieces(rt: HostRuntime) {
     for most in [1, 2, 3, 7, 4096] {
-        let mut reader = Pieces {
-            bytes: INPUT,
-            most,
-            reads_left: 1000,
-        };
-        let mut writer = empty_sink(rt.alloc(), 1000);
-        let ended = run(rt.alloc(), &mut reader, &mut writer, FROM_INPUT)?;
-        assert_eq!(rt; ended.status, 0);
-        assert!(rt; ended.machine.is_some());
-        assert_eq!(rt; writer.bytes.as_slice(), OUTPUT, "in pieces of {most}");
+        let told = answered(rt.alloc(), INPUT, most);
+        assert_eq!(rt; told.status, Ok(0));
+        assert!(rt; told.has_machine);
+        assert_eq!(rt; told.text.as_slice(), OUTPUT, "in pieces of {most}");
     }
-    Ok(())
 }
 
-#[test]
-fn writes_the_worked_scripts(rt: HostRuntime) -> Result<(), Fail> {
-    let scripts: [(&[u8], u8, &[u8]); 9] = [
-        (b"", 1, b"refused S15 line 1 column 1\n"),
-        (b"int x; /* a", 1, b"refused S2 line 1 column 8\n"),
-        (
-            b"int x; int main(void){ x = 2147483647; }\n%%\nstep 0\nstep 0\nprint x\n",
-            0,
-            b"#1 worker 0 line 1\n#2 worker 0 line 1\nx = 2147483647\n",
-        ),
-        (
-            b"int x; int main(void){ x = 2147483648; }",
-            1,
-            b"refused S10 line 1 column 28\n",
-        ),
-        (
-            b"int x; int main(void){ x = 2147483647; x = x + 1; }\n%%\nstep 0\nstep 0\nstep 0\nstep 0\nstep 0\nstep 0\nundo 0\nstep 0\n",
-            0,
-            b"#1 worker 0 line 1\n#2 worker 0 line 1\n#3 worker 0 line 1\n#4 worker 0 line 1\n#5 worker 0 line 1 fault F1\nended\nundone #5 worker 0 line 1\n#6 worker 0 line 1 fault F1\n",
-        ),
-        (
-            b"int x; int main(void){ x = 1; x = x + 2; return x; }\n%%\nundo 0\nfoo\nstep 9\n",
-            0,
-            b"nothing to undo\nH1 unknown command\nH2 bad argument\n",
-        ),
-        (
-            b"int x; int main(void){ x = 1; x = x + 2; return x; }\n%%\nstep 0\nundo 0\nstep 0\nundo 0\nstep 0\n",
-            0,
-            b"#1 worker 0 line 1\nundone #1 worker 0 line 1\n#2 worker 0 line 1\nundone #2 worker 0 line 1\n#3 worker 0 line 1\n",
-        ),
-        (
-            b"int main(void){ y = 1; }\n%%\nstep 0\n",
-            1,
-            b"refused S7 line 1 column 17\n",
-        ),
-        (
-            b"int x = 1;\r\nint main(void) { }\r\n%%\r\nstep 1\r\nprint x\r\nquit\r\nprint x\r\n",
-            0,
-            b"blocked B5\nx = 1\n",
-        ),
-    ];
-    for (input, status, output) in scripts {
-        let mut reader = input;
-        let mut writer = Vec::new(rt.alloc());
-        let ended = run(rt.alloc(), &mut reader, &mut writer, FROM_INPUT)?;
-        assert_eq!(rt; ended.status, status);
-        assert_eq!(rt; ended.machine.is_some(), status == 0);
-        assert_eq!(rt; writer.as_slice(), output);
-    }
-    Ok(())
-}
+// Inputs, each with its status and its output.
+const SCRIPTS: [(&[u8], u8, &[u8]); 9] = [
+    (b"", 1, b"refused S15 line 1 column 1\n"),
+    (b"int x; /* a", 1, b"refused S2 line 1 column 8\n"),
+    (
+        b"int x; int main(void){ x = 2147483647; }\n%%\nstep 0\nstep 0\nprint x\n",
+        0,
+        b"#1 worker 0 line 1\n#2 worker 0 line 1\nx = 2147483647\n",
+    ),
+    (
+        b"int x; int main(void){ x = 2147483648; }",
+        1,
+        b"refused S10 line 1 column 28\n",
+    ),
+    (
+        b"int x; int main(void){ x = 2147483647; x = x + 1; }\n%%\nstep 0\nstep 0\nstep 0\nstep 0\nstep 0\nstep 0\nundo 0\nstep 0\n",
+        0,
+        b"#1 worker 0 line 1\n#2 worker 0 line 1\n#3 worker 0 line 1\n#4 worker 0 line 1\n#5 worker 0 line 1 fault F1\nended\nundone #5 worker 0 line 1\n#6 worker 0 line 1 fault F1\n",
+    ),
+    (
+        b"int x; int main(void){ x = 1; x = x + 2; return x; }\n%%\nundo 0\nfoo\nstep 9\n",
+        0,
+        b"nothing to undo\nH1 unknown command\nH2 bad argument\n",
+    ),
+    (
+        b"int x; int main(void){ x = 1; x = x + 2; return x; }\n%%\nstep 0\nundo 0\nstep 0\nundo 0\nstep 0\n",
+        0,
+        b"#1 worker 0 line 1\nundone #1 worker 0 line 1\n#2 worker 0 line 1\nundone #2 worker 0 line 1\n#3 worker 0 line 1\n",
+    ),
+    (
+        b"int main(void){ y = 1; }\n%%\nstep 0\n",
+        1,
+        b"refused S7 line 1 column 17\n",
+    ),
+    (
+        b"int x = 1;\r\nint main(void) { }\r\n%%\r\nstep 1\r\nprint x\r\nquit\r\nprint x\r\n",
+        0,
+        b"blocked B5\nx = 1\n",
+    ),
+];
 
 #[test]
-fn takes_a_source_that_is_handed_in(rt: HostRuntime) -> Result<(), Fail> {
-    let options = Options {
-        workers: 1,
-        source: Some(b"int x = -3; int main(void) { }"),
+fn writes_the_worked_scripts(rt: HostRuntime) {
+    for (input, status, output) in SCRIPTS {
+        let told = answered(rt.alloc(), input, 4096);
+        assert_eq!(rt; told.status, Ok(status));
+        assert_eq!(rt; told.has_machine, status == 0);
+        assert_eq!(rt; told.text.as_slice(), output);
+    }
+}
+
+const SOURCE: &[u8] = b"int x = -3; int main(void) { }";
+
+const COMMANDS: &[u8] = b"%%\nstep 0\nstep 1\nprint x";
+
+const ANSWERS: &[u8] = b"H1 unknown command\n#1 worker 0 line 1\nH2 bad argument\nx = -3\n";
+
+#[test]
+fn takes_a_source_that_is_handed_in(rt: HostRuntime) {
+    let reader = Pieces {
+        bytes: COMMANDS,
+        most: 4096,
+        reads_left: 1000,
     };
-    let mut reader: &[u8] = b"%%\nstep 0\nstep 1\nprint x";
-    let mut writer = Vec::new(rt.alloc());
-    let ended = run(rt.alloc(), &mut reader, &mut writer, options)?;
-    assert_eq!(rt; ended.status, 0);
-    let output: &[u8] = b"H1 unknown command\n#1 worker 0 line 1\nH2 bad argument\nx = -3\n";
-    assert_eq!(rt; writer.as_slice(), output);
-    Ok(())
+    let told = run_over(rt.alloc(), 1, Some(SOURCE), reader, 1000);
+    assert_eq!(rt; told.status, Ok(0));
+    assert_eq!(rt; told.text.as_slice(), ANSWERS);
 }
 
 #[test]
-fn each_read_fails_in_turn(rt: HostRuntime) -> Result<(), Fail> {
+fn each_read_fails_in_turn(rt: HostRuntime) {
     for reads_left in 0..70 {
-        let mut reader = Pieces {
+        let reader = Pieces {
             bytes: INPUT,
             most: 2,
             reads_left,
         };
-        let mut writer = empty_sink(rt.alloc(), 1000);
-        match run(rt.alloc(), &mut reader, &mut writer, FROM_INPUT) {
-            Ok(ended) => assert_eq!(rt; ended.status, 0),
-            Err(fault) => assert_eq!(rt; fault, ShellFault::Read),
-        }
-        assert!(rt; OUTPUT.starts_with(writer.bytes.as_slice()));
+        let told = run_over(rt.alloc(), 2, None, reader, 1000);
+        assert!(rt; matches!(told.status, Ok(0) | Err(ShellFault::Read)));
+        assert!(rt; OUTPUT.starts_with(told.text.as_slice()));
     }
-    Ok(())
 }
 
 #[test]
-fn each_write_fails_in_turn(rt: HostRuntime) -> Result<(), Fail> {
+fn each_write_fails_in_turn(rt: HostRuntime) {
     for writes_left in 0..9 {
-        let mut reader: &[u8] = INPUT;
-        let mut writer = empty_sink(rt.alloc(), writes_left);
-        match run(rt.alloc(), &mut reader, &mut writer, FROM_INPUT) {
-            Ok(_) => assert!(rt; false),
-            Err(fault) => assert_eq!(rt; fault, ShellFault::Write),
-        }
-        assert!(rt; OUTPUT.starts_with(writer.bytes.as_slice()));
+        let reader = Pieces {
+            bytes: INPUT,
+            most: 4096,
+            reads_left: 1000,
+        };
+        let told = run_over(rt.alloc(), 2, None, reader, writes_left);
+        assert!(rt; told.status == Err(ShellFault::Write));
+        assert!(rt; OUTPUT.starts_with(told.text.as_slice()));
     }
-    Ok(())
 }
