@@ -110,6 +110,16 @@ binary_read a o at b a_again b_again beyond room rest =
       ]
     ])
 
+-- an operand that binds tighter than a sum is primary
+operand : (b : ExpressionTree) → IsExpression b → 7 < level b → 10 ≤ level b
+unfolding IsExpression
+operand (Name n) f lt = omega arith
+operand (Constant n) f lt = omega arith
+operand (Paren left t right) f lt = omega arith
+operand (Binary a binaries.Add at b) f lt = absurd (omega arith)
+operand (Assign a o at b) f lt = absurd (omega arith)
+operand _ f lt = absurd f
+
 read_again : (t : ExpressionTree) → IsExpression t → IsReadAgain t
 unfolding IsExpression
 read_again (Name n) f = record { primary = λ le. name_read n; sum = λ le. sum_from (Name n) (name_read n) }
@@ -119,16 +129,10 @@ read_again (Paren left t right) f =
     record { primary = λ le. p; sum = λ le. sum_from (Paren left t right) p }
 read_again (Binary a binaries.Add at b) f = record {
   primary = λ le. absurd (omega arith);
-  sum = λ le. binary_read a binaries.Add at b ((read_again a f.0).sum (omega (arith, f.2))) ((read_again b f.1).primary (operand b f.3));
+  sum = λ le. binary_read a binaries.Add at b ((read_again a f.0).sum (omega (arith, f.2))) ((read_again b f.1).primary (operand b f.1 f.3));
 }
-  where
-    operand : (b : ExpressionTree) → 7 < level b → 10 ≤ level b
-    operand (Name n) lt = omega arith
-    operand (Constant n) lt = omega arith
-    operand (Paren left t right) lt = omega arith
-    operand (Binary a binaries.Add at b) lt = absurd (omega arith)
-    operand (Assign a o at b) lt = absurd (omega arith)
 read_again (Assign a o at b) f = record { primary = λ le. absurd (omega arith); sum = λ le. absurd (omega arith) }
+read_again _ f = absurd f
 
 -- a sum, where no operator follows, is read again
 pub sum_again : (t : ExpressionTree) → IsExpression t → 2 ≤ level t → (beyond room : ℕ) (rest : List Token) → take_binary rest ≡ None → IsAnswer (Fits beyond room t rest) (sum_at beyond room (expression_spelling t ++ rest)) (t, rest)

@@ -61,15 +61,16 @@ within_err beyond s ts r f e = go (nat_le (length ts) beyond) refl e
     go false is h = inr (leb-false _ _ is, h)
 
 -- a well-formed expression closes all parentheses that it opens
-balanced : (t : ExpressionTree) (d : ℕ) (us : List Token) → still_open d (expression_spelling t ++ us) ≡ still_open d us
-unfolding still_open expression_spelling
-balanced (Name n) d us = refl
-balanced (Constant n) d us = refl
-balanced (Paren left t right) d us =
+balanced : (t : ExpressionTree) → IsExpression t → (d : ℕ) (us : List Token) → still_open d (expression_spelling t ++ us) ≡ still_open d us
+unfolding still_open expression_spelling IsExpression
+balanced (Name n) f d us = refl
+balanced (Constant n) f d us = refl
+balanced (Paren left t right) f d us =
     let back : d + 1 - 1 ≡ d = omega arith in
-    rw append_assoc (balanced t (d + 1) (mark punctuators.CloseParen right ∷ us) ∙ ap (λ (k : ℕ). still_open k us) back)
-balanced (Binary a binaries.Add at b) d us = rw append_assoc (balanced a d (mark punctuators.Plus at ∷ (expression_spelling b ++ us)) ∙ balanced b d us)
-balanced (Assign a assigns.Set at b) d us = rw append_assoc (balanced a d (mark punctuators.Equal at ∷ (expression_spelling b ++ us)) ∙ balanced b d us)
+    rw append_assoc (balanced t f.0 (d + 1) (mark punctuators.CloseParen right ∷ us) ∙ ap (λ (k : ℕ). still_open k us) back)
+balanced (Binary a binaries.Add at b) f d us = rw append_assoc (balanced a f.0 d (mark punctuators.Plus at ∷ (expression_spelling b ++ us)) ∙ balanced b f.1 d us)
+balanced (Assign a assigns.Set at b) f d us = rw append_assoc (balanced a f.0 d (mark punctuators.Equal at ∷ (expression_spelling b ++ us)) ∙ balanced b f.1 d us)
+balanced _ f d us = absurd f
 
 -- any operand, at this span
 abbrev one_at : Span → ExpressionTree
@@ -210,7 +211,7 @@ operators_cut beyond room primary sound cutting (suc k) ts a us f front h deep =
             → (suc (length after) ≡ beyond) ⊎ ((token.kind ≡ kinds.Punctuator punctuators.OpenParen) × ((d : ℕ) → still_open d begun ≡ d + room))
             → (suc (length after) ≡ beyond) ⊎ ((token.kind ≡ kinds.Punctuator punctuators.OpenParen) × ((d : ℕ) → still_open d (expression_spelling a ++ mark (binary_mark o.0.0) o.0.1 ∷ begun) ≡ d + room))
         passed o begun token after (inl e) = inl e
-        passed ((binaries.Add, s), rest) begun token after (inr (is, nests)) = inr (is, λ d. balanced a d (mark punctuators.Plus s ∷ begun) ∙ nests d)
+        passed ((binaries.Add, s), rest) begun token after (inr (is, nests)) = inr (is, λ d. balanced a front.formed d (mark punctuators.Plus s ∷ begun) ∙ nests d)
 
 sum_step_cut : (beyond room : ℕ) (primary : Reader ExpressionTree) → IsExpressionSound 10 beyond room primary → IsCutting 10 beyond room primary → IsCutting 7 beyond room (sum_step beyond primary)
 unfolding sum_step

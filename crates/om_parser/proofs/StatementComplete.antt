@@ -60,16 +60,14 @@ module _ (l : Limits) where
   statement_again : (s : StatementTree) (rest : List Token) → IsStatement s → IsAnswer (IsSmallStatement s) ((statement_at l) (statement_spelling s ++ rest)) (s, rest)
   unfolding IsStatement IsExpression
   statement_again (Expression (Assign (Name n) assigns.Set q e) s) rest f = assignment_again n q e s rest f.0.1 f.0.3
-  statement_again (Expression (Assign (Constant n) o q e) s) rest f = absurd f.0.2
-  statement_again (Expression (Assign (Paren l t r) o q e) s) rest f = absurd f.0.2
-  statement_again (Expression (Assign (Binary a p at b) o q e) s) rest f = absurd f.0.2
-  statement_again (Expression (Assign (Assign a p at b) o q e) s) rest f = absurd f.0.2
   statement_again (Expression (Name n) s) rest f = absurd (omega (arith, f.1))
   statement_again (Expression (Constant n) s) rest f = absurd (omega (arith, f.1))
   statement_again (Expression (Paren l t r) s) rest f = absurd (omega (arith, f.1))
   statement_again (Expression (Binary a binaries.Add at b) s) rest f = absurd (omega (arith, f.1))
+  statement_again (Expression (Assign _ o q e) s) rest f = absurd f.0.2
+  statement_again (Expression _ s) rest f = absurd f.0
   statement_again (Return at (Some e) s) rest f = return_again at e s rest f.0 f.1
-  statement_again (Return at None s) rest f = absurd f
+  statement_again _ rest f = absurd f
 
   statements_again : AreAgain statement_spelling IsStatement IsSmallStatement (λ ts. Unit {0}) (take_mark punctuators.CloseBrace) (statement_at l)
   unfolding take_mark take same_mark statement_spelling IsStatement expression_spelling IsExpression
@@ -82,25 +80,24 @@ module _ (l : Limits) where
     where
       unended : (s : StatementTree) (rest : List Token) → IsStatement s → take_mark punctuators.CloseBrace (statement_spelling s ++ rest) ≡ None
       unended (Expression (Assign (Name n) o q e) s) rest f = refl
-      unended (Expression (Assign (Constant n) o q e) s) rest f = refl
-      unended (Expression (Assign (Paren l t r) o q e) s) rest f = refl
-      unended (Expression (Assign (Binary a p at b) o q e) s) rest f = absurd f.0.2
-      unended (Expression (Assign (Assign a p at b) o q e) s) rest f = absurd f.0.2
+      unended (Expression (Assign _ o q e) s) rest f = absurd f.0.2
       unended (Expression (Name n) s) rest f = refl
       unended (Expression (Constant n) s) rest f = refl
       unended (Expression (Paren l t r) s) rest f = refl
       unended (Expression (Binary a binaries.Add at b) s) rest f = absurd (omega (arith, f.1))
+      unended (Expression _ s) rest f = absurd f.0
       unended (Return at value s) rest f = refl
+      unended _ rest f = absurd f
 
   abbrev IsSmallBlock : BlockTree → Type 0
-  IsSmallBlock b = All (IsWithin l) (flat_map expressions_of_statement b.statements)
+  IsSmallBlock b = All (IsWithin l) (flat_map expressions_of_statement b.items)
 
-  pub block_again : (b : BlockTree) (rest : List Token) → All IsStatement b.statements → IsAnswer (IsSmallBlock b) ((block_at l) (block_spelling b ++ rest)) (b, rest)
+  pub block_again : (b : BlockTree) (rest : List Token) → All IsStatement b.items → IsAnswer (IsSmallBlock b) ((block_at l) (block_spelling b ++ rest)) (b, rest)
   unfolding block_at block_spelling
   block_again b rest f =
       let last : Token = mark punctuators.CloseBrace b.close_brace in
-      let inner : List Token = flat_map statement_spelling b.statements ++ last ∷ rest in
-      rw (append_assoc, mark_again punctuators.OpenBrace b.open_brace inner) (bind_answer (until (take_mark punctuators.CloseBrace) (statement_at l) (length inner) inner) _ (b.statements, b.close_brace, rest) (b, rest)
-      (λ w. flat_all (IsWithin l) expressions_of_statement b.statements w)
-      (until_again statement_spelling IsStatement IsSmallStatement (λ ts. Unit {0}) (take_mark punctuators.CloseBrace) (statement_at l) statements_again last b.close_brace rest (take_mark_again punctuators.CloseBrace b.close_brace rest) tt b.statements f)
+      let inner : List Token = flat_map statement_spelling b.items ++ last ∷ rest in
+      rw (append_assoc, mark_again punctuators.OpenBrace b.open_brace inner) (bind_answer (until (take_mark punctuators.CloseBrace) (statement_at l) (length inner) inner) _ (b.items, b.close_brace, rest) (b, rest)
+      (λ w. flat_all (IsWithin l) expressions_of_statement b.items w)
+      (until_again statement_spelling IsStatement IsSmallStatement (λ ts. Unit {0}) (take_mark punctuators.CloseBrace) (statement_at l) statements_again last b.close_brace rest (take_mark_again punctuators.CloseBrace b.close_brace rest) tt b.items f)
       (inl refl))

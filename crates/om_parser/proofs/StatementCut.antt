@@ -104,7 +104,7 @@ module _ (l : Limits) (two : 2 ≤ l.tokens) where
   statement_parts : (us : List Token) (x : StatementTree × List Token) → statement_at l us ≡ ok x → (us ≡ statement_spelling x.0 ++ x.1) × IsStatement x.0
   statement_parts us x r = let s = statement_sound l us x r in (s.parts, s.formed.0)
 
-  pub block_cut : IsCuttingAt block_spelling (λ b. All IsStatement b.statements) (λ b. flat_map expressions_of_statement b.statements) l (block_at l)
+  pub block_cut : IsCuttingAt block_spelling (λ b. All IsStatement b.items) (λ b. flat_map expressions_of_statement b.items) l (block_at l)
   unfolding block_at mark_at block_spelling
   block_cut ts f h deep = elim (bind_err (mark_at punctuators.OpenBrace ts) _ f h) [
     | inl wrong ↦ absurd (known_never_deep ts _ f wrong deep)
@@ -113,7 +113,7 @@ module _ (l : Limits) (two : 2 ≤ l.tokens) where
       | inl e ↦
           let c = until_cut statement_spelling IsStatement expressions_of_statement l (take_mark punctuators.CloseBrace) (statement_at l) statement_parts statement_cut (length o.1) o.1 f e deep in
           record {
-            part = record { open_brace = o.0; statements = c.part; close_brace = c.token.span };
+            part = record { open_brace = o.0; items = c.part; close_brace = c.token.span };
             formed = c.formed;
             expression = c.expression;
             whole = c.whole;

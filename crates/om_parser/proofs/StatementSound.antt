@@ -62,7 +62,7 @@ module _ (l : Limits) where
   ]
 
   abbrev pub IsGoodBlock : BlockTree → Type 0
-  IsGoodBlock b = All IsStatement b.statements × All (IsWithin l) (flat_map expressions_of_statement b.statements)
+  IsGoodBlock b = All IsStatement b.items × All (IsWithin l) (flat_map expressions_of_statement b.items)
 
   pub block_sound : IsSound block_spelling IsGoodBlock (block_at l)
   unfolding block_at block_spelling

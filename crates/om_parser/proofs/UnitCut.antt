@@ -28,7 +28,7 @@ use Rattle.om_parser.proofs.StatementCut.{block_cut}
 
 module _ (l : Limits) (two : 2 ≤ l.tokens) where
   function_after_cut : (result : Span) (n : names.Name) (left : Span) (ts : List Token) (f : SourceFault) → n.text ≡ codes "main" → function_after l result n left ts ≡ Err f → Deep f → PassesLimit item_spelling IsItem expressions_of_item l (word keywords.Int result ∷ name n ∷ mark punctuators.OpenParen left ∷ ts) f.at
-  unfolding function_after mark_at item_spelling function_spelling IsItem IsFunction
+  unfolding function_after mark_at item_spelling head_spelling IsItem IsFunction
   function_after_cut result n left ts f main h deep =
       let v = optional (take_word keywords.Void ts) ts in
       let void = optional_is (λ at. word keywords.Void at ∷ []) (take_word keywords.Void ts) ts (λ s us e. take_word_is keywords.Void ts s us e) in
@@ -38,10 +38,11 @@ module _ (l : Limits) (two : 2 ≤ l.tokens) where
           | inr (b, read, no_err) ↦ absurd cc
           | inl e ↦
               let c = block_cut l two r.1 f e deep in
-              let head : List Token = word keywords.Int result ∷ name n ∷ mark punctuators.OpenParen left ∷ (perhaps (λ at. word keywords.Void at ∷ []) v.0 ++ mark punctuators.CloseParen r.0 ∷ []) in
+              let spelled = sym (parameters_spelled v.0) in
+              let head : List Token = word keywords.Int result ∷ name n ∷ mark punctuators.OpenParen left ∷ (parameters_spelling (no_parameters v.0) ++ mark punctuators.CloseParen r.0 ∷ []) in
               record {
-                part = Function (record { result = result; name = n; open_paren = left; void = v.0; close_paren = r.0; body = c.part });
-                formed = (main, c.formed);
+                part = Function (record { head = record { result = results.Int result; name = n; open_paren = left; parameters = no_parameters v.0; close_paren = r.0 }; body = c.part });
+                formed = (tt, main, no_parameters_none v.0, c.formed);
                 expression = c.expression;
                 whole = c.whole;
                 before = head ++ c.before;
@@ -50,9 +51,9 @@ module _ (l : Limits) (two : 2 ≤ l.tokens) where
                 after = c.after;
                 rest_of_expression = c.rest_of_expression;
                 rest_of_part = c.rest_of_part;
-                stands = ap (λ w. word keywords.Int result ∷ name n ∷ mark punctuators.OpenParen left ∷ w) (void ∙ ap (λ w. perhaps (λ at. word keywords.Void at ∷ []) v.0 ++ w) (mark_at_is punctuators.CloseParen v.1 r taken ∙ ap (λ w. mark punctuators.CloseParen r.0 ∷ w) c.stands)) ∙ simp append_assoc;
+                stands = ap (λ w. word keywords.Int result ∷ name n ∷ mark punctuators.OpenParen left ∷ w) (void ∙ ap (λ w. w ++ v.1) spelled ∙ ap (λ w. parameters_spelling (no_parameters v.0) ++ w) (mark_at_is punctuators.CloseParen v.1 r taken ∙ ap (λ w. mark punctuators.CloseParen r.0 ∷ w) c.stands)) ∙ simp append_assoc;
                 in_expression = c.in_expression;
-                in_part = ap (λ w. word keywords.Int result ∷ name n ∷ mark punctuators.OpenParen left ∷ (perhaps (λ at. word keywords.Void at ∷ []) v.0 ++ mark punctuators.CloseParen r.0 ∷ w)) c.in_part ∙ simp append_assoc;
+                in_part = ap (λ w. (word keywords.Int result ∷ name n ∷ mark punctuators.OpenParen left ∷ (parameters_spelling (no_parameters v.0) ++ mark punctuators.CloseParen r.0 ∷ [])) ++ w) c.in_part ∙ simp append_assoc;
                 at_place = c.at_place;
                 too_much = c.too_much;
               }

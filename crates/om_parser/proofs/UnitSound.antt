@@ -57,24 +57,34 @@ until_end item (suc k) ts x h = elim (choose_cases (take_end ts) _ _ (ok x) h) [
       sym (ap (λ y. y.2) (ok_is (a.0.0 ∷ b.0.0, b.0.1, b.0.2) x b.2)) ∙ until_end item k a.0.1 b.0 b.1
 ]
 
+-- what `no_parameters` makes of the word that may stand there
+pub parameters_spelled : (v : Option Span) → parameters_spelling (no_parameters v) ≡ perhaps (λ at. word keywords.Void at ∷ []) v
+unfolding parameters_spelling
+parameters_spelled (Some at) = refl
+parameters_spelled None = refl
+
+pub no_parameters_none : (v : Option Span) → HasNoParameters (no_parameters v)
+no_parameters_none (Some at) = tt
+no_parameters_none None = tt
+
 module _ (l : Limits) where
   abbrev pub IsGoodItem : ItemTree → Type 0
   IsGoodItem i = IsItem i × All (IsWithin l) (expressions_of_item i)
 
   declaration_after_sound : (int : Span) (n : names.Name) (ts : List Token) (x : ItemTree × List Token) → declaration_after int n ts ≡ ok x → IsRead item_spelling IsGoodItem (word keywords.Int int ∷ name n ∷ ts) x
-  unfolding declaration_after item_spelling declaration_spelling IsItem
+  unfolding declaration_after item_spelling declaration_spelling IsItem IsGlobalDeclaration
   declaration_after_sound int n ts x h =
       let d = bind_ok (declarator_after n ts) _ x h in
       let m = bind_ok (until (take_mark punctuators.Semicolon) further_at (length d.0.1) d.0.1) _ x d.2 in
       let first = declarator_after_sound n ts d.0 d.1 in
-      let r = until_sound further_spelling IsAny (mark punctuators.Semicolon) (take_mark punctuators.Semicolon) further_at (take_mark_is punctuators.Semicolon) further_sound (length d.0.1) d.0.1 m.0 m.1 in
+      let r = until_sound further_spelling IsFurther (mark punctuators.Semicolon) (take_mark punctuators.Semicolon) further_at (take_mark_is punctuators.Semicolon) further_sound (length d.0.1) d.0.1 m.0 m.1 in
       subst (IsRead item_spelling IsGoodItem (word keywords.Int int ∷ name n ∷ ts)) (ok_is _ x m.2) (record {
         parts = ap (λ w. word keywords.Int int ∷ w) (after_front (name n ∷ ts) (declarator_spelling d.0.0) d.0.1 (flat_map further_spelling m.0.0 ++ mark punctuators.Semicolon m.0.1 ∷ []) m.0.2 first.parts r.parts ∙ simp append_assoc);
-        formed = (tt, All-nil (IsWithin l));
+        formed = ((first.formed, r.formed), All-nil (IsWithin l));
       })
 
   function_after_sound : (result : Span) (n : names.Name) (left : Span) (ts : List Token) (x : ItemTree × List Token) → n.text ≡ codes "main" → (function_after l) result n left ts ≡ ok x → IsRead item_spelling IsGoodItem (word keywords.Int result ∷ name n ∷ mark punctuators.OpenParen left ∷ ts) x
-  unfolding function_after item_spelling function_spelling IsItem IsFunction
+  unfolding function_after item_spelling head_spelling IsItem IsFunction
   function_after_sound result n left ts x main h =
       let v = optional (take_word keywords.Void ts) ts in
       let r = bind_ok (mark_at punctuators.CloseParen v.1) _ x h in
@@ -82,10 +92,10 @@ module _ (l : Limits) where
       let void = optional_is (λ at. word keywords.Void at ∷ []) (take_word keywords.Void ts) ts (λ s us e. take_word_is keywords.Void ts s us e) in
       let body = block_sound l r.0.1 b.0 b.1 in
       let close = after_token (mark punctuators.CloseParen r.0.0) v.1 r.0.1 (block_spelling b.0.0) b.0.1 (mark_at_is punctuators.CloseParen v.1 r.0 r.1) body.parts in
-      let back = after_front ts (perhaps (λ at. word keywords.Void at ∷ []) v.0) v.1 (mark punctuators.CloseParen r.0.0 ∷ block_spelling b.0.0) b.0.1 void close in
+      let back = after_front ts (parameters_spelling (no_parameters v.0)) v.1 (mark punctuators.CloseParen r.0.0 ∷ block_spelling b.0.0) b.0.1 (void ∙ ap (λ w. w ++ v.1) (sym (parameters_spelled v.0))) close in
       subst (IsRead item_spelling IsGoodItem (word keywords.Int result ∷ name n ∷ mark punctuators.OpenParen left ∷ ts)) (ok_is _ x b.2) (record {
-        parts = ap (λ w. word keywords.Int result ∷ name n ∷ mark punctuators.OpenParen left ∷ w) back;
-        formed = ((main, body.formed.0), body.formed.1);
+        parts = ap (λ w. word keywords.Int result ∷ name n ∷ mark punctuators.OpenParen left ∷ w) back ∙ simp append_assoc;
+        formed = ((tt, main, no_parameters_none v.0, body.formed.0), body.formed.1);
       })
 
   pub item_sound : IsSound item_spelling IsGoodItem (item_at l)

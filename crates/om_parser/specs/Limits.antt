@@ -7,26 +7,37 @@ use Rattle.om_lexer.specs.declared.token.TokenKind.{TokenKind}
 use Rattle.om_lexer.specs.declared.token.TokenKind.TheVariants as kinds
 use Rattle.om_parser.specs.declared.unit.TheConstants.{NESTING_LIMIT, TOKEN_LIMIT}
 use Rattle.om_parser.specs.Spelling.{expression_spelling}
-use Rattle.om_parser.specs.Tree.{ExpressionTree, Name, Constant, Paren, Binary, Assign, StatementTree, Expression, Return, ItemTree, Declaration, Function, UnitTree}
+use Rattle.om_parser.specs.Tree.{ExpressionTree, Name, Constant, Paren, Index, Call, Prefix, Postfix, Binary, Conditional, Assign, ArgumentsTree, NoArguments, Argument, StatementTree, Expression, Return, ItemTree, Declaration, Prototype, Function, UnitTree}
 
--- how many parentheses stand round the innermost part
-abbrev pub nesting : ExpressionTree → ℕ
-nesting (Name n) = 0
-nesting (Constant n) = 0
-nesting (Paren left e right) = nesting e + 1
-nesting (Binary a o at b) = max (nesting a) (nesting b)
-nesting (Assign a o at b) = max (nesting a) (nesting b)
+abbrev mutual
+  -- how many parentheses and brackets stand round the innermost part
+  pub nesting : ExpressionTree → ℕ
+  nesting (Name n) = 0
+  nesting (Constant n) = 0
+  nesting (Paren left e right) = nesting e + 1
+  nesting (Index n left e right) = nesting e + 1
+  nesting (Call n left values right) = arguments_nesting values + 1
+  nesting (Prefix o at e) = nesting e
+  nesting (Postfix e o at) = nesting e
+  nesting (Binary a o at b) = max (nesting a) (nesting b)
+  nesting (Conditional c question a colon b) = max (nesting c) (max (nesting a) (nesting b))
+  nesting (Assign a o at b) = max (nesting a) (nesting b)
+
+  pub arguments_nesting : ArgumentsTree → ℕ
+  arguments_nesting NoArguments = 0
+  arguments_nesting (Argument comma e rest) = max (nesting e) (arguments_nesting rest)
 
 -- the expressions that are no part of another one (C17 6.8, full expressions)
 abbrev pub expressions_of_statement : StatementTree → List ExpressionTree
 expressions_of_statement (Expression e semicolon) = e ∷ []
 expressions_of_statement (Return at (Some e) semicolon) = e ∷ []
-expressions_of_statement (Return at None semicolon) = []
+expressions_of_statement _ = []
 
 -- those of the function's body
 abbrev pub expressions_of_item : ItemTree → List ExpressionTree
 expressions_of_item (Declaration d) = []
-expressions_of_item (Function f) = flat_map expressions_of_statement f.body.statements
+expressions_of_item (Prototype h semicolon) = []
+expressions_of_item (Function f) = flat_map expressions_of_statement f.body.items
 
 -- those of a whole source
 unfoldable pub whole_expressions : UnitTree → List ExpressionTree

@@ -40,4 +40,4 @@ unfoldable pub block_at : Limits → Reader BlockTree
 block_at l ts = do
   o ← mark_at punctuators.OpenBrace ts
   b ← until (take_mark punctuators.CloseBrace) (statement_at l) (length o.1) o.1
-  Ok (record { open_brace = o.0; statements = b.0; close_brace = b.1 }, b.2)
+  Ok (record { open_brace = o.0; items = b.0; close_brace = b.1 }, b.2)

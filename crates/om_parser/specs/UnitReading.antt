@@ -7,12 +7,18 @@ use Rattle.om_lexer.specs.declared.token.Token.{Token}
 use Rattle.om_lexer.specs.declared.token.TokenKind.{TokenKind}
 use Rattle.om_lexer.specs.declared.token.TokenKind.TheVariants as kinds
 use Rattle.om_parser.specs.declared.tree.Name as names
+use Rattle.om_parser.specs.declared.tree.ResultType.TheVariants as results
 use Rattle.om_parser.specs.DeclarationReading.{declaration_after}
 use Rattle.om_parser.specs.Limits.{Limits}
 use Rattle.om_parser.specs.Reading.{◌>>=◌, choose, Outcome, Reader, take_mark, take_word, mark_at, word_at, name_at}
 use Rattle.om_parser.specs.Repetition.{optional, until}
 use Rattle.om_parser.specs.StatementReading.{block_at}
-use Rattle.om_parser.specs.Tree.{ItemTree, Function, UnitTree}
+use Rattle.om_parser.specs.Tree.{ParametersTree, NoParameters, Void, ItemTree, Function, UnitTree}
+
+-- no parameters, with `void` or without
+abbrev pub no_parameters : Option Span → ParametersTree
+no_parameters (Some void) = Void void
+no_parameters None = NoParameters
 
 -- the rest of a function, behind its left parenthesis (C17 6.9.1)
 unfoldable pub function_after : Limits → Span → names.Name → Span → Reader ItemTree
@@ -20,7 +26,7 @@ function_after l result name left ts = do
   let v = optional (take_word keywords.Void ts) ts
   r ← mark_at punctuators.CloseParen v.1
   b ← block_at l r.1
-  Ok (Function (record { result = result; name = name; open_paren = left; void = v.0; close_paren = r.0; body = b.0 }), b.1)
+  Ok (Function (record { head = record { result = results.Int result; name = name; open_paren = left; parameters = no_parameters v.0; close_paren = r.0 }; body = b.0 }), b.1)
 
 -- the parenthesis behind `main`
 unfoldable pub take_parameters : names.Name → List Token → Option (Span × List Token)

@@ -9,7 +9,7 @@ ghost use Rattle.om_parser.specs.View.{view_function};
 
 use crate::front::{mark, take_mark, take_word};
 use crate::statement::block;
-use crate::tree::{Function, Name};
+use crate::tree::{Function, FunctionHead, Name, Parameters, ResultType};
 use om_lexer::{Keyword, Punctuator, SourceFault, Span, Token};
 use std::alloc::Global;
 
@@ -37,21 +37,21 @@ pub fn function_after(
 ) -> Result<(Function, &[Token]), SourceFault>
     ensures { Reads (λ x. (trees.Function (view_function x.0), x.1.now)) result (function_after accepted result_type name open_paren tokens.now) }
 {
-    let (void, rest) = match take_word(tokens, Keyword::Void) {
-        Some((void, rest)) => (Some(void), rest),
-        None => (None, tokens),
+    let (parameters, rest) = match take_word(tokens, Keyword::Void) {
+        Some((void, rest)) => (Parameters::Void(void), rest),
+        None => (Parameters::Nothing, tokens),
     };
     let (close_paren, rest) = mark(rest, Punctuator::CloseParen)?;
     let (body, rest) = block(alloc, rest)?;
+    let head = FunctionHead {
+        result: ResultType::Int(result_type),
+        name,
+        open_paren,
+        parameters,
+        close_paren,
+    };
     Ok((
-        Function {
-            result: result_type,
-            name,
-            open_paren,
-            void,
-            close_paren,
-            body,
-        },
+        Function { head, body },
         rest,
     ))
 }

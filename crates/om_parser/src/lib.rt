@@ -10,8 +10,9 @@ mod tree;
 mod unit;
 
 pub use tree::{
-    AssignOperator, BinaryOperator, Block, Declaration, Declarator, Expression, Function,
-    Initializer, Item, Name, Number, Statement, Unit,
+    ArrayLength, AssignOperator, BinaryOperator, Block, Condition, Declaration, Declarator,
+    Expression, ForHead, ForStart, Function, FunctionHead, Initializer, Item, Name, Number,
+    Parameter, Parameters, PostfixOperator, PrefixOperator, ResultType, Statement, Unit,
 };
 pub use unit::{NESTING_LIMIT, TOKEN_LIMIT, one_tree, parse};
 

@@ -21,11 +21,11 @@ pub fn block(alloc: Global, tokens: &[Token]) -> Result<(Block, &[Token]), Sourc
     ensures { Reads (λ x. (view_block x.0, x.1.now)) result (block_at accepted tokens.now) }
 {
     let (open_brace, rest) = mark(tokens, Punctuator::OpenBrace)?;
-    let (statements, close_brace, rest) = statements(alloc, rest)?;
+    let (items, close_brace, rest) = statements(alloc, rest)?;
     Ok((
         Block {
             open_brace,
-            statements,
+            items,
             close_brace,
         },
         rest,

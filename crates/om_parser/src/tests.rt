@@ -1,4 +1,6 @@
-use crate::{Declaration, Declarator, Expression, Item, Statement, Unit, one_tree, parse};
+use crate::{
+    Declaration, Declarator, Expression, Item, Parameters, Statement, Unit, one_tree, parse,
+};
 use om_lexer::lex;
 use std::alloc::{AllocError, Global};
 use std::test::Fail;
@@ -24,14 +26,15 @@ fn shown_unit(alloc: Global, unit: &Unit) -> Result<String, AllocError> {
     for item in &unit.items {
         match item {
             Item::Declaration(declaration) => show_declaration(alloc, &mut text, declaration)?,
+            Item::Prototype(..) => text.push_str("prototype")?,
             Item::Function(function) => {
-                show_name(alloc, &mut text, function.name.text.as_slice())?;
-                text.push_str(if function.void.is_some() {
+                show_name(alloc, &mut text, function.head.name.text.as_slice())?;
+                text.push_str(if has_void(&function.head.parameters) {
                     "(void) {"
                 } else {
                     "() {"
                 })?;
-                for statement in &function.body.statements {
+                for statement in &function.body.items {
                     show_statement(alloc, &mut text, statement)?;
                 }
                 text.push_str("}")?;
@@ -41,6 +44,13 @@ fn shown_unit(alloc: Global, unit: &Unit) -> Result<String, AllocError> {
     let end = unit.end.start;
     write!(text, "end {end}")?;
     Ok(text)
+}
+
+fn has_void(parameters: &Parameters) -> bool {
+    match parameters {
+        Parameters::Void(_) => true,
+        _ => false,
+    }
 }
 
 fn show_name(alloc: Global, text: &mut String, name: &[u8]) -> Result<(), AllocError> {
@@ -69,9 +79,8 @@ fn show_declarator(
 ) -> Result<(), AllocError> {
     show_name(alloc, text, declarator.name.text.as_slice())?;
     if let Some(initializer) = &declarator.initializer {
-        let minus = if initializer.minus.is_some() { "-" } else { "" };
-        let value = initializer.number.value;
-        write!(text, " = {minus}{value}")?;
+        text.push_str(" = ")?;
+        show_expression(alloc, text, &initializer.value)?;
     }
     Ok(())
 }
@@ -87,7 +96,7 @@ fn show_statement(
             text.push_str("return ")?;
             show_expression(alloc, text, value)?;
         }
-        Statement::Return(_, None, _) => text.push_str("return")?,
+        _ => text.push_str("return")?,
     }
     text.push_str("; ")
 }
@@ -120,6 +129,11 @@ fn show_expression(
             text.push_str(" = ")?;
             show_expression(alloc, text, right)
         }
+        Expression::Prefix(_, _, inner) => {
+            text.push_str("-")?;
+            show_expression(alloc, text, inner)
+        }
+        _ => text.push_str("?"),
     }
 }
 

@@ -19,6 +19,30 @@ pub struct Number {
     pub span: Span,
 }
 
+/// An operator before its operand (C17 6.5.3).
+#[derive(Clone, Copy, Debug, PartialEq, Eq)]
+pub enum PrefixOperator {
+    /// `+`
+    Plus,
+    /// `-`
+    Minus,
+    /// `!`
+    Not,
+    /// `++`
+    Increment,
+    /// `--`
+    Decrement,
+}
+
+/// An operator behind its operand (C17 6.5.2.4).
+#[derive(Clone, Copy, Debug, PartialEq, Eq)]
+pub enum PostfixOperator {
+    /// `++`
+    Increment,
+    /// `--`
+    Decrement,
+}
+
 /// An operator between two operands (C17 6.5.5 to 6.5.14).
 #[derive(Clone, Copy, Debug, PartialEq, Eq)]
 pub enum BinaryOperator {
@@ -40,57 +64,45 @@ pub enum Expression {
     Constant(Number),
     /// An expression in parentheses.
     Paren(Span, Box<Expression>, Span),
+    /// An element of an array: its name, and its index in brackets.
+    Index(Name, Span, Box<Expression>, Span),
+    /// A call: the function's name, and the arguments in parentheses, each behind the span of its
+    /// comma, which the first lacks.
+    Call(Name, Span, Vec<(Option<Span>, Expression)>, Span),
+    Prefix(PrefixOperator, Span, Box<Expression>),
+    Postfix(Box<Expression>, PostfixOperator, Span),
     Binary(Box<Expression>, BinaryOperator, Span, Box<Expression>),
-    /// The assigned, which is a name, and its new value.
+    /// The condition, `?`, the value where it holds, `:`, the value where it doesn't.
+    Conditional(Box<Expression>, Span, Box<Expression>, Span, Box<Expression>),
+    /// The assigned, and its new value.
     Assign(Box<Expression>, AssignOperator, Span, Box<Expression>),
 }
 
-/// A statement (C17 6.8), with the span of its semicolon at the end.
-#[derive(Debug, Drop)]
-pub enum Statement {
-    /// An expression alone: an assignment.
-    Expression(Expression, Span),
-    /// `return`, and the value, which always stands there.
-    Return(Span, Option<Expression>, Span),
-}
-
-/// Statements in braces (C17 6.8.2).
-#[derive(Debug, Drop)]
-pub struct Block {
-    pub open_brace: Span,
-    pub statements: Vec<Statement>,
-    pub close_brace: Span,
-}
-
-/// The definition of a function (C17 6.9.1): `int main(void)` or `int main()` with its body.
-#[derive(Debug, Drop)]
-pub struct Function {
-    /// The span of `int`.
-    pub result: Span,
-    pub name: Name,
-    pub open_paren: Span,
-    /// The span of `void`, where it stands.
-    pub void: Option<Span>,
-    pub close_paren: Span,
-    pub body: Block,
-}
-
-/// What a declared variable holds at the start (C17 6.7.9): a constant, perhaps with a minus.
+/// The length of an array in its brackets.
 #[derive(Clone, Copy, Debug)]
+pub struct ArrayLength {
+    pub open_bracket: Span,
+    pub size: Number,
+    pub close_bracket: Span,
+}
+
+/// What a declared variable holds at the start (C17 6.7.9).
+#[derive(Debug, Drop)]
 pub struct Initializer {
     pub equal: Span,
-    pub minus: Option<Span>,
-    pub number: Number,
+    /// For a global a constant, perhaps with a minus.
+    pub value: Expression,
 }
 
-/// A declared variable (C17 6.7.6).
+/// A declared variable (C17 6.7.6): of an array its length, else perhaps an initializer.
 #[derive(Debug, Drop)]
 pub struct Declarator {
     pub name: Name,
+    pub array: Option<ArrayLength>,
     pub initializer: Option<Initializer>,
 }
 
-/// A declaration of `int` variables (C17 6.7).
+/// A declaration of `int` variables (C17 6.7), of a file, a block or a `for`.
 #[derive(Debug, Drop)]
 pub struct Declaration {
     /// The span of `int`.
@@ -101,10 +113,116 @@ pub struct Declaration {
     pub semicolon: Span,
 }
 
+/// An expression in the parentheses behind `if` or `while`.
+#[derive(Debug, Drop)]
+pub struct Condition {
+    pub open_paren: Span,
+    pub value: Expression,
+    pub close_paren: Span,
+}
+
+/// What a `for` begins with, up to its first semicolon (C17 6.8.5.3).
+#[derive(Debug, Drop)]
+pub enum ForStart {
+    /// Nothing but the semicolon.
+    Nothing(Span),
+    Expression(Expression, Span),
+    Declaration(Declaration),
+}
+
+/// A `for` up to its closing parenthesis (C17 6.8.5.3).
+#[derive(Debug, Drop)]
+pub struct ForHead {
+    /// The span of `for`.
+    pub word: Span,
+    pub open_paren: Span,
+    pub start: ForStart,
+    pub condition: Option<Expression>,
+    pub semicolon: Span,
+    pub step: Option<Expression>,
+    pub close_paren: Span,
+}
+
+/// A statement or another item of a block (C17 6.8), each word and mark by its span.
+#[derive(Debug, Drop)]
+pub enum Statement {
+    /// A declaration, which stands only directly in a block.
+    Declaration(Declaration),
+    /// The items of a block, in braces.
+    Block(Span, Vec<Statement>, Span),
+    /// A semicolon alone.
+    Empty(Span),
+    /// An expression and its semicolon.
+    Expression(Expression, Span),
+    /// An `if` without `else`.
+    If(Span, Condition, Box<Statement>),
+    /// `if`, its condition, the statement where it holds, `else`, the statement where it doesn't.
+    IfElse(Span, Condition, Box<Statement>, Span, Box<Statement>),
+    While(Span, Condition, Box<Statement>),
+    /// `do`, the body, `while`, the condition, the semicolon.
+    Do(Span, Box<Statement>, Span, Condition, Span),
+    For(ForHead, Box<Statement>),
+    /// `return`, perhaps a value, the semicolon.
+    Return(Span, Option<Expression>, Span),
+    Break(Span, Span),
+    Continue(Span, Span),
+}
+
+/// The block of a function (C17 6.8.2).
+#[derive(Debug, Drop)]
+pub struct Block {
+    pub open_brace: Span,
+    pub items: Vec<Statement>,
+    pub close_brace: Span,
+}
+
+/// What a function returns.
+#[derive(Clone, Copy, Debug)]
+pub enum ResultType {
+    Int(Span),
+    Void(Span),
+}
+
+/// A parameter (C17 6.7.6.3), which has a name in a definition.
+#[derive(Debug, Drop)]
+pub struct Parameter {
+    /// The span of `int`.
+    pub int: Span,
+    pub name: Option<Name>,
+}
+
+/// What stands in the parentheses of a function's declaration.
+#[derive(Debug, Drop)]
+pub enum Parameters {
+    Nothing,
+    Void(Span),
+    /// The first, and each further one behind the span of its comma.
+    Listed(Parameter, Vec<(Span, Parameter)>),
+}
+
+/// A function's result, name and parameters (C17 6.7.6.3).
+#[derive(Debug, Drop)]
+pub struct FunctionHead {
+    pub result: ResultType,
+    pub name: Name,
+    pub open_paren: Span,
+    pub parameters: Parameters,
+    pub close_paren: Span,
+}
+
+/// The definition of a function (C17 6.9.1).
+#[derive(Debug, Drop)]
+pub struct Function {
+    pub head: FunctionHead,
+    pub body: Block,
+}
+
 /// What stands at file scope (C17 6.9).
 #[derive(Debug, Drop)]
 pub enum Item {
     Declaration(Declaration),
+    /// A function that is declared, and the semicolon.
+    Prototype(FunctionHead, Span),
     Function(Function),
 }
 
