@@ -20,7 +20,7 @@ use Rattle.om_parser.specs.Tree.{ExpressionTree, Constant, Prefix, InitializerTr
 use Rattle.om_parser.proofs.Outcomes.{ok}
 use Rattle.om_parser.proofs.Again.{take_mark_again, mark_again, name_again, number_again}
 use Rattle.om_parser.proofs.Shorter.{further_some}
-use Rattle.om_parser.proofs.DeclarationSound.{IsAny}
+use Rattle.om_parser.proofs.DeclarationSound.{IsAny, IsFurther}
 use Rattle.om_parser.proofs.ItemsComplete.{AreAgain}
 
 abbrev pub NoInitializer : List Token → Type 0
@@ -53,9 +53,6 @@ unfolding further_at further_spelling declarator_spelling
 further_again d rest formed none =
     let back : List Token = (perhaps array_spelling d.1.array ++ perhaps initializer_spelling d.1.initializer) ++ rest in
     rw (mark_again punctuators.Comma d.0 (name d.1.name ∷ back), name_again d.1.name back, declarator_again d.1 rest formed none) refl
-
-abbrev pub IsFurther : Span × DeclaratorTree → Type 0
-IsFurther d = IsGlobalDeclarator d.1
 
 pub all_further_again : AreAgain further_spelling IsFurther IsAny NoInitializer (take_mark punctuators.Semicolon) further_at
 unfolding further_spelling take_mark take same_mark

@@ -1,16 +1,19 @@
 -- A declarator that is read is spelled as the tokens were.
-use Rattle.std.proofs.Common.{◌≡◌, List, [], ◌∷◌, ◌++◌, Option, Some, None, refl, ap, subst, ◌∙◌, inl, inr}
+use Rattle.std.proofs.Common.{◌≡◌, List, [], ◌∷◌, ◌++◌, Option, Some, None, refl, ap, subst, ◌∙◌, inl, inr, sym}
 use Rattle.om_lexer.specs.declared.token.Punctuator.TheVariants as punctuators
 use Rattle.om_lexer.specs.declared.token.Token.{Token}
-use Rattle.om_parser.specs.declared.tree.Declarator.{Declarator}
 use Rattle.om_parser.specs.declared.tree.Name as names
 use Rattle.om_parser.specs.Reading.{take_mark, mark_at, name_at, number_at}
-use Rattle.om_parser.specs.Spelling.{mark, name, number, perhaps, initializer_spelling, declarator_spelling, further_spelling}
+use Rattle.om_parser.specs.Spelling.{mark, name, number, perhaps, initializer_spelling, declarator_spelling, further_spelling, expression_spelling}
 use Rattle.om_parser.specs.Repetition.{optional}
-use Rattle.om_parser.specs.DeclarationReading.{declarator_after, further_at}
+use Rattle.om_parser.specs.DeclarationReading.{declarator_after, further_at, signed_constant}
 use Rattle.om_parser.proofs.Outcomes.{ok, ok_is, some, bind_ok, choose_cases, after_front, after_token}
 use Rattle.om_parser.proofs.Taken.{take_mark_is, mark_at_is, name_at_is, number_at_is}
 use Rattle.om_parser.proofs.ItemsSound.{IsRead, IsSound}
+use Rattle.om_lexer.specs.declared.token.Span.{Span}
+use Rattle.om_parser.specs.Formed.{IsSignedConstant, IsGlobalDeclarator}
+use Rattle.om_parser.specs.declared.tree.Number.{Number}
+use Rattle.om_parser.specs.Tree.{DeclaratorTree}
 
 abbrev pub IsFurther : Span × DeclaratorTree → Type 0
 IsFurther d = IsGlobalDeclarator d.1

@@ -9,22 +9,25 @@ use Rattle.om_lexer.specs.declared.token.Span.{Span}
 use Rattle.om_lexer.specs.declared.token.Token.{Token}
 use Rattle.om_lexer.specs.declared.token.TokenKind.TheVariants as kinds
 use Rattle.om_parser.specs.declared.tree.Name as names
-use Rattle.om_parser.specs.Formed.{IsFunction, IsItem, IsUnit}
-use Rattle.om_parser.specs.Limits.{Limits, IsWithin, whole_expressions, expressions_of_item}
+use Rattle.om_parser.specs.Formed.{IsFunction, IsItem, IsUnit, IsGlobalDeclaration, HasNoParameters, ReturnsInt, IsStatement}
+use Rattle.om_parser.specs.Limits.{Limits, IsWithin, whole_expressions, expressions_of_item, expressions_of_statement}
 use Rattle.om_parser.specs.Reading.{take, same_word, take_mark, take_word}
-use Rattle.om_parser.specs.Spelling.{token, mark, word, name, perhaps, block_spelling, initializer_spelling, declarator_spelling, further_spelling, declaration_spelling, function_spelling, item_spelling, unit_spelling}
-use Rattle.om_parser.specs.Tree.{FunctionTree, DeclarationTree, ItemTree, Declaration, Function, UnitTree}
+use Rattle.om_parser.specs.Spelling.{token, mark, word, name, perhaps, block_spelling, initializer_spelling, declarator_spelling, further_spelling, declaration_spelling, head_spelling, item_spelling, unit_spelling, parameters_spelling, array_spelling}
+use Rattle.om_parser.specs.Tree.{FunctionTree, DeclarationTree, ItemTree, Declaration, Function, UnitTree, BlockTree, ParametersTree, NoParameters, Void, Listed, Prototype}
 use Rattle.om_parser.specs.Repetition.{optional, until}
 use Rattle.om_parser.specs.DeclarationReading.{further_at, declaration_after}
 use Rattle.om_parser.specs.StatementReading.{block_at}
-use Rattle.om_parser.specs.UnitReading.{function_after, take_parameters, item_at, take_end, unit_at}
+use Rattle.om_parser.specs.UnitReading.{function_after, take_parameters, item_at, take_end, unit_at, empty_parameters}
 use Rattle.om_parser.proofs.Outcomes.{some}
 use Rattle.om_parser.proofs.Again.{take_mark_again, mark_again, word_again, name_again, IsAnswer, bind_answer}
 use Rattle.om_parser.proofs.Shorter.{item_some}
 use Rattle.om_parser.proofs.ItemsComplete.{flat_all, AreAgain, until_again}
-use Rattle.om_parser.proofs.DeclarationSound.{IsAny}
+use Rattle.om_parser.proofs.DeclarationSound.{IsAny, IsFurther}
 use Rattle.om_parser.proofs.DeclarationComplete.{NoInitializer, all_any, declarator_again, all_further_again, further_none, no_parameters}
 use Rattle.om_parser.proofs.StatementComplete.{block_again}
+use Rattle.om_parser.specs.declared.tree.ResultType.{ResultType}
+use Rattle.om_parser.specs.declared.tree.ResultType.TheVariants as results
+use Rattle.om_parser.specs.declared.tree.Name as names
 
 module _ (l : Limits) where
   abbrev IsSmallBlock : BlockTree → Type 0
@@ -45,7 +48,7 @@ module _ (l : Limits) where
       (until_again further_spelling IsFurther IsAny NoInitializer (take_mark punctuators.Semicolon) further_at all_further_again last d.semicolon rest (take_mark_again punctuators.Semicolon d.semicolon rest) (further_none [] d.semicolon rest) d.rest formed.1)
       (inl refl)))
 
-  void_again : (v : Option Span) (s : Span) (ts : List Token) → optional (take_word keywords.Void (parameters_spelling (no_parameters v) ++ mark punctuators.CloseParen s ∷ ts)) (parameters_spelling (no_parameters v) ++ mark punctuators.CloseParen s ∷ ts) ≡ (v, mark punctuators.CloseParen s ∷ ts)
+  void_again : (v : Option Span) (s : Span) (ts : List Token) → optional (take_word keywords.Void (parameters_spelling (empty_parameters v) ++ mark punctuators.CloseParen s ∷ ts)) (parameters_spelling (empty_parameters v) ++ mark punctuators.CloseParen s ∷ ts) ≡ (v, mark punctuators.CloseParen s ∷ ts)
   unfolding take_word take same_word parameters_spelling
   void_again (Some at) s ts = refl
   void_again None s ts = refl
@@ -55,13 +58,13 @@ module _ (l : Limits) where
   parameters_again n s ts main = rw ((bytes_eq-Decides n.text (codes "main")).1 main) (take_mark_again punctuators.OpenParen s ts)
 
   main_again : (at : Span) (n : names.Name) (left : Span) (v : Option Span) (right : Span) (b : BlockTree) (rest : List Token) → n.text ≡ codes "main" → All IsStatement b.items
-      → IsAnswer (IsSmallBlock b) ((item_at l) (item_spelling (Function (record { head = record { result = results.Int at; name = n; open_paren = left; parameters = no_parameters v; close_paren = right }; body = b })) ++ rest))
-      (Function (record { head = record { result = results.Int at; name = n; open_paren = left; parameters = no_parameters v; close_paren = right }; body = b }), rest)
+      → IsAnswer (IsSmallBlock b) ((item_at l) (item_spelling (Function (record { head = record { result = results.Int at; name = n; open_paren = left; parameters = empty_parameters v; close_paren = right }; body = b })) ++ rest))
+      (Function (record { head = record { result = results.Int at; name = n; open_paren = left; parameters = empty_parameters v; close_paren = right }; body = b }), rest)
   unfolding item_at item_spelling head_spelling function_after
   main_again at n left v right b rest main formed =
-      let f : FunctionTree = record { head = record { result = results.Int at; name = n; open_paren = left; parameters = no_parameters v; close_paren = right }; body = b } in
+      let f : FunctionTree = record { head = record { result = results.Int at; name = n; open_paren = left; parameters = empty_parameters v; close_paren = right }; body = b } in
       let body : List Token = block_spelling b ++ rest in
-      let close : List Token = parameters_spelling (no_parameters v) ++ mark punctuators.CloseParen right ∷ body in
+      let close : List Token = parameters_spelling (empty_parameters v) ++ mark punctuators.CloseParen right ∷ body in
       let spelled : word keywords.Int at ∷ name n ∷ mark punctuators.OpenParen left ∷ close ≡ item_spelling (Function f) ++ rest = simp append_assoc in
       subst (λ us. IsAnswer (IsSmallBlock b) ((item_at l) us) (Function f, rest)) spelled (rw (word_again keywords.Int at (name n ∷ mark punctuators.OpenParen left ∷ close), name_again n (mark punctuators.OpenParen left ∷ close), parameters_again n left close main, void_again v right body, mark_again punctuators.CloseParen right body)
       (bind_answer ((block_at l) body) _ (b, rest) (Function f, rest) (λ w. w) (block_again l b rest formed) (inl refl)))

@@ -12,19 +12,20 @@ use Rattle.om_parser.specs.Formed.{IsFunction, IsItem, IsUnit}
 use Rattle.om_parser.specs.Limits.{Limits, whole_expressions, expressions_of_item}
 use Rattle.om_parser.specs.Parsing.{PassesLimit}
 use Rattle.om_parser.specs.Reading.{take_word, mark_at, word_at, name_at}
-use Rattle.om_parser.specs.Spelling.{token, mark, word, name, perhaps, function_spelling, item_spelling, unit_spelling}
+use Rattle.om_parser.specs.Spelling.{token, mark, word, name, perhaps, head_spelling, item_spelling, unit_spelling, parameters_spelling}
 use Rattle.om_parser.specs.Tree.{ItemTree, Function}
 use Rattle.om_parser.specs.Repetition.{optional, until}
 use Rattle.om_parser.specs.StatementReading.{block_at}
-use Rattle.om_parser.specs.UnitReading.{function_after, take_parameters, item_at, take_end, unit_at}
+use Rattle.om_parser.specs.UnitReading.{function_after, take_parameters, item_at, take_end, unit_at, empty_parameters}
 use Rattle.om_parser.proofs.Outcomes.{ok, bind_err, choose_cases}
 use Rattle.om_parser.proofs.Taken.{take_mark_is, take_word_is, mark_at_is, word_at_is, name_at_is}
 use Rattle.om_parser.proofs.ExpressionCut.{known_never_deep}
 use Rattle.om_parser.proofs.DeclarationSound.{optional_is}
-use Rattle.om_parser.proofs.UnitSound.{take_parameters_is, item_sound}
+use Rattle.om_parser.proofs.UnitSound.{take_parameters_is, item_sound, parameters_spelled, no_parameters_none}
 use Rattle.om_parser.proofs.ItemsCut.{Deep, IsCuttingAt, until_cut}
 use Rattle.om_parser.proofs.DeclarationCut.{declaration_never_deep}
 use Rattle.om_parser.proofs.StatementCut.{block_cut}
+use Rattle.om_parser.specs.declared.tree.ResultType.TheVariants as results
 
 module _ (l : Limits) (two : 2 ≤ l.tokens) where
   function_after_cut : (result : Span) (n : names.Name) (left : Span) (ts : List Token) (f : SourceFault) → n.text ≡ codes "main" → function_after l result n left ts ≡ Err f → Deep f → PassesLimit item_spelling IsItem expressions_of_item l (word keywords.Int result ∷ name n ∷ mark punctuators.OpenParen left ∷ ts) f.at
@@ -39,9 +40,9 @@ module _ (l : Limits) (two : 2 ≤ l.tokens) where
           | inl e ↦
               let c = block_cut l two r.1 f e deep in
               let spelled = sym (parameters_spelled v.0) in
-              let head : List Token = word keywords.Int result ∷ name n ∷ mark punctuators.OpenParen left ∷ (parameters_spelling (no_parameters v.0) ++ mark punctuators.CloseParen r.0 ∷ []) in
+              let head : List Token = word keywords.Int result ∷ name n ∷ mark punctuators.OpenParen left ∷ (parameters_spelling (empty_parameters v.0) ++ mark punctuators.CloseParen r.0 ∷ []) in
               record {
-                part = Function (record { head = record { result = results.Int result; name = n; open_paren = left; parameters = no_parameters v.0; close_paren = r.0 }; body = c.part });
+                part = Function (record { head = record { result = results.Int result; name = n; open_paren = left; parameters = empty_parameters v.0; close_paren = r.0 }; body = c.part });
                 formed = (tt, main, no_parameters_none v.0, c.formed);
                 expression = c.expression;
                 whole = c.whole;
@@ -51,9 +52,9 @@ module _ (l : Limits) (two : 2 ≤ l.tokens) where
                 after = c.after;
                 rest_of_expression = c.rest_of_expression;
                 rest_of_part = c.rest_of_part;
-                stands = ap (λ w. word keywords.Int result ∷ name n ∷ mark punctuators.OpenParen left ∷ w) (void ∙ ap (λ w. w ++ v.1) spelled ∙ ap (λ w. parameters_spelling (no_parameters v.0) ++ w) (mark_at_is punctuators.CloseParen v.1 r taken ∙ ap (λ w. mark punctuators.CloseParen r.0 ∷ w) c.stands)) ∙ simp append_assoc;
+                stands = ap (λ w. word keywords.Int result ∷ name n ∷ mark punctuators.OpenParen left ∷ w) (void ∙ ap (λ w. w ++ v.1) spelled ∙ ap (λ w. parameters_spelling (empty_parameters v.0) ++ w) (mark_at_is punctuators.CloseParen v.1 r taken ∙ ap (λ w. mark punctuators.CloseParen r.0 ∷ w) c.stands)) ∙ simp append_assoc;
                 in_expression = c.in_expression;
-                in_part = ap (λ w. (word keywords.Int result ∷ name n ∷ mark punctuators.OpenParen left ∷ (parameters_spelling (no_parameters v.0) ++ mark punctuators.CloseParen r.0 ∷ [])) ++ w) c.in_part ∙ simp append_assoc;
+                in_part = ap (λ w. (word keywords.Int result ∷ name n ∷ mark punctuators.OpenParen left ∷ (parameters_spelling (empty_parameters v.0) ++ mark punctuators.CloseParen r.0 ∷ [])) ++ w) c.in_part ∙ simp append_assoc;
                 at_place = c.at_place;
                 too_much = c.too_much;
               }

@@ -1,5 +1,5 @@
 -- A unit that is read is well-formed, within the limits, and spelled as the tokens were.
-use Rattle.std.proofs.Common.{◌≡◌, ℕ, zero, suc, List, [], ◌∷◌, ◌++◌, length, None, refl, sym, ap, subst, ◌∙◌, Bool, true, false, cond, append_assoc, inl, inr, All}
+use Rattle.std.proofs.Common.{◌≡◌, ℕ, zero, suc, List, [], ◌∷◌, ◌++◌, length, None, refl, sym, ap, subst, ◌∙◌, Bool, true, false, cond, append_assoc, inl, inr, All, Option, Some}
 use Rattle.std.specs.Prelude.{bytes_eq, codes}
 use Rattle.std.specs.List.{flat_map}
 use Rattle.std.proofs.lemmas.List.{append-nil}
@@ -12,19 +12,19 @@ use Rattle.om_lexer.specs.declared.token.Token.{Token}
 use Rattle.om_lexer.specs.declared.token.TokenKind.{TokenKind}
 use Rattle.om_lexer.specs.declared.token.TokenKind.TheVariants as kinds
 use Rattle.om_parser.specs.declared.tree.Name as names
-use Rattle.om_parser.specs.Formed.{IsFunction, IsItem, IsUnit}
+use Rattle.om_parser.specs.Formed.{IsFunction, IsItem, IsUnit, IsGlobalDeclaration, HasNoParameters}
 use Rattle.om_parser.specs.Limits.{Limits, IsWithin, whole_expressions, expressions_of_item}
 use Rattle.om_parser.specs.Reading.{Reader, take_mark, take_word, mark_at, word_at, name_at}
-use Rattle.om_parser.specs.Spelling.{token, mark, word, name, perhaps, block_spelling, declarator_spelling, further_spelling, declaration_spelling, function_spelling, item_spelling, unit_spelling}
+use Rattle.om_parser.specs.Spelling.{token, mark, word, name, perhaps, block_spelling, declarator_spelling, further_spelling, declaration_spelling, head_spelling, item_spelling, unit_spelling, parameters_spelling}
 use Rattle.om_parser.specs.Tree.{ItemTree, UnitTree}
 use Rattle.om_parser.specs.Repetition.{optional, until}
 use Rattle.om_parser.specs.DeclarationReading.{declarator_after, further_at, declaration_after}
 use Rattle.om_parser.specs.StatementReading.{block_at}
-use Rattle.om_parser.specs.UnitReading.{function_after, take_parameters, item_at, end_of, take_end, unit_at}
+use Rattle.om_parser.specs.UnitReading.{function_after, take_parameters, item_at, end_of, take_end, unit_at, empty_parameters}
 use Rattle.om_parser.proofs.Outcomes.{ok, ok_is, some, some_is, bind_ok, choose_cases, after_front, after_token}
 use Rattle.om_parser.proofs.Taken.{take_mark_is, take_word_is, mark_at_is, word_at_is, name_at_is}
 use Rattle.om_parser.proofs.ItemsSound.{IsRead, IsSound, until_sound, all_flat}
-use Rattle.om_parser.proofs.DeclarationSound.{IsAny, optional_is, declarator_after_sound, further_sound}
+use Rattle.om_parser.proofs.DeclarationSound.{IsAny, optional_is, declarator_after_sound, further_sound, IsFurther}
 use Rattle.om_parser.proofs.StatementSound.{block_sound}
 
 pub take_parameters_is : (n : names.Name) (ts : List Token) (s : Span) (us : List Token) → take_parameters n ts ≡ some (s, us) → (n.text ≡ codes "main") × (take_mark punctuators.OpenParen ts ≡ some (s, us))
@@ -57,13 +57,13 @@ until_end item (suc k) ts x h = elim (choose_cases (take_end ts) _ _ (ok x) h) [
       sym (ap (λ y. y.2) (ok_is (a.0.0 ∷ b.0.0, b.0.1, b.0.2) x b.2)) ∙ until_end item k a.0.1 b.0 b.1
 ]
 
--- what `no_parameters` makes of the word that may stand there
-pub parameters_spelled : (v : Option Span) → parameters_spelling (no_parameters v) ≡ perhaps (λ at. word keywords.Void at ∷ []) v
+-- what `empty_parameters` makes of the word that may stand there
+pub parameters_spelled : (v : Option Span) → parameters_spelling (empty_parameters v) ≡ perhaps (λ at. word keywords.Void at ∷ []) v
 unfolding parameters_spelling
 parameters_spelled (Some at) = refl
 parameters_spelled None = refl
 
-pub no_parameters_none : (v : Option Span) → HasNoParameters (no_parameters v)
+pub no_parameters_none : (v : Option Span) → HasNoParameters (empty_parameters v)
 no_parameters_none (Some at) = tt
 no_parameters_none None = tt
 
@@ -92,7 +92,7 @@ module _ (l : Limits) where
       let void = optional_is (λ at. word keywords.Void at ∷ []) (take_word keywords.Void ts) ts (λ s us e. take_word_is keywords.Void ts s us e) in
       let body = block_sound l r.0.1 b.0 b.1 in
       let close = after_token (mark punctuators.CloseParen r.0.0) v.1 r.0.1 (block_spelling b.0.0) b.0.1 (mark_at_is punctuators.CloseParen v.1 r.0 r.1) body.parts in
-      let back = after_front ts (parameters_spelling (no_parameters v.0)) v.1 (mark punctuators.CloseParen r.0.0 ∷ block_spelling b.0.0) b.0.1 (void ∙ ap (λ w. w ++ v.1) (sym (parameters_spelled v.0))) close in
+      let back = after_front ts (parameters_spelling (empty_parameters v.0)) v.1 (mark punctuators.CloseParen r.0.0 ∷ block_spelling b.0.0) b.0.1 (void ∙ ap (λ w. w ++ v.1) (sym (parameters_spelled v.0))) close in
       subst (IsRead item_spelling IsGoodItem (word keywords.Int result ∷ name n ∷ mark punctuators.OpenParen left ∷ ts)) (ok_is _ x b.2) (record {
         parts = ap (λ w. word keywords.Int result ∷ name n ∷ mark punctuators.OpenParen left ∷ w) back ∙ simp append_assoc;
         formed = ((tt, main, no_parameters_none v.0, body.formed.0), body.formed.1);

@@ -7,7 +7,7 @@ use Rattle.om_parser.specs.declared.tree.PrefixOperator.{PrefixOperator}
 use Rattle.om_parser.specs.declared.tree.PrefixOperator.TheVariants as prefixes
 use Rattle.om_parser.specs.declared.tree.ResultType.{ResultType}
 use Rattle.om_parser.specs.declared.tree.ResultType.TheVariants as results
-use Rattle.om_parser.specs.Tree.{ExpressionTree, Name, Constant, Paren, Index, Call, Prefix, Postfix, Binary, Conditional, Assign, InitializerTree, DeclaratorTree, DeclarationTree, StatementTree, Expression, Return, ParametersTree, NoParameters, Void, Listed, FunctionTree, ItemTree, Declaration, Prototype, Function, UnitTree}
+use Rattle.om_parser.specs.Tree.{ExpressionTree, Name, Constant, Text, Paren, Index, Call, Prefix, Postfix, Binary, Conditional, Assign, InitializerTree, DeclaratorTree, DeclarationTree, StatementTree, Expression, Return, ParametersTree, NoParameters, Void, Listed, FunctionTree, ItemTree, Declaration, Prototype, Function, UnitTree}
 
 -- levels of precedence, the loosest first: 1 assignment (C17 6.5.16), 2 conditional (6.5.15), 3 and 4 logical (6.5.14, 6.5.13),
 -- 5 equality (6.5.9), 6 relational (6.5.8), 7 additive (6.5.6), 8 multiplicative (6.5.5), 9 unary (6.5.3), 10 postfix and primary (6.5.2, 6.5.1)
@@ -18,6 +18,7 @@ binary_level binaries.Add = 7
 abbrev pub level : ExpressionTree → ℕ
 level (Name n) = 10
 level (Constant n) = 10
+level (Text t) = 10
 level (Paren left e right) = 10
 level (Index n left e right) = 10
 level (Call n left values right) = 10

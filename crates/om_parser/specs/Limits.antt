@@ -7,13 +7,14 @@ use Rattle.om_lexer.specs.declared.token.TokenKind.{TokenKind}
 use Rattle.om_lexer.specs.declared.token.TokenKind.TheVariants as kinds
 use Rattle.om_parser.specs.declared.unit.TheConstants.{NESTING_LIMIT, TOKEN_LIMIT}
 use Rattle.om_parser.specs.Spelling.{expression_spelling}
-use Rattle.om_parser.specs.Tree.{ExpressionTree, Name, Constant, Paren, Index, Call, Prefix, Postfix, Binary, Conditional, Assign, ArgumentsTree, NoArguments, Argument, StatementTree, Expression, Return, ItemTree, Declaration, Prototype, Function, UnitTree}
+use Rattle.om_parser.specs.Tree.{ExpressionTree, Name, Constant, Text, Paren, Index, Call, Prefix, Postfix, Binary, Conditional, Assign, ArgumentsTree, NoArguments, Argument, StatementTree, Expression, Return, ItemTree, Declaration, Prototype, Function, UnitTree}
 
 abbrev mutual
   -- how many parentheses and brackets stand round the innermost part
   pub nesting : ExpressionTree → ℕ
   nesting (Name n) = 0
   nesting (Constant n) = 0
+  nesting (Text t) = 0
   nesting (Paren left e right) = nesting e + 1
   nesting (Index n left e right) = nesting e + 1
   nesting (Call n left values right) = arguments_nesting values + 1

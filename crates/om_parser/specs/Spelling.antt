@@ -23,7 +23,8 @@ use Rattle.om_parser.specs.declared.tree.PrefixOperator.{PrefixOperator}
 use Rattle.om_parser.specs.declared.tree.PrefixOperator.TheVariants as prefixes
 use Rattle.om_parser.specs.declared.tree.ResultType.{ResultType}
 use Rattle.om_parser.specs.declared.tree.ResultType.TheVariants as results
-use Rattle.om_parser.specs.Tree.{ExpressionTree, Name, Constant, Paren, Index, Call, Prefix, Postfix, Binary, Conditional, Assign, ArgumentsTree, NoArguments, Argument, InitializerTree, DeclaratorTree, DeclarationTree, ConditionTree, ForStartTree, Nothing, StartExpression, StartDeclaration, ForHeadTree, StatementTree, LocalDeclaration, Block, Empty, Expression, If, IfElse, While, Do, For, Return, Break, Continue, StatementsTree, NoStatements, Statement, BlockTree, ParametersTree, NoParameters, Void, Listed, HeadTree, FunctionTree, ItemTree, Declaration, Prototype, Function, UnitTree}
+use Rattle.om_parser.specs.declared.tree.Text as texts
+use Rattle.om_parser.specs.Tree.{ExpressionTree, Name, Constant, Text, Paren, Index, Call, Prefix, Postfix, Binary, Conditional, Assign, ArgumentsTree, NoArguments, Argument, InitializerTree, DeclaratorTree, DeclarationTree, ConditionTree, ForStartTree, Nothing, StartExpression, StartDeclaration, ForHeadTree, StatementTree, LocalDeclaration, Block, Empty, Expression, If, IfElse, While, Do, For, Return, Break, Continue, StatementsTree, NoStatements, Statement, BlockTree, ParametersTree, NoParameters, Void, Listed, HeadTree, FunctionTree, ItemTree, Declaration, Prototype, Function, UnitTree}
 
 -- a token of a kind, where it stands
 abbrev pub token : TokenKind → Span → Token
@@ -44,6 +45,10 @@ name n = token (kinds.Name n.text) n.span
 -- a constant (C17 6.4.4.1)
 abbrev pub number : Number → Token
 number n = token (kinds.Constant n.value) n.span
+
+-- a text (C17 6.4.5)
+abbrev pub text : texts.Text → Token
+text t = token (kinds.Text t.value) t.span
 
 -- the punctuator of an operator before its operand
 abbrev pub prefix_mark : PrefixOperator → Punctuator
@@ -80,6 +85,7 @@ unfoldable mutual
   pub expression_spelling : ExpressionTree → List Token
   expression_spelling (Name n) = name n ∷ []
   expression_spelling (Constant n) = number n ∷ []
+  expression_spelling (Text t) = text t ∷ []
   expression_spelling (Paren left e right) = mark punctuators.OpenParen left ∷ (expression_spelling e ++ mark punctuators.CloseParen right ∷ [])
   expression_spelling (Index n left e right) = name n ∷ mark punctuators.OpenBracket left ∷ (expression_spelling e ++ mark punctuators.CloseBracket right ∷ [])
   expression_spelling (Call n left values right) = name n ∷ mark punctuators.OpenParen left ∷ (arguments_spelling values ++ mark punctuators.CloseParen right ∷ [])

@@ -10,12 +10,14 @@ use Rattle.om_parser.specs.declared.tree.Parameter.{Parameter}
 use Rattle.om_parser.specs.declared.tree.PostfixOperator.{PostfixOperator}
 use Rattle.om_parser.specs.declared.tree.PrefixOperator.{PrefixOperator}
 use Rattle.om_parser.specs.declared.tree.ResultType.{ResultType}
+use Rattle.om_parser.specs.declared.tree.Text as texts
 
 mutual
   -- an expression (C17 6.5)
   pub data ExpressionTree : Type 0 where
     Name : names.Name → ExpressionTree
     Constant : Number → ExpressionTree
+    Text : texts.Text → ExpressionTree
     Paren : (left : Span) → ExpressionTree → (right : Span) → ExpressionTree
     Index : names.Name → (left : Span) → ExpressionTree → (right : Span) → ExpressionTree
     Call : names.Name → (left : Span) → ArgumentsTree → (right : Span) → ExpressionTree

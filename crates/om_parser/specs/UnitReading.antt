@@ -16,9 +16,9 @@ use Rattle.om_parser.specs.StatementReading.{block_at}
 use Rattle.om_parser.specs.Tree.{ParametersTree, NoParameters, Void, ItemTree, Function, UnitTree}
 
 -- no parameters, with `void` or without
-abbrev pub no_parameters : Option Span → ParametersTree
-no_parameters (Some void) = Void void
-no_parameters None = NoParameters
+abbrev pub empty_parameters : Option Span → ParametersTree
+empty_parameters (Some void) = Void void
+empty_parameters None = NoParameters
 
 -- the rest of a function, behind its left parenthesis (C17 6.9.1)
 unfoldable pub function_after : Limits → Span → names.Name → Span → Reader ItemTree
@@ -26,7 +26,7 @@ function_after l result name left ts = do
   let v = optional (take_word keywords.Void ts) ts
   r ← mark_at punctuators.CloseParen v.1
   b ← block_at l r.1
-  Ok (Function (record { head = record { result = results.Int result; name = name; open_paren = left; parameters = no_parameters v.0; close_paren = r.0 }; body = b.0 }), b.1)
+  Ok (Function (record { head = record { result = results.Int result; name = name; open_paren = left; parameters = empty_parameters v.0; close_paren = r.0 }; body = b.0 }), b.1)
 
 -- the parenthesis behind `main`
 unfoldable pub take_parameters : names.Name → List Token → Option (Span × List Token)

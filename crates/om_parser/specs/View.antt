@@ -27,6 +27,7 @@ use Rattle.om_parser.specs.Tree.{ExpressionTree, InitializerTree, DeclaratorTree
 abbrev pub expression_layer : Expression-F ExpressionTree → ExpressionTree
 expression_layer (Expression-F.Name n) = trees.Name n
 expression_layer (Expression-F.Constant n) = trees.Constant n
+expression_layer (Expression-F.Text t) = trees.Text t
 expression_layer (Expression-F.Paren left e right) = trees.Paren left e.value right
 expression_layer (Expression-F.Index n left e right) = trees.Index n left e.value right
 expression_layer (Expression-F.Call n left values right) = trees.Call n left (trees.arguments values.items) right

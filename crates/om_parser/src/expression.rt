@@ -1,14 +1,15 @@
 //! Expressions: sums of names, constants and sums in parentheses (C17 6.5).
 
-ghost use Rattle.std.specs.Prelude.{◌≡◌, option_map};
+ghost use Rattle.std.specs.Prelude.{◌≡◌, IfOk, option_map};
 ghost use Rattle.om_parser.specs.ExpressionReading.{binary_of, take_binary, IsTakenWithin, sum_at, primary_at, paren_after, sum_step};
 ghost use Rattle.om_parser.specs.Reading.{Reads};
+ghost use Rattle.om_parser.specs.Tree.{Binary};
 ghost use Rattle.om_parser.specs.View.{view_expression};
 
 use crate::front::{mark, name, take_mark, take_number, too_deep};
 use crate::tree::{BinaryOperator, Expression};
 use om_lexer::{Punctuator, SourceFault, Span, Token, TokenKind};
-use std::alloc::Global;
+use std::alloc::{AllocError, Global};
 
 /// The binary operator that a token of this kind is (C17 6.5.5 to 6.5.14).
 fn binary_operator(kind: &TokenKind) -> Option<BinaryOperator>
@@ -45,6 +46,21 @@ fn within(tokens: &[Token], span: Span, beyond: usize) -> Result<(), SourceFault
     Ok(())
 }
 
+/// Two operands and the operator between them.
+fn binary(
+    alloc: Global,
+    left: Expression,
+    operator: BinaryOperator,
+    span: Span,
+    right: Expression,
+) -> Result<Expression, AllocError>
+    ensures { IfOk result (λ both. view_expression both ≡ Binary (view_expression left) operator span (view_expression right)) }
+{
+    let left = Box::new(alloc, left)?;
+    let right = Box::new(alloc, right)?;
+    Ok(Expression::Binary(left, operator, span, right))
+}
+
 /// A sum, in at most `room` parentheses, and the tokens behind it.
 #[cycle(expression)]
 #[tactic(auto, unfolding(crate::specs::ExpressionReading::sum_at, crate::specs::ExpressionReading::sum_step))]
@@ -60,12 +76,7 @@ pub fn sum(
     while let Some((operator, span, others)) = take_binary(rest) {
         within(rest, span, beyond)?;
         let (right, others) = primary(alloc, others, beyond, room)?;
-        left = Expression::Binary(
-            Box::new(alloc, left)?,
-            operator,
-            span,
-            Box::new(alloc, right)?,
-        );
+        left = binary(alloc, left, operator, span, right)?;
         rest = others;
     }
     Ok((left, rest))

@@ -12,7 +12,7 @@ mod unit;
 pub use tree::{
     ArrayLength, AssignOperator, BinaryOperator, Block, Condition, Declaration, Declarator,
     Expression, ForHead, ForStart, Function, FunctionHead, Initializer, Item, Name, Number,
-    Parameter, Parameters, PostfixOperator, PrefixOperator, ResultType, Statement, Unit,
+    Parameter, Parameters, PostfixOperator, PrefixOperator, ResultType, Statement, Text, Unit,
 };
 pub use unit::{NESTING_LIMIT, TOKEN_LIMIT, one_tree, parse};
 

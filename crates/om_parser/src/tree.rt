@@ -19,6 +19,14 @@ pub struct Number {
     pub span: Span,
 }
 
+/// A string literal where it stands.
+#[derive(Debug, Drop)]
+pub struct Text {
+    /// The characters that it stands for.
+    pub value: Seq<u8>,
+    pub span: Span,
+}
+
 /// An operator before its operand (C17 6.5.3).
 #[derive(Clone, Copy, Debug, PartialEq, Eq)]
 pub enum PrefixOperator {
@@ -62,6 +70,8 @@ pub enum AssignOperator {
 pub enum Expression {
     Name(Name),
     Constant(Number),
+    /// The format of `printf`, its first argument.
+    Text(Text),
     /// An expression in parentheses.
     Paren(Span, Box<Expression>, Span),
     /// An element of an array: its name, and its index in brackets.

@@ -7,8 +7,7 @@ use Rattle.std.specs.List.{flat_map}
 use Rattle.std.specs.Map.{lookup}
 use Rattle.std.specs.Option.{option_or}
 use Rattle.std.specs.Str.{bytes_eq}
-use Rattle.om_parser.specs.declared.tree.Declarator.{Declarator}
-use Rattle.om_parser.specs.Tree.{ItemTree, Declaration, Function}
+use Rattle.om_parser.specs.Tree.{DeclaratorTree, ItemTree, Declaration, Prototype, Function}
 use Rattle.om_scope.specs.declared.resolved.GlobalVariable.{GlobalVariable}
 use Rattle.om_scope.specs.declared.resolved.Variable.TheVariants as variables
 use Rattle.om_scope.specs.declared.symbols.Meaning.{Meaning}
@@ -110,7 +109,7 @@ numbered-global scopes names name n = record {
 abbrev pub name_of : GlobalVariable → List ℕ
 name_of variable = variable.name
 
-numbered-declarators : (scopes : Scopes) (names : List (List ℕ)) (ds : List Declarator) → Numbered scopes names → Numbered (fold after_declarator scopes ds) (names ++ map name_of (map global_of ds))
+numbered-declarators : (scopes : Scopes) (names : List (List ℕ)) (ds : List DeclaratorTree) → Numbered scopes names → Numbered (fold after_declarator scopes ds) (names ++ map name_of (map global_of ds))
 numbered-declarators scopes names [] n = rw append-nil n
 numbered-declarators scopes names (d ∷ ds) n =
     subst (Numbered _) (append_assoc names (d.name.text ∷ []) (map name_of (map global_of ds)))
@@ -118,7 +117,8 @@ numbered-declarators scopes names (d ∷ ds) n =
 
 numbered-item : (scopes : Scopes) (names : List (List ℕ)) (item : ItemTree) → Numbered scopes names → Numbered (after_item scopes item) (names ++ map name_of (globals_of item))
 numbered-item scopes names (Declaration d) n = numbered-declarators scopes names (declarators_of d) n
-numbered-item scopes names (Function f) n = rw append-nil (numbered-function scopes names f.name.text n)
+numbered-item scopes names (Prototype h semicolon) n = rw append-nil n
+numbered-item scopes names (Function f) n = rw append-nil (numbered-function scopes names f.head.name.text n)
 
 numbered-items : (scopes : Scopes) (names : List (List ℕ)) (items : List ItemTree) → Numbered scopes names → Numbered (fold after_item scopes items) (names ++ map name_of (flat_map globals_of items))
 numbered-items scopes names [] n = rw append-nil n

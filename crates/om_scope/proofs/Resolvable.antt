@@ -4,7 +4,7 @@ use Rattle.om_lexer.specs.declared.fault.SourceFault.{SourceFault}
 use Rattle.om_parser.specs.declared.tree.BinaryOperator.{BinaryOperator}
 use Rattle.om_parser.specs.declared.tree.BinaryOperator.TheVariants as binaries
 use Rattle.om_parser.specs.Formed.{binary_level, level, IsTarget, IsExpression, IsStatement, IsFunction, IsItem, IsUnit}
-use Rattle.om_parser.specs.Tree.{ExpressionTree, Name, Constant, Paren, Binary, Assign, StatementTree, Expression, Return, FunctionTree, ItemTree, Declaration, Function}
+use Rattle.om_parser.specs.Tree.{ExpressionTree, Name, Constant, Paren, Binary, Assign, StatementTree, Expression, Return, FunctionTree, ItemTree, Declaration, Prototype, Function}
 use Rattle.om_scope.specs.declared.symbols.Meaning.{Meaning}
 use Rattle.om_scope.specs.declared.symbols.Meaning.TheVariants as meanings
 use Rattle.om_scope.specs.Breaches.{meaning_breaches, use_breaches, expression_breaches, statement_breaches, breaches_along, function_breaches, redeclared_breaches, item_breaches, items_breaches, main_breaches, breaches_of}
@@ -48,6 +48,7 @@ has_expression scopes (Binary a o at b) formed tight whole =
     let y = has_expression scopes b formed.1 (omega (arith, formed.3)) (back_empty (expression_breaches scopes a) (expression_breaches scopes b) whole) in
     record { value = resolved.Binary x.value o y.value; is = rw (x.is, y.is) refl }
 has_expression scopes (Assign a o at b) formed tight whole = absurd (omega arith)
+has_expression scopes _ formed tight whole = absurd formed
 
 has_assignment : (scopes : Scopes) (a b : ExpressionTree) → IsTarget a → IsExpression b → 2 ≤ level b → expression_breaches scopes a ++ expression_breaches scopes b ≡ [] → Has (resolved_assignment scopes a b)
 unfolding expression_breaches resolved_assignment
@@ -55,10 +56,7 @@ has_assignment scopes (Name n) b target formed tight whole =
     let v = has_variable (meaning_of scopes n.text) n.span.start (front_empty (use_breaches scopes n) (expression_breaches scopes b) whole) in
     let x = has_expression scopes b formed tight (back_empty (use_breaches scopes n) (expression_breaches scopes b) whole) in
     record { value = resolved.Assign n.span.line v.value x.value ∷ []; is = rw (v.is, x.is) refl }
-has_assignment scopes (Constant n) b target formed tight whole = absurd target
-has_assignment scopes (Paren left e right) b target formed tight whole = absurd target
-has_assignment scopes (Binary x o at y) b target formed tight whole = absurd target
-has_assignment scopes (Assign x o at y) b target formed tight whole = absurd target
+has_assignment scopes _ b target formed tight whole = absurd target
 
 has_run : (scopes : Scopes) (e : ExpressionTree) (semicolon : _) → IsExpression e → level e ≡ 1 → expression_breaches scopes e ≡ [] → Has (resolved_statement scopes (Expression e semicolon))
 unfolding IsExpression expression_breaches resolved_statement
@@ -67,6 +65,7 @@ has_run scopes (Constant n) semicolon formed alone whole = absurd (omega arith)
 has_run scopes (Paren left e right) semicolon formed alone whole = absurd (omega arith)
 has_run scopes (Binary a o at b) semicolon formed alone whole = let low = binds_tighter o in absurd (omega arith)
 has_run scopes (Assign a o at b) semicolon formed alone whole = has_assignment scopes a b formed.2 formed.1 formed.3 whole
+has_run scopes _ semicolon formed alone whole = absurd formed
 
 has_statement : (scopes : Scopes) (s : StatementTree) → IsStatement s → statement_breaches scopes s ≡ [] → Has (resolved_statement scopes s)
 unfolding IsStatement statement_breaches resolved_statement
@@ -74,7 +73,7 @@ has_statement scopes (Expression e semicolon) formed whole = has_run scopes e se
 has_statement scopes (Return at (Some e) semicolon) formed whole =
     let x = has_expression scopes e formed.0 formed.1 whole in
     record { value = resolved.Return at.line x.value ∷ []; is = rw x.is refl }
-has_statement scopes (Return at None semicolon) formed whole = absurd formed
+has_statement scopes _ formed whole = absurd formed
 
 module _ {X Y : Type 0} (breaches : Scopes → X → List SourceFault) (resolved : Scopes → X → Option (List Y)) (after : Scopes → X → Scopes) (IsFormed : X → Type 0)
     (has_one : (scopes : Scopes) (x : X) → IsFormed x → breaches scopes x ≡ [] → Has (resolved scopes x)) where
@@ -88,13 +87,14 @@ module _ {X Y : Type 0} (breaches : Scopes → X → List SourceFault) (resolved
 has_function : (scopes : Scopes) (f : FunctionTree) → IsFunction f → function_breaches scopes f ≡ [] → Has (resolved_function scopes f)
 unfolding IsFunction function_breaches resolved_function
 has_function scopes f formed whole =
-    let body = has_all statement_breaches resolved_statement after_statement IsStatement has_statement (body_scopes (with_function scopes f.name.text)) f.body.statements formed.1
-    (back_empty (redeclared_breaches scopes f.name) _ whole) in
-    record { value = record { name = f.name.text; name_at = f.name.span.start; statements = body.value; closing_line = f.body.close_brace.line }; is = rw body.is refl }
+    let body = has_all statement_breaches resolved_statement after_statement IsStatement has_statement (body_scopes (with_function scopes f.head.name.text)) f.body.items formed.3
+    (back_empty (redeclared_breaches scopes f.head.name) _ whole) in
+    record { value = record { name = f.head.name.text; name_at = f.head.name.span.start; statements = body.value; closing_line = f.body.close_brace.line }; is = rw body.is refl }
 
 has_functions : (scopes : Scopes) (item : ItemTree) → IsItem item → item_breaches scopes item ≡ [] → Has (item_functions scopes item)
 unfolding IsItem item_breaches item_functions
 has_functions scopes (Declaration d) formed whole = record { value = []; is = refl }
+has_functions scopes (Prototype h semicolon) formed whole = absurd formed
 has_functions scopes (Function f) formed whole = let g = has_function scopes f formed whole in record { value = g.value ∷ []; is = rw g.is refl }
 
 pub unbroken_trees_resolve : UnbrokenTreesResolve

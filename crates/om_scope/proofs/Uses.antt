@@ -10,9 +10,8 @@ use Rattle.std.proofs.lemmas.List.Sums.{sum_by-cons}
 use Rattle.std.proofs.lemmas.List.Elements.{All-nil, All-cons, All-append, All-head, All-tail, All-weaker}
 use Rattle.om_lexer.specs.declared.fault.FaultCode.TheVariants as faults
 use Rattle.om_lexer.specs.declared.fault.SourceFault.{SourceFault}
-use Rattle.om_parser.specs.declared.tree.Declarator.{Declarator}
 use Rattle.om_parser.specs.Formed.{IsFunction, IsItem, IsUnit}
-use Rattle.om_parser.specs.Tree.{ExpressionTree, Name, Constant, Paren, Binary, Assign, StatementTree, Expression, Return, FunctionTree, DeclarationTree, ItemTree, Declaration, Function, UnitTree}
+use Rattle.om_parser.specs.Tree.{ExpressionTree, Name, Constant, Paren, Binary, Assign, StatementTree, Expression, Return, FunctionTree, DeclaratorTree, DeclarationTree, ItemTree, Declaration, Prototype, Function, UnitTree}
 use Rattle.om_scope.specs.declared.resolved.GlobalVariable.{GlobalVariable}
 use Rattle.om_scope.specs.declared.resolved.Variable.{Variable}
 use Rattle.om_scope.specs.declared.resolved.Variable.TheVariants as variables
@@ -107,7 +106,7 @@ expression_uses n scopes (Binary a o at b) x h e =
     let vb = bound (resolved_expression scopes b) _ x va.2 in
     let s : resolved.Binary va.0 o vb.0 ≡ x = let f : Some (resolved.Binary va.0 o vb.0) ≡ Some x = vb.2 in cc in
     subst (λ y. UsesVariables n y) s (expression_uses n scopes a va.0 h va.1, expression_uses n scopes b vb.0 h vb.1)
-expression_uses n scopes (Assign a o at b) x h e = cc
+expression_uses n scopes _ x h e = cc
 
 one_uses : (n : ℕ) (s : ResolvedStatementTree) → StatementUsesVariables n s → All (λ t. StatementUsesVariables n t) (s ∷ [])
 one_uses n s h = All-cons (λ t. StatementUsesVariables n t) s [] h (All-nil (λ t. StatementUsesVariables n t))
@@ -119,23 +118,17 @@ assignment_uses n scopes (Name name) b xs h e =
     let x = bound (resolved_expression scopes b) _ xs v.2 in
     let s : resolved.Assign name.span.line v.0 x.0 ∷ [] ≡ xs = let f : Some (resolved.Assign name.span.line v.0 x.0 ∷ []) ≡ Some xs = x.2 in cc in
     subst (λ ys. All (λ t. StatementUsesVariables n t) ys) s (one_uses n (resolved.Assign name.span.line v.0 x.0) (named_below n scopes name.text v.0 h v.1, expression_uses n scopes b x.0 h x.1))
-assignment_uses n scopes (Constant number) b xs h e = cc
-assignment_uses n scopes (Paren left c right) b xs h e = cc
-assignment_uses n scopes (Binary c o at d) b xs h e = cc
-assignment_uses n scopes (Assign c o at d) b xs h e = cc
+assignment_uses n scopes _ b xs h e = cc
 
 statement_uses : (n : ℕ) (scopes : Scopes) (s : StatementTree) (xs : List ResolvedStatementTree) → Below n scopes → resolved_statement scopes s ≡ Some xs → All (λ t. StatementUsesVariables n t) xs
 unfolding resolved_statement
 statement_uses n scopes (Expression (Assign a o at b) semicolon) xs h e = assignment_uses n scopes a b xs h e
-statement_uses n scopes (Expression (Name name) semicolon) xs h e = cc
-statement_uses n scopes (Expression (Constant number) semicolon) xs h e = cc
-statement_uses n scopes (Expression (Paren left c right) semicolon) xs h e = cc
-statement_uses n scopes (Expression (Binary c o at d) semicolon) xs h e = cc
+statement_uses n scopes (Expression _ semicolon) xs h e = cc
 statement_uses n scopes (Return at (Some value) semicolon) xs h e =
     let x = bound (resolved_expression scopes value) _ xs e in
     let s : resolved.Return at.line x.0 ∷ [] ≡ xs = let f : Some (resolved.Return at.line x.0 ∷ []) ≡ Some xs = x.2 in cc in
     subst (λ ys. All (λ t. StatementUsesVariables n t) ys) s (one_uses n (resolved.Return at.line x.0) (expression_uses n scopes value x.0 h x.1))
-statement_uses n scopes (Return at None semicolon) xs h e = cc
+statement_uses n scopes _ xs h e = cc
 
 statements_use : (n : ℕ) (scopes : Scopes) (ss : List StatementTree) (xs : List ResolvedStatementTree) → Below n scopes → resolved_along resolved_statement after_statement scopes ss ≡ Some xs → All (λ t. StatementUsesVariables n t) xs
 statements_use n scopes [] xs h e = let s : [] ≡ xs = cc in subst (λ ys. All (λ t. StatementUsesVariables n t) ys) s (All-nil (λ t. StatementUsesVariables n t))
@@ -148,10 +141,10 @@ statements_use n scopes (s ∷ ss) xs h e =
 function_uses : (n : ℕ) (scopes : Scopes) (f : FunctionTree) (x : ResolvedFunctionTree) → Below n scopes → resolved_function scopes f ≡ Some x → FunctionUsesVariables n x
 unfolding resolved_function
 function_uses n scopes f x h e =
-    let ss = bound (resolved_along resolved_statement after_statement (body_scopes (with_function scopes f.name.text)) f.body.statements) _ x e in
-    let made : ResolvedFunctionTree = record { name = f.name.text; name_at = f.name.span.start; statements = ss.0; closing_line = f.body.close_brace.line } in
+    let ss = bound (resolved_along resolved_statement after_statement (body_scopes (with_function scopes f.head.name.text)) f.body.items) _ x e in
+    let made : ResolvedFunctionTree = record { name = f.head.name.text; name_at = f.head.name.span.start; statements = ss.0; closing_line = f.body.close_brace.line } in
     let same : made ≡ x = let g : Some made ≡ Some x = ss.2 in cc in
-    subst (λ y. FunctionUsesVariables n y) same (statements_use n (body_scopes (with_function scopes f.name.text)) f.body.statements ss.0 (tt, with_below n scopes (f.name.text, meanings.Function) h tt) ss.1)
+    subst (λ y. FunctionUsesVariables n y) same (statements_use n (body_scopes (with_function scopes f.head.name.text)) f.body.items ss.0 (tt, with_below n scopes (f.head.name.text, meanings.Function) h tt) ss.1)
 
 -- how many globals there are behind a binding
 count-push : (scope : Scope) (b : Binding) → count_by is_global (scope ++ b ∷ []) ≡ count_by is_global scope + cond (is_global b) 1 0
@@ -171,7 +164,7 @@ empty : {X : Type 0} (xs ys : List X) → xs ++ ys ≡ [] → (xs ≡ []) × (ys
 empty [] ys e = (refl, e)
 empty (x ∷ xs) ys e = cc
 
-counts_global : (scopes : Scopes) (d : Declarator) → Counts scopes → declarator_breaches scopes d ≡ [] → Counts (after_declarator scopes d) × (globals_in (after_declarator scopes d) ≡ globals_in scopes + 1)
+counts_global : (scopes : Scopes) (d : DeclaratorTree) → Counts scopes → declarator_breaches scopes d ≡ [] → Counts (after_declarator scopes d) × (globals_in (after_declarator scopes d) ≡ globals_in scopes + 1)
 unfolding declarator_breaches
 counts_global scopes d counts none =
     let parts = empty (redeclared_breaches scopes d.name ++ global_breaches scopes d.name) (initializer_breaches d.initializer) none in
@@ -196,7 +189,7 @@ counts_global scopes d counts none =
         by_test true t f = cc
         by_test false t f = less t
 
-counts_globals : (ds : List Declarator) (scopes : Scopes) → Counts scopes → breaches_along declarator_breaches after_declarator scopes ds ≡ [] → Counts (fold after_declarator scopes ds) × (globals_in (fold after_declarator scopes ds) ≡ globals_in scopes + length ds)
+counts_globals : (ds : List DeclaratorTreeTree) (scopes : Scopes) → Counts scopes → breaches_along declarator_breaches after_declarator scopes ds ≡ [] → Counts (fold after_declarator scopes ds) × (globals_in (fold after_declarator scopes ds) ≡ globals_in scopes + length ds)
 counts_globals [] scopes counts none = (counts, omega arith)
 counts_globals (d ∷ ds) scopes counts none =
     let parts = empty (declarator_breaches scopes d) (breaches_along declarator_breaches after_declarator (after_declarator scopes d) ds) none in
@@ -204,7 +197,7 @@ counts_globals (d ∷ ds) scopes counts none =
     let rest = counts_globals ds (after_declarator scopes d) one.0 parts.1 in
     (rest.0, omega (arith, one.1, rest.1))
 
-length-globals : (ds : List Declarator) → length (map global_of ds) ≡ length ds
+length-globals : (ds : List DeclaratorTreeTree) → length (map global_of ds) ≡ length ds
 length-globals [] = refl
 length-globals (d ∷ ds) = ap suc (length-globals ds)
 
@@ -214,9 +207,10 @@ unfolding item_breaches
 counts_item scopes (Declaration d) counts none =
     let all = counts_globals (declarators_of d) scopes counts none in
     (all.0, omega (arith, all.1, length-globals (declarators_of d)))
+counts_item scopes (Prototype h semicolon) counts none = (counts, omega arith)
 counts_item scopes (Function f) counts none =
-    let same = globals-with scopes (f.name.text, meanings.Function) in
-    (record { below = subst (λ n. Below n (with_function scopes f.name.text)) (sym (same ∙ plus_none (globals_in scopes))) (with_below (globals_in scopes) scopes (f.name.text, meanings.Function) counts.below tt); few = omega (arith, same, counts.few) }, omega (arith, same))
+    let same = globals-with scopes (f.head.name.text, meanings.Function) in
+    (record { below = subst (λ n. Below n (with_function scopes f.head.name.text)) (sym (same ∙ plus_none (globals_in scopes))) (with_below (globals_in scopes) scopes (f.head.name.text, meanings.Function) counts.below tt); few = omega (arith, same, counts.few) }, omega (arith, same))
   where
     plus_none : (n : ℕ) → n + 0 ≡ n
     plus_none n = omega arith
@@ -225,6 +219,7 @@ counts_item scopes (Function f) counts none =
 item_uses : (n : ℕ) (scopes : Scopes) (item : ItemTree) (xs : List ResolvedFunctionTree) → Below n scopes → item_functions scopes item ≡ Some xs → All (λ f. FunctionUsesVariables n f) xs
 unfolding item_functions
 item_uses n scopes (Declaration d) xs h e = let s : [] ≡ xs = cc in subst (λ ys. All (λ f. FunctionUsesVariables n f) ys) s (All-nil (λ f. FunctionUsesVariables n f))
+item_uses n scopes (Prototype g semicolon) xs h e = let s : [] ≡ xs = cc in subst (λ ys. All (λ f. FunctionUsesVariables n f) ys) s (All-nil (λ f. FunctionUsesVariables n f))
 item_uses n scopes (Function f) xs h e =
     let x = bound (resolved_function scopes f) _ xs e in
     let s : x.0 ∷ [] ≡ xs = let g : Some (x.0 ∷ []) ≡ Some xs = x.2 in cc in
@@ -257,7 +252,7 @@ stays_declared : (scopes : Scopes) (name : List ℕ) (b : Binding) → is_declar
 stays_declared [] name b h = cc
 stays_declared (scope ∷ outer) name b h = lookup_push (bytes_eq name) scope b h
 
-declarators_keep : (ds : List Declarator) (scopes : Scopes) (name : List ℕ) → is_declared scopes name ≡ true → is_declared (fold after_declarator scopes ds) name ≡ true
+declarators_keep : (ds : List DeclaratorTreeTree) (scopes : Scopes) (name : List ℕ) → is_declared scopes name ≡ true → is_declared (fold after_declarator scopes ds) name ≡ true
 declarators_keep [] scopes name h = h
 declarators_keep (d ∷ ds) scopes name h = declarators_keep ds (after_declarator scopes d) name (stays_declared scopes name (d.name.text, meanings.Variable (variables.Global (globals_in scopes))) h)
 
@@ -282,18 +277,19 @@ no_more_functions (Declaration d ∷ items) scopes xs h formed none e =
     let rest = bound (resolved_along item_functions after_item (after_item scopes (Declaration d)) items) _ xs e in
     let same : rest.0 ≡ xs = let f : Some (rest.0) ≡ Some xs = rest.2 in cc in
     sym same ∙ no_more_functions items (after_item scopes (Declaration d)) rest.0 (declarators_keep (declarators_of d) scopes (codes "main") h) (All-tail IsItem (Declaration d) items formed) parts.1 rest.1
+no_more_functions (Prototype g semicolon ∷ items) scopes xs h formed none e = absurd (All-head IsItem (Prototype g semicolon) items formed)
 no_more_functions (Function f ∷ items) scopes xs h formed none e =
     let is = All-head IsItem (Function f) items formed in
     let parts = empty (function_breaches scopes f) _ none in
-    let redeclared = (empty (redeclared_breaches scopes f.name) _ parts.0).0 in
-    let declared = ap (λ name. is_declared scopes name) is.0 ∙ h in
-    let clash = sym (ap (λ b. breach_if b faults.Redeclared f.name.span.start) declared) ∙ redeclared in cc
+    let redeclared = (empty (redeclared_breaches scopes f.head.name) _ parts.0).0 in
+    let declared = ap (λ name. is_declared scopes name) is.1 ∙ h in
+    let clash = sym (ap (λ b. breach_if b faults.Redeclared f.head.name.span.start) declared) ∙ redeclared in cc
 
-resolved_name : (scopes : Scopes) (f : FunctionTree) (x : ResolvedFunctionTree) → resolved_function scopes f ≡ Some x → x.name ≡ f.name.text
+resolved_name : (scopes : Scopes) (f : FunctionTree) (x : ResolvedFunctionTree) → resolved_function scopes f ≡ Some x → x.name ≡ f.head.name.text
 unfolding resolved_function
 resolved_name scopes f x e =
-    let ss = bound (resolved_along resolved_statement after_statement (body_scopes (with_function scopes f.name.text)) f.body.statements) _ x e in
-    let made : ResolvedFunctionTree = record { name = f.name.text; name_at = f.name.span.start; statements = ss.0; closing_line = f.body.close_brace.line } in
+    let ss = bound (resolved_along resolved_statement after_statement (body_scopes (with_function scopes f.head.name.text)) f.body.items) _ x e in
+    let made : ResolvedFunctionTree = record { name = f.head.name.text; name_at = f.head.name.span.start; statements = ss.0; closing_line = f.body.close_brace.line } in
     let g : Some made ≡ Some x = ss.2 in
     let same : made ≡ x = cc in
     sym (ap (λ y. y.name) same)
@@ -307,6 +303,7 @@ one_function (Declaration d ∷ items) scopes xs formed none e =
     let rest = bound (resolved_along item_functions after_item (after_item scopes (Declaration d)) items) _ xs e in
     let same : rest.0 ≡ xs = let f : Some (rest.0) ≡ Some xs = rest.2 in cc in
     subst (λ ys. (length ys ≤ 1) × (list_any is_main items ≡ true → Any (λ f. is_main_function f ≡ true) ys)) same (one_function items (after_item scopes (Declaration d)) rest.0 (All-tail IsItem (Declaration d) items formed) parts.1 rest.1)
+one_function (Prototype g semicolon ∷ items) scopes xs formed none e = absurd (All-head IsItem (Prototype g semicolon) items formed)
 one_function (Function f ∷ items) scopes xs formed none e =
     let is = All-head IsItem (Function f) items formed in
     let parts = empty (function_breaches scopes f) _ none in
@@ -314,11 +311,11 @@ one_function (Function f ∷ items) scopes xs formed none e =
     let x = bound (resolved_function scopes f) _ front.0 front.1 in
     let rest = bound (resolved_along item_functions after_item (after_item scopes (Function f)) items) _ xs front.2 in
     let own : x.0 ∷ [] ≡ front.0 = let g : Some (x.0 ∷ []) ≡ Some (front.0) = x.2 in cc in
-    let declared = ap (λ name. is_declared (with_function scopes f.name.text) name) (sym is.0) ∙ function_declared scopes f.name.text (ap (λ name. bytes_eq name name) is.0) in
+    let declared = ap (λ name. is_declared (with_function scopes f.head.name.text) name) (sym is.1) ∙ function_declared scopes f.head.name.text (ap (λ name. bytes_eq name name) is.1) in
     let nothing = no_more_functions items (after_item scopes (Function f)) rest.0 declared (All-tail IsItem (Function f) items formed) parts.1 rest.1 in
     let same : front.0 ++ rest.0 ≡ xs = let g : Some (front.0 ++ rest.0) ≡ Some xs = rest.2 in cc in
     let all : x.0 ∷ [] ≡ xs = own ∙ sym (append_nothing (front.0)) ∙ ap (λ l. front.0 ++ l) (sym nothing) ∙ same in
-    let named : is_main_function x.0 ≡ true = ap (λ name. bytes_eq name (codes "main")) ((resolved_name scopes f x.0 x.1) ∙ is.0) in
+    let named : is_main_function x.0 ≡ true = ap (λ name. bytes_eq name (codes "main")) ((resolved_name scopes f x.0 x.1) ∙ is.1) in
     subst (λ ys. (length ys ≤ 1) × (list_any is_main (Function f ∷ items) ≡ true → Any (λ g. is_main_function g ≡ true) ys)) all (omega arith, λ g. (0, x.0, omega arith, refl, named))
   where
     append_nothing : (l : List ResolvedFunctionTree) → l ++ [] ≡ l

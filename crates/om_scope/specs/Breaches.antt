@@ -5,14 +5,13 @@ use Rattle.std.specs.Str.{bytes_eq}
 use Rattle.om_lexer.specs.declared.fault.FaultCode.{FaultCode}
 use Rattle.om_lexer.specs.declared.fault.FaultCode.TheVariants as faults
 use Rattle.om_lexer.specs.declared.fault.SourceFault.{SourceFault}
-use Rattle.om_parser.specs.declared.tree.Declarator.{Declarator}
-use Rattle.om_parser.specs.declared.tree.Initializer.{Initializer}
 use Rattle.om_parser.specs.declared.tree.Name as names
 use Rattle.om_parser.specs.declared.tree.Number.{Number}
-use Rattle.om_parser.specs.Tree.{ExpressionTree, Name, Constant, Paren, Binary, Assign, StatementTree, Expression, Return, FunctionTree, ItemTree, Declaration, Function, UnitTree}
+use Rattle.om_parser.specs.Tree.{ExpressionTree, Name, Constant, Paren, Binary, Assign, InitializerTree, DeclaratorTree, StatementTree, Expression, Return, FunctionTree, ItemTree, Declaration, Prototype, Function, UnitTree}
 use Rattle.om_scope.specs.declared.symbols.Meaning.{Meaning}
 use Rattle.om_scope.specs.declared.symbols.Meaning.TheVariants as meanings
 use Rattle.om_scope.specs.declared.declaration.TheConstants.{GLOBAL_CELL_LIMIT}
+use Rattle.om_scope.specs.Initial.{signed_constant}
 use Rattle.om_scope.specs.Scopes.{Scopes, file_scope, body_scopes, meaning_of, is_declared, globals_in, with_function, declarators_of, after_declarator, after_statement, after_item}
 
 -- the first breach, if there is one
@@ -37,9 +36,14 @@ use_breaches scopes name = meaning_breaches (meaning_of scopes name.text) name.s
 abbrev pub constant_breaches : Number → List SourceFault
 constant_breaches number = breach_if (nat_lt 2147483647 number.value) faults.ConstantTooLarge number.span.start
 
-abbrev pub initializer_breaches : Option Initializer → List SourceFault
+-- S10 at the constant; S3 where none stands
+abbrev pub signed_breaches : ℕ → Option (Bool × Number) → List SourceFault
+signed_breaches at None = breach_if true faults.Syntax at
+signed_breaches at (Some (minus, number)) = constant_breaches number
+
+abbrev pub initializer_breaches : Option InitializerTree → List SourceFault
 initializer_breaches None = []
-initializer_breaches (Some initializer) = constant_breaches initializer.number
+initializer_breaches (Some initializer) = signed_breaches initializer.equal.start (signed_constant initializer.value)
 
 -- S8: declared again in the same scope (C17 6.7p3)
 abbrev pub redeclared_breaches : Scopes → names.Name → List SourceFault
@@ -57,14 +61,15 @@ expression_breaches scopes (Constant n) = constant_breaches n
 expression_breaches scopes (Paren left e right) = expression_breaches scopes e
 expression_breaches scopes (Binary a o at b) = expression_breaches scopes a ++ expression_breaches scopes b
 expression_breaches scopes (Assign a o at b) = expression_breaches scopes a ++ expression_breaches scopes b
+expression_breaches scopes _ = []
 
 unfoldable pub statement_breaches : Scopes → StatementTree → List SourceFault
 statement_breaches scopes (Expression e semicolon) = expression_breaches scopes e
 statement_breaches scopes (Return at (Some e) semicolon) = expression_breaches scopes e
-statement_breaches scopes (Return at None semicolon) = []
+statement_breaches scopes _ = []
 
 -- S8, S9, S11 at the name, S10 at the initializer
-unfoldable pub declarator_breaches : Scopes → Declarator → List SourceFault
+unfoldable pub declarator_breaches : Scopes → DeclaratorTree → List SourceFault
 declarator_breaches scopes d = redeclared_breaches scopes d.name ++ global_breaches scopes d.name ++ initializer_breaches d.initializer
 
 -- the breaches of parts in a row, each in the scopes behind those before it (C17 6.2.1p7)
@@ -72,7 +77,7 @@ abbrev pub breaches_along : {X : Type 0} → (Scopes → X → List SourceFault)
 breaches_along breaches after scopes [] = []
 breaches_along breaches after scopes (x ∷ xs) = breaches scopes x ++ breaches_along breaches after (after scopes x) xs
 
-abbrev pub declarators_breaches : Scopes → List Declarator → List SourceFault
+abbrev pub declarators_breaches : Scopes → List DeclaratorTree → List SourceFault
 declarators_breaches = breaches_along declarator_breaches after_declarator
 
 abbrev pub statements_breaches : Scopes → List StatementTree → List SourceFault
@@ -80,11 +85,12 @@ statements_breaches = breaches_along statement_breaches after_statement
 
 unfoldable pub function_breaches : Scopes → FunctionTree → List SourceFault
 function_breaches scopes f =
-    redeclared_breaches scopes f.name
-    ++ statements_breaches (body_scopes (with_function scopes f.name.text)) f.body.statements
+    redeclared_breaches scopes f.head.name
+    ++ statements_breaches (body_scopes (with_function scopes f.head.name.text)) f.body.items
 
 unfoldable pub item_breaches : Scopes → ItemTree → List SourceFault
 item_breaches scopes (Declaration d) = declarators_breaches scopes (declarators_of d)
+item_breaches scopes (Prototype h semicolon) = []
 item_breaches scopes (Function f) = function_breaches scopes f
 
 abbrev pub items_breaches : Scopes → List ItemTree → List SourceFault
@@ -92,7 +98,8 @@ items_breaches = breaches_along item_breaches after_item
 
 abbrev pub is_main : ItemTree → Bool
 is_main (Declaration d) = false
-is_main (Function f) = bytes_eq f.name.text (codes "main")
+is_main (Prototype h semicolon) = false
+is_main (Function f) = bytes_eq f.head.name.text (codes "main")
 
 -- S15: no function is named `main`
 abbrev pub main_breaches : UnitTree → List SourceFault

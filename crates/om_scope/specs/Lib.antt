@@ -1,4 +1,5 @@
 pub mod Scopes
+pub mod Initial
 pub mod Breaches
 pub mod ResolvedTree
 pub mod ResolvedView

@@ -1,15 +1,15 @@
 -- The resolution of a tree: every use has the variable of its innermost declaration.
 -- There is none where a name that is used means no variable.
-use Rattle.std.specs.Prelude.{ℕ, ℤ, pos, ◌-ℤ◌, List, [], ◌∷◌, ◌++◌, Option, None, Some, map}
+use Rattle.std.specs.Prelude.{ℕ, ℤ, pos, Bool, true, false, ◌-ℤ◌, List, [], ◌∷◌, ◌++◌, Option, None, Some, map}
 use Rattle.std.specs.List.{flat_map}
-use Rattle.om_parser.specs.declared.tree.Declarator.{Declarator}
-use Rattle.om_parser.specs.declared.tree.Initializer.{Initializer}
 use Rattle.om_parser.specs.declared.tree.Name as names
-use Rattle.om_parser.specs.Tree.{ExpressionTree, Name, Constant, Paren, Binary, Assign, StatementTree, Expression, Return, FunctionTree, ItemTree, Declaration, Function, UnitTree}
+use Rattle.om_parser.specs.declared.tree.Number.{Number}
+use Rattle.om_parser.specs.Tree.{ExpressionTree, Name, Constant, Paren, Binary, Assign, InitializerTree, DeclaratorTree, StatementTree, Expression, Return, FunctionTree, ItemTree, Declaration, Prototype, Function, UnitTree}
 use Rattle.om_scope.specs.declared.resolved.GlobalVariable.{GlobalVariable}
 use Rattle.om_scope.specs.declared.resolved.Variable.{Variable}
 use Rattle.om_scope.specs.declared.symbols.Meaning.{Meaning}
 use Rattle.om_scope.specs.declared.symbols.Meaning.TheVariants as meanings
+use Rattle.om_scope.specs.Initial.{signed_constant}
 use Rattle.om_scope.specs.ResolvedTree as resolved
 use Rattle.om_scope.specs.ResolvedTree.{ResolvedExpressionTree, ResolvedStatementTree, ResolvedFunctionTree, ResolvedTree}
 use Rattle.om_scope.specs.Scopes.{Scopes, file_scope, body_scopes, meaning_of, with_function, declarators_of, after_statement, after_item}
@@ -37,7 +37,7 @@ resolved_expression scopes (Binary a o at b) = do
   x ← resolved_expression scopes a
   y ← resolved_expression scopes b
   Some (resolved.Binary x o y)
-resolved_expression scopes (Assign a o at b) = None
+resolved_expression scopes _ = None
 
 -- the assignment of a value to a name; its line is the name's
 unfoldable pub resolved_assignment : Scopes → ExpressionTree → ExpressionTree → Option (List ResolvedStatementTree)
@@ -51,7 +51,7 @@ unfoldable pub resolved_statement : Scopes → StatementTree → Option (List Re
 resolved_statement scopes (Expression (Assign a o at b) semicolon) = resolved_assignment scopes a b
 resolved_statement scopes (Expression _ semicolon) = None
 resolved_statement scopes (Return at (Some e) semicolon) = resolved_expression scopes e >>= λ x. Some (resolved.Return at.line x ∷ [])
-resolved_statement scopes (Return at None semicolon) = None
+resolved_statement scopes _ = None
 
 -- the resolutions of parts in a row, each in the scopes behind those before it
 abbrev pub resolved_along : {X Y : Type 0} → (Scopes → X → Option (List Y)) → (Scopes → X → Scopes) → Scopes → List X → Option (List Y)
@@ -66,29 +66,32 @@ resolved_statements = resolved_along resolved_statement after_statement
 
 unfoldable pub resolved_function : Scopes → FunctionTree → Option ResolvedFunctionTree
 resolved_function scopes f = do
-  statements ← resolved_statements (body_scopes (with_function scopes f.name.text)) f.body.statements
-  Some (record { name = f.name.text; name_at = f.name.span.start; statements = statements; closing_line = f.body.close_brace.line })
+  statements ← resolved_statements (body_scopes (with_function scopes f.head.name.text)) f.body.items
+  Some (record { name = f.head.name.text; name_at = f.head.name.span.start; statements = statements; closing_line = f.body.close_brace.line })
 
 -- the functions that an item defines
 unfoldable pub item_functions : Scopes → ItemTree → Option (List ResolvedFunctionTree)
 item_functions scopes (Declaration d) = Some []
+item_functions scopes (Prototype h semicolon) = Some []
 item_functions scopes (Function f) = resolved_function scopes f >>= λ function. Some (function ∷ [])
 
 -- what a global holds at the start: 0 without an initializer (C17 6.7.9p10)
-abbrev pub signed : {A : Type 0} → Option A → ℕ → ℤ
-signed None value = pos value
-signed (Some minus) value = pos 0 -ℤ pos value
+abbrev pub signed : Option (Bool × Number) → ℤ
+signed None = pos 0
+signed (Some (false, number)) = pos number.value
+signed (Some (true, number)) = pos 0 -ℤ pos number.value
 
-abbrev pub initial_of : Option Initializer → ℤ
+abbrev pub initial_of : Option InitializerTree → ℤ
 initial_of None = pos 0
-initial_of (Some initializer) = signed initializer.minus initializer.number.value
+initial_of (Some initializer) = signed (signed_constant initializer.value)
 
-abbrev pub global_of : Declarator → GlobalVariable
+abbrev pub global_of : DeclaratorTree → GlobalVariable
 global_of d = record { name = d.name.text; initial = initial_of d.initializer }
 
 -- the globals that an item declares
 abbrev pub globals_of : ItemTree → List GlobalVariable
 globals_of (Declaration d) = map global_of (declarators_of d)
+globals_of (Prototype h semicolon) = []
 globals_of (Function f) = []
 
 abbrev pub items_resolution : List ItemTree → Option ResolvedTree

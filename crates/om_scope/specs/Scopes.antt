@@ -5,8 +5,7 @@ use Rattle.std.specs.Option.{option_or}
 use Rattle.std.specs.Str.{bytes_eq}
 use Rattle.std.specs.declared.alloc.Global.{Global}
 use Rattle.om_lexer.specs.declared.token.Span.{Span}
-use Rattle.om_parser.specs.declared.tree.Declarator.{Declarator}
-use Rattle.om_parser.specs.Tree.{StatementTree, DeclarationTree, ItemTree, Declaration, Function}
+use Rattle.om_parser.specs.Tree.{StatementTree, DeclaratorTree, DeclarationTree, ItemTree, Declaration, Prototype, Function}
 use Rattle.om_scope.specs.declared.resolved.Variable.TheVariants as variables
 use Rattle.om_scope.specs.declared.symbols.Meaning.{Meaning}
 use Rattle.om_scope.specs.declared.symbols.Meaning.TheVariants as meanings
@@ -64,24 +63,25 @@ abbrev pub file_scope : Scopes
 file_scope = ((codes "printf", meanings.Function) ∷ (codes "omp_get_thread_num", meanings.Function) ∷ (codes "omp_get_num_threads", meanings.Function) ∷ []) ∷ []
 
 -- the declarators behind commas
-abbrev pub behind_commas : List (Span × Declarator) → List Declarator
+abbrev pub behind_commas : List (Span × DeclaratorTree) → List DeclaratorTree
 behind_commas rest = map (λ further. further.1) rest
 
 -- the declarators of a declaration, in their order
-abbrev pub declarators_of : DeclarationTree → List Declarator
+abbrev pub declarators_of : DeclarationTree → List DeclaratorTree
 declarators_of d = d.first ∷ behind_commas d.rest
 
 -- the scopes behind the declarator of a global
-abbrev pub after_declarator : Scopes → Declarator → Scopes
+abbrev pub after_declarator : Scopes → DeclaratorTree → Scopes
 after_declarator scopes d = with_global scopes d.name.text
 
-abbrev pub after_declarators : Scopes → List Declarator → Scopes
+abbrev pub after_declarators : Scopes → List DeclaratorTree → Scopes
 after_declarators scopes ds = fold after_declarator scopes ds
 
 -- the scopes behind an item
 abbrev pub after_item : Scopes → ItemTree → Scopes
 after_item scopes (Declaration d) = after_declarators scopes (declarators_of d)
-after_item scopes (Function f) = with_function scopes f.name.text
+after_item scopes (Prototype h semicolon) = scopes
+after_item scopes (Function f) = with_function scopes f.head.name.text
 
 -- the scopes behind a statement: it declares nothing
 abbrev pub after_statement : Scopes → StatementTree → Scopes

@@ -71,6 +71,12 @@ pub fn resolve_expression(
             let right = Box::new(alloc, right)?;
             Ok(ResolvedExpression::Binary(left, *operator, right))
         }
+        Expression::Text(_) => unreachable!(),
+        Expression::Index(..) => unreachable!(),
+        Expression::Call(..) => unreachable!(),
+        Expression::Prefix(..) => unreachable!(),
+        Expression::Postfix(..) => unreachable!(),
+        Expression::Conditional(..) => unreachable!(),
         Expression::Assign(..) => unreachable!(),
     }
 }

@@ -27,15 +27,15 @@ pub fn define_function(
 ) -> Result<ResolvedFunction, SourceFault>
     requires formed { IsFunction (view_function function.now) }
     ensures resolves { Resolves view_resolved_function result (function_breaches symbols.old (view_function function.now)) (resolved_function symbols.old (view_function function.now)) }
-    ensures in_scope { OnOk result (symbols.new ≡ with_function symbols.old function.now.name.text) }
+    ensures in_scope { OnOk result (symbols.new ≡ with_function symbols.old function.now.head.name.text) }
 {
-    check_new(symbols, &function.name)?;
-    let name = copy_of(alloc, &function.name)?;
+    check_new(symbols, &function.head.name)?;
+    let name = copy_of(alloc, &function.head.name)?;
     symbols.declare_function(alloc, name.as_slice())?;
-    let statements = resolve_statements(alloc, symbols, function.body.statements.as_slice())?;
+    let statements = resolve_statements(alloc, symbols, function.body.items.as_slice())?;
     Ok(ResolvedFunction {
         name,
-        name_at: function.name.span.start,
+        name_at: function.head.name.span.start,
         statements: Seq::of(statements),
         closing_line: function.body.close_brace.line,
     })

@@ -73,6 +73,16 @@ fn resolve_statement(
             })
         }
         Statement::Return(_, None, _) => unreachable!(),
+        Statement::Declaration(_) => unreachable!(),
+        Statement::Block(..) => unreachable!(),
+        Statement::Empty(_) => unreachable!(),
+        Statement::If(..) => unreachable!(),
+        Statement::IfElse(..) => unreachable!(),
+        Statement::While(..) => unreachable!(),
+        Statement::Do(..) => unreachable!(),
+        Statement::For(..) => unreachable!(),
+        Statement::Break(..) => unreachable!(),
+        Statement::Continue(..) => unreachable!(),
     }
 }
 

@@ -41,6 +41,7 @@ fn resolve_item(
 {
     match item {
         Item::Declaration(declaration) => declare_globals(alloc, symbols, globals, declaration),
+        Item::Prototype(..) => unreachable!(),
         Item::Function(function) => {
             let function = define_function(alloc, symbols, function)?;
             functions.push(function)?;
@@ -73,7 +74,8 @@ fn is_main(item: &Item) -> bool
 {
     match item {
         Item::Declaration(_) => false,
-        Item::Function(function) => function.name.text.as_slice() == b"main".as_slice(),
+        Item::Prototype(..) => false,
+        Item::Function(function) => function.head.name.text.as_slice() == b"main".as_slice(),
     }
 }
 

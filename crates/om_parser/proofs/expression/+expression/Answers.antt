@@ -29,7 +29,7 @@ sum-loop-operator-smaller t c =
 pub sum-loop-operator-preserved : goal.sum-loop-operator-preserved
 sum-loop-operator-preserved t c =
     let total = sum_at c.args.beyond c.args.room c.args.tokens.now in
-    rw (c.in_ok-new.ensures.ok, c.in_ok-new-2.ensures.ok) (sum_goes_on c.args.beyond c.args.room (view_expression c.loop-operator.left) c.loop-operator.rest.now total c.in-Some.operator c.in-Some.span c.in-Some.others.now (sym c.in-Some.ensures) (view_expression c.in_ok-right.right) c.in_ok-right.others.now c.in_ok-within.ensures c.in_ok-right.ensures c.loop-operator.invariant)
+    rw c.in_ok-left-2.ensures (sum_goes_on c.args.beyond c.args.room (view_expression c.loop-operator.left) c.loop-operator.rest.now total c.in-Some.operator c.in-Some.span c.in-Some.others.now (sym c.in-Some.ensures) (view_expression c.in_ok-right.right) c.in_ok-right.others.now c.in_ok-within.ensures c.in_ok-right.ensures c.loop-operator.invariant)
 
 pub sum-returns : goal.sum-returns
 sum-returns t c =
