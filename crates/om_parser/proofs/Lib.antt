@@ -1,3 +1,4 @@
+pub mod Views
 pub mod Outcomes
 pub mod Taken
 pub mod ExpressionSound

@@ -189,7 +189,7 @@ counts_global scopes d counts none =
         by_test true t f = cc
         by_test false t f = less t
 
-counts_globals : (ds : List DeclaratorTreeTree) (scopes : Scopes) → Counts scopes → breaches_along declarator_breaches after_declarator scopes ds ≡ [] → Counts (fold after_declarator scopes ds) × (globals_in (fold after_declarator scopes ds) ≡ globals_in scopes + length ds)
+counts_globals : (ds : List DeclaratorTree) (scopes : Scopes) → Counts scopes → breaches_along declarator_breaches after_declarator scopes ds ≡ [] → Counts (fold after_declarator scopes ds) × (globals_in (fold after_declarator scopes ds) ≡ globals_in scopes + length ds)
 counts_globals [] scopes counts none = (counts, omega arith)
 counts_globals (d ∷ ds) scopes counts none =
     let parts = empty (declarator_breaches scopes d) (breaches_along declarator_breaches after_declarator (after_declarator scopes d) ds) none in
@@ -197,7 +197,7 @@ counts_globals (d ∷ ds) scopes counts none =
     let rest = counts_globals ds (after_declarator scopes d) one.0 parts.1 in
     (rest.0, omega (arith, one.1, rest.1))
 
-length-globals : (ds : List DeclaratorTreeTree) → length (map global_of ds) ≡ length ds
+length-globals : (ds : List DeclaratorTree) → length (map global_of ds) ≡ length ds
 length-globals [] = refl
 length-globals (d ∷ ds) = ap suc (length-globals ds)
 
@@ -252,7 +252,7 @@ stays_declared : (scopes : Scopes) (name : List ℕ) (b : Binding) → is_declar
 stays_declared [] name b h = cc
 stays_declared (scope ∷ outer) name b h = lookup_push (bytes_eq name) scope b h
 
-declarators_keep : (ds : List DeclaratorTreeTree) (scopes : Scopes) (name : List ℕ) → is_declared scopes name ≡ true → is_declared (fold after_declarator scopes ds) name ≡ true
+declarators_keep : (ds : List DeclaratorTree) (scopes : Scopes) (name : List ℕ) → is_declared scopes name ≡ true → is_declared (fold after_declarator scopes ds) name ≡ true
 declarators_keep [] scopes name h = h
 declarators_keep (d ∷ ds) scopes name h = declarators_keep ds (after_declarator scopes d) name (stays_declared scopes name (d.name.text, meanings.Variable (variables.Global (globals_in scopes))) h)
 
