@@ -1,8 +1,8 @@
--- What a declarator spells is read again as that declarator.
-use Rattle.std.proofs.Common.{◌≡◌, List, [], ◌∷◌, ◌++◌, Option, Some, None, refl, Bool, true, false, cond, append_assoc, inl, All}
-use Rattle.std.specs.Prelude.{bytes_eq, codes}
+-- What a declaration spells is read again as that declaration.
+use Rattle.std.proofs.Common.{◌≡◌, ◌<◌, List, [], ◌∷◌, ◌++◌, length, Option, Some, None, refl, sym, subst, arith, append_assoc, ◌⊎◌, inl, inr, All}
 use Rattle.std.specs.List.{flat_map}
-use Rattle.std.proofs.lemmas.List.Elements.{All-nil, All-cons}
+use Rattle.std.proofs.lemmas.List.Elements.{All-nil, All-cons, All-head}
+use Rattle.om_lexer.specs.declared.token.Keyword.TheVariants as keywords
 use Rattle.om_lexer.specs.declared.token.Punctuator.TheVariants as punctuators
 use Rattle.om_lexer.specs.declared.token.Span.{Span}
 use Rattle.om_lexer.specs.declared.token.Token.{Token}
@@ -10,75 +10,125 @@ use Rattle.om_parser.specs.declared.tree.ArrayLength.{ArrayLength}
 use Rattle.om_parser.specs.declared.tree.Name as names
 use Rattle.om_parser.specs.declared.tree.Number.{Number}
 use Rattle.om_parser.specs.declared.tree.PrefixOperator.TheVariants as prefixes
-use Rattle.om_parser.specs.Formed.{IsSignedConstant, IsGlobalInitializer, IsScalar, IsGlobalDeclarator}
-use Rattle.om_parser.specs.Reading.{take, same_mark, take_mark}
-use Rattle.om_parser.specs.Spelling.{mark, name, number, perhaps, expression_spelling, array_spelling, initializer_spelling, declarator_spelling, further_spelling}
-use Rattle.om_parser.specs.Repetition.{optional}
-use Rattle.om_parser.specs.DeclarationReading.{declarator_after, further_at}
-use Rattle.om_parser.specs.UnitReading.{take_parameters}
-use Rattle.om_parser.specs.Tree.{ExpressionTree, Constant, Prefix, InitializerTree, DeclaratorTree}
+use Rattle.om_parser.specs.DeclarationReading.{constant_at, array_after, declarator_after, further_at, declaration_after}
+use Rattle.om_parser.specs.Formed.{IsSignedConstant, IsDeclarator, IsDeclaration}
+use Rattle.om_parser.specs.Limits.{expressions_of_declarator, expressions_of_declaration}
+use Rattle.om_parser.specs.Reading.{Reader, take, same_mark, take_mark, take_number}
+use Rattle.om_parser.specs.Repetition.{until}
+use Rattle.om_parser.specs.Spelling.{mark, name, number, perhaps, word, expression_spelling, array_spelling, initializer_spelling, declarator_spelling, further_spelling, declaration_spelling}
+use Rattle.om_parser.specs.Tree.{ExpressionTree, Name, Constant, Text, Paren, Index, Call, Prefix, Postfix, Binary, Conditional, Assign, InitializerTree, DeclaratorTree, DeclarationTree}
 use Rattle.om_parser.proofs.Outcomes.{ok}
-use Rattle.om_parser.proofs.Again.{take_mark_again, mark_again, name_again, number_again}
-use Rattle.om_parser.proofs.Shorter.{further_some}
-use Rattle.om_parser.proofs.DeclarationSound.{IsAny, IsFurther}
-use Rattle.om_parser.proofs.ItemsComplete.{AreAgain}
+use Rattle.om_parser.proofs.Again.{take_mark_again, mark_again, name_again, number_again, IsAnswer, bind_answer}
+use Rattle.om_parser.proofs.DeclarationSound.{further_some}
+use Rattle.om_parser.proofs.ItemsComplete.{all_back, all_front, flat_all, AreAgain, until_again}
 
-abbrev pub NoInitializer : List Token → Type 0
-NoInitializer ts = take_mark punctuators.Equal ts ≡ None
+-- what stands behind a declarator: a comma or a semicolon
+pub data EndsDeclarator : List Token → Type 0 where
+  EndsByComma : (s : Span) (us : List Token) → EndsDeclarator (mark punctuators.Comma s ∷ us)
+  EndsBySemicolon : (s : Span) (us : List Token) → EndsDeclarator (mark punctuators.Semicolon s ∷ us)
 
-minus_again : (m : Option Span) (n : Number) (ts : List Token) → optional (take_mark punctuators.Minus (perhaps (λ at. mark punctuators.Minus at ∷ []) m ++ number n ∷ ts)) (perhaps (λ at. mark punctuators.Minus at ∷ []) m ++ number n ∷ ts) ≡ (m, number n ∷ ts)
+no_initializer : (ts : List Token) → EndsDeclarator ts → take_mark punctuators.Equal ts ≡ None
 unfolding take_mark take same_mark
-minus_again (Some at) n ts = refl
-minus_again None n ts = refl
+no_initializer _ (EndsByComma s us) = refl
+no_initializer _ (EndsBySemicolon s us) = refl
 
-initializer_again : (name : names.Name) (equal : Span) (e : ExpressionTree) (rest : List Token) → IsSignedConstant e → declarator_after name (initializer_spelling (record { equal = equal; value = e }) ++ rest) ≡ ok (record { name = name; array = None; initializer = Some (record { equal = equal; value = e }) }, rest)
-unfolding declarator_after initializer_spelling expression_spelling
-initializer_again name equal (Constant n) rest formed =
-    rw (take_mark_again punctuators.Equal equal (number n ∷ rest), minus_again None n rest, number_again n rest) refl
-initializer_again name equal (Prefix prefixes.Minus at (Constant n)) rest formed =
-    rw (take_mark_again punctuators.Equal equal (mark punctuators.Minus at ∷ number n ∷ rest), minus_again (Some at) n rest, number_again n rest) refl
-initializer_again name equal _ rest formed = absurd formed
+no_array : (ts : List Token) → EndsDeclarator ts → take_mark punctuators.OpenBracket ts ≡ None
+unfolding take_mark take same_mark
+no_array _ (EndsByComma s us) = refl
+no_array _ (EndsBySemicolon s us) = refl
 
-pub declarator_again : (d : DeclaratorTree) (rest : List Token) → IsGlobalDeclarator d → NoInitializer rest → declarator_after d.name ((perhaps array_spelling d.array ++ perhaps initializer_spelling d.initializer) ++ rest) ≡ ok (d, rest)
-unfolding declarator_after IsGlobalDeclarator
-declarator_again d rest formed none = go d.array d.initializer formed.0 formed.1
+equal_is_no_bracket : (s : Span) (ts : List Token) → take_mark punctuators.OpenBracket (mark punctuators.Equal s ∷ ts) ≡ None
+unfolding take_mark take same_mark
+equal_is_no_bracket s ts = refl
+
+array_again : (a : ArrayLength) (rest : List Token) → array_after a.open_bracket (number a.size ∷ mark punctuators.CloseBracket a.close_bracket ∷ rest) ≡ ok (a, rest)
+unfolding array_after
+array_again a rest = rw (number_again a.size (mark punctuators.CloseBracket a.close_bracket ∷ rest), mark_again punctuators.CloseBracket a.close_bracket rest) refl
+
+number_is_no_minus : (n : Number) (ts : List Token) → take_mark punctuators.Minus (number n ∷ ts) ≡ None
+unfolding take_mark take
+number_is_no_minus n ts = refl
+
+pub constant_again : (e : ExpressionTree) (rest : List Token) → IsSignedConstant e → constant_at (expression_spelling e ++ rest) ≡ ok (e, rest)
+unfolding constant_at expression_spelling
+constant_again (Constant n) rest f = rw (number_is_no_minus n rest, number_again n rest) refl
+constant_again (Prefix prefixes.Minus at (Constant n)) rest f = rw (take_mark_again punctuators.Minus at (number n ∷ rest), number_again n rest) refl
+constant_again _ rest f = absurd f
+
+-- the rest of a declaration, behind `int` and the first name
+unfoldable pub declaration_rest : DeclarationTree → List Token → List Token
+declaration_rest d rest = (perhaps array_spelling d.first.array ++ perhaps initializer_spelling d.first.initializer) ++ (flat_map further_spelling d.rest ++ mark punctuators.Semicolon d.semicolon ∷ rest)
+
+pub rest_is : (d : DeclarationTree) (rest : List Token) → word keywords.Int d.int ∷ name d.first.name ∷ declaration_rest d rest ≡ declaration_spelling d ++ rest
+unfolding declaration_rest declaration_spelling declarator_spelling
+rest_is d rest = simp append_assoc
+
+-- a declaration is no function
+pub no_parameters : (d : DeclarationTree) (rest : List Token) → take_mark punctuators.OpenParen (declaration_rest d rest) ≡ None
+unfolding declaration_rest take_mark take same_mark initializer_spelling further_spelling
+no_parameters d rest = go d.first.array d.first.initializer d.rest
   where
-    go : (a : Option ArrayLength) (i : Option InitializerTree) → IsScalar a → IsGlobalInitializer i → declarator_after d.name ((perhaps array_spelling a ++ perhaps initializer_spelling i) ++ rest) ≡ ok (record { name = d.name; array = a; initializer = i }, rest)
-    go (Some a) i scalar constant = absurd scalar
-    go None None scalar constant = rw none refl
-    go None (Some i) scalar constant = initializer_again d.name i.equal i.value rest constant
+    go : (a : Option ArrayLength) (i : Option InitializerTree) (ds : List (Span × DeclaratorTree)) → take_mark punctuators.OpenParen ((perhaps array_spelling a ++ perhaps initializer_spelling i) ++ (flat_map further_spelling ds ++ mark punctuators.Semicolon d.semicolon ∷ rest)) ≡ None
+    go (Some a) i ds = refl
+    go None (Some i) ds = refl
+    go None None [] = refl
+    go None None (d ∷ ds) = refl
 
-further_again : (d : Span × DeclaratorTree) (rest : List Token) → IsGlobalDeclarator d.1 → NoInitializer rest → further_at (further_spelling d ++ rest) ≡ ok (d, rest)
-unfolding further_at further_spelling declarator_spelling
-further_again d rest formed none =
-    let back : List Token = (perhaps array_spelling d.1.array ++ perhaps initializer_spelling d.1.initializer) ++ rest in
-    rw (mark_again punctuators.Comma d.0 (name d.1.name ∷ back), name_again d.1.name back, declarator_again d.1 rest formed none) refl
+module _ (Admitted Fits : ExpressionTree → Type 0) (initial : Reader ExpressionTree) (again : (e : ExpressionTree) (rest : List Token) → Admitted e → EndsDeclarator rest → IsAnswer (Fits e) (initial (expression_spelling e ++ rest)) (e, rest)) where
+  abbrev FitsDeclarator : DeclaratorTree → Type 0
+  FitsDeclarator d = All Fits (expressions_of_declarator d)
 
-pub all_further_again : AreAgain further_spelling IsFurther IsAny NoInitializer (take_mark punctuators.Semicolon) further_at
-unfolding further_spelling take_mark take same_mark
-all_further_again = record {
-  one = λ d rest f none. inl (further_again d rest f none);
-  unended = λ d rest f. refl;
-  follows = λ d rest f. refl;
-  some_tokens = further_some;
-}
+  pub declarator_again : (d : DeclaratorTree) (rest : List Token) → IsDeclarator Admitted d → EndsDeclarator rest → IsAnswer (FitsDeclarator d) (declarator_after initial d.name ((perhaps array_spelling d.array ++ perhaps initializer_spelling d.initializer) ++ rest)) (d, rest)
+  unfolding declarator_after IsDeclarator initializer_spelling
+  declarator_again d rest formed ends = go d.array d.initializer formed
+    where
+      tree : Option ArrayLength → Option InitializerTree → DeclaratorTree
+      tree a i = record { name = d.name; array = a; initializer = i }
+
+      go : (a : Option ArrayLength) (i : Option InitializerTree) → IsDeclarator Admitted (tree a i) → IsAnswer (FitsDeclarator (tree a i)) (declarator_after initial d.name ((perhaps array_spelling a ++ perhaps initializer_spelling i) ++ rest)) (tree a i, rest)
+      go None None f = inl (rw (no_array rest ends, no_initializer rest ends) refl)
+      go (Some a) None f = inl (rw (take_mark_again punctuators.OpenBracket a.open_bracket (number a.size ∷ mark punctuators.CloseBracket a.close_bracket ∷ rest), array_again a rest) refl)
+      go None (Some i) f =
+          let value : List Token = expression_spelling i.value ++ rest in
+          rw (equal_is_no_bracket i.equal value, take_mark_again punctuators.Equal i.equal value) (bind_answer (initial value) _ (i.value, rest) (tree None (Some i), rest) (λ w. All-head Fits i.value [] w) (again i.value rest f ends) (inl refl))
+      go (Some a) (Some i) f = absurd f
+
+  abbrev IsFurther : Span × DeclaratorTree → Type 0
+  IsFurther d = IsDeclarator Admitted d.1
+
+  abbrev FitsFurther : Span × DeclaratorTree → Type 0
+  FitsFurther d = FitsDeclarator d.1
+
+  further_again : (d : Span × DeclaratorTree) (rest : List Token) → IsFurther d → EndsDeclarator rest → IsAnswer (FitsFurther d) (further_at initial (further_spelling d ++ rest)) (d, rest)
+  unfolding further_at further_spelling declarator_spelling
+  further_again d rest formed ends =
+      let back : List Token = (perhaps array_spelling d.1.array ++ perhaps initializer_spelling d.1.initializer) ++ rest in
+      rw (mark_again punctuators.Comma d.0 (name d.1.name ∷ back), name_again d.1.name back) (bind_answer (declarator_after initial d.1.name back) _ (d.1, rest) (d, rest) (λ w. w) (declarator_again d.1 rest formed ends) (inl refl))
+
+  all_further_again : AreAgain further_spelling IsFurther FitsFurther EndsDeclarator (take_mark punctuators.Semicolon) (further_at initial)
+  unfolding further_spelling take_mark take same_mark
+  all_further_again = record {
+    one = further_again;
+    unended = λ d rest f. refl;
+    follows = λ d rest f. EndsByComma d.0 (declarator_spelling d.1 ++ rest);
+    some_tokens = further_some;
+  }
+
+  ends_first : (ds : List (Span × DeclaratorTree)) (s : Span) (rest : List Token) → EndsDeclarator (flat_map further_spelling ds ++ mark punctuators.Semicolon s ∷ rest)
+  unfolding further_spelling
+  ends_first [] s rest = EndsBySemicolon s rest
+  ends_first (d ∷ ds) s rest = EndsByComma d.0 ((declarator_spelling d.1 ++ flat_map further_spelling ds) ++ mark punctuators.Semicolon s ∷ rest)
+
+  pub declaration_again : (d : DeclarationTree) (rest : List Token) → IsDeclaration Admitted d → IsAnswer (All Fits (expressions_of_declaration d)) (declaration_after initial d.int d.first.name (declaration_rest d rest)) (d, rest)
+  unfolding declaration_after IsDeclaration declaration_rest
+  declaration_again d rest formed =
+      let last : Token = mark punctuators.Semicolon d.semicolon in
+      let others : List Token = flat_map further_spelling d.rest ++ last ∷ rest in
+      bind_answer (declarator_after initial d.first.name (declaration_rest d rest)) _ (d.first, others) (d, rest) (λ w. all_front Fits (expressions_of_declarator d.first) (flat_map (λ x. expressions_of_declarator x.1) d.rest) w) (declarator_again d.first others formed.0 (ends_first d.rest d.semicolon rest))
+      (bind_answer (until (take_mark punctuators.Semicolon) (further_at initial) (length others) others) _ (d.rest, d.semicolon, rest) (d, rest) (λ w. flat_all Fits (λ x. expressions_of_declarator x.1) d.rest (all_back Fits (expressions_of_declarator d.first) (flat_map (λ x. expressions_of_declarator x.1) d.rest) w))
+      (until_again further_spelling IsFurther FitsFurther EndsDeclarator (take_mark punctuators.Semicolon) (further_at initial) all_further_again last d.semicolon rest (take_mark_again punctuators.Semicolon d.semicolon rest) (EndsBySemicolon d.semicolon rest) d.rest formed.1)
+      (inl refl))
 
 pub all_any : {A : Type 0} (xs : List A) → All (λ (x : A). Unit {0}) xs
 all_any [] = All-nil (λ x. Unit {0})
 all_any (x ∷ xs) = All-cons (λ x. Unit {0}) x xs tt (all_any xs)
-
-pub further_none : (ds : List (Span × DeclaratorTree)) (s : Span) (rest : List Token) → NoInitializer (flat_map further_spelling ds ++ mark punctuators.Semicolon s ∷ rest)
-unfolding further_spelling take_mark take same_mark
-further_none [] s rest = refl
-further_none (d ∷ ds) s rest = refl
-
-pub no_parameters : (n : names.Name) (d : DeclaratorTree) (ds : List (Span × DeclaratorTree)) (s : Span) (rest : List Token) → IsGlobalDeclarator d → take_parameters n ((perhaps array_spelling d.array ++ perhaps initializer_spelling d.initializer) ++ (flat_map further_spelling ds ++ mark punctuators.Semicolon s ∷ rest)) ≡ None
-unfolding take_parameters take_mark take same_mark initializer_spelling further_spelling IsGlobalDeclarator
-no_parameters n d ds s rest formed = go (bytes_eq n.text (codes "main")) d.array d.initializer ds formed.0
-  where
-    go : (b : Bool) (a : Option ArrayLength) (i : Option InitializerTree) (ds : List (Span × DeclaratorTree)) → IsScalar a → cond b (take_mark punctuators.OpenParen ((perhaps array_spelling a ++ perhaps initializer_spelling i) ++ (flat_map further_spelling ds ++ mark punctuators.Semicolon s ∷ rest))) None ≡ None
-    go b (Some a) i ds scalar = absurd scalar
-    go false None i ds scalar = refl
-    go true None (Some i) ds scalar = refl
-    go true None None [] scalar = refl
-    go true None None (d ∷ ds) scalar = refl

@@ -1,18 +1,32 @@
--- Declarations are refused by no other code.
-use Rattle.std.proofs.Common.{List}
+-- Declarations are refused by no other code than their initializers.
+use Rattle.std.proofs.Common.{List, length}
 use Rattle.om_lexer.specs.declared.token.Punctuator.TheVariants as punctuators
 use Rattle.om_lexer.specs.declared.token.Span.{Span}
 use Rattle.om_lexer.specs.declared.token.Token.{Token}
 use Rattle.om_parser.specs.declared.tree.Name as names
-use Rattle.om_parser.specs.Reading.{take_mark, mark_at, name_at, number_at}
-use Rattle.om_parser.specs.Repetition.{optional}
-use Rattle.om_parser.specs.DeclarationReading.{declarator_after, further_at}
-use Rattle.om_parser.proofs.Refusals.{Refuses, done, bind, either, expected}
+use Rattle.om_parser.specs.DeclarationReading.{constant_at, array_after, declarator_after, further_at, declaration_after}
+use Rattle.om_parser.specs.Reading.{Reader, take_mark, mark_at, name_at, number_at}
+use Rattle.om_parser.specs.Repetition.{until}
+use Rattle.om_parser.specs.Tree.{ExpressionTree}
+use Rattle.om_parser.proofs.Refusals.{Refuses, done, bind, either, expected, until_refuses}
 
-pub declarator_refuses : (n : names.Name) (ts : List Token) → Refuses (declarator_after n ts)
-unfolding declarator_after number_at
-declarator_refuses n ts = either _ _ _ (λ (q : Span × List Token). bind (number_at (optional (take_mark punctuators.Minus q.1) q.1).1) _ (expected (optional (take_mark punctuators.Minus q.1) q.1).1 _) (λ k. done _)) (done _)
+pub constant_refuses : (ts : List Token) → Refuses (constant_at ts)
+unfolding constant_at number_at
+constant_refuses ts = either _ _ _ (λ (m : Span × List Token). bind (number_at m.1) _ (expected m.1 _) (λ n. done _)) (bind (number_at ts) _ (expected ts _) (λ n. done _))
 
-pub further_refuses : (ts : List Token) → Refuses (further_at ts)
-unfolding further_at mark_at name_at
-further_refuses ts = bind (mark_at _ ts) _ (expected ts _) (λ c. bind (name_at c.1) _ (expected c.1 _) (λ n. bind (declarator_after n.0 n.1) _ (declarator_refuses n.0 n.1) (λ d. done _)))
+array_refuses : (left : Span) (ts : List Token) → Refuses (array_after left ts)
+unfolding array_after number_at mark_at
+array_refuses left ts = bind (number_at ts) _ (expected ts _) (λ n. bind (mark_at punctuators.CloseBracket n.1) _ (expected n.1 _) (λ r. done _))
+
+module _ (initial : Reader ExpressionTree) (refuses : (ts : List Token) → Refuses (initial ts)) where
+  declarator_refuses : (n : names.Name) (ts : List Token) → Refuses (declarator_after initial n ts)
+  unfolding declarator_after
+  declarator_refuses n ts = either _ _ _ (λ (b : Span × List Token). bind (array_after b.0 b.1) _ (array_refuses b.0 b.1) (λ a. done _)) (either _ _ _ (λ (q : Span × List Token). bind (initial q.1) _ (refuses q.1) (λ e. done _)) (done _))
+
+  further_refuses : (ts : List Token) → Refuses (further_at initial ts)
+  unfolding further_at mark_at name_at
+  further_refuses ts = bind (mark_at _ ts) _ (expected ts _) (λ c. bind (name_at c.1) _ (expected c.1 _) (λ n. bind (declarator_after initial n.0 n.1) _ (declarator_refuses n.0 n.1) (λ d. done _)))
+
+  pub declaration_refuses : (int : Span) (n : names.Name) (ts : List Token) → Refuses (declaration_after initial int n ts)
+  unfolding declaration_after
+  declaration_refuses int n ts = bind (declarator_after initial n ts) _ (declarator_refuses n ts) (λ d. bind (until _ (further_at initial) (length d.1) d.1) _ (until_refuses _ (further_at initial) further_refuses (length d.1) d.1) (λ m. done _))

@@ -1,65 +1,119 @@
--- A declarator that is read is spelled as the tokens were.
-use Rattle.std.proofs.Common.{◌≡◌, List, [], ◌∷◌, ◌++◌, Option, Some, None, refl, ap, subst, ◌∙◌, inl, inr, sym}
+-- A declaration that is read is spelled as the tokens were, and its initializers are such as the place admits.
+use Rattle.std.proofs.Common.{◌≡◌, ◌<◌, List, [], ◌∷◌, ◌++◌, length, Option, Some, None, refl, ap, subst, ◌∙◌, arith, append_assoc, length-append, inl, inr}
+use Rattle.std.specs.List.{flat_map}
+use Rattle.om_lexer.specs.declared.token.Keyword.TheVariants as keywords
 use Rattle.om_lexer.specs.declared.token.Punctuator.TheVariants as punctuators
+use Rattle.om_lexer.specs.declared.token.Span.{Span}
 use Rattle.om_lexer.specs.declared.token.Token.{Token}
+use Rattle.om_parser.specs.declared.declaration.Initial.{Initial}
+use Rattle.om_parser.specs.declared.declaration.Initial.TheVariants as initials
+use Rattle.om_parser.specs.declared.tree.ArrayLength.{ArrayLength}
+use Rattle.om_parser.specs.declared.tree.Declarator.{Declarator}
 use Rattle.om_parser.specs.declared.tree.Name as names
-use Rattle.om_parser.specs.Reading.{take_mark, mark_at, name_at, number_at}
-use Rattle.om_parser.specs.Spelling.{mark, name, number, perhaps, initializer_spelling, declarator_spelling, further_spelling, expression_spelling}
-use Rattle.om_parser.specs.Repetition.{optional}
-use Rattle.om_parser.specs.DeclarationReading.{declarator_after, further_at, signed_constant}
+use Rattle.om_parser.specs.DeclarationReading.{constant_at, initial_at, array_after, declarator_after, further_at, declaration_after}
+use Rattle.om_parser.specs.Formed.{IsSignedConstant, IsDeclarator, IsDeclaration}
+use Rattle.om_parser.specs.Limits.{Limits}
+use Rattle.om_parser.specs.Reading.{Reader, take_mark, mark_at, name_at, number_at}
+use Rattle.om_parser.specs.Repetition.{optional, until}
+use Rattle.om_parser.specs.Spelling.{mark, word, name, number, perhaps, expression_spelling, array_spelling, initializer_spelling, declarator_spelling, further_spelling, declaration_spelling}
+use Rattle.om_parser.specs.Tree.{ExpressionTree, DeclaratorTree, DeclarationTree}
+use Rattle.om_parser.specs.View.{view_declarator}
 use Rattle.om_parser.proofs.Outcomes.{ok, ok_is, some, bind_ok, choose_cases, after_front, after_token}
 use Rattle.om_parser.proofs.Taken.{take_mark_is, mark_at_is, name_at_is, number_at_is}
-use Rattle.om_parser.proofs.ItemsSound.{IsRead, IsSound}
-use Rattle.om_lexer.specs.declared.token.Span.{Span}
-use Rattle.om_parser.specs.Formed.{IsSignedConstant, IsGlobalDeclarator}
-use Rattle.om_parser.specs.declared.tree.Number.{Number}
-use Rattle.om_parser.specs.Tree.{DeclaratorTree}
-
-abbrev pub IsFurther : Span × DeclaratorTree → Type 0
-IsFurther d = IsGlobalDeclarator d.1
+use Rattle.om_parser.proofs.ExpressionSound.{sum_sound}
+use Rattle.om_parser.proofs.ItemsSound.{IsRead, IsSound, until_sound}
 
 abbrev pub IsAny : {A : Type 0} → A → Type 0
 IsAny a = Unit {0}
+
+-- a declarator behind its comma, without boxes
+abbrev pub view_further : Span × Declarator → Span × DeclaratorTree
+view_further d = (d.0, view_declarator d.1)
 
 -- a token that may stand there
 pub optional_is : {A : Type 0} (spell : A → List Token) (found : Option (A × List Token)) (ts : List Token) → ((x : A) (us : List Token) → found ≡ some (x, us) → ts ≡ spell x ++ us) → ts ≡ perhaps spell (optional found ts).0 ++ (optional found ts).1
 optional_is spell (Some x) ts is = is x.0 x.1 refl
 optional_is spell None ts is = refl
 
-signed_spelled : (m : Option Span) (n : Number) → expression_spelling (signed_constant m n) ≡ perhaps (λ at. mark punctuators.Minus at ∷ []) m ++ number n ∷ []
-unfolding expression_spelling
-signed_spelled (Some m) n = refl
-signed_spelled None n = refl
+array_sound : (left : Span) (ts : List Token) (x : ArrayLength × List Token) → array_after left ts ≡ ok x → mark punctuators.OpenBracket left ∷ ts ≡ array_spelling x.0 ++ x.1
+unfolding array_after
+array_sound left ts x h =
+    let n = bind_ok (number_at ts) _ x h in
+    let r = bind_ok (mark_at punctuators.CloseBracket n.0.1) _ x n.2 in
+    subst (λ y. mark punctuators.OpenBracket left ∷ ts ≡ array_spelling y.0 ++ y.1) (ok_is _ x r.2) (ap (λ w. mark punctuators.OpenBracket left ∷ w) (number_at_is ts n.0 n.1 ∙ ap (λ w. number n.0.0 ∷ w) (mark_at_is punctuators.CloseBracket n.0.1 r.0 r.1)))
 
-signed_formed : (m : Option Span) (n : Number) → IsSignedConstant (signed_constant m n)
-signed_formed (Some m) n = tt
-signed_formed None n = tt
-
-pub declarator_after_sound : (n : names.Name) (ts : List Token) (x : DeclaratorTree × List Token) → declarator_after n ts ≡ ok x → IsRead declarator_spelling IsGlobalDeclarator (name n ∷ ts) x
-unfolding declarator_after declarator_spelling initializer_spelling IsGlobalDeclarator
-declarator_after_sound n ts x h = elim (choose_cases (take_mark punctuators.Equal ts) _ _ (ok x) h) [
-  | inl q ↦
-      let m = optional (take_mark punctuators.Minus q.0.1) q.0.1 in
-      let k = bind_ok (number_at m.1) _ x q.2 in
-      let minus = optional_is (λ at. mark punctuators.Minus at ∷ []) (take_mark punctuators.Minus q.0.1) q.0.1 (λ s us e. take_mark_is punctuators.Minus q.0.1 s us e) in
-      let number_is = number_at_is m.1 k.0 k.1 in
-      let back = after_front q.0.1 (perhaps (λ at. mark punctuators.Minus at ∷ []) m.0) m.1 (number k.0.0 ∷ []) k.0.1 minus number_is in
-      let signed : q.0.1 ≡ expression_spelling (signed_constant m.0 k.0.0) ++ k.0.1 = back ∙ ap (λ w. w ++ k.0.1) (sym (signed_spelled m.0 k.0.0)) in
-      subst (IsRead declarator_spelling IsGlobalDeclarator (name n ∷ ts)) (ok_is _ x k.2) (record {
-        parts = ap (λ w. name n ∷ w) (after_token (mark punctuators.Equal q.0.0) ts q.0.1 (expression_spelling (signed_constant m.0 k.0.0)) k.0.1 (take_mark_is punctuators.Equal ts q.0.0 q.0.1 q.1) signed);
-        formed = (tt, signed_formed m.0 k.0.0);
+pub constant_sound : IsSound expression_spelling IsSignedConstant constant_at
+unfolding constant_at expression_spelling
+constant_sound ts x h = elim (choose_cases (take_mark punctuators.Minus ts) _ _ (ok x) h) [
+  | inl m ↦
+      let n = bind_ok (number_at m.0.1) _ x m.2 in
+      subst (IsRead expression_spelling IsSignedConstant ts) (ok_is _ x n.2) (record {
+        parts = take_mark_is punctuators.Minus ts m.0.0 m.0.1 m.1 ∙ ap (λ w. mark punctuators.Minus m.0.0 ∷ w) (number_at_is m.0.1 n.0 n.1);
+        formed = tt;
       })
-  | inr g ↦ subst (IsRead declarator_spelling IsGlobalDeclarator (name n ∷ ts)) (ok_is _ x g.1) (record { parts = refl; formed = (tt, tt) })
+  | inr g ↦
+      let n = bind_ok (number_at ts) _ x g.1 in
+      subst (IsRead expression_spelling IsSignedConstant ts) (ok_is _ x n.2) (record { parts = number_at_is ts n.0 n.1; formed = tt })
 ]
 
-pub further_sound : IsSound further_spelling IsFurther further_at
-unfolding further_at further_spelling
-further_sound ts x h =
-    let c = bind_ok (mark_at punctuators.Comma ts) _ x h in
-    let n = bind_ok (name_at c.0.1) _ x c.2 in
-    let d = bind_ok (declarator_after n.0.0 n.0.1) _ x n.2 in
-    let r = declarator_after_sound n.0.0 n.0.1 d.0 d.1 in
-    subst (IsRead further_spelling IsFurther ts) (ok_is _ x d.2) (record {
-      parts = after_token (mark punctuators.Comma c.0.0) ts c.0.1 (declarator_spelling d.0.0) d.0.1 (mark_at_is punctuators.Comma ts c.0 c.1) (name_at_is c.0.1 n.0 n.1 ∙ r.parts);
-      formed = r.formed;
-    })
+module _ (Admitted : ExpressionTree → Type 0) (initial : Reader ExpressionTree) (sound : IsSound expression_spelling Admitted initial) where
+  declarator_after_sound : (n : names.Name) (ts : List Token) (x : DeclaratorTree × List Token) → declarator_after initial n ts ≡ ok x → IsRead declarator_spelling (IsDeclarator Admitted) (name n ∷ ts) x
+  unfolding declarator_after declarator_spelling initializer_spelling IsDeclarator
+  declarator_after_sound n ts x h = elim (choose_cases (take_mark punctuators.OpenBracket ts) _ _ (ok x) h) [
+    | inl b ↦
+        let a = bind_ok (array_after b.0.0 b.0.1) _ x b.2 in
+        subst (IsRead declarator_spelling (IsDeclarator Admitted) (name n ∷ ts)) (ok_is _ x a.2) (record {
+          parts = ap (λ w. name n ∷ w) (take_mark_is punctuators.OpenBracket ts b.0.0 b.0.1 b.1 ∙ array_sound b.0.0 b.0.1 a.0 a.1);
+          formed = tt;
+        })
+    | inr g ↦ elim (choose_cases (take_mark punctuators.Equal ts) _ _ (ok x) g.1) [
+      | inl q ↦
+          let e = bind_ok (initial q.0.1) _ x q.2 in
+          let value = sound q.0.1 e.0 e.1 in
+          subst (IsRead declarator_spelling (IsDeclarator Admitted) (name n ∷ ts)) (ok_is _ x e.2) (record {
+            parts = ap (λ w. name n ∷ w) (after_token (mark punctuators.Equal q.0.0) ts q.0.1 (expression_spelling e.0.0) e.0.1 (take_mark_is punctuators.Equal ts q.0.0 q.0.1 q.1) value.parts);
+            formed = value.formed;
+          })
+      | inr k ↦ subst (IsRead declarator_spelling (IsDeclarator Admitted) (name n ∷ ts)) (ok_is _ x k.1) (record { parts = refl; formed = tt })
+    ]
+  ]
+
+  abbrev IsFurther : Span × DeclaratorTree → Type 0
+  IsFurther d = IsDeclarator Admitted d.1
+
+  pub further_sound : IsSound further_spelling IsFurther (further_at initial)
+  unfolding further_at further_spelling
+  further_sound ts x h =
+      let c = bind_ok (mark_at punctuators.Comma ts) _ x h in
+      let n = bind_ok (name_at c.0.1) _ x c.2 in
+      let d = bind_ok (declarator_after initial n.0.0 n.0.1) _ x n.2 in
+      let r = declarator_after_sound n.0.0 n.0.1 d.0 d.1 in
+      subst (IsRead further_spelling IsFurther ts) (ok_is _ x d.2) (record {
+        parts = after_token (mark punctuators.Comma c.0.0) ts c.0.1 (declarator_spelling d.0.0) d.0.1 (mark_at_is punctuators.Comma ts c.0 c.1) (name_at_is c.0.1 n.0 n.1 ∙ r.parts);
+        formed = r.formed;
+      })
+
+  pub declaration_after_sound : (int : Span) (n : names.Name) (ts : List Token) (x : DeclarationTree × List Token) → declaration_after initial int n ts ≡ ok x → IsRead declaration_spelling (IsDeclaration Admitted) (word keywords.Int int ∷ name n ∷ ts) x
+  unfolding declaration_after declaration_spelling IsDeclaration
+  declaration_after_sound int n ts x h =
+      let d = bind_ok (declarator_after initial n ts) _ x h in
+      let m = bind_ok (until (take_mark punctuators.Semicolon) (further_at initial) (length d.0.1) d.0.1) _ x d.2 in
+      let first = declarator_after_sound n ts d.0 d.1 in
+      let r = until_sound further_spelling IsFurther (mark punctuators.Semicolon) (take_mark punctuators.Semicolon) (further_at initial) (take_mark_is punctuators.Semicolon) further_sound (length d.0.1) d.0.1 m.0 m.1 in
+      subst (IsRead declaration_spelling (IsDeclaration Admitted) (word keywords.Int int ∷ name n ∷ ts)) (ok_is _ x m.2) (record {
+        parts = ap (λ w. word keywords.Int int ∷ w) (after_front (name n ∷ ts) (declarator_spelling d.0.0) d.0.1 (flat_map further_spelling m.0.0 ++ mark punctuators.Semicolon m.0.1 ∷ []) m.0.2 first.parts r.parts ∙ simp append_assoc);
+        formed = (first.formed, r.formed);
+      })
+
+pub further_some : (d : Span × DeclaratorTree) → 0 < length (further_spelling d)
+unfolding further_spelling
+further_some d = omega arith
+
+-- whatever an initializer is, it is spelled as the tokens were
+initial_any : (l : Limits) (i : Initial) → IsSound expression_spelling IsAny (initial_at l i)
+unfolding initial_at
+initial_any l initials.Constant ts x h = let r = constant_sound ts x h in record { parts = r.parts; formed = tt }
+initial_any l (initials.Expression room) ts x h = let r = sum_sound _ room ts x h in record { parts = r.parts; formed = tt }
+
+pub initial_further_shorter : (l : Limits) (i : Initial) (ts : List Token) (d : Span × DeclaratorTree) (us : List Token) → further_at (initial_at l i) ts ≡ ok (d, us) → length us < length ts
+initial_further_shorter l i ts d us e = let r = further_sound IsAny (initial_at l i) (initial_any l i) ts (d, us) e in omega (arith, ap length r.parts, length-append (further_spelling d) us, further_some d)

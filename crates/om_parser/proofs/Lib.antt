@@ -7,6 +7,7 @@ pub mod Loops
 pub mod ItemsSound
 pub mod StatementSound
 pub mod DeclarationSound
+pub mod FunctionSound
 pub mod UnitSound
 pub mod Shorter
 pub mod Again
@@ -14,16 +15,19 @@ pub mod ExpressionComplete
 pub mod ItemsComplete
 pub mod StatementComplete
 pub mod DeclarationComplete
+pub mod FunctionComplete
 pub mod UnitComplete
 pub mod OneTree
 pub mod ExpressionCut
 pub mod ItemsCut
 pub mod DeclarationCut
+pub mod FunctionCut
 pub mod StatementCut
 pub mod UnitCut
 pub mod Refusals
 pub mod ExpressionRefusals
 pub mod DeclarationRefusals
+pub mod FunctionRefusals
 pub mod StatementRefusals
 pub mod UnitRefusals
 pub mod Promises

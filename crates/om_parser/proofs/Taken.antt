@@ -1,5 +1,5 @@
 -- A token that is taken from the front is the one that stood there.
-use Rattle.std.proofs.Common.{◌≡◌, List, [], ◌∷◌, Option, None, ap, ◌∙◌, inl, inr}
+use Rattle.std.proofs.Common.{◌≡◌, ◌<◌, List, [], ◌∷◌, length, Option, None, ap, arith, ◌∙◌, inl, inr}
 use denote.Enum.Bare.{same_true}
 use Rattle.om_lexer.specs.contracts.token.Keyword.{the_type as the_keywords}
 use Rattle.om_lexer.specs.contracts.token.Punctuator.{the_type as the_punctuators}
@@ -52,6 +52,9 @@ unfolding take_mark
 take_mark_is p ts s us e =
     let t = take_is (λ t. mark_of p t.kind t.span) ts s us e in
     t.1 ∙ ap (λ u. u ∷ us) (mark_is p t.0.kind t.0.span s t.2)
+
+pub mark_shorter : (p : Punctuator) (ts : List Token) (s : Span) (us : List Token) → take_mark p ts ≡ some (s, us) → length us < length ts
+mark_shorter p ts s us e = omega (arith, ap length (take_mark_is p ts s us e))
 
 pub take_word_is : (w : Keyword) (ts : List Token) (s : Span) (us : List Token) → take_word w ts ≡ some (s, us) → ts ≡ word w s ∷ us
 unfolding take_word

@@ -1,80 +1,112 @@
 -- Where a unit is too deep, its tokens up to there begin a well-formed one.
-use Rattle.std.proofs.Common.{◌≡◌, ◌≤◌, List, [], ◌∷◌, ◌++◌, length, Err, sym, ap, subst, ◌∙◌, append_assoc, inl, inr}
-use Rattle.std.specs.Prelude.{codes}
+use Rattle.std.proofs.Common.{◌≡◌, ◌≤◌, List, [], ◌∷◌, ◌++◌, length, Err, sym, ap, subst, ◌∙◌, true, append_assoc, inl, inr}
 use Rattle.om_lexer.specs.declared.fault.SourceFault.{SourceFault}
 use Rattle.om_lexer.specs.declared.token.Keyword.TheVariants as keywords
 use Rattle.om_lexer.specs.declared.token.Punctuator.TheVariants as punctuators
 use Rattle.om_lexer.specs.declared.token.Span.{Span}
 use Rattle.om_lexer.specs.declared.token.Token.{Token}
 use Rattle.om_lexer.specs.declared.token.TokenKind.TheVariants as kinds
+use Rattle.om_parser.specs.declared.declaration.Initial.TheVariants as initials
 use Rattle.om_parser.specs.declared.tree.Name as names
+use Rattle.om_parser.specs.declared.tree.ResultType.{ResultType}
+use Rattle.om_parser.specs.declared.tree.ResultType.TheVariants as results
+use Rattle.om_parser.specs.DeclarationReading.{initial_at, declaration_after}
 use Rattle.om_parser.specs.Formed.{IsFunction, IsItem, IsUnit}
+use Rattle.om_parser.specs.FunctionReading.{are_named, head_after}
 use Rattle.om_parser.specs.Limits.{Limits, whole_expressions, expressions_of_item}
 use Rattle.om_parser.specs.Parsing.{PassesLimit}
-use Rattle.om_parser.specs.Reading.{take_word, mark_at, word_at, name_at}
-use Rattle.om_parser.specs.Spelling.{token, mark, word, name, perhaps, head_spelling, item_spelling, unit_spelling, parameters_spelling}
-use Rattle.om_parser.specs.Tree.{ItemTree, Function}
-use Rattle.om_parser.specs.Repetition.{optional, until}
+use Rattle.om_parser.specs.Reading.{Outcome, take_mark, take_word, mark_at, word_at, name_at}
+use Rattle.om_parser.specs.Repetition.{until}
+use Rattle.om_parser.specs.Spelling.{token, mark, word, name, result_spelling, head_spelling, item_spelling, unit_spelling}
 use Rattle.om_parser.specs.StatementReading.{block_at}
-use Rattle.om_parser.specs.UnitReading.{function_after, take_parameters, item_at, take_end, unit_at, empty_parameters}
+use Rattle.om_parser.specs.Tree.{HeadTree, ItemTree, Function}
+use Rattle.om_parser.specs.UnitReading.{function_after, prototype_after, void_after, int_after, item_at, take_end, unit_at}
 use Rattle.om_parser.proofs.Outcomes.{ok, bind_err, choose_cases}
 use Rattle.om_parser.proofs.Taken.{take_mark_is, take_word_is, mark_at_is, word_at_is, name_at_is}
-use Rattle.om_parser.proofs.ExpressionCut.{known_never_deep}
-use Rattle.om_parser.proofs.DeclarationSound.{optional_is}
-use Rattle.om_parser.proofs.UnitSound.{take_parameters_is, item_sound, parameters_spelled, no_parameters_none}
-use Rattle.om_parser.proofs.ItemsCut.{Deep, IsCuttingAt, until_cut}
-use Rattle.om_parser.proofs.DeclarationCut.{declaration_never_deep}
+use Rattle.om_parser.proofs.ExpressionCut.{IsNeverDeep, syntax_never_deep, known_never_deep}
+use Rattle.om_parser.proofs.FunctionSound.{head_sound, named_is}
+use Rattle.om_parser.proofs.UnitSound.{or_else, item_sound}
+use Rattle.om_parser.proofs.ItemsCut.{Deep, IsCuttingAt, bind_never_deep, until_cut}
+use Rattle.om_parser.proofs.DeclarationCut.{constant_never_deep, declaration_never_deep}
+use Rattle.om_parser.proofs.FunctionCut.{head_never_deep}
 use Rattle.om_parser.proofs.StatementCut.{block_cut}
-use Rattle.om_parser.specs.declared.tree.ResultType.TheVariants as results
 
 module _ (l : Limits) (two : 2 ≤ l.tokens) where
-  function_after_cut : (result : Span) (n : names.Name) (left : Span) (ts : List Token) (f : SourceFault) → n.text ≡ codes "main" → function_after l result n left ts ≡ Err f → Deep f → PassesLimit item_spelling IsItem expressions_of_item l (word keywords.Int result ∷ name n ∷ mark punctuators.OpenParen left ∷ ts) f.at
-  unfolding function_after mark_at item_spelling head_spelling IsItem IsFunction
-  function_after_cut result n left ts f main h deep =
-      let v = optional (take_word keywords.Void ts) ts in
-      let void = optional_is (λ at. word keywords.Void at ∷ []) (take_word keywords.Void ts) ts (λ s us e. take_word_is keywords.Void ts s us e) in
-      elim (bind_err (mark_at punctuators.CloseParen v.1) _ f h) [
-        | inl wrong ↦ absurd (known_never_deep v.1 _ f wrong deep)
-        | inr (r, taken, g) ↦ elim (bind_err (block_at l r.1) _ f g) [
+  abbrev IsItemCut : List Token → SourceFault → Type 0
+  IsItemCut ts f = PassesLimit item_spelling IsItem expressions_of_item l ts f.at
+
+  function_cut : (h : HeadTree) (ts : List Token) (f : SourceFault) → function_after l h ts ≡ Err f → Deep f → IsItemCut (head_spelling h ++ ts) f
+  unfolding function_after item_spelling IsItem IsFunction
+  function_cut h ts f e deep = elim (choose_cases (take_mark punctuators.Semicolon ts) _ _ (Err f) e) [
+    | inl (s, taken, no_err) ↦ absurd cc
+    | inr (none, g) ↦
+        let named = or_else (are_named h.parameters) _ _ f g (λ d. syntax_never_deep ts f d deep) in
+        elim (bind_err (block_at l ts) _ f named.1) [
           | inr (b, read, no_err) ↦ absurd cc
-          | inl e ↦
-              let c = block_cut l two r.1 f e deep in
-              let spelled = sym (parameters_spelled v.0) in
-              let head : List Token = word keywords.Int result ∷ name n ∷ mark punctuators.OpenParen left ∷ (parameters_spelling (empty_parameters v.0) ++ mark punctuators.CloseParen r.0 ∷ []) in
+          | inl d ↦
+              let c = block_cut l two ts f d deep in
               record {
-                part = Function (record { head = record { result = results.Int result; name = n; open_paren = left; parameters = empty_parameters v.0; close_paren = r.0 }; body = c.part });
-                formed = (tt, main, no_parameters_none v.0, c.formed);
+                part = Function (record { head = h; body = c.part });
+                formed = (named_is h.parameters named.0, c.formed);
                 expression = c.expression;
                 whole = c.whole;
-                before = head ++ c.before;
+                before = head_spelling h ++ c.before;
                 begun = c.begun;
                 token = c.token;
                 after = c.after;
                 rest_of_expression = c.rest_of_expression;
                 rest_of_part = c.rest_of_part;
-                stands = ap (λ w. word keywords.Int result ∷ name n ∷ mark punctuators.OpenParen left ∷ w) (void ∙ ap (λ w. w ++ v.1) spelled ∙ ap (λ w. parameters_spelling (empty_parameters v.0) ++ w) (mark_at_is punctuators.CloseParen v.1 r taken ∙ ap (λ w. mark punctuators.CloseParen r.0 ∷ w) c.stands)) ∙ simp append_assoc;
+                stands = ap (λ w. head_spelling h ++ w) c.stands ∙ simp append_assoc;
                 in_expression = c.in_expression;
-                in_part = ap (λ w. (word keywords.Int result ∷ name n ∷ mark punctuators.OpenParen left ∷ (parameters_spelling (empty_parameters v.0) ++ mark punctuators.CloseParen r.0 ∷ [])) ++ w) c.in_part ∙ simp append_assoc;
+                in_part = ap (λ w. head_spelling h ++ w) c.in_part ∙ simp append_assoc;
                 at_place = c.at_place;
                 too_much = c.too_much;
               }
         ]
-      ]
+  ]
+
+  prototype_cut : (result : ResultType) (n : names.Name) (left : Span) (ts : List Token) (f : SourceFault) → prototype_after l result n left ts ≡ Err f → Deep f → IsItemCut (result_spelling result ∷ name n ∷ mark punctuators.OpenParen left ∷ ts) f
+  unfolding prototype_after
+  prototype_cut result n left ts f e deep = elim (bind_err (head_after result n left ts) _ f e) [
+    | inl wrong ↦ absurd (head_never_deep result n left ts f wrong deep)
+    | inr (h, read, g) ↦ subst (λ w. IsItemCut w f) (sym (head_sound result n left ts h read)) (function_cut h.0 h.1 f g deep)
+  ]
+
+  void_cut : (void : Span) (ts : List Token) (f : SourceFault) → void_after l void ts ≡ Err f → Deep f → IsItemCut (word keywords.Void void ∷ ts) f
+  unfolding void_after name_at mark_at
+  void_cut void ts f e deep = elim (bind_err (name_at ts) _ f e) [
+    | inl wrong ↦ absurd (known_never_deep ts _ f wrong deep)
+    | inr (n, named, g) ↦ elim (bind_err (mark_at punctuators.OpenParen n.1) _ f g) [
+      | inl wrong ↦ absurd (known_never_deep n.1 _ f wrong deep)
+      | inr (p, taken, k) ↦
+          let front : ts ≡ name n.0 ∷ mark punctuators.OpenParen p.0 ∷ p.1 = name_at_is ts n named ∙ ap (λ w. name n.0 ∷ w) (mark_at_is punctuators.OpenParen n.1 p taken) in
+          subst (λ w. IsItemCut (word keywords.Void void ∷ w) f) (sym front) (prototype_cut (results.Void void) n.0 p.0 p.1 f k deep)
+    ]
+  ]
+
+  global_never_deep : (ts : List Token) → IsNeverDeep (initial_at l initials.Constant ts)
+  unfolding initial_at
+  global_never_deep ts = constant_never_deep ts
+
+  int_cut : (int : Span) (ts : List Token) (f : SourceFault) → int_after l int ts ≡ Err f → Deep f → IsItemCut (word keywords.Int int ∷ ts) f
+  unfolding int_after name_at
+  int_cut int ts f e deep = elim (bind_err (name_at ts) _ f e) [
+    | inl wrong ↦ absurd (known_never_deep ts _ f wrong deep)
+    | inr (n, named, g) ↦ elim (choose_cases (take_mark punctuators.OpenParen n.1) _ _ (Err f) g) [
+      | inl (p, taken, k) ↦
+          let front : ts ≡ name n.0 ∷ mark punctuators.OpenParen p.0 ∷ p.1 = name_at_is ts n named ∙ ap (λ w. name n.0 ∷ w) (take_mark_is punctuators.OpenParen n.1 p.0 p.1 taken) in
+          subst (λ w. IsItemCut (word keywords.Int int ∷ w) f) (sym front) (prototype_cut (results.Int int) n.0 p.0 p.1 f k deep)
+      | inr (none, k) ↦ absurd (bind_never_deep (declaration_after (initial_at l initials.Constant) int n.0 n.1) _ (declaration_never_deep (initial_at l initials.Constant) global_never_deep int n.0 n.1) (λ d f h deep. absurd cc) f k deep)
+    ]
+  ]
 
   item_cut : IsCuttingAt item_spelling IsItem expressions_of_item l (item_at l)
-  unfolding item_at word_at name_at
-  item_cut ts f h deep = elim (bind_err (word_at keywords.Int ts) _ f h) [
-    | inl wrong ↦ absurd (known_never_deep ts _ f wrong deep)
-    | inr (i, int, g) ↦ elim (bind_err (name_at i.1) _ f g) [
-      | inl wrong ↦ absurd (known_never_deep i.1 _ f wrong deep)
-      | inr (n, named, k) ↦
-          let front : ts ≡ word keywords.Int i.0 ∷ name n.0 ∷ n.1 = word_at_is keywords.Int ts i int ∙ ap (λ w. word keywords.Int i.0 ∷ w) (name_at_is i.1 n named) in
-          elim (choose_cases (take_parameters n.0 n.1) _ _ (Err f) k) [
-            | inr (none, e) ↦ absurd (declaration_never_deep i.0 n.0 n.1 f e deep)
-            | inl (p, opened, e) ↦
-                let is = take_parameters_is n.0 n.1 p.0 p.1 opened in
-                subst (λ w. PassesLimit item_spelling IsItem expressions_of_item l w f.at) (sym (front ∙ ap (λ w. word keywords.Int i.0 ∷ name n.0 ∷ w) (take_mark_is punctuators.OpenParen n.1 p.0 p.1 is.1))) (function_after_cut i.0 n.0 p.0 p.1 f is.0 e deep)
-          ]
+  unfolding item_at word_at
+  item_cut ts f h deep = elim (choose_cases (take_word keywords.Void ts) _ _ (Err f) h) [
+    | inl (v, taken, g) ↦ subst (λ w. IsItemCut w f) (sym (take_word_is keywords.Void ts v.0 v.1 taken)) (void_cut v.0 v.1 f g deep)
+    | inr (none, g) ↦ elim (bind_err (word_at keywords.Int ts) _ f g) [
+      | inl wrong ↦ absurd (known_never_deep ts _ f wrong deep)
+      | inr (i, int, k) ↦ subst (λ w. IsItemCut w f) (sym (word_at_is keywords.Int ts i int)) (int_cut i.0 i.1 f k deep)
     ]
   ]
 

@@ -1,36 +1,55 @@
 -- Reading declarations from the left.
-use Rattle.std.specs.Prelude.{length, Option, Some, None, Ok}
+use Rattle.std.specs.Prelude.{◌-◌, length, Some, None, Ok}
 use Rattle.om_lexer.specs.declared.token.Punctuator.TheVariants as punctuators
 use Rattle.om_lexer.specs.declared.token.Span.{Span}
+use Rattle.om_parser.specs.declared.declaration.Initial.{Initial}
+use Rattle.om_parser.specs.declared.declaration.Initial.TheVariants as initials
+use Rattle.om_parser.specs.declared.tree.ArrayLength.{ArrayLength}
 use Rattle.om_parser.specs.declared.tree.Name as names
-use Rattle.om_parser.specs.declared.tree.Number.{Number}
 use Rattle.om_parser.specs.declared.tree.PrefixOperator.TheVariants as prefixes
+use Rattle.om_parser.specs.ExpressionReading.{sum_at}
+use Rattle.om_parser.specs.Limits.{Limits}
 use Rattle.om_parser.specs.Reading.{◌>>=◌, choose, Reader, take_mark, mark_at, name_at, number_at}
-use Rattle.om_parser.specs.Repetition.{optional, until}
-use Rattle.om_parser.specs.Tree.{ExpressionTree, Constant, Prefix, DeclaratorTree, ItemTree, Declaration}
+use Rattle.om_parser.specs.Repetition.{until}
+use Rattle.om_parser.specs.Tree.{ExpressionTree, Constant, Prefix, DeclaratorTree, DeclarationTree}
 
--- a constant, perhaps with a minus
-abbrev pub signed_constant : Option Span → Number → ExpressionTree
-signed_constant (Some minus) n = Prefix prefixes.Minus minus (Constant n)
-signed_constant None n = Constant n
+-- a constant, perhaps behind a minus
+unfoldable pub constant_at : Reader ExpressionTree
+constant_at ts = choose (take_mark punctuators.Minus ts)
+    (λ m. number_at m.1 >>= λ n. Ok (Prefix prefixes.Minus m.0 (Constant n.0), n.1))
+    (number_at ts >>= λ n. Ok (Constant n.0, n.1))
 
--- the initializer, where one stands, behind the declared name (C17 6.7.6)
-unfoldable pub declarator_after : names.Name → Reader DeclaratorTree
-declarator_after name ts = choose (take_mark punctuators.Equal ts)
-    (λ q. let m = optional (take_mark punctuators.Minus q.1) q.1 in number_at m.1 >>= λ k. Ok (record { name = name; array = None; initializer = Some (record { equal = q.0; value = signed_constant m.0 k.0 }) }, k.1))
-    (Ok (record { name = name; array = None; initializer = None }, ts))
+-- what stands behind the `=` of a declarator (C17 6.7.9): a constant at file scope, an expression in a block
+unfoldable pub initial_at : Limits → Initial → Reader ExpressionTree
+initial_at l initials.Constant ts = constant_at ts
+initial_at l (initials.Expression room) ts = sum_at (length ts - l.tokens) room ts
+
+-- the size of an array and the right bracket, behind the left one (C17 6.7.6.2)
+unfoldable pub array_after : Span → Reader ArrayLength
+array_after left ts = do
+  n ← number_at ts
+  r ← mark_at punctuators.CloseBracket n.1
+  Ok (record { open_bracket = left; size = n.0; close_bracket = r.0 }, r.1)
+
+-- the brackets or the initializer, where they stand, behind the declared name (C17 6.7.6)
+unfoldable pub declarator_after : (initial : Reader ExpressionTree) → names.Name → Reader DeclaratorTree
+declarator_after initial name ts = choose (take_mark punctuators.OpenBracket ts)
+    (λ b. array_after b.0 b.1 >>= λ a. Ok (record { name = name; array = Some a.0; initializer = None }, a.1))
+    (choose (take_mark punctuators.Equal ts)
+    (λ q. initial q.1 >>= λ e. Ok (record { name = name; array = None; initializer = Some (record { equal = q.0; value = e.0 }) }, e.1))
+    (Ok (record { name = name; array = None; initializer = None }, ts)))
 
 -- a comma and a declarator
-unfoldable pub further_at : Reader (Span × DeclaratorTree)
-further_at ts = do
+unfoldable pub further_at : (initial : Reader ExpressionTree) → Reader (Span × DeclaratorTree)
+further_at initial ts = do
   c ← mark_at punctuators.Comma ts
   n ← name_at c.1
-  d ← declarator_after n.0 n.1
+  d ← declarator_after initial n.0 n.1
   Ok ((c.0, d.0), d.1)
 
 -- the rest of a declaration, behind `int` and the first name (C17 6.7)
-unfoldable pub declaration_after : Span → names.Name → Reader ItemTree
-declaration_after int name ts = do
-  d ← declarator_after name ts
-  m ← until (take_mark punctuators.Semicolon) further_at (length d.1) d.1
-  Ok (Declaration (record { int = int; first = d.0; rest = m.0; semicolon = m.1 }), m.2)
+unfoldable pub declaration_after : (initial : Reader ExpressionTree) → Span → names.Name → Reader DeclarationTree
+declaration_after initial int name ts = do
+  d ← declarator_after initial name ts
+  m ← until (take_mark punctuators.Semicolon) (further_at initial) (length d.1) d.1
+  Ok (record { int = int; first = d.0; rest = m.0; semicolon = m.1 }, m.2)

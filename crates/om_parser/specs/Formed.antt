@@ -1,5 +1,5 @@
 -- Which trees are well-formed: the grammar beyond the order of tokens.
-use Rattle.std.specs.Prelude.{◌≡◌, ℕ, ◌<◌, ◌≤◌, Option, Some, None, All, codes}
+use Rattle.std.specs.Prelude.{◌≡◌, ℕ, ◌<◌, ◌≤◌, Option, Some, None, IsSome, All}
 use Rattle.om_parser.specs.declared.tree.ArrayLength.{ArrayLength}
 use Rattle.om_parser.specs.declared.tree.BinaryOperator.{BinaryOperator}
 use Rattle.om_parser.specs.declared.tree.BinaryOperator.TheVariants as binaries
@@ -49,21 +49,22 @@ IsSignedConstant (Constant n) = Unit {0}
 IsSignedConstant (Prefix prefixes.Minus at (Constant n)) = Unit {0}
 IsSignedConstant _ = ⊥
 
--- a global's initializer is a constant
-abbrev pub IsGlobalInitializer : Option InitializerTree → Type 0
-IsGlobalInitializer None = Unit {0}
-IsGlobalInitializer (Some i) = IsSignedConstant i.value
+-- an array has no initializer, and another variable perhaps one that may stand there (C17 6.7.9)
+unfoldable pub IsDeclarator : (Admitted : ExpressionTree → Type 0) → DeclaratorTree → Type 0
+IsDeclarator Admitted d = starts d.array d.initializer
+  where
+    starts : Option ArrayLength → Option InitializerTree → Type 0
+    starts a None = Unit {0}
+    starts None (Some i) = Admitted i.value
+    starts (Some a) (Some i) = ⊥
 
--- no array is read
-abbrev pub IsScalar : Option ArrayLength → Type 0
-IsScalar None = Unit {0}
-IsScalar (Some a) = ⊥
+-- each declarator of a declaration is one
+unfoldable pub IsDeclaration : (Admitted : ExpressionTree → Type 0) → DeclarationTree → Type 0
+IsDeclaration Admitted d = IsDeclarator Admitted d.first × All (λ further. IsDeclarator Admitted further.1) d.rest
 
-unfoldable pub IsGlobalDeclarator : DeclaratorTree → Type 0
-IsGlobalDeclarator d = IsScalar d.array × IsGlobalInitializer d.initializer
-
-unfoldable pub IsGlobalDeclaration : DeclarationTree → Type 0
-IsGlobalDeclaration d = IsGlobalDeclarator d.first × All (λ further. IsGlobalDeclarator further.1) d.rest
+-- a global starts with a constant
+abbrev pub IsGlobalDeclaration : DeclarationTree → Type 0
+IsGlobalDeclaration = IsDeclaration IsSignedConstant
 
 -- an expression that stands alone is an assignment; a `return` has a value, which is none
 unfoldable pub IsStatement : StatementTree → Type 0
@@ -71,24 +72,20 @@ IsStatement (Expression e semicolon) = IsExpression e × (level e ≡ 1)
 IsStatement (Return at (Some e) semicolon) = IsExpression e × (2 ≤ level e)
 IsStatement _ = ⊥
 
--- the parameters of `main`: none
-abbrev pub HasNoParameters : ParametersTree → Type 0
-HasNoParameters NoParameters = Unit {0}
-HasNoParameters (Void at) = Unit {0}
-HasNoParameters (Listed first rest) = ⊥
+-- each parameter has a name
+abbrev pub AreNamed : ParametersTree → Type 0
+AreNamed NoParameters = Unit {0}
+AreNamed (Void at) = Unit {0}
+AreNamed (Listed first rest) = IsSome first.name × All (λ further. IsSome further.1.name) rest
 
-abbrev pub ReturnsInt : ResultType → Type 0
-ReturnsInt (results.Int at) = Unit {0}
-ReturnsInt (results.Void at) = ⊥
-
--- the one function that can be defined is `main`
+-- the definition of a function names its parameters (C17 6.9.1)
 unfoldable pub IsFunction : FunctionTree → Type 0
-IsFunction f = ReturnsInt f.head.result × (f.head.name.text ≡ codes "main") × HasNoParameters f.head.parameters × All IsStatement f.body.items
+IsFunction f = AreNamed f.head.parameters × All IsStatement f.body.items
 
--- any declaration, and `main`
+-- what may stand at file scope; a prototype need not name its parameters
 unfoldable pub IsItem : ItemTree → Type 0
 IsItem (Declaration d) = IsGlobalDeclaration d
-IsItem (Prototype h semicolon) = ⊥
+IsItem (Prototype h semicolon) = Unit {0}
 IsItem (Function f) = IsFunction f
 
 -- a whole source (C17 6.9)

@@ -8,5 +8,6 @@ pub mod Reading
 pub mod ExpressionReading
 pub mod Repetition
 pub mod DeclarationReading
+pub mod FunctionReading
 pub mod StatementReading
 pub mod UnitReading

@@ -1,5 +1,5 @@
 -- How large the expressions of an accepted source are.
-use Rattle.std.specs.Prelude.{ℕ, ◌+◌, ◌-◌, ◌≤◌, max, List, [], ◌∷◌, length, Some, None, All}
+use Rattle.std.specs.Prelude.{ℕ, ◌+◌, ◌-◌, ◌≤◌, max, List, [], ◌∷◌, ◌++◌, length, Option, Some, None, All}
 use Rattle.std.specs.List.{flat_map}
 use Rattle.om_lexer.specs.declared.token.Punctuator.TheVariants as punctuators
 use Rattle.om_lexer.specs.declared.token.Token.{Token}
@@ -7,7 +7,7 @@ use Rattle.om_lexer.specs.declared.token.TokenKind.{TokenKind}
 use Rattle.om_lexer.specs.declared.token.TokenKind.TheVariants as kinds
 use Rattle.om_parser.specs.declared.unit.TheConstants.{NESTING_LIMIT, TOKEN_LIMIT}
 use Rattle.om_parser.specs.Spelling.{expression_spelling}
-use Rattle.om_parser.specs.Tree.{ExpressionTree, Name, Constant, Text, Paren, Index, Call, Prefix, Postfix, Binary, Conditional, Assign, ArgumentsTree, NoArguments, Argument, StatementTree, Expression, Return, ItemTree, Declaration, Prototype, Function, UnitTree}
+use Rattle.om_parser.specs.Tree.{ExpressionTree, Name, Constant, Text, Paren, Index, Call, Prefix, Postfix, Binary, Conditional, Assign, ArgumentsTree, NoArguments, Argument, InitializerTree, DeclaratorTree, DeclarationTree, StatementTree, Expression, Return, ItemTree, Declaration, Prototype, Function, UnitTree}
 
 abbrev mutual
   -- how many parentheses and brackets stand round the innermost part
@@ -33,6 +33,18 @@ abbrev pub expressions_of_statement : StatementTree → List ExpressionTree
 expressions_of_statement (Expression e semicolon) = e ∷ []
 expressions_of_statement (Return at (Some e) semicolon) = e ∷ []
 expressions_of_statement _ = []
+
+-- that of a declarator
+abbrev pub expressions_of_declarator : DeclaratorTree → List ExpressionTree
+expressions_of_declarator d = started d.initializer
+  where
+    started : Option InitializerTree → List ExpressionTree
+    started (Some i) = i.value ∷ []
+    started None = []
+
+-- those of a declaration in a block
+abbrev pub expressions_of_declaration : DeclarationTree → List ExpressionTree
+expressions_of_declaration d = expressions_of_declarator d.first ++ flat_map (λ further. expressions_of_declarator further.1) d.rest
 
 -- those of the function's body
 abbrev pub expressions_of_item : ItemTree → List ExpressionTree

@@ -1,43 +1,57 @@
 -- Reading functions, items and the whole source from the left.
-use Rattle.std.specs.Prelude.{List, [], ◌∷◌, length, Option, Some, None, Ok, bytes_eq, codes, if◌then◌else◌}
+use Rattle.std.specs.Prelude.{List, [], ◌∷◌, length, Option, Some, None, Ok, Err, if◌then◌else◌}
 use Rattle.om_lexer.specs.declared.token.Keyword.TheVariants as keywords
 use Rattle.om_lexer.specs.declared.token.Punctuator.TheVariants as punctuators
 use Rattle.om_lexer.specs.declared.token.Span.{Span}
 use Rattle.om_lexer.specs.declared.token.Token.{Token}
 use Rattle.om_lexer.specs.declared.token.TokenKind.{TokenKind}
 use Rattle.om_lexer.specs.declared.token.TokenKind.TheVariants as kinds
+use Rattle.om_parser.specs.declared.declaration.Initial.TheVariants as initials
 use Rattle.om_parser.specs.declared.tree.Name as names
+use Rattle.om_parser.specs.declared.tree.ResultType.{ResultType}
 use Rattle.om_parser.specs.declared.tree.ResultType.TheVariants as results
-use Rattle.om_parser.specs.DeclarationReading.{declaration_after}
+use Rattle.om_parser.specs.DeclarationReading.{initial_at, declaration_after}
+use Rattle.om_parser.specs.FunctionReading.{are_named, head_after}
 use Rattle.om_parser.specs.Limits.{Limits}
-use Rattle.om_parser.specs.Reading.{◌>>=◌, choose, Outcome, Reader, take_mark, take_word, mark_at, word_at, name_at}
-use Rattle.om_parser.specs.Repetition.{optional, until}
+use Rattle.om_parser.specs.Reading.{◌>>=◌, choose, Outcome, Reader, syntax, take_mark, take_word, mark_at, word_at, name_at}
+use Rattle.om_parser.specs.Repetition.{until}
 use Rattle.om_parser.specs.StatementReading.{block_at}
-use Rattle.om_parser.specs.Tree.{ParametersTree, NoParameters, Void, ItemTree, Function, UnitTree}
+use Rattle.om_parser.specs.Tree.{HeadTree, ItemTree, Declaration, Prototype, Function, UnitTree}
 
--- no parameters, with `void` or without
-abbrev pub empty_parameters : Option Span → ParametersTree
-empty_parameters (Some void) = Void void
-empty_parameters None = NoParameters
+-- ---- functions
 
--- the rest of a function, behind its left parenthesis (C17 6.9.1)
-unfoldable pub function_after : Limits → Span → names.Name → Span → Reader ItemTree
-function_after l result name left ts = do
-  let v = optional (take_word keywords.Void ts) ts
-  r ← mark_at punctuators.CloseParen v.1
-  b ← block_at l r.1
-  Ok (Function (record { head = record { result = results.Int result; name = name; open_paren = left; parameters = empty_parameters v.0; close_paren = r.0 }; body = b.0 }), b.1)
+-- the semicolon of a prototype or the body of a function, behind its head (C17 6.9.1)
+unfoldable pub function_after : Limits → HeadTree → Reader ItemTree
+function_after l head ts = choose (take_mark punctuators.Semicolon ts)
+    (λ s. Ok (Prototype head s.0, s.1))
+    (if are_named head.parameters then (block_at l ts >>= λ b. Ok (Function (record { head = head; body = b.0 }), b.1)) else Err (syntax ts))
 
--- the parenthesis behind `main`
-unfoldable pub take_parameters : names.Name → List Token → Option (Span × List Token)
-take_parameters name ts = if bytes_eq name.text (codes "main") then take_mark punctuators.OpenParen ts else None
+-- the rest of a prototype or function, behind its left parenthesis
+unfoldable pub prototype_after : Limits → ResultType → names.Name → Span → Reader ItemTree
+prototype_after l result name left ts = head_after result name left ts >>= λ h. function_after l h.0 h.1
 
--- a declaration or a function (C17 6.9)
+-- ---- items
+
+-- what stands behind `void`: the name of a function
+unfoldable pub void_after : Limits → Span → Reader ItemTree
+void_after l void ts = do
+  n ← name_at ts
+  p ← mark_at punctuators.OpenParen n.1
+  prototype_after l (results.Void void) n.0 p.0 p.1
+
+-- what stands behind `int`: the name of a function or of a variable
+unfoldable pub int_after : Limits → Span → Reader ItemTree
+int_after l int ts = do
+  n ← name_at ts
+  choose (take_mark punctuators.OpenParen n.1)
+    (λ p. prototype_after l (results.Int int) n.0 p.0 p.1)
+    (declaration_after (initial_at l initials.Constant) int n.0 n.1 >>= λ d. Ok (Declaration d.0, d.1))
+
+-- a declaration, a prototype or a function (C17 6.9)
 unfoldable pub item_at : Limits → Reader ItemTree
-item_at l ts = do
-  i ← word_at keywords.Int ts
-  n ← name_at i.1
-  choose (take_parameters n.0 n.1) (λ p. function_after l i.0 n.0 p.0 p.1) (declaration_after i.0 n.0 n.1)
+item_at l ts = choose (take_word keywords.Void ts)
+    (λ v. void_after l v.0 v.1)
+    (word_at keywords.Int ts >>= λ i. int_after l i.0 i.1)
 
 -- the end of the source, where nothing stands behind it
 abbrev pub end_of : Token → List Token → Option (Span × List Token)

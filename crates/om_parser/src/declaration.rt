@@ -1,30 +1,42 @@
 //! Declarations of variables (C17 6.7).
 
-ghost use Rattle.std.specs.Prelude.{◌≡◌, IfOk, length, map};
+ghost use Rattle.std.specs.Prelude.{◌≡◌, length, map};
 ghost use Rattle.om_lexer.specs.declared.token.Punctuator.TheVariants.{Semicolon};
+ghost use Rattle.om_parser.specs.Limits.{accepted};
 ghost use Rattle.om_parser.specs.Reading.{take_mark, Reads, ReadsAlways};
-ghost use Rattle.om_parser.specs.Tree as trees;
 ghost use Rattle.om_parser.specs.Repetition.{until};
-ghost use Rattle.om_parser.specs.DeclarationReading.{declarator_after, further_at, declaration_after, signed_constant};
-ghost use Rattle.om_parser.specs.View.{view_declaration, view_declarator, view_expression, view_further};
+ghost use Rattle.om_parser.specs.DeclarationReading.{constant_at, initial_at, array_after, declarator_after, further_at, declaration_after};
+ghost use Rattle.om_parser.specs.View.{view_expression, view_declarator, view_declaration};
 
+use crate::expression::sum;
 use crate::front::{mark, name, number, take_mark};
-use crate::tree::{Declaration, Declarator, Expression, Initializer, Name, Number, PrefixOperator};
+use crate::tree::{ArrayLength, Declaration, Declarator, Expression, Initializer, Name, PrefixOperator};
+use crate::unit::TOKEN_LIMIT;
 use om_lexer::{Punctuator, SourceFault, Span, Token};
-use std::alloc::{AllocError, Global};
+use std::alloc::Global;
+
+/// What may stand behind the `=` of a declarator (C17 6.7.9).
+#[derive(Clone, Copy)]
+pub enum Initial {
+    /// At file scope: a constant, perhaps with a minus.
+    Constant,
+    /// In a block: any expression, in which brackets may nest so deep.
+    Expression(usize),
+}
 
 /// The rest of a declaration, of which `int` and the first name are taken.
 #[tactic(auto, unfolding(crate::specs::DeclarationReading::declaration_after))]
 pub fn declaration_after(
     alloc: Global,
+    initial: Initial,
     int: Span,
     name: Name,
     tokens: &[Token],
 ) -> Result<(Declaration, &[Token]), SourceFault>
-    ensures { Reads (λ x. (trees.Declaration (view_declaration x.0), x.1.now)) result (declaration_after int name tokens.now) }
+    ensures { Reads (λ x. (view_declaration x.0, x.1.now)) result (declaration_after (initial_at accepted initial) int name tokens.now) }
 {
-    let (first, rest) = declarator_after(alloc, name, tokens)?;
-    let (others, semicolon, rest) = further_declarators(alloc, rest)?;
+    let (first, rest) = declarator_after(alloc, initial, name, tokens)?;
+    let (others, semicolon, rest) = further_declarators(alloc, initial, rest)?;
     Ok((
         Declaration {
             int,
@@ -39,9 +51,10 @@ pub fn declaration_after(
 /// Declarators behind commas up to a semicolon, its span, and the tokens behind it.
 fn further_declarators(
     alloc: Global,
+    initial: Initial,
     tokens: &[Token],
 ) -> Result<(Vec<(Span, Declarator)>, Span, &[Token]), SourceFault>
-    ensures { Reads (λ x. (map view_further x.0.items, x.1, x.2.now)) result (until (take_mark Semicolon) further_at (length tokens.now) tokens.now) }
+    ensures { Reads (λ x. (map (λ d. (d.0, view_declarator d.1)) x.0.items, x.1, x.2.now)) result (until (take_mark Semicolon) (further_at (initial_at accepted initial)) (length tokens.now) tokens.now) }
 {
     let mut declarators = Vec::new(alloc);
     let mut rest = tokens;
@@ -49,7 +62,7 @@ fn further_declarators(
         if let Some((semicolon, after)) = take_mark(rest, Punctuator::Semicolon) {
             return Ok((declarators, semicolon, after));
         }
-        let (comma, next, after) = further_declarator(alloc, rest)?;
+        let (comma, next, after) = further_declarator(alloc, initial, rest)?;
         declarators.push((comma, next))?;
         rest = after;
     }
@@ -59,13 +72,14 @@ fn further_declarators(
 #[tactic(auto, unfolding(crate::specs::DeclarationReading::further_at))]
 fn further_declarator(
     alloc: Global,
+    initial: Initial,
     tokens: &[Token],
 ) -> Result<(Span, Declarator, &[Token]), SourceFault>
-    ensures { Reads (λ x. ((x.0, view_declarator x.1), x.2.now)) result (further_at tokens.now) }
+    ensures { Reads (λ x. ((x.0, view_declarator x.1), x.2.now)) result (further_at (initial_at accepted initial) tokens.now) }
 {
     let (comma, rest) = mark(tokens, Punctuator::Comma)?;
     let (name, rest) = name(alloc, rest)?;
-    let (declarator, rest) = declarator_after(alloc, name, rest)?;
+    let (declarator, rest) = declarator_after(alloc, initial, name, rest)?;
     Ok((comma, declarator, rest))
 }
 
@@ -73,13 +87,15 @@ fn further_declarator(
 #[tactic(auto, unfolding(crate::specs::DeclarationReading::declarator_after))]
 fn declarator_after(
     alloc: Global,
+    initial: Initial,
     name: Name,
     tokens: &[Token],
 ) -> Result<(Declarator, &[Token]), SourceFault>
-    ensures { Reads (λ x. (view_declarator x.0, x.1.now)) result (declarator_after name tokens.now) }
+    ensures { Reads (λ x. (view_declarator x.0, x.1.now)) result (declarator_after (initial_at accepted initial) name tokens.now) }
 {
-    let array = None;
-    let Some((equal, rest)) = take_mark(tokens, Punctuator::Equal) else {
+    if let Some((left, rest)) = take_mark(tokens, Punctuator::OpenBracket) {
+        let (array, rest) = array_after(left, rest)?;
+        let array = Some(array);
         let initializer = None;
         return Ok((
             Declarator {
@@ -87,40 +103,86 @@ fn declarator_after(
                 array,
                 initializer,
             },
-            tokens,
+            rest,
         ));
-    };
-    let (minus, rest) = match take_mark(rest, Punctuator::Minus) {
-        Some((minus, rest)) => (Some(minus), rest),
-        None => (None, rest),
-    };
-    let (number, rest) = number(rest)?;
-    let value = signed_constant(alloc, minus, number)?;
-    let initializer = Some(Initializer { equal, value });
+    }
+    let array = None;
+    if let Some((equal, rest)) = take_mark(tokens, Punctuator::Equal) {
+        let (value, rest) = initial_value(alloc, initial, rest)?;
+        let initializer = Some(Initializer { equal, value });
+        return Ok((
+            Declarator {
+                name,
+                array,
+                initializer,
+            },
+            rest,
+        ));
+    }
+    let initializer = None;
     Ok((
         Declarator {
             name,
             array,
             initializer,
         },
+        tokens,
+    ))
+}
+
+/// The brackets and the size of an array, of which the left one is taken.
+#[tactic(auto, unfolding(crate::specs::DeclarationReading::array_after))]
+fn array_after(
+    open_bracket: Span,
+    tokens: &[Token],
+) -> Result<(ArrayLength, &[Token]), SourceFault>
+    ensures { ReadsAlways (λ x. (x.0, x.1.now)) result (array_after open_bracket tokens.now) }
+{
+    let (size, rest) = number(tokens)?;
+    let (close_bracket, rest) = mark(rest, Punctuator::CloseBracket)?;
+    Ok((
+        ArrayLength {
+            open_bracket,
+            size,
+            close_bracket,
+        },
         rest,
     ))
 }
 
-/// A constant, with a minus where one stands before it.
-fn signed_constant(
+/// What stands behind the `=` of a declarator, and the tokens behind it.
+#[tactic(auto, unfolding(crate::specs::DeclarationReading::initial_at))]
+fn initial_value(
     alloc: Global,
-    minus: Option<Span>,
-    number: Number,
-) -> Result<Expression, AllocError>
-    ensures { IfOk result (λ value. view_expression value ≡ signed_constant minus number) }
+    initial: Initial,
+    tokens: &[Token],
+) -> Result<(Expression, &[Token]), SourceFault>
+    ensures { Reads (λ x. (view_expression x.0, x.1.now)) result (initial_at accepted initial tokens.now) }
 {
-    let constant = Expression::Constant(number);
-    match minus {
-        Some(minus) => {
-            let constant = Box::new(alloc, constant)?;
-            Ok(Expression::Prefix(PrefixOperator::Minus, minus, constant))
-        }
-        None => Ok(constant),
+    match initial {
+        Initial::Constant => constant(alloc, tokens),
+        Initial::Expression(room) => sum(
+            alloc,
+            tokens,
+            tokens.len().saturating_sub(TOKEN_LIMIT),
+            room,
+        ),
     }
+}
+
+/// A constant, perhaps behind a minus, and the tokens behind it.
+#[tactic(auto, unfolding(crate::specs::DeclarationReading::constant_at))]
+fn constant(alloc: Global, tokens: &[Token]) -> Result<(Expression, &[Token]), SourceFault>
+    ensures { Reads (λ x. (view_expression x.0, x.1.now)) result (constant_at tokens.now) }
+{
+    if let Some((minus, rest)) = take_mark(tokens, Punctuator::Minus) {
+        let (number, rest) = number(rest)?;
+        let operand = Box::new(alloc, Expression::Constant(number))?;
+        return Ok((
+            Expression::Prefix(PrefixOperator::Minus, minus, operand),
+            rest,
+        ));
+    }
+    let (number, rest) = number(tokens)?;
+    Ok((Expression::Constant(number), rest))
 }

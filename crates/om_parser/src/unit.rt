@@ -10,14 +10,15 @@ ghost use Rattle.om_parser.specs.Reading.{Reads};
 ghost use Rattle.om_parser.specs.Spelling.{unit_spelling};
 ghost use Rattle.om_parser.specs.Tree.{UnitTree};
 ghost use Rattle.om_parser.specs.Repetition.{until};
-ghost use Rattle.om_parser.specs.UnitReading.{unit_at, take_end, item_at};
-ghost use Rattle.om_parser.specs.View.{view_item, view_unit};
+ghost use Rattle.om_parser.specs.UnitReading.{function_after, prototype_after, void_after, int_after, item_at, take_end, unit_at};
+ghost use Rattle.om_parser.specs.View.{view_head, view_item, view_unit};
 
-use crate::declaration::declaration_after;
-use crate::front::{name, word};
-use crate::function::{function_after, take_parameters};
-use crate::tree::{Item, Unit};
-use om_lexer::{Keyword, SourceFault, Span, Token, TokenKind};
+use crate::declaration::{Initial, declaration_after};
+use crate::front::{mark, name, syntax, take_mark, take_word, word};
+use crate::function::{are_named, head_after};
+use crate::statement::block;
+use crate::tree::{Function, FunctionHead, Item, Name, ResultType, Unit};
+use om_lexer::{Keyword, Punctuator, SourceFault, Span, Token, TokenKind};
 use std::alloc::Global;
 
 /// How deep parentheses may nest in an expression.
@@ -95,17 +96,75 @@ fn take_end(tokens: &[Token]) -> Option<Span>
     }
 }
 
-/// A declaration or a function, and the tokens behind it.
+/// A declaration, a prototype or a function, and the tokens behind it.
 #[tactic(auto, unfolding(crate::specs::UnitReading::item_at))]
 fn item(alloc: Global, tokens: &[Token]) -> Result<(Item, &[Token]), SourceFault>
     ensures { Reads (λ x. (view_item x.0, x.1.now)) result (item_at accepted tokens.now) }
 {
-    let (int, rest) = word(tokens, Keyword::Int)?;
-    let (name, rest) = name(alloc, rest)?;
-    if let Some((open_paren, rest)) = take_parameters(&name, rest) {
-        let (function, rest) = function_after(alloc, int, name, open_paren, rest)?;
-        return Ok((Item::Function(function), rest));
+    if let Some((void, rest)) = take_word(tokens, Keyword::Void) {
+        return void_after(alloc, void, rest);
     }
-    let (declaration, rest) = declaration_after(alloc, int, name, rest)?;
+    let (int, rest) = word(tokens, Keyword::Int)?;
+    int_after(alloc, int, rest)
+}
+
+/// The rest of a function or prototype without a result, of which `void` is taken.
+#[tactic(auto, unfolding(crate::specs::UnitReading::void_after))]
+fn void_after(
+    alloc: Global,
+    void: Span,
+    tokens: &[Token],
+) -> Result<(Item, &[Token]), SourceFault>
+    ensures { Reads (λ x. (view_item x.0, x.1.now)) result (void_after accepted void tokens.now) }
+{
+    let (name, rest) = name(alloc, tokens)?;
+    let (open_paren, rest) = mark(rest, Punctuator::OpenParen)?;
+    prototype_after(alloc, ResultType::Void(void), name, open_paren, rest)
+}
+
+/// The rest of an item of which `int` is taken.
+#[tactic(auto, unfolding(crate::specs::UnitReading::int_after))]
+fn int_after(alloc: Global, int: Span, tokens: &[Token]) -> Result<(Item, &[Token]), SourceFault>
+    ensures { Reads (λ x. (view_item x.0, x.1.now)) result (int_after accepted int tokens.now) }
+{
+    let (name, rest) = name(alloc, tokens)?;
+    if let Some((open_paren, rest)) = take_mark(rest, Punctuator::OpenParen) {
+        return prototype_after(alloc, ResultType::Int(int), name, open_paren, rest);
+    }
+    let (declaration, rest) = declaration_after(alloc, Initial::Constant, int, name, rest)?;
     Ok((Item::Declaration(declaration), rest))
+}
+
+/// The rest of a prototype or function, of which all up to the left parenthesis is taken.
+#[tactic(auto, unfolding(crate::specs::UnitReading::prototype_after))]
+fn prototype_after(
+    alloc: Global,
+    result_type: ResultType,
+    name: Name,
+    open_paren: Span,
+    tokens: &[Token],
+) -> Result<(Item, &[Token]), SourceFault>
+    ensures { Reads (λ x. (view_item x.0, x.1.now)) result (prototype_after accepted result_type name open_paren tokens.now) }
+{
+    let (head, rest) = head_after(alloc, result_type, name, open_paren, tokens)?;
+    function_after(alloc, head, rest)
+}
+
+/// The semicolon of a prototype or the body of a function, behind its head.
+#[tactic(auto, unfolding(crate::specs::UnitReading::function_after))]
+fn function_after(
+    alloc: Global,
+    head: FunctionHead,
+    tokens: &[Token],
+) -> Result<(Item, &[Token]), SourceFault>
+    ensures { Reads (λ x. (view_item x.0, x.1.now)) result (function_after accepted (view_head head) tokens.now) }
+{
+    if let Some((semicolon, rest)) = take_mark(tokens, Punctuator::Semicolon) {
+        return Ok((Item::Prototype(head, semicolon), rest));
+    }
+    if !are_named(&head.parameters) {
+        return Err(syntax(tokens));
+    }
+    let (body, rest) = block(alloc, tokens)?;
+    Ok((Item::Function(Function { head, body }), rest))
 }

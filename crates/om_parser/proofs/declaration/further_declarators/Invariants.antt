@@ -1,14 +1,15 @@
 use Rattle.std.proofs.Common.{length, map}
 use Rattle.om_lexer.specs.declared.token.Punctuator.TheVariants.{Semicolon}
+use Rattle.om_parser.specs.DeclarationReading.{initial_at, further_at}
+use Rattle.om_parser.specs.Limits.{accepted}
 use Rattle.om_parser.specs.Reading.{take_mark}
 use Rattle.om_parser.specs.Repetition.{until}
-use Rattle.om_parser.specs.DeclarationReading.{further_at}
+use Rattle.om_parser.proofs.DeclarationSound.{view_further}
 use Rattle.om_parser.proofs.Loops.{GoesOn}
 use Rattle.om_parser.proofs.declaration.further_declarators.Given as goal
-use Rattle.om_parser.specs.View.{view_further}
 
 abbrev pub invariant-declarators : goal.invariant-declarators
-invariant-declarators l = GoesOn (take_mark Semicolon) further_at (map view_further l.declarators.items) l.rest (until (take_mark Semicolon) further_at (length l.tokens) l.tokens)
+invariant-declarators l = GoesOn (take_mark Semicolon) (further_at (initial_at accepted l.fn.initial)) (map view_further l.declarators.items) l.rest (until (take_mark Semicolon) (further_at (initial_at accepted l.fn.initial)) (length l.tokens) l.tokens)
 
 abbrev pub decreases-declarators : goal.decreases-declarators
 decreases-declarators l = length l.rest

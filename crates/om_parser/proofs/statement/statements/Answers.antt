@@ -8,7 +8,8 @@ use Rattle.om_parser.specs.Repetition.{until}
 use Rattle.om_parser.specs.StatementReading.{statement_at}
 use Rattle.om_parser.specs.View.{view_statement}
 use Rattle.om_parser.proofs.Loops.{until_begins, until_ends, until_fails, until_goes_on}
-use Rattle.om_parser.proofs.Shorter.{mark_shorter, statement_shorter}
+use Rattle.om_parser.proofs.Shorter.{statement_shorter}
+use Rattle.om_parser.proofs.Taken.{mark_shorter}
 use Rattle.om_parser.proofs.statement.statements.Goals as goal
 
 pub statements-init : goal.statements-init

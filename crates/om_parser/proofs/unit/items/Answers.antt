@@ -6,7 +6,7 @@ use Rattle.om_parser.specs.Repetition.{until}
 use Rattle.om_parser.specs.UnitReading.{take_end, item_at}
 use Rattle.om_parser.specs.View.{view_item}
 use Rattle.om_parser.proofs.Loops.{until_begins, until_ends, until_fails, until_goes_on}
-use Rattle.om_parser.proofs.Shorter.{end_shorter, item_shorter}
+use Rattle.om_parser.proofs.UnitSound.{end_shorter, item_shorter}
 use Rattle.om_parser.proofs.unit.items.Goals as goal
 
 pub items-init : goal.items-init

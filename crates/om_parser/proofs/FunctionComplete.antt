@@ -1,0 +1,94 @@
+-- What the head of a function spells is read again as that head.
+use Rattle.std.proofs.Common.{◌≡◌, List, [], ◌∷◌, ◌++◌, length, Option, Some, None, refl, sym, ◌∙◌, append_assoc, inl, inr, All}
+use Rattle.std.specs.List.{flat_map}
+use Rattle.om_lexer.specs.declared.token.Keyword.TheVariants as keywords
+use Rattle.om_lexer.specs.declared.token.Punctuator.TheVariants as punctuators
+use Rattle.om_lexer.specs.declared.token.Span.{Span}
+use Rattle.om_lexer.specs.declared.token.Token.{Token}
+use Rattle.om_parser.specs.declared.tree.Name as names
+use Rattle.om_parser.specs.declared.tree.Parameter.{Parameter}
+use Rattle.om_parser.specs.FunctionReading.{parameter_at, further_parameter_at, listed_at, parameters_at, head_after}
+use Rattle.om_parser.specs.Reading.{Outcome, take, same_mark, same_word, take_mark, take_word, take_name}
+use Rattle.om_parser.specs.Repetition.{optional, until}
+use Rattle.om_parser.specs.Spelling.{mark, word, name, perhaps, behind_comma, parameter_spelling, parameters_spelling}
+use Rattle.om_parser.specs.Tree.{ParametersTree, NoParameters, Void, Listed, HeadTree}
+use Rattle.om_parser.proofs.Outcomes.{ok}
+use Rattle.om_parser.proofs.Again.{take_mark_again, take_word_again, mark_again, word_again, IsAnswer}
+use Rattle.om_parser.proofs.DeclarationSound.{IsAny}
+use Rattle.om_parser.proofs.DeclarationComplete.{all_any}
+use Rattle.om_parser.proofs.FunctionSound.{further_parameter_some}
+use Rattle.om_parser.proofs.ItemsComplete.{AreAgain, until_again}
+
+-- what stands behind a parameter: a comma or the right parenthesis
+data EndsParameter : List Token → Type 0 where
+  EndsByComma : (s : Span) (us : List Token) → EndsParameter (mark punctuators.Comma s ∷ us)
+  EndsByParen : (s : Span) (us : List Token) → EndsParameter (mark punctuators.CloseParen s ∷ us)
+
+no_name : (ts : List Token) → EndsParameter ts → take_name ts ≡ None
+unfolding take_name take
+no_name _ (EndsByComma s us) = refl
+no_name _ (EndsByParen s us) = refl
+
+name_if_any : (n : Option names.Name) (rest : List Token) → EndsParameter rest → optional (take_name (perhaps (λ n. name n ∷ []) n ++ rest)) (perhaps (λ n. name n ∷ []) n ++ rest) ≡ (n, rest)
+unfolding take_name take
+name_if_any (Some n) rest ends = refl
+name_if_any None rest ends = rw (no_name rest ends) refl
+
+parameter_again : (p : Parameter) (rest : List Token) → EndsParameter rest → parameter_at (parameter_spelling p ++ rest) ≡ ok (p, rest)
+unfolding parameter_at
+parameter_again p rest ends = rw (word_again keywords.Int p.int (perhaps (λ n. name n ∷ []) p.name ++ rest), name_if_any p.name rest ends) refl
+
+further_parameter_again : (p : Span × Parameter) (rest : List Token) → EndsParameter rest → further_parameter_at (behind_comma parameter_spelling p ++ rest) ≡ ok (p, rest)
+unfolding further_parameter_at
+further_parameter_again p rest ends = rw (mark_again punctuators.Comma p.0 (parameter_spelling p.1 ++ rest), parameter_again p.1 rest ends) refl
+
+all_further_again : AreAgain (behind_comma parameter_spelling) IsAny IsAny EndsParameter (take_mark punctuators.CloseParen) further_parameter_at
+unfolding take_mark take same_mark
+all_further_again = record {
+  one = λ p rest f ends. inl (further_parameter_again p rest ends);
+  unended = λ p rest f. refl;
+  follows = λ p rest f. EndsByComma p.0 (parameter_spelling p.1 ++ rest);
+  some_tokens = further_parameter_some;
+}
+
+ends_first : (ps : List (Span × Parameter)) (s : Span) (rest : List Token) → EndsParameter (flat_map (behind_comma parameter_spelling) ps ++ mark punctuators.CloseParen s ∷ rest)
+ends_first [] s rest = EndsByParen s rest
+ends_first (p ∷ ps) s rest = EndsByComma p.0 ((parameter_spelling p.1 ++ flat_map (behind_comma parameter_spelling) ps) ++ mark punctuators.CloseParen s ∷ rest)
+
+-- an answer that no limit hinders
+surely : {A : Type 0} {Fits : Type 0} (read : Outcome A) (x : A) → Fits → IsAnswer Fits read x → read ≡ ok x
+surely read x fits (inl e) = e
+surely read x fits (inr (s, e, never)) = absurd (never fits)
+
+listed_again : (p : Parameter) (ps : List (Span × Parameter)) (s : Span) (rest : List Token) → listed_at (parameter_spelling p ++ (flat_map (behind_comma parameter_spelling) ps ++ mark punctuators.CloseParen s ∷ rest)) ≡ ok ((Listed p ps, s), rest)
+unfolding listed_at
+listed_again p ps s rest =
+    let others : List Token = flat_map (behind_comma parameter_spelling) ps ++ mark punctuators.CloseParen s ∷ rest in
+    let read = surely (until (take_mark punctuators.CloseParen) further_parameter_at (length others) others) (ps, s, rest) (all_any ps) (until_again (behind_comma parameter_spelling) IsAny IsAny EndsParameter (take_mark punctuators.CloseParen) further_parameter_at all_further_again (mark punctuators.CloseParen s) s rest (take_mark_again punctuators.CloseParen s rest) (EndsByParen s rest) ps (all_any ps)) in
+    rw (parameter_again p others (ends_first ps s rest), read) refl
+
+word_is_no_mark : (s : Span) (ts : List Token) → take_mark punctuators.CloseParen (word keywords.Int s ∷ ts) ≡ None
+unfolding take_mark take
+word_is_no_mark s ts = refl
+
+void_is_no_mark : (s : Span) (ts : List Token) → take_mark punctuators.CloseParen (word keywords.Void s ∷ ts) ≡ None
+unfolding take_mark take
+void_is_no_mark s ts = refl
+
+pub int_is_no_void : (s : Span) (ts : List Token) → take_word keywords.Void (word keywords.Int s ∷ ts) ≡ None
+unfolding take_word take same_word
+int_is_no_void s ts = refl
+
+parameters_again : (p : ParametersTree) (s : Span) (rest : List Token) → parameters_at (parameters_spelling p ++ mark punctuators.CloseParen s ∷ rest) ≡ ok ((p, s), rest)
+unfolding parameters_at parameters_spelling
+parameters_again NoParameters s rest = rw (take_mark_again punctuators.CloseParen s rest) refl
+parameters_again (Void at) s rest = rw (void_is_no_mark at (mark punctuators.CloseParen s ∷ rest), take_word_again keywords.Void at (mark punctuators.CloseParen s ∷ rest), mark_again punctuators.CloseParen s rest) refl
+parameters_again (Listed p ps) s rest =
+    let others : List Token = flat_map (behind_comma parameter_spelling) ps ++ mark punctuators.CloseParen s ∷ rest in
+    let back : List Token = perhaps (λ n. name n ∷ []) p.name ++ others in
+    rw (append_assoc, word_is_no_mark p.int back, int_is_no_void p.int back) (listed_again p ps s rest)
+
+-- a head is read again behind its left parenthesis
+pub head_again : (h : HeadTree) (rest : List Token) → head_after h.result h.name h.open_paren (parameters_spelling h.parameters ++ mark punctuators.CloseParen h.close_paren ∷ rest) ≡ ok (h, rest)
+unfolding head_after
+head_again h rest = rw (parameters_again h.parameters h.close_paren rest) refl

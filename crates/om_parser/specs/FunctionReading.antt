@@ -1,0 +1,53 @@
+-- Reading the heads of functions from the left.
+use Rattle.std.specs.Prelude.{length, Ok, Bool, true, ◌&&◌, is_some}
+use Rattle.std.specs.List.{list_all}
+use Rattle.om_lexer.specs.declared.token.Keyword.TheVariants as keywords
+use Rattle.om_lexer.specs.declared.token.Punctuator.TheVariants as punctuators
+use Rattle.om_lexer.specs.declared.token.Span.{Span}
+use Rattle.om_parser.specs.declared.tree.Name as names
+use Rattle.om_parser.specs.declared.tree.Parameter.{Parameter}
+use Rattle.om_parser.specs.declared.tree.ResultType.{ResultType}
+use Rattle.om_parser.specs.Reading.{◌>>=◌, choose, Reader, take_mark, take_word, take_name, mark_at, word_at}
+use Rattle.om_parser.specs.Repetition.{optional, until}
+use Rattle.om_parser.specs.Tree.{ParametersTree, NoParameters, Void, Listed, HeadTree}
+
+-- `int` and a name, where one stands (C17 6.7.6.3)
+unfoldable pub parameter_at : Reader Parameter
+parameter_at ts = do
+  i ← word_at keywords.Int ts
+  let n = optional (take_name i.1) i.1
+  Ok (record { int = i.0; name = n.0 }, n.1)
+
+-- a comma and a parameter
+unfoldable pub further_parameter_at : Reader (Span × Parameter)
+further_parameter_at ts = do
+  c ← mark_at punctuators.Comma ts
+  p ← parameter_at c.1
+  Ok ((c.0, p.0), p.1)
+
+-- one parameter or several, and the right parenthesis
+unfoldable pub listed_at : Reader (ParametersTree × Span)
+listed_at ts = do
+  p ← parameter_at ts
+  m ← until (take_mark punctuators.CloseParen) further_parameter_at (length p.1) p.1
+  Ok ((Listed p.0 m.0, m.1), m.2)
+
+-- parameters and the right parenthesis, behind the left one (C17 6.7.6.3)
+unfoldable pub parameters_at : Reader (ParametersTree × Span)
+parameters_at ts = choose (take_mark punctuators.CloseParen ts)
+    (λ r. Ok ((NoParameters, r.0), r.1))
+    (choose (take_word keywords.Void ts)
+    (λ v. mark_at punctuators.CloseParen v.1 >>= λ r. Ok ((Void v.0, r.0), r.1))
+    (listed_at ts))
+
+-- the rest of a head, behind the left parenthesis
+unfoldable pub head_after : ResultType → names.Name → Span → Reader HeadTree
+head_after result name left ts = do
+  p ← parameters_at ts
+  Ok (record { result = result; name = name; open_paren = left; parameters = p.0.0; close_paren = p.0.1 }, p.1)
+
+-- whether all parameters have names
+unfoldable pub are_named : ParametersTree → Bool
+are_named NoParameters = true
+are_named (Void at) = true
+are_named (Listed p ps) = is_some p.name && list_all (λ x. is_some x.1.name) ps
