@@ -8,7 +8,6 @@ use Rattle.om_lexer.specs.declared.token.Token.{Token}
 use Rattle.om_parser.specs.declared.declaration.Initial.{Initial}
 use Rattle.om_parser.specs.declared.declaration.Initial.TheVariants as initials
 use Rattle.om_parser.specs.declared.tree.ArrayLength.{ArrayLength}
-use Rattle.om_parser.specs.declared.tree.Declarator.{Declarator}
 use Rattle.om_parser.specs.declared.tree.Name as names
 use Rattle.om_parser.specs.DeclarationReading.{constant_at, initial_at, array_after, declarator_after, further_at, declaration_after}
 use Rattle.om_parser.specs.Formed.{IsSignedConstant, IsDeclarator, IsDeclaration}
@@ -17,7 +16,6 @@ use Rattle.om_parser.specs.Reading.{Reader, take_mark, mark_at, name_at, number_
 use Rattle.om_parser.specs.Repetition.{optional, until}
 use Rattle.om_parser.specs.Spelling.{mark, word, name, number, perhaps, expression_spelling, array_spelling, initializer_spelling, declarator_spelling, further_spelling, declaration_spelling}
 use Rattle.om_parser.specs.Tree.{ExpressionTree, DeclaratorTree, DeclarationTree}
-use Rattle.om_parser.specs.View.{view_declarator}
 use Rattle.om_parser.proofs.Outcomes.{ok, ok_is, some, bind_ok, choose_cases, after_front, after_token}
 use Rattle.om_parser.proofs.Taken.{take_mark_is, mark_at_is, name_at_is, number_at_is}
 use Rattle.om_parser.proofs.ExpressionSound.{sum_sound}
@@ -25,10 +23,6 @@ use Rattle.om_parser.proofs.ItemsSound.{IsRead, IsSound, until_sound}
 
 abbrev pub IsAny : {A : Type 0} → A → Type 0
 IsAny a = Unit {0}
-
--- a declarator behind its comma, without boxes
-abbrev pub view_further : Span × Declarator → Span × DeclaratorTree
-view_further d = (d.0, view_declarator d.1)
 
 -- a token that may stand there
 pub optional_is : {A : Type 0} (spell : A → List Token) (found : Option (A × List Token)) (ts : List Token) → ((x : A) (us : List Token) → found ≡ some (x, us) → ts ≡ spell x ++ us) → ts ≡ perhaps spell (optional found ts).0 ++ (optional found ts).1

@@ -6,8 +6,8 @@ use Rattle.om_parser.specs.DeclarationReading.{initial_at, further_at}
 use Rattle.om_parser.specs.Limits.{accepted}
 use Rattle.om_parser.specs.Reading.{take_mark}
 use Rattle.om_parser.specs.Repetition.{until}
-use Rattle.om_parser.specs.View.{view_declarator}
-use Rattle.om_parser.proofs.DeclarationSound.{view_further, initial_further_shorter}
+use Rattle.om_parser.specs.View.{view_declarator, view_further}
+use Rattle.om_parser.proofs.DeclarationSound.{initial_further_shorter}
 use Rattle.om_parser.proofs.Loops.{until_begins, until_ends, until_fails, until_goes_on}
 use Rattle.om_parser.proofs.Taken.{mark_shorter}
 use Rattle.om_parser.proofs.declaration.further_declarators.Goals as goal
