@@ -1,6 +1,7 @@
 -- A declaration that is read is spelled as the tokens were, and its initializers are such as the place admits.
-use Rattle.std.proofs.Common.{◌≡◌, ◌<◌, List, [], ◌∷◌, ◌++◌, length, Option, Some, None, refl, ap, subst, ◌∙◌, arith, append_assoc, length-append, inl, inr}
+use Rattle.std.proofs.Common.{◌≡◌, ◌<◌, List, [], ◌∷◌, ◌++◌, length, Option, Some, None, refl, ap, subst, ◌∙◌, arith, append_assoc, length-append, inl, inr, All}
 use Rattle.std.specs.List.{flat_map}
+use Rattle.std.proofs.lemmas.List.Elements.{All-nil, All-cons, All-append, All-weaker}
 use Rattle.om_lexer.specs.declared.token.Keyword.TheVariants as keywords
 use Rattle.om_lexer.specs.declared.token.Punctuator.TheVariants as punctuators
 use Rattle.om_lexer.specs.declared.token.Span.{Span}
@@ -11,15 +12,15 @@ use Rattle.om_parser.specs.declared.tree.ArrayLength.{ArrayLength}
 use Rattle.om_parser.specs.declared.tree.Name as names
 use Rattle.om_parser.specs.DeclarationReading.{constant_at, initial_at, array_after, declarator_after, further_at, declaration_after}
 use Rattle.om_parser.specs.Formed.{IsSignedConstant, IsDeclarator, IsDeclaration}
-use Rattle.om_parser.specs.Limits.{Limits}
+use Rattle.om_parser.specs.Limits.{Limits, expressions_of_declarator, expressions_of_declaration}
 use Rattle.om_parser.specs.Reading.{Reader, take_mark, mark_at, name_at, number_at}
 use Rattle.om_parser.specs.Repetition.{optional, until}
 use Rattle.om_parser.specs.Spelling.{mark, word, name, number, perhaps, expression_spelling, array_spelling, initializer_spelling, declarator_spelling, further_spelling, declaration_spelling}
-use Rattle.om_parser.specs.Tree.{ExpressionTree, DeclaratorTree, DeclarationTree}
+use Rattle.om_parser.specs.Tree.{ExpressionTree, InitializerTree, DeclaratorTree, DeclarationTree}
 use Rattle.om_parser.proofs.Outcomes.{ok, ok_is, some, bind_ok, choose_cases, after_front, after_token}
 use Rattle.om_parser.proofs.Taken.{take_mark_is, mark_at_is, name_at_is, number_at_is}
 use Rattle.om_parser.proofs.ExpressionSound.{sum_sound}
-use Rattle.om_parser.proofs.ItemsSound.{IsRead, IsSound, until_sound}
+use Rattle.om_parser.proofs.ItemsSound.{IsRead, IsSound, until_sound, all_flat}
 
 abbrev pub IsAny : {A : Type 0} → A → Type 0
 IsAny a = Unit {0}
@@ -51,7 +52,7 @@ constant_sound ts x h = elim (choose_cases (take_mark punctuators.Minus ts) _ _ 
 ]
 
 module _ (Admitted : ExpressionTree → Type 0) (initial : Reader ExpressionTree) (sound : IsSound expression_spelling Admitted initial) where
-  declarator_after_sound : (n : names.Name) (ts : List Token) (x : DeclaratorTree × List Token) → declarator_after initial n ts ≡ ok x → IsRead declarator_spelling (IsDeclarator Admitted) (name n ∷ ts) x
+  pub declarator_after_sound : (n : names.Name) (ts : List Token) (x : DeclaratorTree × List Token) → declarator_after initial n ts ≡ ok x → IsRead declarator_spelling (IsDeclarator Admitted) (name n ∷ ts) x
   unfolding declarator_after declarator_spelling initializer_spelling IsDeclarator
   declarator_after_sound n ts x h = elim (choose_cases (take_mark punctuators.OpenBracket ts) _ _ (ok x) h) [
     | inl b ↦
@@ -98,6 +99,31 @@ module _ (Admitted : ExpressionTree → Type 0) (initial : Reader ExpressionTree
         parts = ap (λ w. word keywords.Int int ∷ w) (after_front (name n ∷ ts) (declarator_spelling d.0.0) d.0.1 (flat_map further_spelling m.0.0 ++ mark punctuators.Semicolon m.0.1 ∷ []) m.0.2 first.parts r.parts ∙ simp append_assoc);
         formed = (first.formed, r.formed);
       })
+
+-- ---- what is admitted is said of the declaration and of its expressions
+
+module _ (A B : ExpressionTree → Type 0) where
+  declarator_parts : (d : DeclaratorTree) → IsDeclarator (λ e. A e × B e) d → IsDeclarator A d × All B (expressions_of_declarator d)
+  unfolding IsDeclarator
+  declarator_parts d = go d.array d.initializer
+    where
+      tree : Option ArrayLength → Option InitializerTree → DeclaratorTree
+      tree a i = record { name = d.name; array = a; initializer = i }
+
+      go : (a : Option ArrayLength) (i : Option InitializerTree) → IsDeclarator (λ e. A e × B e) (tree a i) → IsDeclarator A (tree a i) × All B (expressions_of_declarator (tree a i))
+      go None None f = (tt, All-nil B)
+      go (Some a) None f = (tt, All-nil B)
+      go None (Some i) f = (f.0, All-cons B i.value [] f.1 (All-nil B))
+      go (Some a) (Some i) f = absurd f
+
+  pub declaration_parts : (d : DeclarationTree) → IsDeclaration (λ e. A e × B e) d → IsDeclaration A d × All B (expressions_of_declaration d)
+  unfolding IsDeclaration
+  declaration_parts d f =
+      let first = declarator_parts d.first f.0 in
+      let further = All-weaker (λ (x : Span × DeclaratorTree). IsDeclarator (λ e. A e × B e) x.1) (λ x. IsDeclarator A x.1 × All B (expressions_of_declarator x.1)) (λ x g. declarator_parts x.1 g) d.rest f.1 in (
+        (first.0, All-weaker (λ (x : Span × DeclaratorTree). IsDeclarator A x.1 × All B (expressions_of_declarator x.1)) (λ x. IsDeclarator A x.1) (λ x g. g.0) d.rest further),
+        All-append B (expressions_of_declarator d.first) (flat_map (λ x. expressions_of_declarator x.1) d.rest) first.1 (all_flat B (λ x. expressions_of_declarator x.1) d.rest (All-weaker (λ (x : Span × DeclaratorTree). IsDeclarator A x.1 × All B (expressions_of_declarator x.1)) (λ x. All B (expressions_of_declarator x.1)) (λ x g. g.1) d.rest further)),
+      )
 
 pub further_some : (d : Span × DeclaratorTree) → 0 < length (further_spelling d)
 unfolding further_spelling

@@ -1,5 +1,6 @@
 -- Where several items are too deep, the tokens up to there begin well-formed ones.
 use Rattle.std.proofs.Common.{◌≡◌, ℕ, zero, suc, List, [], ◌∷◌, ◌++◌, Ok, Err, ap, ◌∙◌, append_assoc, inl, inr, All}
+use Rattle.std.specs.Prelude.{Contains}
 use Rattle.std.specs.List.{flat_map}
 use Rattle.std.proofs.lemmas.List.{append-nil}
 use Rattle.std.proofs.lemmas.List.Elements.{All-nil, All-cons, Contains-append_left, Contains-append_right}
@@ -25,6 +26,28 @@ IsCuttingAt {A} spell P whole l r = (ts : List Token) (f : SourceFault) → r ts
 pub bind_never_deep : {A B : Type 0} (read : Outcome A) (g : A → Outcome B) → IsNeverDeep read → ((x : A) → IsNeverDeep (g x)) → IsNeverDeep (read >>= g)
 bind_never_deep (Ok x) g first second f e deep = second x f e deep
 bind_never_deep (Err d) g first second f e deep = first f (ap (λ (c : SourceFault). Err c) (err_is d f e)) deep
+
+-- a part in its place in a larger one
+pub embedded : {A B : Type 0} (spell : A → List Token) (P : A → Type 0) (whole : A → List ExpressionTree) (larger : B → List Token) (Q : B → Type 0) (of_larger : B → List ExpressionTree) (l : Limits) (front : List Token) (make : A → B) (back : List Token)
+    → ((a : A) → larger (make a) ≡ front ++ spell a ++ back) → ((a : A) → P a → Q (make a)) → ((a : A) (e : ExpressionTree) → Contains (whole a) e → Contains (of_larger (make a)) e)
+    → (ts : List Token) (place : ℕ) → PassesLimit spell P whole l ts place → PassesLimit larger Q of_larger l (front ++ ts) place
+embedded spell P whole larger Q of_larger l front make back spelled formed contains ts place c = record {
+  part = make c.part;
+  formed = formed c.part c.formed;
+  expression = c.expression;
+  whole = contains c.part c.expression c.whole;
+  before = front ++ c.before;
+  begun = c.begun;
+  token = c.token;
+  after = c.after;
+  rest_of_expression = c.rest_of_expression;
+  rest_of_part = c.rest_of_part ++ back;
+  stands = ap (λ w. front ++ w) c.stands ∙ simp append_assoc;
+  in_expression = c.in_expression;
+  in_part = spelled c.part ∙ ap (λ w. front ++ w ++ back) c.in_part ∙ simp append_assoc;
+  at_place = c.at_place;
+  too_much = c.too_much;
+}
 
 module _ {A : Type 0} (spell : A → List Token) (P : A → Type 0) (whole : A → List ExpressionTree) (l : Limits) (ender : Ender) (item : Reader A) where
   one_cut : (ts : List Token) (place : ℕ) → PassesLimit spell P whole l ts place → PassesLimit (flat_map spell) (All P) (flat_map whole) l ts place

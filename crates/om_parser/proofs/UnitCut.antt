@@ -1,5 +1,7 @@
 -- Where a unit is too deep, its tokens up to there begin a well-formed one.
-use Rattle.std.proofs.Common.{◌≡◌, ◌≤◌, List, [], ◌∷◌, ◌++◌, length, Err, sym, ap, subst, ◌∙◌, true, append_assoc, inl, inr}
+use Rattle.std.proofs.Common.{◌≡◌, ◌≤◌, List, [], ◌∷◌, ◌++◌, length, Err, sym, ap, subst, ◌∙◌, true, append_assoc, inl, inr, All}
+use Rattle.std.specs.List.{flat_map}
+use Rattle.std.proofs.lemmas.List.{append-nil}
 use Rattle.om_lexer.specs.declared.fault.SourceFault.{SourceFault}
 use Rattle.om_lexer.specs.declared.token.Keyword.TheVariants as keywords
 use Rattle.om_lexer.specs.declared.token.Punctuator.TheVariants as punctuators
@@ -11,13 +13,13 @@ use Rattle.om_parser.specs.declared.tree.Name as names
 use Rattle.om_parser.specs.declared.tree.ResultType.{ResultType}
 use Rattle.om_parser.specs.declared.tree.ResultType.TheVariants as results
 use Rattle.om_parser.specs.DeclarationReading.{initial_at, declaration_after}
-use Rattle.om_parser.specs.Formed.{IsFunction, IsItem, IsUnit}
+use Rattle.om_parser.specs.Formed.{IsStatement, IsFunction, IsItem, IsUnit}
 use Rattle.om_parser.specs.FunctionReading.{are_named, head_after}
-use Rattle.om_parser.specs.Limits.{Limits, whole_expressions, expressions_of_item}
+use Rattle.om_parser.specs.Limits.{Limits, whole_expressions, expressions_of_statement, expressions_of_item}
 use Rattle.om_parser.specs.Parsing.{PassesLimit}
 use Rattle.om_parser.specs.Reading.{Outcome, take_mark, take_word, mark_at, word_at, name_at}
 use Rattle.om_parser.specs.Repetition.{until}
-use Rattle.om_parser.specs.Spelling.{token, mark, word, name, result_spelling, head_spelling, item_spelling, unit_spelling}
+use Rattle.om_parser.specs.Spelling.{token, mark, word, name, result_spelling, block_spelling, head_spelling, item_spelling, unit_spelling}
 use Rattle.om_parser.specs.StatementReading.{block_at}
 use Rattle.om_parser.specs.Tree.{HeadTree, ItemTree, Function}
 use Rattle.om_parser.specs.UnitReading.{function_after, prototype_after, void_after, int_after, item_at, take_end, unit_at}
@@ -26,7 +28,7 @@ use Rattle.om_parser.proofs.Taken.{take_mark_is, take_word_is, mark_at_is, word_
 use Rattle.om_parser.proofs.ExpressionCut.{IsNeverDeep, syntax_never_deep, known_never_deep}
 use Rattle.om_parser.proofs.FunctionSound.{head_sound, named_is}
 use Rattle.om_parser.proofs.UnitSound.{or_else, item_sound}
-use Rattle.om_parser.proofs.ItemsCut.{Deep, IsCuttingAt, bind_never_deep, until_cut}
+use Rattle.om_parser.proofs.ItemsCut.{Deep, IsCuttingAt, embedded, bind_never_deep, until_cut}
 use Rattle.om_parser.proofs.DeclarationCut.{constant_never_deep, declaration_never_deep}
 use Rattle.om_parser.proofs.FunctionCut.{head_never_deep}
 use Rattle.om_parser.proofs.StatementCut.{block_cut}
@@ -43,25 +45,8 @@ module _ (l : Limits) (two : 2 ≤ l.tokens) where
         let named = or_else (are_named h.parameters) _ _ f g (λ d. syntax_never_deep ts f d deep) in
         elim (bind_err (block_at l ts) _ f named.1) [
           | inr (b, read, no_err) ↦ absurd cc
-          | inl d ↦
-              let c = block_cut l two ts f d deep in
-              record {
-                part = Function (record { head = h; body = c.part });
-                formed = (named_is h.parameters named.0, c.formed);
-                expression = c.expression;
-                whole = c.whole;
-                before = head_spelling h ++ c.before;
-                begun = c.begun;
-                token = c.token;
-                after = c.after;
-                rest_of_expression = c.rest_of_expression;
-                rest_of_part = c.rest_of_part;
-                stands = ap (λ w. head_spelling h ++ w) c.stands ∙ simp append_assoc;
-                in_expression = c.in_expression;
-                in_part = ap (λ w. head_spelling h ++ w) c.in_part ∙ simp append_assoc;
-                at_place = c.at_place;
-                too_much = c.too_much;
-              }
+          | inl d ↦ embedded block_spelling (λ b. All IsStatement b.items) (λ b. flat_map expressions_of_statement b.items) item_spelling IsItem expressions_of_item l (head_spelling h) (λ b. Function (record { head = h; body = b })) []
+              (λ b. sym (append-nil (head_spelling h ++ block_spelling b))) (λ b f. (named_is h.parameters named.0, f)) (λ b x c. c) ts f.at (block_cut l two ts f d deep)
         ]
   ]
 

@@ -70,9 +70,9 @@ module _ (l : Limits) where
   unfolding function_after item_spelling IsItem IsFunction
   function_sound h ts x e = elim (choose_cases (take_mark punctuators.Semicolon ts) _ _ (ok x) e) [
     | inl s ↦ subst (IsRead item_spelling IsGoodItem (head_spelling h ++ ts)) (ok_is (Prototype h s.0.0, s.0.1) x s.2) (record {
-        parts = after_front (head_spelling h ++ ts) (head_spelling h) ts (mark punctuators.Semicolon s.0.0 ∷ []) s.0.1 refl (take_mark_is punctuators.Semicolon ts s.0.0 s.0.1 s.1);
-        formed = (tt, All-nil (IsWithin l));
-      })
+      parts = after_front (head_spelling h ++ ts) (head_spelling h) ts (mark punctuators.Semicolon s.0.0 ∷ []) s.0.1 refl (take_mark_is punctuators.Semicolon ts s.0.0 s.0.1 s.1);
+      formed = (tt, All-nil (IsWithin l));
+    })
     | inr g ↦
         let named = only_if (are_named h.parameters) _ _ x g.1 (λ y d. absurd cc) in
         let b = bind_ok (block_at l ts) _ x named.1 in

@@ -44,8 +44,8 @@ unfoldable pub int_after : Limits → Span → Reader ItemTree
 int_after l int ts = do
   n ← name_at ts
   choose (take_mark punctuators.OpenParen n.1)
-    (λ p. prototype_after l (results.Int int) n.0 p.0 p.1)
-    (declaration_after (initial_at l initials.Constant) int n.0 n.1 >>= λ d. Ok (Declaration d.0, d.1))
+      (λ p. prototype_after l (results.Int int) n.0 p.0 p.1)
+      (declaration_after (initial_at l initials.Constant) int n.0 n.1 >>= λ d. Ok (Declaration d.0, d.1))
 
 -- a declaration, a prototype or a function (C17 6.9)
 unfoldable pub item_at : Limits → Reader ItemTree

@@ -10,7 +10,9 @@ ghost use Rattle.om_parser.specs.View.{view_expression, view_declarator, view_de
 
 use crate::expression::sum;
 use crate::front::{mark, name, number, take_mark};
-use crate::tree::{ArrayLength, Declaration, Declarator, Expression, Initializer, Name, PrefixOperator};
+use crate::tree::{
+    ArrayLength, Declaration, Declarator, Expression, Initializer, Name, PrefixOperator,
+};
 use crate::unit::TOKEN_LIMIT;
 use om_lexer::{Punctuator, SourceFault, Span, Token};
 use std::alloc::Global;
@@ -132,10 +134,7 @@ fn declarator_after(
 
 /// The brackets and the size of an array, of which the left one is taken.
 #[tactic(auto, unfolding(crate::specs::DeclarationReading::array_after))]
-fn array_after(
-    open_bracket: Span,
-    tokens: &[Token],
-) -> Result<(ArrayLength, &[Token]), SourceFault>
+fn array_after(open_bracket: Span, tokens: &[Token]) -> Result<(ArrayLength, &[Token]), SourceFault>
     ensures { ReadsAlways (λ x. (x.0, x.1.now)) result (array_after open_bracket tokens.now) }
 {
     let (size, rest) = number(tokens)?;

@@ -53,15 +53,14 @@ pub fn are_named(parameters: &Parameters) -> bool
 fn all_named(parameters: &[(Span, Parameter)]) -> bool
     ensures { result ≡ list_all (λ x. is_some x.1.name) parameters.now }
 {
-    parameters.iter().all(|(_, parameter)| parameter.name.is_some())
+    parameters
+        .iter()
+        .all(|(_, parameter)| parameter.name.is_some())
 }
 
 /// Parameters, the right parenthesis behind them, and the tokens behind that.
 #[tactic(auto, unfolding(crate::specs::FunctionReading::parameters_at))]
-fn parameters(
-    alloc: Global,
-    tokens: &[Token],
-) -> Result<(Parameters, Span, &[Token]), SourceFault>
+fn parameters(alloc: Global, tokens: &[Token]) -> Result<(Parameters, Span, &[Token]), SourceFault>
     ensures { Reads (λ x. ((view_parameters x.0, x.1), x.2.now)) result (parameters_at tokens.now) }
 {
     if let Some((close_paren, rest)) = take_mark(tokens, Punctuator::CloseParen) {

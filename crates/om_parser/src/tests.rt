@@ -173,38 +173,6 @@ fn trees(rt: HostRuntime) -> Result<(), Fail> {
 fn the_first_token_that_no_unit_has_there(rt: HostRuntime) -> Result<(), Fail> {
     let alloc = rt.alloc();
     for (before, rest) in [
-        // items
-        ("", "x;"),
-        ("", "char c;"),
-        ("", "void f(void);"),
-        ("", "; int x;"),
-        ("int x; ", "}"),
-        ("int ", ";"),
-        ("int ", "int x;"),
-        ("int ", "3;"),
-        ("int main(void){} ", "return 0;"),
-        // declarations
-        ("int x", ""),
-        ("int x ", "y;"),
-        ("int x,", ";"),
-        ("int x, ", "int y;"),
-        ("int x", "[3];"),
-        ("int x", "+ 1;"),
-        ("int x = ", "y;"),
-        ("int x = ", "(1);"),
-        ("int x = ", "+1;"),
-        ("int x = - ", "- 1;"),
-        ("int x = 1 ", "+ 2;"),
-        ("int x = 1 ", "= 2;"),
-        // functions
-        ("int f", "(void) { }"),
-        ("int mains", "(void) { }"),
-        ("int x, main", "(void) { }"),
-        ("int main(", "int) { }"),
-        ("int main(void", ", int x) { }"),
-        ("int main(void ", "void) { }"),
-        ("int main(", "x) { }"),
-        ("int main(void)", ";"),
         ("int main(void) { ", ""),
         ("int main(void) { } ", "}"),
         // statements

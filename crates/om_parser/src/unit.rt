@@ -29,8 +29,8 @@ pub const TOKEN_LIMIT: usize = 4096;
 
 /// The tree of these tokens, the last of which is the end of the source (C17 6.9).
 ///
-/// The grammar is that of declarations of `int` variables and of `int main(void)` with
-/// assignments and returns of sums. Refusals:
+/// The grammar is that of declarations of `int` variables and arrays, of prototypes, and of
+/// functions with assignments and returns of sums. Refusals:
 /// - S0 at byte 0: no memory.
 /// - S3: no tree of any size has these tokens. Its place is the start of the first token
 ///   that no well-formed unit has there, after the tokens before it. Tokens that lack the
@@ -110,11 +110,7 @@ fn item(alloc: Global, tokens: &[Token]) -> Result<(Item, &[Token]), SourceFault
 
 /// The rest of a function or prototype without a result, of which `void` is taken.
 #[tactic(auto, unfolding(crate::specs::UnitReading::void_after))]
-fn void_after(
-    alloc: Global,
-    void: Span,
-    tokens: &[Token],
-) -> Result<(Item, &[Token]), SourceFault>
+fn void_after(alloc: Global, void: Span, tokens: &[Token]) -> Result<(Item, &[Token]), SourceFault>
     ensures { Reads (λ x. (view_item x.0, x.1.now)) result (void_after accepted void tokens.now) }
 {
     let (name, rest) = name(alloc, tokens)?;
@@ -168,3 +164,6 @@ fn function_after(
     let (body, rest) = block(alloc, tokens)?;
     Ok((Item::Function(Function { head, body }), rest))
 }
+
+#[cfg(test)]
+mod tests;

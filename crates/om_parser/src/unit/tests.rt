@@ -141,14 +141,26 @@ fn items(rt: HostRuntime) -> Result<(), Fail> {
     for (source, wanted) in [
         ("", "end 0"),
         ("int x;", "int x; end 6"),
-        ("int a[3], b = -3, c = 0x10;", "int a[3], b minus 3, c = 16; end 27"),
-        ("int a[0], b[2147483647];", "int a[0], b[2147483647]; end 24"),
+        (
+            "int a[3], b = -3, c = 0x10;",
+            "int a[3], b minus 3, c = 16; end 27",
+        ),
+        (
+            "int a[0], b[2147483647];",
+            "int a[0], b[2147483647]; end 24",
+        ),
         ("int f();", "int f(); end 8"),
         ("void f(void);", "void f(void); end 13"),
         ("int f(int, int y, int);", "int f(int, int y, int); end 23"),
         ("void f(int x) { }", "void f(int x) {} end 17"),
-        ("int f(int x, int y) { } int f;", "int f(int x, int y) {} int f; end 30"),
-        ("int main(){} int main(void){return 0;}", "int main() {} int main(void) {} end 38"),
+        (
+            "int f(int x, int y) { } int f;",
+            "int f(int x, int y) {} int f; end 30",
+        ),
+        (
+            "int main(){} int main(void){return 0;}",
+            "int main() {} int main(void) {} end 38",
+        ),
         ("void main; int x;", "S3 at 9"),
     ] {
         assert_eq!(rt;
@@ -160,105 +172,100 @@ fn items(rt: HostRuntime) -> Result<(), Fail> {
     Ok(())
 }
 
-/// Asserts that each source is refused S3 at the end of its first part.
-fn assert_refused_between(rt: HostRuntime, sources: &[(&str, &str)]) -> Result<(), Fail> {
+/// Whether the source of both parts is refused S3 where the second begins.
+fn is_refused_between(alloc: Global, before: &str, rest: &str) -> Result<bool, AllocError> {
+    let source = format!(in alloc; "{before}{rest}")?;
+    let at = before.len();
+    let wanted = format!(in alloc; "S3 at {at}")?;
+    let found = shown(alloc, source.as_bytes())?;
+    Ok(found.as_str() == wanted.as_str())
+}
+
+#[test]
+fn the_first_token_that_no_item_has_there(rt: HostRuntime) -> Result<(), Fail> {
     let alloc = rt.alloc();
-    for (before, rest) in sources {
-        let source = format!(in alloc; "{before}{rest}")?;
-        let at = before.len();
-        let wanted = format!(in alloc; "S3 at {at}")?;
-        assert_eq!(rt;
-            shown(alloc, source.as_bytes())?.as_str(),
-            wanted.as_str(),
-            "{source}"
-        );
+    for (before, rest) in [
+        ("", "x;"),
+        ("", "char c;"),
+        ("", "(x);"),
+        ("", "; int x;"),
+        ("int x; ", "}"),
+        ("int ", ";"),
+        ("int ", "int x;"),
+        ("int ", "static;"),
+        ("int ", "3;"),
+        ("int main(void){} ", "return 0;"),
+        ("void", ""),
+        ("void ", "int x;"),
+        ("void x", ";"),
+        ("void x", "[3];"),
+        ("void x", ", y;"),
+        ("void x ", "= 1;"),
+    ] {
+        assert!(rt; is_refused_between(alloc, before, rest)?, "{before}{rest}");
     }
     Ok(())
 }
 
 #[test]
-fn the_first_token_that_no_item_has_there(rt: HostRuntime) -> Result<(), Fail> {
-    assert_refused_between(
-        rt,
-        &[
-            ("", "x;"),
-            ("", "char c;"),
-            ("", "(x);"),
-            ("", "; int x;"),
-            ("int x; ", "}"),
-            ("int ", ";"),
-            ("int ", "int x;"),
-            ("int ", "static;"),
-            ("int ", "3;"),
-            ("int main(void){} ", "return 0;"),
-            ("void", ""),
-            ("void ", "int x;"),
-            ("void x", ";"),
-            ("void x", "[3];"),
-            ("void x", ", y;"),
-            ("void x ", "= 1;"),
-            ("\n", "#pragma omp barrier\n"),
-        ],
-    )
-}
-
-#[test]
 fn the_first_token_that_no_declaration_has_there(rt: HostRuntime) -> Result<(), Fail> {
-    assert_refused_between(
-        rt,
-        &[
-            ("int x", ""),
-            ("int x ", "y;"),
-            ("int x,", ";"),
-            ("int x, ", "int y;"),
-            ("int x", "+ 1;"),
-            ("int x = ", "y;"),
-            ("int x = ", "(1);"),
-            ("int x = ", "+1;"),
-            ("int x = - ", "- 1;"),
-            ("int x = - ", "y;"),
-            ("int x = 1 ", "+ 2;"),
-            ("int x = 1 ", "= 2;"),
-            ("int x[", "];"),
-            ("int x[", "y];"),
-            ("int x[", "-1];"),
-            ("int x[3", ";"),
-            ("int x[3", "+ 1];"),
-            ("int x[3]", "[4];"),
-            ("int x[3] ", "= 1;"),
-            ("int x = 1", "[3];"),
-            ("int x = 1, ", "3;"),
-        ],
-    )
+    let alloc = rt.alloc();
+    for (before, rest) in [
+        ("int x", ""),
+        ("int x ", "y;"),
+        ("int x,", ";"),
+        ("int x, ", "int y;"),
+        ("int x", "+ 1;"),
+        ("int x = ", "y;"),
+        ("int x = ", "(1);"),
+        ("int x = ", "+1;"),
+        ("int x = - ", "- 1;"),
+        ("int x = - ", "y;"),
+        ("int x = 1 ", "+ 2;"),
+        ("int x = 1 ", "= 2;"),
+        ("int x[", "];"),
+        ("int x[", "y];"),
+        ("int x[", "-1];"),
+        ("int x[3", ";"),
+        ("int x[3", "+ 1];"),
+        ("int x[3]", "[4];"),
+        ("int x[3] ", "= 1;"),
+        ("int x = 1", "[3];"),
+        ("int x = 1, ", "3;"),
+    ] {
+        assert!(rt; is_refused_between(alloc, before, rest)?, "{before}{rest}");
+    }
+    Ok(())
 }
 
 #[test]
 fn the_first_token_that_no_function_has_there(rt: HostRuntime) -> Result<(), Fail> {
-    assert_refused_between(
-        rt,
-        &[
-            ("int f ", "{ }"),
-            ("int f(", "x);"),
-            ("int f(void", ", int x);"),
-            ("int f(void ", "x);"),
-            ("int f(int x ", "y);"),
-            ("int f(int x", ";"),
-            ("int f(int x,", ");"),
-            ("int f(int x, ", "void);"),
-            ("int f(int", "[3]);"),
-            ("int f(int x ", "= 1);"),
-            ("int f(int ", "static);"),
-            ("int f(int) ", "{ }"),
-            ("int f(int x, int) ", "{ }"),
-            ("int f(int) ", "int x;"),
-            ("int f(void) ", "int x;"),
-            ("int f(void)", ", g(void);"),
-            ("int f(void) ", "= 1;"),
-            ("int x, f", "(void);"),
-            ("int f()", ""),
-            ("int f(void); ", "{ }"),
-        ],
-    )
+    let alloc = rt.alloc();
+    for (before, rest) in [
+        ("int f ", "{ }"),
+        ("int f(", "x);"),
+        ("int f(void", ", int x);"),
+        ("int f(void ", "x);"),
+        ("int f(int x ", "y);"),
+        ("int f(int x", ";"),
+        ("int f(int x,", ");"),
+        ("int f(int x, ", "void);"),
+        ("int f(int", "[3]);"),
+        ("int f(int x ", "= 1);"),
+        ("int f(int ", "static);"),
+        ("int f(int) ", "{ }"),
+        ("int f(int x, int) ", "{ }"),
+        ("int f(int) ", "int x;"),
+        ("int f(void) ", "int x;"),
+        ("int f(void)", ", g(void);"),
+        ("int f(void) ", "= 1;"),
+        ("int x, f", "(void);"),
+        ("int f()", ""),
+        ("int f(void); ", "{ }"),
+    ] {
+        assert!(rt; is_refused_between(alloc, before, rest)?, "{before}{rest}");
+    }
+    Ok(())
 }
 
 #[test]

@@ -1,0 +1,57 @@
+#!/usr/bin/env python3
+"""parsing.py PROGRAM [BYTES]: how fast PROGRAM lexes and parses.
+
+It makes sources of that many bytes (1,048,576 if not given, the most that a source may have), each of one kind of part
+repeated, and each without its last brace: so the lexer and the parser read all of it, and the parser refuses it at its end,
+before any later pass. It prints the seconds of each, the best of three on one core, and those of a source of half the size.
+Nothing here is a test: nothing fails but a source that is not refused at its end.
+"""
+import os, subprocess, sys, time
+
+# what stands in front, what is repeated, and what stands behind
+KINDS = {
+    "declarations": ("", "int a;\n", "int main(void) {"),
+    "declarators": ("int a", ", a", "; int main(void) {"),
+    "arrays and initializers": ("int a", ", b[10], c = -7", "; int main(void) {"),
+    "prototypes": ("", "void f(int, int b, int c);\n", "int main(void) {"),
+    "functions": ("", "int f(int a, int b) { return a; }\n", "int main(void) {"),
+    "assignments": ("int main(void) {\n", "a = b;\n", ""),
+    "sums": ("int main(void) {\n", "a = " + "b + " * 500 + "1;\n", ""),
+    "parentheses": ("int main(void) {\n", "a = " + "(" * 120 + "1" + ")" * 120 + ";\n", ""),
+}
+
+
+def source(kind, size):
+    front, part, back = KINDS[kind]
+    times = (size - len(front) - len(back)) // len(part)
+    text = front + part * times + back
+    return (text + " " * (size - len(text))).encode()
+
+
+def seconds(program, text, times=3):
+    best = None
+    for _ in range(times):
+        begin = time.monotonic()
+        done = subprocess.run([program], input=text, capture_output=True)
+        taken = time.monotonic() - begin
+        line, column = text.count(b"\n") + 1, len(text) - text.rfind(b"\n")
+        wanted = f"refused S3 line {line} column {column}\n".encode()
+        if done.stdout != wanted:
+            sys.exit(f"{program} answered {done.stdout!r}, not {wanted!r}")
+        best = taken if best is None else min(best, taken)
+    return best
+
+
+def main():
+    if len(sys.argv) not in (2, 3):
+        sys.exit(__doc__)
+    program = os.path.abspath(sys.argv[1])
+    size = int(sys.argv[2]) if len(sys.argv) == 3 else 1048576
+    if hasattr(os, "sched_setaffinity"):
+        os.sched_setaffinity(0, {min(os.sched_getaffinity(0))})
+    for kind in KINDS:
+        whole, half = seconds(program, source(kind, size)), seconds(program, source(kind, size // 2))
+        print(f"{kind}: {whole:.3f} s; half of it: {half:.3f} s; ratio {whole / half:.2f}")
+
+
+main()
