@@ -10,7 +10,7 @@ use Rattle.om_parser.specs.declared.tree.ArrayLength.{ArrayLength}
 use Rattle.om_parser.specs.declared.tree.Name as names
 use Rattle.om_parser.specs.declared.tree.Number.{Number}
 use Rattle.om_parser.specs.declared.tree.PrefixOperator.TheVariants as prefixes
-use Rattle.om_parser.specs.DeclarationReading.{constant_at, array_after, declarator_after, further_at, declaration_after}
+use Rattle.om_parser.specs.DeclarationReading.{constant_at, array_after, declarator_after, further_at, declaration_after, declared_at}
 use Rattle.om_parser.specs.Formed.{IsSignedConstant, IsDeclarator, IsDeclaration}
 use Rattle.om_parser.specs.Limits.{expressions_of_declarator, expressions_of_declaration}
 use Rattle.om_parser.specs.Reading.{Reader, take, same_mark, take_mark, take_number}
@@ -128,6 +128,11 @@ module _ (Admitted Fits : ExpressionTree → Type 0) (initial : Reader Expressio
       (bind_answer (until (take_mark punctuators.Semicolon) (further_at initial) (length others) others) _ (d.rest, d.semicolon, rest) (d, rest) (λ w. flat_all Fits (λ x. expressions_of_declarator x.1) d.rest (all_back Fits (expressions_of_declarator d.first) (flat_map (λ x. expressions_of_declarator x.1) d.rest) w))
       (until_again further_spelling IsFurther FitsFurther EndsDeclarator (take_mark punctuators.Semicolon) (further_at initial) all_further_again last d.semicolon rest (take_mark_again punctuators.Semicolon d.semicolon rest) (EndsBySemicolon d.semicolon rest) d.rest formed.1)
       (inl refl))
+
+  -- what stands behind the `int` of a declaration
+  pub declared_again : (d : DeclarationTree) (rest : List Token) → IsDeclaration Admitted d → IsAnswer (All Fits (expressions_of_declaration d)) (declared_at initial d.int (name d.first.name ∷ declaration_rest d rest)) (d, rest)
+  unfolding declared_at
+  declared_again d rest formed = rw (name_again d.first.name (declaration_rest d rest)) (declaration_again d rest formed)
 
 pub all_any : {A : Type 0} (xs : List A) → All (λ (x : A). Unit {0}) xs
 all_any [] = All-nil (λ x. Unit {0})

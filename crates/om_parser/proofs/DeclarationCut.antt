@@ -9,7 +9,7 @@ use Rattle.om_lexer.specs.declared.token.Punctuator.TheVariants as punctuators
 use Rattle.om_lexer.specs.declared.token.Span.{Span}
 use Rattle.om_lexer.specs.declared.token.Token.{Token}
 use Rattle.om_parser.specs.declared.tree.Name as names
-use Rattle.om_parser.specs.DeclarationReading.{constant_at, array_after, declarator_after, further_at, declaration_after}
+use Rattle.om_parser.specs.DeclarationReading.{constant_at, array_after, declarator_after, further_at, declaration_after, declared_at}
 use Rattle.om_parser.specs.Reading.{Reader, take_mark, mark_at, name_at, number_at}
 use Rattle.om_parser.specs.Repetition.{until}
 use Rattle.om_parser.specs.Formed.{IsDeclarator, IsDeclaration}
@@ -139,4 +139,11 @@ module _ (Admitted : ExpressionTree → Type 0) (l : Limits) (initial : Reader E
           let first = declarator_after_sound Admitted initial sound n ts d read in
           subst (λ w. IsDeclarationCut (word keywords.Int int ∷ w) f) (sym first.parts) (rest_cut int d.0 d.1 f first.formed e deep)
     ]
+  ]
+
+  pub declared_cut : (int : Span) (ts : List Token) (f : SourceFault) → declared_at initial int ts ≡ Err f → Deep f → IsDeclarationCut (word keywords.Int int ∷ ts) f
+  unfolding declared_at name_at
+  declared_cut int ts f h deep = elim (bind_err (name_at ts) _ f h) [
+    | inl wrong ↦ absurd (known_never_deep ts _ f wrong deep)
+    | inr (n, named, g) ↦ subst (λ w. IsDeclarationCut (word keywords.Int int ∷ w) f) (sym (name_at_is ts n named)) (declaration_cut int n.0 n.1 f g deep)
   ]

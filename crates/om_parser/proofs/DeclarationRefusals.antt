@@ -4,7 +4,7 @@ use Rattle.om_lexer.specs.declared.token.Punctuator.TheVariants as punctuators
 use Rattle.om_lexer.specs.declared.token.Span.{Span}
 use Rattle.om_lexer.specs.declared.token.Token.{Token}
 use Rattle.om_parser.specs.declared.tree.Name as names
-use Rattle.om_parser.specs.DeclarationReading.{constant_at, array_after, declarator_after, further_at, declaration_after}
+use Rattle.om_parser.specs.DeclarationReading.{constant_at, array_after, declarator_after, further_at, declaration_after, declared_at}
 use Rattle.om_parser.specs.Reading.{Reader, take_mark, mark_at, name_at, number_at}
 use Rattle.om_parser.specs.Repetition.{until}
 use Rattle.om_parser.specs.Tree.{ExpressionTree}
@@ -30,3 +30,7 @@ module _ (initial : Reader ExpressionTree) (refuses : (ts : List Token) → Refu
   pub declaration_refuses : (int : Span) (n : names.Name) (ts : List Token) → Refuses (declaration_after initial int n ts)
   unfolding declaration_after
   declaration_refuses int n ts = bind (declarator_after initial n ts) _ (declarator_refuses n ts) (λ d. bind (until _ (further_at initial) (length d.1) d.1) _ (until_refuses _ (further_at initial) further_refuses (length d.1) d.1) (λ m. done _))
+
+  pub declared_refuses : (int : Span) (ts : List Token) → Refuses (declared_at initial int ts)
+  unfolding declared_at name_at
+  declared_refuses int ts = bind (name_at ts) _ (expected ts _) (λ n. declaration_refuses int n.0 n.1)

@@ -1,5 +1,5 @@
 -- A declaration that is read is spelled as the tokens were, and its initializers are such as the place admits.
-use Rattle.std.proofs.Common.{◌≡◌, ◌<◌, List, [], ◌∷◌, ◌++◌, length, Option, Some, None, refl, ap, subst, ◌∙◌, arith, append_assoc, length-append, inl, inr, All}
+use Rattle.std.proofs.Common.{◌≡◌, ◌<◌, List, [], ◌∷◌, ◌++◌, length, Option, Some, None, refl, sym, ap, subst, ◌∙◌, arith, append_assoc, length-append, inl, inr, All}
 use Rattle.std.specs.List.{flat_map}
 use Rattle.std.proofs.lemmas.List.Elements.{All-nil, All-cons, All-append, All-weaker}
 use Rattle.om_lexer.specs.declared.token.Keyword.TheVariants as keywords
@@ -10,7 +10,7 @@ use Rattle.om_parser.specs.declared.declaration.Initial.{Initial}
 use Rattle.om_parser.specs.declared.declaration.Initial.TheVariants as initials
 use Rattle.om_parser.specs.declared.tree.ArrayLength.{ArrayLength}
 use Rattle.om_parser.specs.declared.tree.Name as names
-use Rattle.om_parser.specs.DeclarationReading.{constant_at, initial_at, array_after, declarator_after, further_at, declaration_after}
+use Rattle.om_parser.specs.DeclarationReading.{constant_at, initial_at, array_after, declarator_after, further_at, declaration_after, declared_at}
 use Rattle.om_parser.specs.Formed.{IsSignedConstant, IsDeclarator, IsDeclaration}
 use Rattle.om_parser.specs.Limits.{Limits, expressions_of_declarator, expressions_of_declaration}
 use Rattle.om_parser.specs.Reading.{Reader, take_mark, mark_at, name_at, number_at}
@@ -99,6 +99,12 @@ module _ (Admitted : ExpressionTree → Type 0) (initial : Reader ExpressionTree
         parts = ap (λ w. word keywords.Int int ∷ w) (after_front (name n ∷ ts) (declarator_spelling d.0.0) d.0.1 (flat_map further_spelling m.0.0 ++ mark punctuators.Semicolon m.0.1 ∷ []) m.0.2 first.parts r.parts ∙ simp append_assoc);
         formed = (first.formed, r.formed);
       })
+
+  pub declared_sound : (int : Span) (ts : List Token) (x : DeclarationTree × List Token) → declared_at initial int ts ≡ ok x → IsRead declaration_spelling (IsDeclaration Admitted) (word keywords.Int int ∷ ts) x
+  unfolding declared_at
+  declared_sound int ts x h =
+      let n = bind_ok (name_at ts) _ x h in
+      subst (λ w. IsRead declaration_spelling (IsDeclaration Admitted) (word keywords.Int int ∷ w) x) (sym (name_at_is ts n.0 n.1)) (declaration_after_sound int n.0.0 n.0.1 x n.2)
 
 -- ---- what is admitted is said of the declaration and of its expressions
 

@@ -53,3 +53,7 @@ declaration_after initial int name ts = do
   d ← declarator_after initial name ts
   m ← until (take_mark punctuators.Semicolon) (further_at initial) (length d.1) d.1
   Ok (record { int = int; first = d.0; rest = m.0; semicolon = m.1 }, m.2)
+
+-- the rest of a declaration in a block or a `for`, behind `int`
+unfoldable pub declared_at : (initial : Reader ExpressionTree) → Span → Reader DeclarationTree
+declared_at initial int ts = name_at ts >>= λ n. declaration_after initial int n.0 n.1

@@ -5,7 +5,8 @@ ghost use Rattle.om_lexer.specs.declared.token.Punctuator.TheVariants.{Semicolon
 ghost use Rattle.om_parser.specs.Limits.{accepted};
 ghost use Rattle.om_parser.specs.Reading.{take_mark, Reads, ReadsAlways};
 ghost use Rattle.om_parser.specs.Repetition.{until};
-ghost use Rattle.om_parser.specs.DeclarationReading.{constant_at, initial_at, array_after, declarator_after, further_at, declaration_after};
+ghost use Rattle.om_parser.specs.DeclarationReading.{constant_at, initial_at, array_after, declarator_after, further_at, declaration_after, declared_at};
+ghost use Rattle.om_parser.specs.declared.declaration.Initial.TheVariants as initials;
 ghost use Rattle.om_parser.specs.View.{view_expression, view_declarator, view_declaration};
 
 use crate::expression::sum;
@@ -48,6 +49,21 @@ pub fn declaration_after(
         },
         rest,
     ))
+}
+
+/// The rest of a declaration in a block or a `for`, of which `int` is taken, and the tokens
+/// behind it. Brackets may nest `room` deep in its initializers.
+#[tactic(auto, unfolding(crate::specs::DeclarationReading::declared_at))]
+pub fn local_declaration(
+    alloc: Global,
+    room: usize,
+    int: Span,
+    tokens: &[Token],
+) -> Result<(Declaration, &[Token]), SourceFault>
+    ensures { Reads (λ x. (view_declaration x.0, x.1.now)) result (declared_at (initial_at accepted (initials.Expression room)) int tokens.now) }
+{
+    let (name, rest) = name(alloc, tokens)?;
+    declaration_after(alloc, Initial::Expression(room), int, name, rest)
 }
 
 /// Declarators behind commas up to a semicolon, its span, and the tokens behind it.
