@@ -9,12 +9,13 @@ use Rattle.om_lexer.specs.Spellings.{keyword_text, punctuator_text}
 use Rattle.om_lexer.specs.Tokens.{IsWord, CouldBeToken}
 use Rattle.om_lexer.proofs.Tables.{all_keywords, all_punctuators, keywords_pass, punctuators_pass}
 
--- a byte that begins no white space and no `#` line
+-- a byte that begins no white space, no `#` line and no text
 pub record IsApart (b : ℕ) : Type 0 where
   pub no_line_feed : b ≡ 10 → ⊥
   pub no_blank : is_blank b ≡ true → ⊥
   pub no_backslash : b ≡ 92 → ⊥
   pub no_hash : b ≡ 35 → ⊥
+  pub no_quote : b ≡ 34 → ⊥
 
 blank_cases : (b : ℕ) → is_blank b ≡ true → ((b ≡ 32) ⊎ (b ≡ 9)) ⊎ (b ≡ 13)
 unfolding is_blank
@@ -28,26 +29,27 @@ refuted : (test : ℕ → Bool) (b n : ℕ) → test n ≡ false → test b ≡ 
 refuted test b n fails passes same = both_ways (test b) (ap test same ∙ fails) passes
 
 -- what passes a test that those bytes fail is apart from them
-apart_from_test : (test : ℕ → Bool) (b : ℕ) → test 10 ≡ false → test 32 ≡ false → test 9 ≡ false → test 13 ≡ false → test 92 ≡ false → test 35 ≡ false → test b ≡ true → IsApart b
-apart_from_test test b line_feed space tab return backslash hash passes = record {
+apart_from_test : (test : ℕ → Bool) (b : ℕ) → test 10 ≡ false → test 32 ≡ false → test 9 ≡ false → test 13 ≡ false → test 92 ≡ false → test 35 ≡ false → test 34 ≡ false → test b ≡ true → IsApart b
+apart_from_test test b line_feed space tab return backslash hash quote passes = record {
   no_line_feed = refuted test b 10 line_feed passes;
   no_blank = λ blank. ⊎_elim (⊎_elim (refuted test b 32 space passes) (refuted test b 9 tab passes)) (refuted test b 13 return passes) (blank_cases b blank);
   no_backslash = refuted test b 92 backslash passes;
   no_hash = refuted test b 35 hash passes;
+  no_quote = refuted test b 34 quote passes;
 }
 
 pub word_apart : (b : ℕ) → is_word_byte b ≡ true → IsApart b
 unfolding is_word_byte
-word_apart b = apart_from_test is_word_byte b refl refl refl refl refl refl
+word_apart b = apart_from_test is_word_byte b refl refl refl refl refl refl refl
 
 -- no comment begins with a byte of a word
 pub word_no_slash : (b : ℕ) → is_word_byte b ≡ true → b ≡ 47 → ⊥
 unfolding is_word_byte
 word_no_slash b = refuted is_word_byte b 47 refl
 
--- no word, no white space and no `#` begins with this byte
+-- no word, no white space, no `#` line and no text begins with this byte
 unfoldable is_other : ℕ → Bool
-is_other b = not ((((is_word_byte b || is_blank b) || b == 10) || b == 92) || b == 35)
+is_other b = not (((((is_word_byte b || is_blank b) || b == 10) || b == 92) || b == 35) || b == 34)
 
 punctuator_other : (p : Punctuator) → is_other (slice_index (punctuator_text p) 0) ≡ true
 unfolding all_punctuators is_other is_word_byte is_blank
@@ -55,11 +57,11 @@ punctuator_other = punctuators_pass (λ p. is_other (slice_index (punctuator_tex
 
 other_apart : (b : ℕ) → is_other b ≡ true → IsApart b
 unfolding is_other is_word_byte is_blank
-other_apart b = apart_from_test is_other b refl refl refl refl refl refl
+other_apart b = apart_from_test is_other b refl refl refl refl refl refl refl
 
 other_no_word : (b : ℕ) → is_other b ≡ true → is_word_byte b ≡ false
 unfolding is_other
-other_no_word b other = false_from_ne_true _ (λ word. both_ways (is_other b) (not_from_true _ (or_left _ _ (or_left _ _ (or_left _ _ (or_left _ _ word))))) other)
+other_no_word b other = false_from_ne_true _ (λ word. both_ways (is_other b) (not_from_true _ (or_left _ _ (or_left _ _ (or_left _ _ (or_left _ _ (or_left _ _ word)))))) other)
 
 pub punctuator_long : (p : Punctuator) → 0 < length (punctuator_text p)
 unfolding all_punctuators

@@ -3,7 +3,11 @@ pub mod Numbers
 pub mod Beginnings
 pub mod Words
 pub mod Longest
+pub mod Gaps
+pub mod Quotes
+pub mod HashLines
+pub mod MacroTables
+pub mod OnePiece
 pub mod Wrong
 pub mod Progress
-pub mod OnePiece
 pub mod OneReading

@@ -8,7 +8,7 @@ use Rattle.om_lexer.specs.declared.token.Punctuator.{Punctuator}
 use Rattle.om_lexer.specs.Characters.{is_word_byte}
 use Rattle.om_lexer.specs.Spellings.{punctuator_text}
 use Rattle.om_lexer.specs.WhiteSpace.{BeginsComment}
-use Rattle.om_lexer.specs.Tokens.{IsWord, IsLongest}
+use Rattle.om_lexer.specs.Tokens.{IsRun, IsWord, IsLongest}
 use Rattle.om_lexer.proofs.Beginnings.{could_be_some, first_of_slice, word_from_first, punctuator_from_first, punctuator_long, word_no_slash}
 
 -- there is one longest
@@ -32,33 +32,26 @@ at_slice source from to k d inside =
     let in_source : from + k < length source = omega (arith, long, inside) in
     get_or-take (to - from) (drop from source) k d in_slice ∙ get_or-drop from source k d ∙ get_or_default source (from + k) d 0 in_source
 
--- a run of bytes of a word that goes on no further
-pub record IsRun (source : List ℕ) (from to : ℕ) : Type 0 where
-  pub some : from < to
-  pub inside : to ≤ length source
-  pub run : (k : ℕ) → from ≤ k → k < to → is_word_byte (slice_index source k) ≡ true
-  pub ends : to < length source → is_word_byte (slice_index source to) ≡ false
-
-pub run_is_word : (source : List ℕ) (from to : ℕ) → IsRun source from to → IsWord (slice_range source from to)
-run_is_word source from to r =
+pub run_is_word : (source : List ℕ) (from to : ℕ) → from < to → IsRun source from to → IsWord (slice_range source from to)
+run_is_word source from to some r =
     let long = length_slice source from to in
     record {
-      some = omega (arith, long, r.some, r.inside);
+      some = omega (arith, long, some, r.inside);
       word_bytes = λ k d inside. ap is_word_byte (at_slice source from to k d inside) ∙ r.run (from + k) (omega arith) (omega (arith, long, inside));
     }
 
-pub run_is_longest : (source : List ℕ) (from to : ℕ) → IsRun source from to → IsLongest source from to
-run_is_longest source from to r = record {
+pub run_is_longest : (source : List ℕ) (from to : ℕ) → from < to → IsRun source from to → IsLongest source from to
+run_is_longest source from to begins r = record {
   inside = r.inside;
-  could_be = inl (run_is_word source from to r);
+  could_be = inl (run_is_word source from to begins r);
   longest = λ more longer inside could_be.
       let long = length_slice source from more in
       let some = could_be_some _ could_be in
-      let word = word_from_first _ could_be (ap is_word_byte (first_of_slice source from more some) ∙ r.run from (omega arith) r.some) in
-      let there : to - from < length (slice_range source from more) = omega (arith, long, r.some, longer, inside) in
-      let behind : from + (to - from) ≡ to = omega (arith, r.some) in
+      let word = word_from_first _ could_be (ap is_word_byte (first_of_slice source from more some) ∙ r.run from (omega arith) begins) in
+      let there : to - from < length (slice_range source from more) = omega (arith, long, begins, longer, inside) in
+      let behind : from + (to - from) ≡ to = omega (arith, begins) in
       both_ways _ (r.ends (omega arith)) (ap is_word_byte (sym (at_slice source from more (to - from) 0 there ∙ ap (slice_index source) behind)) ∙ word.word_bytes (to - from) 0 there);
-  no_comment = λ comment. word_no_slash _ (r.run from (omega arith) r.some) comment.0;
+  no_comment = λ comment. word_no_slash _ (r.run from (omega arith) begins) comment.0;
 }
 
 -- what a front of the source from there on is
@@ -73,6 +66,18 @@ starts_to source text from to inside same some =
     let lengths = ap length same in
     let width : to - from ≡ length text = omega (arith, long, lengths, some, inside) in
     ((bytes_eq-Decides text (take (length text) (drop from source))).1 (sym same ∙ ap (λ n. take n (drop from source)) width), omega (arith, width, some))
+
+-- the bytes of a front stand in the source
+pub starts_inside : (source text : List ℕ) (from : ℕ) → from ≤ length source → starts_with nat_eq (drop from source) text ≡ true → from + length text ≤ length source
+starts_inside source text from in_source starts =
+    let lengths = ap length (starts_from source text from starts) in
+    let long = length_slice source from (from + length text) in
+    omega (arith, lengths, long, in_source)
+
+pub starts_there : (source text : List ℕ) (from : ℕ) → slice_range source from (from + length text) ≡ text → starts_with nat_eq (drop from source) text ≡ true
+starts_there source text from same =
+    let width : from + length text - from ≡ length text = omega arith in
+    (bytes_eq-Decides text (take (length text) (drop from source))).1 (sym same ∙ ap (λ n. take n (drop from source)) width)
 
 -- the longest punctuator, where no word begins
 pub punctuator_is_longest : (source : List ℕ) (from : ℕ) (p : Punctuator) → from ≤ length source → is_word_byte (slice_index source from) ≡ false → (BeginsComment source from → ⊥)

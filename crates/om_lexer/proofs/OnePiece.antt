@@ -1,6 +1,6 @@
 -- A text spells one token at most, and one piece at most stands at a byte.
-use Rattle.std.proofs.Common.{◌≡◌, ℕ, ◌+◌, ◌<◌, true, List, Some, arith, refl, sym, ap, subst, ◌∙◌, ⊎_elim, inl, inr, slice_index, slice_range}
-use Rattle.std.proofs.lemmas.Bool.{both_ways, cases_order, or_left}
+use Rattle.std.proofs.Common.{◌≡◌, ℕ, ◌<◌, true, false, List, Some, arith, refl, sym, ap, subst, ◌∙◌, ⊎_elim, slice_index, slice_range}
+use Rattle.std.proofs.lemmas.Bool.{both_ways, or_left}
 use Rattle.std.specs.List.{find}
 use Rattle.std.specs.Str.{bytes_eq}
 use Rattle.std.specs.Char.{is_ascii_digit}
@@ -13,14 +13,21 @@ use Rattle.om_lexer.specs.declared.token.Punctuator.TheVariants as punctuators
 use Rattle.om_lexer.specs.declared.piece.Piece.{Piece}
 use Rattle.om_lexer.specs.declared.piece.PieceKind.{PieceKind}
 use Rattle.om_lexer.specs.declared.piece.PieceKind.TheVariants as pieces
+use Rattle.om_lexer.specs.declared.piece.HashLine.{HashLine}
+use Rattle.om_lexer.specs.declared.state.LineState.{LineState}
+use Rattle.om_lexer.specs.declared.state.LineState.TheVariants as states
 use Rattle.om_lexer.specs.Characters.{is_word_byte, is_blank}
 use Rattle.om_lexer.specs.Constants.{IsConstant}
 use Rattle.om_lexer.specs.Spellings.{keyword_text, punctuator_text}
-use Rattle.om_lexer.specs.WhiteSpace.{IsLineEnd, IsSpace, IsBlockComment, IsLineComment, IsComment, BeginsComment}
-use Rattle.om_lexer.specs.Tokens.{IsName, Spells, IsToken, IsTooLarge}
-use Rattle.om_lexer.specs.Pieces.{IsPiece, Stands}
+use Rattle.om_lexer.specs.WhiteSpace.{IsWhiteSpace}
+use Rattle.om_lexer.specs.Tokens.{IsName, Spells, IsLongest, IsSpelled, IsToken, IsTooLarge}
+use Rattle.om_lexer.specs.HashLines.{IsHashLine}
+use Rattle.om_lexer.specs.Pieces.{Context, is_fresh, is_ignored, IsPiece, Stands}
 use Rattle.om_lexer.proofs.Tables.{all_keywords, all_punctuators, keywords_pass}
-use Rattle.om_lexer.proofs.Beginnings.{IsApart, token_apart, keyword_no_digit, no_word_punctuator, punctuator_no_word, no_blank_at}
+use Rattle.om_lexer.proofs.Beginnings.{IsApart, token_apart, keyword_no_digit, no_word_punctuator, punctuator_no_word}
+use Rattle.om_lexer.proofs.Gaps.{no_white, white_one, comment_begins}
+use Rattle.om_lexer.proofs.Quotes.{text_one}
+use Rattle.om_lexer.proofs.HashLines.{line_hash, line_one}
 use Rattle.om_lexer.proofs.Longest.{longest_one}
 use Rattle.om_lexer.proofs.Words.{constant_first}
 
@@ -187,120 +194,127 @@ large_spells_nothing text value kinds.DirectiveBegin constant large s = s
 large_spells_nothing text value kinds.DirectiveEnd constant large s = s
 large_spells_nothing text value kinds.End constant large s = s
 
--- ---- pieces
+-- ---- tokens
 
 module _ (source : List ℕ) (from : ℕ) where
-  space_apart : (to : ℕ) → IsSpace source from to → IsApart (slice_index source from) → ⊥
-  space_apart to space apart = ⊎_elim (λ blank. apart.no_blank blank.0) (λ continued. apart.no_backslash continued.0) space
+  pub spelled_apart : (to : ℕ) (kind : TokenKind) → IsSpelled source from to kind → IsApart (slice_index source from)
+  spelled_apart to kind token = token_apart source from to token.longest.could_be
 
-  feed_space : (to : ℕ) → slice_index source from ≡ 10 → IsSpace source from to → ⊥
-  unfolding is_blank
-  feed_space to feed space = ⊎_elim (λ blank. no_blank_at _ 10 feed refl blank.0) (λ continued. omega (arith, feed, continued.0)) space
-
-  comment_slash : (to : ℕ) → IsComment source from to → slice_index source from ≡ 47
-  comment_slash to comment = ⊎_elim (λ block. block.slash) (λ line. line.slashes.0) comment
-
-  comment_begins : (to : ℕ) → IsComment source from to → BeginsComment source from
-  comment_begins to comment = ⊎_elim (λ block. (block.slash, inl block.star)) (λ line. (line.slashes.0, inr line.slashes.1)) comment
-
-  feed_comment : (to : ℕ) → slice_index source from ≡ 10 → IsComment source from to → ⊥
-  feed_comment to feed comment = omega (arith, feed, comment_slash to comment)
-
-  space_comment : (a b : ℕ) → IsSpace source from a → IsComment source from b → ⊥
-  unfolding is_blank
-  space_comment a b space comment = ⊎_elim (λ blank. no_blank_at _ 47 (comment_slash b comment) refl blank.0) (λ continued. omega (arith, continued.0, comment_slash b comment)) space
-
-  token_stands_apart : (to : ℕ) (kind : TokenKind) → IsToken source from to kind → IsApart (slice_index source from)
-  token_stands_apart to kind token = token_apart source from to token.longest.could_be
-
-  line_end_one : (a b at : ℕ) → IsLineEnd source at a → IsLineEnd source at b → a ≡ b
-  line_end_one a b at x y =
-      ⊎_elim
-      (λ e. ⊎_elim (λ f. e.1 ∙ sym f.1) (λ f. absurd (omega (arith, e.0, f.0))) y)
-      (λ e. ⊎_elim (λ f. absurd (omega (arith, e.0, f.0))) (λ f. e.2 ∙ sym f.2) y)
-      x
-
-  space_one : (a b : ℕ) → IsSpace source from a → IsSpace source from b → a ≡ b
-  unfolding is_blank
-  space_one a b x y =
-      ⊎_elim
-      (λ e. ⊎_elim (λ f. e.1 ∙ sym f.1) (λ f. absurd (no_blank_at _ 92 f.0 refl e.0)) y)
-      (λ e. ⊎_elim (λ f. absurd (no_blank_at _ 92 e.0 refl f.0)) (λ f. line_end_one a b (from + 1) e.1 f.1) y)
-      x
-
-  block_one : (a b : ℕ) → IsBlockComment source from a → IsBlockComment source from b → a ≡ b
-  block_one a b x y =
-      ⊎_elim
-      (λ same. x.end ∙ ap (λ n. n + 2) same ∙ sym y.end)
-      (⊎_elim (λ below. absurd (y.first x.last x.behind below x.last_star x.last_slash)) (λ above. absurd (x.first y.last y.behind above y.last_star y.last_slash)))
-      (cases_order x.last y.last)
-
-  line_one : (a b : ℕ) → IsLineComment source from a → IsLineComment source from b → a ≡ b
-  line_one a b x y =
-      ⊎_elim
-      (λ same. same)
-      (⊎_elim (λ below. absurd (y.one_line a (omega (arith, x.behind)) below (x.ends (omega (arith, y.inside))))) (λ above. absurd (x.one_line b (omega (arith, y.behind)) above (y.ends (omega (arith, x.inside))))))
-      (cases_order a b)
-
-  comment_one : (a b : ℕ) → IsComment source from a → IsComment source from b → a ≡ b
-  comment_one a b x y =
-      ⊎_elim
-      (λ e. ⊎_elim (block_one a b e) (λ f. absurd (omega (arith, e.star, f.slashes.1))) y)
-      (λ e. ⊎_elim (λ f. absurd (omega (arith, f.star, e.slashes.1))) (line_one a b e) y)
-      x
-
-  token_one : (a b : ℕ) (k l : TokenKind) → IsToken source from a k → IsToken source from b l → (a ≡ b) × (k ≡ l)
-  token_one a b k l x y =
+  spelled_one : (a b : ℕ) (k l : TokenKind) → IsSpelled source from a k → IsSpelled source from b l → (a ≡ b) × (k ≡ l)
+  spelled_one a b k l x y =
       let same = longest_one source from a b x.longest y.longest in
       (same, spells_one _ k l x.spelled (subst (λ n. Spells (slice_range source from n) l) (sym same) y.spelled))
 
-  stands_one : (a b : ℕ) (k l : PieceKind) → Stands source from a k → Stands source from b l → (a ≡ b) × (k ≡ l)
-  stands_one a b pieces.LineFeed pieces.LineFeed x y = (x.1 ∙ sym y.1, refl)
-  stands_one a b pieces.LineFeed pieces.Space x y = absurd (feed_space b x.0 y)
-  stands_one a b pieces.LineFeed pieces.Comment x y = absurd (feed_comment b x.0 y)
-  stands_one a b pieces.LineFeed (pieces.Token l) x y = absurd ((token_stands_apart b l y).no_line_feed x.0)
-  stands_one a b pieces.Space pieces.LineFeed x y = absurd (feed_space a y.0 x)
-  stands_one a b pieces.Space pieces.Space x y = (space_one a b x y, refl)
-  stands_one a b pieces.Space pieces.Comment x y = absurd (space_comment a b x y)
-  stands_one a b pieces.Space (pieces.Token l) x y = absurd (space_apart a x (token_stands_apart b l y))
-  stands_one a b pieces.Comment pieces.LineFeed x y = absurd (feed_comment a y.0 x)
-  stands_one a b pieces.Comment pieces.Space x y = absurd (space_comment b a y x)
-  stands_one a b pieces.Comment pieces.Comment x y = (comment_one a b x y, refl)
-  stands_one a b pieces.Comment (pieces.Token l) x y = absurd (y.longest.no_comment (comment_begins a x))
-  stands_one a b (pieces.Token k) pieces.LineFeed x y = absurd ((token_stands_apart a k x).no_line_feed y.0)
-  stands_one a b (pieces.Token k) pieces.Space x y = absurd (space_apart b y (token_stands_apart a k x))
-  stands_one a b (pieces.Token k) pieces.Comment x y = absurd (x.longest.no_comment (comment_begins b y))
-  stands_one a b (pieces.Token k) (pieces.Token l) x y = let same = token_one a b k l x y in (same.0, ap pieces.Token same.1)
+  token_one : (a b : ℕ) (k l : TokenKind) → IsToken source from a k → IsToken source from b l → (a ≡ b) × (k ≡ l)
+  token_one a b k l x y =
+      ⊎_elim
+      (λ e. ⊎_elim (spelled_one a b k l e) (λ t. absurd ((spelled_apart a k e).no_quote t.2.0)) y)
+      (λ t. ⊎_elim (λ e. absurd ((spelled_apart b l e).no_quote t.2.0)) (λ u. let same = text_one source from t.0 u.0 a b t.2 u.2 in (same.1, t.1 ∙ ap kinds.Text same.0 ∙ sym u.1)) y)
+      x
 
-  hash_stands : slice_index source from ≡ 35 → (to : ℕ) (kind : PieceKind) → Stands source from to kind → ⊥
+  -- no token begins where this byte stands
+  no_token : (n : ℕ) → slice_index source from ≡ n → (IsApart n → ⊥) → (n ≡ 34 → ⊥) → (to : ℕ) (kind : TokenKind) → IsToken source from to kind → ⊥
+  no_token n same no_apart no_quote to kind token =
+      ⊎_elim (λ e. no_apart (subst IsApart same (spelled_apart to kind e))) (λ t. no_quote (sym same ∙ t.2.0)) token
+
+  pub feed_no_token : slice_index source from ≡ 10 → (to : ℕ) (kind : TokenKind) → IsToken source from to kind → ⊥
+  feed_no_token feed = no_token 10 feed (λ apart. apart.no_line_feed refl) (λ e. omega (arith, e))
+
+  pub hash_no_token : slice_index source from ≡ 35 → (to : ℕ) (kind : TokenKind) → IsToken source from to kind → ⊥
+  hash_no_token hash = no_token 35 hash (λ apart. apart.no_hash refl) (λ e. omega (arith, e))
+
+  quote_no_white : slice_index source from ≡ 34 → (to : ℕ) → IsWhiteSpace source from to → ⊥
   unfolding is_blank
-  hash_stands hash to pieces.LineFeed s = omega (arith, hash, s.0)
-  hash_stands hash to pieces.Space s = ⊎_elim (λ blank. no_blank_at _ 35 hash refl blank.0) (λ continued. omega (arith, hash, continued.0)) s
-  hash_stands hash to pieces.Comment s = omega (arith, hash, comment_slash to s)
-  hash_stands hash to (pieces.Token kind) s = (token_stands_apart to kind s).no_hash hash
+  quote_no_white quote = no_white source from 34 quote refl (λ e. omega (arith, e)) (λ e. omega (arith, e))
 
-  -- where a constant above the limit stands, no piece does, nor a `#`
-  large_apart : IsTooLarge source from → IsApart (slice_index source from)
-  large_apart large = token_apart source from large.to large.longest.could_be
+  feed_no_white : slice_index source from ≡ 10 → (to : ℕ) → IsWhiteSpace source from to → ⊥
+  unfolding is_blank
+  feed_no_white feed = no_white source from 10 feed refl (λ e. omega (arith, e)) (λ e. omega (arith, e))
 
-  pub large_no_hash : IsTooLarge source from → slice_index source from ≡ 35 → ⊥
-  large_no_hash large = (large_apart large).no_hash
+  hash_no_white : slice_index source from ≡ 35 → (to : ℕ) → IsWhiteSpace source from to → ⊥
+  unfolding is_blank
+  hash_no_white hash = no_white source from 35 hash refl (λ e. omega (arith, e)) (λ e. omega (arith, e))
 
-  large_stands : IsTooLarge source from → (to : ℕ) (kind : PieceKind) → Stands source from to kind → ⊥
-  large_stands large to pieces.LineFeed s = (large_apart large).no_line_feed s.0
-  large_stands large to pieces.Space s = space_apart to s (large_apart large)
-  large_stands large to pieces.Comment s = large.longest.no_comment (comment_begins to s)
-  large_stands large to (pieces.Token kind) s =
-      let same = longest_one source from large.to to large.longest s.longest in
-      large_spells_nothing (slice_range source from to) large.value kind (subst (λ n. IsConstant (slice_range source from n) large.value) same large.spelled) large.large s.spelled
+  longest_no_white : (to more : ℕ) → IsLongest source from to → IsWhiteSpace source from more → ⊥
+  longest_no_white to more longest white =
+      let apart = token_apart source from to longest.could_be in
+      ⊎_elim
+      (λ space. ⊎_elim (λ blank. apart.no_blank blank.0) (λ continued. apart.no_backslash continued.0) space)
+      (λ comment. longest.no_comment (comment_begins source from more comment))
+      white
 
-pub hash_no_piece : (source : List ℕ) (from : ℕ) (p : Piece) → slice_index source from ≡ 35 → IsPiece source from p → ⊥
-hash_no_piece source from p hash piece = hash_stands source from hash p.end p.kind piece.stands
+  token_no_white : (to more : ℕ) (kind : TokenKind) → IsToken source from to kind → IsWhiteSpace source from more → ⊥
+  token_no_white to more kind token white =
+      ⊎_elim (λ e. longest_no_white to more e.longest white) (λ t. quote_no_white t.2.0 more white) token
 
-pub large_no_piece : (source : List ℕ) (from : ℕ) (p : Piece) → IsTooLarge source from → IsPiece source from p → ⊥
-large_no_piece source from p large piece = large_stands source from large p.end p.kind piece.stands
+  -- ---- pieces
 
-pub piece_one : (source : List ℕ) (from : ℕ) (p q : Piece) → IsPiece source from p → IsPiece source from q → p ≡ q
-piece_one source from p q x y =
-    let same = stands_one source from p.end q.end p.kind q.kind x.stands y.stands in
+  fresh_not_ignored : (s : LineState) → is_fresh s ≡ true → is_ignored s ≡ true → ⊥
+  fresh_not_ignored states.Fresh fresh ignored = both_ways false refl ignored
+  fresh_not_ignored states.Taken fresh ignored = both_ways false refl ignored
+  fresh_not_ignored (states.Defining name) fresh ignored = both_ways false refl ignored
+  fresh_not_ignored states.Ignored fresh ignored = both_ways false refl fresh
+  fresh_not_ignored (states.Directive last) fresh ignored = both_ways false refl ignored
+
+  module _ (context : Context) where
+    stands_one : (a b : ℕ) (k l : PieceKind) → Stands source context from a k → Stands source context from b l → (a ≡ b) × (k ≡ l)
+    stands_one a b pieces.LineFeed pieces.LineFeed x y = (x.1 ∙ sym y.1, refl)
+    stands_one a b pieces.LineFeed pieces.Space x y = absurd (feed_no_white x.0 b y)
+    stands_one a b pieces.LineFeed (pieces.Token l) x y = absurd (feed_no_token x.0 b l y.1)
+    stands_one a b pieces.LineFeed (pieces.HashLine m) x y = absurd (omega (arith, x.0, line_hash source context.macros from b m y.1))
+    stands_one a b pieces.LineFeed pieces.Passed x y = absurd (y.1.no_line_feed x.0)
+    stands_one a b pieces.Space pieces.LineFeed x y = absurd (feed_no_white y.0 a x)
+    stands_one a b pieces.Space pieces.Space x y = (white_one source from a b x y, refl)
+    stands_one a b pieces.Space (pieces.Token l) x y = absurd (token_no_white b a l y.1 x)
+    stands_one a b pieces.Space (pieces.HashLine m) x y = absurd (hash_no_white (line_hash source context.macros from b m y.1) a x)
+    stands_one a b pieces.Space pieces.Passed x y = absurd (y.1.no_white_space a x)
+    stands_one a b (pieces.Token k) pieces.LineFeed x y = absurd (feed_no_token y.0 a k x.1)
+    stands_one a b (pieces.Token k) pieces.Space x y = absurd (token_no_white a b k x.1 y)
+    stands_one a b (pieces.Token k) (pieces.Token l) x y = let same = token_one a b k l x.1 y.1 in (same.0, ap pieces.Token same.1)
+    stands_one a b (pieces.Token k) (pieces.HashLine m) x y = absurd (hash_no_token (line_hash source context.macros from b m y.1) a k x.1)
+    stands_one a b (pieces.Token k) pieces.Passed x y = absurd (both_ways _ x.0 y.0)
+    stands_one a b (pieces.HashLine h) pieces.LineFeed x y = absurd (omega (arith, y.0, line_hash source context.macros from a h x.1))
+    stands_one a b (pieces.HashLine h) pieces.Space x y = absurd (hash_no_white (line_hash source context.macros from a h x.1) b y)
+    stands_one a b (pieces.HashLine h) (pieces.Token l) x y = absurd (hash_no_token (line_hash source context.macros from a h x.1) b l y.1)
+    stands_one a b (pieces.HashLine h) (pieces.HashLine m) x y = let same = line_one source context.macros from a b h m x.1 y.1 in (same.0, ap pieces.HashLine same.1)
+    stands_one a b (pieces.HashLine h) pieces.Passed x y = absurd (fresh_not_ignored context.state x.0 y.0)
+    stands_one a b pieces.Passed pieces.LineFeed x y = absurd (x.1.no_line_feed y.0)
+    stands_one a b pieces.Passed pieces.Space x y = absurd (x.1.no_white_space b y)
+    stands_one a b pieces.Passed (pieces.Token l) x y = absurd (both_ways _ y.0 x.0)
+    stands_one a b pieces.Passed (pieces.HashLine m) x y = absurd (fresh_not_ignored context.state y.0 x.0)
+    stands_one a b pieces.Passed pieces.Passed x y = (x.1.end ∙ sym y.1.end, refl)
+
+    -- where a constant above the limit stands, no piece does, unless the line is ignored
+    large_stands : is_ignored context.state ≡ false → IsTooLarge source from → (to : ℕ) (kind : PieceKind) → Stands source context from to kind → ⊥
+    large_stands heard large to pieces.LineFeed s = (token_apart source from large.to large.longest.could_be).no_line_feed s.0
+    large_stands heard large to pieces.Space s = longest_no_white large.to to large.longest s
+    large_stands heard large to (pieces.Token kind) s =
+        ⊎_elim
+        (λ e.
+        let same = longest_one source from large.to to large.longest e.longest in
+        large_spells_nothing (slice_range source from to) large.value kind (subst (λ n. IsConstant (slice_range source from n) large.value) same large.spelled) large.large e.spelled)
+        (λ t. (token_apart source from large.to large.longest.could_be).no_quote t.2.0)
+        s.1
+    large_stands heard large to (pieces.HashLine line) s = (token_apart source from large.to large.longest.could_be).no_hash (line_hash source context.macros from to line s.1)
+    large_stands heard large to pieces.Passed s = both_ways _ heard s.0
+
+    bad_line_stands : slice_index source from ≡ 35 → is_fresh context.state ≡ true → ((to : ℕ) (line : HashLine) → IsHashLine source context.macros from to line → ⊥) → (to : ℕ) (kind : PieceKind) → Stands source context from to kind → ⊥
+    bad_line_stands hash fresh no_line to pieces.LineFeed s = omega (arith, hash, s.0)
+    bad_line_stands hash fresh no_line to pieces.Space s = hash_no_white hash to s
+    bad_line_stands hash fresh no_line to (pieces.Token kind) s = hash_no_token hash to kind s.1
+    bad_line_stands hash fresh no_line to (pieces.HashLine line) s = no_line to line s.1
+    bad_line_stands hash fresh no_line to pieces.Passed s = fresh_not_ignored context.state fresh s.0
+
+pub large_no_hash : (source : List ℕ) (from : ℕ) → IsTooLarge source from → slice_index source from ≡ 35 → ⊥
+large_no_hash source from large = (token_apart source from large.to large.longest.could_be).no_hash
+
+pub large_no_piece : (source : List ℕ) (context : Context) (from : ℕ) (p : Piece) → is_ignored context.state ≡ false → IsTooLarge source from → IsPiece source context from p → ⊥
+large_no_piece source context from p heard large piece = large_stands source from context heard large p.end p.kind piece.stands
+
+pub line_no_piece : (source : List ℕ) (context : Context) (from : ℕ) (p : Piece) → slice_index source from ≡ 35 → is_fresh context.state ≡ true → ((to : ℕ) (line : HashLine) → IsHashLine source context.macros from to line → ⊥) → IsPiece source context from p → ⊥
+line_no_piece source context from p hash fresh no_line piece = bad_line_stands source from context hash fresh no_line p.end p.kind piece.stands
+
+pub piece_one : (source : List ℕ) (context : Context) (from : ℕ) (p q : Piece) → IsPiece source context from p → IsPiece source context from q → p ≡ q
+piece_one source context from p q x y =
+    let same = stands_one source from context p.end q.end p.kind q.kind x.stands y.stands in
     λ i. record { kind = same.1 i; end = same.0 i }

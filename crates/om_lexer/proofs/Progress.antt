@@ -1,9 +1,10 @@
 -- How far a source has been read.
-use Rattle.std.proofs.Common.{◌≡◌, ◌==◌, ℕ, ◌+◌, ◌-◌, ◌<◌, ◌≤◌, Bool, true, cond, List, [], ◌∷◌, ◌++◌, length, take, drop, count_by, arith, refl, sym, ap, subst, ◌∙◌, ⊎_elim, inl, inr, append-nil, append_assoc, take-append-drop, slice_index, slice_range}
-use Rattle.std.proofs.lemmas.List.{take-take, drop-take, get_or_past}
+use Rattle.std.proofs.Common.{◌≡◌, ◌==◌, ℕ, ◌+◌, ◌-◌, ◌<◌, ◌≤◌, cond, List, [], ◌∷◌, ◌++◌, length, take, drop, count_by, arith, refl, sym, ap, subst, ◌∙◌, ⊎_elim, inl, inr, append-nil, append_assoc, take-append-drop, slice_range}
+use Rattle.std.proofs.lemmas.List.{take-take, drop-take}
 use Rattle.std.proofs.lemmas.List.Sums.{sum_by-append, count_by-le-length}
 use Rattle.std.proofs.lemmas.Bool.{cases_lt}
 use Rattle.om_lexer.specs.declared.token.Token.{Token}
+use Rattle.om_lexer.specs.declared.token.TokenKind.{TokenKind}
 use Rattle.om_lexer.specs.declared.token.TokenKind.TheVariants as kinds
 use Rattle.om_lexer.specs.declared.fault.FaultCode.{FaultCode}
 use Rattle.om_lexer.specs.declared.fault.FaultCode.TheVariants as codes
@@ -11,58 +12,84 @@ use Rattle.om_lexer.specs.declared.fault.SourceFault.{SourceFault}
 use Rattle.om_lexer.specs.declared.piece.Piece.{Piece}
 use Rattle.om_lexer.specs.declared.piece.PieceKind.{PieceKind}
 use Rattle.om_lexer.specs.declared.piece.PieceKind.TheVariants as pieces
-use Rattle.om_lexer.specs.Pieces.{IsPiece, Stands, Decomposes, tokens_of, token_in, span_of, line_at, starts_after, starts_line}
+use Rattle.om_lexer.specs.declared.piece.HashLine.{HashLine}
+use Rattle.om_lexer.specs.declared.piece.HashLine.TheVariants as lines
+use Rattle.om_lexer.specs.declared.state.LineState.{LineState}
+use Rattle.om_lexer.specs.declared.state.LineState.TheVariants as states
+use Rattle.om_lexer.specs.Tokens.{IsToken}
+use Rattle.om_lexer.specs.Macros.{MacroList}
+use Rattle.om_lexer.specs.HashLines.{IsHashLine}
+use Rattle.om_lexer.specs.Pieces.{Context, context_of, IsPiece, Stands, Decomposes, span_of, line_at, state_behind, macros_behind, context_behind, context_behind_all, at_first}
+use Rattle.om_lexer.specs.Folding.{directive_end, tokens_in, tokens_of, HasWords, HasWordsInside}
 use Rattle.om_lexer.specs.Sources.{source_limit, IsTokens, IsWrong, IsWrongAt, GoesWrong, IsFault, IsRefusal, IsTooLong, end_token}
 use Rattle.om_lexer.proofs.Beginnings.{could_be_some}
+use Rattle.om_lexer.proofs.Gaps.{white_moves, white_inside}
+use Rattle.om_lexer.proofs.Quotes.{text_bound}
+use Rattle.om_lexer.proofs.HashLines.{line_bound, directive_words}
 use Rattle.om_lexer.proofs.Longest.{length_slice}
 
--- a byte other than 0 is one of the source
-pub byte_inside : (source : List ℕ) (k : ℕ) → 0 < slice_index source k → k < length source
-byte_inside source k some = ⊎_elim (λ inside. inside) (λ past. let none = get_or_past source k 0 past in absurd (omega arith)) (cases_lt k (length source))
-
--- every piece has a byte
-stands_moves : (source : List ℕ) (from to : ℕ) (kind : PieceKind) → Stands source from to kind → from < to
-stands_moves source from to pieces.LineFeed s = omega (arith, s.1)
-stands_moves source from to pieces.Space s = ⊎_elim (λ blank. omega (arith, blank.1)) (λ continued. ⊎_elim (λ e. omega (arith, e.1)) (λ e. omega (arith, e.2)) continued.1) s
-stands_moves source from to pieces.Comment s = ⊎_elim (λ block. omega (arith, block.behind, block.end)) (λ line. omega (arith, line.behind)) s
-stands_moves source from to (pieces.Token kind) s =
-    let some = could_be_some _ s.longest.could_be in
+token_bound : (source : List ℕ) (from to : ℕ) (kind : TokenKind) → IsToken source from to kind → (from < to) × (to ≤ length source)
+token_bound source from to kind token =
+    ⊎_elim
+    (λ e.
+    let some = could_be_some _ e.longest.could_be in
     let long = length_slice source from to in
-    omega (arith, some, long)
+    (omega (arith, some, long), e.longest.inside))
+    (λ t. text_bound source from t.0 to t.2)
+    token
 
-stands_inside : (source : List ℕ) (from to : ℕ) (kind : PieceKind) → from < length source → Stands source from to kind → to ≤ length source
-stands_inside source from to pieces.LineFeed inside s = omega (arith, s.1)
-stands_inside source from to pieces.Space inside s =
-    ⊎_elim (λ blank. omega (arith, blank.1))
-    (λ continued. ⊎_elim
-    (λ e. let there = byte_inside source (from + 1) (omega (arith, e.0)) in omega (arith, there, e.1))
-    (λ e. let there = byte_inside source (from + 1 + 1) (omega (arith, e.1)) in omega (arith, there, e.2))
-    continued.1)
-    s
-stands_inside source from to pieces.Comment inside s =
-    ⊎_elim (λ block. let there = byte_inside source (block.last + 1) (omega (arith, block.last_slash)) in omega (arith, there, block.end)) (λ line. line.inside) s
-stands_inside source from to (pieces.Token kind) inside s = s.longest.inside
+-- every piece has a byte, and ends in the source
+stands_bound : (source : List ℕ) (context : Context) (from to : ℕ) (kind : PieceKind) → from < length source → Stands source context from to kind → (from < to) × (to ≤ length source)
+stands_bound source context from to pieces.LineFeed inside s = (omega (arith, s.1), omega (arith, s.1))
+stands_bound source context from to pieces.Space inside s = (white_moves source from to s, white_inside source from to inside s)
+stands_bound source context from to (pieces.Token kind) inside s = token_bound source from to kind s.1
+stands_bound source context from to (pieces.HashLine line) inside s = line_bound source context.macros from to line s.1
+stands_bound source context from to pieces.Passed inside s = (omega (arith, s.1.end), omega (arith, s.1.end))
 
-pub piece_moves : (source : List ℕ) (from : ℕ) (piece : Piece) → IsPiece source from piece → from < piece.end
-piece_moves source from piece p = stands_moves source from piece.end piece.kind p.stands
+pub piece_inside : (source : List ℕ) (context : Context) (from : ℕ) (piece : Piece) → from < length source → IsPiece source context from piece → piece.end ≤ length source
+piece_inside source context from piece inside p = (stands_bound source context from piece.end piece.kind inside p.stands).1
 
-pub piece_inside : (source : List ℕ) (from : ℕ) (piece : Piece) → from < length source → IsPiece source from piece → piece.end ≤ length source
-piece_inside source from piece inside p = stands_inside source from piece.end piece.kind inside p.stands
+stands_moves : (source : List ℕ) (context : Context) (from to : ℕ) (kind : PieceKind) → Stands source context from to kind → from < to
+stands_moves source context from to pieces.LineFeed s = omega (arith, s.1)
+stands_moves source context from to pieces.Space s = white_moves source from to s
+stands_moves source context from to (pieces.Token kind) s = (token_bound source from to kind s.1).0
+stands_moves source context from to (pieces.HashLine line) s = (line_bound source context.macros from to line s.1).0
+stands_moves source context from to pieces.Passed s = omega (arith, s.1.end)
+
+pub piece_moves : (source : List ℕ) (context : Context) (from : ℕ) (piece : Piece) → IsPiece source context from piece → from < piece.end
+piece_moves source context from piece p = stands_moves source context from piece.end piece.kind p.stands
+
+line_has_words : (source : List ℕ) (macros : MacroList) (from to : ℕ) (line : HashLine) → IsHashLine source macros from to line → HasWords line from to
+line_has_words source macros from to lines.Include x = tt
+line_has_words source macros from to (lines.Define name) x = tt
+line_has_words source macros from to (lines.Directive pragma omp) x = directive_words source from pragma omp to x
+line_has_words source macros from to lines.Ignored x = tt
+
+stands_words : (source : List ℕ) (context : Context) (from to : ℕ) (kind : PieceKind) → Stands source context from to kind → HasWordsInside kind from to
+stands_words source context from to pieces.LineFeed s = tt
+stands_words source context from to pieces.Space s = tt
+stands_words source context from to (pieces.Token kind) s = tt
+stands_words source context from to (pieces.HashLine line) s = line_has_words source context.macros from to line s.1
+stands_words source context from to pieces.Passed s = tt
+
+pub piece_words : (source : List ℕ) (context : Context) (from : ℕ) (piece : Piece) → IsPiece source context from piece → HasWordsInside piece.kind from piece.end
+piece_words source context from piece p = stands_words source context from piece.end piece.kind p.stands
 
 -- one more piece
-pub decomposes_more : (source : List ℕ) (from at : ℕ) (ps : List Piece) (p : Piece) → Decomposes source from ps at → IsPiece source at p → Decomposes source from (ps ++ p ∷ []) p.end
-decomposes_more source from at [] p before is_piece = (subst (λ n. IsPiece source n p) (sym before) is_piece, refl)
-decomposes_more source from at (q ∷ ps) p before is_piece = (before.0, decomposes_more source q.end at ps p before.1 is_piece)
+pub decomposes_more : (source : List ℕ) (context : Context) (from at : ℕ) (ps : List Piece) (p : Piece) → Decomposes source context from ps at → IsPiece source (context_behind_all source context ps) at p → Decomposes source context from (ps ++ p ∷ []) p.end
+decomposes_more source context from at [] p before is_piece = (subst (λ n. IsPiece source context n p) (sym before) is_piece, refl)
+decomposes_more source context from at (q ∷ ps) p before is_piece = (before.0, decomposes_more source (context_behind source context q) q.end at ps p before.1 is_piece)
 
-tokens_more : (source : List ℕ) (from at : ℕ) (ps : List Piece) (p : Piece) → Decomposes source from ps at → tokens_of source from (ps ++ p ∷ []) ≡ tokens_of source from ps ++ token_in (span_of source at p.end) p.kind
-tokens_more source from at [] p before = append-nil _ ∙ ap (λ n. token_in (span_of source n p.end) p.kind) before
-tokens_more source from at (q ∷ ps) p before =
-    ap (λ ts. token_in (span_of source from q.end) q.kind ++ ts) (tokens_more source q.end at ps p before.1)
-    ∙ sym (append_assoc (token_in (span_of source from q.end) q.kind) (tokens_of source q.end ps) (token_in (span_of source at p.end) p.kind))
+tokens_more : (source : List ℕ) (context : Context) (from at : ℕ) (ps : List Piece) (p : Piece) → Decomposes source context from ps at
+    → tokens_of source context from (ps ++ p ∷ []) ≡ tokens_of source context from ps ++ tokens_in source (context_behind_all source context ps) at p.end p.kind
+tokens_more source context from at [] p before = append-nil _ ∙ ap (λ n. tokens_in source context n p.end p.kind) before
+tokens_more source context from at (q ∷ ps) p before =
+    ap (λ ts. tokens_in source context from q.end q.kind ++ ts) (tokens_more source (context_behind source context q) q.end at ps p before.1)
+    ∙ sym (append_assoc (tokens_in source context from q.end q.kind) (tokens_of source (context_behind source context q) q.end ps) (tokens_in source (context_behind_all source (context_behind source context q) ps) at p.end p.kind))
 
-starts_more : (starts : Bool) (ps : List Piece) (p : Piece) → starts_line starts (ps ++ p ∷ []) ≡ starts_after (starts_line starts ps) p.kind
-starts_more starts [] p = refl
-starts_more starts (q ∷ ps) p = starts_more (starts_after starts q.kind) ps p
+context_more : (source : List ℕ) (context : Context) (ps : List Piece) (p : Piece) → context_behind_all source context (ps ++ p ∷ []) ≡ context_behind source (context_behind_all source context ps) p
+context_more source context [] p = refl
+context_more source context (q ∷ ps) p = context_more source (context_behind source context q) ps p
 
 take_slice : (source : List ℕ) (from to : ℕ) → from ≤ to → take to source ≡ take from source ++ slice_range source from to
 take_slice source from to order =
@@ -78,31 +105,35 @@ line_more source from to order =
     let parts = sum_by-append (λ b. cond (b == 10) 1 0) (take from source) (slice_range source from to) in
     omega (arith, whole, parts)
 
--- the source up to a byte: its tokens, its line and whether a token stands on it
-pub record IsReadTo (source : List ℕ) (tokens : List Token) (at line : ℕ) (starts : Bool) : Type 0 where
+-- the source up to a byte: its tokens, its line, and what stands before
+pub record IsReadTo (source : List ℕ) (tokens : List Token) (at line : ℕ) (state : LineState) (macros : MacroList) : Type 0 where
   pub pieces : List Piece
-  pub before : Decomposes source 0 pieces at
-  pub tokens_are : tokens ≡ tokens_of source 0 pieces
+  pub before : Decomposes source at_first 0 pieces at
+  pub tokens_are : tokens ≡ tokens_of source at_first 0 pieces
   pub line_is : line ≡ line_at source at
-  pub starts_is : starts ≡ starts_line true pieces
+  pub context_is : context_of state macros ≡ context_behind_all source at_first pieces
 
-pub read_none : (source : List ℕ) → IsReadTo source [] 0 1 true
-read_none source = record { pieces = []; before = refl; tokens_are = refl; line_is = refl; starts_is = refl }
+pub read_none : (source : List ℕ) → IsReadTo source [] 0 1 states.Fresh []
+read_none source = record { pieces = []; before = refl; tokens_are = refl; line_is = refl; context_is = refl }
 
-pub read_more : (source : List ℕ) (tokens tokens' : List Token) (at line feeds : ℕ) (starts starts' : Bool) (p : Piece) → IsReadTo source tokens at line starts → IsPiece source at p
-    → tokens' ≡ tokens ++ token_in (record { start = at; end = p.end; line = line }) p.kind
-    → feeds ≡ count_by (λ b. b == 10) (slice_range source at p.end)
-    → starts' ≡ starts_after starts p.kind
-    → IsReadTo source tokens' p.end (line + feeds) starts'
-read_more source tokens tokens' at line feeds starts starts' p read is_piece tokens_are feeds_are starts_is =
-    let more = tokens_more source 0 at read.pieces p read.before in
-    let lines = line_more source at p.end (omega (arith, piece_moves source at p is_piece)) in
+pub read_more : (source : List ℕ) (tokens tokens' : List Token) (at line line' : ℕ) (state state' : LineState) (macros macros' : MacroList) (p : Piece)
+    → IsReadTo source tokens at line state macros → IsPiece source (context_of state macros) at p
+    → tokens' ≡ tokens ++ tokens_in source (context_of state macros) at p.end p.kind
+    → line' ≡ line_at source p.end
+    → state' ≡ state_behind p.kind state (span_of source p.end p.end)
+    → macros' ≡ macros_behind p.kind state macros
+    → IsReadTo source tokens' p.end line' state' macros'
+read_more source tokens tokens' at line line' state state' macros macros' p read is_piece tokens_are line_is state_is macros_are =
+    let more = tokens_more source at_first 0 at read.pieces p read.before in
     record {
       pieces = read.pieces ++ p ∷ [];
-      before = decomposes_more source 0 at read.pieces p read.before is_piece;
-      tokens_are = tokens_are ∙ ap (λ n. tokens ++ token_in (record { start = at; end = p.end; line = n }) p.kind) read.line_is ∙ ap (λ ts. ts ++ token_in (span_of source at p.end) p.kind) read.tokens_are ∙ sym more;
-      line_is = omega (arith, read.line_is, lines, feeds_are);
-      starts_is = starts_is ∙ ap (λ b. starts_after b p.kind) read.starts_is ∙ sym (starts_more true read.pieces p);
+      before = decomposes_more source at_first 0 at read.pieces p read.before (subst (λ c. IsPiece source c at p) read.context_is is_piece);
+      tokens_are = tokens_are
+          ∙ ap (λ ts. ts ++ tokens_in source (context_of state macros) at p.end p.kind) read.tokens_are
+          ∙ ap (λ c. tokens_of source at_first 0 read.pieces ++ tokens_in source c at p.end p.kind) read.context_is
+          ∙ sym more;
+      line_is = line_is;
+      context_is = (λ i. context_of (state_is i) (macros_are i)) ∙ ap (λ c. context_behind source c p) read.context_is ∙ sym (context_more source at_first read.pieces p);
     }
 
 -- a byte that is left is below the limit
@@ -117,22 +148,24 @@ few_feeds source at to feeds same =
     omega (arith, most, long, same)
 
 -- at the end
-pub all_read : (source : List ℕ) (tokens : List Token) (line : ℕ) (starts : Bool) → length source ≤ source_limit → IsReadTo source tokens (length source) line starts
-    → IsTokens source (tokens ++ record { kind = kinds.End; span = record { start = length source; end = length source; line = line } } ∷ [])
-all_read source tokens line starts within read = record {
+pub all_read : (source : List ℕ) (tokens tokens' : List Token) (line : ℕ) (state : LineState) (macros : MacroList) → length source ≤ source_limit → IsReadTo source tokens (length source) line state macros
+    → tokens' ≡ tokens ++ directive_end state
+    → IsTokens source (tokens' ++ record { kind = kinds.End; span = record { start = length source; end = length source; line = line } } ∷ [])
+all_read source tokens tokens' line state macros within read ended = record {
   within = within;
   pieces = read.pieces;
   whole = read.before;
-  tokens_are = ap (λ n. tokens ++ record { kind = kinds.End; span = record { start = length source; end = length source; line = n } } ∷ []) read.line_is ∙ ap (λ ts. ts ++ end_token source ∷ []) read.tokens_are;
+  tokens_are = ap (λ n. tokens' ++ record { kind = kinds.End; span = record { start = length source; end = length source; line = n } } ∷ []) read.line_is
+      ∙ ap (λ ts. ts ++ end_token source ∷ []) (ended ∙ ap (λ ts. ts ++ directive_end state) read.tokens_are ∙ ap (λ c. tokens_of source at_first 0 read.pieces ++ directive_end c.state) read.context_is);
 }
 
 -- past the limit
-pub too_long : (source : List ℕ) (tokens : List Token) (at line : ℕ) (starts : Bool) (p : Piece) → source_limit < length source → source_limit ≤ p.end → IsReadTo source tokens at line starts → IsPiece source at p → IsTooLong source
-too_long source tokens at line starts p above past read is_piece = record {
+pub too_long : (source : List ℕ) (tokens : List Token) (at line : ℕ) (state : LineState) (macros : MacroList) (p : Piece) → source_limit < length source → source_limit ≤ p.end → IsReadTo source tokens at line state macros → IsPiece source (context_of state macros) at p → IsTooLong source
+too_long source tokens at line state macros p above past read is_piece = record {
   above = above;
   pieces = read.pieces ++ p ∷ [];
   reached = p.end;
-  before = decomposes_more source 0 at read.pieces p read.before is_piece;
+  before = decomposes_more source at_first 0 at read.pieces p read.before (subst (λ c. IsPiece source c at p) read.context_is is_piece);
   past = past;
 }
 
@@ -156,12 +189,12 @@ fault_there source at codes.LeavesConstruct below wrong = (below, wrong)
 fault_there source at codes.NoMain below wrong = (below, wrong)
 fault_there source at codes.TooDeep below wrong = (below, wrong)
 
-pub refused_there : (source : List ℕ) (tokens : List Token) (at line : ℕ) (starts : Bool) (fault : SourceFault) → at < source_limit → IsReadTo source tokens at line starts → IsWrongAt source starts at fault → IsRefusal source fault
-refused_there source tokens at line starts fault below read (inl memory) = inl memory
-refused_there source tokens at line starts fault below read (inr wrong) =
+pub refused_there : (source : List ℕ) (tokens : List Token) (at line : ℕ) (state : LineState) (macros : MacroList) (fault : SourceFault) → at < source_limit → IsReadTo source tokens at line state macros → IsWrongAt source (context_of state macros) at fault → IsRefusal source fault
+refused_there source tokens at line state macros fault below read (inl memory) = inl memory
+refused_there source tokens at line state macros fault below read (inr wrong) =
     let place = sym wrong.0 in
     inr (subst (IsFault source fault.code) place (fault_there source at fault.code below (record {
       pieces = read.pieces;
       before = read.before;
-      wrong = subst (λ b. IsWrong source b at fault.code) read.starts_is wrong.1;
+      wrong = subst (λ c. IsWrong source c at fault.code) read.context_is wrong.1;
     })))

@@ -3,6 +3,10 @@ pub mod Characters
 pub mod Spellings
 pub mod Constants
 pub mod WhiteSpace
+pub mod Texts
 pub mod Tokens
+pub mod Macros
+pub mod HashLines
 pub mod Pieces
+pub mod Folding
 pub mod Sources

@@ -1,5 +1,5 @@
 -- What a source is to the lexer: its tokens, or its first fault.
-use Rattle.std.specs.Prelude.{◌≡◌, ℕ, ◌<◌, ◌≤◌, ◌⊎◌, Bool, true, List, [], ◌∷◌, ◌++◌, length, slice_index}
+use Rattle.std.specs.Prelude.{◌≡◌, ℕ, ◌<◌, ◌≤◌, ◌⊎◌, true, false, List, ◌∷◌, [], ◌++◌, length, slice_index}
 use Rattle.om_lexer.specs.declared.token.Token.{Token}
 use Rattle.om_lexer.specs.declared.token.TokenKind.TheVariants as kinds
 use Rattle.om_lexer.specs.declared.piece.Piece.{Piece}
@@ -8,7 +8,9 @@ use Rattle.om_lexer.specs.declared.fault.FaultCode.TheVariants as codes
 use Rattle.om_lexer.specs.declared.fault.SourceFault.{SourceFault}
 use Rattle.om_lexer.specs.Faults.{no_memory}
 use Rattle.om_lexer.specs.Tokens.{IsTooLarge}
-use Rattle.om_lexer.specs.Pieces.{IsPiece, Decomposes, tokens_of, span_of, starts_line}
+use Rattle.om_lexer.specs.HashLines.{IsWrongHashLine}
+use Rattle.om_lexer.specs.Pieces.{Context, at_first, is_fresh, is_ignored, IsPiece, Decomposes, context_behind_all, span_of}
+use Rattle.om_lexer.specs.Folding.{tokens_of, directive_end}
 
 -- the bytes that a source may have
 abbrev pub source_limit : ℕ
@@ -18,47 +20,53 @@ source_limit = 1048576
 abbrev pub end_token : List ℕ → Token
 end_token source = record { kind = kinds.End; span = span_of source (length source) (length source) }
 
+-- the tokens of a source that is these pieces
+abbrev pub all_tokens : List ℕ → List Piece → List Token
+all_tokens source pieces =
+    (tokens_of source at_first 0 pieces ++ directive_end (context_behind_all source at_first pieces).state) ++ end_token source ∷ []
+
 -- the source is within the limit, and these are its tokens
 pub record IsTokens (source : List ℕ) (tokens : List Token) : Type 0 where
   pub within : length source ≤ source_limit
   pub pieces : List Piece
-  pub whole : Decomposes source 0 pieces (length source)
-  pub tokens_are : tokens ≡ tokens_of source 0 pieces ++ end_token source ∷ []
+  pub whole : Decomposes source at_first 0 pieces (length source)
+  pub tokens_are : tokens ≡ all_tokens source pieces
 
--- a `#` with no token before it on its line
-abbrev pub BeginsHashLine : List ℕ → Bool → ℕ → Type 0
-BeginsHashLine source starts at = (slice_index source at ≡ 35) × (starts ≡ true)
+-- a `#` with nothing but white space before it on its line
+abbrev pub BeginsHashLine : List ℕ → Context → ℕ → Type 0
+BeginsHashLine source context at = (slice_index source at ≡ 35) × (is_fresh context.state ≡ true)
 
--- nothing begins there: no white space, comment or token, no constant of any size and no `#` line
-pub record IsBadToken (source : List ℕ) (starts : Bool) (at : ℕ) : Type 0 where
+-- nothing begins there: no piece, no constant of any size and no `#` line
+pub record IsBadToken (source : List ℕ) (context : Context) (at : ℕ) : Type 0 where
   pub inside : at < length source
-  pub no_piece : (piece : Piece) → IsPiece source at piece → ⊥
-  pub not_too_large : IsTooLarge source at → ⊥
-  pub no_hash_line : BeginsHashLine source starts at → ⊥
+  pub no_piece : (piece : Piece) → IsPiece source context at piece → ⊥
+  pub not_too_large : is_ignored context.state ≡ false → IsTooLarge source at → ⊥
+  pub no_hash_line : BeginsHashLine source context at → ⊥
 
--- what is wrong at a byte where no piece begins; starts: no token stands before it on its line
-abbrev pub IsWrong : List ℕ → Bool → ℕ → FaultCode → Type 0
-IsWrong source starts at codes.BadToken = IsBadToken source starts at
-IsWrong source starts at codes.BadHashLine = BeginsHashLine source starts at
-IsWrong source starts at codes.ConstantTooLarge = IsTooLarge source at
-IsWrong source starts at _ = ⊥
+-- what is wrong at a byte where no piece begins
+abbrev pub IsWrong : List ℕ → Context → ℕ → FaultCode → Type 0
+IsWrong source context at codes.BadToken = IsBadToken source context at
+IsWrong source context at codes.BadHashLine = BeginsHashLine source context at × IsWrongHashLine source context.macros at codes.BadHashLine
+IsWrong source context at codes.TooMany = BeginsHashLine source context at × IsWrongHashLine source context.macros at codes.TooMany
+IsWrong source context at codes.ConstantTooLarge = (is_ignored context.state ≡ false) × IsTooLarge source at
+IsWrong source context at _ = ⊥
 
 -- a refusal at a byte: want of memory, or what is wrong there
-abbrev pub IsWrongAt : List ℕ → Bool → ℕ → SourceFault → Type 0
-IsWrongAt source starts at fault = (fault ≡ no_memory) ⊎ ((fault.at ≡ at) × IsWrong source starts at fault.code)
+abbrev pub IsWrongAt : List ℕ → Context → ℕ → SourceFault → Type 0
+IsWrongAt source context at fault = (fault ≡ no_memory) ⊎ ((fault.at ≡ at) × IsWrong source context at fault.code)
 
 -- the source is pieces up to that byte, and there it is wrong
 pub record GoesWrong (source : List ℕ) (code : FaultCode) (at : ℕ) : Type 0 where
   pub pieces : List Piece
-  pub before : Decomposes source 0 pieces at
-  pub wrong : IsWrong source (starts_line true pieces) at code
+  pub before : Decomposes source at_first 0 pieces at
+  pub wrong : IsWrong source (context_behind_all source at_first pieces) at code
 
 -- the source is above the limit, and is pieces up to the limit or past it
 pub record IsTooLong (source : List ℕ) : Type 0 where
   pub above : source_limit < length source
   pub pieces : List Piece
   pub reached : ℕ
-  pub before : Decomposes source 0 pieces reached
+  pub before : Decomposes source at_first 0 pieces reached
   pub past : source_limit ≤ reached
 
 -- the source has this fault: the first below the limit, or else that it is too long

@@ -11,11 +11,19 @@ use Rattle.om_lexer.specs.Characters.{is_word_byte}
 use Rattle.om_lexer.specs.Constants.{IsConstant, IsWrongConstant}
 use Rattle.om_lexer.specs.Spellings.{keyword_text, punctuator_text}
 use Rattle.om_lexer.specs.WhiteSpace.{BeginsComment}
+use Rattle.om_lexer.specs.Texts.{IsText}
 
 -- a run of letters, digits and `_`
 pub record IsWord (text : List ℕ) : Type 0 where
   pub some : 0 < length text
   pub word_bytes : All (λ b. is_word_byte b ≡ true) text
+
+-- the run of letters, digits and `_` from there on, none or some
+pub record IsRun (source : List ℕ) (from to : ℕ) : Type 0 where
+  pub behind : from ≤ to
+  pub inside : to ≤ length source
+  pub run : (k : ℕ) → from ≤ k → k < to → is_word_byte (slice_index source k) ≡ true
+  pub ends : to < length source → is_word_byte (slice_index source to) ≡ false
 
 -- C17 6.4.2.1: an identifier that is no keyword, of at most 63 bytes
 pub record IsName (text : List ℕ) : Type 0 where
@@ -46,10 +54,16 @@ pub record IsLongest (source : List ℕ) (from to : ℕ) : Type 0 where
   pub longest : (more : ℕ) → to < more → more ≤ length source → CouldBeToken (slice_range source from more) → ⊥
   pub no_comment : BeginsComment source from → ⊥
 
--- a token of this kind stands there
-pub record IsToken (source : List ℕ) (from to : ℕ) (kind : TokenKind) : Type 0 where
+-- a name, a constant, a keyword or a punctuator stands there
+pub record IsSpelled (source : List ℕ) (from to : ℕ) (kind : TokenKind) : Type 0 where
   pub longest : IsLongest source from to
   pub spelled : Spells (slice_range source from to) kind
+
+-- a token of this kind stands there
+abbrev pub IsToken : List ℕ → ℕ → ℕ → TokenKind → Type 0
+IsToken source from to kind =
+    IsSpelled source from to kind
+    ⊎ ((characters : List ℕ) × (kind ≡ kinds.Text characters) × IsText source from characters to)
 
 -- a constant above 2147483647 stands there
 pub record IsTooLarge (source : List ℕ) (from : ℕ) : Type 0 where
@@ -64,3 +78,9 @@ abbrev pub IsWrongText : List ℕ → FaultCode → Type 0
 IsWrongText text codes.BadToken = ((kind : TokenKind) → Spells text kind → ⊥) × IsWrongConstant text codes.BadToken
 IsWrongText text codes.ConstantTooLarge = IsWrongConstant text codes.ConstantTooLarge
 IsWrongText text _ = ⊥
+
+-- what is wrong where no token stands: nothing that could be one, or a constant above 2147483647
+abbrev pub IsNoToken : List ℕ → ℕ → FaultCode → Type 0
+IsNoToken source from codes.BadToken = ((to : ℕ) (kind : TokenKind) → IsToken source from to kind → ⊥) × (IsTooLarge source from → ⊥)
+IsNoToken source from codes.ConstantTooLarge = IsTooLarge source from
+IsNoToken source from _ = ⊥

@@ -1,5 +1,5 @@
 -- White space and comments, each from one byte of a source up to another.
-use Rattle.std.specs.Prelude.{◌≡◌, ℕ, ◌+◌, ◌<◌, ◌≤◌, ◌⊎◌, true, List, length, slice_index}
+use Rattle.std.specs.Prelude.{◌≡◌, ℕ, ◌+◌, ◌<◌, ◌≤◌, ◌⊎◌, true, List, [], ◌∷◌, length, slice_index}
 use Rattle.om_lexer.specs.Characters.{is_blank}
 
 -- a line feed, or a carriage return and a line feed
@@ -40,3 +40,18 @@ IsComment source from to = IsBlockComment source from to ⊎ IsLineComment sourc
 abbrev pub BeginsComment : List ℕ → ℕ → Type 0
 BeginsComment source from =
     (slice_index source from ≡ 47) × ((slice_index source (from + 1) ≡ 42) ⊎ (slice_index source (from + 1) ≡ 47))
+
+-- white space in a line; a comment is white space (C17 5.1.1.2, phase 3)
+abbrev pub IsWhiteSpace : List ℕ → ℕ → ℕ → Type 0
+IsWhiteSpace source from to = IsSpace source from to ⊎ IsComment source from to
+
+-- from one byte up to another stands white space in a line, which ends at these bytes in turn
+abbrev pub Spaces : List ℕ → ℕ → List ℕ → ℕ → Type 0
+Spaces source from [] to = from ≡ to
+Spaces source from (end ∷ ends) to = IsWhiteSpace source from end × Spaces source end ends to
+
+-- the white space from there on, none or some, up to where no more stands
+pub record IsGap (source : List ℕ) (from to : ℕ) : Type 0 where
+  pub ends : List ℕ
+  pub spaces : Spaces source from ends to
+  pub no_more : (more : ℕ) → IsWhiteSpace source to more → ⊥

@@ -1,6 +1,6 @@
 //! Integer constants (C17 6.4.4.1).
 
-ghost use Rattle.std.specs.Prelude.{◌≡◌, ◌≤◌, ◌<◌, ℕ, length, All, IfOk, IfErr, SomeIff, IsTrue, ◌↔◌};
+ghost use Rattle.std.specs.Prelude.{◌≡◌, ◌≤◌, ◌<◌, ◌^◌, ℕ, length, All, IfOk, IfErr, SomeIff, IsTrue, ◌↔◌};
 ghost use Rattle.std.specs.Char.{digit_value};
 ghost use Rattle.om_lexer.specs.Constants.{base_of, digits_of, value_in, IsConstant, IsWrongConstant};
 
@@ -40,19 +40,19 @@ pub(crate) fn are_digits(base: u32, digits: &[u8]) -> bool
     true
 }
 
-/// The number that digits stand for, if it is at most 2147483647.
+/// The number that digits stand for, if it fits 32 bits.
 pub(crate) fn value_in(base: u32, digits: &[u8]) -> Option<u32>
     requires least { 2 ≤ base }
     requires most { base ≤ 36 }
     requires digits { All (λ digit. digit_value digit < base) digits.now }
-    ensures { SomeIff result (value_in base digits.now ≤ 2147483647) (value_in base digits.now) }
+    ensures { SomeIff result (value_in base digits.now < 2 ^ 32) (value_in base digits.now) }
 {
     let mut value: u32 = 0;
     for digit in digits {
         let digit = char::from(*digit).to_digit(base)?;
         value = value.checked_mul(base)?.checked_add(digit)?;
     }
-    (value <= LARGEST).then_some(value)
+    Some(value)
 }
 
 /// The value of a constant: at most 2147483647, else S10; S2 where the text is none.
@@ -64,5 +64,8 @@ pub(crate) fn constant(text: &[u8]) -> Result<u32, FaultCode>
     if digits.is_empty() || !are_digits(base, digits) {
         return Err(FaultCode::BadToken);
     }
-    value_in(base, digits).ok_or(FaultCode::ConstantTooLarge)
+    match value_in(base, digits) {
+        Some(value) if value <= LARGEST => Ok(value),
+        _ => Err(FaultCode::ConstantTooLarge),
+    }
 }

@@ -1,6 +1,6 @@
 //! Why a source is refused, and where.
 
-ghost use Rattle.std.specs.Prelude.{◌≡◌};
+ghost use Rattle.std.specs.Prelude.{◌≡◌, ◌<◌, ◌^◌};
 ghost use Rattle.om_lexer.specs.Faults.{number_of, no_memory};
 
 use std::alloc::{AllocError, AllocFailed};
@@ -84,5 +84,29 @@ impl<T: Drop> From<AllocFailed<T>> for SourceFault {
             code: FaultCode::Memory,
             at: 0,
         }
+    }
+}
+
+/// S2 at a byte.
+pub(crate) fn bad_token(at: usize) -> SourceFault
+    requires { at < 2 ^ 32 }
+    ensures code { result.code ≡ FaultCode.BadToken }
+    ensures at { result.at ≡ at }
+{
+    SourceFault {
+        code: FaultCode::BadToken,
+        at: at as u32,
+    }
+}
+
+/// S4 at a byte.
+pub(crate) fn bad_hash_line(at: usize) -> SourceFault
+    requires { at < 2 ^ 32 }
+    ensures code { result.code ≡ FaultCode.BadHashLine }
+    ensures at { result.at ≡ at }
+{
+    SourceFault {
+        code: FaultCode::BadHashLine,
+        at: at as u32,
     }
 }

@@ -1,15 +1,20 @@
 //! The tokens of a source.
 
-ghost use Rattle.std.specs.Prelude.{◌≡◌, ◌==◌, ◌++◌, ◌<◌, ◌^◌, ℕ, List, length, count_by, IfOk, IfErr, OnOk};
+ghost use Rattle.std.specs.Prelude.{◌≡◌, ◌==◌, ◌++◌, ◌+◌, ◌<◌, ◌≤◌, ◌^◌, ℕ, List, [], ◌∷◌, length, count_by, IfOk, IfErr, OnOk};
 ghost use Rattle.om_lexer.specs.declared.fault.FaultCode.{FaultCode};
 ghost use Rattle.om_lexer.specs.declared.token.Token.{Token};
-ghost use Rattle.om_lexer.specs.Pieces.{token_in};
+ghost use Rattle.om_lexer.specs.Macros.{replaced};
+ghost use Rattle.om_lexer.specs.Pieces.{context_of, span_of, line_at, state_behind, state_behind_token, state_of_line, macros_behind, macros_behind_token, macros_defined};
+ghost use Rattle.om_lexer.specs.Folding.{tokens_in, token_in, tokens_of_line, directive_begin, directive_end, HasWords, HasWordsInside};
 ghost use Rattle.om_lexer.specs.Sources.{IsTokens, IsFault, IsRefusal};
 
 use crate::fault::{FaultCode, SourceFault};
-use crate::piece::PieceKind;
+use crate::macros::Macros;
+use crate::piece::{HashLine, PieceKind};
 use crate::scan::piece_at;
+use crate::state::LineState;
 use crate::token::{Span, Token, TokenKind};
+use om_seq::Seq;
 use std::alloc::{AllocError, Global};
 
 /// The bytes that a source may have.
@@ -17,20 +22,25 @@ const SOURCE_LIMIT: usize = 1_048_576;
 
 /// The tokens of a source, in order; the last is the end of the source.
 ///
-/// A token is the longest text that could be one (C17 6.4p4), and between tokens stand only white space and comments.
-/// A refusal is want of memory (S0), or the first fault of the source: bytes that are no white space, comment or token (S2),
-/// a `#` line (S4, at its `#`) or a constant above 2147483647 (S10), where one stands below byte 1,048,576;
-/// else that the source has more than 1,048,576 bytes (S1, there).
+/// A token is the longest text that could be one (C17 6.4p4); between tokens stand white space, comments, includes, defines
+/// and pragmas that are not OpenMP's. A name that is defined is the constant that it is defined as, with the name's place.
+/// A `#pragma omp` line is `DirectiveBegin`, its words and marks, and `DirectiveEnd`.
+///
+/// A refusal is want of memory (S0), or the first fault of the source below byte 1,048,576: bytes that are no white space,
+/// comment or token (S2), a `#` line that is no include, define or pragma of the accepted forms, or that defines a name as
+/// another number (S4, at its `#`), a constant above 2147483647 (S10), or the define of a name too many (S11, at its `#`).
+/// Where there is none, it is that the source has more than 1,048,576 bytes (S1, there).
 pub fn lex(alloc: Global, source: &[u8]) -> Result<Vec<Token>, SourceFault>
     ensures tokens { IfOk result (λ tokens. IsTokens source.now tokens.items) }
     ensures refusal { IfErr result (IsRefusal source.now) }
 {
     let mut tokens = Vec::new(alloc);
+    let mut macros = Macros::new(alloc);
+    let mut state = LineState::Fresh;
     let mut at = 0;
     let mut line = 1;
-    let mut starts_line = true;
     while at < source.len() {
-        let piece = piece_at(alloc, source, at, starts_line)?;
+        let piece = piece_at(alloc, source, at, &state, &macros)?;
         let end = piece.end;
         if source.len() > SOURCE_LIMIT && end >= SOURCE_LIMIT {
             return Err(SourceFault {
@@ -38,16 +48,16 @@ pub fn lex(alloc: Global, source: &[u8]) -> Result<Vec<Token>, SourceFault>
                 at: SOURCE_LIMIT as u32,
             });
         }
-        starts_line = piece.kind.starts_after(starts_line);
         let span = Span {
             start: at as u32,
             end: end as u32,
             line,
         };
-        add_token(&mut tokens, piece.kind, span)?;
-        line += line_feeds(&source[at..end]);
+        line = line_behind(source, span);
+        state = take_piece(alloc, source, &mut tokens, &mut macros, state, piece.kind, span)?;
         at = end;
     }
+    end_directive(&mut tokens, &state)?;
     tokens.push(Token {
         kind: TokenKind::End,
         span: Span {
@@ -68,19 +78,234 @@ pub fn one_reading()
         IsFault source c a → IsFault source d b → (c ≡ d) × (a ≡ b) }
 {}
 
-/// Adds a piece that is a token. Without memory the tokens are lost to the caller.
-fn add_token(tokens: &mut Vec<Token>, kind: PieceKind, span: Span) -> Result<(), AllocError>
-    ensures { OnOk result (tokens.new.items ≡ tokens.old.items ++ token_in span kind) }
+/// Adds the tokens of a piece at its place, notes what it defines, and gives its line behind it.
+/// Without memory all three are lost to the caller.
+fn take_piece(
+    alloc: Global,
+    source: &[u8],
+    tokens: &mut Vec<Token>,
+    macros: &mut Macros,
+    state: LineState,
+    kind: PieceKind,
+    span: Span,
+) -> Result<LineState, AllocError>
+    requires place { span ≡ span_of source.now span.start span.end }
+    requires order { span.start ≤ span.end }
+    requires inside { span.end ≤ length source.now }
+    requires fits { span.end < 2 ^ 31 }
+    requires words { HasWordsInside kind span.start span.end }
+    ensures tokens { OnOk result (tokens.new.items ≡ tokens.old.items ++ tokens_in source.now (context_of state macros.old) span.start span.end kind) }
+    ensures macros { OnOk result (macros.new ≡ macros_behind kind state macros.old) }
+    ensures state { IfOk result (λ behind. behind ≡ state_behind kind state (span_of source.now span.end span.end)) }
 {
+    let behind = Span {
+        start: span.end,
+        end: span.end,
+        line: line_behind(source, span),
+    };
     match kind {
-        PieceKind::LineFeed => Ok(()),
-        PieceKind::Space => Ok(()),
-        PieceKind::Comment => Ok(()),
-        PieceKind::Token(kind) => {
-            tokens.push(Token { kind, span })?;
+        PieceKind::LineFeed => {
+            end_directive(tokens, &state)?;
+            Ok(LineState::Fresh)
+        }
+        PieceKind::Space => Ok(state),
+        PieceKind::Token(kind) => take_token(alloc, tokens, macros, state, Token { kind, span }, behind),
+        PieceKind::HashLine(line) => take_hash_line(alloc, source, tokens, line, span, behind),
+        PieceKind::Passed => Ok(state),
+    }
+}
+
+/// The line behind what stands there.
+fn line_behind(source: &[u8], span: Span) -> u32
+    requires line { span.line ≡ line_at source.now span.start }
+    requires order { span.start ≤ span.end }
+    requires inside { span.end ≤ length source.now }
+    requires fits { span.end < 2 ^ 31 }
+    ensures { result ≡ line_at source.now span.end }
+{
+    span.line + line_feeds(&source[span.start as usize..span.end as usize])
+}
+
+/// Adds the end of the directive whose line ends here, if one does.
+fn end_directive(tokens: &mut Vec<Token>, state: &LineState) -> Result<(), AllocError>
+    ensures { OnOk result (tokens.new.items ≡ tokens.old.items ++ directive_end state.now) }
+{
+    match state {
+        LineState::Directive(last) => {
+            tokens.push(Token {
+                kind: TokenKind::DirectiveEnd,
+                span: *last,
+            })?;
             Ok(())
         }
+        LineState::Fresh => Ok(()),
+        LineState::Taken => Ok(()),
+        LineState::Defining(_) => Ok(()),
+        LineState::Ignored => Ok(()),
     }
+}
+
+/// Adds a token, or defines with it the name whose constant it is, and gives the line behind it.
+fn take_token(
+    alloc: Global,
+    tokens: &mut Vec<Token>,
+    macros: &mut Macros,
+    state: LineState,
+    token: Token,
+    behind: Span,
+) -> Result<LineState, AllocError>
+    ensures tokens { OnOk result (tokens.new.items ≡ tokens.old.items ++ token_in state macros.old token.span token.kind) }
+    ensures macros { OnOk result (macros.new ≡ macros_behind_token state macros.old token.kind) }
+    ensures state { IfOk result (λ next. next ≡ state_behind_token state behind) }
+{
+    match state {
+        LineState::Fresh => {
+            add_token(tokens, macros, token)?;
+            Ok(LineState::Taken)
+        }
+        LineState::Taken => {
+            add_token(tokens, macros, token)?;
+            Ok(LineState::Taken)
+        }
+        LineState::Defining(name) => {
+            define(alloc, macros, name.as_slice(), &token.kind)?;
+            Ok(LineState::Taken)
+        }
+        LineState::Ignored => {
+            add_token(tokens, macros, token)?;
+            Ok(LineState::Taken)
+        }
+        LineState::Directive(_) => {
+            add_token(tokens, macros, token)?;
+            Ok(LineState::Directive(behind))
+        }
+    }
+}
+
+/// Adds a token, replaced where it is a macro.
+fn add_token(tokens: &mut Vec<Token>, macros: &Macros, token: Token) -> Result<(), AllocError>
+    ensures { OnOk result (tokens.new.items ≡ tokens.old.items ++ record { kind = replaced macros.now token.kind; span = token.span } ∷ []) }
+{
+    tokens.push(Token {
+        kind: macros.replaced(token.kind),
+        span: token.span,
+    })?;
+    Ok(())
+}
+
+/// Defines a name as a constant.
+fn define(
+    alloc: Global,
+    macros: &mut Macros,
+    name: &[u8],
+    kind: &TokenKind,
+) -> Result<(), AllocError>
+    ensures { OnOk result (macros.new ≡ macros_defined macros.old name.now kind.now) }
+{
+    match kind {
+        TokenKind::Constant(number) => macros.define(alloc, name, *number),
+        TokenKind::Name(_) => Ok(()),
+        TokenKind::Keyword(_) => Ok(()),
+        TokenKind::Text(_) => Ok(()),
+        TokenKind::Punctuator(_) => Ok(()),
+        TokenKind::DirectiveBegin => Ok(()),
+        TokenKind::DirectiveEnd => Ok(()),
+        TokenKind::End => Ok(()),
+    }
+}
+
+/// Adds the tokens of the beginning of a `#` line, and gives the line behind it.
+fn take_hash_line(
+    alloc: Global,
+    source: &[u8],
+    tokens: &mut Vec<Token>,
+    line: HashLine,
+    span: Span,
+    behind: Span,
+) -> Result<LineState, AllocError>
+    requires place { span ≡ span_of source.now span.start span.end }
+    requires inside { span.end ≤ length source.now }
+    requires fits { span.end < 2 ^ 31 }
+    requires words { HasWords line span.start span.end }
+    ensures tokens { OnOk result (tokens.new.items ≡ tokens.old.items ++ tokens_of_line source.now span.start line) }
+    ensures state { IfOk result (λ next. next ≡ state_of_line line behind) }
+{
+    match line {
+        HashLine::Include => Ok(LineState::Taken),
+        HashLine::Define(name) => Ok(LineState::Defining(name)),
+        HashLine::Directive(pragma, omp) => {
+            begin_directive(alloc, source, tokens, span, pragma, omp)?;
+            Ok(LineState::Directive(behind))
+        }
+        HashLine::Ignored => Ok(LineState::Ignored),
+    }
+}
+
+/// Adds the `#` of a directive and its words `pragma` and `omp`, which begin at these bytes.
+fn begin_directive(
+    alloc: Global,
+    source: &[u8],
+    tokens: &mut Vec<Token>,
+    span: Span,
+    pragma: usize,
+    omp: usize,
+) -> Result<(), AllocError>
+    requires place { span ≡ span_of source.now span.start span.end }
+    requires inside { span.end ≤ length source.now }
+    requires fits { span.end < 2 ^ 31 }
+    requires hash { span.start < pragma }
+    requires pragma { pragma + 6 ≤ omp }
+    requires omp { omp + 3 ≤ span.end }
+    ensures { OnOk result (tokens.new.items ≡ tokens.old.items ++ directive_begin source.now span.start pragma omp) }
+{
+    let hash = Span {
+        start: span.start,
+        end: span.start + 1,
+        line: span.line,
+    };
+    tokens.push(Token {
+        kind: TokenKind::DirectiveBegin,
+        span: hash,
+    })?;
+    let pragma = word_span(source, span, pragma, 6);
+    add_word(alloc, tokens, b"pragma", pragma)?;
+    let omp = word_span(source, span, omp, 3);
+    add_word(alloc, tokens, b"omp", omp)
+}
+
+/// The place of a word of `width` bytes, which begins behind `before`.
+fn word_span(source: &[u8], before: Span, from: usize, width: u32) -> Span
+    requires place { before ≡ span_of source.now before.start before.end }
+    requires order { before.start ≤ from }
+    requires inside { from + width ≤ length source.now }
+    requires fits { from + width < 2 ^ 31 }
+    ensures { result ≡ span_of source.now from (from + width) }
+{
+    let start = from as u32;
+    let gap = Span {
+        start: before.start,
+        end: start,
+        line: before.line,
+    };
+    Span {
+        start,
+        end: start + width,
+        line: line_behind(source, gap),
+    }
+}
+
+/// Adds a name that no macro replaces.
+fn add_word(
+    alloc: Global,
+    tokens: &mut Vec<Token>,
+    text: &[u8],
+    span: Span,
+) -> Result<(), AllocError>
+    ensures { OnOk result (tokens.new.items ≡ tokens.old.items ++ record { kind = TokenKind.Name text.now; span = span } ∷ []) }
+{
+    let kind = TokenKind::Name(Seq::of(Vec::from_slice(alloc, text)?));
+    tokens.push(Token { kind, span })?;
+    Ok(())
 }
 
 /// How many line feeds there are.

@@ -3,13 +3,19 @@
 
 mod character;
 mod constant;
+mod define;
 mod fault;
+mod hash_line;
+mod lexeme;
 mod lexer;
+mod macros;
 mod piece;
 mod scan;
 mod spelling;
+mod state;
 #[cfg(test)]
 mod tests;
+mod text;
 mod token;
 mod white_space;
 mod word;

@@ -1,9 +1,7 @@
 //! The pieces of a source (C17 5.1.1.2, translation phase 3).
 
-ghost use Rattle.std.specs.Prelude.{◌≡◌};
-ghost use Rattle.om_lexer.specs.Pieces.{starts_after};
-
 use crate::token::TokenKind;
+use om_seq::Seq;
 
 /// A piece of the source: what it is, and the byte behind it.
 #[derive(Debug, Drop)]
@@ -17,22 +15,23 @@ pub struct Piece {
 pub enum PieceKind {
     /// A line end that no backslash and no comment takes.
     LineFeed,
-    /// Other white space.
+    /// Other white space, or a comment.
     Space,
-    Comment,
     Token(TokenKind),
+    HashLine(HashLine),
+    /// A byte of an ignored pragma.
+    Passed,
 }
 
-impl PieceKind {
-    /// Whether no token stands on the line behind this piece, where `starts` says so before it.
-    pub(crate) fn starts_after(&self, starts: bool) -> bool
-        ensures { result ≡ starts_after starts self.now }
-    {
-        match self {
-            PieceKind::LineFeed => true,
-            PieceKind::Space => starts,
-            PieceKind::Comment => starts,
-            PieceKind::Token(_) => false,
-        }
-    }
+/// The beginning of a `#` line (C17 6.10).
+#[derive(Debug, Drop)]
+pub enum HashLine {
+    /// All of an include.
+    Include,
+    /// A define of this name, up to its constant.
+    Define(Seq<u8>),
+    /// `#pragma omp`: the bytes where `pragma` and `omp` begin.
+    Directive(usize, usize),
+    /// `#pragma`, with no `omp` behind it.
+    Ignored,
 }

@@ -1,35 +1,38 @@
 //! The piece at a byte of the source.
 
-ghost use Rattle.std.specs.Prelude.{◌≡◌, ◌+◌, ◌<◌, ◌≤◌, Bool, true, false, length, slice_index, IfOk, IfErr};
-ghost use Rattle.om_lexer.specs.Characters.{is_blank, is_word_byte};
+ghost use Rattle.std.specs.Prelude.{◌≡◌, ◌<◌, ◌≤◌, ◌↔◌, true, length, IfOk, IfErr, IsTrue, slice_index};
 ghost use Rattle.om_lexer.specs.WhiteSpace.{BeginsComment};
-ghost use Rattle.om_lexer.specs.Pieces.{IsPiece};
-ghost use Rattle.om_lexer.specs.Sources.{IsWrongAt, BeginsHashLine, source_limit};
+ghost use Rattle.om_lexer.specs.Pieces.{IsPiece, context_of, is_fresh};
+ghost use Rattle.om_lexer.specs.Folding.{HasWordsInside};
+ghost use Rattle.om_lexer.specs.Sources.{IsWrongAt, source_limit};
 
-use crate::character::{is_blank, is_word_byte};
-use crate::fault::{FaultCode, SourceFault};
+use crate::character::byte_at;
+use crate::fault::{SourceFault, bad_token};
+use crate::hash_line::hash_line_at;
+use crate::lexeme::token_at;
+use crate::macros::Macros;
 use crate::piece::{Piece, PieceKind};
-use crate::spelling::{longest_punctuator, punctuator_text};
-use crate::token::TokenKind;
-use crate::white_space::{block_comment_end, line_comment_end, line_end};
-use crate::word::{word_end, word_kind};
+use crate::state::LineState;
+use crate::white_space::white_space_end;
 use std::alloc::Global;
 
-/// The piece that begins at a byte of the source; `starts_line` says that no token stands before it on its line.
+/// The piece that begins at a byte of the source, behind what stands before it on its line and the macros.
 pub(crate) fn piece_at(
     alloc: Global,
     source: &[u8],
     at: usize,
-    starts_line: bool,
+    state: &LineState,
+    macros: &Macros,
 ) -> Result<Piece, SourceFault>
     requires inside { at < length source.now }
     requires below { at < source_limit }
-    ensures piece { IfOk result (IsPiece source.now at) }
+    ensures piece { IfOk result (IsPiece source.now (context_of state.now macros.now) at) }
     ensures moves { IfOk result (λ piece. at < piece.end) }
     ensures inside { IfOk result (λ piece. piece.end ≤ length source.now) }
-    ensures fault { IfErr result (IsWrongAt source.now starts_line at) }
+    ensures words { IfOk result (λ piece. HasWordsInside piece.kind at piece.end) }
+    ensures fault { IfErr result (IsWrongAt source.now (context_of state.now macros.now) at) }
 {
-    read_piece(alloc, source, at, starts_line)
+    read_piece(alloc, source, at, state, macros)
 }
 
 /// The same, told of its kind alone: a piece has a byte at least and ends in the source.
@@ -37,150 +40,65 @@ fn read_piece(
     alloc: Global,
     source: &[u8],
     at: usize,
-    starts_line: bool,
+    state: &LineState,
+    macros: &Macros,
 ) -> Result<Piece, SourceFault>
     requires inside { at < length source.now }
     requires below { at < source_limit }
-    ensures piece { IfOk result (IsPiece source.now at) }
-    ensures fault { IfErr result (IsWrongAt source.now starts_line at) }
+    ensures piece { IfOk result (IsPiece source.now (context_of state.now macros.now) at) }
+    ensures fault { IfErr result (IsWrongAt source.now (context_of state.now macros.now) at) }
 {
-    let byte = source[at];
-    if byte == b'\n' {
+    if source[at] == b'\n' {
         return Ok(Piece {
             kind: PieceKind::LineFeed,
             end: at + 1,
         });
     }
-    if is_blank(byte) {
+    if let Some(end) = white_space_end(source, at) {
         return Ok(Piece {
             kind: PieceKind::Space,
+            end,
+        });
+    }
+    if begins_comment(source, at) {
+        return Err(bad_token(at));
+    }
+    if state.is_ignored() {
+        if source[at] >= 128 {
+            return Err(bad_token(at));
+        }
+        return Ok(Piece {
+            kind: PieceKind::Passed,
             end: at + 1,
         });
     }
-    if byte == b'\\' {
-        return continuation_at(source, at);
-    }
-    if is_word_byte(byte) {
-        return word_at(alloc, source, at);
-    }
-    if byte == b'#' && starts_line {
-        return Err(SourceFault {
-            code: FaultCode::BadHashLine,
-            at: at as u32,
-        });
-    }
-    comment_or_punctuator_at(source, at)
-}
-
-/// The byte there, or 0 behind the end.
-fn byte_at(source: &[u8], at: usize) -> u8
-    ensures { result ≡ slice_index source.now at }
-{
-    if at < source.len() { source[at] } else { 0 }
-}
-
-/// A backslash and the line end behind it, or S2.
-fn continuation_at(source: &[u8], at: usize) -> Result<Piece, SourceFault>
-    requires inside { at < length source.now }
-    requires below { at < source_limit }
-    requires backslash { slice_index source.now at ≡ 92 }
-    ensures piece { IfOk result (IsPiece source.now at) }
-    ensures fault { (starts : Bool) → IfErr result (IsWrongAt source.now starts at) }
-{
-    match line_end(source, at + 1) {
-        Some(end) => Ok(Piece {
-            kind: PieceKind::Space,
-            end,
-        }),
-        None => Err(SourceFault {
-            code: FaultCode::BadToken,
-            at: at as u32,
-        }),
-    }
-}
-
-/// A comment or a punctuator; S2 where none begins, as nothing else does there.
-fn comment_or_punctuator_at(source: &[u8], at: usize) -> Result<Piece, SourceFault>
-    requires inside { at < length source.now }
-    requires below { at < source_limit }
-    requires no_line_feed { slice_index source.now at ≡ 10 → ⊥ }
-    requires no_blank { is_blank (slice_index source.now at) ≡ false }
-    requires no_backslash { slice_index source.now at ≡ 92 → ⊥ }
-    requires no_word { is_word_byte (slice_index source.now at) ≡ false }
-    ensures piece { IfOk result (IsPiece source.now at) }
-    ensures fault { (starts : Bool) → (BeginsHashLine source.now starts at → ⊥) → IfErr result (IsWrongAt source.now starts at) }
-{
-    let byte = source[at];
-    let next = byte_at(source, at + 1);
-    if byte == b'/' && next == b'*' {
-        return block_comment_at(source, at);
-    }
-    if byte == b'/' && next == b'/' {
+    if begins_hash_line(source, at, state) {
+        let (line, end) = hash_line_at(alloc, source, at, macros)?;
         return Ok(Piece {
-            kind: PieceKind::Comment,
-            end: line_comment_end(source, at),
+            kind: PieceKind::HashLine(line),
+            end,
         });
     }
-    punctuator_at(source, at)
-}
-
-/// A block comment, or S2 where it never ends.
-fn block_comment_at(source: &[u8], at: usize) -> Result<Piece, SourceFault>
-    requires inside { at < length source.now }
-    requires below { at < source_limit }
-    requires slash { slice_index source.now at ≡ 47 }
-    requires star { slice_index source.now (at + 1) ≡ 42 }
-    ensures piece { IfOk result (IsPiece source.now at) }
-    ensures fault { (starts : Bool) → IfErr result (IsWrongAt source.now starts at) }
-{
-    match block_comment_end(source, at) {
-        Some(end) => Ok(Piece {
-            kind: PieceKind::Comment,
-            end,
-        }),
-        None => Err(SourceFault {
-            code: FaultCode::BadToken,
-            at: at as u32,
-        }),
-    }
-}
-
-/// A name, a constant or a keyword; S2 or S10 where the word is none.
-fn word_at(alloc: Global, source: &[u8], at: usize) -> Result<Piece, SourceFault>
-    requires inside { at < length source.now }
-    requires below { at < source_limit }
-    requires word { is_word_byte (slice_index source.now at) ≡ true }
-    ensures piece { IfOk result (IsPiece source.now at) }
-    ensures fault { (starts : Bool) → IfErr result (IsWrongAt source.now starts at) }
-{
-    let end = word_end(source, at);
-    let kind = word_kind(alloc, &source[at..end], at as u32)?;
+    let (kind, end) = token_at(alloc, source, at)?;
     Ok(Piece {
         kind: PieceKind::Token(kind),
         end,
     })
 }
 
-/// A punctuator, or S2 where nothing else begins either.
-fn punctuator_at(source: &[u8], at: usize) -> Result<Piece, SourceFault>
-    requires inside { at < length source.now }
-    requires below { at < source_limit }
-    requires no_line_feed { slice_index source.now at ≡ 10 → ⊥ }
-    requires no_blank { is_blank (slice_index source.now at) ≡ false }
-    requires no_backslash { slice_index source.now at ≡ 92 → ⊥ }
-    requires no_word { is_word_byte (slice_index source.now at) ≡ false }
-    requires no_comment { BeginsComment source.now at → ⊥ }
-    ensures piece { IfOk result (IsPiece source.now at) }
-    ensures fault { (starts : Bool) → (BeginsHashLine source.now starts at → ⊥) → IfErr result (IsWrongAt source.now starts at) }
+/// Whether a `#` line begins there.
+fn begins_hash_line(source: &[u8], at: usize, state: &LineState) -> bool
+    requires { at < length source.now }
+    ensures { IsTrue result ↔ ((slice_index source.now at ≡ 35) × (is_fresh state.now ≡ true)) }
 {
-    match longest_punctuator(&source[at..]) {
-        Some(punctuator) => Ok(Piece {
-            kind: PieceKind::Token(TokenKind::Punctuator(punctuator)),
-            end: at + punctuator_text(punctuator).len(),
-        }),
-        None => Err(SourceFault {
-            code: FaultCode::BadToken,
-            at: at as u32,
-        }),
-    }
+    source[at] == b'#' && state.is_fresh()
+}
+
+/// Whether a comment begins there.
+fn begins_comment(source: &[u8], at: usize) -> bool
+    requires { at < length source.now }
+    ensures { IsTrue result ↔ BeginsComment source.now at }
+{
+    let next = byte_at(source, at + 1);
+    source[at] == b'/' && (next == b'*' || next == b'/')
 }

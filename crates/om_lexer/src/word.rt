@@ -1,9 +1,8 @@
 //! Names, constants and keywords.
 
-ghost use Rattle.std.specs.Prelude.{◌≡◌, ◌≤◌, ◌<◌, ◌⊎◌, ℕ, true, false, length, slice_index, IfOk, IfErr};
-ghost use Rattle.om_lexer.specs.Characters.{is_word_byte};
+ghost use Rattle.std.specs.Prelude.{◌≡◌, ◌≤◌, ◌⊎◌, length, IfOk, IfErr};
 ghost use Rattle.om_lexer.specs.Faults.{no_memory};
-ghost use Rattle.om_lexer.specs.Tokens.{IsWord, Spells, IsWrongText};
+ghost use Rattle.om_lexer.specs.Tokens.{IsRun, IsWord, Spells, IsWrongText};
 
 use crate::character::is_word_byte;
 use crate::constant::constant;
@@ -14,15 +13,14 @@ use om_seq::Seq;
 use std::alloc::Global;
 
 /// The bytes that a name may have.
-const LONGEST_NAME: usize = 63;
+pub(crate) const LONGEST_NAME: usize = 63;
 
 /// The end of the run of letters, digits and `_` from there on.
 pub(crate) fn word_end(source: &[u8], from: usize) -> usize
     requires { from ≤ length source.now }
+    ensures run { IsRun source.now from result }
     ensures behind { from ≤ result }
     ensures inside { result ≤ length source.now }
-    ensures run { (k : ℕ) → from ≤ k → k < result → is_word_byte (slice_index source.now k) ≡ true }
-    ensures ends { result < length source.now → is_word_byte (slice_index source.now result) ≡ false }
 {
     let mut to = from;
     while to < source.len() && is_word_byte(source[to]) {

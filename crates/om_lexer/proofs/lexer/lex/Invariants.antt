@@ -1,4 +1,4 @@
-use Rattle.std.proofs.Common.{◌+◌, ◌-◌, ◌<◌, ◌≤◌, length}
+use Rattle.std.proofs.Common.{◌-◌, ◌<◌, ◌≤◌, length}
 use Rattle.om_lexer.specs.Sources.{source_limit}
 use Rattle.om_lexer.proofs.Progress.{IsReadTo}
 use Rattle.om_lexer.proofs.lexer.lex.Given as goal
@@ -7,8 +7,7 @@ abbrev pub invariant-loop-at : goal.invariant-loop-at
 invariant-loop-at l = record {
   inside : l.at ≤ length l.source;
   below : source_limit < length l.source → l.at < source_limit;
-  line_fits : l.line ≤ l.at + 1;
-  read : IsReadTo l.source l.tokens.items l.at l.line l.starts_line;
+  read : IsReadTo l.source l.tokens.items l.at l.line l.state l.macros;
 }
 
 abbrev pub decreases-loop-at : goal.decreases-loop-at

@@ -1,0 +1,122 @@
+//! The beginnings of `#` lines (C17 6.10).
+
+ghost use Rattle.std.specs.Prelude.{◌≡◌, ◌≤◌, ◌<◌, ◌+◌, ◌⊎◌, ◌↔◌, ℕ, length, slice_index, codes, IfSome, IfNone, IfOk, IfErr, IsTrue};
+ghost use Rattle.om_lexer.specs.Faults.{no_memory};
+ghost use Rattle.om_lexer.specs.HashLines.{IsHashWord, EndsLine, HasText, IsHeader, IsHashLine, IsWrongHashLine};
+ghost use Rattle.om_lexer.specs.Macros.{MacroList};
+ghost use Rattle.om_lexer.specs.Sources.{source_limit};
+
+use crate::character::is_same;
+use crate::define::define_at;
+use crate::fault::{SourceFault, bad_hash_line};
+use crate::macros::Macros;
+use crate::piece::HashLine;
+use crate::white_space::{ends_line, gap_end};
+use crate::word::word_end;
+use std::alloc::Global;
+
+/// The `#` line that begins at a `#`, as far as it is one piece, and the byte behind that; S4 or S11 where the line is wrong.
+pub(crate) fn hash_line_at(
+    alloc: Global,
+    source: &[u8],
+    at: usize,
+    macros: &Macros,
+) -> Result<(HashLine, usize), SourceFault>
+    requires hash { slice_index source.now at ≡ 35 }
+    requires inside { at < length source.now }
+    requires below { at < source_limit }
+    ensures line { IfOk result (λ read. IsHashLine source.now macros.now at read.1 read.0) }
+    ensures fault { IfErr result (λ fault. (fault ≡ no_memory) ⊎ ((fault.at ≡ at) × IsWrongHashLine source.now macros.now at fault.code)) }
+{
+    let word = gap_end(source, at + 1);
+    let end = word_end(source, word);
+    let text = &source[word..end];
+    if is_same(text, b"include") {
+        return include_at(source, at, word, end, macros);
+    }
+    if is_same(text, b"define") {
+        return define_at(alloc, source, at, word, end, macros);
+    }
+    if is_same(text, b"pragma") {
+        return Ok(pragma_at(source, at, word, end));
+    }
+    Err(bad_hash_line(at))
+}
+
+/// An include, whose word ends at `end`; S4 where it names no header, or has more behind it.
+fn include_at(
+    source: &[u8],
+    at: usize,
+    word: usize,
+    end: usize,
+    macros: &Macros,
+) -> Result<(HashLine, usize), SourceFault>
+    requires below { at < source_limit }
+    requires inside { end ≤ length source.now }
+    requires begins { IsHashWord source.now at word end (codes "include") }
+    ensures line { IfOk result (λ read. IsHashLine source.now macros.now at read.1 read.0) }
+    ensures fault { IfErr result (λ fault. (fault ≡ no_memory) ⊎ ((fault.at ≡ at) × IsWrongHashLine source.now macros.now at fault.code)) }
+{
+    let header = gap_end(source, end);
+    match include_end(source, header) {
+        Some(to) => Ok((HashLine::Include, to)),
+        None => Err(bad_hash_line(at)),
+    }
+}
+
+/// The byte behind the header that stands there, where nothing but white space follows on its line.
+fn include_end(source: &[u8], from: usize) -> Option<usize>
+    requires { from ≤ length source.now }
+    ensures found { IfSome result (λ to. IsHeader source.now from to × EndsLine source.now to) }
+    ensures none { IfNone result ((to : ℕ) → IsHeader source.now from to → EndsLine source.now to → ⊥) }
+{
+    match header_end(source, from) {
+        Some(to) => {
+            if ends_line(source, to) {
+                Some(to)
+            } else {
+                None
+            }
+        }
+        None => None,
+    }
+}
+
+/// The byte behind the header that stands there.
+fn header_end(source: &[u8], from: usize) -> Option<usize>
+    requires { from ≤ length source.now }
+    ensures found { IfSome result (λ to. IsHeader source.now from to) }
+    ensures inside { IfSome result (λ to. to ≤ length source.now) }
+    ensures none { IfNone result ((to : ℕ) → IsHeader source.now from to → ⊥) }
+{
+    if has_text(source, from, b"<stdio.h>") {
+        return Some(from + 9);
+    }
+    if has_text(source, from, b"<omp.h>") {
+        return Some(from + 7);
+    }
+    None
+}
+
+/// Whether these bytes stand there.
+fn has_text(source: &[u8], from: usize, text: &[u8]) -> bool
+    requires { from ≤ length source.now }
+    ensures { IsTrue result ↔ HasText source.now from text.now (from + length text.now) }
+{
+    source[from..].starts_with(text)
+}
+
+/// A pragma, whose word stands from `word` up to `end`: `omp` behind it makes it a directive.
+fn pragma_at(source: &[u8], at: usize, word: usize, end: usize) -> (HashLine, usize)
+    requires inside { end ≤ length source.now }
+    requires begins { IsHashWord source.now at word end (codes "pragma") }
+    ensures { (macros : MacroList) → IsHashLine source.now macros at result.1 result.0 }
+{
+    let omp = gap_end(source, end);
+    let omp_end = word_end(source, omp);
+    if is_same(&source[omp..omp_end], b"omp") {
+        (HashLine::Directive(word, omp), omp_end)
+    } else {
+        (HashLine::Ignored, end)
+    }
+}
