@@ -27,9 +27,10 @@ use Rattle.om_lexer.proofs.HashLines.{line_hash}
 bad_word : (source : List ℕ) (at to : ℕ) → is_word_byte (slice_index source at) ≡ true → IsLongest source at to → IsWrongText (slice_range source at to) codes.BadToken → IsNoToken source at codes.BadToken
 bad_word source at to word longest wrong =
     let there : (other : ℕ) → IsLongest source at other → IsWrongText (slice_range source at other) codes.BadToken =
-    λ other also. subst (λ n. IsWrongText (slice_range source at n) codes.BadToken) (longest_one source at to other longest also) wrong in
-    ((λ other kind token. ⊎_elim (λ e. (there other e.longest).0 kind e.spelled) (λ t. (word_apart _ word).no_quote t.2.0) token),
-    (λ large. (there large.to large.longest).1 large.value large.spelled))
+    λ other also. subst (λ n. IsWrongText (slice_range source at n) codes.BadToken) (longest_one source at to other longest also) wrong in (
+      (λ other kind token. ⊎_elim (λ e. (there other e.longest).0 kind e.spelled) (λ t. (word_apart _ word).no_quote t.2.0) token),
+      (λ large. (there large.to large.longest).1 large.value large.spelled),
+    )
 
 wrong_code : (source : List ℕ) (at to : ℕ) → is_word_byte (slice_index source at) ≡ true → IsLongest source at to → (code : FaultCode) → IsWrongText (slice_range source at to) code → IsNoToken source at code
 wrong_code source at to word longest codes.BadToken wrong = bad_word source at to word longest wrong
@@ -61,18 +62,20 @@ pub stray_byte : (source : List ℕ) (at : ℕ) → is_word_byte (slice_index so
 stray_byte source at no_word no_quote no_punctuator =
     let none : (to : ℕ) → IsLongest source at to → ⊥ =
     λ to longest.
-        let first = first_of_slice source at to (could_be_some _ longest.could_be) in
-        let q = punctuator_from_first _ longest.could_be (ap is_word_byte first ∙ no_word) in
-        both_ways _ (no_punctuator q.0) (starts_to source (punctuator_text q.0) at to longest.inside q.1 (punctuator_long q.0)).0 in
-    ((λ to kind token. ⊎_elim (λ e. none to e.longest) (λ t. no_quote t.2.0) token),
-    (λ large. none large.to large.longest))
+    let first = first_of_slice source at to (could_be_some _ longest.could_be) in
+    let q = punctuator_from_first _ longest.could_be (ap is_word_byte first ∙ no_word) in
+    both_ways _ (no_punctuator q.0) (starts_to source (punctuator_text q.0) at to longest.inside q.1 (punctuator_long q.0)).0 in (
+      (λ to kind token. ⊎_elim (λ e. none to e.longest) (λ t. no_quote t.2.0) token),
+      (λ large. none large.to large.longest),
+    )
 
 -- a text that is wrong or never ends
 pub bad_text : (source : List ℕ) (at : ℕ) → slice_index source at ≡ 34 → ((all : List ℕ) (to : ℕ) → Characters source (at + 1) all to → ⊥) → IsNoToken source at codes.BadToken
 bad_text source at quote no_text =
-    let none : (to : ℕ) → IsLongest source at to → ⊥ = λ to longest. (token_apart source at to longest.could_be).no_quote quote in
-    ((λ to kind token. ⊎_elim (λ e. none to e.longest) (λ t. no_text t.0 to t.2.1) token),
-    (λ large. none large.to large.longest))
+    let none : (to : ℕ) → IsLongest source at to → ⊥ = λ to longest. (token_apart source at to longest.could_be).no_quote quote in (
+      (λ to kind token. ⊎_elim (λ e. none to e.longest) (λ t. no_text t.0 to t.2.1) token),
+      (λ large. none large.to large.longest),
+    )
 
 -- ---- nothing
 

@@ -84,7 +84,12 @@ fn definition_at(source: &[u8], from: usize) -> Option<Definition>
     let name_end = word_end(source, name);
     let number = gap_end(source, name_end);
     let number_end = word_end(source, number);
-    if is_definition(source, &source[name..name_end], &source[number..number_end], number_end) {
+    if is_definition(
+        source,
+        &source[name..name_end],
+        &source[number..number_end],
+        number_end,
+    ) {
         Some(Definition {
             name,
             name_end,

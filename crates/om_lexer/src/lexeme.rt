@@ -37,11 +37,7 @@ pub(crate) fn token_at(
 }
 
 /// A name, a constant or a keyword; S2 or S10 where the word is none.
-fn word_at(
-    alloc: Global,
-    source: &[u8],
-    at: usize,
-) -> Result<(TokenKind, usize), SourceFault>
+fn word_at(alloc: Global, source: &[u8], at: usize) -> Result<(TokenKind, usize), SourceFault>
     requires inside { at < length source.now }
     requires below { at < source_limit }
     requires word { is_word_byte (slice_index source.now at) ≡ true }

@@ -54,7 +54,15 @@ pub fn lex(alloc: Global, source: &[u8]) -> Result<Vec<Token>, SourceFault>
             line,
         };
         line = line_behind(source, span);
-        state = take_piece(alloc, source, &mut tokens, &mut macros, state, piece.kind, span)?;
+        state = take_piece(
+            alloc,
+            source,
+            &mut tokens,
+            &mut macros,
+            state,
+            piece.kind,
+            span,
+        )?;
         at = end;
     }
     end_directive(&mut tokens, &state)?;
@@ -109,7 +117,14 @@ fn take_piece(
             Ok(LineState::Fresh)
         }
         PieceKind::Space => Ok(state),
-        PieceKind::Token(kind) => take_token(alloc, tokens, macros, state, Token { kind, span }, behind),
+        PieceKind::Token(kind) => take_token(
+            alloc,
+            tokens,
+            macros,
+            state,
+            Token { kind, span },
+            behind,
+        ),
         PieceKind::HashLine(line) => take_hash_line(alloc, source, tokens, line, span, behind),
         PieceKind::Passed => Ok(state),
     }

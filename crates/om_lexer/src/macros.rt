@@ -67,7 +67,12 @@ impl Macros {
     }
 
     /// Defines a name, unless it is defined.
-    pub(crate) fn define(&mut self, alloc: Global, name: &[u8], number: u32) -> Result<(), AllocError>
+    pub(crate) fn define(
+        &mut self,
+        alloc: Global,
+        name: &[u8],
+        number: u32,
+    ) -> Result<(), AllocError>
         ensures { OnOk result (self.new ≡ with_macro self.old name.now number) }
     {
         put(&mut self.numbers, alloc, name, number)

@@ -20,8 +20,7 @@ returns-in-Other-clause-fault c =
 pub returns-in_ok-from_slice-in-Allowed-clause-line : goal.returns-in_ok-from_slice-in-Allowed-clause-line
 returns-in_ok-from_slice-in-Allowed-clause-line c =
     let source = c.args.source.now in
-    let name : c.of-name.result ≡ slice_range source c.in-Some.found.name c.in-Some.found.name_end = c.of-name.ensures ∙ c.in_ok-from_slice-in-Allowed.ensures.items in
-    (
+    let name : c.of-name.result ≡ slice_range source c.in-Some.found.name c.in-Some.found.name_end = c.of-name.ensures ∙ c.in_ok-from_slice-in-Allowed.ensures.items in (
       value_in 10 (slice_range source c.in-Some.found.number c.in-Some.found.number_end),
       record { word = c.args.word; word_end = c.args.end; begins = c.requires.begins; definition = rw name c.in-Some.ensures.found },
       rw name c.in-Allowed.ensures,

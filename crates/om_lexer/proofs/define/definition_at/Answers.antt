@@ -13,4 +13,4 @@ returns-then-is_definition-clause-digits c = (c.is_definition.ensures.0 c.if-is_
 pub returns-else-is_definition-clause-none : goal.returns-else-is_definition-clause-none
 returns-else-is_definition-clause-none c =
     no_definition c.args.source.now c.args.from _ _ _ _ c.gap_end-name.ensures.gap c.word_end-name_end.ensures.run c.gap_end-number.ensures.gap c.word_end-number_end.ensures.run
-        (λ parts. both_ways _ c.if-is_definition.false (c.is_definition.ensures.1 parts))
+    (λ parts. both_ways _ c.if-is_definition.false (c.is_definition.ensures.1 parts))

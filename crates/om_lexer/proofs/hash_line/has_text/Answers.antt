@@ -8,8 +8,7 @@ pub returns : goal.returns
 returns c =
     let source = c.args.source.now in
     let text = c.args.text.now in
-    let rest = take_rest source c.args.from in
-    (
+    let rest = take_rest source c.args.from in (
       (λ yes.
           let starts = ap (λ s. starts_with nat_eq s text) (sym rest) ∙ sym c.starts_with.ensures.value ∙ yes in
           (starts_from source text c.args.from starts, refl, starts_inside source text c.args.from c.requires starts)),
