@@ -1,0 +1,14 @@
+pub mod Outcomes
+pub mod Taken
+pub mod SameKinds
+pub mod Rows
+pub mod Closings
+pub mod Passing
+pub mod Arguments
+pub mod Items
+pub mod Names
+pub mod Directives
+pub mod Refused
+pub mod Mapping
+pub mod OneExpression
+pub mod Promises

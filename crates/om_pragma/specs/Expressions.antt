@@ -1,8 +1,7 @@
 -- The expressions of a directive.
-use Rattle.std.specs.Prelude.{◌≡◌, ◌≢◌, ℕ, zero, suc, List, [], ◌∷◌, map, Option, Some, None, IsSomeAnd, All}
+use Rattle.std.specs.Prelude.{◌≡◌, ◌≢◌, ℕ, ◌+◌, ◌-◌, ◌==◌, List, [], ◌∷◌, map, if◌then◌else◌, Option, Some, None, IsSomeAnd, All}
 use Rattle.std.specs.List.{flat_map}
 use denote.Ref.{Bor}
-use Rattle.om_lexer.specs.declared.token.Punctuator.{Punctuator}
 use Rattle.om_lexer.specs.declared.token.Punctuator.TheVariants as punctuators
 use Rattle.om_lexer.specs.declared.token.Token.{Token}
 use Rattle.om_lexer.specs.declared.token.TokenKind.{TokenKind}
@@ -10,8 +9,8 @@ use Rattle.om_lexer.specs.declared.token.TokenKind.TheVariants as kinds
 use Rattle.om_pragma.specs.declared.clause.Clause.{Clause}
 use Rattle.om_pragma.specs.declared.clause.Clause.TheVariants as clauses
 use Rattle.om_pragma.specs.declared.clause.ClauseItem.{ClauseItem}
-use Rattle.om_pragma.specs.declared.clause.Value as values
 use Rattle.om_pragma.specs.declared.tree.Directive.{Directive}
+use Rattle.om_pragma.specs.Words.{same_kind}
 
 -- the expression of a clause, if it has one
 abbrev pub clause_expressions : {E : Type 0} → Clause E → List E
@@ -50,12 +49,12 @@ tokens_in slice = slice.now
 abbrev pub with_tokens : Directive (Bor (List Token)) → Directive (List Token)
 with_tokens = map_directive tokens_in
 
--- how many parentheses are open behind a token; none of them may be closed that was not opened
+-- how many parentheses are open behind a token; one that was not opened may not be closed
 abbrev pub open_behind : TokenKind → ℕ → Option ℕ
-open_behind (kinds.Punctuator punctuators.OpenParen) n = Some (suc n)
-open_behind (kinds.Punctuator punctuators.CloseParen) zero = None
-open_behind (kinds.Punctuator punctuators.CloseParen) (suc n) = Some n
-open_behind _ n = Some n
+open_behind k n =
+    if same_kind k (kinds.Punctuator punctuators.OpenParen) then Some (n + 1)
+    else if same_kind k (kinds.Punctuator punctuators.CloseParen) then (if n == 0 then None else Some (n - 1))
+    else Some n
 
 -- each parenthesis among the tokens is closed among them, and so many that are open before them
 unfoldable pub Closes : ℕ → List Token → Type 0

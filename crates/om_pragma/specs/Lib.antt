@@ -3,3 +3,4 @@ pub mod Spelling
 pub mod Expressions
 pub mod Table
 pub mod Refusals
+pub mod Reading

@@ -1,5 +1,5 @@
 -- Why the tokens of a directive line are refused, and where.
-use Rattle.std.specs.Prelude.{◌≡◌, ◌≢◌, ℕ, true, false, ◌⊎◌, List, [], ◌∷◌, ◌++◌, Option, Some, None, Result, Ok, Err, All}
+use Rattle.std.specs.Prelude.{◌≡◌, ◌≢◌, ℕ, true, false, ◌⊎◌, List, [], ◌∷◌, ◌++◌, Option, Some, None, Result, Ok, Err}
 use Rattle.std.specs.List.{flat_map}
 use denote.Ref.{Bor}
 use Rattle.om_lexer.specs.declared.fault.FaultCode.{FaultCode}
@@ -19,14 +19,10 @@ use Rattle.om_pragma.specs.declared.tree.DirectiveName.{DirectiveName}
 use Rattle.om_pragma.specs.declared.tree.DirectiveName.TheVariants as directives
 use Rattle.om_pragma.specs.declared.word.DirectiveWord.{DirectiveWord}
 use Rattle.om_pragma.specs.declared.word.DirectiveWord.TheVariants as words
-use Rattle.om_pragma.specs.Expressions.{clause_expressions, IsClosed, with_tokens}
-use Rattle.om_pragma.specs.Spelling.{token, name_spelling, opening_spelling, item_spelling, comma_spelling, clause_spelling, kind_of}
-use Rattle.om_pragma.specs.Table.{may_stand, kinds_of, CanStand, IsBetween, IsDirectiveOf}
+use Rattle.om_pragma.specs.Expressions.{IsClosed, with_tokens}
+use Rattle.om_pragma.specs.Spelling.{token, name_spelling, opening_spelling, item_spelling, comma_spelling, clause_spelling}
+use Rattle.om_pragma.specs.Table.{may_stand, kinds_of, IsBetween, IsClause, IsItem, EachBehind, IsDirectiveOf}
 use Rattle.om_pragma.specs.Words.{is_word, directive_word, clause_word}
-
--- a clause whose expression, if it has one, is closed
-abbrev pub IsClosedClause : Clause (List Token) → Type 0
-IsClosedClause c = All IsClosed (clause_expressions c)
 
 -- the words of a directive go on with this token: to those of a combined one, to the name of `critical` or to the list of `flush`
 abbrev pub GoesOnWith : DirectiveName → TokenKind → Type 0
@@ -34,6 +30,10 @@ GoesOnWith (directives.Parallel s) k = (k ≡ directive_word words.For) ⊎ (k �
 GoesOnWith (directives.Critical s None) k = k ≡ kinds.Punctuator punctuators.OpenParen
 GoesOnWith (directives.Flush s None) k = k ≡ kinds.Punctuator punctuators.OpenParen
 GoesOnWith _ k = ⊥
+
+-- the tokens behind a directive's words do not go on with them
+abbrev pub IsWhole : DirectiveName → List Token → Type 0
+IsWhole name behind = (t : Token) (more : List Token) → behind ≡ t ∷ more → GoesOnWith name t.kind → ⊥
 
 -- Behind the words of a directive, some of its clauses and perhaps a comma, these tokens stand where a clause is expected.
 pub record StandsClause (tokens : List Token) (name : DirectiveName) (before : List (ClauseItem (List Token))) (rest : List Token) : Type 0 where
@@ -44,9 +44,8 @@ pub record StandsClause (tokens : List Token) (name : DirectiveName) (before : L
   pub behind_name : List Token
   pub parts : tokens ≡ opening_spelling hash pragma omp ++ (name_spelling name ++ behind_name)
   pub behind_parts : behind_name ≡ flat_map (item_spelling (λ e. e)) before ++ (comma_spelling comma ++ rest)
-  pub whole_name : (t : Token) (more : List Token) → behind_name ≡ t ∷ more → GoesOnWith name t.kind → ⊥
-  pub can_stand : CanStand name [] before
-  pub closed : All (λ i. IsClosedClause i.clause) before
+  pub whole_name : IsWhole name behind_name
+  pub formed : EachBehind (IsItem IsClosed name) [] before
   pub between : IsBetween before comma
 
 -- S5: where the directive must stand, a word stands that the table does not have as one.
@@ -82,7 +81,7 @@ pub record IsBadClause (tokens : List Token) (at : ℕ) : Type 0 where
   pub rest : List Token
   pub stands : StandsClause tokens name before (token (clause_word kind) word ∷ rest)
   pub bad : (may_stand name (kinds_of before) kind ≡ false)
-    ⊎ ((c : Clause (List Token)) (behind : List Token) → IsClosedClause c → token (clause_word kind) word ∷ rest ≢ clause_spelling (λ e. e) c ++ behind)
+      ⊎ ((c : Clause (List Token)) (behind : List Token) → IsClause IsClosed c → token (clause_word kind) word ∷ rest ≢ clause_spelling (λ e. e) c ++ behind)
   pub place : word.start ≡ at
 
 -- S5 or S6 stands at a place
@@ -98,11 +97,7 @@ pub record IsSyntax (tokens : List Token) : Type 0 where
 
 -- why tokens are refused
 abbrev pub IsRefusal : List Token → SourceFault → Type 0
-IsRefusal tokens fault = refusal fault.code
-  where
-    refusal : FaultCode → Type 0
-    refusal codes.Syntax = IsSyntax tokens
-    refusal code = IsWordFault tokens code fault.at
+IsRefusal tokens fault = ((fault.code ≡ codes.Syntax) × IsSyntax tokens) ⊎ IsWordFault tokens fault.code fault.at
 
 -- the directive, unless memory ran out
 abbrev pub IsFound : Directive (List Token) → Result (Directive (Bor (List Token))) SourceFault → Type 0

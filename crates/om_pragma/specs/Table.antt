@@ -1,17 +1,20 @@
 -- Which clauses a directive has: the table.
-use Rattle.std.specs.Prelude.{◌≡◌, Bool, true, false, not, ◌&&◌, List, [], ◌∷◌, ◌++◌, map, Option, Some, None, All}
+use Rattle.std.specs.Prelude.{◌≡◌, ◌≤◌, Bool, true, false, not, ◌&&◌, List, [], ◌∷◌, ◌++◌, map, Option, Some, None}
 use Rattle.std.specs.List.{list_any}
 use denote.Enum.Bare.{sameb}
 use Rattle.om_lexer.specs.declared.token.Span.{Span}
 use Rattle.om_lexer.specs.declared.token.Token.{Token}
 use Rattle.om_pragma.specs.contracts.clause.ClauseKind.{the_type as the_clauses}
+use Rattle.om_pragma.specs.declared.clause.Clause.{Clause}
+use Rattle.om_pragma.specs.declared.clause.Clause.TheVariants as clause
 use Rattle.om_pragma.specs.declared.clause.ClauseItem.{ClauseItem}
 use Rattle.om_pragma.specs.declared.clause.ClauseKind.{ClauseKind}
 use Rattle.om_pragma.specs.declared.clause.ClauseKind.TheVariants as clauses
+use Rattle.om_pragma.specs.declared.name.Number.{Number}
 use Rattle.om_pragma.specs.declared.tree.Directive.{Directive}
 use Rattle.om_pragma.specs.declared.tree.DirectiveName.{DirectiveName}
 use Rattle.om_pragma.specs.declared.tree.DirectiveName.TheVariants as directives
-use Rattle.om_pragma.specs.Expressions.{expressions, IsClosed}
+use Rattle.om_pragma.specs.Expressions.{IsClosed}
 use Rattle.om_pragma.specs.Spelling.{kind_of, directive_spelling}
 
 -- the clauses that a directive can have; a combined one has those of both, but no `nowait`
@@ -69,15 +72,34 @@ IsBetween _ _ = Unit {0}
 abbrev pub kinds_of : {E : Type 0} → List (ClauseItem E) → List ClauseKind
 kinds_of = map (λ i. kind_of i.clause)
 
--- each of these clauses can stand behind those before it
-unfoldable pub CanStand : {E : Type 0} → DirectiveName → (before clauses : List (ClauseItem E)) → Type 0
-CanStand name before [] = Unit {0}
-CanStand name before (i ∷ items) = IsBetween before i.comma × (may_stand name (kinds_of before) (kind_of i.clause) ≡ true) × CanStand name (before ++ i ∷ []) items
+-- a chunk is 1 or more
+abbrev pub IsChunk : Option (Span × Number) → Type 0
+IsChunk None = Unit {0}
+IsChunk (Some chunk) = 1 ≤ chunk.1.value
+
+-- a clause whose expression, if it has one, is such
+abbrev pub IsClause : {E : Type 0} → (E → Type 0) → Clause E → Type 0
+IsClause IsExpression (clause.Value k s v) = IsExpression v.expression
+IsClause IsExpression (clause.Default s a) = Unit {0}
+IsClause IsExpression (clause.Data k s l) = Unit {0}
+IsClause IsExpression (clause.Reduction s r) = Unit {0}
+IsClause IsExpression (clause.Schedule s a) = IsChunk a.chunk
+IsClause IsExpression (clause.Plain k s) = Unit {0}
+
+-- a clause as the directive can have it behind those before it
+pub record IsItem {E : Type 0} (IsExpression : E → Type 0) (name : DirectiveName) (before : List (ClauseItem E)) (i : ClauseItem E) : Type 0 where
+  pub between : IsBetween before i.comma
+  pub can_stand : may_stand name (kinds_of before) (kind_of i.clause) ≡ true
+  pub formed : IsClause IsExpression i.clause
+
+-- each of these is such, behind those before it
+unfoldable pub EachBehind : {A : Type 0} → (List A → A → Type 0) → (before xs : List A) → Type 0
+EachBehind P before [] = Unit {0}
+EachBehind P before (x ∷ xs) = P before x × EachBehind P (before ++ x ∷ []) xs
 
 -- a directive as the table has it, whose expressions are such
-pub record IsDirective {E : Type 0} (IsExpression : E → Type 0) (d : Directive E) : Type 0 where
-  pub clauses : CanStand d.name [] d.clauses
-  pub values : All IsExpression (expressions d)
+unfoldable pub IsDirective : {E : Type 0} → (E → Type 0) → Directive E → Type 0
+IsDirective IsExpression d = EachBehind (IsItem IsExpression d.name) [] d.clauses
 
 -- a directive of these tokens; its expressions are lists of tokens
 pub record IsDirectiveOf (tokens : List Token) (d : Directive (List Token)) : Type 0 where

@@ -1,6 +1,11 @@
 -- How the words of directive lines are spelled.
-use Rattle.std.specs.Prelude.{Bool, true, false, List, [], ◌∷◌, codes}
+use Rattle.std.specs.Prelude.{Bool, true, false, bytes_eq, codes}
+use denote.Enum.Bare.{sameb}
+use Rattle.om_lexer.specs.contracts.token.Keyword.{the_type as the_keywords}
+use Rattle.om_lexer.specs.contracts.token.Punctuator.{the_type as the_punctuators}
+use Rattle.om_lexer.specs.declared.token.Keyword.{Keyword}
 use Rattle.om_lexer.specs.declared.token.Keyword.TheVariants as keywords
+use Rattle.om_lexer.specs.declared.token.Punctuator.{Punctuator}
 use Rattle.om_lexer.specs.declared.token.Punctuator.TheVariants as punctuators
 use Rattle.om_lexer.specs.declared.token.TokenKind.{TokenKind}
 use Rattle.om_lexer.specs.declared.token.TokenKind.TheVariants as kinds
@@ -14,6 +19,22 @@ use Rattle.om_pragma.specs.declared.clause.Sharing.{Sharing}
 use Rattle.om_pragma.specs.declared.clause.Sharing.TheVariants as sharings
 use Rattle.om_pragma.specs.declared.word.DirectiveWord.{DirectiveWord}
 use Rattle.om_pragma.specs.declared.word.DirectiveWord.TheVariants as directives
+
+-- whether two punctuators are one
+unfoldable pub same_mark : Punctuator → Punctuator → Bool
+same_mark = sameb the_punctuators
+
+-- whether two keywords are one
+unfoldable pub same_keyword : Keyword → Keyword → Bool
+same_keyword = sameb the_keywords
+
+-- whether two tokens that are always spelled alike are the same
+abbrev pub same_kind : TokenKind → TokenKind → Bool
+same_kind (kinds.Name a) (kinds.Name b) = bytes_eq a b
+same_kind (kinds.Keyword a) (kinds.Keyword b) = same_keyword a b
+same_kind (kinds.Punctuator a) (kinds.Punctuator b) = same_mark a b
+same_kind kinds.DirectiveBegin kinds.DirectiveBegin = true
+same_kind _ _ = false
 
 -- a name or a keyword
 abbrev pub is_word : TokenKind → Bool

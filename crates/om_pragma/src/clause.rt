@@ -1,5 +1,8 @@
 //! Clauses of directives (OpenMP API 5.2, chapter 3).
 
+ghost use Rattle.std.specs.Prelude.{◌≡◌};
+ghost use Rattle.om_pragma.specs.Spelling.{value_kind, data_kind, plain_kind, kind_of};
+
 use crate::name::{Name, NameList, Number};
 use om_lexer::Span;
 use om_seq::Seq;
@@ -137,4 +140,61 @@ pub struct ClauseItem<E> {
     /// The comma between it and the clause before it, where one stands.
     pub comma: Option<Span>,
     pub clause: Clause<E>,
+}
+
+impl ValueClause {
+    /// The clause.
+    pub fn kind(self) -> ClauseKind
+        ensures { result ≡ value_kind self }
+    {
+        match self {
+            ValueClause::NumThreads => ClauseKind::NumThreads,
+            ValueClause::Filter => ClauseKind::Filter,
+        }
+    }
+}
+
+impl DataSharing {
+    /// The clause.
+    pub fn kind(self) -> ClauseKind
+        ensures { result ≡ data_kind self }
+    {
+        match self {
+            DataSharing::Shared => ClauseKind::Shared,
+            DataSharing::Private => ClauseKind::Private,
+            DataSharing::Firstprivate => ClauseKind::Firstprivate,
+        }
+    }
+}
+
+impl PlainClause {
+    /// The clause.
+    pub fn kind(self) -> ClauseKind
+        ensures { result ≡ plain_kind self }
+    {
+        match self {
+            PlainClause::Nowait => ClauseKind::Nowait,
+            PlainClause::Update => ClauseKind::Update,
+            PlainClause::Read => ClauseKind::Read,
+            PlainClause::Write => ClauseKind::Write,
+            PlainClause::SeqCst => ClauseKind::SeqCst,
+            PlainClause::Relaxed => ClauseKind::Relaxed,
+        }
+    }
+}
+
+impl<E> Clause<E> {
+    /// Which clause it is.
+    pub fn kind(&self) -> ClauseKind
+        ensures { result ≡ kind_of self.now }
+    {
+        match self {
+            Clause::Value(kind, _, _) => kind.kind(),
+            Clause::Default(_, _) => ClauseKind::Default,
+            Clause::Data(kind, _, _) => kind.kind(),
+            Clause::Reduction(_, _) => ClauseKind::Reduction,
+            Clause::Schedule(_, _) => ClauseKind::Schedule,
+            Clause::Plain(kind, _) => kind.kind(),
+        }
+    }
 }

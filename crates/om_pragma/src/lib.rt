@@ -1,10 +1,14 @@
 //! Directive lines: the tokens of one `#pragma omp` line to its directive (OpenMP API 5.2).
 #![tactic(auto)]
 
+mod argument;
 mod clause;
-
+mod laws;
 mod name;
 mod reading;
+mod stop;
+mod table;
+mod token;
 mod tree;
 mod word;
 
@@ -12,7 +16,7 @@ pub use clause::{
     Clause, ClauseItem, ClauseKind, DataSharing, DefaultArgument, PlainClause, Reduction,
     ReductionOperator, Schedule, ScheduleKind, Sharing, Value, ValueClause,
 };
-
+pub use laws::{one_directive, one_fault};
 pub use name::{Name, NameList, Number};
 pub use reading::directive;
 pub use tree::{Directive, DirectiveName};

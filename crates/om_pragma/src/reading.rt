@@ -1,16 +1,25 @@
 //! Reading the tokens of a directive line.
 
-ghost use Rattle.std.specs.Prelude.{◌≡◌, ◌≤◌, ◌⊎◌, ℕ, List, IfOk, IfErr, length};
-ghost use Rattle.om_lexer.specs.declared.fault.SourceFault.{SourceFault as Fault};
+ghost use Rattle.std.specs.Prelude.{◌≡◌, ◌≤◌, ◌⊎◌, ℕ, suc, List, [], IfOk, IfErr, Result, length, map};
+ghost use Rattle.om_lexer.specs.declared.fault.FaultCode.TheVariants.{BadClause, Syntax};
 ghost use Rattle.om_lexer.specs.declared.token.Token.{Token as Tokens};
 ghost use Rattle.om_lexer.specs.Faults.{no_memory};
 ghost use Rattle.om_pragma.specs.declared.tree.Directive.{Directive as DirectiveOf};
-ghost use Rattle.om_pragma.specs.Expressions.{expressions, with_tokens};
+ghost use Rattle.om_pragma.specs.Expressions.{expressions, map_clause, map_item, tokens_in, with_tokens};
+ghost use Rattle.om_pragma.specs.Reading.{take_kind, fault, stopped, in_clause, no_word, opening_at, critical_after, critical_at, flush_at, parallel_at, name_after, directive_name_at, comma_at, clause_at, item_at, until, syntax_at, take_end, clauses_at, directive_at, Gets, Reads};
 ghost use Rattle.om_pragma.specs.Refusals.{IsRefusal, IsFound};
-ghost use Rattle.om_pragma.specs.Table.{IsDirectiveOf};
+ghost use Rattle.om_pragma.specs.Table.{IsDirectiveOf, kinds_of};
 
-use crate::tree::Directive;
-use om_lexer::{FaultCode, SourceFault, Token};
+use crate::argument::{clause_after, list_after};
+use crate::clause::{Clause, ClauseItem};
+use crate::name::Name;
+use crate::stop::Stop;
+use crate::table::may_stand;
+use crate::token::{mark, name, place, take_begin, take_end, take_keyword, take_mark, take_named};
+use crate::tree::{Directive, DirectiveName};
+use crate::word::{DirectiveWord, clause_word, directive_word, no_word};
+use om_lexer::{FaultCode, Keyword, Punctuator, SourceFault, Span, Token};
+use om_seq::Seq;
 use std::alloc::Global;
 
 /// The directive that these tokens are: the run of one directive line, from its `#` to its end.
@@ -31,9 +40,256 @@ pub fn directive(alloc: Global, tokens: &[Token]) -> Result<Directive<&[Token]>,
 
     ensures every_directive_is_found { (d : DirectiveOf (List Tokens)) → IsDirectiveOf tokens.now d → IsFound d result }
     ensures refused { IfErr result (λ fault. (fault ≡ no_memory) ⊎ IsRefusal tokens.now fault) }
+    ensures reads { Reads with_tokens result (directive_at tokens.now) }
 {
-    Err(SourceFault {
+    read(alloc, tokens)
+}
+
+/// The directive that these tokens are.
+#[tactic(auto, unfolding(crate::specs::Reading::directive_at))]
+fn read(alloc: Global, tokens: &[Token]) -> Result<Directive<&[Token]>, SourceFault>
+    ensures { Reads with_tokens result (directive_at tokens.now) }
+{
+    let (hash, pragma, omp, rest) = opening(tokens)?;
+    let (name, rest) = directive_name(alloc, rest)?;
+    let (clauses, end) = clauses(alloc, &name, rest)?;
+    Ok(Directive {
+        hash,
+        pragma,
+        omp,
+        name,
+        clauses,
+        end,
+    })
+}
+
+/// The fault of a token that no directive has at this place.
+fn syntax(at: u32) -> SourceFault
+    ensures { result ≡ fault Syntax at }
+{
+    SourceFault {
+        code: FaultCode::Syntax,
+        at,
+    }
+}
+
+/// The fault of a clause whose word stands there.
+fn bad_clause(word: Span) -> SourceFault
+    ensures { result ≡ fault BadClause word.start }
+{
+    SourceFault {
+        code: FaultCode::BadClause,
+        at: word.start,
+    }
+}
+
+/// The spans of `#`, `pragma` and `omp`, and the tokens behind them.
+#[tactic(auto, unfolding(crate::specs::Reading::opening_at))]
+fn opening(tokens: &[Token]) -> Result<(Span, Span, Span, &[Token]), SourceFault>
+    ensures { Reads (λ x. ((x.0, x.1, x.2), x.3.now)) result (stopped (opening_at tokens.now)) }
+{
+    let Some((hash, rest)) = take_begin(tokens) else {
+        return Err(syntax(place(tokens)));
+    };
+    let Some((pragma, others)) = take_named(rest, b"pragma") else {
+        return Err(syntax(place(rest)));
+    };
+    let Some((omp, rest)) = take_named(others, b"omp") else {
+        return Err(syntax(place(others)));
+    };
+    Ok((hash, pragma, omp, rest))
+}
+
+/// The words of a directive, and the tokens behind them.
+#[tactic(auto, unfolding(crate::specs::Reading::directive_name_at, crate::specs::Reading::take_word))]
+fn directive_name(alloc: Global, tokens: &[Token]) -> Result<(DirectiveName, &[Token]), SourceFault>
+    ensures { Reads (λ x. (x.0, x.1.now)) result (directive_name_at tokens.now) }
+{
+    let [first, rest @ ..] = tokens else {
+        return Err(no_word(tokens));
+    };
+    match directive_word(&first.kind) {
+        Some(word) => name_after(alloc, word, first.span, rest),
+        None => Err(no_word(tokens)),
+    }
+}
+
+/// The words of a directive of which the first is taken, and the tokens behind them.
+#[tactic(auto, unfolding(crate::specs::Reading::name_after))]
+fn name_after(
+    alloc: Global,
+    word: DirectiveWord,
+    span: Span,
+    tokens: &[Token],
+) -> Result<(DirectiveName, &[Token]), SourceFault>
+    ensures { Reads (λ x. (x.0, x.1.now)) result (name_after word span tokens.now) }
+{
+    match word {
+        DirectiveWord::Parallel => Ok(parallel(span, tokens)),
+        DirectiveWord::For => Ok((DirectiveName::For(span), tokens)),
+        DirectiveWord::Sections => Ok((DirectiveName::Sections(span), tokens)),
+        DirectiveWord::Section => Ok((DirectiveName::Section(span), tokens)),
+        DirectiveWord::Single => Ok((DirectiveName::Single(span), tokens)),
+        DirectiveWord::Masked => Ok((DirectiveName::Masked(span), tokens)),
+        DirectiveWord::Master => Ok((DirectiveName::Master(span), tokens)),
+        DirectiveWord::Critical => critical(alloc, span, tokens),
+        DirectiveWord::Atomic => Ok((DirectiveName::Atomic(span), tokens)),
+        DirectiveWord::Task => Ok((DirectiveName::Task(span), tokens)),
+        DirectiveWord::Barrier => Ok((DirectiveName::Barrier(span), tokens)),
+        DirectiveWord::Taskwait => Ok((DirectiveName::Taskwait(span), tokens)),
+        DirectiveWord::Taskyield => Ok((DirectiveName::Taskyield(span), tokens)),
+        DirectiveWord::Flush => flush(alloc, span, tokens),
+    }
+}
+
+/// `parallel`, and the word that it is combined with, where one stands.
+#[tactic(auto, unfolding(crate::specs::Reading::parallel_at))]
+fn parallel(span: Span, tokens: &[Token]) -> (DirectiveName, &[Token])
+    ensures { (result.0, result.1.now) ≡ parallel_at span tokens.now }
+{
+    if let Some((word, rest)) = take_keyword(tokens, Keyword::For) {
+        return (DirectiveName::ParallelFor(span, word), rest);
+    }
+    if let Some((word, rest)) = take_named(tokens, b"sections") {
+        return (DirectiveName::ParallelSections(span, word), rest);
+    }
+    (DirectiveName::Parallel(span), tokens)
+}
+
+/// `critical` and its name, where a parenthesis stands.
+#[tactic(auto, unfolding(crate::specs::Reading::critical_at))]
+fn critical(
+    alloc: Global,
+    span: Span,
+    tokens: &[Token],
+) -> Result<(DirectiveName, &[Token]), SourceFault>
+    ensures { Reads (λ x. (x.0, x.1.now)) result (critical_at span tokens.now) }
+{
+    let Some((open_paren, rest)) = take_mark(tokens, Punctuator::OpenParen) else {
+        return Ok((DirectiveName::Critical(span, None), tokens));
+    };
+    match critical_after(alloc, open_paren, rest) {
+        Ok((name, rest)) => Ok((DirectiveName::Critical(span, Some(name)), rest)),
+        Err(Stop::Memory) => Err(no_memory()),
+        Err(Stop::Token(at)) => Err(syntax(at)),
+    }
+}
+
+/// The name of a critical region with its parentheses, of which the left one is taken, and the
+/// tokens behind them.
+#[tactic(auto, unfolding(crate::specs::Reading::critical_after))]
+fn critical_after(
+    alloc: Global,
+    open_paren: Span,
+    tokens: &[Token],
+) -> Result<((Span, Name, Span), &[Token]), Stop>
+    ensures { Gets (λ x. (x.0, x.1.now)) result (critical_after open_paren tokens.now) }
+{
+    let (name, rest) = name(alloc, tokens)?;
+    let (close_paren, rest) = mark(rest, Punctuator::CloseParen)?;
+    Ok(((open_paren, name, close_paren), rest))
+}
+
+/// `flush` and its list, where a parenthesis stands.
+#[tactic(auto, unfolding(crate::specs::Reading::flush_at))]
+fn flush(
+    alloc: Global,
+    span: Span,
+    tokens: &[Token],
+) -> Result<(DirectiveName, &[Token]), SourceFault>
+    ensures { Reads (λ x. (x.0, x.1.now)) result (flush_at span tokens.now) }
+{
+    let Some((open_paren, rest)) = take_mark(tokens, Punctuator::OpenParen) else {
+        return Ok((DirectiveName::Flush(span, None), tokens));
+    };
+    match list_after(alloc, open_paren, rest) {
+        Ok((list, rest)) => Ok((DirectiveName::Flush(span, Some(list)), rest)),
+        Err(Stop::Memory) => Err(no_memory()),
+        Err(Stop::Token(at)) => Err(syntax(at)),
+    }
+}
+
+/// The fault of want of memory.
+fn no_memory() -> SourceFault
+    ensures { result ≡ no_memory }
+{
+    SourceFault {
         code: FaultCode::Memory,
         at: 0,
-    })
+    }
+}
+
+/// Clauses up to the end of the run, and its place.
+fn clauses<'a>(
+    alloc: Global,
+    name: &DirectiveName,
+    tokens: &'a [Token],
+) -> Result<(Seq<ClauseItem<&'a [Token]>>, Span), SourceFault>
+    ensures { Reads (λ x. (map (map_item tokens_in) x.0, x.1, [])) result (clauses_at name.now tokens.now) }
+{
+    let mut items = Seq::new(alloc);
+    let mut rest = tokens;
+    'items: loop {
+        if let Some(end) = take_end(rest) {
+            return Ok((items, end));
+        }
+        let (next, behind) = item(alloc, name, items.as_slice(), rest)?;
+        items.push(next)?;
+        rest = behind;
+    }
+}
+
+/// A clause behind those before it, with the comma between them, and the tokens behind it.
+#[tactic(auto, unfolding(crate::specs::Reading::item_at))]
+fn item<'a>(
+    alloc: Global,
+    name: &DirectiveName,
+    before: &[ClauseItem<&'a [Token]>],
+    tokens: &'a [Token],
+) -> Result<(ClauseItem<&'a [Token]>, &'a [Token]), SourceFault>
+    ensures { Reads (λ x. (map_item tokens_in x.0, x.1.now)) result (item_at name.now (map (map_item tokens_in) before.now) tokens.now) }
+{
+    let (comma, rest) = comma(before, tokens);
+    let (clause, rest) = clause(alloc, name, before, rest)?;
+    Ok((ClauseItem { comma, clause }, rest))
+}
+
+/// A comma, where one stands behind a clause, and the tokens behind it.
+#[tactic(auto, unfolding(crate::specs::Reading::comma_at))]
+fn comma<'a>(before: &[ClauseItem<&[Token]>], tokens: &'a [Token]) -> (Option<Span>, &'a [Token])
+    ensures { (result.0, result.1.now) ≡ comma_at (map (map_item tokens_in) before.now) tokens.now }
+{
+    match before {
+        [] => (None, tokens),
+        [_, ..] => match take_mark(tokens, Punctuator::Comma) {
+            Some((comma, rest)) => (Some(comma), rest),
+            None => (None, tokens),
+        },
+    }
+}
+
+/// A clause behind those before it, and the tokens behind it.
+#[tactic(auto, unfolding(crate::specs::Reading::clause_at, crate::specs::Reading::take_word))]
+fn clause<'a>(
+    alloc: Global,
+    name: &DirectiveName,
+    before: &[ClauseItem<&'a [Token]>],
+    tokens: &'a [Token],
+) -> Result<(Clause<&'a [Token]>, &'a [Token]), SourceFault>
+    ensures { Reads (λ x. (map_clause tokens_in x.0, x.1.now)) result (clause_at name.now (kinds_of (map (map_item tokens_in) before.now)) tokens.now) }
+{
+    let [first, rest @ ..] = tokens else {
+        return Err(no_word(tokens));
+    };
+    let Some(kind) = clause_word(&first.kind) else {
+        return Err(no_word(tokens));
+    };
+    if !may_stand(name, before, kind) {
+        return Err(bad_clause(first.span));
+    }
+    match clause_after(alloc, kind, first.span, rest) {
+        Ok(read) => Ok(read),
+        Err(Stop::Memory) => Err(no_memory()),
+        Err(Stop::Token(_)) => Err(bad_clause(first.span)),
+    }
 }

@@ -1,0 +1,14 @@
+use Rattle.om_pragma.proofs.Promises.{is_found, has_one_expression, is_only, is_refused}
+use Rattle.om_pragma.proofs.reading.directive.Goals as goal
+
+pub returns-clause-found : goal.returns-clause-found
+returns-clause-found c = is_found c.args.tokens.now c.read.result c.read.ensures
+
+pub returns-clause-every_directive_is_found : goal.returns-clause-every_directive_is_found
+returns-clause-every_directive_is_found c = is_only c.args.tokens.now c.read.result c.read.ensures
+
+pub returns-clause-refused : goal.returns-clause-refused
+returns-clause-refused c = is_refused c.args.tokens.now c.read.result c.read.ensures
+
+pub returns-clause-one_expression_at_most : goal.returns-clause-one_expression_at_most
+returns-clause-one_expression_at_most c = has_one_expression c.args.tokens.now c.read.result c.read.ensures

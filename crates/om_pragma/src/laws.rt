@@ -1,0 +1,21 @@
+//! Laws of directives and of their refusals, over the definitions alone.
+
+ghost use Rattle.std.specs.Prelude.{◌≡◌, ℕ, List};
+ghost use Rattle.om_lexer.specs.declared.fault.FaultCode.{FaultCode};
+ghost use Rattle.om_lexer.specs.declared.token.Token.{Token};
+ghost use Rattle.om_pragma.specs.declared.tree.Directive.{Directive};
+ghost use Rattle.om_pragma.specs.Expressions.{IsClosed};
+ghost use Rattle.om_pragma.specs.Refusals.{IsWordFault};
+ghost use Rattle.om_pragma.specs.Spelling.{directive_spelling};
+ghost use Rattle.om_pragma.specs.Table.{IsDirective, IsDirectiveOf};
+
+/// Two directives that have the same tokens are one.
+pub fn one_directive()
+    ensures { (d other : Directive (List Token)) → IsDirective IsClosed d → IsDirective IsClosed other → directive_spelling (λ e. e) d ≡ directive_spelling (λ e. e) other → d ≡ other }
+{}
+
+/// S5 and S6 stand at one place at most, and at none in a directive.
+pub fn one_fault()
+    ensures only { (tokens : List Token) (code other : FaultCode) (at place : ℕ) → IsWordFault tokens code at → IsWordFault tokens other place → (code ≡ other) × (at ≡ place) }
+    ensures in_no_directive { (tokens : List Token) (code : FaultCode) (at : ℕ) (d : Directive (List Token)) → IsWordFault tokens code at → ¬ IsDirectiveOf tokens d }
+{}

@@ -1,0 +1,172 @@
+//! Which clauses a directive has.
+
+ghost use Rattle.std.specs.Prelude.{◌≡◌, map};
+ghost use Rattle.std.specs.List.{list_any};
+ghost use Rattle.om_pragma.specs.Expressions.{map_item, tokens_in};
+ghost use Rattle.om_pragma.specs.Spelling.{kind_of};
+ghost use Rattle.om_pragma.specs.Table.{clauses_of, may_repeat, group_of, same_clause, excludes, may_stand, kinds_of};
+
+use crate::clause::{ClauseItem, ClauseKind};
+use crate::tree::DirectiveName;
+use om_lexer::Token;
+
+const NO_CLAUSES: [ClauseKind; 0] = [];
+
+const PARALLEL: [ClauseKind; 6] = [
+    ClauseKind::NumThreads,
+    ClauseKind::Default,
+    ClauseKind::Shared,
+    ClauseKind::Private,
+    ClauseKind::Firstprivate,
+    ClauseKind::Reduction,
+];
+
+const FOR: [ClauseKind; 5] = [
+    ClauseKind::Schedule,
+    ClauseKind::Private,
+    ClauseKind::Firstprivate,
+    ClauseKind::Reduction,
+    ClauseKind::Nowait,
+];
+
+const SECTIONS: [ClauseKind; 4] = [
+    ClauseKind::Private,
+    ClauseKind::Firstprivate,
+    ClauseKind::Reduction,
+    ClauseKind::Nowait,
+];
+
+const SINGLE: [ClauseKind; 3] = [
+    ClauseKind::Private,
+    ClauseKind::Firstprivate,
+    ClauseKind::Nowait,
+];
+
+const PARALLEL_FOR: [ClauseKind; 7] = [
+    ClauseKind::NumThreads,
+    ClauseKind::Default,
+    ClauseKind::Shared,
+    ClauseKind::Private,
+    ClauseKind::Firstprivate,
+    ClauseKind::Reduction,
+    ClauseKind::Schedule,
+];
+
+const MASKED: [ClauseKind; 1] = [ClauseKind::Filter];
+
+const ATOMIC: [ClauseKind; 5] = [
+    ClauseKind::Update,
+    ClauseKind::Read,
+    ClauseKind::Write,
+    ClauseKind::SeqCst,
+    ClauseKind::Relaxed,
+];
+
+const TASK: [ClauseKind; 4] = [
+    ClauseKind::Default,
+    ClauseKind::Shared,
+    ClauseKind::Private,
+    ClauseKind::Firstprivate,
+];
+
+/// The clauses that a directive can have.
+fn clauses_of(name: &DirectiveName) -> &'static [ClauseKind]
+    ensures { result.now ≡ clauses_of name.now }
+{
+    match name {
+        DirectiveName::Parallel(_) => &PARALLEL,
+        DirectiveName::For(_) => &FOR,
+        DirectiveName::Sections(_) => &SECTIONS,
+        DirectiveName::Section(_) => &NO_CLAUSES,
+        DirectiveName::Single(_) => &SINGLE,
+        DirectiveName::ParallelFor(_, _) => &PARALLEL_FOR,
+        DirectiveName::ParallelSections(_, _) => &PARALLEL,
+        DirectiveName::Masked(_) => &MASKED,
+        DirectiveName::Master(_) => &NO_CLAUSES,
+        DirectiveName::Critical(_, _) => &NO_CLAUSES,
+        DirectiveName::Atomic(_) => &ATOMIC,
+        DirectiveName::Task(_) => &TASK,
+        DirectiveName::Barrier(_) => &NO_CLAUSES,
+        DirectiveName::Taskwait(_) => &NO_CLAUSES,
+        DirectiveName::Taskyield(_) => &NO_CLAUSES,
+        DirectiveName::Flush(_, _) => &NO_CLAUSES,
+    }
+}
+
+/// Whether a clause can stand more than once.
+fn may_repeat(kind: ClauseKind) -> bool
+    ensures { result ≡ may_repeat kind }
+{
+    match kind {
+        ClauseKind::Shared
+        | ClauseKind::Private
+        | ClauseKind::Firstprivate
+        | ClauseKind::Reduction => true,
+        ClauseKind::NumThreads
+        | ClauseKind::Filter
+        | ClauseKind::Default
+        | ClauseKind::Schedule
+        | ClauseKind::Nowait
+        | ClauseKind::Update
+        | ClauseKind::Read
+        | ClauseKind::Write
+        | ClauseKind::SeqCst
+        | ClauseKind::Relaxed => false,
+    }
+}
+
+/// The clause that stands for those of which only one can stand.
+fn group_of(kind: ClauseKind) -> ClauseKind
+    ensures { result ≡ group_of kind }
+{
+    match kind {
+        ClauseKind::Update | ClauseKind::Read | ClauseKind::Write => ClauseKind::Update,
+        ClauseKind::SeqCst | ClauseKind::Relaxed => ClauseKind::SeqCst,
+        ClauseKind::NumThreads => ClauseKind::NumThreads,
+        ClauseKind::Filter => ClauseKind::Filter,
+        ClauseKind::Default => ClauseKind::Default,
+        ClauseKind::Shared => ClauseKind::Shared,
+        ClauseKind::Private => ClauseKind::Private,
+        ClauseKind::Firstprivate => ClauseKind::Firstprivate,
+        ClauseKind::Reduction => ClauseKind::Reduction,
+        ClauseKind::Schedule => ClauseKind::Schedule,
+        ClauseKind::Nowait => ClauseKind::Nowait,
+    }
+}
+
+/// Whether two clauses are of one kind.
+#[tactic(auto, unfolding(crate::specs::Table::same_clause))]
+fn same_clause(one: ClauseKind, other: ClauseKind) -> bool
+    ensures { result ≡ same_clause one other }
+{
+    one == other
+}
+
+/// Whether a clause leaves no room for another behind it.
+fn excludes(earlier: ClauseKind, later: ClauseKind) -> bool
+    ensures { result ≡ excludes earlier later }
+{
+    !may_repeat(later) && same_clause(group_of(earlier), group_of(later))
+}
+
+/// Whether a directive has a clause.
+fn has_clause(name: &DirectiveName, kind: ClauseKind) -> bool
+    ensures { result ≡ list_any (λ k. same_clause k kind) (clauses_of name.now) }
+{
+    clauses_of(name).iter().any(|k| same_clause(*k, kind))
+}
+
+/// Whether one of these clauses leaves no room for another.
+fn is_excluded(before: &[ClauseItem<&[Token]>], kind: ClauseKind) -> bool
+    ensures { result ≡ list_any (λ i. excludes (kind_of i.clause) kind) before.now }
+{
+    before.iter().any(|item| excludes(item.clause.kind(), kind))
+}
+
+/// Whether a directive can have a clause behind those before it.
+#[tactic(auto, using(crate::proofs::SameKinds::excluded), unfolding(crate::specs::Table::may_stand))]
+pub fn may_stand(name: &DirectiveName, before: &[ClauseItem<&[Token]>], kind: ClauseKind) -> bool
+    ensures { result ≡ may_stand name.now (kinds_of (map (map_item tokens_in) before.now)) kind }
+{
+    has_clause(name, kind) && !is_excluded(before, kind)
+}

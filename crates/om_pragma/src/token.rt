@@ -1,0 +1,162 @@
+//! The token that stands first, taken from those that are left.
+
+ghost use Rattle.std.specs.Prelude.{◌≡◌, [], option_map};
+ghost use Rattle.om_lexer.specs.declared.token.TokenKind.TheVariants as kinds;
+ghost use Rattle.om_pragma.specs.Reading.{take_first, take_kind, take_name, take_chunk, take_end, mark_at, name_at, place, Gets, GetsAlways};
+
+use crate::name::{Name, Number};
+use crate::stop::Stop;
+use crate::word::{is_keyword, is_mark, is_named};
+use om_lexer::{Keyword, Punctuator, Span, Token, TokenKind};
+use om_seq::Seq;
+use std::alloc::Global;
+
+/// Where the first token starts. None are left only where the end of the run is lacking.
+pub fn place(tokens: &[Token]) -> u32
+    ensures { result ≡ place tokens.now }
+{
+    match tokens {
+        [] => u32::MAX,
+        [first, ..] => first.span.start,
+    }
+}
+
+/// The first token, and the tokens behind it.
+pub fn take_first(tokens: &[Token]) -> Option<(&Token, &[Token])>
+    ensures { option_map (λ x. (x.0.now, x.1.now)) result ≡ take_first tokens.now }
+{
+    match tokens {
+        [first, rest @ ..] => Some((first, rest)),
+        [] => None,
+    }
+}
+
+/// The first token's span, if it is this punctuator, and the tokens behind it.
+#[tactic(auto, unfolding(crate::specs::Reading::take_kind))]
+pub fn take_mark(tokens: &[Token], wanted: Punctuator) -> Option<(Span, &[Token])>
+    ensures { option_map (λ x. (x.0, x.1.now)) result ≡ take_kind (kinds.Punctuator wanted) tokens.now }
+{
+    match tokens {
+        [first, rest @ ..] => {
+            if is_mark(&first.kind, wanted) {
+                Some((first.span, rest))
+            } else {
+                None
+            }
+        }
+        [] => None,
+    }
+}
+
+/// The first token's span, if it is this name, and the tokens behind it.
+#[tactic(auto, unfolding(crate::specs::Reading::take_kind))]
+pub fn take_named<'a>(tokens: &'a [Token], wanted: &[u8]) -> Option<(Span, &'a [Token])>
+    ensures { option_map (λ x. (x.0, x.1.now)) result ≡ take_kind (kinds.Name wanted.now) tokens.now }
+{
+    match tokens {
+        [first, rest @ ..] => {
+            if is_named(&first.kind, wanted) {
+                Some((first.span, rest))
+            } else {
+                None
+            }
+        }
+        [] => None,
+    }
+}
+
+/// The first token's span, if it is this keyword, and the tokens behind it.
+#[tactic(auto, unfolding(crate::specs::Reading::take_kind))]
+pub fn take_keyword(tokens: &[Token], wanted: Keyword) -> Option<(Span, &[Token])>
+    ensures { option_map (λ x. (x.0, x.1.now)) result ≡ take_kind (kinds.Keyword wanted) tokens.now }
+{
+    match tokens {
+        [first, rest @ ..] => {
+            if is_keyword(&first.kind, wanted) {
+                Some((first.span, rest))
+            } else {
+                None
+            }
+        }
+        [] => None,
+    }
+}
+
+/// The span of the `#` with which a run begins, and the tokens behind it.
+#[tactic(auto, unfolding(crate::specs::Reading::take_kind))]
+pub fn take_begin(tokens: &[Token]) -> Option<(Span, &[Token])>
+    ensures { option_map (λ x. (x.0, x.1.now)) result ≡ take_kind kinds.DirectiveBegin tokens.now }
+{
+    match tokens {
+        [first, rest @ ..] => match first.kind {
+            TokenKind::DirectiveBegin => Some((first.span, rest)),
+            _ => None,
+        },
+        [] => None,
+    }
+}
+
+/// The place where the run ends, where nothing else is left.
+#[tactic(auto, unfolding(crate::specs::Reading::take_end))]
+pub fn take_end(tokens: &[Token]) -> Option<Span>
+    ensures { option_map (λ x. (x, [])) result ≡ take_end tokens.now }
+{
+    match tokens {
+        [end] => match end.kind {
+            TokenKind::DirectiveEnd => Some(end.span),
+            _ => None,
+        },
+        _ => None,
+    }
+}
+
+/// The first token, if it is a constant of 1 or more, and the tokens behind it.
+#[tactic(auto, unfolding(crate::specs::Reading::take_chunk))]
+pub fn take_chunk(tokens: &[Token]) -> Option<(Number, &[Token])>
+    ensures { option_map (λ x. (x.0, x.1.now)) result ≡ take_chunk tokens.now }
+{
+    match tokens {
+        [first, rest @ ..] => match first.kind {
+            TokenKind::Constant(value) if value >= 1 => Some((
+                Number {
+                    value,
+                    span: first.span,
+                },
+                rest,
+            )),
+            _ => None,
+        },
+        [] => None,
+    }
+}
+
+/// The span of this punctuator, which must stand first, and the tokens behind it.
+#[tactic(auto, unfolding(crate::specs::Reading::mark_at))]
+pub fn mark(tokens: &[Token], wanted: Punctuator) -> Result<(Span, &[Token]), Stop>
+    ensures { GetsAlways (λ x. (x.0, x.1.now)) result (mark_at wanted tokens.now) }
+{
+    take_mark(tokens, wanted).ok_or(Stop::Token(place(tokens)))
+}
+
+/// The name that must stand first, and the tokens behind it.
+#[tactic(auto, unfolding(crate::specs::Reading::name_at, crate::specs::Reading::take_name))]
+pub fn name(alloc: Global, tokens: &[Token]) -> Result<(Name, &[Token]), Stop>
+    ensures { Gets (λ x. (x.0, x.1.now)) result (name_at tokens.now) }
+{
+    match tokens {
+        [first, rest @ ..] => match &first.kind {
+            TokenKind::Name(text) => {
+                let text = Seq::of(text.as_slice().to_vec(alloc)?);
+                Ok((
+                    Name {
+                        text,
+                        span: first.span,
+                    },
+                    rest,
+                ))
+            }
+            _ => Err(Stop::Token(first.span.start)),
+        },
+        [] => Err(Stop::Token(u32::MAX)),
+    }
+}
