@@ -23,20 +23,33 @@ const STORE_X: Instr = Instr::Store {
 /// The lines of the instructions, one after the other.
 const LINES: [u32; 8] = [1, 2, 3, 4, 5, 6, 7, 8];
 
-/// A program of one body, of at most 8 instructions, and one global `x`.
-fn program_of(alloc: Global, initial: i32, code: &[Instr]) -> Result<Program, Fail> {
-    let lines = &LINES[..code.len().min(8)];
+const NAME: &[u8] = b"x";
+
+/// The global `x`.
+fn globals_of(alloc: Global, initial: i32) -> Result<Seq<GlobalVariable>, AllocError> {
+    let name = Seq::of(NAME.to_vec(alloc)?);
     let mut globals = Seq::new(alloc);
-    globals.push(GlobalVariable {
-        name: Seq::of(b"x".to_vec(alloc)?),
-        initial,
-    })?;
+    globals.push(GlobalVariable { name, initial })?;
+    Ok(globals)
+}
+
+/// One body, of at most 8 instructions.
+fn bodies_of(alloc: Global, code: &[Instr]) -> Result<Seq<Body>, AllocError> {
+    let instructions = Seq::of(code.to_vec(alloc)?);
+    let lines = Seq::of(LINES[..code.len().min(8)].to_vec(alloc)?);
     let mut bodies = Seq::new(alloc);
     bodies.push(Body {
-        instructions: Seq::of(code.to_vec(alloc)?),
-        lines: Seq::of(lines.to_vec(alloc)?),
+        instructions,
+        lines,
         slots: 0,
     })?;
+    Ok(bodies)
+}
+
+/// A program of one body, of at most 8 instructions, and one global `x`.
+fn program_of(alloc: Global, initial: i32, code: &[Instr]) -> Result<Program, Fail> {
+    let globals = globals_of(alloc, initial)?;
+    let bodies = bodies_of(alloc, code)?;
     let raw = Raw {
         globals,
         bodies,
@@ -112,37 +125,64 @@ fn undone(serial: u64, line: u32) -> UndoReply {
     UndoReply::Undone { serial, line }
 }
 
+const SET_X: [Instr; 3] = [
+    Instr::Constant(1),
+    STORE_X,
+    Instr::Finish { has_value: false },
+];
+
 #[test]
-fn a_step_and_its_undo(rt: HostRuntime) -> Result<(), Fail> {
+fn a_step_is_what_peek_foretold(rt: HostRuntime) -> Result<(), Fail> {
     let alloc = rt.alloc();
-    let code = [
-        Instr::Constant(1),
-        STORE_X,
-        Instr::Finish { has_value: false },
-    ];
-    let mut machine = machine_of(alloc, 8, &code)?;
-    let _first = step(&mut machine, alloc, 0)?;
-    assert!(rt; x_of(alloc, &machine)? == Some(8));
+    let mut machine = machine_of(alloc, 8, &SET_X)?;
     let peeked = machine.peek(alloc, 0, Choice::Next)?;
     assert!(rt; step(&mut machine, alloc, 0)? == peeked);
+    assert!(rt; peeked == done(1, 1));
+    Ok(())
+}
+
+/// A machine that has made `x`, which was 8, 1 by two steps of worker 0.
+fn after_two_steps(alloc: Global) -> Result<Machine, Fail>
+    ensures workers { IfOk result (λ m. m.workers ≡ 2) }
+    ensures made { IfOk result (λ m. m.history.made ≤ 2) }
+{
+    let mut machine = machine_of(alloc, 8, &SET_X)?;
+    let _first = step(&mut machine, alloc, 0)?;
+    let _second = step(&mut machine, alloc, 0)?;
+    Ok(machine)
+}
+
+#[test]
+fn an_undo_takes_a_step_back(rt: HostRuntime) -> Result<(), Fail> {
+    let alloc = rt.alloc();
+    let mut machine = after_two_steps(alloc)?;
     assert!(rt; x_of(alloc, &machine)? == Some(1));
     assert!(rt; undo(&mut machine, 0) == undone(2, 2));
     assert!(rt; x_of(alloc, &machine)? == Some(8));
+    Ok(())
+}
+
+#[test]
+fn a_serial_is_never_given_again(rt: HostRuntime) -> Result<(), Fail> {
+    let alloc = rt.alloc();
+    let mut machine = after_two_steps(alloc)?;
+    let _undone = undo(&mut machine, 0);
     assert!(rt; step(&mut machine, alloc, 0)? == done(3, 2));
     assert!(rt; serials(alloc, &machine)?.as_slice() == [1, 3].as_slice());
     Ok(())
 }
 
+const DOUBLE_X: [Instr; 4] = [
+    Instr::Load(X),
+    Instr::Load(X),
+    Instr::Binary(BinaryOperator::Add),
+    Instr::Finish { has_value: true },
+];
+
 #[test]
 fn a_fault_is_a_step(rt: HostRuntime) -> Result<(), Fail> {
     let alloc = rt.alloc();
-    let code = [
-        Instr::Load(X),
-        Instr::Load(X),
-        Instr::Binary(BinaryOperator::Add),
-        Instr::Finish { has_value: true },
-    ];
-    let mut machine = machine_of(alloc, 2147483647, &code)?;
+    let mut machine = machine_of(alloc, 2147483647, &DOUBLE_X)?;
     let _first = step(&mut machine, alloc, 0)?;
     let _second = step(&mut machine, alloc, 0)?;
     assert!(rt; step(&mut machine, alloc, 0)? == faulted(3, 3));
