@@ -16,8 +16,6 @@ mod serve;
 mod session;
 mod shell;
 mod source;
-#[cfg(test)]
-mod tests;
 
 pub use ended::Ended;
 pub use fault::ShellFault;

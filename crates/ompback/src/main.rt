@@ -6,6 +6,8 @@ ghost use Rattle.std.specs.Prelude.{◌<◌, ◌≤◌};
 mod file;
 mod outcome;
 #[cfg(test)]
+mod scripts;
+#[cfg(test)]
 mod tests;
 mod words;
 

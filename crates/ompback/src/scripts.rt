@@ -1,8 +1,8 @@
-//! Scripts over readers and writers in memory.
+//! Tests of whole scripts, over readers and writers in memory.
 
 ghost use Rattle.std.specs.Prelude.{◌<◌, ◌≤◌};
 
-use crate::{Options, ShellFault, run};
+use om_shell::{Options, ShellFault, run};
 use std::alloc::Global;
 use std::io;
 use std::io::{ErrorKind, Read, Write};
