@@ -7,26 +7,26 @@ use Rattle.om_scope.specs.Resolution.{resolved_along, ◌>>=◌}
 use Rattle.om_scope.specs.Scopes.{Scopes}
 use Rattle.om_scope.proofs.Firsts.{first_of_left}
 
-module _ {X : Type 0} (breaches : Scopes → X → List SourceFault) (after : Scopes → X → Scopes) where
-  -- these parts are left, in these scopes; those before them have no breach
-  pub record Unbroken (start : Scopes) (all : List X) (scopes : Scopes) (left : List X) : Type 0 where
-    pub unbroken : breaches_along breaches after start all ≡ breaches_along breaches after scopes left
-    pub behind : fold after start all ≡ fold after scopes left
+module _ {S X : Type 0} (breaches : S → X → List SourceFault) (after : S → X → S) where
+  -- these parts are left, in this state; those before them have no breach
+  pub record Unbroken (start : S) (all : List X) (state : S) (left : List X) : Type 0 where
+    pub unbroken : breaches_along breaches after start all ≡ breaches_along breaches after state left
+    pub behind : fold after start all ≡ fold after state left
 
-  pub unbroken-begin : (start : Scopes) (all : List X) → Unbroken start all start all
+  pub unbroken-begin : (start : S) (all : List X) → Unbroken start all start all
   unbroken-begin start all = record { unbroken = refl; behind = refl }
 
-  pub unbroken-step : {start : Scopes} {all : List X} {scopes : Scopes} {x : X} {left : List X}
-      → Unbroken start all scopes (x ∷ left) → breaches scopes x ≡ [] → Unbroken start all (after scopes x) left
-  unbroken-step {start} {all} {scopes} {x} {left} l whole = record {
-    unbroken = l.unbroken ∙ ap (λ here. here ++ breaches_along breaches after (after scopes x) left) whole;
+  pub unbroken-step : {start : S} {all : List X} {state : S} {x : X} {left : List X}
+      → Unbroken start all state (x ∷ left) → breaches state x ≡ [] → Unbroken start all (after state x) left
+  unbroken-step {start} {all} {state} {x} {left} l whole = record {
+    unbroken = l.unbroken ∙ ap (λ here. here ++ breaches_along breaches after (after state x) left) whole;
     behind = l.behind;
   }
 
-  pub unbroken-refuse : {start : Scopes} {all : List X} {scopes : Scopes} {x : X} {left : List X} {fault : SourceFault}
-      → Unbroken start all scopes (x ∷ left) → Refuses (breaches scopes x) fault → Refuses (breaches_along breaches after start all) fault
-  unbroken-refuse {start} {all} {scopes} {x} {left} {fault} l refused other =
-      ap first_of l.unbroken ∙ first_of_left (breaches scopes x) (breaches_along breaches after (after scopes x) left) fault (refused other)
+  pub unbroken-refuse : {start : S} {all : List X} {state : S} {x : X} {left : List X} {fault : SourceFault}
+      → Unbroken start all state (x ∷ left) → Refuses (breaches state x) fault → Refuses (breaches_along breaches after start all) fault
+  unbroken-refuse {start} {all} {state} {x} {left} {fault} l refused other =
+      ap first_of l.unbroken ∙ first_of_left (breaches state x) (breaches_along breaches after (after state x) left) fault (refused other)
 
 module _ {X Y : Type 0} (resolved : Scopes → X → Option (List Y)) (after : Scopes → X → Scopes) where
   -- these parts are left, in these scopes; this is made of those before them

@@ -117,7 +117,7 @@ numbered-declarators scopes names (d ∷ ds) n =
 
 numbered-item : (scopes : Scopes) (names : List (List ℕ)) (item : ItemTree) → Numbered scopes names → Numbered (after_item scopes item) (names ++ map name_of (globals_of item))
 numbered-item scopes names (Declaration d) n = numbered-declarators scopes names (declarators_of d) n
-numbered-item scopes names (Prototype h semicolon) n = rw append-nil n
+numbered-item scopes names (Prototype head semicolon) n = rw append-nil n
 numbered-item scopes names (Function f) n = rw append-nil (numbered-function scopes names f.head.name.text n)
 
 numbered-items : (scopes : Scopes) (names : List (List ℕ)) (items : List ItemTree) → Numbered scopes names → Numbered (fold after_item scopes items) (names ++ map name_of (flat_map globals_of items))

@@ -10,18 +10,19 @@ use Rattle.std.proofs.lemmas.List.Sums.{sum_by-cons}
 use Rattle.std.proofs.lemmas.List.Elements.{All-nil, All-cons, All-append, All-head, All-tail, All-weaker}
 use Rattle.om_lexer.specs.declared.fault.FaultCode.TheVariants as faults
 use Rattle.om_lexer.specs.declared.fault.SourceFault.{SourceFault}
-use Rattle.om_parser.specs.Formed.{IsFunction, IsItem, IsUnit}
-use Rattle.om_parser.specs.Tree.{ExpressionTree, Name, Constant, Paren, Binary, Assign, StatementTree, Expression, Return, FunctionTree, DeclaratorTree, DeclarationTree, ItemTree, Declaration, Prototype, Function, UnitTree}
+use Rattle.om_parser.specs.declared.tree.AssignOperator.TheVariants as assigns
+use Rattle.om_parser.specs.Tree.{ExpressionTree, Name, Constant, Text, Paren, Index, Call, Prefix, Postfix, Binary, Conditional, Assign, DeclaratorTree, StatementTree, LocalDeclaration, Block, Empty, Expression, If, IfElse, While, Do, For, Return, Break, Continue, FunctionTree, ItemTree, Declaration, Prototype, Function, UnitTree}
 use Rattle.om_scope.specs.declared.resolved.GlobalVariable.{GlobalVariable}
 use Rattle.om_scope.specs.declared.resolved.Variable.{Variable}
 use Rattle.om_scope.specs.declared.resolved.Variable.TheVariants as variables
 use Rattle.om_scope.specs.declared.symbols.Meaning.{Meaning}
 use Rattle.om_scope.specs.declared.symbols.Meaning.TheVariants as meanings
 use Rattle.om_scope.specs.Breaches.{breach_if, breaches_along, breaches_of, is_main, main_breaches, item_breaches, function_breaches, statement_breaches, declarator_breaches, redeclared_breaches, global_breaches, initializer_breaches}
-use Rattle.om_scope.specs.Resolution.{resolution_of, items_resolution, resolved_along, resolved_expression, resolved_assignment, resolved_statement, resolved_function, item_functions, variable_of, variable_named, global_of, globals_of, ◌>>=◌}
+use Rattle.om_scope.specs.Resolution.{resolution_of, items_resolution, resolved_along, resolved_expression, resolved_assignment, resolved_run, resolved_statement, resolved_function, item_functions, variable_of, variable_named, global_of, globals_of, ◌>>=◌}
 use Rattle.om_scope.specs.ResolvedTree as resolved
 use Rattle.om_scope.specs.ResolvedTree.{ResolvedExpressionTree, ResolvedStatementTree, ResolvedFunctionTree, ResolvedTree}
 use Rattle.om_scope.specs.Scopes.{Binding, Scope, Scopes, meaning_of, is_declared, with_binding, is_global, globals_in, with_global, with_function, file_scope, declarators_of, after_declarator, after_item, after_statement, body_scopes}
+use Rattle.om_scope.proofs.TakenForms.{declarator_parts, function_parts, taken_is_main}
 use Rattle.om_scope.specs.Uses.{IsVariable, UsesVariables, StatementUsesVariables, FunctionUsesVariables, is_main_function, IsResolved}
 
 -- a binding, a scope, scopes with no global from a number on
@@ -106,7 +107,13 @@ expression_uses n scopes (Binary a o at b) x h e =
     let vb = bound (resolved_expression scopes b) _ x va.2 in
     let s : resolved.Binary va.0 o vb.0 ≡ x = let f : Some (resolved.Binary va.0 o vb.0) ≡ Some x = vb.2 in cc in
     subst (λ y. UsesVariables n y) s (expression_uses n scopes a va.0 h va.1, expression_uses n scopes b vb.0 h vb.1)
-expression_uses n scopes _ x h e = cc
+expression_uses n scopes (Text t) x h e = cc
+expression_uses n scopes (Index name left i right) x h e = cc
+expression_uses n scopes (Call name left values right) x h e = cc
+expression_uses n scopes (Prefix o at a) x h e = cc
+expression_uses n scopes (Postfix a o at) x h e = cc
+expression_uses n scopes (Conditional c question a colon b) x h e = cc
+expression_uses n scopes (Assign a o at b) x h e = cc
 
 one_uses : (n : ℕ) (s : ResolvedStatementTree) → StatementUsesVariables n s → All (λ t. StatementUsesVariables n t) (s ∷ [])
 one_uses n s h = All-cons (λ t. StatementUsesVariables n t) s [] h (All-nil (λ t. StatementUsesVariables n t))
@@ -118,17 +125,49 @@ assignment_uses n scopes (Name name) b xs h e =
     let x = bound (resolved_expression scopes b) _ xs v.2 in
     let s : resolved.Assign name.span.line v.0 x.0 ∷ [] ≡ xs = let f : Some (resolved.Assign name.span.line v.0 x.0 ∷ []) ≡ Some xs = x.2 in cc in
     subst (λ ys. All (λ t. StatementUsesVariables n t) ys) s (one_uses n (resolved.Assign name.span.line v.0 x.0) (named_below n scopes name.text v.0 h v.1, expression_uses n scopes b x.0 h x.1))
-assignment_uses n scopes _ b xs h e = cc
+assignment_uses n scopes (Constant number) b xs h e = cc
+assignment_uses n scopes (Text t) b xs h e = cc
+assignment_uses n scopes (Paren left c right) b xs h e = cc
+assignment_uses n scopes (Index name left i right) b xs h e = cc
+assignment_uses n scopes (Call name left values right) b xs h e = cc
+assignment_uses n scopes (Prefix o at c) b xs h e = cc
+assignment_uses n scopes (Postfix c o at) b xs h e = cc
+assignment_uses n scopes (Binary c o at d) b xs h e = cc
+assignment_uses n scopes (Conditional c question a colon d) b xs h e = cc
+assignment_uses n scopes (Assign c o at d) b xs h e = cc
+
+run_uses : (n : ℕ) (scopes : Scopes) (e : ExpressionTree) (xs : List ResolvedStatementTree) → Below n scopes → resolved_run scopes e ≡ Some xs → All (λ t. StatementUsesVariables n t) xs
+unfolding resolved_run
+run_uses n scopes (Assign a assigns.Set at b) xs h e = assignment_uses n scopes a b xs h e
+run_uses n scopes (Name name) xs h e = cc
+run_uses n scopes (Constant number) xs h e = cc
+run_uses n scopes (Text t) xs h e = cc
+run_uses n scopes (Paren left c right) xs h e = cc
+run_uses n scopes (Index name left i right) xs h e = cc
+run_uses n scopes (Call name left values right) xs h e = cc
+run_uses n scopes (Prefix o at c) xs h e = cc
+run_uses n scopes (Postfix c o at) xs h e = cc
+run_uses n scopes (Binary c o at d) xs h e = cc
+run_uses n scopes (Conditional c question a colon d) xs h e = cc
 
 statement_uses : (n : ℕ) (scopes : Scopes) (s : StatementTree) (xs : List ResolvedStatementTree) → Below n scopes → resolved_statement scopes s ≡ Some xs → All (λ t. StatementUsesVariables n t) xs
 unfolding resolved_statement
-statement_uses n scopes (Expression (Assign a o at b) semicolon) xs h e = assignment_uses n scopes a b xs h e
-statement_uses n scopes (Expression _ semicolon) xs h e = cc
+statement_uses n scopes (Expression e semicolon) xs h f = run_uses n scopes e xs h f
 statement_uses n scopes (Return at (Some value) semicolon) xs h e =
     let x = bound (resolved_expression scopes value) _ xs e in
     let s : resolved.Return at.line x.0 ∷ [] ≡ xs = let f : Some (resolved.Return at.line x.0 ∷ []) ≡ Some xs = x.2 in cc in
     subst (λ ys. All (λ t. StatementUsesVariables n t) ys) s (one_uses n (resolved.Return at.line x.0) (expression_uses n scopes value x.0 h x.1))
-statement_uses n scopes _ xs h e = cc
+statement_uses n scopes (Return at None semicolon) xs h e = cc
+statement_uses n scopes (LocalDeclaration d) xs h e = cc
+statement_uses n scopes (Block left items right) xs h e = cc
+statement_uses n scopes (Empty semicolon) xs h e = cc
+statement_uses n scopes (If at c s) xs h e = cc
+statement_uses n scopes (IfElse at c s other t) xs h e = cc
+statement_uses n scopes (While at c s) xs h e = cc
+statement_uses n scopes (Do at s again c semicolon) xs h e = cc
+statement_uses n scopes (For head s) xs h e = cc
+statement_uses n scopes (Break at semicolon) xs h e = cc
+statement_uses n scopes (Continue at semicolon) xs h e = cc
 
 statements_use : (n : ℕ) (scopes : Scopes) (ss : List StatementTree) (xs : List ResolvedStatementTree) → Below n scopes → resolved_along resolved_statement after_statement scopes ss ≡ Some xs → All (λ t. StatementUsesVariables n t) xs
 statements_use n scopes [] xs h e = let s : [] ≡ xs = cc in subst (λ ys. All (λ t. StatementUsesVariables n t) ys) s (All-nil (λ t. StatementUsesVariables n t))
@@ -165,9 +204,8 @@ empty [] ys e = (refl, e)
 empty (x ∷ xs) ys e = cc
 
 counts_global : (scopes : Scopes) (d : DeclaratorTree) → Counts scopes → declarator_breaches scopes d ≡ [] → Counts (after_declarator scopes d) × (globals_in (after_declarator scopes d) ≡ globals_in scopes + 1)
-unfolding declarator_breaches
 counts_global scopes d counts none =
-    let parts = empty (redeclared_breaches scopes d.name ++ global_breaches scopes d.name) (initializer_breaches d.initializer) none in
+    let parts = empty (redeclared_breaches scopes d.name ++ global_breaches scopes d.name) (initializer_breaches d.initializer) (declarator_parts scopes d none) in
     let global = (empty (redeclared_breaches scopes d.name) (global_breaches scopes d.name) parts.0).1 in
     let number = (empty (breach_if (bytes_eq d.name.text (codes "main")) faults.Misuse d.name.span.start) _ global).1 in
     let room = few (globals_in scopes + 1) number in
@@ -207,7 +245,7 @@ unfolding item_breaches
 counts_item scopes (Declaration d) counts none =
     let all = counts_globals (declarators_of d) scopes counts none in
     (all.0, omega (arith, all.1, length-globals (declarators_of d)))
-counts_item scopes (Prototype h semicolon) counts none = (counts, omega arith)
+counts_item scopes (Prototype head semicolon) counts none = cc
 counts_item scopes (Function f) counts none =
     let same = globals-with scopes (f.head.name.text, meanings.Function) in
     (record { below = subst (λ n. Below n (with_function scopes f.head.name.text)) (sym (same ∙ plus_none (globals_in scopes))) (with_below (globals_in scopes) scopes (f.head.name.text, meanings.Function) counts.below tt); few = omega (arith, same, counts.few) }, omega (arith, same))
@@ -219,7 +257,7 @@ counts_item scopes (Function f) counts none =
 item_uses : (n : ℕ) (scopes : Scopes) (item : ItemTree) (xs : List ResolvedFunctionTree) → Below n scopes → item_functions scopes item ≡ Some xs → All (λ f. FunctionUsesVariables n f) xs
 unfolding item_functions
 item_uses n scopes (Declaration d) xs h e = let s : [] ≡ xs = cc in subst (λ ys. All (λ f. FunctionUsesVariables n f) ys) s (All-nil (λ f. FunctionUsesVariables n f))
-item_uses n scopes (Prototype g semicolon) xs h e = let s : [] ≡ xs = cc in subst (λ ys. All (λ f. FunctionUsesVariables n f) ys) s (All-nil (λ f. FunctionUsesVariables n f))
+item_uses n scopes (Prototype head semicolon) xs h e = let s : [] ≡ xs = cc in subst (λ ys. All (λ f. FunctionUsesVariables n f) ys) s (All-nil (λ f. FunctionUsesVariables n f))
 item_uses n scopes (Function f) xs h e =
     let x = bound (resolved_function scopes f) _ xs e in
     let s : x.0 ∷ [] ≡ xs = let g : Some (x.0 ∷ []) ≡ Some xs = x.2 in cc in
@@ -269,20 +307,20 @@ function_declared [] name h = ap (λ t. is_some (cond t (Some meanings.Function)
 function_declared (scope ∷ outer) name h = lookup_pushed (bytes_eq name) scope name meanings.Function h
 
 -- where `main` is declared, no function follows
-no_more_functions : (items : List ItemTree) (scopes : Scopes) (xs : List ResolvedFunctionTree) → is_declared scopes (codes "main") ≡ true → All IsItem items → breaches_along item_breaches after_item scopes items ≡ [] → resolved_along item_functions after_item scopes items ≡ Some xs → xs ≡ []
-unfolding item_breaches function_breaches item_functions IsItem IsFunction
-no_more_functions [] scopes xs h formed none e = cc
-no_more_functions (Declaration d ∷ items) scopes xs h formed none e =
+no_more_functions : (items : List ItemTree) (scopes : Scopes) (xs : List ResolvedFunctionTree) → is_declared scopes (codes "main") ≡ true → breaches_along item_breaches after_item scopes items ≡ [] → resolved_along item_functions after_item scopes items ≡ Some xs → xs ≡ []
+unfolding item_breaches item_functions
+no_more_functions [] scopes xs h none e = cc
+no_more_functions (Declaration d ∷ items) scopes xs h none e =
     let parts = empty (item_breaches scopes (Declaration d)) _ none in
     let rest = bound (resolved_along item_functions after_item (after_item scopes (Declaration d)) items) _ xs e in
     let same : rest.0 ≡ xs = let f : Some (rest.0) ≡ Some xs = rest.2 in cc in
-    sym same ∙ no_more_functions items (after_item scopes (Declaration d)) rest.0 (declarators_keep (declarators_of d) scopes (codes "main") h) (All-tail IsItem (Declaration d) items formed) parts.1 rest.1
-no_more_functions (Prototype g semicolon ∷ items) scopes xs h formed none e = absurd (All-head IsItem (Prototype g semicolon) items formed)
-no_more_functions (Function f ∷ items) scopes xs h formed none e =
-    let is = All-head IsItem (Function f) items formed in
+    sym same ∙ no_more_functions items (after_item scopes (Declaration d)) rest.0 (declarators_keep (declarators_of d) scopes (codes "main") h) parts.1 rest.1
+no_more_functions (Prototype head semicolon ∷ items) scopes xs h none e = cc
+no_more_functions (Function f ∷ items) scopes xs h none e =
     let parts = empty (function_breaches scopes f) _ none in
-    let redeclared = (empty (redeclared_breaches scopes f.head.name) _ parts.0).0 in
-    let declared = ap (λ name. is_declared scopes name) is.1 ∙ h in
+    let own = function_parts scopes f parts.0 in
+    let redeclared = (empty (redeclared_breaches scopes f.head.name) _ own.1).0 in
+    let declared = ap (λ name. is_declared scopes name) (taken_is_main f.head own.0) ∙ h in
     let clash = sym (ap (λ b. breach_if b faults.Redeclared f.head.name.span.start) declared) ∙ redeclared in cc
 
 resolved_name : (scopes : Scopes) (f : FunctionTree) (x : ResolvedFunctionTree) → resolved_function scopes f ≡ Some x → x.name ≡ f.head.name.text
@@ -295,27 +333,27 @@ resolved_name scopes f x e =
     sym (ap (λ y. y.name) same)
 
 -- there is at most one function, and where an item is `main` there is one
-one_function : (items : List ItemTree) (scopes : Scopes) (xs : List ResolvedFunctionTree) → All IsItem items → breaches_along item_breaches after_item scopes items ≡ [] → resolved_along item_functions after_item scopes items ≡ Some xs → (length xs ≤ 1) × (list_any is_main items ≡ true → Any (λ f. is_main_function f ≡ true) xs)
-unfolding item_breaches function_breaches item_functions IsItem IsFunction
-one_function [] scopes xs formed none e = let s : [] ≡ xs = cc in subst (λ ys. (length ys ≤ 1) × (false ≡ true → Any (λ f. is_main_function f ≡ true) ys)) s (omega arith, λ g. cc)
-one_function (Declaration d ∷ items) scopes xs formed none e =
+one_function : (items : List ItemTree) (scopes : Scopes) (xs : List ResolvedFunctionTree) → breaches_along item_breaches after_item scopes items ≡ [] → resolved_along item_functions after_item scopes items ≡ Some xs → (length xs ≤ 1) × (list_any is_main items ≡ true → Any (λ f. is_main_function f ≡ true) xs)
+unfolding item_breaches item_functions
+one_function [] scopes xs none e = let s : [] ≡ xs = cc in subst (λ ys. (length ys ≤ 1) × (false ≡ true → Any (λ f. is_main_function f ≡ true) ys)) s (omega arith, λ g. cc)
+one_function (Declaration d ∷ items) scopes xs none e =
     let parts = empty (item_breaches scopes (Declaration d)) _ none in
     let rest = bound (resolved_along item_functions after_item (after_item scopes (Declaration d)) items) _ xs e in
     let same : rest.0 ≡ xs = let f : Some (rest.0) ≡ Some xs = rest.2 in cc in
-    subst (λ ys. (length ys ≤ 1) × (list_any is_main items ≡ true → Any (λ f. is_main_function f ≡ true) ys)) same (one_function items (after_item scopes (Declaration d)) rest.0 (All-tail IsItem (Declaration d) items formed) parts.1 rest.1)
-one_function (Prototype g semicolon ∷ items) scopes xs formed none e = absurd (All-head IsItem (Prototype g semicolon) items formed)
-one_function (Function f ∷ items) scopes xs formed none e =
-    let is = All-head IsItem (Function f) items formed in
+    subst (λ ys. (length ys ≤ 1) × (list_any is_main items ≡ true → Any (λ f. is_main_function f ≡ true) ys)) same (one_function items (after_item scopes (Declaration d)) rest.0 parts.1 rest.1)
+one_function (Prototype head semicolon ∷ items) scopes xs none e = cc
+one_function (Function f ∷ items) scopes xs none e =
     let parts = empty (function_breaches scopes f) _ none in
+    let is = taken_is_main f.head (function_parts scopes f parts.0).0 in
     let front = bound (item_functions scopes (Function f)) _ xs e in
     let x = bound (resolved_function scopes f) _ front.0 front.1 in
     let rest = bound (resolved_along item_functions after_item (after_item scopes (Function f)) items) _ xs front.2 in
     let own : x.0 ∷ [] ≡ front.0 = let g : Some (x.0 ∷ []) ≡ Some (front.0) = x.2 in cc in
-    let declared = ap (λ name. is_declared (with_function scopes f.head.name.text) name) (sym is.1) ∙ function_declared scopes f.head.name.text (ap (λ name. bytes_eq name name) is.1) in
-    let nothing = no_more_functions items (after_item scopes (Function f)) rest.0 declared (All-tail IsItem (Function f) items formed) parts.1 rest.1 in
+    let declared = ap (λ name. is_declared (with_function scopes f.head.name.text) name) (sym is) ∙ function_declared scopes f.head.name.text (ap (λ name. bytes_eq name name) is) in
+    let nothing = no_more_functions items (after_item scopes (Function f)) rest.0 declared parts.1 rest.1 in
     let same : front.0 ++ rest.0 ≡ xs = let g : Some (front.0 ++ rest.0) ≡ Some xs = rest.2 in cc in
     let all : x.0 ∷ [] ≡ xs = own ∙ sym (append_nothing (front.0)) ∙ ap (λ l. front.0 ++ l) (sym nothing) ∙ same in
-    let named : is_main_function x.0 ≡ true = ap (λ name. bytes_eq name (codes "main")) ((resolved_name scopes f x.0 x.1) ∙ is.1) in
+    let named : is_main_function x.0 ≡ true = ap (λ name. bytes_eq name (codes "main")) ((resolved_name scopes f x.0 x.1) ∙ is) in
     subst (λ ys. (length ys ≤ 1) × (list_any is_main (Function f ∷ items) ≡ true → Any (λ g. is_main_function g ≡ true) ys)) all (omega arith, λ g. (0, x.0, omega arith, refl, named))
   where
     append_nothing : (l : List ResolvedFunctionTree) → l ++ [] ≡ l
@@ -323,16 +361,16 @@ one_function (Function f ∷ items) scopes xs formed none e =
     append_nothing (y ∷ l) = ap (λ k. y ∷ k) (append_nothing l)
 
 -- what resolving promises of the tree that it gives
-pub is_resolved : (unit : UnitTree) (tree : ResolvedTree) → IsUnit unit → breaches_of unit ≡ [] → resolution_of unit ≡ Some tree → IsResolved tree
-unfolding breaches_of resolution_of IsUnit
-is_resolved unit tree formed none e =
+pub is_resolved : (unit : UnitTree) (tree : ResolvedTree) → breaches_of unit ≡ [] → resolution_of unit ≡ Some tree → IsResolved tree
+unfolding breaches_of resolution_of
+is_resolved unit tree none e =
     let parts = empty (breaches_along item_breaches after_item file_scope unit.items) (main_breaches unit) none in
     let functions = bound (resolved_along item_functions after_item file_scope unit.items) _ tree e in
     let made : ResolvedTree = record { globals = flat_map globals_of unit.items; functions = functions.0 } in
     let same : made ≡ tree = let f : Some made ≡ Some tree = functions.2 in cc in
     let counts : Counts file_scope = record { below = ((tt, (tt, (tt, tt))), tt); few = omega arith } in
     let uses = items_use unit.items file_scope (length (flat_map globals_of unit.items)) functions.0 counts (omega arith) parts.0 functions.1 in
-    let one = one_function unit.items file_scope functions.0 formed parts.0 functions.1 in
+    let one = one_function unit.items file_scope functions.0 parts.0 functions.1 in
     let has = main_there (list_any is_main unit.items) parts.1 in
     subst IsResolved same (record {
       globals = uses.1;

@@ -1,17 +1,19 @@
 -- The rules on names, each by the breaches that a tree has of it, in the order of the text.
-use Rattle.std.specs.Prelude.{ℕ, ◌+◌, List, [], ◌∷◌, ◌++◌, Option, None, Some, Bool, true, false, codes, nat_lt, if◌then◌else◌, not}
+use Rattle.std.specs.Prelude.{ℕ, ◌+◌, List, [], ◌∷◌, ◌++◌, Option, None, Some, Bool, true, false, codes, nat_lt, if◌then◌else◌, not, is_some}
 use Rattle.std.specs.List.{list_any}
 use Rattle.std.specs.Str.{bytes_eq}
 use Rattle.om_lexer.specs.declared.fault.FaultCode.{FaultCode}
 use Rattle.om_lexer.specs.declared.fault.FaultCode.TheVariants as faults
 use Rattle.om_lexer.specs.declared.fault.SourceFault.{SourceFault}
+use Rattle.om_parser.specs.declared.tree.AssignOperator.TheVariants as assigns
 use Rattle.om_parser.specs.declared.tree.Name as names
 use Rattle.om_parser.specs.declared.tree.Number.{Number}
-use Rattle.om_parser.specs.Tree.{ExpressionTree, Name, Constant, Paren, Binary, Assign, InitializerTree, DeclaratorTree, StatementTree, Expression, Return, FunctionTree, ItemTree, Declaration, Prototype, Function, UnitTree}
+use Rattle.om_parser.specs.Tree.{ExpressionTree, Name, Constant, Text, Paren, Index, Call, Prefix, Postfix, Binary, Conditional, Assign, InitializerTree, DeclaratorTree, StatementTree, LocalDeclaration, Block, Empty, Expression, If, IfElse, While, Do, For, Return, Break, Continue, HeadTree, FunctionTree, ItemTree, Declaration, Prototype, Function, UnitTree}
 use Rattle.om_scope.specs.declared.symbols.Meaning.{Meaning}
 use Rattle.om_scope.specs.declared.symbols.Meaning.TheVariants as meanings
 use Rattle.om_scope.specs.declared.declaration.TheConstants.{GLOBAL_CELL_LIMIT}
-use Rattle.om_scope.specs.Initial.{signed_constant}
+use Rattle.om_scope.specs.Places.{expression_start, statement_start, head_start}
+use Rattle.om_scope.specs.Taken.{signed_constant, is_taken_head}
 use Rattle.om_scope.specs.Scopes.{Scopes, file_scope, body_scopes, meaning_of, is_declared, globals_in, with_function, declarators_of, after_declarator, after_statement, after_item}
 
 -- the first breach, if there is one
@@ -22,6 +24,10 @@ first_of (breach ∷ breaches) = Some breach
 -- a breach at a place, where there is one
 abbrev pub breach_if : Bool → FaultCode → ℕ → List SourceFault
 breach_if broken code at = if broken then record { code = code; at = at } ∷ [] else []
+
+-- S3 at the first token of a form that is not taken; nothing else of it is looked at
+abbrev pub untaken_breaches : ℕ → List SourceFault
+untaken_breaches at = breach_if true faults.Syntax at
 
 -- S7: used where no declaration stands before; S9: a function that is used as a variable
 abbrev pub meaning_breaches : Option Meaning → ℕ → List SourceFault
@@ -36,14 +42,14 @@ use_breaches scopes name = meaning_breaches (meaning_of scopes name.text) name.s
 abbrev pub constant_breaches : Number → List SourceFault
 constant_breaches number = breach_if (nat_lt 2147483647 number.value) faults.ConstantTooLarge number.span.start
 
--- S10 at the constant; S3 where none stands
 abbrev pub signed_breaches : ℕ → Option (Bool × Number) → List SourceFault
-signed_breaches at None = breach_if true faults.Syntax at
+signed_breaches at None = untaken_breaches at
 signed_breaches at (Some (minus, number)) = constant_breaches number
 
+-- of what a global holds at the start
 abbrev pub initializer_breaches : Option InitializerTree → List SourceFault
 initializer_breaches None = []
-initializer_breaches (Some initializer) = signed_breaches initializer.equal.start (signed_constant initializer.value)
+initializer_breaches (Some initializer) = signed_breaches (expression_start initializer.value) (signed_constant initializer.value)
 
 -- S8: declared again in the same scope (C17 6.7p3)
 abbrev pub redeclared_breaches : Scopes → names.Name → List SourceFault
@@ -60,22 +66,69 @@ expression_breaches scopes (Name n) = use_breaches scopes n
 expression_breaches scopes (Constant n) = constant_breaches n
 expression_breaches scopes (Paren left e right) = expression_breaches scopes e
 expression_breaches scopes (Binary a o at b) = expression_breaches scopes a ++ expression_breaches scopes b
-expression_breaches scopes (Assign a o at b) = expression_breaches scopes a ++ expression_breaches scopes b
-expression_breaches scopes _ = []
+expression_breaches scopes (Text t) = untaken_breaches (expression_start (Text t))
+expression_breaches scopes (Index n left e right) = untaken_breaches (expression_start (Index n left e right))
+expression_breaches scopes (Call n left values right) = untaken_breaches (expression_start (Call n left values right))
+expression_breaches scopes (Prefix o at e) = untaken_breaches (expression_start (Prefix o at e))
+expression_breaches scopes (Postfix e o at) = untaken_breaches (expression_start (Postfix e o at))
+expression_breaches scopes (Conditional c question a colon b) = untaken_breaches (expression_start (Conditional c question a colon b))
+expression_breaches scopes (Assign a o at b) = untaken_breaches (expression_start (Assign a o at b))
+
+-- of the assignment of a value to a name
+unfoldable pub assignment_breaches : Scopes → ExpressionTree → ExpressionTree → List SourceFault
+assignment_breaches scopes (Name n) value = use_breaches scopes n ++ expression_breaches scopes value
+assignment_breaches scopes (Constant n) value = untaken_breaches (expression_start (Constant n))
+assignment_breaches scopes (Text t) value = untaken_breaches (expression_start (Text t))
+assignment_breaches scopes (Paren left e right) value = untaken_breaches (expression_start (Paren left e right))
+assignment_breaches scopes (Index n left e right) value = untaken_breaches (expression_start (Index n left e right))
+assignment_breaches scopes (Call n left values right) value = untaken_breaches (expression_start (Call n left values right))
+assignment_breaches scopes (Prefix o at e) value = untaken_breaches (expression_start (Prefix o at e))
+assignment_breaches scopes (Postfix e o at) value = untaken_breaches (expression_start (Postfix e o at))
+assignment_breaches scopes (Binary a o at b) value = untaken_breaches (expression_start (Binary a o at b))
+assignment_breaches scopes (Conditional c question a colon b) value = untaken_breaches (expression_start (Conditional c question a colon b))
+assignment_breaches scopes (Assign a o at b) value = untaken_breaches (expression_start (Assign a o at b))
+
+-- of an expression that stands alone
+unfoldable pub run_breaches : Scopes → ExpressionTree → List SourceFault
+run_breaches scopes (Assign a assigns.Set at b) = assignment_breaches scopes a b
+run_breaches scopes (Name n) = untaken_breaches (expression_start (Name n))
+run_breaches scopes (Constant n) = untaken_breaches (expression_start (Constant n))
+run_breaches scopes (Text t) = untaken_breaches (expression_start (Text t))
+run_breaches scopes (Paren left e right) = untaken_breaches (expression_start (Paren left e right))
+run_breaches scopes (Index n left e right) = untaken_breaches (expression_start (Index n left e right))
+run_breaches scopes (Call n left values right) = untaken_breaches (expression_start (Call n left values right))
+run_breaches scopes (Prefix o at e) = untaken_breaches (expression_start (Prefix o at e))
+run_breaches scopes (Postfix e o at) = untaken_breaches (expression_start (Postfix e o at))
+run_breaches scopes (Binary a o at b) = untaken_breaches (expression_start (Binary a o at b))
+run_breaches scopes (Conditional c question a colon b) = untaken_breaches (expression_start (Conditional c question a colon b))
 
 unfoldable pub statement_breaches : Scopes → StatementTree → List SourceFault
-statement_breaches scopes (Expression e semicolon) = expression_breaches scopes e
+statement_breaches scopes (Expression e semicolon) = run_breaches scopes e
 statement_breaches scopes (Return at (Some e) semicolon) = expression_breaches scopes e
-statement_breaches scopes _ = []
+statement_breaches scopes (Return at None semicolon) = untaken_breaches at.start
+statement_breaches scopes (LocalDeclaration d) = untaken_breaches (statement_start (LocalDeclaration d))
+statement_breaches scopes (Block left items right) = untaken_breaches (statement_start (Block left items right))
+statement_breaches scopes (Empty semicolon) = untaken_breaches (statement_start (Empty semicolon))
+statement_breaches scopes (If at c s) = untaken_breaches (statement_start (If at c s))
+statement_breaches scopes (IfElse at c s other t) = untaken_breaches (statement_start (IfElse at c s other t))
+statement_breaches scopes (While at c s) = untaken_breaches (statement_start (While at c s))
+statement_breaches scopes (Do at s again c semicolon) = untaken_breaches (statement_start (Do at s again c semicolon))
+statement_breaches scopes (For h s) = untaken_breaches (statement_start (For h s))
+statement_breaches scopes (Break at semicolon) = untaken_breaches (statement_start (Break at semicolon))
+statement_breaches scopes (Continue at semicolon) = untaken_breaches (statement_start (Continue at semicolon))
 
 -- S8, S9, S11 at the name, S10 at the initializer
-unfoldable pub declarator_breaches : Scopes → DeclaratorTree → List SourceFault
-declarator_breaches scopes d = redeclared_breaches scopes d.name ++ global_breaches scopes d.name ++ initializer_breaches d.initializer
+unfoldable pub scalar_breaches : Scopes → DeclaratorTree → List SourceFault
+scalar_breaches scopes d = redeclared_breaches scopes d.name ++ global_breaches scopes d.name ++ initializer_breaches d.initializer
 
--- the breaches of parts in a row, each in the scopes behind those before it (C17 6.2.1p7)
-abbrev pub breaches_along : {X : Type 0} → (Scopes → X → List SourceFault) → (Scopes → X → Scopes) → Scopes → List X → List SourceFault
-breaches_along breaches after scopes [] = []
-breaches_along breaches after scopes (x ∷ xs) = breaches scopes x ++ breaches_along breaches after (after scopes x) xs
+-- an array is not taken
+abbrev pub declarator_breaches : Scopes → DeclaratorTree → List SourceFault
+declarator_breaches scopes d = if is_some d.array then untaken_breaches d.name.span.start else scalar_breaches scopes d
+
+-- the breaches of parts in a row, each in the state behind those before it (C17 6.2.1p7)
+abbrev pub breaches_along : {S X : Type 0} → (S → X → List SourceFault) → (S → X → S) → S → List X → List SourceFault
+breaches_along breaches after state [] = []
+breaches_along breaches after state (x ∷ xs) = breaches state x ++ breaches_along breaches after (after state x) xs
 
 abbrev pub declarators_breaches : Scopes → List DeclaratorTree → List SourceFault
 declarators_breaches = breaches_along declarator_breaches after_declarator
@@ -83,14 +136,16 @@ declarators_breaches = breaches_along declarator_breaches after_declarator
 abbrev pub statements_breaches : Scopes → List StatementTree → List SourceFault
 statements_breaches = breaches_along statement_breaches after_statement
 
-unfoldable pub function_breaches : Scopes → FunctionTree → List SourceFault
-function_breaches scopes f =
-    redeclared_breaches scopes f.head.name
-    ++ statements_breaches (body_scopes (with_function scopes f.head.name.text)) f.body.items
+unfoldable pub definition_breaches : Scopes → FunctionTree → List SourceFault
+definition_breaches scopes f = redeclared_breaches scopes f.head.name ++ statements_breaches (body_scopes (with_function scopes f.head.name.text)) f.body.items
+
+-- `int main(void)` alone is taken
+abbrev pub function_breaches : Scopes → FunctionTree → List SourceFault
+function_breaches scopes f = if is_taken_head f.head then definition_breaches scopes f else untaken_breaches (head_start f.head)
 
 unfoldable pub item_breaches : Scopes → ItemTree → List SourceFault
 item_breaches scopes (Declaration d) = declarators_breaches scopes (declarators_of d)
-item_breaches scopes (Prototype h semicolon) = []
+item_breaches scopes (Prototype head semicolon) = untaken_breaches (head_start head)
 item_breaches scopes (Function f) = function_breaches scopes f
 
 abbrev pub items_breaches : Scopes → List ItemTree → List SourceFault
@@ -98,7 +153,7 @@ items_breaches = breaches_along item_breaches after_item
 
 abbrev pub is_main : ItemTree → Bool
 is_main (Declaration d) = false
-is_main (Prototype h semicolon) = false
+is_main (Prototype head semicolon) = false
 is_main (Function f) = bytes_eq f.head.name.text (codes "main")
 
 -- S15: no function is named `main`

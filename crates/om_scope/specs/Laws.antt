@@ -1,7 +1,6 @@
 -- What every resolution is.
 use Rattle.std.specs.Prelude.{◌≡◌, ℕ, List, [], Some, IsSome, fold, option_map, slice_get}
 use Rattle.std.specs.List.{flat_map}
-use Rattle.om_parser.specs.Formed.{IsUnit}
 use Rattle.om_parser.specs.Tree.{ItemTree, UnitTree}
 use Rattle.om_scope.specs.declared.resolved.Variable.TheVariants as variables
 use Rattle.om_scope.specs.declared.symbols.Meaning.TheVariants as meanings
@@ -16,6 +15,6 @@ NumbersNameGlobals =
     → meaning_of (fold after_item file_scope items) name ≡ Some (meanings.Variable (variables.Global number))
     → option_map (λ global. global.name) (slice_get (flat_map globals_of items) number) ≡ Some name
 
--- A well-formed tree that breaks no rule has a resolution.
+-- A tree that breaks no rule has a resolution.
 abbrev pub UnbrokenTreesResolve : Type 0
-UnbrokenTreesResolve = (unit : UnitTree) → IsUnit unit → breaches_of unit ≡ [] → IsSome (resolution_of unit)
+UnbrokenTreesResolve = (unit : UnitTree) → breaches_of unit ≡ [] → IsSome (resolution_of unit)

@@ -1,5 +1,6 @@
+pub mod Places
+pub mod Taken
 pub mod Scopes
-pub mod Initial
 pub mod Breaches
 pub mod ResolvedTree
 pub mod ResolvedView

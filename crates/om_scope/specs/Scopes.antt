@@ -80,7 +80,7 @@ after_declarators scopes ds = fold after_declarator scopes ds
 -- the scopes behind an item
 abbrev pub after_item : Scopes → ItemTree → Scopes
 after_item scopes (Declaration d) = after_declarators scopes (declarators_of d)
-after_item scopes (Prototype h semicolon) = scopes
+after_item scopes (Prototype head semicolon) = scopes
 after_item scopes (Function f) = with_function scopes f.head.name.text
 
 -- the scopes behind a statement: it declares nothing

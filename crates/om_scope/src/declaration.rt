@@ -1,18 +1,18 @@
 //! Declarations at file scope.
 
 ghost use Rattle.std.specs.Prelude.{◌≡◌, ◌<◌, ◌++◌, [], ◌∷◌, false, Some, OnOk, IfOk, IfErr, map, option_map};
-ghost use Rattle.om_parser.specs.View.{view_declaration, view_declarator, view_expression, view_further, view_initializer};
-ghost use Rattle.om_scope.specs.Breaches.{declarator_breaches, declarators_breaches, first_of, global_breaches, initializer_breaches, redeclared_breaches, signed_breaches};
-ghost use Rattle.om_scope.specs.Initial.{plain_constant, signed_constant};
+ghost use Rattle.om_parser.specs.View.{view_declaration, view_declarator, view_further, view_initializer};
+ghost use Rattle.om_scope.specs.Breaches.{declarator_breaches, declarators_breaches, first_of, global_breaches, initializer_breaches, redeclared_breaches, scalar_breaches, signed_breaches};
 ghost use Rattle.om_scope.specs.Outcomes.{ResolvesExactly, Refuses};
-ghost use Rattle.om_scope.specs.Resolution.{global_of, initial_of, signed};
+ghost use Rattle.om_scope.specs.Resolution.{global_of, initial_of, signed_value};
 ghost use Rattle.om_scope.specs.Scopes.{after_declarator, after_declarators, behind_commas, declarators_of, globals_in, is_declared};
 
 use crate::expression::constant_of;
 use crate::resolved::GlobalVariable;
 use crate::symbols::Symbols;
+use crate::taken::{expression_start, signed_constant, untaken};
 use om_lexer::{FaultCode, SourceFault, Span};
-use om_parser::{Declaration, Declarator, Expression, Initializer, Name, Number, PrefixOperator};
+use om_parser::{Declaration, Declarator, Initializer, Name, Number};
 use om_seq::Seq;
 use std::alloc::{AllocError, Global};
 
@@ -62,54 +62,50 @@ fn check_global(symbols: &Symbols, name: &Name) -> Result<(), SourceFault>
     Ok(())
 }
 
-/// The constant that an expression is.
-fn plain_constant(expression: &Expression) -> Option<Number>
-    ensures { result ≡ plain_constant (view_expression expression.now) }
-{
-    match expression {
-        Expression::Constant(number) => Some(*number),
-        _ => None,
-    }
-}
-
-/// The constant that an expression is, and whether a minus stands before it.
-fn signed_constant(expression: &Expression) -> Option<(bool, Number)>
-    ensures { result ≡ signed_constant (view_expression expression.now) }
-{
-    match expression {
-        Expression::Constant(number) => Some((false, *number)),
-        Expression::Prefix(PrefixOperator::Minus, _, inner) => {
-            let number = plain_constant(inner)?;
-            Some((true, number))
-        }
-        _ => None,
-    }
-}
-
-/// What a global with this initializer holds at the start: S3, S10.
-fn initial_of_constant(initializer: &Initializer) -> Result<i32, SourceFault>
-    ensures { let constant = signed_constant (view_expression initializer.now.value) in
-        ResolvesExactly (λ value. value) result (signed_breaches initializer.now.equal.start constant) (Some (signed constant)) }
-{
-    let Some((minus, number)) = signed_constant(&initializer.value) else {
-        return Err(SourceFault {
-            code: FaultCode::Syntax,
-            at: initializer.equal.start,
-        });
-    };
-    let value = constant_of(&number)?;
-    Ok(if minus { -value } else { value })
-}
-
-/// What a global holds at the start.
+/// What a global holds at the start: S10.
 fn initial_of(initializer: &Option<Initializer>) -> Result<i32, SourceFault>
     ensures { let tree = option_map view_initializer initializer.now in
         ResolvesExactly (λ value. value) result (initializer_breaches tree) (Some (initial_of tree)) }
 {
     match initializer {
-        Some(initializer) => initial_of_constant(initializer),
         None => Ok(0),
+        Some(initializer) => value_of(
+            signed_constant(&initializer.value),
+            expression_start(&initializer.value),
+        ),
     }
+}
+
+/// What a constant with its minus stands for, or where there is none S3 at a place.
+fn value_of(constant: Option<(bool, Number)>, at: u32) -> Result<i32, SourceFault>
+    ensures { ResolvesExactly (λ value. value) result (signed_breaches at constant) (Some (signed_value constant)) }
+{
+    match constant {
+        None => Err(untaken(at)),
+        Some((false, number)) => constant_of(&number),
+        Some((true, number)) => Ok(-constant_of(&number)?),
+    }
+}
+
+/// Declares a global that is no array.
+fn declare_scalar(
+    alloc: Global,
+    symbols: &mut Symbols,
+    globals: &mut Vec<GlobalVariable>,
+    declarator: &Declarator,
+) -> Result<(), SourceFault>
+    ensures no_breach { OnOk result (scalar_breaches symbols.old (view_declarator declarator.now) ≡ []) }
+    ensures in_scope { OnOk result (symbols.new ≡ after_declarator symbols.old (view_declarator declarator.now)) }
+    ensures declared { OnOk result (globals.new.items ≡ globals.old.items ++ global_of (view_declarator declarator.now) ∷ []) }
+    ensures refused { IfErr result (Refuses (scalar_breaches symbols.old (view_declarator declarator.now))) }
+{
+    check_new(symbols, &declarator.name)?;
+    check_global(symbols, &declarator.name)?;
+    let initial = initial_of(&declarator.initializer)?;
+    let name = copy_of(alloc, &declarator.name)?;
+    symbols.declare_global(alloc, name.as_slice())?;
+    globals.push(GlobalVariable { name, initial })?;
+    Ok(())
 }
 
 /// Declares one global.
@@ -124,13 +120,10 @@ fn declare(
     ensures declared { OnOk result (globals.new.items ≡ globals.old.items ++ global_of (view_declarator declarator.now) ∷ []) }
     ensures refused { IfErr result (Refuses (declarator_breaches symbols.old (view_declarator declarator.now))) }
 {
-    check_new(symbols, &declarator.name)?;
-    check_global(symbols, &declarator.name)?;
-    let initial = initial_of(&declarator.initializer)?;
-    let name = copy_of(alloc, &declarator.name)?;
-    symbols.declare_global(alloc, name.as_slice())?;
-    globals.push(GlobalVariable { name, initial })?;
-    Ok(())
+    if declarator.array.is_some() {
+        return Err(untaken(declarator.name.span.start));
+    }
+    declare_scalar(alloc, symbols, globals, declarator)
 }
 
 /// Declares the globals behind the first of a declaration.

@@ -1,7 +1,6 @@
 //! Expressions.
 
-ghost use Rattle.std.specs.Prelude.{pos, ◌≤◌, Some};
-ghost use Rattle.om_parser.specs.Formed.{IsExpression, level};
+ghost use Rattle.std.specs.Prelude.{pos, Some};
 ghost use Rattle.om_parser.specs.View.{view_expression};
 ghost use Rattle.om_scope.specs.Breaches.{use_breaches, constant_breaches, expression_breaches};
 ghost use Rattle.om_scope.specs.Outcomes.{ResolvesExactly, Resolves};
@@ -11,6 +10,7 @@ ghost use Rattle.om_scope.specs.Scopes.{body_scopes};
 
 use crate::resolved::{ResolvedExpression, Variable};
 use crate::symbols::{Meaning, Symbols};
+use crate::taken::{expression_start, untaken};
 use om_lexer::{FaultCode, SourceFault};
 use om_parser::{Expression, Name, Number};
 use std::alloc::Global;
@@ -48,14 +48,12 @@ pub fn constant_of(number: &Number) -> Result<i32, SourceFault>
 }
 
 /// Resolves an expression in a function's body.
-#[tactic(auto, using(crate::proofs::Firsts::first_of_left), unfolding(om_parser::specs::Formed::IsExpression, crate::specs::Breaches::expression_breaches, crate::specs::Resolution::resolved_expression))]
+#[tactic(auto, using(crate::proofs::Firsts::first_of_left), unfolding(crate::specs::Breaches::expression_breaches, crate::specs::Resolution::resolved_expression))]
 pub fn resolve_expression(
     alloc: Global,
     symbols: &Symbols,
     expression: &Expression,
 ) -> Result<ResolvedExpression, SourceFault>
-    requires formed { IsExpression (view_expression expression.now) }
-    requires is_value { 2 ≤ level (view_expression expression.now) }
     ensures { let scopes = body_scopes symbols.now in
         let tree = view_expression expression.now in
         Resolves view_resolved_expression result (expression_breaches scopes tree) (resolved_expression scopes tree) }
@@ -71,12 +69,12 @@ pub fn resolve_expression(
             let right = Box::new(alloc, right)?;
             Ok(ResolvedExpression::Binary(left, *operator, right))
         }
-        Expression::Text(_) => unreachable!(),
-        Expression::Index(..) => unreachable!(),
-        Expression::Call(..) => unreachable!(),
-        Expression::Prefix(..) => unreachable!(),
-        Expression::Postfix(..) => unreachable!(),
-        Expression::Conditional(..) => unreachable!(),
-        Expression::Assign(..) => unreachable!(),
+        Expression::Text(_) => Err(untaken(expression_start(expression))),
+        Expression::Index(_, _, _, _) => Err(untaken(expression_start(expression))),
+        Expression::Call(_, _, _, _) => Err(untaken(expression_start(expression))),
+        Expression::Prefix(_, _, _) => Err(untaken(expression_start(expression))),
+        Expression::Postfix(_, _, _) => Err(untaken(expression_start(expression))),
+        Expression::Conditional(_, _, _, _, _) => Err(untaken(expression_start(expression))),
+        Expression::Assign(_, _, _, _) => Err(untaken(expression_start(expression))),
     }
 }

@@ -1,9 +1,8 @@
 //! Definitions of functions.
 
 ghost use Rattle.std.specs.Prelude.{◌≡◌, OnOk};
-ghost use Rattle.om_parser.specs.Formed.{IsFunction};
 ghost use Rattle.om_parser.specs.View.{view_function};
-ghost use Rattle.om_scope.specs.Breaches.{function_breaches};
+ghost use Rattle.om_scope.specs.Breaches.{definition_breaches, function_breaches};
 ghost use Rattle.om_scope.specs.Outcomes.{Resolves};
 ghost use Rattle.om_scope.specs.Resolution.{resolved_function};
 ghost use Rattle.om_scope.specs.ResolvedView.{view_resolved_function};
@@ -13,21 +12,21 @@ use crate::declaration::{check_new, copy_of};
 use crate::resolved::ResolvedFunction;
 use crate::statement::resolve_statements;
 use crate::symbols::Symbols;
+use crate::taken::{head_start, is_taken_head, untaken};
 use om_lexer::SourceFault;
 use om_parser::Function;
 use om_seq::Seq;
 use std::alloc::Global;
 
 /// Declares a function and resolves its body.
-#[tactic(auto, unfolding(om_parser::specs::Formed::IsFunction, crate::specs::Breaches::function_breaches, crate::specs::Resolution::resolved_function))]
-pub fn define_function(
+#[tactic(auto, unfolding(crate::specs::Breaches::definition_breaches, crate::specs::Resolution::resolved_function))]
+fn define_main(
     alloc: Global,
     symbols: &mut Symbols,
     function: &Function,
 ) -> Result<ResolvedFunction, SourceFault>
-    requires formed { IsFunction (view_function function.now) }
-    ensures resolves { Resolves view_resolved_function result (function_breaches symbols.old (view_function function.now)) (resolved_function symbols.old (view_function function.now)) }
-    ensures in_scope { OnOk result (symbols.new ≡ with_function symbols.old function.now.head.name.text) }
+    ensures resolves { Resolves view_resolved_function result (definition_breaches symbols.old (view_function function.now)) (resolved_function symbols.old (view_function function.now)) }
+    ensures in_scope { OnOk result (symbols.new ≡ with_function symbols.old (view_function function.now).head.name.text) }
 {
     check_new(symbols, &function.head.name)?;
     let name = copy_of(alloc, &function.head.name)?;
@@ -39,4 +38,19 @@ pub fn define_function(
         statements: Seq::of(statements),
         closing_line: function.body.close_brace.line,
     })
+}
+
+/// Declares `main` and resolves its body; another function is not taken.
+pub fn define_function(
+    alloc: Global,
+    symbols: &mut Symbols,
+    function: &Function,
+) -> Result<ResolvedFunction, SourceFault>
+    ensures resolves { Resolves view_resolved_function result (function_breaches symbols.old (view_function function.now)) (resolved_function symbols.old (view_function function.now)) }
+    ensures in_scope { OnOk result (symbols.new ≡ with_function symbols.old (view_function function.now).head.name.text) }
+{
+    if !is_taken_head(&function.head) {
+        return Err(untaken(head_start(&function.head)));
+    }
+    define_main(alloc, symbols, function)
 }

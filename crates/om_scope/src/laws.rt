@@ -7,7 +7,7 @@ pub fn numbers_name_globals()
     ensures { NumbersNameGlobals }
 {}
 
-/// A well-formed tree that breaks no rule has a resolution. It has only one, which is a
+/// A tree that breaks no rule has a resolution. It has only one, which is a
 /// function of the tree.
 pub fn unbroken_trees_resolve()
     ensures { UnbrokenTreesResolve }

@@ -8,6 +8,7 @@ pub mod laws;
 mod resolved;
 mod statement;
 mod symbols;
+mod taken;
 mod unit;
 
 pub use declaration::GLOBAL_CELL_LIMIT;

@@ -1,9 +1,8 @@
 //! A whole source.
 
-ghost use Rattle.std.specs.Prelude.{◌≡◌, ◌≢◌, ◌++◌, [], Some, OnOk, IfOk, IfErr, All, map, option_map};
+ghost use Rattle.std.specs.Prelude.{◌≡◌, ◌≢◌, ◌++◌, [], Some, OnOk, IfOk, IfErr, map, option_map};
 ghost use Rattle.std.specs.List.{list_any};
 ghost use Rattle.om_lexer.specs.Faults.{no_memory};
-ghost use Rattle.om_parser.specs.Formed.{IsItem, IsUnit};
 ghost use Rattle.om_parser.specs.View.{view_item, view_unit};
 ghost use Rattle.om_scope.specs.Breaches.{breaches_of, first_of, is_main, item_breaches, items_breaches};
 ghost use Rattle.om_scope.specs.Outcomes.{Refuses, Resolves};
@@ -16,13 +15,14 @@ use crate::declaration::declare_globals;
 use crate::function::define_function;
 use crate::resolved::{GlobalVariable, Resolved, ResolvedFunction};
 use crate::symbols::Symbols;
+use crate::taken::{head_start, untaken};
 use om_lexer::{FaultCode, SourceFault};
 use om_parser::{Item, Unit};
 use om_seq::Seq;
 use std::alloc::Global;
 
 /// Resolves an item in the scopes behind those before it.
-#[tactic(auto, unfolding(om_parser::specs::Formed::IsItem, crate::specs::Breaches::item_breaches, crate::specs::Resolution::item_functions))]
+#[tactic(auto, unfolding(crate::specs::Breaches::item_breaches, crate::specs::Resolution::item_functions))]
 fn resolve_item(
     alloc: Global,
     symbols: &mut Symbols,
@@ -30,7 +30,6 @@ fn resolve_item(
     functions: &mut Vec<ResolvedFunction>,
     item: &Item,
 ) -> Result<(), SourceFault>
-    requires formed { IsItem (view_item item.now) }
     ensures no_breach { OnOk result (item_breaches symbols.old (view_item item.now) ≡ []) }
     ensures in_scope { OnOk result (symbols.new ≡ after_item symbols.old (view_item item.now)) }
     ensures declared { OnOk result (globals.new.items ≡ globals.old.items ++ globals_of (view_item item.now)) }
@@ -41,7 +40,7 @@ fn resolve_item(
 {
     match item {
         Item::Declaration(declaration) => declare_globals(alloc, symbols, globals, declaration),
-        Item::Prototype(..) => unreachable!(),
+        Item::Prototype(head, _) => Err(untaken(head_start(head))),
         Item::Function(function) => {
             let function = define_function(alloc, symbols, function)?;
             functions.push(function)?;
@@ -52,7 +51,6 @@ fn resolve_item(
 
 /// Resolves the items of a source.
 fn resolve_items(alloc: Global, items: &[Item]) -> Result<Resolved, SourceFault>
-    requires formed { All IsItem (map view_item items.now) }
     ensures { let trees = map view_item items.now in
         Resolves view_resolved result (items_breaches file_scope trees) (items_resolution trees) }
 {
@@ -74,7 +72,7 @@ fn is_main(item: &Item) -> bool
 {
     match item {
         Item::Declaration(_) => false,
-        Item::Prototype(..) => false,
+        Item::Prototype(_, _) => false,
         Item::Function(function) => function.head.name.text.as_slice() == b"main".as_slice(),
     }
 }
@@ -91,6 +89,7 @@ fn has_main(items: &[Item]) -> bool
 /// The first breach of a rule in the unit's text is answered, at one place that of the lowest
 /// number; nothing is kept then. Refusals:
 /// - S0 at byte 0: no memory.
+/// - S3 at the first token of a form that is not taken yet; nothing else of it is looked at.
 /// - S7 at a name that is used where no declaration of it stands before.
 /// - S8 at a name that is declared again. `printf`, `omp_get_thread_num` and
 ///   `omp_get_num_threads` count as declared before the source.
@@ -98,9 +97,8 @@ fn has_main(items: &[Item]) -> bool
 /// - S10 at a constant above 2147483647.
 /// - S11 at the name of the global past `GLOBAL_CELL_LIMIT`.
 /// - S15 at the end of the source: no function is named `main`.
-#[tactic(auto, using(crate::proofs::Firsts::first_of_left), unfolding(om_parser::specs::Formed::IsUnit, crate::specs::Breaches::breaches_of, crate::specs::Resolution::resolution_of))]
+#[tactic(auto, using(crate::proofs::Firsts::first_of_left), unfolding(crate::specs::Breaches::breaches_of, crate::specs::Resolution::resolution_of))]
 pub fn resolve(alloc: Global, unit: Unit) -> Result<Resolved, SourceFault>
-    requires formed { IsUnit (view_unit unit) }
     ensures no_breach { OnOk result (breaches_of (view_unit unit) ≡ []) }
     ensures resolved { IfOk result (λ resolved. resolution_of (view_unit unit) ≡ Some (view_resolved resolved)) }
     ensures every_use_has_its_variable { IfOk result (λ resolved. IsResolved (view_resolved resolved)) }

@@ -1,14 +1,14 @@
 use Rattle.std.proofs.Common.{◌≡◌, ◌++◌, map, drop}
 use Rattle.om_scope.specs.Breaches.{declarator_breaches}
 use Rattle.om_scope.specs.Resolution.{global_of}
-use Rattle.om_scope.specs.Scopes.{after_declarator}
+use Rattle.om_scope.specs.Scopes.{after_declarator, behind_commas}
+use Rattle.om_parser.specs.View.{view_further}
 use Rattle.om_scope.proofs.Along.{Unbroken}
 use Rattle.om_scope.proofs.declaration.declare_rest.Given as goal
-use Rattle.om_parser.specs.View.{view_further}
 
 abbrev pub invariant-loop-further : goal.invariant-loop-further
 invariant-loop-further l =
-    let all = map (λ further. further.1) (map view_further l.rest) in
-    let left = map (λ further. further.1) (map view_further (drop l.further-index l.rest)) in
+    let all = behind_commas (map view_further l.rest) in
+    let left = behind_commas (map view_further (drop l.further-index l.rest)) in
     Unbroken declarator_breaches after_declarator l.fn.symbols all l.symbols left
     × (l.globals.items ++ map global_of left ≡ l.fn.globals.items ++ map global_of all)

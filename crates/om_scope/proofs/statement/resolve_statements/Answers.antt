@@ -1,16 +1,12 @@
 use Rattle.std.proofs.Common.{◌++◌, option_map, map, ap, ◌∙◌}
-use Rattle.om_parser.specs.Formed.{IsStatement}
 use Rattle.om_parser.specs.View.{view_statement}
 use Rattle.om_scope.specs.Breaches.{statement_breaches}
 use Rattle.om_scope.specs.Resolution.{resolved_statement}
 use Rattle.om_scope.specs.ResolvedView.{view_resolved_statement}
 use Rattle.om_scope.specs.Scopes.{after_statement}
 use Rattle.om_scope.proofs.Along.{unbroken-step, made-step}
-use Rattle.om_scope.proofs.Items.{all-item, drop-item, map-push}
+use Rattle.om_scope.proofs.Items.{drop-item, map-push}
 use Rattle.om_scope.proofs.statement.resolve_statements.Goals as goal
-
-pub resolve_statement-requires : goal.resolve_statement-requires
-resolve_statement-requires c = record { formed = all-item IsStatement view_statement _ _ _ c.loop-statement-test.true c.statement-item.is c.requires.formed }
 
 pub loop-statement-preserved : goal.loop-statement-preserved
 loop-statement-preserved c =

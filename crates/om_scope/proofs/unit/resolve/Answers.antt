@@ -26,4 +26,4 @@ returns-clause-every_use_has_its_variable c =
     let whole = rw c.as_slice.ensures.value at c.in_ok-resolved.ensures.0 in
     let found = rw c.as_slice-2.ensures.value at c.has_main.ensures in
     let none : breaches_of (view_unit c.args.unit) ≡ [] = rw (whole, list_any-map is_main view_item c.args.unit.items.items, ← found, c.if-not-has_main.false) refl in
-    is_resolved _ _ c.requires.formed none (rw c.as_slice.ensures.value at c.in_ok-resolved.ensures.1)
+    is_resolved (view_unit c.args.unit) _ none (rw c.as_slice.ensures.value at c.in_ok-resolved.ensures.1)

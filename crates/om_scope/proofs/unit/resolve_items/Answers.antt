@@ -1,17 +1,13 @@
 use Rattle.std.proofs.Common.{◌+◌, map, drop, ap, ◌∙◌, append_assoc}
 use Rattle.std.specs.List.{flat_map}
 use Rattle.std.proofs.lemmas.Result.{err_from_is_err_and}
-use Rattle.om_parser.specs.Formed.{IsItem}
 use Rattle.om_parser.specs.View.{view_item}
 use Rattle.om_scope.specs.Breaches.{item_breaches}
 use Rattle.om_scope.specs.Resolution.{globals_of, item_functions}
 use Rattle.om_scope.specs.Scopes.{after_item}
 use Rattle.om_scope.proofs.Along.{made-step, unbroken-refuse, unbroken-step}
-use Rattle.om_scope.proofs.Items.{all-item, drop-item}
+use Rattle.om_scope.proofs.Items.{drop-item}
 use Rattle.om_scope.proofs.unit.resolve_items.Goals as goal
-
-pub resolve_item-requires : goal.resolve_item-requires
-resolve_item-requires c = record { formed = all-item IsItem view_item _ _ _ c.loop-item-test.true c.item-item.is c.requires.formed }
 
 pub returns-in_err-resolve_item : goal.returns-in_err-resolve_item
 returns-in_err-resolve_item c =
