@@ -1,5 +1,5 @@
 //! The words of the command line.
-ghost use Rattle.std.specs.Prelude.{◌<◌, ◌≤◌, IfOk};
+ghost use Rattle.std.specs.Prelude.{◌≡◌, ◌<◌, ◌≤◌, IfOk, IfSome, IfNone};
 
 use clap::{Arg, ArgAction, Command, Error};
 use std::alloc::Global;
@@ -59,6 +59,8 @@ pub fn words_in<'a>(alloc: Global, words: &'a [&'a str]) -> Result<Words<'a>, Er
 
 // The number of workers that is given, if it is one; it always is, by the parse.
 fn workers_or_two(given: Option<u8>) -> u8
+    ensures given { IfSome given (λ n. 0 < n → n ≤ 8 → result ≡ n) }
+    ensures two { IfNone given (result ≡ 2) }
     ensures least { 0 < result }
     ensures most { result ≤ 8 }
 {
