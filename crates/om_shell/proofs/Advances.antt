@@ -1,13 +1,13 @@
 -- How steps of a run compose.
-use Rattle.std.proofs.Common.{◌≡◌, ◌≢◌, ℕ, List, [], ◌∷◌, ◌++◌, Option, None, Some, take, drop, refl, sym, ap, subst, ◌∙◌, append_assoc, append-nil, inl, inr, take-append-drop}
+use Rattle.std.proofs.Common.{◌≡◌, ◌≢◌, ℕ, List, [], ◌∷◌, ◌++◌, Option, take, drop, refl, sym, ap, subst, ◌∙◌, append_assoc, append-nil, inl, inr, take-append-drop}
 use Rattle.std.specs.Io.KnownBytes.{Appends, Consumes, IsAtEnd}
 use Rattle.std.proofs.KnownBytes.{Appends-nil, Appends-trans, Consumes-nil, Consumes-trans}
 use Rattle.om_shell.specs.declared.fault.ShellFault.{ShellFault}
 use Rattle.om_shell.specs.declared.fault.ShellFault.TheVariants.{Read}
 use Rattle.om_shell.specs.Lines.{HasNoLineEnd}
 use Rattle.om_shell.specs.Transcript.{Transcript, after_text}
-use Rattle.om_shell.specs.Progress.{IsBeginning, AreWholeLines, Advance, AnswersWholeLines, BreaksOff, IsDone}
-use Rattle.om_shell.specs.Batch.{Answers, AnswersPart}
+use Rattle.om_shell.specs.Progress.{IsBeginning, AreWholeLines, Advance, BreaksOff, IsDone}
+use Rattle.om_shell.specs.Batch.{Answers}
 
 pub AreWholeLines-append : (xs ys : List ℕ) → AreWholeLines xs → AreWholeLines ys → AreWholeLines (xs ++ ys)
 AreWholeLines-append xs ys p (inl none) = subst AreWholeLines (sym (ap (λ l. xs ++ l) none ∙ append-nil xs)) p

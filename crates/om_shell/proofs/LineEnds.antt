@@ -1,5 +1,5 @@
 -- Where lines end.
-use Rattle.std.proofs.Common.{◌≡◌, ℕ, ◌+◌, ◌-◌, ◌<◌, ◌≤◌, subst, Bool, true, false, cond, not, nat_lt, nat_eq, List, ◌++◌, ◌==◌, Option, Some, None, length, take, drop, refl, sym, ap, ◌∙◌, arith, length-append, length-drop, take-append-drop, eq-eqb}
+use Rattle.std.proofs.Common.{◌≡◌, ℕ, ◌+◌, ◌-◌, ◌<◌, ◌≤◌, subst, Bool, true, false, cond, not, nat_lt, nat_eq, List, ◌++◌, ◌==◌, Some, None, length, take, drop, refl, sym, ap, ◌∙◌, arith, length-append, length-drop, take-append-drop, eq-eqb}
 use Rattle.std.proofs.lemmas.Bool.Decides.{nat_tests}
 use Rattle.std.proofs.lemmas.List.Folds.{prefix_len-append}
 use Rattle.std.proofs.lemmas.List.Sums.{prefix_len-le-length}

@@ -1,8 +1,8 @@
 -- Lines, a line at a time.
-use Rattle.std.proofs.Common.{◌≡◌, ℕ, suc, ◌+◌, ◌<◌, Bool, true, false, not, cond, List, [], ◌∷◌, ◌++◌, ◌==◌, length, take, drop, refl, sym, ap, ◌∙◌, arith, rules, add-one, add-zero}
+use Rattle.std.proofs.Common.{◌≡◌, ℕ, suc, ◌+◌, ◌<◌, Bool, true, false, cond, List, [], ◌∷◌, ◌++◌, ◌==◌, length, take, refl, ap, ◌∙◌, arith, add-one}
 use Rattle.std.specs.List.{slice_split, onto_first, position_or_len}
 use Rattle.std.specs.Str.Lines.{lines, lines_of_parts, strip_carriage_return}
-use Rattle.std.proofs.lemmas.List.Splits.{slice_split-cons_yes, slice_split-cons_no}
+use Rattle.std.proofs.lemmas.List.Splits.{slice_split-cons_no}
 
 first_part_at : {X : Type 0} (p : X → Bool) (x : X) (xs future : List X) (b : Bool) → p x ≡ b
     → (position_or_len p xs < length xs → slice_split p (take (position_or_len p xs + 1) xs ++ future) ≡ take (position_or_len p xs) xs ∷ slice_split p future)

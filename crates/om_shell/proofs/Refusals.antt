@@ -10,7 +10,7 @@ use Rattle.om_parser.specs.Tree.{UnitTree}
 use Rattle.om_scope.specs.Breaches.{breaches_of, first_of}
 use Rattle.om_scope.specs.ResolvedTree.{ResolvedTree}
 use Rattle.om_lower.specs.Limits.{limit_breaches}
-use Rattle.om_shell.specs.Verdict.{IsTreeOfSource, IsResolutionOfSource, IsSyntaxFault, IsRefused, by_lexer, by_parser, by_names, by_code}
+use Rattle.om_shell.specs.Verdict.{IsTreeOfSource, IsResolutionOfSource, IsRefused, by_lexer, by_parser, by_names, by_code}
 
 abbrev pub Refuses : List ℕ → SourceFault → Type 0
 Refuses source fault = fault ≢ no_memory → IsRefused source fault

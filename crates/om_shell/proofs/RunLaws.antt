@@ -1,20 +1,19 @@
 -- A whole run, from its parts.
-use Rattle.std.proofs.Common.{◌≡◌, ◌≢◌, ◌⊎◌, inl, inr, ℕ, false, List, [], ◌++◌, Option, None, Some, IfSome, take, drop, refl, sym, ap, subst, ◌∙◌, append_assoc, append-nil, take-append-drop, Result, Ok, Err, IfErr}
+use Rattle.std.proofs.Common.{◌≡◌, ◌≢◌, ◌⊎◌, inl, inr, ℕ, List, [], ◌++◌, Option, None, Some, IfSome, take, drop, refl, sym, ap, subst, ◌∙◌, append_assoc, append-nil, take-append-drop, Result, Ok, Err, IfErr}
 use Rattle.std.specs.Io.KnownBytes.{Appends, Consumes, IsAtEnd}
-use Rattle.std.specs.Str.Lines.{lines}
-use Rattle.std.proofs.KnownBytes.{Appends-nil, Consumes-nil, Consumes-trans}
+use Rattle.std.proofs.KnownBytes.{Appends-nil, Consumes-trans}
 use Rattle.om_code.specs.declared.raw.Raw.{Raw}
 use Rattle.om_lexer.specs.declared.fault.SourceFault.{SourceFault}
 use Rattle.om_undo.specs.Machines.{MachineView}
 use Rattle.om_shell.specs.declared.fault.ShellFault.{ShellFault}
 use Rattle.om_shell.specs.declared.fault.ShellFault.TheVariants.{Read, Memory}
-use Rattle.om_shell.specs.Ends.{status_of, IsSettled, RunsToEnd, BeginsScript, HasOpenSource, AnswersLines, BreaksOffRun, WritesScript}
+use Rattle.om_shell.specs.Ends.{RunsToEnd, BreaksOffRun, WritesScript}
 use Rattle.om_shell.specs.Lines.{parts_of, source_in, commands_in}
-use Rattle.om_shell.specs.Progress.{IsBeginning, AppendsPart, Advance, BreaksOff, IsDone}
+use Rattle.om_shell.specs.Progress.{Advance, BreaksOff}
 use Rattle.om_shell.specs.Script.{source_of, script_by, transcript_of}
-use Rattle.om_shell.specs.Serving.{due_for, Serves, ServesPart, IsUntouched, BreaksOffServing, ServesAlone, ServesAlonePart, BreaksOffAlone}
+use Rattle.om_shell.specs.Serving.{due_for, Serves, BreaksOffServing, ServesAlone, ServesAlonePart, BreaksOffAlone}
 use Rattle.om_shell.specs.Source.{IsMarked, IsUnmarked, ReadsNoMark}
-use Rattle.om_shell.specs.Transcript.{Transcript, after_text}
+use Rattle.om_shell.specs.Transcript.{Transcript}
 use Rattle.om_shell.specs.Verdict.{IsVerdict}
 use Rattle.om_shell.proofs.Advances.{Done_then, Breaks_then}
 

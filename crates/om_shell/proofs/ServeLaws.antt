@@ -1,6 +1,6 @@
 -- A source that is served, by its verdict.
-use Rattle.std.proofs.Common.{◌≡◌, ◌≢◌, ◌⊎◌, inl, inr, ℕ, List, [], Option, None, Some, Result, Ok, Err, IfOk, IfErr, OnOk, refl, sym, ap}
-use Rattle.std.specs.Io.KnownBytes.{Appends, Consumes}
+use Rattle.std.proofs.Common.{◌≡◌, ◌≢◌, inr, ℕ, List, [], Option, None, Ok, Err, refl, ap}
+use Rattle.std.specs.Io.KnownBytes.{Appends}
 use Rattle.std.proofs.KnownBytes.{Appends-nil, Consumes-nil}
 use Rattle.om_code.specs.declared.raw.Raw.{Raw}
 use Rattle.om_lexer.specs.declared.fault.FaultCode.TheVariants.{Memory}
@@ -12,10 +12,9 @@ use Rattle.om_shell.specs.declared.fault.ShellFault.TheVariants.{Read}
 use Rattle.om_shell.specs.Places.{refusal_text}
 use Rattle.om_shell.specs.Progress.{AppendsPart, BreaksOff, IsDone}
 use Rattle.om_shell.specs.Replies.{due}
-use Rattle.om_shell.specs.Script.{started, transcript_of}
-use Rattle.om_shell.specs.Transcript.{Transcript}
-use Rattle.om_shell.specs.Verdict.{IsProgramOf, IsRefused, IsVerdict}
-use Rattle.om_shell.specs.Serving.{due_for, Serves, ServesPart, IsUntouched, BreaksOffServing, ServesAlone, ServesAlonePart, BreaksOffAlone}
+use Rattle.om_shell.specs.Script.{started}
+use Rattle.om_shell.specs.Verdict.{IsProgramOf, IsRefused}
+use Rattle.om_shell.specs.Serving.{due_for, Serves, ServesPart, IsUntouched, ServesAlone, BreaksOffAlone}
 use Rattle.om_shell.proofs.Advances.{Advance_none, Breaks_after, Done_unread}
 
 pub is_refused : (source : List ℕ) (fault : SourceFault) → (fault ≢ no_memory → IsRefused source fault) → fault.code ≢ Memory → IsRefused source fault

@@ -1,5 +1,5 @@
 -- A session, a line at a time.
-use Rattle.std.proofs.Common.{◌≡◌, ◌≢◌, ℕ, ◌+◌, ◌-◌, ◌<◌, ◌≤◌, Bool, true, false, cond, not, nat_eq, List, [], ◌∷◌, ◌++◌, ◌==◌, Option, None, Some, length, take, drop, map, refl, sym, ap, subst, ◌∙◌, arith, inl, inr, append_assoc, append-nil, take-add, length-drop, take-append-drop}
+use Rattle.std.proofs.Common.{◌≡◌, ◌≢◌, ℕ, ◌+◌, ◌<◌, ◌≤◌, true, false, nat_eq, List, [], ◌∷◌, ◌++◌, ◌==◌, Option, None, Some, length, take, drop, map, refl, sym, ap, subst, ◌∙◌, arith, inl, inr, append_assoc, append-nil, take-add, length-drop, take-append-drop}
 use Rattle.std.proofs.lemmas.Bool.Decides.{nat_tests}
 use Rattle.std.specs.List.{position_or_len}
 use Rattle.std.specs.Str.Lines.{lines, lines_of_parts, strip_carriage_return}

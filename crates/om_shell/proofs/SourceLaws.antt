@@ -1,12 +1,9 @@
 -- The source, a line at a time.
-use Rattle.std.proofs.Common.{◌≡◌, ◌≢◌, ℕ, zero, ◌+◌, ◌-◌, ◌<◌, ◌≤◌, Bool, true, false, cond, not, List, [], ◌∷◌, ◌++◌, ◌==◌, codes, Option, length, take, drop, refl, sym, ap, subst, ◌∙◌, arith, rules, append_assoc, append-nil, inr, take-add, length-drop, length-append, take-append-drop, take_all, get_or, eqb-true}
-use Rattle.std.specs.List.{position_or_len, slice_split, onto_first}
-use Rattle.std.specs.Str.{bytes_eq}
+use Rattle.std.proofs.Common.{◌≡◌, ℕ, ◌+◌, ◌<◌, ◌≤◌, Bool, true, false, cond, List, [], ◌∷◌, ◌++◌, ◌==◌, length, take, drop, refl, sym, ap, ◌∙◌, arith, append_assoc, append-nil, inr, take-add, length-drop, length-append, take-append-drop, take_all, get_or, eqb-true}
+use Rattle.std.specs.List.{position_or_len}
 use Rattle.std.specs.Str.Lines.{lines, lines_of_parts, strip_carriage_return}
-use Rattle.std.specs.Io.KnownBytes.{Appends, Consumes, IsAtEnd}
 use Rattle.std.proofs.lemmas.List.{take-append-le, take_more}
 use Rattle.std.proofs.lemmas.List.Sums.{passes_at_first}
-use Rattle.std.proofs.lemmas.Slice.Eq.{bytes_eq-Decides}
 use Rattle.om_shell.specs.Lines.{parts_of, source_in, commands_in, has_mark, is_mark}
 use Rattle.om_shell.specs.Lines.{HasNoLineEnd}
 use Rattle.om_shell.specs.Source.{Scanned, IsMarked, IsUnmarked}

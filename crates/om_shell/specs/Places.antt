@@ -1,5 +1,5 @@
 -- Lines and columns of a place in a source.
-use Rattle.std.specs.Prelude.{◌≡◌, ℕ, ◌+◌, List, ◌++◌, ◌==◌, if◌then◌else◌, codes, decimal, count_by, take}
+use Rattle.std.specs.Prelude.{ℕ, ◌+◌, List, ◌++◌, ◌==◌, if◌then◌else◌, codes, decimal, count_by, take}
 use Rattle.std.specs.List.{fold}
 use Rattle.om_lexer.specs.declared.fault.SourceFault.{SourceFault}
 use Rattle.om_lexer.specs.Faults.{number_of}

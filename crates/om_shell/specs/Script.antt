@@ -1,5 +1,5 @@
 -- The script: what a run writes for the bytes that it takes, and the machine that it leaves.
-use Rattle.std.specs.Prelude.{◌≡◌, ℕ, List, [], Option, None, Some, Result, Ok, Err}
+use Rattle.std.specs.Prelude.{◌≡◌, ℕ, List, Option, None, Some, Result, Ok, Err}
 use Rattle.std.specs.Str.Lines.{lines}
 use Rattle.om_code.specs.declared.raw.Raw.{Raw}
 use Rattle.om_lexer.specs.declared.fault.SourceFault.{SourceFault}

@@ -1,5 +1,5 @@
 -- The source, line by line.
-use Rattle.std.specs.Prelude.{◌≡◌, ℕ, ◌≤◌, Bool, false, List, [], ◌++◌, take, length, Option}
+use Rattle.std.specs.Prelude.{◌≡◌, ℕ, ◌≤◌, false, List, [], ◌++◌, take, length, Option}
 use Rattle.std.specs.Io.KnownBytes.{Consumes}
 use Rattle.std.specs.Str.Lines.{lines}
 use Rattle.om_shell.specs.declared.fault.ShellFault.{ShellFault}

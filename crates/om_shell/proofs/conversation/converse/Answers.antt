@@ -1,10 +1,10 @@
-use Rattle.std.proofs.Common.{rules, arith, ◌≡◌, ◌≢◌, ◌++◌, ◌+◌, ◌-◌, ◌<◌, false, [], length, drop, take, refl, sym, ap, subst, ◌∙◌, length-drop, length-append, Some}
+use Rattle.std.proofs.Common.{arith, ◌++◌, [], length, drop, refl, sym, ap, subst, ◌∙◌, length-drop, Some}
 use Rattle.std.proofs.lemmas.Result.{err_from_is_err_and}
-use Rattle.std.proofs.KnownBytes.{Appends-nil, Consumes-nil}
+use Rattle.std.proofs.KnownBytes.{Consumes-nil}
 use Rattle.om_shell.specs.Lines.{HasNoLineEnd}
 use Rattle.om_shell.proofs.Advances.{Advance_none, Advance_trans, Advance_read, Advance_answers, Done_at_end, Done_settled, Breaks_after, Breaks_at_read}
 use Rattle.om_shell.proofs.LineEnds.{known_whole}
-use Rattle.om_shell.proofs.SessionLaws.{last_line, last_begins, nothing_begins}
+use Rattle.om_shell.proofs.SessionLaws.{last_line, last_begins}
 use Rattle.om_shell.proofs.conversation.converse.Goals as goal
 
 pub reads-init : goal.reads-init

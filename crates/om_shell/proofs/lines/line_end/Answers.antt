@@ -1,5 +1,4 @@
-use Rattle.std.proofs.Common.{◌≡◌, sym, ap, ◌∙◌}
-use Rattle.std.specs.List.{position}
+use Rattle.std.proofs.Common.{◌∙◌}
 use Rattle.om_shell.proofs.Bytes.{slice_to_end}
 use Rattle.om_shell.proofs.LineEnds.{found_after, none_after}
 use Rattle.om_shell.proofs.lines.line_end.Goals as goal

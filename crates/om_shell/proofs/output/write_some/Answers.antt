@@ -1,4 +1,4 @@
-use Rattle.std.proofs.Common.{rules, arith, drop, length, length-drop}
+use Rattle.std.proofs.Common.{arith, length-drop}
 use Rattle.std.proofs.KnownBytes.{Appends-kept}
 use Rattle.om_shell.proofs.Bytes.{Appends_more, slice_to_end}
 use Rattle.om_shell.proofs.output.write_some.Goals.{in-Ok, in-Err+else-ne}

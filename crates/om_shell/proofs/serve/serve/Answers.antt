@@ -1,4 +1,4 @@
-use Rattle.std.proofs.Common.{rules, inr, ◌≢◌, sym, ◌∙◌}
+use Rattle.std.proofs.Common.{rules, inr, ◌≢◌}
 use Rattle.std.proofs.lemmas.Result.{err_from_is_err_and}
 use Rattle.om_lexer.specs.declared.fault.FaultCode.TheVariants.{Memory}
 use Rattle.om_shell.proofs.ServeLaws.{is_refused, Serves_refused, ServesPart_refused}

@@ -1,4 +1,4 @@
-use Rattle.std.proofs.Common.{rules, ◌≡◌, take, sym, ap, ◌∙◌}
+use Rattle.std.proofs.Common.{take, ap, ◌∙◌}
 use Rattle.std.proofs.lemmas.Result.{err_from_is_err_and, IfOk-weaker}
 use Rattle.om_shell.proofs.RunLaws.{Runs_marked, Breaks_reading, Breaks_marked, IfErr_weaker}
 use Rattle.om_shell.proofs.shell.run_from_input.Goals as goal

@@ -1,4 +1,4 @@
-use Rattle.std.proofs.Common.{rules, arith, ◌≡◌, ◌-◌, ◌++◌, false, [], length, drop, sym, ap, ◌∙◌, append-nil, subst}
+use Rattle.std.proofs.Common.{arith, ◌++◌, sym, ap, ◌∙◌, append-nil, subst}
 use Rattle.std.proofs.lemmas.Result.{err_from_is_err_and}
 use Rattle.std.proofs.KnownBytes.{Consumes-trans}
 use Rattle.std.specs.Io.KnownBytes.{Consumes}

@@ -1,4 +1,4 @@
-use Rattle.std.proofs.Common.{rules, arith, ◌≡◌, ◌+◌, ◌-◌, true, false, length, drop, take, sym, ap, ◌∙◌, refl, length-drop}
+use Rattle.std.proofs.Common.{arith, ◌≡◌, ◌+◌, ◌-◌, drop, take, sym, ap, ◌∙◌, refl}
 use Rattle.std.specs.Str.Lines.{strip_carriage_return}
 use Rattle.om_shell.specs.Lines.{is_mark}
 use Rattle.om_shell.proofs.Bytes.{slice_to_end}

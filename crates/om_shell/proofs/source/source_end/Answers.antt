@@ -1,4 +1,4 @@
-use Rattle.std.proofs.Common.{rules, ◌≡◌, true, false, drop, sym, ap, ◌∙◌, refl}
+use Rattle.std.proofs.Common.{true, false, sym, ap, ◌∙◌, refl}
 use Rattle.om_shell.specs.Lines.{is_mark}
 use Rattle.om_shell.proofs.Bytes.{slice_to_end}
 use Rattle.om_shell.proofs.SourceLaws.{Unmarked_at_end}
