@@ -11,8 +11,8 @@ use Rattle.om_lexer.specs.declared.token.Span.{Span}
 use Rattle.om_lexer.specs.declared.token.Token.{Token}
 use Rattle.om_parser.specs.declared.tree.BinaryOperator.{BinaryOperator}
 use Rattle.om_parser.specs.declared.tree.BinaryOperator.TheVariants as binaries
-use Rattle.om_parser.specs.declared.tree.Name as names
-use Rattle.om_parser.specs.declared.tree.Number.{Number}
+use Rattle.om_pragma.specs.declared.name.Name as names
+use Rattle.om_pragma.specs.declared.name.Number.{Number}
 use Rattle.om_parser.specs.ExpressionReading.{within, take_binary}
 use Rattle.om_parser.specs.Reading.{◌>>=◌, Outcome, too_deep, take, same_mark, same_word, take_mark, take_word, take_name, take_number, mark_at, word_at, name_at, number_at}
 use Rattle.om_parser.specs.Spelling.{mark, word, name, number, binary_mark}

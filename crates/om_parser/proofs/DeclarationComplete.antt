@@ -7,8 +7,8 @@ use Rattle.om_lexer.specs.declared.token.Punctuator.TheVariants as punctuators
 use Rattle.om_lexer.specs.declared.token.Span.{Span}
 use Rattle.om_lexer.specs.declared.token.Token.{Token}
 use Rattle.om_parser.specs.declared.tree.ArrayLength.{ArrayLength}
-use Rattle.om_parser.specs.declared.tree.Name as names
-use Rattle.om_parser.specs.declared.tree.Number.{Number}
+use Rattle.om_pragma.specs.declared.name.Name as names
+use Rattle.om_pragma.specs.declared.name.Number.{Number}
 use Rattle.om_parser.specs.declared.tree.PrefixOperator.TheVariants as prefixes
 use Rattle.om_parser.specs.DeclarationReading.{constant_at, array_after, declarator_after, further_at, declaration_after, declared_at}
 use Rattle.om_parser.specs.Formed.{IsSignedConstant, IsDeclarator, IsDeclaration}
@@ -111,7 +111,7 @@ module _ (Admitted Fits : ExpressionTree → Type 0) (initial : Reader Expressio
     one = further_again;
     unended = λ d rest f. refl;
     follows = λ d rest f. EndsByComma d.0 (declarator_spelling d.1 ++ rest);
-    some_tokens = further_some;
+    some_tokens = λ d f. further_some d;
   }
 
   ends_first : (ds : List (Span × DeclaratorTree)) (s : Span) (rest : List Token) → EndsDeclarator (flat_map further_spelling ds ++ mark punctuators.Semicolon s ∷ rest)

@@ -8,7 +8,7 @@ use Rattle.om_lexer.specs.declared.token.Keyword.TheVariants as keywords
 use Rattle.om_lexer.specs.declared.token.Punctuator.TheVariants as punctuators
 use Rattle.om_lexer.specs.declared.token.Span.{Span}
 use Rattle.om_lexer.specs.declared.token.Token.{Token}
-use Rattle.om_parser.specs.declared.tree.Name as names
+use Rattle.om_pragma.specs.declared.name.Name as names
 use Rattle.om_parser.specs.DeclarationReading.{constant_at, array_after, declarator_after, further_at, declaration_after, declared_at}
 use Rattle.om_parser.specs.Reading.{Reader, take_mark, mark_at, name_at, number_at}
 use Rattle.om_parser.specs.Repetition.{until}

@@ -7,8 +7,8 @@ use Rattle.om_lexer.specs.declared.token.Span.{Span}
 use Rattle.om_lexer.specs.declared.token.Token.{Token}
 use Rattle.om_parser.specs.declared.tree.BinaryOperator.{BinaryOperator}
 use Rattle.om_parser.specs.declared.tree.BinaryOperator.TheVariants as binaries
-use Rattle.om_parser.specs.declared.tree.Name as names
-use Rattle.om_parser.specs.declared.tree.Number.{Number}
+use Rattle.om_pragma.specs.declared.name.Name as names
+use Rattle.om_pragma.specs.declared.name.Number.{Number}
 use Rattle.om_parser.specs.ExpressionReading.{within, take_binary, paren_after, primary_step, operators_at, sum_step, primary_at, sum_at}
 use Rattle.om_parser.specs.Formed.{level, IsExpression}
 use Rattle.om_parser.specs.Limits.{nesting}

@@ -2,7 +2,7 @@
 use Rattle.std.proofs.Common.{ℕ, zero, suc, List, length}
 use Rattle.om_lexer.specs.declared.token.Span.{Span}
 use Rattle.om_lexer.specs.declared.token.Token.{Token}
-use Rattle.om_parser.specs.declared.tree.Number.{Number}
+use Rattle.om_pragma.specs.declared.name.Number.{Number}
 use Rattle.om_parser.specs.ExpressionReading.{paren_after, primary_step, operators_at, sum_step, primary_at}
 use Rattle.om_parser.specs.Reading.{Reader, mark_at, name_at}
 use Rattle.om_parser.specs.Tree.{ExpressionTree}

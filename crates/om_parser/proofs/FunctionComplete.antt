@@ -5,7 +5,7 @@ use Rattle.om_lexer.specs.declared.token.Keyword.TheVariants as keywords
 use Rattle.om_lexer.specs.declared.token.Punctuator.TheVariants as punctuators
 use Rattle.om_lexer.specs.declared.token.Span.{Span}
 use Rattle.om_lexer.specs.declared.token.Token.{Token}
-use Rattle.om_parser.specs.declared.tree.Name as names
+use Rattle.om_pragma.specs.declared.name.Name as names
 use Rattle.om_parser.specs.declared.tree.Parameter.{Parameter}
 use Rattle.om_parser.specs.FunctionReading.{parameter_at, further_parameter_at, listed_at, parameters_at, head_after}
 use Rattle.om_parser.specs.Reading.{Outcome, take, same_mark, same_word, take_mark, take_word, take_name}
@@ -48,7 +48,7 @@ all_further_again = record {
   one = λ p rest f ends. inl (further_parameter_again p rest ends);
   unended = λ p rest f. refl;
   follows = λ p rest f. EndsByComma p.0 (parameter_spelling p.1 ++ rest);
-  some_tokens = further_parameter_some;
+  some_tokens = λ p f. further_parameter_some p;
 }
 
 ends_first : (ps : List (Span × Parameter)) (s : Span) (rest : List Token) → EndsParameter (flat_map (behind_comma parameter_spelling) ps ++ mark punctuators.CloseParen s ∷ rest)

@@ -30,11 +30,11 @@ pub record AreAgain {A : Type 0} (spell : A → List Token) (P F : A → Type 0)
   pub one : (x : A) (rest : List Token) → P x → MayFollow rest → IsAnswer (F x) (item (spell x ++ rest)) (x, rest)
   pub unended : (x : A) (rest : List Token) → P x → ender (spell x ++ rest) ≡ None
   pub follows : (x : A) (rest : List Token) → P x → MayFollow (spell x ++ rest)
-  pub some_tokens : (x : A) → 0 < length (spell x)
+  pub some_tokens : (x : A) → P x → 0 < length (spell x)
 
-items_length : {A : Type 0} (spell : A → List Token) → ((x : A) → 0 < length (spell x)) → (xs : List A) → length xs ≤ length (flat_map spell xs)
-items_length spell some_tokens [] = omega arith
-items_length spell some_tokens (x ∷ xs) = omega (arith, some_tokens x, items_length spell some_tokens xs, length-append (spell x) (flat_map spell xs))
+items_length : {A : Type 0} (spell : A → List Token) (P : A → Type 0) → ((x : A) → P x → 0 < length (spell x)) → (xs : List A) → All P xs → length xs ≤ length (flat_map spell xs)
+items_length spell P some_tokens [] f = omega arith
+items_length spell P some_tokens (x ∷ xs) f = omega (arith, some_tokens x (All-head P x xs f), items_length spell P some_tokens xs (All-tail P x xs f), length-append (spell x) (flat_map spell xs))
 
 module _ {A : Type 0} (spell : A → List Token) (P F : A → Type 0) (MayFollow : List Token → Type 0) (ender : Ender) (item : Reader A) (again : AreAgain spell P F MayFollow ender item) (last : Token) (s : Span) (us : List Token) (ends : ender (last ∷ us) ≡ some (s, us)) (may_end : MayFollow (last ∷ us)) where
   may_follow : (xs : List A) → All P xs → MayFollow (flat_map spell xs ++ last ∷ us)
@@ -51,4 +51,4 @@ module _ {A : Type 0} (spell : A → List Token) (P F : A → Type 0) (MayFollow
       (bind_answer (until ender item k rest) _ (xs, s, us) (x ∷ xs, s, us) (λ w. All-tail F x xs w) (until_so_many k xs (omega arith) (All-tail P x xs f)) (inl refl)))
 
   pub until_again : (xs : List A) → All P xs → IsAnswer (All F xs) (until ender item (length (flat_map spell xs ++ last ∷ us)) (flat_map spell xs ++ last ∷ us)) (xs, s, us)
-  until_again xs f = until_so_many (length (flat_map spell xs ++ last ∷ us)) xs (omega (arith, items_length spell again.some_tokens xs, length-append (flat_map spell xs) (last ∷ us))) f
+  until_again xs f = until_so_many (length (flat_map spell xs ++ last ∷ us)) xs (omega (arith, items_length spell P again.some_tokens xs f, length-append (flat_map spell xs) (last ∷ us))) f

@@ -2,6 +2,7 @@
 use Rattle.std.proofs.Common.{◌≡◌, ◌<◌, List, [], ◌∷◌, length, ap, arith, length-append}
 use Rattle.om_lexer.specs.declared.token.Punctuator.TheVariants as punctuators
 use Rattle.om_lexer.specs.declared.token.Token.{Token}
+use Rattle.om_parser.specs.Formed.{IsStatement}
 use Rattle.om_parser.specs.Limits.{Limits}
 use Rattle.om_parser.specs.Spelling.{mark, expression_spelling, statement_spelling, declaration_spelling, for_head_spelling}
 use Rattle.om_parser.specs.Tree.{StatementTree, LocalDeclaration, Block, Empty, Expression, If, IfElse, While, Do, For, Return, Break, Continue}
@@ -9,20 +10,11 @@ use Rattle.om_parser.specs.StatementReading.{statement_at}
 use Rattle.om_parser.proofs.Outcomes.{ok}
 use Rattle.om_parser.proofs.StatementSound.{statement_sound}
 
-pub statement_some : (s : StatementTree) → 0 < length (statement_spelling s)
-unfolding statement_spelling declaration_spelling for_head_spelling
-statement_some (Expression e semicolon) = omega (arith, length-append (expression_spelling e) (mark punctuators.Semicolon semicolon ∷ []))
-statement_some (LocalDeclaration d) = omega arith
-statement_some (Block left items right) = omega arith
-statement_some (Empty semicolon) = omega arith
-statement_some (If at c s) = omega arith
-statement_some (IfElse at c s other t) = omega arith
-statement_some (While at c s) = omega arith
-statement_some (Do at s again c semicolon) = omega arith
-statement_some (For h s) = omega arith
-statement_some (Return at value semicolon) = omega arith
-statement_some (Break at semicolon) = omega arith
-statement_some (Continue at semicolon) = omega arith
+pub statement_some : (s : StatementTree) → IsStatement s → 0 < length (statement_spelling s)
+unfolding statement_spelling IsStatement
+statement_some (Expression e semicolon) f = omega (arith, length-append (expression_spelling e) (mark punctuators.Semicolon semicolon ∷ []))
+statement_some (Return at value semicolon) f = omega arith
+statement_some _ f = absurd f
 
 pub statement_shorter : (l : Limits) (ts : List Token) (s : StatementTree) (us : List Token) → (statement_at l) ts ≡ ok (s, us) → length us < length ts
-statement_shorter l ts s us e = let r = statement_sound l ts (s, us) e in omega (arith, ap length r.parts, length-append (statement_spelling s) us, statement_some s)
+statement_shorter l ts s us e = let r = statement_sound l ts (s, us) e in omega (arith, ap length r.parts, length-append (statement_spelling s) us, statement_some s r.formed.0)

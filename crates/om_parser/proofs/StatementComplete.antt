@@ -8,7 +8,7 @@ use Rattle.om_lexer.specs.declared.token.Span.{Span}
 use Rattle.om_lexer.specs.declared.token.Token.{Token}
 use Rattle.om_parser.specs.declared.tree.AssignOperator.TheVariants as assigns
 use Rattle.om_parser.specs.declared.tree.BinaryOperator.TheVariants as binaries
-use Rattle.om_parser.specs.declared.tree.Name as names
+use Rattle.om_pragma.specs.declared.name.Name as names
 use Rattle.om_parser.specs.ExpressionReading.{take_binary}
 use Rattle.om_parser.specs.Formed.{level, IsExpression, IsStatement}
 use Rattle.om_parser.specs.Limits.{Limits, IsWithin, expressions_of_statement}

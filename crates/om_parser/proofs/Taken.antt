@@ -9,8 +9,8 @@ use Rattle.om_lexer.specs.declared.token.Span.{Span}
 use Rattle.om_lexer.specs.declared.token.Token.{Token}
 use Rattle.om_lexer.specs.declared.token.TokenKind.{TokenKind}
 use Rattle.om_lexer.specs.declared.token.TokenKind.TheVariants as kinds
-use Rattle.om_parser.specs.declared.tree.Name as names
-use Rattle.om_parser.specs.declared.tree.Number.{Number}
+use Rattle.om_pragma.specs.declared.name.Name as names
+use Rattle.om_pragma.specs.declared.name.Number.{Number}
 use Rattle.om_parser.specs.Reading.{take, same_mark, same_word, mark_of, word_of, name_of, number_of, take_mark, take_word, take_name, take_number, mark_at, word_at, name_at, number_at}
 use Rattle.om_parser.specs.Spelling.{token, mark, word, name, number}
 use Rattle.om_parser.proofs.Outcomes.{ok, some, some_is, choose_cases, known_ok, cond_some}

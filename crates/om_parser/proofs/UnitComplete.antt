@@ -8,7 +8,7 @@ use Rattle.om_lexer.specs.declared.token.Span.{Span}
 use Rattle.om_lexer.specs.declared.token.Token.{Token}
 use Rattle.om_lexer.specs.declared.token.TokenKind.TheVariants as kinds
 use Rattle.om_parser.specs.declared.declaration.Initial.TheVariants as initials
-use Rattle.om_parser.specs.declared.tree.Name as names
+use Rattle.om_pragma.specs.declared.name.Name as names
 use Rattle.om_parser.specs.declared.tree.ResultType.{ResultType}
 use Rattle.om_parser.specs.declared.tree.ResultType.TheVariants as results
 use Rattle.om_parser.specs.DeclarationReading.{initial_at, declaration_after}
@@ -104,7 +104,7 @@ module _ (l : Limits) where
     one = λ i rest f any. item_again i rest f;
     unended = unended;
     follows = λ i rest f. tt;
-    some_tokens = item_some;
+    some_tokens = λ i f. item_some i;
   }
     where
       unended : (i : ItemTree) (rest : List Token) → IsItem i → take_end (item_spelling i ++ rest) ≡ None

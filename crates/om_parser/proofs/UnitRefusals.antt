@@ -6,7 +6,7 @@ use Rattle.om_lexer.specs.declared.token.Punctuator.TheVariants as punctuators
 use Rattle.om_lexer.specs.declared.token.Span.{Span}
 use Rattle.om_lexer.specs.declared.token.Token.{Token}
 use Rattle.om_parser.specs.declared.declaration.Initial.TheVariants as initials
-use Rattle.om_parser.specs.declared.tree.Name as names
+use Rattle.om_pragma.specs.declared.name.Name as names
 use Rattle.om_parser.specs.declared.tree.ResultType.{ResultType}
 use Rattle.om_parser.specs.DeclarationReading.{initial_at, declaration_after}
 use Rattle.om_parser.specs.FunctionReading.{are_named, head_after}

@@ -5,7 +5,7 @@ use Rattle.om_lexer.specs.declared.token.Span.{Span}
 use Rattle.om_parser.specs.declared.declaration.Initial.{Initial}
 use Rattle.om_parser.specs.declared.declaration.Initial.TheVariants as initials
 use Rattle.om_parser.specs.declared.tree.ArrayLength.{ArrayLength}
-use Rattle.om_parser.specs.declared.tree.Name as names
+use Rattle.om_pragma.specs.declared.name.Name as names
 use Rattle.om_parser.specs.declared.tree.PrefixOperator.TheVariants as prefixes
 use Rattle.om_parser.specs.ExpressionReading.{sum_at}
 use Rattle.om_parser.specs.Limits.{Limits}

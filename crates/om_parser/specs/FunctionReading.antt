@@ -4,7 +4,7 @@ use Rattle.std.specs.List.{list_all}
 use Rattle.om_lexer.specs.declared.token.Keyword.TheVariants as keywords
 use Rattle.om_lexer.specs.declared.token.Punctuator.TheVariants as punctuators
 use Rattle.om_lexer.specs.declared.token.Span.{Span}
-use Rattle.om_parser.specs.declared.tree.Name as names
+use Rattle.om_pragma.specs.declared.name.Name as names
 use Rattle.om_parser.specs.declared.tree.Parameter.{Parameter}
 use Rattle.om_parser.specs.declared.tree.ResultType.{ResultType}
 use Rattle.om_parser.specs.Reading.{◌>>=◌, choose, Reader, take_mark, take_word, take_name, mark_at, word_at}

@@ -12,8 +12,8 @@ use Rattle.om_lexer.specs.declared.token.Span.{Span}
 use Rattle.om_lexer.specs.declared.token.Token.{Token}
 use Rattle.om_lexer.specs.declared.token.TokenKind.{TokenKind}
 use Rattle.om_lexer.specs.declared.token.TokenKind.TheVariants as kinds
-use Rattle.om_parser.specs.declared.tree.Name as names
-use Rattle.om_parser.specs.declared.tree.Number.{Number}
+use Rattle.om_pragma.specs.declared.name.Name as names
+use Rattle.om_pragma.specs.declared.name.Number.{Number}
 
 -- what reading gives: a value, or the fault that stops it
 abbrev pub Outcome : Type 0 → Type 0

@@ -9,13 +9,14 @@ use Rattle.om_lexer.specs.declared.token.Span.{Span}
 use Rattle.om_lexer.specs.declared.token.Token.{Token}
 use Rattle.om_lexer.specs.declared.token.TokenKind.{TokenKind}
 use Rattle.om_lexer.specs.declared.token.TokenKind.TheVariants as kinds
+use Rattle.om_pragma.specs.Spelling.{directive_spelling}
 use Rattle.om_parser.specs.declared.tree.ArrayLength.{ArrayLength}
 use Rattle.om_parser.specs.declared.tree.AssignOperator.{AssignOperator}
 use Rattle.om_parser.specs.declared.tree.AssignOperator.TheVariants as assigns
 use Rattle.om_parser.specs.declared.tree.BinaryOperator.{BinaryOperator}
 use Rattle.om_parser.specs.declared.tree.BinaryOperator.TheVariants as binaries
-use Rattle.om_parser.specs.declared.tree.Name as names
-use Rattle.om_parser.specs.declared.tree.Number.{Number}
+use Rattle.om_pragma.specs.declared.name.Name as names
+use Rattle.om_pragma.specs.declared.name.Number.{Number}
 use Rattle.om_parser.specs.declared.tree.Parameter.{Parameter}
 use Rattle.om_parser.specs.declared.tree.PostfixOperator.{PostfixOperator}
 use Rattle.om_parser.specs.declared.tree.PostfixOperator.TheVariants as postfixes
@@ -24,7 +25,7 @@ use Rattle.om_parser.specs.declared.tree.PrefixOperator.TheVariants as prefixes
 use Rattle.om_parser.specs.declared.tree.ResultType.{ResultType}
 use Rattle.om_parser.specs.declared.tree.ResultType.TheVariants as results
 use Rattle.om_parser.specs.declared.tree.Text as texts
-use Rattle.om_parser.specs.Tree.{ExpressionTree, Name, Constant, Text, Paren, Index, Call, Prefix, Postfix, Binary, Conditional, Assign, ArgumentsTree, NoArguments, Argument, InitializerTree, DeclaratorTree, DeclarationTree, ConditionTree, ForStartTree, Nothing, StartExpression, StartDeclaration, ForHeadTree, StatementTree, LocalDeclaration, Block, Empty, Expression, If, IfElse, While, Do, For, Return, Break, Continue, StatementsTree, NoStatements, Statement, BlockTree, ParametersTree, NoParameters, Void, Listed, HeadTree, FunctionTree, ItemTree, Declaration, Prototype, Function, UnitTree}
+use Rattle.om_parser.specs.Tree.{ExpressionTree, Name, Constant, Text, Paren, Index, Call, Prefix, Postfix, Binary, Conditional, Assign, ArgumentsTree, NoArguments, Argument, InitializerTree, DeclaratorTree, DeclarationTree, ConditionTree, ForStartTree, Nothing, StartExpression, StartDeclaration, ForHeadTree, StatementTree, LocalDeclaration, Block, Empty, Expression, If, IfElse, While, Do, For, Return, Break, Continue, Construct, StandAlone, Sections, Section, StatementsTree, NoStatements, Statement, BlockTree, ParametersTree, NoParameters, Void, Listed, HeadTree, ItemTree, Declaration, Prototype, Function, UnitTree}
 
 -- a token of a kind, where it stands
 abbrev pub token : TokenKind → Span → Token
@@ -152,6 +153,10 @@ unfoldable mutual
   statement_spelling (Return at value semicolon) = word keywords.Return at ∷ (perhaps expression_spelling value ++ mark punctuators.Semicolon semicolon ∷ [])
   statement_spelling (Break at semicolon) = word keywords.Break at ∷ mark punctuators.Semicolon semicolon ∷ []
   statement_spelling (Continue at semicolon) = word keywords.Continue at ∷ mark punctuators.Semicolon semicolon ∷ []
+  statement_spelling (Construct d s) = directive_spelling expression_spelling d ++ statement_spelling s
+  statement_spelling (StandAlone d) = directive_spelling expression_spelling d
+  statement_spelling (Sections d left parts right) = directive_spelling expression_spelling d ++ mark punctuators.OpenBrace left ∷ (statements_spelling parts ++ mark punctuators.CloseBrace right ∷ [])
+  statement_spelling (Section d items) = perhaps (directive_spelling expression_spelling) d ++ statements_spelling items
 
   -- several of them
   pub statements_spelling : StatementsTree → List Token

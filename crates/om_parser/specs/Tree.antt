@@ -1,11 +1,12 @@
 -- Trees without the memory that they lie in: no boxes, no capacities.
 use Rattle.std.specs.Prelude.{List, [], ◌∷◌, Option}
 use Rattle.om_lexer.specs.declared.token.Span.{Span}
+use Rattle.om_pragma.specs.declared.tree.Directive.{Directive}
 use Rattle.om_parser.specs.declared.tree.ArrayLength.{ArrayLength}
 use Rattle.om_parser.specs.declared.tree.AssignOperator.{AssignOperator}
 use Rattle.om_parser.specs.declared.tree.BinaryOperator.{BinaryOperator}
-use Rattle.om_parser.specs.declared.tree.Name as names
-use Rattle.om_parser.specs.declared.tree.Number.{Number}
+use Rattle.om_pragma.specs.declared.name.Name as names
+use Rattle.om_pragma.specs.declared.name.Number.{Number}
 use Rattle.om_parser.specs.declared.tree.Parameter.{Parameter}
 use Rattle.om_parser.specs.declared.tree.PostfixOperator.{PostfixOperator}
 use Rattle.om_parser.specs.declared.tree.PrefixOperator.{PrefixOperator}
@@ -92,6 +93,10 @@ mutual
     Return : Span → Option ExpressionTree → (semicolon : Span) → StatementTree
     Break : Span → (semicolon : Span) → StatementTree
     Continue : Span → (semicolon : Span) → StatementTree
+    Construct : Directive ExpressionTree → StatementTree → StatementTree
+    StandAlone : Directive ExpressionTree → StatementTree
+    Sections : Directive ExpressionTree → (left : Span) → StatementsTree → (right : Span) → StatementTree
+    Section : Option (Directive ExpressionTree) → StatementsTree → StatementTree
 
   -- several of them
   pub data StatementsTree : Type 0 where

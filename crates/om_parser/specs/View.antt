@@ -1,6 +1,8 @@
 -- The tree of a value of the program.
-use Rattle.std.specs.Prelude.{List, map, option_map}
+use Rattle.std.specs.Prelude.{map, option_map}
 use Rattle.om_lexer.specs.declared.token.Span.{Span}
+use Rattle.om_pragma.specs.declared.tree.Directive.{Directive}
+use Rattle.om_pragma.specs.Expressions.{map_directive}
 use Rattle.om_parser.specs.declared.tree.Block as blocks
 use Rattle.om_parser.specs.declared.tree.Condition.{Condition}
 use Rattle.om_parser.specs.declared.tree.Declaration as declarations
@@ -79,6 +81,10 @@ view_for_head h = record {
   close_paren = h.close_paren;
 }
 
+-- a directive whose expressions are trees
+abbrev pub view_directive : Directive Expression → Directive ExpressionTree
+view_directive = map_directive view_expression
+
 -- one layer of a statement, whose parts are trees already
 abbrev pub statement_layer : Statement-F StatementTree → StatementTree
 statement_layer (Statement-F.Declaration d) = trees.LocalDeclaration (view_declaration d)
@@ -93,6 +99,10 @@ statement_layer (Statement-F.For h s) = trees.For (view_for_head h) s.value
 statement_layer (Statement-F.Return at value semicolon) = trees.Return at (option_map view_expression value) semicolon
 statement_layer (Statement-F.Break at semicolon) = trees.Break at semicolon
 statement_layer (Statement-F.Continue at semicolon) = trees.Continue at semicolon
+statement_layer (Statement-F.Construct d s) = trees.Construct (view_directive d) s.value
+statement_layer (Statement-F.StandAlone d) = trees.StandAlone (view_directive d)
+statement_layer (Statement-F.Sections d left parts right) = trees.Sections (view_directive d) left (trees.statements parts.items) right
+statement_layer (Statement-F.Section d items) = trees.Section (option_map view_directive d) (trees.statements items.items)
 
 -- a statement without boxes and capacities
 abbrev pub view_statement : Statement → StatementTree

@@ -12,10 +12,11 @@ ghost use Rattle.om_parser.specs.View.{view_expression, view_declarator, view_de
 use crate::expression::sum;
 use crate::front::{mark, name, number, take_mark};
 use crate::tree::{
-    ArrayLength, Declaration, Declarator, Expression, Initializer, Name, PrefixOperator,
+    ArrayLength, Declaration, Declarator, Expression, Initializer, PrefixOperator,
 };
 use crate::unit::TOKEN_LIMIT;
 use om_lexer::{Punctuator, SourceFault, Span, Token};
+use om_pragma::Name;
 use std::alloc::Global;
 
 /// What may stand behind the `=` of a declarator (C17 6.7.9).

@@ -9,8 +9,9 @@ ghost use Rattle.om_parser.specs.Repetition.{optional, until};
 ghost use Rattle.om_parser.specs.View.{view_parameters, view_head};
 
 use crate::front::{mark, name, take_mark, take_word, word};
-use crate::tree::{FunctionHead, Name, Parameter, Parameters, ResultType};
+use crate::tree::{FunctionHead, Parameter, Parameters, ResultType};
 use om_lexer::{Keyword, Punctuator, SourceFault, Span, Token, TokenKind};
+use om_pragma::Name;
 use std::alloc::Global;
 
 /// The rest of a function's head, of which all up to the left parenthesis is taken.

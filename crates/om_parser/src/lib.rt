@@ -9,9 +9,10 @@ mod statement;
 mod tree;
 mod unit;
 
+pub use om_pragma::{Name, Number};
 pub use tree::{
     ArrayLength, AssignOperator, BinaryOperator, Block, Condition, Declaration, Declarator,
-    Expression, ForHead, ForStart, Function, FunctionHead, Initializer, Item, Name, Number,
+    Expression, ForHead, ForStart, Function, FunctionHead, Initializer, Item,
     Parameter, Parameters, PostfixOperator, PrefixOperator, ResultType, Statement, Text, Unit,
 };
 pub use unit::{NESTING_LIMIT, TOKEN_LIMIT, one_tree, parse};

@@ -1,23 +1,8 @@
 //! The tree of a source. It keeps the span of each of its tokens.
 
 use om_lexer::Span;
+use om_pragma::{Directive, Name, Number};
 use om_seq::Seq;
-
-/// A name where it stands.
-#[derive(Debug, Drop)]
-pub struct Name {
-    /// Its letters, digits and `_`.
-    pub text: Seq<u8>,
-    pub span: Span,
-}
-
-/// A constant where it stands.
-#[derive(Clone, Copy, Debug)]
-pub struct Number {
-    /// At most 2147483647.
-    pub value: u32,
-    pub span: Span,
-}
 
 /// A string literal where it stands.
 #[derive(Debug, Drop)]
@@ -176,6 +161,14 @@ pub enum Statement {
     Return(Span, Option<Expression>, Span),
     Break(Span, Span),
     Continue(Span, Span),
+    /// A directive and the statement that it is for.
+    Construct(Directive<Expression>, Box<Statement>),
+    /// A directive that is for no statement.
+    StandAlone(Directive<Expression>),
+    /// `sections` or `parallel sections`, and its parts in braces, each a [`Statement::Section`].
+    Sections(Directive<Expression>, Span, Vec<Statement>, Span),
+    /// A part of `sections`: its `section`, which the first part may lack, and its items.
+    Section(Option<Directive<Expression>>, Vec<Statement>),
 }
 
 /// The block of a function (C17 6.8.2).

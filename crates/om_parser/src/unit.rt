@@ -17,8 +17,9 @@ use crate::declaration::{Initial, declaration_after};
 use crate::front::{mark, name, syntax, take_mark, take_word, word};
 use crate::function::{are_named, head_after};
 use crate::statement::block;
-use crate::tree::{Function, FunctionHead, Item, Name, ResultType, Unit};
+use crate::tree::{Function, FunctionHead, Item, ResultType, Unit};
 use om_lexer::{Keyword, Punctuator, SourceFault, Span, Token, TokenKind};
+use om_pragma::Name;
 use std::alloc::Global;
 
 /// How deep parentheses may nest in an expression.

@@ -2,7 +2,7 @@
 use Rattle.std.proofs.Common.{◌≡◌, pos, ℕ, suc, ◌≤◌, List, [], ◌∷◌, ◌++◌, All, Option, None, Some, refl, arith}
 use Rattle.om_lexer.specs.declared.fault.SourceFault.{SourceFault}
 use Rattle.om_parser.specs.declared.tree.AssignOperator.TheVariants as assigns
-use Rattle.om_parser.specs.Tree.{ExpressionTree, Name, Constant, Text, Paren, Index, Call, Prefix, Postfix, Binary, Conditional, Assign, StatementTree, LocalDeclaration, Block, Empty, Expression, If, IfElse, While, Do, For, Return, Break, Continue, FunctionTree, ItemTree, Declaration, Prototype, Function}
+use Rattle.om_parser.specs.Tree.{ExpressionTree, Name, Constant, Text, Paren, Index, Call, Prefix, Postfix, Binary, Conditional, Assign, StatementTree, LocalDeclaration, Block, Empty, Expression, If, IfElse, While, Do, For, Return, Break, Continue, Construct, StandAlone, Sections, Section, FunctionTree, ItemTree, Declaration, Prototype, Function}
 use Rattle.om_scope.specs.declared.symbols.Meaning.{Meaning}
 use Rattle.om_scope.specs.declared.symbols.Meaning.TheVariants as meanings
 use Rattle.om_scope.specs.Breaches.{meaning_breaches, use_breaches, expression_breaches, assignment_breaches, run_breaches, statement_breaches, breaches_along, function_breaches, redeclared_breaches, item_breaches, items_breaches, main_breaches, breaches_of}
@@ -98,6 +98,10 @@ has_statement scopes (Do at s again c semicolon) whole = cc
 has_statement scopes (For head s) whole = cc
 has_statement scopes (Break at semicolon) whole = cc
 has_statement scopes (Continue at semicolon) whole = cc
+has_statement scopes (Construct d s) whole = cc
+has_statement scopes (StandAlone d) whole = cc
+has_statement scopes (Sections d left parts right) whole = cc
+has_statement scopes (Section d items) whole = cc
 
 module _ {X Y : Type 0} (breaches : Scopes → X → List SourceFault) (resolved : Scopes → X → Option (List Y)) (after : Scopes → X → Scopes)
     (has_one : (scopes : Scopes) (x : X) → breaches scopes x ≡ [] → Has (resolved scopes x)) where

@@ -11,7 +11,7 @@ use Rattle.std.proofs.lemmas.List.Elements.{All-nil, All-cons, All-append, All-h
 use Rattle.om_lexer.specs.declared.fault.FaultCode.TheVariants as faults
 use Rattle.om_lexer.specs.declared.fault.SourceFault.{SourceFault}
 use Rattle.om_parser.specs.declared.tree.AssignOperator.TheVariants as assigns
-use Rattle.om_parser.specs.Tree.{ExpressionTree, Name, Constant, Text, Paren, Index, Call, Prefix, Postfix, Binary, Conditional, Assign, DeclaratorTree, StatementTree, LocalDeclaration, Block, Empty, Expression, If, IfElse, While, Do, For, Return, Break, Continue, FunctionTree, ItemTree, Declaration, Prototype, Function, UnitTree}
+use Rattle.om_parser.specs.Tree.{ExpressionTree, Name, Constant, Text, Paren, Index, Call, Prefix, Postfix, Binary, Conditional, Assign, DeclaratorTree, StatementTree, LocalDeclaration, Block, Empty, Expression, If, IfElse, While, Do, For, Return, Break, Continue, Construct, StandAlone, Sections, Section, FunctionTree, ItemTree, Declaration, Prototype, Function, UnitTree}
 use Rattle.om_scope.specs.declared.resolved.GlobalVariable.{GlobalVariable}
 use Rattle.om_scope.specs.declared.resolved.Variable.{Variable}
 use Rattle.om_scope.specs.declared.resolved.Variable.TheVariants as variables
@@ -168,6 +168,10 @@ statement_uses n scopes (Do at s again c semicolon) xs h e = cc
 statement_uses n scopes (For head s) xs h e = cc
 statement_uses n scopes (Break at semicolon) xs h e = cc
 statement_uses n scopes (Continue at semicolon) xs h e = cc
+statement_uses n scopes (Construct d s) xs h e = cc
+statement_uses n scopes (StandAlone d) xs h e = cc
+statement_uses n scopes (Sections d left parts right) xs h e = cc
+statement_uses n scopes (Section d items) xs h e = cc
 
 statements_use : (n : ℕ) (scopes : Scopes) (ss : List StatementTree) (xs : List ResolvedStatementTree) → Below n scopes → resolved_along resolved_statement after_statement scopes ss ≡ Some xs → All (λ t. StatementUsesVariables n t) xs
 statements_use n scopes [] xs h e = let s : [] ≡ xs = cc in subst (λ ys. All (λ t. StatementUsesVariables n t) ys) s (All-nil (λ t. StatementUsesVariables n t))

@@ -6,9 +6,9 @@ use Rattle.om_lexer.specs.declared.fault.FaultCode.{FaultCode}
 use Rattle.om_lexer.specs.declared.fault.FaultCode.TheVariants as faults
 use Rattle.om_lexer.specs.declared.fault.SourceFault.{SourceFault}
 use Rattle.om_parser.specs.declared.tree.AssignOperator.TheVariants as assigns
-use Rattle.om_parser.specs.declared.tree.Name as names
-use Rattle.om_parser.specs.declared.tree.Number.{Number}
-use Rattle.om_parser.specs.Tree.{ExpressionTree, Name, Constant, Text, Paren, Index, Call, Prefix, Postfix, Binary, Conditional, Assign, InitializerTree, DeclaratorTree, StatementTree, LocalDeclaration, Block, Empty, Expression, If, IfElse, While, Do, For, Return, Break, Continue, HeadTree, FunctionTree, ItemTree, Declaration, Prototype, Function, UnitTree}
+use Rattle.om_pragma.specs.declared.name.Name as names
+use Rattle.om_pragma.specs.declared.name.Number.{Number}
+use Rattle.om_parser.specs.Tree.{ExpressionTree, Name, Constant, Text, Paren, Index, Call, Prefix, Postfix, Binary, Conditional, Assign, InitializerTree, DeclaratorTree, StatementTree, LocalDeclaration, Block, Empty, Expression, If, IfElse, While, Do, For, Return, Break, Continue, Construct, StandAlone, Sections, Section, HeadTree, FunctionTree, ItemTree, Declaration, Prototype, Function, UnitTree}
 use Rattle.om_scope.specs.declared.symbols.Meaning.{Meaning}
 use Rattle.om_scope.specs.declared.symbols.Meaning.TheVariants as meanings
 use Rattle.om_scope.specs.declared.declaration.TheConstants.{GLOBAL_CELL_LIMIT}
@@ -116,6 +116,10 @@ statement_breaches scopes (Do at s again c semicolon) = untaken_breaches (statem
 statement_breaches scopes (For h s) = untaken_breaches (statement_start (For h s))
 statement_breaches scopes (Break at semicolon) = untaken_breaches (statement_start (Break at semicolon))
 statement_breaches scopes (Continue at semicolon) = untaken_breaches (statement_start (Continue at semicolon))
+statement_breaches scopes (Construct d s) = untaken_breaches (statement_start (Construct d s))
+statement_breaches scopes (StandAlone d) = untaken_breaches (statement_start (StandAlone d))
+statement_breaches scopes (Sections d left parts right) = untaken_breaches (statement_start (Sections d left parts right))
+statement_breaches scopes (Section d items) = untaken_breaches (statement_start (Section d items))
 
 -- S8, S9, S11 at the name, S10 at the initializer
 unfoldable pub scalar_breaches : Scopes → DeclaratorTree → List SourceFault

@@ -3,9 +3,9 @@
 use Rattle.std.specs.Prelude.{ℕ, ℤ, pos, ◌-ℤ◌, List, [], ◌∷◌, ◌++◌, Option, None, Some, Bool, true, false, map}
 use Rattle.std.specs.List.{flat_map}
 use Rattle.om_parser.specs.declared.tree.AssignOperator.TheVariants as assigns
-use Rattle.om_parser.specs.declared.tree.Name as names
-use Rattle.om_parser.specs.declared.tree.Number.{Number}
-use Rattle.om_parser.specs.Tree.{ExpressionTree, Name, Constant, Text, Paren, Index, Call, Prefix, Postfix, Binary, Conditional, Assign, InitializerTree, DeclaratorTree, StatementTree, LocalDeclaration, Block, Empty, Expression, If, IfElse, While, Do, For, Return, Break, Continue, FunctionTree, ItemTree, Declaration, Prototype, Function, UnitTree}
+use Rattle.om_pragma.specs.declared.name.Name as names
+use Rattle.om_pragma.specs.declared.name.Number.{Number}
+use Rattle.om_parser.specs.Tree.{ExpressionTree, Name, Constant, Text, Paren, Index, Call, Prefix, Postfix, Binary, Conditional, Assign, InitializerTree, DeclaratorTree, StatementTree, LocalDeclaration, Block, Empty, Expression, If, IfElse, While, Do, For, Return, Break, Continue, Construct, StandAlone, Sections, Section, FunctionTree, ItemTree, Declaration, Prototype, Function, UnitTree}
 use Rattle.om_scope.specs.declared.resolved.GlobalVariable.{GlobalVariable}
 use Rattle.om_scope.specs.declared.resolved.Variable.{Variable}
 use Rattle.om_scope.specs.declared.symbols.Meaning.{Meaning}
@@ -91,6 +91,10 @@ resolved_statement scopes (Do at s again c semicolon) = None
 resolved_statement scopes (For h s) = None
 resolved_statement scopes (Break at semicolon) = None
 resolved_statement scopes (Continue at semicolon) = None
+resolved_statement scopes (Construct d s) = None
+resolved_statement scopes (StandAlone d) = None
+resolved_statement scopes (Sections d left parts right) = None
+resolved_statement scopes (Section d items) = None
 
 -- the resolutions of parts in a row, each in the scopes behind those before it
 abbrev pub resolved_along : {X Y : Type 0} → (Scopes → X → Option (List Y)) → (Scopes → X → Scopes) → Scopes → List X → Option (List Y)

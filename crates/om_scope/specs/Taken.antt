@@ -1,7 +1,7 @@
 -- What resolving takes of the forms that the parser reads; the others are refused at their first token.
 use Rattle.std.specs.Prelude.{List, [], Option, None, Some, Bool, true, false, codes, ◌&&◌}
 use Rattle.std.specs.Str.{bytes_eq}
-use Rattle.om_parser.specs.declared.tree.Number.{Number}
+use Rattle.om_pragma.specs.declared.name.Number.{Number}
 use Rattle.om_parser.specs.declared.tree.PrefixOperator.TheVariants as prefixes
 use Rattle.om_parser.specs.declared.tree.ResultType.{ResultType}
 use Rattle.om_parser.specs.declared.tree.ResultType.TheVariants as results

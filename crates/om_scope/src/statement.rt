@@ -115,6 +115,10 @@ fn resolve_statement(
         Statement::For(_, _) => Err(untaken(statement_start(statement))),
         Statement::Break(_, _) => Err(untaken(statement_start(statement))),
         Statement::Continue(_, _) => Err(untaken(statement_start(statement))),
+        Statement::Construct(_, _) => Err(untaken(statement_start(statement))),
+        Statement::StandAlone(_) => Err(untaken(statement_start(statement))),
+        Statement::Sections(_, _, _, _) => Err(untaken(statement_start(statement))),
+        Statement::Section(_, _) => Err(untaken(statement_start(statement))),
     }
 }
 

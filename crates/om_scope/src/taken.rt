@@ -58,6 +58,11 @@ pub fn statement_start(statement: &Statement) -> u32
         Statement::Return(at, _, _) => at.start,
         Statement::Break(at, _) => at.start,
         Statement::Continue(at, _) => at.start,
+        Statement::Construct(directive, _) => directive.hash.start,
+        Statement::StandAlone(directive) => directive.hash.start,
+        Statement::Sections(directive, _, _, _) => directive.hash.start,
+        Statement::Section(Some(directive), _) => directive.hash.start,
+        Statement::Section(None, _) => 0,
     }
 }
 
