@@ -8,7 +8,7 @@ use Rattle.om_lexer.specs.declared.token.Token.{Token}
 use Rattle.om_lexer.specs.declared.token.TokenKind.{TokenKind}
 use Rattle.om_lexer.specs.declared.token.TokenKind.TheVariants as kinds
 use Rattle.om_pragma.specs.Expressions.{open_behind}
-use Rattle.om_pragma.specs.Reading.{◌>>=◌, take_first, closing}
+use Rattle.om_pragma.specs.Reading.{◌>>=◌, take_first, closing, expression_at, expression_before}
 use Rattle.om_pragma.specs.Words.{same_kind}
 use Rattle.om_pragma.proofs.Outcomes.{ok, err, some, some_is}
 
@@ -91,3 +91,18 @@ module _ (tokens rest : List Token) (inside depth : ℕ) (h : IsInside tokens re
 
 pub first_shorter : (ts : List Token) (t : Token) (us : List Token) → take_first ts ≡ some (t, us) → length us < length ts
 first_shorter ts t us is = omega (arith, ap length (first_is ts t us is))
+
+-- ---- the expression of a clause before a place
+
+pub before_ends : (place : ℕ) (ts : List Token) → take_first ts ≡ None → expression_before place ts ≡ None
+unfolding expression_before
+before_ends place [] e = refl
+before_ends place (t ∷ ts) e = absurd cc
+
+pub before_found : (place : ℕ) (ts : List Token) (t : Token) (us e : List Token) → take_first ts ≡ some (t, us) → expression_at place t us ≡ some e → expression_before place ts ≡ some e
+unfolding expression_before
+before_found place ts t us e is found = rw (first_is ts t us is, found) refl
+
+pub before_goes_on : (place : ℕ) (ts : List Token) (t : Token) (us : List Token) → take_first ts ≡ some (t, us) → expression_at place t us ≡ None → expression_before place us ≡ expression_before place ts
+unfolding expression_before
+before_goes_on place ts t us is absent = rw (first_is ts t us is, absent) refl

@@ -11,4 +11,5 @@ pub mod Directives
 pub mod Refused
 pub mod Mapping
 pub mod OneExpression
+pub mod Fillings
 pub mod Promises

@@ -1,5 +1,5 @@
 -- The expressions of a directive.
-use Rattle.std.specs.Prelude.{◌≡◌, ◌≢◌, ℕ, ◌+◌, ◌-◌, ◌==◌, List, [], ◌∷◌, map, if◌then◌else◌, Option, Some, None, IsSomeAnd, All}
+use Rattle.std.specs.Prelude.{◌≡◌, ◌≢◌, ℕ, ◌+◌, ◌-◌, ◌==◌, List, [], ◌∷◌, map, if◌then◌else◌, Option, Some, None, IsSomeAnd, IfSome, option_to_list}
 use Rattle.std.specs.List.{flat_map}
 use denote.Ref.{Bor}
 use Rattle.om_lexer.specs.declared.token.Punctuator.TheVariants as punctuators
@@ -13,17 +13,36 @@ use Rattle.om_pragma.specs.declared.tree.Directive.{Directive}
 use Rattle.om_pragma.specs.Words.{same_kind}
 
 -- the expression of a clause, if it has one
+abbrev pub clause_expression : {E : Type 0} → Clause E → Option E
+clause_expression (clauses.Value k s v) = Some v.expression
+clause_expression (clauses.Default s a) = None
+clause_expression (clauses.Data k s l) = None
+clause_expression (clauses.Reduction s r) = None
+clause_expression (clauses.Schedule s a) = None
+clause_expression (clauses.Plain k s) = None
+
+-- the same as a list
 abbrev pub clause_expressions : {E : Type 0} → Clause E → List E
-clause_expressions (clauses.Value k s v) = v.expression ∷ []
-clause_expressions (clauses.Default s a) = []
-clause_expressions (clauses.Data k s l) = []
-clause_expressions (clauses.Reduction s r) = []
-clause_expressions (clauses.Schedule s a) = []
-clause_expressions (clauses.Plain k s) = []
+clause_expressions c = option_to_list (clause_expression c)
 
 -- the expressions of a directive
 unfoldable pub expressions : {E : Type 0} → Directive E → List E
 expressions d = flat_map (λ i. clause_expressions i.clause) d.clauses
+
+-- this value, or the other where there is none
+abbrev pub or_else : {A : Type 0} → Option A → Option A → Option A
+or_else (Some x) other = Some x
+or_else None other = other
+
+-- the first of some clauses, and those behind it
+abbrev pub take_item : {E : Type 0} → List (ClauseItem E) → Option (ClauseItem E × List (ClauseItem E))
+take_item [] = None
+take_item (i ∷ items) = Some (i, items)
+
+-- the expression of the first of some clauses that has one
+unfoldable pub first_expression : {E : Type 0} → List (ClauseItem E) → Option E
+first_expression [] = None
+first_expression (i ∷ items) = or_else (clause_expression i.clause) (first_expression items)
 
 -- a clause with another expression in place of its own
 abbrev pub map_clause : {E F : Type 0} → (E → F) → Clause E → Clause F
@@ -40,6 +59,10 @@ map_item f i = record { comma = i.comma; clause = map_clause f i.clause }
 -- a directive with other expressions in place of its own
 abbrev pub map_directive : {E F : Type 0} → (E → F) → Directive E → Directive F
 map_directive f d = record { hash = d.hash; pragma = d.pragma; omp = d.omp; name = d.name; clauses = map (map_item f) d.clauses; end = d.end }
+
+-- a function that gives the value, where there is one
+abbrev pub IsValue : {E F : Type 0} → (E → F) → Option F → Type 0
+IsValue {E} f value = IfSome value (λ v. (e : E) → f e ≡ v)
 
 -- the tokens that a slice has
 abbrev pub tokens_in : Bor (List Token) → List Token

@@ -4,3 +4,4 @@ pub mod Expressions
 pub mod Table
 pub mod Refusals
 pub mod Reading
+pub mod Questions

@@ -1,5 +1,5 @@
 -- Reading the tokens of a directive from the left, as the code does: a part and the tokens behind it, or where it stops.
-use Rattle.std.specs.Prelude.{◌≡◌, ℕ, zero, suc, List, [], ◌∷◌, ◌++◌, length, Option, Some, None, Result, Ok, Err, Bool, true, false, ◌⊎◌, codes, if◌then◌else◌, nat_le}
+use Rattle.std.specs.Prelude.{◌≡◌, ℕ, zero, suc, List, [], ◌∷◌, ◌++◌, length, Option, Some, None, Result, Ok, Err, Bool, true, false, ◌⊎◌, codes, if◌then◌else◌, nat_le, ◌||◌}
 use Rattle.om_lexer.specs.Faults.{no_memory}
 use Rattle.om_lexer.specs.declared.fault.FaultCode.{FaultCode}
 use Rattle.om_lexer.specs.declared.fault.FaultCode.TheVariants as fault_codes
@@ -37,7 +37,7 @@ use Rattle.om_pragma.specs.declared.tree.DirectiveName.{DirectiveName}
 use Rattle.om_pragma.specs.declared.tree.DirectiveName.TheVariants as directives
 use Rattle.om_pragma.specs.declared.word.DirectiveWord.{DirectiveWord}
 use Rattle.om_pragma.specs.declared.word.DirectiveWord.TheVariants as words
-use Rattle.om_pragma.specs.Expressions.{open_behind}
+use Rattle.om_pragma.specs.Expressions.{open_behind, or_else}
 use Rattle.om_pragma.specs.Table.{may_stand, kinds_of}
 use Rattle.om_pragma.specs.Words.{same_kind, is_word, directive_word, clause_word, sharing_word, operator_word, schedule_word}
 
@@ -364,6 +364,34 @@ directive_at ts = do
   n ← directive_name_at o.1
   c ← clauses_at n.0 n.1
   Ok (record { hash = o.0.0; pragma = o.0.1; omp = o.0.2; name = n.0; clauses = c.0; end = c.1 })
+
+-- ---- an expression in a run that is refused
+
+-- one or more tokens
+abbrev pub some_tokens : List Token → Option (List Token)
+some_tokens [] = None
+some_tokens (t ∷ ts) = Some (t ∷ ts)
+
+-- the tokens in parentheses, where these end before a place
+abbrev pub ends_before : ℕ → Result (List Token × Span × List Token) ℕ → Option (List Token)
+ends_before place (Ok c) = if nat_le place c.1.start then None else some_tokens c.0
+ends_before place (Err e) = None
+
+-- the tokens in parentheses that stand there
+unfoldable pub in_parentheses : List Token → Result (List Token × Span × List Token) ℕ
+in_parentheses ts = mark_at punctuators.OpenParen ts >>= λ o. closing 0 o.1
+
+-- the expression of a clause whose word stands there, where the clause ends before a place
+unfoldable pub expression_at : ℕ → Token → List Token → Option (List Token)
+expression_at place word ts =
+    if same_kind word.kind (kinds.Name (codes "num_threads")) || same_kind word.kind (kinds.Name (codes "filter"))
+    then ends_before place (in_parentheses ts)
+    else None
+
+-- the first such expression
+unfoldable pub expression_before : ℕ → List Token → Option (List Token)
+expression_before place [] = None
+expression_before place (t ∷ ts) = or_else (expression_at place t ts) (expression_before place ts)
 
 -- ---- what functions return
 

@@ -64,7 +64,7 @@ fn open_behind(kind: &TokenKind, depth: usize) -> Option<usize>
 
 /// The tokens up to the parenthesis that closes one which is open before them, its span, and the
 /// tokens behind it.
-fn closing(tokens: &[Token]) -> Result<(&[Token], Span, &[Token]), Stop>
+pub fn closing(tokens: &[Token]) -> Result<(&[Token], Span, &[Token]), Stop>
     ensures { GetsAlways (λ x. (x.0.now, x.1, x.2.now)) result (closing 0 tokens.now) }
 {
     let mut depth = 0;

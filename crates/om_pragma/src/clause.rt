@@ -1,6 +1,7 @@
 //! Clauses of directives (OpenMP API 5.2, chapter 3).
 
-ghost use Rattle.std.specs.Prelude.{◌≡◌};
+ghost use Rattle.std.specs.Prelude.{◌≡◌, option_copied};
+ghost use Rattle.om_pragma.specs.Expressions.{clause_expression};
 ghost use Rattle.om_pragma.specs.Spelling.{value_kind, data_kind, plain_kind, kind_of};
 
 use crate::name::{Name, NameList, Number};
@@ -195,6 +196,20 @@ impl<E> Clause<E> {
             Clause::Reduction(_, _) => ClauseKind::Reduction,
             Clause::Schedule(_, _) => ClauseKind::Schedule,
             Clause::Plain(kind, _) => kind.kind(),
+        }
+    }
+
+    /// Its expression, if it has one.
+    pub fn expression(&self) -> Option<&E>
+        ensures { option_copied result ≡ clause_expression self.now }
+    {
+        match self {
+            Clause::Value(_, _, value) => Some(&value.expression),
+            Clause::Default(_, _) => None,
+            Clause::Data(_, _, _) => None,
+            Clause::Reduction(_, _) => None,
+            Clause::Schedule(_, _) => None,
+            Clause::Plain(_, _) => None,
         }
     }
 }

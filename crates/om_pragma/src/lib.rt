@@ -2,7 +2,9 @@
 #![tactic(auto)]
 
 mod argument;
+mod before;
 mod clause;
+mod filling;
 mod laws;
 mod name;
 mod reading;
@@ -12,6 +14,7 @@ mod token;
 mod tree;
 mod word;
 
+pub use before::expression_before;
 pub use clause::{
     Clause, ClauseItem, ClauseKind, DataSharing, DefaultArgument, PlainClause, Reduction,
     ReductionOperator, Schedule, ScheduleKind, Sharing, Value, ValueClause,
@@ -19,4 +22,7 @@ pub use clause::{
 pub use laws::{one_directive, one_fault};
 pub use name::{Name, NameList, Number};
 pub use reading::directive;
-pub use tree::{Directive, DirectiveName};
+pub use tree::{AtomicKind, Directive, DirectiveName};
+
+#[cfg(test)]
+mod tests;

@@ -136,7 +136,7 @@ fn group_of(kind: ClauseKind) -> ClauseKind
 
 /// Whether two clauses are of one kind.
 #[tactic(auto, unfolding(crate::specs::Table::same_clause))]
-fn same_clause(one: ClauseKind, other: ClauseKind) -> bool
+pub fn same_clause(one: ClauseKind, other: ClauseKind) -> bool
     ensures { result ≡ same_clause one other }
 {
     one == other

@@ -1,7 +1,12 @@
 //! A directive.
 
-use crate::clause::ClauseItem;
+ghost use Rattle.std.specs.Prelude.{◌≡◌, option_map, option_copied};
+ghost use Rattle.om_pragma.specs.Expressions.{first_expression, take_item};
+ghost use Rattle.om_pragma.specs.Questions.{is_stand_alone, is_section, is_sections, is_atomic, word_span, has_clause, atomic_kind};
+
+use crate::clause::{ClauseItem, ClauseKind};
 use crate::name::{Name, NameList};
+use crate::table::same_clause;
 use om_lexer::Span;
 use om_seq::Seq;
 
@@ -38,4 +43,193 @@ pub struct Directive<E> {
     pub clauses: Seq<ClauseItem<E>>,
     /// The place behind the last token.
     pub end: Span,
+}
+
+/// What an `atomic` does with its variable (OpenMP API 5.2, 15.8.4).
+#[derive(Clone, Copy, Debug, PartialEq, Eq)]
+pub enum AtomicKind {
+    /// With `update`, or with none of the three.
+    Update,
+    Read,
+    Write,
+}
+
+impl DirectiveName {
+    /// Whether the directive stands alone: `barrier`, `taskwait`, `taskyield` or `flush`.
+    pub fn is_stand_alone(&self) -> bool
+        ensures { result ≡ is_stand_alone self.now }
+    {
+        match self {
+            DirectiveName::Parallel(_) => false,
+            DirectiveName::For(_) => false,
+            DirectiveName::Sections(_) => false,
+            DirectiveName::Section(_) => false,
+            DirectiveName::Single(_) => false,
+            DirectiveName::ParallelFor(_, _) => false,
+            DirectiveName::ParallelSections(_, _) => false,
+            DirectiveName::Masked(_) => false,
+            DirectiveName::Master(_) => false,
+            DirectiveName::Critical(_, _) => false,
+            DirectiveName::Atomic(_) => false,
+            DirectiveName::Task(_) => false,
+            DirectiveName::Barrier(_) => true,
+            DirectiveName::Taskwait(_) => true,
+            DirectiveName::Taskyield(_) => true,
+            DirectiveName::Flush(_, _) => true,
+        }
+    }
+
+    /// Whether the directive is `section`.
+    pub fn is_section(&self) -> bool
+        ensures { result ≡ is_section self.now }
+    {
+        match self {
+            DirectiveName::Parallel(_) => false,
+            DirectiveName::For(_) => false,
+            DirectiveName::Sections(_) => false,
+            DirectiveName::Section(_) => true,
+            DirectiveName::Single(_) => false,
+            DirectiveName::ParallelFor(_, _) => false,
+            DirectiveName::ParallelSections(_, _) => false,
+            DirectiveName::Masked(_) => false,
+            DirectiveName::Master(_) => false,
+            DirectiveName::Critical(_, _) => false,
+            DirectiveName::Atomic(_) => false,
+            DirectiveName::Task(_) => false,
+            DirectiveName::Barrier(_) => false,
+            DirectiveName::Taskwait(_) => false,
+            DirectiveName::Taskyield(_) => false,
+            DirectiveName::Flush(_, _) => false,
+        }
+    }
+
+    /// Whether the directive is `sections` or `parallel sections`.
+    pub fn is_sections(&self) -> bool
+        ensures { result ≡ is_sections self.now }
+    {
+        match self {
+            DirectiveName::Parallel(_) => false,
+            DirectiveName::For(_) => false,
+            DirectiveName::Sections(_) => true,
+            DirectiveName::Section(_) => false,
+            DirectiveName::Single(_) => false,
+            DirectiveName::ParallelFor(_, _) => false,
+            DirectiveName::ParallelSections(_, _) => true,
+            DirectiveName::Masked(_) => false,
+            DirectiveName::Master(_) => false,
+            DirectiveName::Critical(_, _) => false,
+            DirectiveName::Atomic(_) => false,
+            DirectiveName::Task(_) => false,
+            DirectiveName::Barrier(_) => false,
+            DirectiveName::Taskwait(_) => false,
+            DirectiveName::Taskyield(_) => false,
+            DirectiveName::Flush(_, _) => false,
+        }
+    }
+
+    /// Whether the directive is `atomic`.
+    pub fn is_atomic(&self) -> bool
+        ensures { result ≡ is_atomic self.now }
+    {
+        match self {
+            DirectiveName::Parallel(_) => false,
+            DirectiveName::For(_) => false,
+            DirectiveName::Sections(_) => false,
+            DirectiveName::Section(_) => false,
+            DirectiveName::Single(_) => false,
+            DirectiveName::ParallelFor(_, _) => false,
+            DirectiveName::ParallelSections(_, _) => false,
+            DirectiveName::Masked(_) => false,
+            DirectiveName::Master(_) => false,
+            DirectiveName::Critical(_, _) => false,
+            DirectiveName::Atomic(_) => true,
+            DirectiveName::Task(_) => false,
+            DirectiveName::Barrier(_) => false,
+            DirectiveName::Taskwait(_) => false,
+            DirectiveName::Taskyield(_) => false,
+            DirectiveName::Flush(_, _) => false,
+        }
+    }
+
+    /// Where the first word of the directive stands.
+    pub fn span(&self) -> Span
+        ensures { result ≡ word_span self.now }
+    {
+        match self {
+            DirectiveName::Parallel(span) => *span,
+            DirectiveName::For(span) => *span,
+            DirectiveName::Sections(span) => *span,
+            DirectiveName::Section(span) => *span,
+            DirectiveName::Single(span) => *span,
+            DirectiveName::ParallelFor(span, _) => *span,
+            DirectiveName::ParallelSections(span, _) => *span,
+            DirectiveName::Masked(span) => *span,
+            DirectiveName::Master(span) => *span,
+            DirectiveName::Critical(span, _) => *span,
+            DirectiveName::Atomic(span) => *span,
+            DirectiveName::Task(span) => *span,
+            DirectiveName::Barrier(span) => *span,
+            DirectiveName::Taskwait(span) => *span,
+            DirectiveName::Taskyield(span) => *span,
+            DirectiveName::Flush(span, _) => *span,
+        }
+    }
+}
+
+impl<E> Directive<E> {
+    /// What an `atomic` with these clauses does with its variable.
+    pub fn atomic_kind(&self) -> AtomicKind
+        ensures { result ≡ atomic_kind self.now }
+    {
+        if self.has(ClauseKind::Read) {
+            AtomicKind::Read
+        } else if self.has(ClauseKind::Write) {
+            AtomicKind::Write
+        } else {
+            AtomicKind::Update
+        }
+    }
+
+    /// Whether a clause of this kind stands there.
+    pub fn has(&self, kind: ClauseKind) -> bool
+        ensures { result ≡ has_clause kind self.now }
+    {
+        self.clauses
+            .as_slice()
+            .iter()
+            .any(|item| same_clause(item.clause.kind(), kind))
+    }
+
+    /// The expression of the first clause that has one.
+    pub fn expression(&self) -> Option<&E>
+        ensures { option_copied result ≡ first_expression self.now.clauses }
+    {
+        first_expression(self.clauses.as_slice())
+    }
+}
+
+/// The expression of the first of these clauses that has one.
+fn first_expression<E>(items: &[ClauseItem<E>]) -> Option<&E>
+    ensures { option_copied result ≡ first_expression items.now }
+{
+    let mut rest = items;
+    'items: loop {
+        let Some((item, behind)) = first_item(rest) else {
+            return None;
+        };
+        if let Some(expression) = item.clause.expression() {
+            return Some(expression);
+        }
+        rest = behind;
+    }
+}
+
+/// The first of these clauses, and those behind it.
+fn first_item<E>(items: &[ClauseItem<E>]) -> Option<(&ClauseItem<E>, &[ClauseItem<E>])>
+    ensures { option_map (λ x. (x.0.now, x.1.now)) result ≡ take_item items.now }
+{
+    match items {
+        [first, rest @ ..] => Some((first, rest)),
+        [] => None,
+    }
 }

@@ -1,0 +1,67 @@
+//! An expression in a run that is refused.
+
+ghost use Rattle.std.specs.Prelude.{◌≡◌, option_map, nat_le, if◌then◌else◌};
+ghost use Rattle.om_pragma.specs.Reading.{in_parentheses, some_tokens, expression_at, expression_before, GetsAlways};
+
+use crate::argument::closing;
+use crate::stop::Stop;
+use crate::token::{mark, take_first};
+use crate::word::is_named;
+use om_lexer::{Punctuator, Span, Token};
+
+/// The tokens of the expression that a clause of a refused run has, where that clause ends before
+/// the place of the fault: one or more tokens, whose parentheses are paired. So a caller can find
+/// a fault inside that expression, which is the lower one.
+pub fn expression_before(tokens: &[Token], place: u32) -> Option<&[Token]>
+    ensures { option_map (λ e. e.now) result ≡ expression_before place tokens.now }
+{
+    let mut rest = tokens;
+    'tokens: loop {
+        let Some((first, behind)) = take_first(rest) else {
+            return None;
+        };
+        if let Some(expression) = expression_at(first, behind, place) {
+            return Some(expression);
+        }
+        rest = behind;
+    }
+}
+
+/// The expression of a clause whose word stands there, where the clause ends before the place.
+#[tactic(auto, unfolding(crate::specs::Reading::expression_at))]
+fn expression_at<'a>(word: &Token, tokens: &'a [Token], place: u32) -> Option<&'a [Token]>
+    ensures { option_map (λ e. e.now) result ≡ expression_at place word.now tokens.now }
+{
+    if is_named(&word.kind, b"num_threads") || is_named(&word.kind, b"filter") {
+        match in_parentheses(tokens) {
+            Ok((expression, close_paren, _)) => ends_before(expression, close_paren, place),
+            Err(_) => None,
+        }
+    } else {
+        None
+    }
+}
+
+/// The tokens in parentheses that stand there, the span of the parenthesis that closes, and the
+/// tokens behind it.
+#[tactic(auto, unfolding(crate::specs::Reading::in_parentheses))]
+fn in_parentheses(tokens: &[Token]) -> Result<(&[Token], Span, &[Token]), Stop>
+    ensures { GetsAlways (λ x. (x.0.now, x.1, x.2.now)) result (in_parentheses tokens.now) }
+{
+    let (_, rest) = mark(tokens, Punctuator::OpenParen)?;
+    let (expression, close_paren, behind) = closing(rest)?;
+    Ok((expression, close_paren, behind))
+}
+
+/// These tokens, if there are some, and the parenthesis behind them starts before the place.
+fn ends_before(tokens: &[Token], close_paren: Span, place: u32) -> Option<&[Token]>
+    ensures { option_map (λ e. e.now) result ≡ (if nat_le place close_paren.start then None else some_tokens tokens.now) }
+{
+    if place <= close_paren.start {
+        return None;
+    }
+    match tokens {
+        [] => None,
+        [_, ..] => Some(tokens),
+    }
+}
