@@ -1,0 +1,92 @@
+#!/usr/bin/env python3
+"""lexing.py PROGRAM [BYTES]: how fast PROGRAM lexes, and in how much memory.
+
+It makes sources of that many bytes (1,048,576 if not given, the most that a source may have), each of one kind of part
+repeated behind a `)`: so the lexer reads all of it, and the parser refuses it at its first token. For each kind it prints the
+seconds (the best of three on one core), those of a source of half the size, and the least address space with which the program
+still gives its answer, beyond what it needs for one byte, in bytes for each byte of the source. At last comes a source of twice
+the size, one half a comment and one half code, which is too long. Nothing here is a test: nothing fails but a wrong answer.
+"""
+import os, resource, subprocess, sys, time
+
+MIXED = '''int alpha_7 = 0x1f; /* c */ void f(int a, int b) {
+  if (a <= 10 && b != 017) alpha_7 += a * (b - 3); // line
+#pragma omp parallel for schedule(static, N) reduction(+: alpha_7)
+  for (int i = 0; i < N; i++) printf("%d\\n", i ? a[i] : -1);
+#pragma once "x"
+}
+'''
+
+# what stands behind the `)`, and what is repeated
+KINDS = {
+    "mixed tokens": ("\n#include <stdio.h>\n#define N 100\n", MIXED),
+    "marks of one byte": ("", ";"),
+    "names and marks of one byte": ("", "a;"),
+    "constants of one byte": ("", "1 "),
+    "words": ("", "abcdefg "),
+    "texts": ("", '"abc\\n"'),
+    "macros": ("\n#define N 1\n", "N "),
+    "comments": ("", "/* c */"),
+    "directives": ("\n", "#pragma omp\n"),
+    "ignored pragmas": ("\n", "#pragma once\n"),
+    "white space": ("", " "),
+}
+
+ENOUGH = 1 << 30
+
+
+def source(kind, size):
+    front, part = KINDS[kind]
+    front = ")" + front
+    text = front + part * ((size - len(front)) // len(part))
+    return (text + " " * (size - len(text))).encode()
+
+
+def run(program, text, space=None):
+    limit = (lambda: resource.setrlimit(resource.RLIMIT_AS, (space, space))) if space else None
+    return subprocess.run([program], input=text, stdout=subprocess.PIPE, stderr=subprocess.DEVNULL, preexec_fn=limit).stdout
+
+
+def seconds(program, text, wanted=b"refused S3 line 1 column 1\n", times=3):
+    best = None
+    for _ in range(times):
+        begin = time.monotonic()
+        answer = run(program, text)
+        taken = time.monotonic() - begin
+        if answer != wanted:
+            sys.exit(f"{program} answered {answer!r}, not {wanted!r}")
+        best = taken if best is None else min(best, taken)
+    return best
+
+
+def least_space(program, text):
+    """The least address space, to 64 KiB, in which the program gives its answer."""
+    low, high = 0, ENOUGH
+    while high - low > 1 << 16:
+        middle = (low + high) // 2
+        if run(program, text, middle) == b"refused S3 line 1 column 1\n":
+            high = middle
+        else:
+            low = middle
+    return high
+
+
+def main():
+    if len(sys.argv) not in (2, 3):
+        sys.exit(__doc__)
+    program = os.path.abspath(sys.argv[1])
+    size = int(sys.argv[2]) if len(sys.argv) == 3 else 1048576
+    if hasattr(os, "sched_setaffinity"):
+        os.sched_setaffinity(0, {min(os.sched_getaffinity(0))})
+    base = least_space(program, b")")
+    for kind in KINDS:
+        text = source(kind, size)
+        whole, half = seconds(program, text), seconds(program, source(kind, size // 2))
+        space = (least_space(program, text) - base) / size
+        print(f"{kind}: {whole:.3f} s; half of it: {half:.3f} s; ratio {whole / half:.2f}; {space:.0f} bytes a byte")
+    text = b")/*" + b"x" * (size - 5) + b"*/" + source("mixed tokens", size)
+    if size == 1048576:
+        print(f"twice as much, a comment and code: {seconds(program, text, b'refused S1 line 1 column 1048577' + bytes([10])):.3f} s")
+
+
+main()
