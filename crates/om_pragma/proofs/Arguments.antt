@@ -56,15 +56,15 @@ pub further_again : (before : List (Span × names.Name)) (n : Span × names.Name
 unfolding further_at further_spelling
 further_again before n us any = rw (mark_again punctuators.Comma n.0 (name n.1 ∷ us), name_again n.1 us) refl
 
-some_further : (n : Span × names.Name) → 0 < length (further_spelling n)
+pub some_further : (n : Span × names.Name) → 0 < length (further_spelling n)
 unfolding further_spelling
 some_further n = omega arith
 
-not_closed : (before : List (Span × names.Name)) (n : Span × names.Name) (us : List Token) → IsAny before n → take_kind (kinds.Punctuator punctuators.CloseParen) (further_spelling n ++ us) ≡ None
+pub not_closed : (before : List (Span × names.Name)) (n : Span × names.Name) (us : List Token) → IsAny before n → take_kind (kinds.Punctuator punctuators.CloseParen) (further_spelling n ++ us) ≡ None
 unfolding further_spelling take_kind same_mark
 not_closed before n us any = refl
 
-each_any : {A : Type 0} (before xs : List A) → EachBehind IsAny before xs
+pub each_any : {A : Type 0} (before xs : List A) → EachBehind IsAny before xs
 unfolding EachBehind
 each_any before [] = tt
 each_any before (x ∷ xs) = (tt, each_any (before ++ x ∷ []) xs)

@@ -17,7 +17,7 @@ use Rattle.om_pragma.specs.declared.tree.DirectiveName.TheVariants as directives
 use Rattle.om_pragma.specs.declared.word.DirectiveWord.TheVariants as words
 use Rattle.om_pragma.specs.Expressions.{IsClosed}
 use Rattle.om_pragma.specs.Reading.{◌>>=◌, Outcome, stopped, syntax_at, opening_at, directive_name_at, take_end, is_end, until, item_at, clauses_at, directive_at}
-use Rattle.om_pragma.specs.Refusals.{GoesOnWith, IsWhole}
+use Rattle.om_pragma.specs.Refusals.{GoesOnWith, IsWhole, IsWrittenItem}
 use Rattle.om_pragma.specs.Spelling.{token, mark, opening_spelling, name_spelling, comma_spelling, clause_spelling, argument_spelling, item_spelling, directive_spelling, kind_of, span_of}
 use Rattle.om_pragma.specs.Table.{EachBehind, IsBetween, IsItem, IsDirective, IsDirectiveOf}
 use Rattle.om_pragma.specs.Words.{same_kind, same_mark, same_keyword, is_word, directive_word, clause_word}
@@ -28,7 +28,7 @@ use Rattle.om_pragma.proofs.Passing.{Ends, until_ends, until_passes, so_many}
 
 -- ---- clauses up to the end
 
-end_is : (k : TokenKind) → is_end k ≡ true → k ≡ kinds.DirectiveEnd
+pub end_is : (k : TokenKind) → is_end k ≡ true → k ≡ kinds.DirectiveEnd
 end_is kinds.DirectiveEnd e = refl
 end_is _ e = absurd cc
 
@@ -141,22 +141,30 @@ whole_before n k s us f t more e g =
     let first : token k s ≡ t = cc in
     no_going_on n k f (subst (λ (u : Token). GoesOnWith n u.kind) (sym first) g)
 
+pub each_written : (n : DirectiveName) (before items : Items) → EachBehind (IsItem IsClosed n) before items → EachBehind IsWrittenItem before items
+unfolding EachBehind
+each_written n before [] each = tt
+each_written n before (i ∷ items) each = (record { between = each.0.between; formed = each.0.formed }, each_written n (before ++ i ∷ []) items each.1)
+
 -- the end, or clauses before it, go on with no directive's words
-whole_name : (n : DirectiveName) (items : Items) (end : Span) → EachBehind (IsItem IsClosed n) [] items → IsWhole n (spelling items ++ token kinds.DirectiveEnd end ∷ [])
+pub whole_written : (n : DirectiveName) (items : Items) (end : Span) → EachBehind IsWrittenItem [] items → IsWhole n (spelling items ++ token kinds.DirectiveEnd end ∷ [])
 unfolding EachBehind clause_spelling item_spelling
-whole_name n [] end each = whole_before n kinds.DirectiveEnd end [] end_follows
-whole_name n (i ∷ items) end each = first i.comma each.0.between
+whole_written n [] end each = whole_before n kinds.DirectiveEnd end [] end_follows
+whole_written n (i ∷ items) end each = first i.comma each.0.between
   where
     first : (c : Option Span) → IsBetween {A = ClauseItem (List Token)} [] c → IsWhole n ((comma_spelling c ++ clause_spelling (λ e. e) i.clause ++ spelling items) ++ token kinds.DirectiveEnd end ∷ [])
     first (Some c) between = absurd between
     first None between = whole_before n (clause_word (kind_of i.clause)) (span_of i.clause) ((argument_spelling (λ e. e) i.clause ++ spelling items) ++ token kinds.DirectiveEnd end ∷ []) (clause_follows (kind_of i.clause))
+
+whole_name : (n : DirectiveName) (items : Items) (end : Span) → EachBehind (IsItem IsClosed n) [] items → IsWhole n (spelling items ++ token kinds.DirectiveEnd end ∷ [])
+whole_name n items end each = whole_written n items end (each_written n [] items each)
 
 -- what stands behind the words of a directive is reached
 pub directive_parts : (hash pragma omp : Span) (n : DirectiveName) (behind : List Token) (r : Outcome (Items × Span × List Token)) → IsWhole n behind → clauses_at n behind ≡ r → directive_at (opening_spelling hash pragma omp ++ (name_spelling n ++ behind)) ≡ (r >>= λ c. Ok (record { hash = hash; pragma = pragma; omp = omp; name = n; clauses = c.0; end = c.1 }))
 unfolding directive_at
 directive_parts hash pragma omp n behind r whole e = rw (opening_again hash pragma omp (name_spelling n ++ behind), directive_name_again n behind whole, e) refl
 
-ends_at : (n : DirectiveName) (items : Items) (s : Span) (k : ℕ) → until syntax_at take_end (item_at n) (suc k) items (token kinds.DirectiveEnd s ∷ []) ≡ ok (items, s, [])
+pub ends_at : (n : DirectiveName) (items : Items) (s : Span) (k : ℕ) → until syntax_at take_end (item_at n) (suc k) items (token kinds.DirectiveEnd s ∷ []) ≡ ok (items, s, [])
 unfolding until take_end
 ends_at n items s k = refl
 

@@ -9,6 +9,8 @@ pub mod Items
 pub mod Names
 pub mod Directives
 pub mod Refused
+pub mod Stops
+pub mod Halts
 pub mod Mapping
 pub mod OneExpression
 pub mod Fillings

@@ -172,7 +172,7 @@ pub opening_again : (hash pragma omp : Span) (us : List Token) → opening_at (o
 unfolding opening_at opening_spelling take_kind
 opening_again hash pragma omp us = refl
 
-name_after_again : (w : DirectiveWord) (s : Span) (us : List Token) (y : Outcome (DirectiveName × List Token)) → name_after w s us ≡ y → directive_name_at (token (directive_word w) s ∷ us) ≡ y
+pub name_after_again : (w : DirectiveWord) (s : Span) (us : List Token) (y : Outcome (DirectiveName × List Token)) → name_after w s us ≡ y → directive_name_at (token (directive_word w) s ∷ us) ≡ y
 unfolding directive_name_at
 name_after_again w s us y e = rw (word_again directive_word directive_words w (directive_known w) s us) e
 

@@ -4,14 +4,16 @@ use Rattle.std.specs.Prelude.{IfOk, IfErr}
 use Rattle.std.proofs.lemmas.List.{length-map}
 use denote.Ref.{Bor}
 use Rattle.om_lexer.specs.Faults.{no_memory}
+use Rattle.om_lexer.specs.declared.fault.FaultCode.TheVariants as codes
 use Rattle.om_lexer.specs.declared.fault.SourceFault.{SourceFault}
 use Rattle.om_lexer.specs.declared.token.Token.{Token}
 use Rattle.om_pragma.specs.declared.tree.Directive.{Directive}
 use Rattle.om_pragma.specs.Expressions.{expressions, tokens_in, with_tokens, IsClosed}
 use Rattle.om_pragma.specs.Reading.{directive_at, Reads}
-use Rattle.om_pragma.specs.Refusals.{IsRefusal, IsFound}
+use Rattle.om_pragma.specs.Refusals.{IsRefusal, IsFound, StopsAt, EndsOnce}
 use Rattle.om_pragma.specs.Table.{IsDirectiveOf}
 use Rattle.om_pragma.proofs.Directives.{directive_is, read_again}
+use Rattle.om_pragma.proofs.Halts.{syntax_stops}
 use Rattle.om_pragma.proofs.Mapping.{mapped_expressions}
 use Rattle.om_pragma.proofs.OneExpression.{one_expression}
 use Rattle.om_pragma.proofs.Outcomes.{ok_is, ok_err}
@@ -37,3 +39,8 @@ module _ (ts : List Token) where
       let one = one_expression IsClosed (with_tokens d) (directive_is ts (with_tokens d) h).formed in
       omega (arith, one, ap length (mapped_expressions tokens_in d), length-map (expressions d) tokens_in)
   has_one_expression (Err f) h = tt
+
+  pub is_first : (r : Result (Directive (Bor (List Token))) SourceFault) → Reads with_tokens r (directive_at ts) → IfErr r (λ f. f.code ≡ codes.Syntax → EndsOnce ts → StopsAt ts f.at)
+  is_first (Ok d) h = tt
+  is_first (Err f) (inl memory) = λ syntax once. let both : no_memory.code ≡ codes.Syntax = ap (λ (g : SourceFault). g.code) (sym memory) ∙ syntax in absurd cc
+  is_first (Err f) (inr e) = λ syntax once. syntax_stops ts f once e syntax

@@ -20,7 +20,8 @@ use Rattle.om_pragma.specs.declared.tree.DirectiveName.TheVariants as directives
 use Rattle.om_pragma.specs.declared.word.DirectiveWord.{DirectiveWord}
 use Rattle.om_pragma.specs.declared.word.DirectiveWord.TheVariants as words
 use Rattle.om_pragma.specs.Expressions.{IsClosed, with_tokens}
-use Rattle.om_pragma.specs.Spelling.{token, name_spelling, opening_spelling, item_spelling, comma_spelling, clause_spelling}
+use Rattle.om_pragma.specs.Reading.{place}
+use Rattle.om_pragma.specs.Spelling.{token, name_spelling, opening_spelling, item_spelling, comma_spelling, clause_spelling, directive_spelling}
 use Rattle.om_pragma.specs.Table.{may_stand, kinds_of, IsBetween, IsClause, IsItem, EachBehind, IsDirectiveOf}
 use Rattle.om_pragma.specs.Words.{is_word, directive_word, clause_word}
 
@@ -103,3 +104,28 @@ IsRefusal tokens fault = ((fault.code ≡ codes.Syntax) × IsSyntax tokens) ⊎ 
 abbrev pub IsFound : Directive (List Token) → Result (Directive (Bor (List Token))) SourceFault → Type 0
 IsFound d (Ok found) = with_tokens found ≡ d
 IsFound d (Err fault) = fault ≡ no_memory
+
+-- a clause by the grammar alone: a comma stands between two, and behind the word what belongs to it
+pub record IsWrittenItem (before : List (ClauseItem (List Token))) (i : ClauseItem (List Token)) : Type 0 where
+  pub between : IsBetween before i.comma
+  pub formed : IsClause IsClosed i.clause
+
+-- the tokens begin a directive, whichever clauses the table gives it
+pub record BeginsDirective (front : List Token) : Type 0 where
+  pub directive : Directive (List Token)
+  pub more : List Token
+  pub written : EachBehind IsWrittenItem [] directive.clauses
+  pub parts : directive_spelling (λ e. e) directive ≡ front ++ more
+
+-- the place of a token that no directive has there, after the tokens before it; past every source where none is left
+pub record StopsAt (tokens : List Token) (at : ℕ) : Type 0 where
+  pub front : List Token
+  pub rest : List Token
+  pub parts : tokens ≡ front ++ rest
+  pub begins : BeginsDirective front
+  pub stops : (t : Token) (after : List Token) → rest ≡ t ∷ after → BeginsDirective (front ++ t ∷ []) → ⊥
+  pub place : place rest ≡ at
+
+-- the end of the run stands last, if it stands there
+abbrev pub EndsOnce : List Token → Type 0
+EndsOnce tokens = (front : List Token) (t : Token) (after : List Token) → tokens ≡ front ++ t ∷ after → t.kind ≡ kinds.DirectiveEnd → after ≡ []

@@ -7,7 +7,7 @@ ghost use Rattle.om_lexer.specs.Faults.{no_memory};
 ghost use Rattle.om_pragma.specs.declared.tree.Directive.{Directive as DirectiveOf};
 ghost use Rattle.om_pragma.specs.Expressions.{expressions, map_clause, map_item, tokens_in, with_tokens};
 ghost use Rattle.om_pragma.specs.Reading.{take_kind, fault, stopped, in_clause, no_word, opening_at, critical_after, critical_at, flush_at, parallel_at, name_after, directive_name_at, comma_at, clause_at, item_at, until, syntax_at, take_end, clauses_at, directive_at, Gets, Reads};
-ghost use Rattle.om_pragma.specs.Refusals.{IsRefusal, IsFound};
+ghost use Rattle.om_pragma.specs.Refusals.{IsRefusal, IsFound, EndsOnce, StopsAt};
 ghost use Rattle.om_pragma.specs.Table.{IsDirectiveOf, kinds_of};
 
 use crate::argument::{clause_after, list_after};
@@ -40,6 +40,9 @@ pub fn directive(alloc: Global, tokens: &[Token]) -> Result<Directive<&[Token]>,
 
     ensures every_directive_is_found { (d : DirectiveOf (List Tokens)) → IsDirectiveOf tokens.now d → IsFound d result }
     ensures refused { IfErr result (λ fault. (fault ≡ no_memory) ⊎ IsRefusal tokens.now fault) }
+    // S3 stands at the first token that no directive has there, where the run's end stands last.
+    ensures stops_at_the_first { IfErr result (λ fault. fault.code ≡ Syntax → EndsOnce tokens.now → StopsAt tokens.now fault.at) }
+
     ensures reads { Reads with_tokens result (directive_at tokens.now) }
 {
     read(alloc, tokens)

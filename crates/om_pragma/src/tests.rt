@@ -78,7 +78,7 @@ fn each_directive_has_its_clauses(rt: HostRuntime) -> Result<(), Fail> {
             } else {
                 format!(in alloc; "S6 {column}")?
             };
-            assert_eq!(rt; shown(alloc, line.as_str())?, wanted);
+            assert_eq!(rt; shown(alloc, line.as_str())?.as_str(), wanted.as_str());
         }
     }
     Ok(())
@@ -123,7 +123,7 @@ fn each_line_is_what_it_should(rt: HostRuntime) -> Result<(), Fail> {
         ("task default(none) default(none)", "S6 32"),
     ] {
         let line = format!(in alloc; "#pragma omp {line}\n")?;
-        assert_eq!(rt; shown(alloc, line.as_str())?, wanted);
+        assert_eq!(rt; shown(alloc, line.as_str())?.as_str(), wanted);
     }
     Ok(())
 }
@@ -162,7 +162,7 @@ fn wrong_inside_is_the_clause(rt: HostRuntime) -> Result<(), Fail> {
         "seq_cst",
     ] {
         let line = format!(in alloc; "#pragma omp parallel {line}\n")?;
-        assert_eq!(rt; shown(alloc, line.as_str())?, "S6 22");
+        assert_eq!(rt; shown(alloc, line.as_str())?.as_str(), "S6 22");
     }
     for line in [
         "schedule",
@@ -176,7 +176,7 @@ fn wrong_inside_is_the_clause(rt: HostRuntime) -> Result<(), Fail> {
         "num_threads(1)",
     ] {
         let line = format!(in alloc; "#pragma omp for {line}\n")?;
-        assert_eq!(rt; shown(alloc, line.as_str())?, "S6 17");
+        assert_eq!(rt; shown(alloc, line.as_str())?.as_str(), "S6 17");
     }
     Ok(())
 }
@@ -223,7 +223,7 @@ fn other_words_and_tokens(rt: HostRuntime) -> Result<(), Fail> {
         ("critical nowait", "S6 22"),
     ] {
         let line = format!(in alloc; "#pragma omp {line}\n")?;
-        assert_eq!(rt; shown(alloc, line.as_str())?, wanted);
+        assert_eq!(rt; shown(alloc, line.as_str())?.as_str(), wanted);
     }
     Ok(())
 }

@@ -1,4 +1,4 @@
-use Rattle.om_pragma.proofs.Promises.{is_found, has_one_expression, is_only, is_refused}
+use Rattle.om_pragma.proofs.Promises.{is_found, has_one_expression, is_only, is_refused, is_first}
 use Rattle.om_pragma.proofs.reading.directive.Goals as goal
 
 pub returns-clause-found : goal.returns-clause-found
@@ -12,3 +12,6 @@ returns-clause-refused c = is_refused c.args.tokens.now c.read.result c.read.ens
 
 pub returns-clause-one_expression_at_most : goal.returns-clause-one_expression_at_most
 returns-clause-one_expression_at_most c = has_one_expression c.args.tokens.now c.read.result c.read.ensures
+
+pub returns-clause-stops_at_the_first : goal.returns-clause-stops_at_the_first
+returns-clause-stops_at_the_first c = is_first c.args.tokens.now c.read.result c.read.ensures
