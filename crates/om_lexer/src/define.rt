@@ -43,13 +43,12 @@ pub(crate) fn define_at(
     alloc: Global,
     source: &[u8],
     at: usize,
-    word: usize,
     end: usize,
     macros: &Macros,
 ) -> Result<(HashLine, usize), SourceFault>
     requires below { at < source_limit }
     requires inside { end ≤ length source.now }
-    requires begins { IsHashWord source.now at word end (codes "define") }
+    requires begins { (word : ℕ) × IsHashWord source.now at word end (codes "define") }
     ensures line { IfOk result (λ read. IsHashLine source.now macros.now at read.1 read.0) }
     ensures fault { IfErr result (λ fault. (fault ≡ no_memory) ⊎ ((fault.at ≡ at) × IsWrongHashLine source.now macros.now at fault.code)) }
 {

@@ -32,30 +32,24 @@ pub(crate) fn hash_line_at(
     let end = word_end(source, word);
     let text = &source[word..end];
     if is_same(text, b"include") {
-        return include_at(source, at, word, end, macros);
+        return include_at(source, at, end);
     }
     if is_same(text, b"define") {
-        return define_at(alloc, source, at, word, end, macros);
+        return define_at(alloc, source, at, end, macros);
     }
     if is_same(text, b"pragma") {
-        return Ok(pragma_at(source, at, word, end));
+        return Ok(pragma_at(source, word, end));
     }
     Err(bad_hash_line(at))
 }
 
 /// An include, whose word ends at `end`; S4 where it names no header, or has more behind it.
-fn include_at(
-    source: &[u8],
-    at: usize,
-    word: usize,
-    end: usize,
-    macros: &Macros,
-) -> Result<(HashLine, usize), SourceFault>
+fn include_at(source: &[u8], at: usize, end: usize) -> Result<(HashLine, usize), SourceFault>
     requires below { at < source_limit }
     requires inside { end ≤ length source.now }
-    requires begins { IsHashWord source.now at word end (codes "include") }
-    ensures line { IfOk result (λ read. IsHashLine source.now macros.now at read.1 read.0) }
-    ensures fault { IfErr result (λ fault. (fault ≡ no_memory) ⊎ ((fault.at ≡ at) × IsWrongHashLine source.now macros.now at fault.code)) }
+    requires begins { (word : ℕ) × IsHashWord source.now at word end (codes "include") }
+    ensures line { (macros : MacroList) → IfOk result (λ read. IsHashLine source.now macros at read.1 read.0) }
+    ensures fault { (macros : MacroList) → IfErr result (λ fault. (fault ≡ no_memory) ⊎ ((fault.at ≡ at) × IsWrongHashLine source.now macros at fault.code)) }
 {
     let header = gap_end(source, end);
     match include_end(source, header) {
@@ -107,10 +101,9 @@ fn has_text(source: &[u8], from: usize, text: &[u8]) -> bool
 }
 
 /// A pragma, whose word stands from `word` up to `end`: `omp` behind it makes it a directive.
-fn pragma_at(source: &[u8], at: usize, word: usize, end: usize) -> (HashLine, usize)
-    requires inside { end ≤ length source.now }
-    requires begins { IsHashWord source.now at word end (codes "pragma") }
-    ensures { (macros : MacroList) → IsHashLine source.now macros at result.1 result.0 }
+fn pragma_at(source: &[u8], word: usize, end: usize) -> (HashLine, usize)
+    requires { end ≤ length source.now }
+    ensures { (macros : MacroList) (at : ℕ) → IsHashWord source.now at word end (codes "pragma") → IsHashLine source.now macros at result.1 result.0 }
 {
     let omp = gap_end(source, end);
     let omp_end = word_end(source, omp);
