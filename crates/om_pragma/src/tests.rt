@@ -277,3 +277,52 @@ fn what_a_parser_asks(rt: HostRuntime) -> Result<(), Fail> {
     one_fault();
     Ok(())
 }
+
+#[test]
+fn lines_of_other_programs(rt: HostRuntime) -> Result<(), Fail> {
+    let alloc = rt.alloc();
+    for (line, wanted) in [
+        ("#pragma omp  \n", "S3 12"),
+        ("#pragma omp parallel shared(x) ,  \n", "S3 33"),
+        ("#pragma omp critical (a   /* c */ // d\n", "S3 24"),
+        ("#pragma omp masked filter(1) foo(\n", "S5 30"),
+        ("#pragma omp teams\n", "S5 13"),
+        ("#pragma omp parallel num_threads(1) foo(\n", "S5 37"),
+        ("#pragma omp parallel private(x) master\n", "S5 33"),
+        ("#pragma omp masked filter()\n", "S6 20"),
+        ("#pragma omp masked filter((1)\n", "S6 20"),
+        ("#pragma omp for num_threads(1)\n", "S6 17"),
+        ("#pragma omp parallel private(sizeof)\n", "S6 22"),
+        ("#pragma omp parallel num_threads)(\n", "S6 22"),
+        ("#pragma omp parallel seq_cst\n", "S6 22"),
+        ("#pragma omp paralel num_threads(8)\n", "S5 13"),
+        (
+            "#pragma omp atomic for schedule(dynamic, 1) num_threads(2) /* c */\n",
+            "S5 20",
+        ),
+        (
+            "#pragma omp target firstprivate(i1), private(g0, v2)\n",
+            "S5 13",
+        ),
+        ("#pragma omp parallel p01(min: g2)\n", "S5 22"),
+        ("#pragma omp task n(n) firstprivate(m)\n", "S5 18"),
+        ("#pragma omp x reduction(+:x)\n", "S5 13"),
+        ("#pragma omp masked num_threads(3)\n", "S6 20"),
+        ("#pragma omp masked reduction(max:g0)\n", "S6 20"),
+        (
+            "#pragma omp for schedule(dynamic, ) reduction(+:s)\n",
+            "S6 17",
+        ),
+        ("#pragma omp atomic update read\n", "S6 27"),
+        ("#pragma omp master schedule(dynamic, 4)\n", "S6 20"),
+        ("#pragma omp critical schedule(dynamic, 1)\n", "S6 22"),
+        (
+            "#pragma omp parallel firstprivate(g1), num_threads)1) default(shared)\n",
+            "S6 40",
+        ),
+        ("#pragma omp parallel for nowait\n", "S6 26"),
+    ] {
+        assert_eq!(rt; shown(alloc, line)?.as_str(), wanted);
+    }
+    Ok(())
+}
