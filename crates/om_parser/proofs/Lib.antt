@@ -6,6 +6,7 @@ pub mod Sums
 pub mod Loops
 pub mod ItemsSound
 pub mod StatementSound
+pub mod PartsSound
 pub mod DeclarationSound
 pub mod FunctionSound
 pub mod UnitSound
@@ -14,6 +15,7 @@ pub mod Again
 pub mod ExpressionComplete
 pub mod ItemsComplete
 pub mod StatementComplete
+pub mod PartsComplete
 pub mod DeclarationComplete
 pub mod FunctionComplete
 pub mod UnitComplete
@@ -23,11 +25,13 @@ pub mod ItemsCut
 pub mod DeclarationCut
 pub mod FunctionCut
 pub mod StatementCut
+pub mod PartsCut
 pub mod UnitCut
 pub mod Refusals
 pub mod ExpressionRefusals
 pub mod DeclarationRefusals
 pub mod FunctionRefusals
 pub mod StatementRefusals
+pub mod PartsRefuse
 pub mod UnitRefusals
 pub mod Promises

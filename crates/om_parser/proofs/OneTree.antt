@@ -1,39 +1,86 @@
 -- One unit at most has these tokens.
-use Rattle.std.proofs.Common.{◌≡◌, ◌+◌, ◌≤◌, List, [], ◌∷◌, length, sym, ap, ◌∙◌, arith, inl, inr, All}
+use Rattle.std.proofs.Common.{◌≡◌, ◌+◌, ◌≤◌, List, [], ◌∷◌, sym, ap, ◌∙◌, arith, inl, inr, All}
 use Rattle.std.proofs.lemmas.List.Elements.{All-nil, All-cons, All-weaker}
 use Rattle.om_parser.specs.Formed.{IsUnit}
-use Rattle.om_parser.specs.Limits.{Limits, IsWithin, nesting, whole_expressions}
-use Rattle.om_parser.specs.Spelling.{expression_spelling, unit_spelling}
-use Rattle.om_parser.specs.Tree.{ExpressionTree, UnitTree}
+use Rattle.om_parser.specs.Limits.{Limits}
+use Rattle.om_parser.specs.Sizes.{longest_of, brackets_of, blocks_of, height_of, IsItemWithin}
+use Rattle.om_parser.specs.Spelling.{unit_spelling}
+use Rattle.om_parser.specs.Tree.{ItemTree, Declaration, Prototype, Function, UnitTree, statements}
 use Rattle.om_parser.specs.UnitReading.{unit_at}
 use Rattle.om_parser.proofs.Outcomes.{ok, ok_is}
 use Rattle.om_parser.proofs.UnitComplete.{unit_again}
 
--- limits that these expressions keep
-large : List ExpressionTree → Limits
-large [] = record { nested = 0; tokens = 0 }
-large (e ∷ es) = record { nested = nesting e + (large es).nested; tokens = length (expression_spelling e) + (large es).tokens }
+-- limits that both keep
+abbrev both : Limits → Limits → Limits
+both l m = record { nested = l.nested + m.nested; tokens = l.tokens + m.tokens; blocks = l.blocks + m.blocks; statements = l.statements + m.statements }
 
-wider : (l m : Limits) → l.nested ≤ m.nested → l.tokens ≤ m.tokens → (es : List ExpressionTree) → All (IsWithin l) es → All (IsWithin m) es
-unfolding IsWithin
-wider l m nested tokens es w = All-weaker (IsWithin l) (IsWithin m) (λ e g. (omega (arith, g.0), omega (arith, g.1))) es w
+-- limits that an item keeps
+abbrev limits_of : ItemTree → Limits
+limits_of (Declaration d) = record { nested = 0; tokens = 0; blocks = 0; statements = 0 }
+limits_of (Prototype h semicolon) = record { nested = 0; tokens = 0; blocks = 0; statements = 0 }
+limits_of (Function f) =
+    let items = statements f.body.items in
+    record { nested = brackets_of items; tokens = longest_of items; blocks = blocks_of items + 1; statements = height_of items }
 
-large_enough : (es : List ExpressionTree) → All (IsWithin (large es)) es
-unfolding large IsWithin
-large_enough [] = All-nil (IsWithin (large []))
-large_enough (e ∷ es) = All-cons (IsWithin (large (e ∷ es))) e es (omega arith, omega arith) (wider (large es) (large (e ∷ es)) (omega arith) (omega arith) es (large_enough es))
+-- limits that these items keep, with room for a parenthesis
+abbrev large : List ItemTree → Limits
+large [] = record { nested = 1; tokens = 0; blocks = 0; statements = 0 }
+large (i ∷ items) = both (limits_of i) (large items)
 
-read_whole : (l : Limits) (u : UnitTree) → IsUnit u → All (IsWithin l) (whole_expressions u) → unit_at l (unit_spelling u) ≡ ok u
-read_whole l u f w = elim (unit_again l u f) [
+-- one that keeps limits keeps wider ones
+record IsWider (l m : Limits) : Type 0 where
+  nested : l.nested ≤ m.nested
+  tokens : l.tokens ≤ m.tokens
+  blocks : l.blocks ≤ m.blocks
+  statements : l.statements ≤ m.statements
+
+item_wider : (l m : Limits) → IsWider l m → (i : ItemTree) → IsItemWithin l i → IsItemWithin m i
+item_wider l m w (Declaration d) g = tt
+item_wider l m w (Prototype h semicolon) g = tt
+item_wider l m w (Function f) g = record {
+  high = omega (arith, g.high, w.statements);
+  deep = omega (arith, g.deep, w.blocks);
+  nested = omega (arith, g.nested, w.nested);
+  long = omega (arith, g.long, w.tokens);
+}
+
+wider : (l m : Limits) → IsWider l m → (items : List ItemTree) → All (IsItemWithin l) items → All (IsItemWithin m) items
+wider l m w items g = All-weaker (IsItemWithin l) (IsItemWithin m) (λ i h. item_wider l m w i h) items g
+
+first_wider : (l m : Limits) → IsWider l (both l m)
+first_wider l m = record { nested = omega arith; tokens = omega arith; blocks = omega arith; statements = omega arith }
+
+second_wider : (l m : Limits) → IsWider m (both l m)
+second_wider l m = record { nested = omega arith; tokens = omega arith; blocks = omega arith; statements = omega arith }
+
+own_limits : (i : ItemTree) → IsItemWithin (limits_of i) i
+own_limits (Declaration d) = tt
+own_limits (Prototype h semicolon) = tt
+own_limits (Function f) = record { high = omega arith; deep = omega arith; nested = omega arith; long = omega arith }
+
+large_enough : (items : List ItemTree) → All (IsItemWithin (large items)) items
+large_enough [] = All-nil (IsItemWithin (large []))
+large_enough (i ∷ items) =
+    All-cons (IsItemWithin (large (i ∷ items))) i items (item_wider (limits_of i) (large (i ∷ items)) (first_wider (limits_of i) (large items)) i (own_limits i))
+    (wider (large items) (large (i ∷ items)) (second_wider (limits_of i) (large items)) items (large_enough items))
+
+some_nested : (items : List ItemTree) → 1 ≤ (large items).nested
+some_nested [] = omega arith
+some_nested (i ∷ items) = let le = some_nested items in omega (arith, le)
+
+read_whole : (l : Limits) → 1 ≤ l.nested → (u : UnitTree) → IsUnit u → All (IsItemWithin l) u.items → unit_at l (unit_spelling u) ≡ ok u
+read_whole l one u f w = elim (unit_again l one u f) [
   | inl e ↦ e
   | inr (s, e, never) ↦ absurd (never w)
 ]
 
 pub same_unit : (t u : UnitTree) → IsUnit t → IsUnit u → unit_spelling t ≡ unit_spelling u → t ≡ u
 same_unit t u f g e =
-    let a = large (whole_expressions t) in
-    let b = large (whole_expressions u) in
-    let l : Limits = record { nested = a.nested + b.nested; tokens = a.tokens + b.tokens } in
-    let x = read_whole l t f (wider a l (omega arith) (omega arith) (whole_expressions t) (large_enough (whole_expressions t))) in
-    let y = read_whole l u g (wider b l (omega arith) (omega arith) (whole_expressions u) (large_enough (whole_expressions u))) in
+    let a = large t.items in
+    let b = large u.items in
+    let l : Limits = both a b in
+    let some = some_nested t.items in
+    let one : 1 ≤ l.nested = omega (arith, some) in
+    let x = read_whole l one t f (wider a l (first_wider a b) t.items (large_enough t.items)) in
+    let y = read_whole l one u g (wider b l (second_wider a b) u.items (large_enough u.items)) in
     ok_is t u (sym x ∙ ap (unit_at l) e ∙ y)

@@ -6,7 +6,8 @@ use Rattle.om_lexer.specs.declared.fault.FaultCode.TheVariants as codes
 use Rattle.om_lexer.specs.declared.fault.SourceFault.{SourceFault}
 use Rattle.om_lexer.specs.declared.token.Token.{Token}
 use Rattle.om_parser.specs.declared.tree.Unit as units
-use Rattle.om_parser.specs.Limits.{accepted, IsWithinLimits}
+use Rattle.om_parser.specs.Limits.{accepted}
+use Rattle.om_parser.specs.Sizes.{IsWithinLimits}
 use Rattle.om_parser.specs.Parsing.{IsTreeOf, IsTreeOrMemory, IsLimitPassed}
 use Rattle.om_parser.specs.Reading.{Reads}
 use Rattle.om_parser.specs.Tree.{UnitTree}
@@ -25,18 +26,18 @@ memory_only f e = ap (λ (g : SourceFault). g.code) e
 
 module _ (ts : List Token) where
   pub is_found : (r : Result units.Unit SourceFault) → Reads view_unit r (unit_at accepted ts) → IfOk r (λ unit. IsTreeOf ts (view_unit unit))
-  is_found (Ok u) h = let s = unit_sound accepted ts (view_unit u) h in record { formed = s.0; spelled = s.1 }
+  is_found (Ok u) h = let s = unit_sound accepted (omega arith) ts (view_unit u) h in record { formed = s.0; spelled = s.1 }
   is_found (Err f) h = tt
 
   pub is_within : (r : Result units.Unit SourceFault) → Reads view_unit r (unit_at accepted ts) → IfOk r (λ unit. IsWithinLimits (view_unit unit))
   unfolding IsWithinLimits
-  is_within (Ok u) h = (unit_sound accepted ts (view_unit u) h).2
+  is_within (Ok u) h = (unit_sound accepted (omega arith) ts (view_unit u) h).2
   is_within (Err f) h = tt
 
   -- a tree with these tokens is read again
   again : (u : UnitTree) → IsTreeOf ts u → IsAnswer (IsWithinLimits u) (unit_at accepted ts) u
   unfolding IsWithinLimits
-  again u t = subst (λ us. IsAnswer (IsWithinLimits u) (unit_at accepted us) u) t.spelled (unit_again accepted u t.formed)
+  again u t = subst (λ us. IsAnswer (IsWithinLimits u) (unit_at accepted us) u) t.spelled (unit_again accepted (omega arith) u t.formed)
 
   pub is_only : (r : Result units.Unit SourceFault) → Reads view_unit r (unit_at accepted ts) → (u : UnitTree) → IsTreeOf ts u → IsWithinLimits u → IsTreeOrMemory u r
   is_only (Ok found) h u t w = elim (again u t) [
@@ -60,7 +61,7 @@ module _ (ts : List Token) where
   pub is_too_deep : (r : Result units.Unit SourceFault) → Reads view_unit r (unit_at accepted ts) → IfErr r (λ f. f.code ≡ codes.TooDeep → IsLimitPassed ts f.at)
   is_too_deep (Ok u) h = tt
   is_too_deep (Err f) (inl memory) = λ deep. let m = memory_only f memory in absurd cc
-  is_too_deep (Err f) (inr e) = λ deep. unit_cut accepted (omega arith) ts f e deep
+  is_too_deep (Err f) (inr e) = λ deep. unit_cut accepted (omega arith) (omega arith) ts f e deep
 
   pub is_no_other : (r : Result units.Unit SourceFault) → Reads view_unit r (unit_at accepted ts) → IfErr r (λ f. (f ≡ no_memory) ⊎ (f.code ≡ codes.Syntax) ⊎ (f.code ≡ codes.TooDeep))
   is_no_other (Ok u) h = tt

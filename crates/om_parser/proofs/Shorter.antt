@@ -1,20 +1,36 @@
 -- A statement that is read takes a token at least.
-use Rattle.std.proofs.Common.{◌≡◌, ◌<◌, List, [], ◌∷◌, length, ap, arith, length-append}
+use Rattle.std.proofs.Common.{◌≡◌, ℕ, ◌<◌, ◌≤◌, List, [], ◌∷◌, length, ap, arith, length-append}
 use Rattle.om_lexer.specs.declared.token.Punctuator.TheVariants as punctuators
+use Rattle.om_lexer.specs.declared.token.Span.{Span}
 use Rattle.om_lexer.specs.declared.token.Token.{Token}
 use Rattle.om_parser.specs.Formed.{IsStatement}
 use Rattle.om_parser.specs.Limits.{Limits}
-use Rattle.om_parser.specs.Spelling.{mark, expression_spelling, statement_spelling, declaration_spelling, for_head_spelling}
+use Rattle.om_parser.specs.Reading.{take_mark}
+use Rattle.om_parser.specs.Spelling.{mark, expression_spelling, condition_spelling, for_head_spelling, declaration_spelling, statement_spelling}
+use Rattle.om_parser.specs.StatementReading.{Parts, block_item_at, statement_at}
 use Rattle.om_parser.specs.Tree.{StatementTree, LocalDeclaration, Block, Empty, Expression, If, IfElse, While, Do, For, Return, Break, Continue}
-use Rattle.om_parser.specs.StatementReading.{statement_at}
-use Rattle.om_parser.proofs.Outcomes.{ok}
-use Rattle.om_parser.proofs.StatementSound.{statement_sound}
+use Rattle.om_parser.proofs.Outcomes.{ok, some}
+use Rattle.om_parser.proofs.Taken.{take_mark_is}
+use Rattle.om_parser.proofs.StatementSound.{ArePartsSound, block_item_sound}
+
+pub brace_shorter : (ts : List Token) (s : Span) (us : List Token) → take_mark punctuators.CloseBrace ts ≡ some (s, us) → length us < length ts
+brace_shorter ts s us e = omega (arith, ap length (take_mark_is punctuators.CloseBrace ts s us e))
 
 pub statement_some : (s : StatementTree) → IsStatement s → 0 < length (statement_spelling s)
-unfolding statement_spelling IsStatement
+unfolding statement_spelling for_head_spelling declaration_spelling IsStatement
+statement_some (LocalDeclaration d) f = omega arith
 statement_some (Expression e semicolon) f = omega (arith, length-append (expression_spelling e) (mark punctuators.Semicolon semicolon ∷ []))
+statement_some (Block left items right) f = omega arith
+statement_some (Empty semicolon) f = omega arith
+statement_some (If at c s) f = omega arith
+statement_some (IfElse at c s other t) f = omega arith
+statement_some (While at c s) f = omega arith
+statement_some (Do at s again c semicolon) f = omega arith
+statement_some (For h s) f = omega arith
 statement_some (Return at value semicolon) f = omega arith
+statement_some (Break at semicolon) f = omega arith
+statement_some (Continue at semicolon) f = omega arith
 statement_some _ f = absurd f
 
-pub statement_shorter : (l : Limits) (ts : List Token) (s : StatementTree) (us : List Token) → (statement_at l) ts ≡ ok (s, us) → length us < length ts
-statement_shorter l ts s us e = let r = statement_sound l ts (s, us) e in omega (arith, ap length r.parts, length-append (statement_spelling s) us, statement_some s r.formed.0)
+pub block_item_shorter : (p : Parts) (l : Limits) → 1 ≤ l.nested → ArePartsSound p l → (room blocks_left : ℕ) (ts : List Token) (s : StatementTree) (us : List Token) → block_item_at p (statement_at p room blocks_left) ts ≡ ok (s, us) → length us < length ts
+block_item_shorter p l one sound room blocks_left ts s us e = let r = block_item_sound p l one sound room blocks_left ts (s, us) e in omega (arith, ap length r.parts, length-append (statement_spelling s) us, statement_some s r.formed.formed)

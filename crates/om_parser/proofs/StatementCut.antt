@@ -1,133 +1,517 @@
--- Where a block is too deep, its tokens up to there begin a well-formed one.
-use Rattle.std.proofs.Common.{◌≡◌, ℕ, suc, ◌+◌, ◌-◌, ◌≤◌, List, [], ◌∷◌, ◌++◌, length, Some, Err, refl, sym, ap, subst, ◌∙◌, arith, append_assoc, length-append, ◌⊎◌, inl, inr, All}
+-- Where a statement is too deep, its tokens up to there begin a well-formed one.
+use Rattle.std.proofs.Common.{◌≡◌, ℕ, zero, suc, ◌+◌, ◌≤◌, Bool, true, false, List, [], ◌∷◌, ◌++◌, length, Option, Some, None, Ok, Err, refl, sym, ap, subst, ◌∙◌, arith, append_assoc, ◌⊎◌, inl, inr, All}
 use Rattle.std.specs.List.{flat_map}
+use Rattle.std.proofs.lemmas.List.{append-nil}
 use Rattle.om_lexer.specs.declared.fault.SourceFault.{SourceFault}
+use Rattle.om_lexer.specs.declared.token.Keyword.{Keyword}
 use Rattle.om_lexer.specs.declared.token.Keyword.TheVariants as keywords
+use Rattle.om_lexer.specs.declared.token.Punctuator.{Punctuator}
 use Rattle.om_lexer.specs.declared.token.Punctuator.TheVariants as punctuators
 use Rattle.om_lexer.specs.declared.token.Span.{Span}
 use Rattle.om_lexer.specs.declared.token.Token.{Token}
-use Rattle.om_lexer.specs.declared.token.TokenKind.TheVariants as kinds
-use Rattle.om_parser.specs.declared.tree.AssignOperator.TheVariants as assigns
-use Rattle.om_parser.specs.Formed.{IsExpression, IsStatement}
-use Rattle.om_parser.specs.Limits.{Limits, still_open, expressions_of_statement}
-use Rattle.om_parser.specs.Parsing.{IsTooMuch, PassesLimit}
-use Rattle.om_parser.specs.Reading.{take_mark, take_word, mark_at, name_at}
-use Rattle.om_parser.specs.Spelling.{mark, word, name, expression_spelling, statement_spelling, block_spelling}
-use Rattle.om_parser.specs.Tree.{Name, Assign, StatementTree, Expression, Return}
+use Rattle.om_lexer.specs.declared.token.TokenKind.{TokenKind}
+use Rattle.om_parser.specs.declared.statement.Start.{Start}
+use Rattle.om_parser.specs.declared.statement.Start.TheVariants as starts
+use Rattle.om_parser.specs.Reading.{◌>>=◌, Outcome, Reader, choose, too_deep, take_mark, take_word, mark_at, word_at}
 use Rattle.om_parser.specs.Repetition.{until}
-use Rattle.om_parser.specs.StatementReading.{value_at, return_after, assignment_at, statement_at, block_at}
-use Rattle.om_parser.proofs.Outcomes.{ok, bind_err, choose_cases}
-use Rattle.om_parser.proofs.Taken.{take_word_is, mark_at_is, name_at_is}
-use Rattle.om_parser.proofs.ExpressionCut.{known_never_deep, IsExpressionCut, sum_cut}
-use Rattle.om_parser.proofs.StatementSound.{statement_sound}
-use Rattle.om_parser.proofs.ItemsCut.{Deep, IsCuttingAt, bind_never_deep, until_cut}
+use Rattle.om_parser.specs.Spelling.{token, mark, word, perhaps, expression_spelling, declaration_spelling, condition_spelling, for_start_spelling, for_head_spelling, statement_spelling, statements_spelling, block_spelling}
+use Rattle.om_parser.specs.Formed.{IsOptional, IsForStart, IsForHead, ends_open, IsBody, IsStatement, AreStatements, IsExpression, IsLocalDeclaration}
+use Rattle.om_parser.specs.Limits.{Limits}
+use Rattle.om_parser.specs.Places.{Place, in_parentheses, IsOverInExpression, IsOverInDeclaration, Behind, Either, InOptional, InCondition, InForStart, InForHead, AtFirst, AtBrace, IsOverInside, IsOverInItems, IsOverInStatement, IsOverInBlock, IsPassed}
+use Rattle.om_parser.specs.StatementReading.{Parts, start_of, condition_at, optional_before, for_start_at, for_head_after, OpeningTree, OpensIf, OpensWhile, OpensFor, with_body, opening_of, return_after, jump_after, expression_statement_at, else_after, behind_body, body_after, headed_of, do_end, do_after, block_item_at, block_items_after, block_after, simple_of, statement_of, no_room, statement_at, block_with}
+use Rattle.om_parser.specs.Tree.{ExpressionTree, Constant, DeclarationTree, ConditionTree, ForStartTree, Nothing, StartExpression, StartDeclaration, ForHeadTree, StatementTree, StatementsTree, LocalDeclaration, Block, Empty, Expression, If, IfElse, While, Do, For, Return, Break, Continue, NoStatements, Statement, statements, BlockTree}
+use Rattle.om_parser.proofs.Outcomes.{ok, some, bind_err, choose_cases, after_front}
+use Rattle.om_parser.proofs.Taken.{take_mark_is, take_word_is, mark_at_is, word_at_is}
+use Rattle.om_parser.proofs.ExpressionCut.{err_is, IsNeverDeep, syntax_never_deep, known_never_deep}
+use Rattle.om_parser.proofs.ItemsCut.{Deep, bind_never_deep}
+use Rattle.om_parser.proofs.StatementSound.{ArePartsSound, IsOf, is_of_start, optional_spelling, opening_spelling, IsWholeOpening, Whole, IsStatementRead, IsStatementSound, with_body_spelled, block_item_sound_with, block_items_sound, statement_sound}
+use Rattle.om_parser.proofs.StatementSound as sounds
+use Rattle.om_parser.proofs.StatementComplete.{list_of, statements_of, list_flat}
 
-value_cut : (l : Limits) (begins ts : List Token) (f : SourceFault) → length begins - l.tokens ≤ length ts → value_at l begins ts ≡ Err f → Deep f → IsExpressionCut 7 (length begins - l.tokens) l.nested ts f.at
-unfolding value_at
-value_cut l begins ts f le h deep = sum_cut (length begins - l.tokens) l.nested ts f le h deep
+-- an expression that begins with this token
+pub record Begins (t : Token) : Type 0 where
+  pub tree : ExpressionTree
+  pub formed : IsExpression tree
+  pub behind : List Token
+  pub spelled : expression_spelling tree ≡ t ∷ behind
 
-too_much_at : (l : Limits) (begins begun : List Token) (t : Token) (after : List Token) → begins ≡ begun ++ t ∷ after → (suc (length after) ≡ length begins - l.tokens) ⊎ ((t.kind ≡ kinds.Punctuator punctuators.OpenParen) × (still_open 0 begun ≡ l.nested)) → IsTooMuch l begun t
-too_much_at l begins begun t after is (inl e) = inl (omega (arith, e, ap length is, length-append begun (t ∷ after)))
-too_much_at l begins begun t after is (inr deep) = inr deep
+abbrev pub IsExpressionPassed : Limits → Reader ExpressionTree → Type 0
+IsExpressionPassed l r = (ts : List Token) (f : SourceFault) → r ts ≡ Err f → Deep f → IsPassed expression_spelling IsExpression (IsOverInExpression l) ts f.at
 
-from_start : {K : Type 0} (n beyond room : ℕ) (begun : List Token) → (n ≡ beyond) ⊎ (K × ((d : ℕ) → still_open d begun ≡ d + room)) → (n ≡ beyond) ⊎ (K × (still_open 0 begun ≡ room))
-from_start n beyond room begun (inl e) = inl e
-from_start n beyond room begun (inr (is, nests)) = inr (is, omega (arith, nests 0))
+abbrev pub IsDeclarationPassed : Limits → (Span → Reader DeclarationTree) → Type 0
+IsDeclarationPassed l r = (int : Span) (ts : List Token) (f : SourceFault) → r int ts ≡ Err f → Deep f → IsPassed declaration_spelling IsLocalDeclaration (IsOverInDeclaration l) (word keywords.Int int ∷ ts) f.at
 
-module _ (l : Limits) (two : 2 ≤ l.tokens) where
-  return_after_cut : (at : Span) (ts : List Token) (f : SourceFault) → return_after l at ts ≡ Err f → Deep f → PassesLimit statement_spelling IsStatement expressions_of_statement l (word keywords.Return at ∷ ts) f.at
-  unfolding return_after mark_at statement_spelling IsStatement
-  return_after_cut at ts f h deep = elim (bind_err (value_at l ts ts) _ f h) [
-    | inr (e, reads, g) ↦ absurd (bind_never_deep (mark_at punctuators.Semicolon e.1) _ (known_never_deep e.1 (take_mark punctuators.Semicolon e.1)) (λ s f h deep. absurd cc) f g deep)
-    | inl e ↦
-        let c = value_cut l ts ts f (omega arith) e deep in
-        record {
-          part = Return at (Some c.tree) c.token.span;
-          formed = (c.formed, omega (arith, c.tight));
-          expression = c.tree;
-          whole = (0, omega arith, refl);
-          before = word keywords.Return at ∷ [];
-          begun = c.begun;
-          token = c.token;
-          after = c.after;
-          rest_of_expression = c.more;
-          rest_of_part = mark punctuators.Semicolon c.token.span ∷ [];
-          stands = ap (λ w. word keywords.Return at ∷ w) c.stands;
-          in_expression = c.spelled;
-          in_part = refl;
-          at_place = c.at_place;
-          too_much = too_much_at l ts c.begun c.token c.after c.stands (from_start (suc (length c.after)) (length ts - l.tokens) l.nested c.begun c.too_much);
-        }
+-- the readers of the parts stop at a limit only where one is passed
+pub record ArePartsCut (p : Parts) (l : Limits) : Type 0 where
+  pub begins : (t : Token) → start_of t.kind ≡ starts.Expression → Begins t
+  pub expression : IsExpressionPassed l p.expression
+  pub enclosed : IsExpressionPassed (in_parentheses l) p.enclosed
+  pub declaration : IsDeclarationPassed l p.declaration
+  pub enclosed_declaration : IsDeclarationPassed (in_parentheses l) p.enclosed_declaration
+
+-- a part in which a limit is passed stands in a larger one
+pub within_larger : {A B : Type 0} {spell : A → List Token} {P : A → Type 0} {over : A → Place} (spell_whole : B → List Token) (Q : B → Type 0) (over_whole : B → Place) (front back : List Token) (wrap : A → B) (ts us : List Token) (place : ℕ)
+    → ((a : A) → P a → Q (wrap a)) → ((a : A) → spell_whole (wrap a) ≡ front ++ (spell a ++ back)) → ((a : A) (before : List Token) (t : Token) → over a before t → over_whole (wrap a) (front ++ before) t)
+    → ts ≡ front ++ us → IsPassed spell P over us place → IsPassed spell_whole Q over_whole ts place
+within_larger {A} {B} {spell} {P} {over} spell_whole Q over_whole front back wrap ts us place formed spelled passed is c = record {
+  part = wrap c.part;
+  formed = formed c.part c.formed;
+  before = front ++ c.before;
+  token = c.token;
+  after = c.after;
+  rest_of_part = c.rest_of_part ++ back;
+  stands = is ∙ ap (λ w. front ++ w) c.stands ∙ simp append_assoc;
+  in_part = spelled c.part ∙ ap (λ w. front ++ (w ++ back)) c.in_part ∙ simp append_assoc;
+  at_place = c.at_place;
+  too_much = passed c.part c.before c.token c.too_much;
+}
+
+mark_never_deep : {A : Type 0} (q : Punctuator) (ts : List Token) (g : Span × List Token → A) → IsNeverDeep (mark_at q ts >>= λ s. ok (g s))
+unfolding mark_at
+mark_never_deep q ts g = bind_never_deep (mark_at q ts) _ (known_never_deep ts _) (λ s f h deep. absurd cc)
+
+mark_known : (q : Punctuator) (ts : List Token) → IsNeverDeep (mark_at q ts)
+unfolding mark_at
+mark_known q ts = known_never_deep ts _
+
+word_known : (k : Keyword) (ts : List Token) → IsNeverDeep (word_at k ts)
+unfolding word_at
+word_known k ts = known_never_deep ts _
+
+-- anything well-formed, to end a part with
+abbrev condition_of : Span → ExpressionTree → ConditionTree
+condition_of at e = record { open_paren = at; value = e; close_paren = at }
+
+-- a statement that may be a part of another
+abbrev pub IsPart : StatementTree → Type 0
+IsPart s = IsStatement s × IsBody s
+
+abbrev pub IsOpening : OpeningTree → Type 0
+IsOpening (OpensIf at c) = IsExpression c.value
+IsOpening (OpensWhile at c) = IsExpression c.value
+IsOpening (OpensFor h) = IsForHead h
+
+abbrev pub InOpening : Limits → OpeningTree → Place
+InOpening l (OpensIf at c) = Behind (word keywords.If at ∷ []) (InCondition l c)
+InOpening l (OpensWhile at c) = Behind (word keywords.While at ∷ []) (InCondition l c)
+InOpening l (OpensFor h) = InForHead l h
+
+abbrev IsNearest : StatementTree → List Token → Type 0
+IsNearest s rest = ends_open s ≡ true → take_word keywords.Else rest ≡ None
+
+closed_before_else : (s : StatementTree) (us : List Token) (o : Span × List Token) → IsNearest s us → take_word keywords.Else us ≡ some o → ends_open s ≡ false
+closed_before_else s us o nearest taken = go (ends_open s) refl
+  where
+    go : (b : Bool) → ends_open s ≡ b → ends_open s ≡ false
+    go false is = is
+    go true is = let none = nearest is in absurd cc
+
+empty_part : (at : Span) → IsPart (Empty at)
+unfolding IsStatement
+empty_part at = (tt, tt)
+
+empty_spelled : (at : Span) → statement_spelling (Empty at) ≡ mark punctuators.Semicolon at ∷ []
+unfolding statement_spelling
+empty_spelled at = refl
+
+abbrev any_head : Span → ForHeadTree
+any_head at = record { word = at; open_paren = at; start = Nothing at; condition = None; semicolon = at; step = None; close_paren = at }
+
+-- an expression that is surely well-formed
+abbrev any_condition : Span → ConditionTree
+any_condition at = condition_of at (Constant (record { value = 0; span = at }))
+
+any_formed : (at : Span) → IsExpression (any_condition at).value
+unfolding IsExpression
+any_formed at = tt
+
+module _ (p : Parts) (l : Limits) (one : 1 ≤ l.nested) (sound : ArePartsSound p l) (cuts : ArePartsCut p l) where
+  condition_cut : (ts : List Token) (f : SourceFault) → condition_at p ts ≡ Err f → Deep f → IsPassed condition_spelling (λ c. IsExpression c.value) (InCondition l) ts f.at
+  unfolding condition_at condition_spelling
+  condition_cut ts f h deep = elim (bind_err (mark_at punctuators.OpenParen ts) _ f h) [
+    | inl wrong ↦ absurd (mark_known punctuators.OpenParen ts f wrong deep)
+    | inr (o, taken, g) ↦ elim (bind_err (p.enclosed o.1) _ f g) [
+      | inr (e, reads, k) ↦ absurd (mark_never_deep punctuators.CloseParen e.1 _ f k deep)
+      | inl fails ↦ within_larger condition_spelling (λ c. IsExpression c.value) (InCondition l) (mark punctuators.OpenParen o.0 ∷ []) (mark punctuators.CloseParen o.0 ∷ []) (condition_of o.0) ts o.1 f.at (λ e is. is) (λ e. refl) (λ e before t over. (before, refl, over)) (mark_at_is punctuators.OpenParen ts o taken) (cuts.enclosed o.1 f fails deep)
+    ]
   ]
 
-  assignment_cut : IsCuttingAt statement_spelling IsStatement expressions_of_statement l (assignment_at l)
-  unfolding assignment_at mark_at name_at statement_spelling expression_spelling IsStatement IsExpression still_open
-  assignment_cut ts f h deep = elim (bind_err (name_at ts) _ f h) [
-    | inl wrong ↦ absurd (known_never_deep ts _ f wrong deep)
-    | inr (n, named, g) ↦ elim (bind_err (mark_at punctuators.Equal n.1) _ f g) [
-      | inl wrong ↦ absurd (known_never_deep n.1 _ f wrong deep)
-      | inr (q, taken, k) ↦ elim (bind_err (value_at l ts q.1) _ f k) [
-        | inr (e, reads, m) ↦ absurd (bind_never_deep (mark_at punctuators.Semicolon e.1) _ (known_never_deep e.1 (take_mark punctuators.Semicolon e.1)) (λ s f h deep. absurd cc) f m deep)
-        | inl e ↦
-            let assigned : ts ≡ name n.0 ∷ mark punctuators.Equal q.0 ∷ q.1 = name_at_is ts n named ∙ ap (λ w. name n.0 ∷ w) (mark_at_is punctuators.Equal n.1 q taken) in
-            let c = value_cut l ts q.1 f (omega (arith, two, ap length assigned)) e deep in
-            let begun : List Token = name n.0 ∷ mark punctuators.Equal q.0 ∷ c.begun in
-            let stands : ts ≡ begun ++ c.token ∷ c.after = assigned ∙ ap (λ w. name n.0 ∷ mark punctuators.Equal q.0 ∷ w) c.stands in
-            record {
-              part = Expression (Assign (Name n.0) assigns.Set q.0 c.tree) c.token.span;
-              formed = ((tt, c.formed, tt, omega (arith, c.tight)), refl);
-              expression = Assign (Name n.0) assigns.Set q.0 c.tree;
-              whole = (0, omega arith, refl);
-              before = [];
-              begun = begun;
-              token = c.token;
-              after = c.after;
-              rest_of_expression = c.more;
-              rest_of_part = mark punctuators.Semicolon c.token.span ∷ [];
-              stands = stands;
-              in_expression = ap (λ w. name n.0 ∷ mark punctuators.Equal q.0 ∷ w) c.spelled;
-              in_part = refl;
-              at_place = c.at_place;
-              too_much = too_much_at l ts begun c.token c.after stands (from_start (suc (length c.after)) (length ts - l.tokens) l.nested c.begun c.too_much);
-            }
+  optional_cut : (m : Limits) (q : Punctuator) (r : Reader ExpressionTree) (filler : Span) → IsExpressionPassed m r → (ts : List Token) (f : SourceFault) → optional_before q r ts ≡ Err f → Deep f → IsPassed (optional_spelling q) (λ e. IsOptional e.0) (λ e. InOptional m e.0) ts f.at
+  unfolding optional_before
+  optional_cut m q r filler passed ts f h deep = elim (choose_cases (take_mark q ts) _ _ (Err f) h) [
+    | inl (s, taken, no_err) ↦ absurd cc
+    | inr (none, g) ↦ elim (bind_err (r ts) _ f g) [
+      | inr (e, reads, k) ↦ absurd (mark_never_deep q e.1 _ f k deep)
+      | inl fails ↦ within_larger (optional_spelling q) (λ e. IsOptional e.0) (λ e. InOptional m e.0) [] (mark q filler ∷ []) (λ e. (Some e, filler)) ts ts f.at (λ e is. is) (λ e. refl) (λ e before t over. over) refl (passed ts f fails deep)
+    ]
+  ]
+
+  for_start_cut : (filler : Span) (ts : List Token) (f : SourceFault) → for_start_at p ts ≡ Err f → Deep f → IsPassed for_start_spelling IsForStart (InForStart l) ts f.at
+  unfolding for_start_at for_start_spelling
+  for_start_cut filler ts f h deep = elim (choose_cases (take_word keywords.Int ts) _ _ (Err f) h) [
+    | inl (i, taken, g) ↦ elim (bind_err (p.enclosed_declaration i.0 i.1) _ f g) [
+      | inr (d, reads, no_err) ↦ absurd cc
+      | inl fails ↦ within_larger for_start_spelling IsForStart (InForStart l) [] [] StartDeclaration ts (word keywords.Int i.0 ∷ i.1) f.at (λ d is. is) (λ d. simp append-nil) (λ d before t over. over) (take_word_is keywords.Int ts i.0 i.1 taken) (cuts.enclosed_declaration i.0 i.1 f fails deep)
+    ]
+    | inr (none, g) ↦ elim (bind_err (optional_before punctuators.Semicolon p.enclosed ts) _ f g) [
+      | inr (e, reads, no_err) ↦ absurd cc
+      | inl fails ↦ within_larger for_start_spelling IsForStart (InForStart l) [] [] (λ e. choose e.0 (λ x. StartExpression x e.1) (Nothing e.1)) ts ts f.at start_formed start_spelled start_over refl (optional_cut (in_parentheses l) punctuators.Semicolon p.enclosed filler cuts.enclosed ts f fails deep)
+    ]
+  ]
+    where
+      start_formed : (e : Option ExpressionTree × Span) → IsOptional e.0 → IsForStart (choose e.0 (λ x. StartExpression x e.1) (Nothing e.1))
+      start_formed (None, s) is = tt
+      start_formed (Some e, s) is = is
+
+      start_spelled : (e : Option ExpressionTree × Span) → for_start_spelling (choose e.0 (λ x. StartExpression x e.1) (Nothing e.1)) ≡ [] ++ (optional_spelling punctuators.Semicolon e ++ [])
+      start_spelled (None, s) = refl
+      start_spelled (Some e, s) = simp append-nil
+
+      start_over : (e : Option ExpressionTree × Span) (before : List Token) (t : Token) → InOptional (in_parentheses l) e.0 before t → InForStart l (choose e.0 (λ x. StartExpression x e.1) (Nothing e.1)) before t
+      start_over (None, s) before t over = absurd over
+      start_over (Some e, s) before t over = over
+
+  -- the head of a `for` with these parts
+  abbrev head_of : Span → Span → ForStartTree → Option ExpressionTree × Span → Option ExpressionTree × Span → ForHeadTree
+  head_of at left s c e = record { word = at; open_paren = left; start = s; condition = c.0; semicolon = c.1; step = e.0; close_paren = e.1 }
+
+  head_last : (at left : Span) (s : ForStartTree) (c e : Option ExpressionTree × Span) → for_head_spelling (head_of at left s c e) ≡ (word keywords.For at ∷ mark punctuators.OpenParen left ∷ (for_start_spelling s ++ (perhaps expression_spelling c.0 ++ mark punctuators.Semicolon c.1 ∷ []))) ++ ((perhaps expression_spelling e.0 ++ mark punctuators.CloseParen e.1 ∷ []) ++ [])
+  unfolding for_head_spelling
+  head_last at left s c e = simp (append_assoc, append-nil)
+
+  for_head_cut : (at : Span) (ts : List Token) (f : SourceFault) → for_head_after p at ts ≡ Err f → Deep f → IsPassed for_head_spelling IsForHead (InForHead l) (word keywords.For at ∷ ts) f.at
+  unfolding for_head_after for_head_spelling IsForHead InForHead
+  for_head_cut at ts f h deep = elim (bind_err (mark_at punctuators.OpenParen ts) _ f h) [
+    | inl wrong ↦ absurd (mark_known punctuators.OpenParen ts f wrong deep)
+    | inr (o, taken, g) ↦
+        let none : Option ExpressionTree × Span = (None, o.0) in
+        let front : List Token = word keywords.For at ∷ mark punctuators.OpenParen o.0 ∷ [] in
+        let begun : word keywords.For at ∷ ts ≡ front ++ o.1 = ap (λ w. word keywords.For at ∷ w) (mark_at_is punctuators.OpenParen ts o taken) in
+        elim (bind_err (for_start_at p o.1) _ f g) [
+          | inl fails ↦ within_larger for_head_spelling IsForHead (InForHead l) front (mark punctuators.Semicolon o.0 ∷ mark punctuators.CloseParen o.0 ∷ []) (λ s. head_of at o.0 s none none) (word keywords.For at ∷ ts) o.1 f.at (λ s is. (is, tt, tt)) (λ s. simp (append_assoc, append-nil)) (λ s before t over. inl (before, refl, over)) begun (for_start_cut o.0 o.1 f fails deep)
+          | inr (s, start_reads, k) ↦
+              let start = sounds.for_start_sound p l one sound o.1 s start_reads in
+              let middle : List Token = front ++ for_start_spelling s.0 in
+              let begun_middle : word keywords.For at ∷ ts ≡ middle ++ s.1 = begun ∙ ap (λ w. front ++ w) start.parts ∙ simp append_assoc in
+              elim (bind_err (optional_before punctuators.Semicolon p.enclosed s.1) _ f k) [
+                | inl fails ↦ within_larger for_head_spelling IsForHead (InForHead l) middle (mark punctuators.CloseParen o.0 ∷ []) (λ c. head_of at o.0 s.0 c none) (word keywords.For at ∷ ts) s.1 f.at (λ c is. (start.formed.formed, is, tt)) (λ c. simp append_assoc) (λ c before t over. inr (inl (before, refl, over))) begun_middle (optional_cut (in_parentheses l) punctuators.Semicolon p.enclosed o.0 cuts.enclosed s.1 f fails deep)
+                | inr (c, condition_reads, m) ↦
+                    let condition = sounds.optional_sound p l one sound 1 punctuators.Semicolon p.enclosed one sound.enclosed s.1 c condition_reads in
+                    let last : List Token = middle ++ optional_spelling punctuators.Semicolon c.0 in
+                    let begun_last : word keywords.For at ∷ ts ≡ last ++ c.1 = begun_middle ∙ ap (λ w. middle ++ w) condition.parts ∙ simp append_assoc in
+                    elim (bind_err (optional_before punctuators.CloseParen p.enclosed c.1) _ f m) [
+                      | inr (e, reads, no_err) ↦ absurd cc
+                      | inl fails ↦ within_larger for_head_spelling IsForHead (InForHead l) last [] (λ e. head_of at o.0 s.0 c.0 e) (word keywords.For at ∷ ts) c.1 f.at (λ e is. (start.formed.formed, condition.formed.formed, is)) (λ e. head_last at o.0 s.0 c.0 e) (λ e before t over. inr (inr (before, refl, over))) begun_last (optional_cut (in_parentheses l) punctuators.CloseParen p.enclosed o.0 cuts.enclosed c.1 f fails deep)
+                    ]
+              ]
+        ]
+  ]
+
+  opening_cut : (start : Start) (at : Span) (ts : List Token) (f : SourceFault) → opening_of p start at ts ≡ Err f → Deep f → IsPassed opening_spelling IsOpening (InOpening l) (Whole start at ts) f.at
+  unfolding opening_of
+  opening_cut starts.If at ts f h deep = elim (bind_err (condition_at p ts) _ f h) [
+    | inr (c, reads, no_err) ↦ absurd cc
+    | inl fails ↦ within_larger opening_spelling IsOpening (InOpening l) (word keywords.If at ∷ []) [] (OpensIf at) (word keywords.If at ∷ ts) ts f.at (λ c is. is) (λ c. simp append-nil) (λ c before t over. (before, refl, over)) refl (condition_cut ts f fails deep)
+  ]
+  opening_cut starts.While at ts f h deep = elim (bind_err (condition_at p ts) _ f h) [
+    | inr (c, reads, no_err) ↦ absurd cc
+    | inl fails ↦ within_larger opening_spelling IsOpening (InOpening l) (word keywords.While at ∷ []) [] (OpensWhile at) (word keywords.While at ∷ ts) ts f.at (λ c is. is) (λ c. simp append-nil) (λ c before t over. (before, refl, over)) refl (condition_cut ts f fails deep)
+  ]
+  opening_cut starts.For at ts f h deep = elim (bind_err (for_head_after p at ts) _ f h) [
+    | inr (c, reads, no_err) ↦ absurd cc
+    | inl fails ↦ within_larger opening_spelling IsOpening (InOpening l) [] [] OpensFor (word keywords.For at ∷ ts) (word keywords.For at ∷ ts) f.at (λ h is. is) (λ h. simp append-nil) (λ h before t over. over) refl (for_head_cut at ts f fails deep)
+  ]
+  opening_cut _ at ts f h deep = absurd (syntax_never_deep ts f h deep)
+
+  -- ---- statements round a statement
+
+  opening_formed : (o : OpeningTree) → IsWholeOpening l o → IsOpening o
+  unfolding IsForHead
+  opening_formed (OpensIf at c) w = w.formed
+  opening_formed (OpensWhile at c) w = w.formed
+  opening_formed (OpensFor h) w = (w.start.formed, w.condition.formed, w.step.formed)
+
+  body_formed : (o : OpeningTree) (s : StatementTree) → IsOpening o → IsPart s → IsPart (with_body o s)
+  unfolding IsStatement
+  body_formed (OpensIf at c) s w g = ((w, g.0, g.1), tt)
+  body_formed (OpensWhile at c) s w g = ((w, g.0, g.1), tt)
+  body_formed (OpensFor h) s w g = ((w, g.0, g.1), tt)
+
+  over_opening : (depth nested : ℕ) (o : OpeningTree) (s : StatementTree) (before : List Token) (t : Token) → InOpening l o before t → IsOverInside l depth nested (with_body o s) before t
+  unfolding IsOverInside
+  over_opening depth nested (OpensIf at c) s before t over = inl over
+  over_opening depth nested (OpensWhile at c) s before t over = inl over
+  over_opening depth nested (OpensFor h) s before t over = inl over
+
+  over_body : (depth nested : ℕ) (o : OpeningTree) (s : StatementTree) (before : List Token) (t : Token) → IsOverInStatement l (suc depth) nested s before t → IsOverInside l depth nested (with_body o s) (opening_spelling o ++ before) t
+  unfolding IsOverInside
+  over_body depth nested (OpensIf at c) s before t over = inr (before, refl, over)
+  over_body depth nested (OpensWhile at c) s before t over = inr (before, refl, over)
+  over_body depth nested (OpensFor h) s before t over = inr (before, refl, over)
+
+  -- the readers of statements one deeper, under so many statements and blocks
+  abbrev pub IsStatementPassed : (depth nested : ℕ) → Reader StatementTree → Type 0
+  IsStatementPassed depth nested r = (ts : List Token) (f : SourceFault) → r ts ≡ Err f → Deep f → IsPassed statement_spelling IsPart (IsOverInStatement l depth nested) ts f.at
+
+  abbrev IsInsidePassed : (depth nested : ℕ) → List Token → SourceFault → Type 0
+  IsInsidePassed depth nested ts f = IsPassed statement_spelling IsPart (IsOverInside l depth nested) ts f.at
+
+  else_cut : (depth nested room blocks_left : ℕ) (statement : Reader StatementTree) → IsStatementPassed (suc depth) nested statement → (at : Span) (c : ConditionTree) (s : StatementTree) → IsExpression c.value → IsPart s → (us ts : List Token) (f : SourceFault) → IsNearest s us → ts ≡ (word keywords.If at ∷ (condition_spelling c ++ statement_spelling s)) ++ us → else_after statement at c s us ≡ Err f → Deep f → IsInsidePassed depth nested ts f
+  unfolding else_after statement_spelling IsStatement IsOverInside
+  else_cut depth nested room blocks_left statement inner at c s w g us ts f nearest parts h deep = elim (choose_cases (take_word keywords.Else us) _ _ (Err f) h) [
+    | inr (none, no_err) ↦ absurd cc
+    | inl (o, taken, k) ↦ elim (bind_err (statement o.1) _ f k) [
+      | inr (t, reads, no_err) ↦ absurd cc
+      | inl fails ↦
+          let front : List Token = word keywords.If at ∷ (condition_spelling c ++ statement_spelling s ++ word keywords.Else o.0 ∷ []) in
+          within_larger statement_spelling IsPart (IsOverInside l depth nested) front [] (λ t. IfElse at c s o.0 t) ts o.1 f.at
+          (λ t is. ((w, g.0, g.1, closed_before_else s us o nearest taken, is.0, is.1), tt))
+          (λ t. simp (append_assoc, append-nil))
+          (λ t before u over. inr (inr (before, refl, over)))
+          (parts ∙ ap (λ v. (word keywords.If at ∷ (condition_spelling c ++ statement_spelling s)) ++ v) (take_word_is keywords.Else us o.0 o.1 taken) ∙ simp append_assoc)
+          (inner o.1 f fails deep)
+    ]
+  ]
+
+  behind_body_cut : (depth nested room blocks_left : ℕ) (statement : Reader StatementTree) → IsStatementPassed (suc depth) nested statement → (o : OpeningTree) (s : StatementTree) → IsOpening o → IsPart s → (us ts : List Token) (f : SourceFault) → IsNearest s us → ts ≡ (opening_spelling o ++ statement_spelling s) ++ us → behind_body statement o s us ≡ Err f → Deep f → IsInsidePassed depth nested ts f
+  unfolding behind_body
+  behind_body_cut depth nested room blocks_left statement inner (OpensIf at c) s w g us ts f nearest parts h deep = else_cut depth nested room blocks_left statement inner at c s w g us ts f nearest parts h deep
+  behind_body_cut depth nested room blocks_left statement inner (OpensWhile at c) s w g us ts f nearest parts h deep = absurd cc
+  behind_body_cut depth nested room blocks_left statement inner (OpensFor head) s w g us ts f nearest parts h deep = absurd cc
+
+  headed_cut : (depth nested room blocks_left : ℕ) (statement : Reader StatementTree) → IsStatementSound l room blocks_left statement → IsStatementPassed (suc depth) nested statement → (start : Start) (at : Span) (ts : List Token) (f : SourceFault) → headed_of p statement start at ts ≡ Err f → Deep f → IsInsidePassed depth nested (Whole start at ts) f
+  unfolding headed_of body_after
+  headed_cut depth nested room blocks_left statement good inner start at ts f h deep = elim (bind_err (opening_of p start at ts) _ f h) [
+    | inl fails ↦
+        let c = opening_cut start at ts f fails deep in
+        within_larger statement_spelling IsPart (IsOverInside l depth nested) [] (mark punctuators.Semicolon at ∷ []) (λ o. with_body o (Empty at)) (Whole start at ts) (Whole start at ts) f.at (λ o is. body_formed o (Empty at) is (empty_part at)) (λ o. with_body_spelled p l one sound o (Empty at) ∙ ap (λ w. opening_spelling o ++ w) (empty_spelled at)) (λ o before t over. over_opening depth nested o (Empty at) before t over) refl c
+    | inr (o, opening_reads, g) ↦
+        let opening = sounds.opening_sound p l one sound start at ts o opening_reads in
+        elim (bind_err (statement o.1) _ f g) [
+          | inl fails ↦ within_larger statement_spelling IsPart (IsOverInside l depth nested) (opening_spelling o.0) [] (with_body o.0) (Whole start at ts) o.1 f.at (λ s is. body_formed o.0 s (opening_formed o.0 opening.formed) is) (λ s. with_body_spelled p l one sound o.0 s ∙ ap (λ w. opening_spelling o.0 ++ w) (sym (append-nil (statement_spelling s)))) (λ s before t over. over_body depth nested o.0 s before t over) opening.parts (inner o.1 f fails deep)
+          | inr (s, body_reads, k) ↦
+              let body = good o.1 s body_reads in
+              behind_body_cut depth nested room blocks_left statement inner o.0 s.0 (opening_formed o.0 opening.formed) (body.good.good.formed, body.good.body) s.1 (Whole start at ts) f body.nearest (after_front (Whole start at ts) (opening_spelling o.0) o.1 (statement_spelling s.0) s.1 opening.parts body.parts) k deep
+        ]
+  ]
+
+  do_cut : (depth nested room blocks_left : ℕ) (statement : Reader StatementTree) → IsStatementSound l room blocks_left statement → IsStatementPassed (suc depth) nested statement → (at : Span) (ts : List Token) (f : SourceFault) → do_after p statement at ts ≡ Err f → Deep f → IsInsidePassed depth nested (word keywords.Do at ∷ ts) f
+  unfolding do_after do_end statement_spelling IsStatement IsOverInside
+  do_cut depth nested room blocks_left statement good inner at ts f h deep = elim (bind_err (statement ts) _ f h) [
+    | inl fails ↦
+        within_larger statement_spelling IsPart (IsOverInside l depth nested) (word keywords.Do at ∷ []) (word keywords.While at ∷ (condition_spelling (any_condition at) ++ mark punctuators.Semicolon at ∷ [])) (λ s. Do at s at (any_condition at) at) (word keywords.Do at ∷ ts) ts f.at (λ s is. ((any_formed at, is.0, is.1), tt)) (λ s. refl) (λ s before t over. inl (before, refl, over)) refl (inner ts f fails deep)
+    | inr (s, body_reads, g) ↦
+        let body = good ts s body_reads in
+        elim (bind_err (word_at keywords.While s.1) _ f g) [
+          | inl wrong ↦ absurd (word_known keywords.While s.1 f wrong deep)
+          | inr (w, again, k) ↦ elim (bind_err (condition_at p w.1) _ f k) [
+            | inr (c, reads, m) ↦ absurd (mark_never_deep punctuators.Semicolon c.1 _ f m deep)
+            | inl fails ↦
+                let front : List Token = word keywords.Do at ∷ (statement_spelling s.0 ++ word keywords.While w.0 ∷ []) in
+                within_larger statement_spelling IsPart (IsOverInside l depth nested) front (mark punctuators.Semicolon at ∷ []) (λ c. Do at s.0 w.0 c at) (word keywords.Do at ∷ ts) w.1 f.at (λ c is. ((is, body.good.good.formed, body.good.body), tt)) (λ c. simp append_assoc) (λ c before t over. inr (before, refl, over))
+                (ap (λ v. word keywords.Do at ∷ v) (body.parts ∙ ap (λ v. statement_spelling s.0 ++ v) (word_at_is keywords.While s.1 w again)) ∙ simp append_assoc) (condition_cut w.1 f fails deep)
+          ]
+        ]
+  ]
+
+  -- ---- blocks
+
+  item_cut : (depth nested : ℕ) (statement : Reader StatementTree) → IsStatementPassed depth nested statement → (ts : List Token) (f : SourceFault) → block_item_at p statement ts ≡ Err f → Deep f → IsPassed statement_spelling IsStatement (IsOverInStatement l depth nested) ts f.at
+  unfolding block_item_at statement_spelling IsStatement IsOverInside
+  item_cut depth nested statement inner ts f h deep = elim (choose_cases (take_word keywords.Int ts) _ _ (Err f) h) [
+    | inl (i, taken, g) ↦ elim (bind_err (p.declaration i.0 i.1) _ f g) [
+      | inr (d, reads, no_err) ↦ absurd cc
+      | inl fails ↦ within_larger statement_spelling IsStatement (IsOverInStatement l depth nested) [] [] LocalDeclaration ts (word keywords.Int i.0 ∷ i.1) f.at (λ d is. is) (λ d. sym (append-nil (declaration_spelling d))) (λ d before t over. inr over) (take_word_is keywords.Int ts i.0 i.1 taken) (cuts.declaration i.0 i.1 f fails deep)
+    ]
+    | inr (none, g) ↦ within_larger statement_spelling IsStatement (IsOverInStatement l depth nested) [] [] (λ s. s) ts ts f.at (λ s is. is.0) (λ s. sym (append-nil (statement_spelling s))) (λ s before t over. over) refl (inner ts f g deep)
+  ]
+
+  one_item : (depth nested : ℕ) (ts : List Token) (f : SourceFault) → IsPassed statement_spelling IsStatement (IsOverInStatement l depth nested) ts f.at → IsPassed statements_spelling AreStatements (IsOverInItems l depth nested) ts f.at
+  unfolding statement_spelling IsStatement IsOverInside
+  one_item depth nested ts f c = within_larger statements_spelling AreStatements (IsOverInItems l depth nested) [] [] (λ s. Statement s NoStatements) ts ts f.at (λ s is. (is, tt)) (λ s. refl) (λ s before t over. inl over) refl c
+
+  items_cut : (depth nested room blocks_left : ℕ) (statement : Reader StatementTree) → IsStatementSound l room blocks_left statement → IsStatementPassed depth nested statement → (k : ℕ) (ts : List Token) (f : SourceFault) → until (take_mark punctuators.CloseBrace) (block_item_at p statement) k ts ≡ Err f → Deep f → IsPassed statements_spelling AreStatements (IsOverInItems l depth nested) ts f.at
+  unfolding until statement_spelling IsStatement IsOverInside
+  items_cut depth nested room blocks_left statement good inner zero ts f h deep = elim (bind_err (block_item_at p statement ts) _ f h) [
+    | inl fails ↦ one_item depth nested ts f (item_cut depth nested statement inner ts f fails deep)
+    | inr (a, reads, e) ↦ absurd (syntax_never_deep ts f e deep)
+  ]
+  items_cut depth nested room blocks_left statement good inner (suc k) ts f h deep = elim (choose_cases (take_mark punctuators.CloseBrace ts) _ _ (Err f) h) [
+    | inl (e, ends, no_err) ↦ absurd cc
+    | inr (none, g) ↦ elim (bind_err (block_item_at p statement ts) _ f g) [
+      | inl fails ↦ one_item depth nested ts f (item_cut depth nested statement inner ts f fails deep)
+      | inr (a, reads, e) ↦ elim (bind_err (until (take_mark punctuators.CloseBrace) (block_item_at p statement) k a.1) _ f e) [
+        | inr (b, read, no_err) ↦ absurd cc
+        | inl fails ↦
+            let first = block_item_sound_with p l one sound room blocks_left statement good ts a reads in
+            within_larger statements_spelling AreStatements (IsOverInItems l depth nested) (statement_spelling a.0) [] (Statement a.0) ts a.1 f.at (λ ss is. (first.formed.formed, is)) (λ ss. ap (λ w. statement_spelling a.0 ++ w) (sym (append-nil (statements_spelling ss)))) (λ ss before t over. inr (before, refl, over)) first.parts (items_cut depth nested room blocks_left statement good inner k a.1 f fails deep)
       ]
     ]
   ]
 
-  statement_cut : IsCuttingAt statement_spelling IsStatement expressions_of_statement l (statement_at l)
-  unfolding statement_at
-  statement_cut ts f h deep = elim (choose_cases (take_word keywords.Return ts) _ _ (Err f) h) [
-    | inl (r, taken, g) ↦ subst (λ w. PassesLimit statement_spelling IsStatement expressions_of_statement l w f.at) (sym (take_word_is keywords.Return ts r.0 r.1 taken)) (return_after_cut r.0 r.1 f g deep)
-    | inr (none, g) ↦ assignment_cut ts f g deep
+  -- the items of a block behind its left brace, where so many statements and blocks stand round them
+  abbrev pub IsItemsPassed : (depth nested : ℕ) (left : Span) (ts : List Token) (f : SourceFault) → Type 0
+  IsItemsPassed depth nested left ts f = ((nested ≡ l.blocks) × (left.start ≡ f.at)) ⊎ IsPassed statements_spelling AreStatements (IsOverInItems l depth (suc nested)) ts f.at
+
+  block_items_cut : (depth nested room blocks_left : ℕ) (statement : ℕ → Reader StatementTree) → nested + blocks_left ≡ l.blocks → ((k : ℕ) → IsStatementSound l room k (statement k)) → ((k inside : ℕ) → inside + k ≡ l.blocks → IsStatementPassed depth inside (statement k)) → (left : Span) (ts : List Token) (f : SourceFault) → block_items_after p statement blocks_left left ts ≡ Err f → Deep f → IsItemsPassed depth nested left ts f
+  unfolding block_items_after
+  block_items_cut depth nested room zero statement sum good inner left ts f h deep = inl (omega (arith, sum), ap (λ (g : SourceFault). g.at) (err_is (too_deep left) f h))
+  block_items_cut depth nested room (suc blocks_left) statement sum good inner left ts f h deep = inr (items_cut depth (suc nested) room blocks_left (statement blocks_left) (good blocks_left) (inner blocks_left (suc nested) (omega (arith, sum))) (length ts) ts f h deep)
+
+  block_cut_with : (depth nested room blocks_left : ℕ) (statement : ℕ → Reader StatementTree) → nested + blocks_left ≡ l.blocks → ((k : ℕ) → IsStatementSound l room k (statement k)) → ((k inside : ℕ) → inside + k ≡ l.blocks → IsStatementPassed (suc depth) inside (statement k)) → (left : Span) (ts : List Token) (f : SourceFault) → block_after p statement blocks_left left ts ≡ Err f → Deep f → IsInsidePassed depth nested (mark punctuators.OpenBrace left ∷ ts) f
+  unfolding block_after statement_spelling IsStatement IsOverInside
+  block_cut_with depth nested room blocks_left statement sum good inner left ts f h deep = elim (bind_err (block_items_after p statement blocks_left left ts) _ f h) [
+    | inr (x, reads, no_err) ↦ absurd cc
+    | inl fails ↦ elim (block_items_cut (suc depth) nested room blocks_left statement sum good inner left ts f fails deep) [
+      | inl (full, place) ↦ record {
+        part = Block left NoStatements left;
+        formed = (tt, tt);
+        before = [];
+        token = mark punctuators.OpenBrace left;
+        after = ts;
+        rest_of_part = mark punctuators.CloseBrace left ∷ [];
+        stands = refl;
+        in_part = refl;
+        at_place = place;
+        too_much = inl (full, refl);
+      }
+      | inr c ↦ within_larger statement_spelling IsPart (IsOverInside l depth nested) (mark punctuators.OpenBrace left ∷ []) (mark punctuators.CloseBrace left ∷ []) (λ ss. Block left ss left) (mark punctuators.OpenBrace left ∷ ts) ts f.at (λ ss is. (is, tt)) (λ ss. refl) (λ ss before t over. inr (before, refl, over)) refl c
+    ]
   ]
 
-  statement_parts : (us : List Token) (x : StatementTree × List Token) → statement_at l us ≡ ok x → (us ≡ statement_spelling x.0 ++ x.1) × IsStatement x.0
-  statement_parts us x r = let s = statement_sound l us x r in (s.parts, s.formed.0)
+  -- ---- statements without a statement in them
 
-  pub block_cut : IsCuttingAt block_spelling (λ b. All IsStatement b.items) (λ b. flat_map expressions_of_statement b.items) l (block_at l)
-  unfolding block_at mark_at block_spelling
-  block_cut ts f h deep = elim (bind_err (mark_at punctuators.OpenBrace ts) _ f h) [
-    | inl wrong ↦ absurd (known_never_deep ts _ f wrong deep)
-    | inr (o, taken, g) ↦ elim (bind_err (until (take_mark punctuators.CloseBrace) (statement_at l) (length o.1) o.1) _ f g) [
-      | inr (b, read, no_err) ↦ absurd cc
-      | inl e ↦
-          let c = until_cut statement_spelling IsStatement expressions_of_statement l (take_mark punctuators.CloseBrace) (statement_at l) statement_parts statement_cut (length o.1) o.1 f e deep in
-          record {
-            part = record { open_brace = o.0; items = c.part; close_brace = c.token.span };
-            formed = c.formed;
-            expression = c.expression;
-            whole = c.whole;
-            before = mark punctuators.OpenBrace o.0 ∷ c.before;
-            begun = c.begun;
-            token = c.token;
-            after = c.after;
-            rest_of_expression = c.rest_of_expression;
-            rest_of_part = c.rest_of_part ++ mark punctuators.CloseBrace c.token.span ∷ [];
-            stands = mark_at_is punctuators.OpenBrace ts o taken ∙ ap (λ w. mark punctuators.OpenBrace o.0 ∷ w) c.stands;
-            in_expression = c.in_expression;
-            in_part = ap (λ w. mark punctuators.OpenBrace o.0 ∷ (w ++ mark punctuators.CloseBrace c.token.span ∷ [])) c.in_part ∙ simp append_assoc;
-            at_place = c.at_place;
-            too_much = c.too_much;
-          }
+  return_cut : (depth nested : ℕ) (at : Span) (ts : List Token) (f : SourceFault) → return_after p at ts ≡ Err f → Deep f → IsInsidePassed depth nested (word keywords.Return at ∷ ts) f
+  unfolding return_after statement_spelling IsStatement IsOverInside
+  return_cut depth nested at ts f h deep = elim (bind_err (optional_before punctuators.Semicolon p.expression ts) _ f h) [
+    | inr (e, reads, no_err) ↦ absurd cc
+    | inl fails ↦ within_larger statement_spelling IsPart (IsOverInside l depth nested) (word keywords.Return at ∷ []) [] (λ e. Return at e.0 e.1) (word keywords.Return at ∷ ts) ts f.at (λ e is. (is, tt)) (λ e. simp append-nil) (λ e before t over. (before, refl, over)) refl (optional_cut l punctuators.Semicolon p.expression at cuts.expression ts f fails deep)
+  ]
+
+  expression_cut : (depth nested : ℕ) (filler : Span) (ts : List Token) (f : SourceFault) → expression_statement_at p ts ≡ Err f → Deep f → IsInsidePassed depth nested ts f
+  unfolding expression_statement_at statement_spelling IsStatement IsOverInside
+  expression_cut depth nested filler ts f h deep = elim (bind_err (p.expression ts) _ f h) [
+    | inr (e, reads, g) ↦ absurd (mark_never_deep punctuators.Semicolon e.1 _ f g deep)
+    | inl fails ↦ within_larger statement_spelling IsPart (IsOverInside l depth nested) [] (mark punctuators.Semicolon filler ∷ []) (λ e. Expression e filler) ts ts f.at (λ e is. (is, tt)) (λ e. refl) (λ e before t over. over) refl (cuts.expression ts f fails deep)
+  ]
+
+  jump_never_deep : (jump : Span → StatementTree) (ts : List Token) → IsNeverDeep (jump_after jump ts)
+  unfolding jump_after
+  jump_never_deep jump ts = mark_never_deep punctuators.Semicolon ts _
+
+  -- ---- the whole
+
+  -- what a statement of such a start has behind its first token, at least
+  abbrev IsSmallest : Start → TokenKind → Span → Type 0
+  IsSmallest start k at = (s : StatementTree) × (rest : List Token) × IsPart s × (statement_spelling s ≡ token k at ∷ rest)
+
+  smallest : (start : Start) (k : TokenKind) (at : Span) → IsOf start k → start_of k ≡ start → (start ≡ starts.Nothing → ⊥) → IsSmallest start k at
+  unfolding statement_spelling IsStatement for_head_spelling IsForHead for_start_spelling
+  smallest starts.Block k at is of other = (Block at NoStatements at, _, (tt, tt), ap (λ j. token j at ∷ mark punctuators.CloseBrace at ∷ []) (sym is))
+  smallest starts.Empty k at is of other = (Empty at, [], (tt, tt), ap (λ j. token j at ∷ []) (sym is))
+  smallest starts.If k at is of other = (If at (any_condition at) (Empty at), condition_spelling (any_condition at) ++ mark punctuators.Semicolon at ∷ [], ((any_formed at, tt, tt), tt), ap (λ j. token j at ∷ (condition_spelling (any_condition at) ++ mark punctuators.Semicolon at ∷ [])) (sym is))
+  smallest starts.While k at is of other = (While at (any_condition at) (Empty at), condition_spelling (any_condition at) ++ mark punctuators.Semicolon at ∷ [], ((any_formed at, tt, tt), tt), ap (λ j. token j at ∷ (condition_spelling (any_condition at) ++ mark punctuators.Semicolon at ∷ [])) (sym is))
+  smallest starts.Do k at is of other = (Do at (Empty at) at (any_condition at) at, mark punctuators.Semicolon at ∷ word keywords.While at ∷ (condition_spelling (any_condition at) ++ mark punctuators.Semicolon at ∷ []), ((any_formed at, tt, tt), tt), ap (λ j. token j at ∷ mark punctuators.Semicolon at ∷ word keywords.While at ∷ (condition_spelling (any_condition at) ++ mark punctuators.Semicolon at ∷ [])) (sym is))
+  smallest starts.For k at is of other = (For (any_head at) (Empty at), mark punctuators.OpenParen at ∷ mark punctuators.Semicolon at ∷ mark punctuators.Semicolon at ∷ mark punctuators.CloseParen at ∷ mark punctuators.Semicolon at ∷ [], (((tt, tt, tt), tt, tt), tt), ap (λ j. token j at ∷ mark punctuators.OpenParen at ∷ mark punctuators.Semicolon at ∷ mark punctuators.Semicolon at ∷ mark punctuators.CloseParen at ∷ mark punctuators.Semicolon at ∷ []) (sym is))
+  smallest starts.Return k at is of other = (Return at None at, mark punctuators.Semicolon at ∷ [], (tt, tt), ap (λ j. token j at ∷ mark punctuators.Semicolon at ∷ []) (sym is))
+  smallest starts.Break k at is of other = (Break at at, mark punctuators.Semicolon at ∷ [], (tt, tt), ap (λ j. token j at ∷ mark punctuators.Semicolon at ∷ []) (sym is))
+  smallest starts.Continue k at is of other = (Continue at at, mark punctuators.Semicolon at ∷ [], (tt, tt), ap (λ j. token j at ∷ mark punctuators.Semicolon at ∷ []) (sym is))
+  smallest starts.Expression k at is of other =
+      let e = cuts.begins (token k at) of in
+      (Expression e.tree at, e.behind ++ mark punctuators.Semicolon at ∷ [], (e.formed, tt), ap (λ w. w ++ mark punctuators.Semicolon at ∷ []) e.spelled)
+  smallest starts.Nothing k at is of other = absurd (other refl)
+
+  no_room_is : (start : Start) (s : Span) (ts : List Token) (f : SourceFault) → no_room start s ts ≡ Err f → Deep f → (start ≡ starts.Nothing → ⊥) × (too_deep s ≡ f)
+  unfolding no_room
+  no_room_is starts.Nothing s ts f h deep = absurd (syntax_never_deep ts f h deep)
+  no_room_is starts.Block s ts f h deep = ((λ e. absurd cc), err_is (too_deep s) f h)
+  no_room_is starts.Empty s ts f h deep = ((λ e. absurd cc), err_is (too_deep s) f h)
+  no_room_is starts.If s ts f h deep = ((λ e. absurd cc), err_is (too_deep s) f h)
+  no_room_is starts.While s ts f h deep = ((λ e. absurd cc), err_is (too_deep s) f h)
+  no_room_is starts.Do s ts f h deep = ((λ e. absurd cc), err_is (too_deep s) f h)
+  no_room_is starts.For s ts f h deep = ((λ e. absurd cc), err_is (too_deep s) f h)
+  no_room_is starts.Return s ts f h deep = ((λ e. absurd cc), err_is (too_deep s) f h)
+  no_room_is starts.Break s ts f h deep = ((λ e. absurd cc), err_is (too_deep s) f h)
+  no_room_is starts.Continue s ts f h deep = ((λ e. absurd cc), err_is (too_deep s) f h)
+  no_room_is starts.Expression s ts f h deep = ((λ e. absurd cc), err_is (too_deep s) f h)
+
+  no_room_cut : (nested : ℕ) (t : Token) (ts : List Token) (f : SourceFault) → no_room (start_of t.kind) t.span (t ∷ ts) ≡ Err f → Deep f → IsPassed statement_spelling IsPart (IsOverInStatement l (suc l.statements) nested) (t ∷ ts) f.at
+  no_room_cut nested t ts f h deep =
+      let is = no_room_is (start_of t.kind) t.span (t ∷ ts) f h deep in
+      let s = smallest (start_of t.kind) t.kind t.span (is_of_start t.kind) refl is.0 in
+      record {
+        part = s.0;
+        formed = s.2;
+        before = [];
+        token = t;
+        after = ts;
+        rest_of_part = s.1;
+        stands = refl;
+        in_part = s.3;
+        at_place = ap (λ (g : SourceFault). g.at) is.1;
+        too_much = inl (s.2.1, refl, refl);
+      }
+
+  statement_of_cut : (depth nested room blocks_left : ℕ) (statement : ℕ → Reader StatementTree) → nested + blocks_left ≡ l.blocks → ((k : ℕ) → IsStatementSound l room k (statement k)) → ((k inside : ℕ) → inside + k ≡ l.blocks → IsStatementPassed (suc depth) inside (statement k)) → (start : Start) (k : TokenKind) (at : Span) (ts : List Token) (f : SourceFault) → IsOf start k → statement_of p statement blocks_left start at ts (token k at ∷ ts) ≡ Err f → Deep f → IsInsidePassed depth nested (token k at ∷ ts) f
+  unfolding statement_of simple_of
+  statement_of_cut depth nested room blocks_left statement sum good inner starts.Block k at ts f is h deep = subst (λ j. IsInsidePassed depth nested (token j at ∷ ts) f) (sym is) (block_cut_with depth nested room blocks_left statement sum good inner at ts f h deep)
+  statement_of_cut depth nested room blocks_left statement sum good inner starts.Empty k at ts f is h deep = absurd cc
+  statement_of_cut depth nested room blocks_left statement sum good inner starts.If k at ts f is h deep = subst (λ j. IsInsidePassed depth nested (token j at ∷ ts) f) (sym is) (headed_cut depth nested room blocks_left (statement blocks_left) (good blocks_left) (inner blocks_left nested sum) starts.If at ts f h deep)
+  statement_of_cut depth nested room blocks_left statement sum good inner starts.While k at ts f is h deep = subst (λ j. IsInsidePassed depth nested (token j at ∷ ts) f) (sym is) (headed_cut depth nested room blocks_left (statement blocks_left) (good blocks_left) (inner blocks_left nested sum) starts.While at ts f h deep)
+  statement_of_cut depth nested room blocks_left statement sum good inner starts.Do k at ts f is h deep = subst (λ j. IsInsidePassed depth nested (token j at ∷ ts) f) (sym is) (do_cut depth nested room blocks_left (statement blocks_left) (good blocks_left) (inner blocks_left nested sum) at ts f h deep)
+  statement_of_cut depth nested room blocks_left statement sum good inner starts.For k at ts f is h deep = subst (λ j. IsInsidePassed depth nested (token j at ∷ ts) f) (sym is) (headed_cut depth nested room blocks_left (statement blocks_left) (good blocks_left) (inner blocks_left nested sum) starts.For at ts f h deep)
+  statement_of_cut depth nested room blocks_left statement sum good inner starts.Return k at ts f is h deep = subst (λ j. IsInsidePassed depth nested (token j at ∷ ts) f) (sym is) (return_cut depth nested at ts f h deep)
+  statement_of_cut depth nested room blocks_left statement sum good inner starts.Break k at ts f is h deep = absurd (jump_never_deep (Break at) ts f h deep)
+  statement_of_cut depth nested room blocks_left statement sum good inner starts.Continue k at ts f is h deep = absurd (jump_never_deep (Continue at) ts f h deep)
+  statement_of_cut depth nested room blocks_left statement sum good inner starts.Expression k at ts f is h deep = expression_cut depth nested at (token k at ∷ ts) f h deep
+  statement_of_cut depth nested room blocks_left statement sum good inner starts.Nothing k at ts f is h deep = absurd (syntax_never_deep (token k at ∷ ts) f h deep)
+
+  pub statement_cut : (depth nested room blocks_left : ℕ) → depth + room ≡ suc l.statements → nested + blocks_left ≡ l.blocks → IsStatementPassed depth nested (statement_at p room blocks_left)
+  unfolding statement_at
+  statement_cut depth nested zero blocks_left high sum [] f h deep = absurd (syntax_never_deep [] f h deep)
+  statement_cut depth nested zero blocks_left high sum (t ∷ ts) f h deep =
+      let at_limit : suc l.statements ≡ depth = omega (arith, high) in
+      subst (λ d. IsPassed statement_spelling IsPart (IsOverInStatement l d nested) (t ∷ ts) f.at) at_limit (no_room_cut nested t ts f h deep)
+  statement_cut depth nested (suc room) blocks_left high sum [] f h deep = absurd (syntax_never_deep [] f h deep)
+  statement_cut depth nested (suc room) blocks_left high sum (t ∷ ts) f h deep =
+      let c = statement_of_cut depth nested room blocks_left (statement_at p room) sum (λ k. statement_sound p l one sound room k) (λ k inside sum. statement_cut (suc depth) inside room k (omega (arith, high)) sum) (start_of t.kind) t.kind t.span ts f (is_of_start t.kind) h deep in
+      within_larger statement_spelling IsPart (IsOverInStatement l depth nested) [] [] (λ s. s) (t ∷ ts) (t ∷ ts) f.at (λ s is. is) (λ s. sym (append-nil (statement_spelling s))) (λ s before u over. inr over) refl c
+
+  function_brace : (ts : List Token) (left : Span) (us : List Token) (f : SourceFault) → ts ≡ mark punctuators.OpenBrace left ∷ us → 0 ≡ l.blocks → left.start ≡ f.at → IsPassed block_spelling (λ b. AreStatements (statements b.items)) (IsOverInBlock l) ts f.at
+  unfolding block_spelling IsStatement
+  function_brace ts left us f is full place = record {
+    part = record { open_brace = left; items = []; close_brace = left };
+    formed = tt;
+    before = [];
+    token = mark punctuators.OpenBrace left;
+    after = us;
+    rest_of_part = mark punctuators.CloseBrace left ∷ [];
+    stands = is;
+    in_part = refl;
+    at_place = place;
+    too_much = inl (full, refl);
+  }
+
+  block_from : Span → StatementsTree → BlockTree
+  block_from left ss = record { open_brace = left; items = list_of ss; close_brace = left }
+
+  function_items : (ts : List Token) (left : Span) (us : List Token) (f : SourceFault) → ts ≡ mark punctuators.OpenBrace left ∷ us → IsPassed statements_spelling AreStatements (IsOverInItems l 1 1) us f.at → IsPassed block_spelling (λ b. AreStatements (statements b.items)) (IsOverInBlock l) ts f.at
+  unfolding block_spelling block_from
+  function_items ts left us f is c = within_larger block_spelling (λ b. AreStatements (statements b.items)) (IsOverInBlock l) (mark punctuators.OpenBrace left ∷ []) (mark punctuators.CloseBrace left ∷ []) (block_from left) ts us f.at
+      (λ ss formed. subst AreStatements (sym (statements_of ss)) formed)
+      (λ ss. ap (λ w. mark punctuators.OpenBrace left ∷ (w ++ mark punctuators.CloseBrace left ∷ [])) (sym (list_flat ss)))
+      (λ ss before t over. inr (before, refl, subst (λ xs. IsOverInItems l 1 1 xs before t) (sym (statements_of ss)) over)) is c
+
+  -- the block of a function
+  pub function_block_cut : (ts : List Token) (f : SourceFault) → block_with p l.statements l.blocks ts ≡ Err f → Deep f → IsPassed block_spelling (λ b. AreStatements (statements b.items)) (IsOverInBlock l) ts f.at
+  unfolding block_with
+  function_block_cut ts f h deep = elim (bind_err (mark_at punctuators.OpenBrace ts) _ f h) [
+    | inl wrong ↦ absurd (mark_known punctuators.OpenBrace ts f wrong deep)
+    | inr (o, taken, g) ↦ elim (bind_err (block_items_after p (statement_at p l.statements) l.blocks o.0 o.1) _ f g) [
+      | inr (x, reads, no_err) ↦ absurd cc
+      | inl fails ↦ elim (block_items_cut 1 0 l.statements l.blocks (statement_at p l.statements) (omega arith) (λ k. statement_sound p l one sound l.statements k) (λ k inside sum. statement_cut 1 inside l.statements k (omega arith) sum) o.0 o.1 f fails deep) [
+        | inl (full, place) ↦ function_brace ts o.0 o.1 f (mark_at_is punctuators.OpenBrace ts o taken) full place
+        | inr c ↦ function_items ts o.0 o.1 f (mark_at_is punctuators.OpenBrace ts o taken) c
+      ]
     ]
   ]

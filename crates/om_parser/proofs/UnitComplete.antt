@@ -1,5 +1,5 @@
 -- What a well-formed unit spells is read again as that unit, within the limits.
-use Rattle.std.proofs.Common.{◌≡◌, List, [], ◌∷◌, ◌++◌, length, None, refl, sym, ap, subst, ◌∙◌, append_assoc, inl, All}
+use Rattle.std.proofs.Common.{◌≡◌, ◌≤◌, List, [], ◌∷◌, ◌++◌, length, None, refl, sym, ap, subst, ◌∙◌, append_assoc, inl, All}
 use Rattle.std.specs.List.{flat_map}
 use Rattle.std.proofs.lemmas.List.Elements.{All-nil}
 use Rattle.om_lexer.specs.declared.token.Keyword.TheVariants as keywords
@@ -14,21 +14,23 @@ use Rattle.om_parser.specs.declared.tree.ResultType.TheVariants as results
 use Rattle.om_parser.specs.DeclarationReading.{initial_at, declaration_after}
 use Rattle.om_parser.specs.Formed.{IsSignedConstant, IsGlobalDeclaration, IsFunction, IsItem, IsUnit}
 use Rattle.om_parser.specs.FunctionReading.{are_named, head_after}
-use Rattle.om_parser.specs.Limits.{Limits, IsWithin, whole_expressions, expressions_of_item}
+use Rattle.om_parser.specs.Limits.{Limits}
 use Rattle.om_parser.specs.Reading.{take, same_mark, same_word, take_mark, take_word}
 use Rattle.om_parser.specs.Repetition.{until}
+use Rattle.om_parser.specs.Sizes.{IsItemWithin}
 use Rattle.om_parser.specs.Spelling.{token, mark, word, name, result_spelling, expression_spelling, block_spelling, declarator_spelling, declaration_spelling, parameters_spelling, head_spelling, item_spelling, unit_spelling}
-use Rattle.om_parser.specs.StatementReading.{block_at}
+use Rattle.om_parser.specs.PartReading.{parts, block_at}
 use Rattle.om_parser.specs.Tree.{ExpressionTree, DeclarationTree, HeadTree, FunctionTree, ItemTree, Declaration, Prototype, Function, UnitTree}
 use Rattle.om_parser.specs.UnitReading.{function_after, prototype_after, void_after, int_after, item_at, take_end, unit_at}
 use Rattle.om_parser.proofs.Outcomes.{some}
 use Rattle.om_parser.proofs.Again.{take_mark_again, take_word_again, mark_again, word_again, name_again, IsAnswer, bind_answer}
-use Rattle.om_parser.proofs.ItemsComplete.{flat_all, AreAgain, until_again}
+use Rattle.om_parser.proofs.ItemsComplete.{AreAgain, until_again}
 use Rattle.om_parser.proofs.DeclarationSound.{IsAny}
 use Rattle.om_parser.proofs.DeclarationComplete.{EndsDeclarator, constant_again, declaration_rest, declaration_again, rest_is, all_any, no_parameters}
 use Rattle.om_parser.proofs.FunctionSound.{is_named}
 use Rattle.om_parser.proofs.FunctionComplete.{head_again, int_is_no_void}
-use Rattle.om_parser.proofs.StatementComplete.{block_again}
+use Rattle.om_parser.proofs.StatementComplete.{function_block_again}
+use Rattle.om_parser.proofs.PartsComplete.{parts_again}
 use Rattle.om_parser.proofs.UnitSound.{item_some}
 
 no_semicolon : (s : Span) (ts : List Token) → take_mark punctuators.Semicolon (mark punctuators.OpenBrace s ∷ ts) ≡ None
@@ -48,9 +50,9 @@ head_unended h rest = go h.result
     go (results.Int at) = refl
     go (results.Void at) = refl
 
-module _ (l : Limits) where
+module _ (l : Limits) (one : 1 ≤ l.nested) where
   abbrev IsSmallItem : ItemTree → Type 0
-  IsSmallItem i = All (IsWithin l) (expressions_of_item i)
+  IsSmallItem i = IsItemWithin l i
 
   constant_answer : (e : ExpressionTree) (rest : List Token) → IsSignedConstant e → EndsDeclarator rest → IsAnswer (IsAny e) (initial_at l initials.Constant (expression_spelling e ++ rest)) (e, rest)
   unfolding initial_at
@@ -86,11 +88,11 @@ module _ (l : Limits) where
   prototype_answer h s rest = inl (rw (take_mark_again punctuators.Semicolon s rest) refl)
 
   function_answer : (f : FunctionTree) (rest : List Token) → IsFunction f → IsAnswer (IsSmallItem (Function f)) (function_after l f.head (block_spelling f.body ++ rest)) (Function f, rest)
-  unfolding function_after IsFunction
+  unfolding function_after IsFunction block_at
   function_answer f rest formed =
       let body : List Token = block_spelling f.body ++ rest in
       rw (not_prototype f rest, is_named f.head.parameters formed.0)
-      (bind_answer ((block_at l) body) _ (f.body, rest) (Function f, rest) (λ w. w) (block_again l f.body rest formed.1) (inl refl))
+      (bind_answer ((block_at l) body) _ (f.body, rest) (Function f, rest) (λ w. w) (function_block_again (parts l) l (parts_again l one) l.statements l.blocks f.body rest formed.1) (inl refl))
 
   item_again : (i : ItemTree) (rest : List Token) → IsItem i → IsAnswer (IsSmallItem i) ((item_at l) (item_spelling i ++ rest)) (i, rest)
   unfolding IsItem item_spelling
@@ -112,11 +114,11 @@ module _ (l : Limits) where
       unended (Prototype h semicolon) rest f = head_unended h (mark punctuators.Semicolon semicolon ∷ [] ++ rest)
       unended (Function g) rest f = head_unended g.head (block_spelling g.body ++ rest)
 
-  pub unit_again : (u : UnitTree) → IsUnit u → IsAnswer (All (IsWithin l) (whole_expressions u)) ((unit_at l) (unit_spelling u)) u
-  unfolding unit_at unit_spelling IsUnit whole_expressions take_end
+  pub unit_again : (u : UnitTree) → IsUnit u → IsAnswer (All (IsItemWithin l) u.items) ((unit_at l) (unit_spelling u)) u
+  unfolding unit_at unit_spelling IsUnit take_end
   unit_again u f =
       let last : Token = token kinds.End u.end in
       let ts : List Token = flat_map item_spelling u.items ++ last ∷ [] in
-      bind_answer (until take_end (item_at l) (length ts) ts) _ (u.items, u.end, []) u (λ w. flat_all (IsWithin l) expressions_of_item u.items w)
+      bind_answer (until take_end (item_at l) (length ts) ts) _ (u.items, u.end, []) u (λ w. w)
       (until_again item_spelling IsItem IsSmallItem (λ ts. Unit {0}) take_end (item_at l) items_again last u.end [] refl tt u.items f)
       (inl refl)

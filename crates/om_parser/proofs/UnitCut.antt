@@ -1,7 +1,8 @@
 -- Where a unit is too deep, its tokens up to there begin a well-formed one.
-use Rattle.std.proofs.Common.{◌≡◌, ◌≤◌, List, [], ◌∷◌, ◌++◌, length, Err, sym, ap, subst, ◌∙◌, true, append_assoc, inl, inr, All}
+use Rattle.std.proofs.Common.{◌≡◌, ◌≤◌, ℕ, zero, suc, List, [], ◌∷◌, ◌++◌, length, Err, sym, ap, subst, ◌∙◌, true, refl, append_assoc, inl, inr, All}
 use Rattle.std.specs.List.{flat_map}
 use Rattle.std.proofs.lemmas.List.{append-nil}
+use Rattle.std.proofs.lemmas.List.Elements.{All-nil, All-cons}
 use Rattle.om_lexer.specs.declared.fault.SourceFault.{SourceFault}
 use Rattle.om_lexer.specs.declared.token.Keyword.TheVariants as keywords
 use Rattle.om_lexer.specs.declared.token.Punctuator.TheVariants as punctuators
@@ -13,40 +14,43 @@ use Rattle.om_pragma.specs.declared.name.Name as names
 use Rattle.om_parser.specs.declared.tree.ResultType.{ResultType}
 use Rattle.om_parser.specs.declared.tree.ResultType.TheVariants as results
 use Rattle.om_parser.specs.DeclarationReading.{initial_at, declaration_after}
-use Rattle.om_parser.specs.Formed.{IsStatement, IsFunction, IsItem, IsUnit}
+use Rattle.om_parser.specs.Formed.{IsFunction, IsItem, IsUnit, AreStatements}
 use Rattle.om_parser.specs.FunctionReading.{are_named, head_after}
-use Rattle.om_parser.specs.Limits.{Limits, whole_expressions, expressions_of_statement, expressions_of_item}
-use Rattle.om_parser.specs.Parsing.{PassesLimit}
+use Rattle.om_parser.specs.Limits.{Limits}
+use Rattle.om_parser.specs.PartReading.{parts, block_at}
+use Rattle.om_parser.specs.Places.{Place, Behind, IsOverInBlock, IsOverInItem, IsOverInUnitItems, IsOverInUnit, IsPassed}
 use Rattle.om_parser.specs.Reading.{Outcome, take_mark, take_word, mark_at, word_at, name_at}
 use Rattle.om_parser.specs.Repetition.{until}
 use Rattle.om_parser.specs.Spelling.{token, mark, word, name, result_spelling, block_spelling, head_spelling, item_spelling, unit_spelling}
-use Rattle.om_parser.specs.StatementReading.{block_at}
-use Rattle.om_parser.specs.Tree.{HeadTree, ItemTree, Function}
+use Rattle.om_parser.specs.Tree.{HeadTree, ItemTree, Function, UnitTree, statements}
 use Rattle.om_parser.specs.UnitReading.{function_after, prototype_after, void_after, int_after, item_at, take_end, unit_at}
 use Rattle.om_parser.proofs.Outcomes.{ok, bind_err, choose_cases}
 use Rattle.om_parser.proofs.Taken.{take_mark_is, take_word_is, mark_at_is, word_at_is, name_at_is}
 use Rattle.om_parser.proofs.ExpressionCut.{IsNeverDeep, syntax_never_deep, known_never_deep}
 use Rattle.om_parser.proofs.FunctionSound.{head_sound, named_is}
 use Rattle.om_parser.proofs.UnitSound.{or_else, item_sound}
-use Rattle.om_parser.proofs.ItemsCut.{Deep, IsCuttingAt, embedded, bind_never_deep, until_cut}
+use Rattle.om_parser.proofs.ItemsCut.{Deep, bind_never_deep}
 use Rattle.om_parser.proofs.DeclarationCut.{constant_never_deep, declaration_never_deep}
 use Rattle.om_parser.proofs.FunctionCut.{head_never_deep}
-use Rattle.om_parser.proofs.StatementCut.{block_cut}
+use Rattle.om_parser.proofs.StatementCut.{within_larger, function_block_cut}
+use Rattle.om_parser.proofs.PartsSound.{parts_sound}
+use Rattle.om_parser.proofs.PartsCut.{parts_cut}
 
-module _ (l : Limits) (two : 2 ≤ l.tokens) where
+module _ (l : Limits) (one : 1 ≤ l.nested) (two : 2 ≤ l.tokens) where
   abbrev IsItemCut : List Token → SourceFault → Type 0
-  IsItemCut ts f = PassesLimit item_spelling IsItem expressions_of_item l ts f.at
+  IsItemCut ts f = IsPassed item_spelling IsItem (IsOverInItem l) ts f.at
 
   function_cut : (h : HeadTree) (ts : List Token) (f : SourceFault) → function_after l h ts ≡ Err f → Deep f → IsItemCut (head_spelling h ++ ts) f
-  unfolding function_after item_spelling IsItem IsFunction
+  unfolding function_after item_spelling IsItem IsFunction block_at
   function_cut h ts f e deep = elim (choose_cases (take_mark punctuators.Semicolon ts) _ _ (Err f) e) [
     | inl (s, taken, no_err) ↦ absurd cc
     | inr (none, g) ↦
         let named = or_else (are_named h.parameters) _ _ f g (λ d. syntax_never_deep ts f d deep) in
         elim (bind_err (block_at l ts) _ f named.1) [
           | inr (b, read, no_err) ↦ absurd cc
-          | inl d ↦ embedded block_spelling (λ b. All IsStatement b.items) (λ b. flat_map expressions_of_statement b.items) item_spelling IsItem expressions_of_item l (head_spelling h) (λ b. Function (record { head = h; body = b })) []
-              (λ b. sym (append-nil (head_spelling h ++ block_spelling b))) (λ b f. (named_is h.parameters named.0, f)) (λ b x c. c) ts f.at (block_cut l two ts f d deep)
+          | inl d ↦ within_larger item_spelling IsItem (IsOverInItem l) (head_spelling h) [] (λ b. Function (record { head = h; body = b })) (head_spelling h ++ ts) ts f.at
+              (λ b is. (named_is h.parameters named.0, is)) (λ b. ap (λ w. head_spelling h ++ w) (sym (append-nil (block_spelling b)))) (λ b before t over. (before, refl, over)) refl
+              (function_block_cut (parts l) l one (parts_sound l one) (parts_cut l two) ts f d deep)
         ]
   ]
 
@@ -85,7 +89,7 @@ module _ (l : Limits) (two : 2 ≤ l.tokens) where
     ]
   ]
 
-  item_cut : IsCuttingAt item_spelling IsItem expressions_of_item l (item_at l)
+  item_cut : (ts : List Token) (f : SourceFault) → item_at l ts ≡ Err f → Deep f → IsItemCut ts f
   unfolding item_at word_at
   item_cut ts f h deep = elim (choose_cases (take_word keywords.Void ts) _ _ (Err f) h) [
     | inl (v, taken, g) ↦ subst (λ w. IsItemCut w f) (sym (take_word_is keywords.Void ts v.0 v.1 taken)) (void_cut v.0 v.1 f g deep)
@@ -95,30 +99,36 @@ module _ (l : Limits) (two : 2 ≤ l.tokens) where
     ]
   ]
 
-  item_parts : (us : List Token) (x : ItemTree × List Token) → item_at l us ≡ ok x → (us ≡ item_spelling x.0 ++ x.1) × IsItem x.0
-  item_parts us x r = let i = item_sound l us x r in (i.parts, i.formed.0)
+  abbrev AreItemsCut : List Token → SourceFault → Type 0
+  AreItemsCut ts f = IsPassed (flat_map item_spelling) (All IsItem) (IsOverInUnitItems l) ts f.at
 
-  pub unit_cut : (ts : List Token) (f : SourceFault) → unit_at l ts ≡ Err f → Deep f → PassesLimit unit_spelling IsUnit whole_expressions l ts f.at
-  unfolding unit_at unit_spelling IsUnit whole_expressions
+  one_item : (ts : List Token) (f : SourceFault) → IsItemCut ts f → AreItemsCut ts f
+  one_item ts f c = within_larger (flat_map item_spelling) (All IsItem) (IsOverInUnitItems l) [] [] (λ i. i ∷ []) ts ts f.at (λ i is. All-cons IsItem i [] is (All-nil IsItem)) (λ i. refl) (λ i before t over. inl over) refl c
+
+  items_cut : (k : ℕ) (ts : List Token) (f : SourceFault) → until take_end (item_at l) k ts ≡ Err f → Deep f → AreItemsCut ts f
+  unfolding until
+  items_cut zero ts f h deep = elim (bind_err (item_at l ts) _ f h) [
+    | inl fails ↦ one_item ts f (item_cut ts f fails deep)
+    | inr (a, reads, e) ↦ absurd (syntax_never_deep ts f e deep)
+  ]
+  items_cut (suc k) ts f h deep = elim (choose_cases (take_end ts) _ _ (Err f) h) [
+    | inl (e, ends, no_err) ↦ absurd cc
+    | inr (none, g) ↦ elim (bind_err (item_at l ts) _ f g) [
+      | inl fails ↦ one_item ts f (item_cut ts f fails deep)
+      | inr (a, reads, e) ↦ elim (bind_err (until take_end (item_at l) k a.1) _ f e) [
+        | inr (b, read, no_err) ↦ absurd cc
+        | inl fails ↦
+            let first = item_sound l one ts a reads in
+            within_larger (flat_map item_spelling) (All IsItem) (IsOverInUnitItems l) (item_spelling a.0) [] (λ items. a.0 ∷ items) ts a.1 f.at (λ items is. All-cons IsItem a.0 items first.formed.0 is) (λ items. ap (λ w. item_spelling a.0 ++ w) (sym (append-nil (flat_map item_spelling items)))) (λ items before t over. inr (before, refl, over)) first.parts (items_cut k a.1 f fails deep)
+      ]
+    ]
+  ]
+
+  pub unit_cut : (ts : List Token) (f : SourceFault) → unit_at l ts ≡ Err f → Deep f → IsPassed unit_spelling IsUnit (IsOverInUnit l) ts f.at
+  unfolding unit_at unit_spelling IsUnit
   unit_cut ts f h deep = elim (bind_err (until take_end (item_at l) (length ts) ts) _ f h) [
     | inr (u, read, no_err) ↦ absurd cc
     | inl e ↦
-        let c = until_cut item_spelling IsItem expressions_of_item l take_end (item_at l) item_parts item_cut (length ts) ts f e deep in
-        record {
-          part = record { items = c.part; end = c.token.span };
-          formed = c.formed;
-          expression = c.expression;
-          whole = c.whole;
-          before = c.before;
-          begun = c.begun;
-          token = c.token;
-          after = c.after;
-          rest_of_expression = c.rest_of_expression;
-          rest_of_part = c.rest_of_part ++ token kinds.End c.token.span ∷ [];
-          stands = c.stands;
-          in_expression = c.in_expression;
-          in_part = ap (λ w. w ++ token kinds.End c.token.span ∷ []) c.in_part ∙ simp append_assoc;
-          at_place = c.at_place;
-          too_much = c.too_much;
-        }
+        let c = items_cut (length ts) ts f e deep in
+        within_larger unit_spelling IsUnit (IsOverInUnit l) [] (token kinds.End c.token.span ∷ []) (λ items. record { items = items; end = c.token.span }) ts ts f.at (λ items is. is) (λ items. refl) (λ items before t over. over) refl c
   ]

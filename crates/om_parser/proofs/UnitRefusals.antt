@@ -13,13 +13,13 @@ use Rattle.om_parser.specs.FunctionReading.{are_named, head_after}
 use Rattle.om_parser.specs.Limits.{Limits}
 use Rattle.om_parser.specs.Reading.{Outcome, mark_at, word_at, name_at}
 use Rattle.om_parser.specs.Repetition.{until}
-use Rattle.om_parser.specs.StatementReading.{block_at}
+use Rattle.om_parser.specs.PartReading.{block_at}
 use Rattle.om_parser.specs.Tree.{HeadTree}
 use Rattle.om_parser.specs.UnitReading.{function_after, prototype_after, void_after, int_after, item_at, unit_at}
 use Rattle.om_parser.proofs.Refusals.{IsRefusal, Refuses, done, wrong, bind, either, expected, until_refuses}
 use Rattle.om_parser.proofs.DeclarationRefusals.{constant_refuses, declaration_refuses}
 use Rattle.om_parser.proofs.FunctionRefusals.{head_refuses}
-use Rattle.om_parser.proofs.StatementRefusals.{block_refuses}
+use Rattle.om_parser.proofs.PartsRefuse.{function_block_refuses}
 
 if_so : {A : Type 0} (b : Bool) (first other : Outcome A) → Refuses first → Refuses other → Refuses (cond b first other)
 if_so true first other f g = f
@@ -28,7 +28,7 @@ if_so false first other f g = g
 module _ (l : Limits) where
   function_refuses : (h : HeadTree) (ts : List Token) → Refuses (function_after l h ts)
   unfolding function_after
-  function_refuses h ts = either _ _ _ (λ s. done _) (if_so (are_named h.parameters) _ _ (bind (block_at l ts) _ (block_refuses l ts) (λ b. done _)) (wrong ts))
+  function_refuses h ts = either _ _ _ (λ s. done _) (if_so (are_named h.parameters) _ _ (bind (block_at l ts) _ (function_block_refuses l ts) (λ b. done _)) (wrong ts))
 
   prototype_refuses : (result : ResultType) (n : names.Name) (left : Span) (ts : List Token) → Refuses (prototype_after l result n left ts)
   unfolding prototype_after

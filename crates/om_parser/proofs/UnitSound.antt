@@ -1,8 +1,8 @@
 -- A unit that is read is well-formed, within the limits, and spelled as the tokens were.
-use Rattle.std.proofs.Common.{◌≡◌, ◌<◌, ℕ, zero, suc, List, [], ◌∷◌, ◌++◌, length, Err, refl, sym, ap, subst, ◌∙◌, Bool, true, false, cond, arith, append_assoc, length-append, inl, inr, All}
+use Rattle.std.proofs.Common.{◌≡◌, ◌<◌, ◌≤◌, ℕ, zero, suc, List, [], ◌∷◌, ◌++◌, length, Err, refl, sym, ap, subst, ◌∙◌, Bool, true, false, cond, arith, append_assoc, length-append, inl, inr, All}
 use Rattle.std.specs.List.{flat_map}
 use Rattle.std.proofs.lemmas.List.{append-nil}
-use Rattle.std.proofs.lemmas.List.Elements.{All-nil, All-weaker}
+use Rattle.std.proofs.lemmas.List.Elements.{All-weaker}
 use Rattle.om_lexer.specs.declared.fault.SourceFault.{SourceFault}
 use Rattle.om_lexer.specs.declared.token.Keyword.TheVariants as keywords
 use Rattle.om_lexer.specs.declared.token.Punctuator.TheVariants as punctuators
@@ -17,19 +17,21 @@ use Rattle.om_parser.specs.declared.tree.ResultType.TheVariants as results
 use Rattle.om_parser.specs.DeclarationReading.{initial_at, declaration_after}
 use Rattle.om_parser.specs.Formed.{IsSignedConstant, IsDeclaration, IsFunction, IsItem, IsUnit}
 use Rattle.om_parser.specs.FunctionReading.{are_named, head_after}
-use Rattle.om_parser.specs.Limits.{Limits, IsWithin, whole_expressions, expressions_of_item}
+use Rattle.om_parser.specs.Limits.{Limits}
 use Rattle.om_parser.specs.Reading.{Reader, Outcome, take_mark, take_word, mark_at, word_at, name_at}
 use Rattle.om_parser.specs.Repetition.{until}
+use Rattle.om_parser.specs.Sizes.{IsItemWithin}
 use Rattle.om_parser.specs.Spelling.{token, mark, word, name, result_spelling, expression_spelling, block_spelling, declaration_spelling, head_spelling, item_spelling, unit_spelling}
-use Rattle.om_parser.specs.StatementReading.{block_at}
+use Rattle.om_parser.specs.PartReading.{parts, block_at}
 use Rattle.om_parser.specs.Tree.{HeadTree, ItemTree, Declaration, Prototype, Function, UnitTree}
 use Rattle.om_parser.specs.UnitReading.{function_after, prototype_after, void_after, int_after, item_at, end_of, take_end, unit_at}
 use Rattle.om_parser.proofs.Outcomes.{ok, ok_is, some, some_is, bind_ok, choose_cases, after_front, after_token}
 use Rattle.om_parser.proofs.Taken.{take_mark_is, take_word_is, mark_at_is, word_at_is, name_at_is}
-use Rattle.om_parser.proofs.ItemsSound.{IsRead, IsSound, until_sound, all_flat}
+use Rattle.om_parser.proofs.ItemsSound.{IsRead, IsSound, until_sound}
 use Rattle.om_parser.proofs.DeclarationSound.{constant_sound, declaration_after_sound}
 use Rattle.om_parser.proofs.FunctionSound.{head_sound, named_is}
-use Rattle.om_parser.proofs.StatementSound.{block_sound}
+use Rattle.om_parser.proofs.StatementSound.{function_block_sound}
+use Rattle.om_parser.proofs.PartsSound.{parts_sound}
 
 pub take_end_is : (ts : List Token) (s : Span) (us : List Token) → take_end ts ≡ some (s, us) → (ts ≡ token kinds.End s ∷ us) × (us ≡ [])
 unfolding take_end
@@ -62,24 +64,24 @@ pub or_else : {A : Type 0} (b : Bool) (first other : Outcome A) (f : SourceFault
 or_else true first other f h never = (refl, h)
 or_else false first other f h never = absurd (never h)
 
-module _ (l : Limits) where
+module _ (l : Limits) (one : 1 ≤ l.nested) where
   abbrev pub IsGoodItem : ItemTree → Type 0
-  IsGoodItem i = IsItem i × All (IsWithin l) (expressions_of_item i)
+  IsGoodItem i = IsItem i × IsItemWithin l i
 
   function_sound : (h : HeadTree) (ts : List Token) (x : ItemTree × List Token) → function_after l h ts ≡ ok x → IsRead item_spelling IsGoodItem (head_spelling h ++ ts) x
-  unfolding function_after item_spelling IsItem IsFunction
+  unfolding function_after item_spelling IsItem IsFunction block_at
   function_sound h ts x e = elim (choose_cases (take_mark punctuators.Semicolon ts) _ _ (ok x) e) [
     | inl s ↦ subst (IsRead item_spelling IsGoodItem (head_spelling h ++ ts)) (ok_is (Prototype h s.0.0, s.0.1) x s.2) (record {
       parts = after_front (head_spelling h ++ ts) (head_spelling h) ts (mark punctuators.Semicolon s.0.0 ∷ []) s.0.1 refl (take_mark_is punctuators.Semicolon ts s.0.0 s.0.1 s.1);
-      formed = (tt, All-nil (IsWithin l));
+      formed = (tt, tt);
     })
     | inr g ↦
         let named = only_if (are_named h.parameters) _ _ x g.1 (λ y d. absurd cc) in
         let b = bind_ok (block_at l ts) _ x named.1 in
-        let body = block_sound l ts b.0 b.1 in
+        let body = function_block_sound (parts l) l one (parts_sound l one) l.statements l.blocks ts b.0 b.1 in
         subst (IsRead item_spelling IsGoodItem (head_spelling h ++ ts)) (ok_is (Function (record { head = h; body = b.0.0 }), b.0.1) x b.2) (record {
           parts = after_front (head_spelling h ++ ts) (head_spelling h) ts (block_spelling b.0.0) b.0.1 refl body.parts;
-          formed = ((named_is h.parameters named.0, body.formed.0), body.formed.1);
+          formed = ((named_is h.parameters named.0, body.formed.formed), body.formed.room_for);
         })
   ]
 
@@ -110,7 +112,7 @@ module _ (l : Limits) where
         | inr g ↦
             let d = bind_ok (declaration_after (initial_at l initials.Constant) int n.0.0 n.0.1) _ x g.1 in
             let r = declaration_after_sound IsSignedConstant (initial_at l initials.Constant) global_sound int n.0.0 n.0.1 d.0 d.1 in
-            subst (IsRead item_spelling IsGoodItem (word keywords.Int int ∷ name n.0.0 ∷ n.0.1)) (ok_is (Declaration d.0.0, d.0.1) x d.2) (record { parts = r.parts; formed = (r.formed, All-nil (IsWithin l)) })
+            subst (IsRead item_spelling IsGoodItem (word keywords.Int int ∷ name n.0.0 ∷ n.0.1)) (ok_is (Declaration d.0.0, d.0.1) x d.2) (record { parts = r.parts; formed = (r.formed, tt) })
       ])
 
   pub item_sound : IsSound item_spelling IsGoodItem (item_at l)
@@ -123,13 +125,13 @@ module _ (l : Limits) where
   ]
 
   -- every unit that is read
-  pub unit_sound : (ts : List Token) (u : UnitTree) → (unit_at l) ts ≡ ok u → IsUnit u × (unit_spelling u ≡ ts) × All (IsWithin l) (whole_expressions u)
-  unfolding unit_at unit_spelling IsUnit whole_expressions
+  pub unit_sound : (ts : List Token) (u : UnitTree) → (unit_at l) ts ≡ ok u → IsUnit u × (unit_spelling u ≡ ts) × All (IsItemWithin l) u.items
+  unfolding unit_at unit_spelling IsUnit
   unit_sound ts u h =
       let x = bind_ok (until take_end (item_at l) (length ts) ts) _ u h in
       let r = until_sound item_spelling IsGoodItem (token kinds.End) take_end (item_at l) (λ ts s us e. (take_end_is ts s us e).0) item_sound (length ts) ts x.0 x.1 in
       let whole : flat_map item_spelling x.0.0 ++ token kinds.End x.0.1 ∷ [] ≡ ts = sym (r.parts ∙ ap (λ w. (flat_map item_spelling x.0.0 ++ token kinds.End x.0.1 ∷ []) ++ w) (until_end (item_at l) (length ts) ts x.0 x.1) ∙ append-nil _) in
-      subst (λ v. IsUnit v × (unit_spelling v ≡ ts) × All (IsWithin l) (whole_expressions v)) (ok_is _ u x.2) (All-weaker IsGoodItem IsItem (λ i g. g.0) x.0.0 r.formed, whole, all_flat (IsWithin l) expressions_of_item x.0.0 (All-weaker IsGoodItem (λ i. All (IsWithin l) (expressions_of_item i)) (λ i g. g.1) x.0.0 r.formed))
+      subst (λ v. IsUnit v × (unit_spelling v ≡ ts) × All (IsItemWithin l) v.items) (ok_is _ u x.2) (All-weaker IsGoodItem IsItem (λ i g. g.0) x.0.0 r.formed, whole, All-weaker IsGoodItem (IsItemWithin l) (λ i g. g.1) x.0.0 r.formed)
 
 -- ---- what is read takes a token at least
 
@@ -146,5 +148,5 @@ item_some (Function f) = head_some f.head (block_spelling f.body)
 pub end_shorter : (ts : List Token) (s : Span) (us : List Token) → take_end ts ≡ some (s, us) → length us < length ts
 end_shorter ts s us e = omega (arith, ap length (take_end_is ts s us e).0)
 
-pub item_shorter : (l : Limits) (ts : List Token) (i : ItemTree) (us : List Token) → (item_at l) ts ≡ ok (i, us) → length us < length ts
-item_shorter l ts i us e = let r = item_sound l ts (i, us) e in omega (arith, ap length r.parts, length-append (item_spelling i) us, item_some i)
+pub item_shorter : (l : Limits) → 1 ≤ l.nested → (ts : List Token) (i : ItemTree) (us : List Token) → (item_at l) ts ≡ ok (i, us) → length us < length ts
+item_shorter l one ts i us e = let r = item_sound l one ts (i, us) e in omega (arith, ap length r.parts, length-append (item_spelling i) us, item_some i)

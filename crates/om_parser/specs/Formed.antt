@@ -1,12 +1,12 @@
 -- Which trees are well-formed: the grammar beyond the order of tokens.
-use Rattle.std.specs.Prelude.{◌≡◌, ℕ, ◌<◌, ◌≤◌, Option, Some, None, IsSome, All}
+use Rattle.std.specs.Prelude.{◌≡◌, ℕ, ◌<◌, ◌≤◌, Option, Some, None, IsSome, All, Bool, true, false}
 use Rattle.om_parser.specs.declared.tree.ArrayLength.{ArrayLength}
 use Rattle.om_parser.specs.declared.tree.BinaryOperator.{BinaryOperator}
 use Rattle.om_parser.specs.declared.tree.BinaryOperator.TheVariants as binaries
 use Rattle.om_parser.specs.declared.tree.PrefixOperator.TheVariants as prefixes
 use Rattle.om_parser.specs.declared.tree.ResultType.{ResultType}
 use Rattle.om_parser.specs.declared.tree.ResultType.TheVariants as results
-use Rattle.om_parser.specs.Tree.{ExpressionTree, Name, Constant, Text, Paren, Index, Call, Prefix, Postfix, Binary, Conditional, Assign, InitializerTree, DeclaratorTree, DeclarationTree, StatementTree, Expression, Return, ParametersTree, NoParameters, Void, Listed, FunctionTree, ItemTree, Declaration, Prototype, Function, UnitTree}
+use Rattle.om_parser.specs.Tree.{ExpressionTree, Name, Constant, Text, Paren, Index, Call, Prefix, Postfix, Binary, Conditional, Assign, InitializerTree, DeclaratorTree, DeclarationTree, StatementTree, Expression, Return, ParametersTree, NoParameters, Void, Listed, FunctionTree, ItemTree, Declaration, Prototype, Function, UnitTree, ConditionTree, ForStartTree, Nothing, StartExpression, StartDeclaration, ForHeadTree, StatementsTree, LocalDeclaration, Block, Empty, If, IfElse, While, Do, For, Break, Continue, Construct, StandAlone, Sections, Section, NoStatements, Statement, statements}
 
 -- levels of precedence, the loosest first: 1 assignment (C17 6.5.16), 2 conditional (6.5.15), 3 and 4 logical (6.5.14, 6.5.13),
 -- 5 equality (6.5.9), 6 relational (6.5.8), 7 additive (6.5.6), 8 multiplicative (6.5.5), 9 unary (6.5.3), 10 postfix and primary (6.5.2, 6.5.1)
@@ -65,11 +65,67 @@ IsDeclaration Admitted d = IsDeclarator Admitted d.first × All (λ further. IsD
 abbrev pub IsGlobalDeclaration : DeclarationTree → Type 0
 IsGlobalDeclaration = IsDeclaration IsSignedConstant
 
--- an expression that stands alone is an assignment; a `return` has a value, which is none
-unfoldable pub IsStatement : StatementTree → Type 0
-IsStatement (Expression e semicolon) = IsExpression e × (level e ≡ 1)
-IsStatement (Return at (Some e) semicolon) = IsExpression e × (2 ≤ level e)
-IsStatement _ = ⊥
+-- what a variable of a block starts with
+abbrev pub IsInitialValue : ExpressionTree → Type 0
+IsInitialValue e = IsExpression e × (2 ≤ level e)
+
+-- a variable of a block starts with the value of an expression
+abbrev pub IsLocalDeclaration : DeclarationTree → Type 0
+IsLocalDeclaration = IsDeclaration IsInitialValue
+
+-- ---- statements
+
+-- an expression that may be left out
+abbrev pub IsOptional : Option ExpressionTree → Type 0
+IsOptional None = Unit {0}
+IsOptional (Some e) = IsExpression e
+
+-- what a `for` begins with
+abbrev pub IsForStart : ForStartTree → Type 0
+IsForStart (Nothing semicolon) = Unit {0}
+IsForStart (StartExpression e semicolon) = IsExpression e
+IsForStart (StartDeclaration d) = IsLocalDeclaration d
+
+-- a `for` up to its closing parenthesis
+unfoldable pub IsForHead : ForHeadTree → Type 0
+IsForHead h = IsForStart h.start × IsOptional h.condition × IsOptional h.step
+
+-- an `if` without `else` stands last in it, so that an `else` behind it would be that one's
+abbrev pub ends_open : StatementTree → Bool
+ends_open (If at c s) = true
+ends_open (IfElse at c s other t) = ends_open t
+ends_open (While at c s) = ends_open s
+ends_open (For h s) = ends_open s
+ends_open _ = false
+
+-- it may be a part of another statement, where a declaration may not stand
+abbrev pub IsBody : StatementTree → Type 0
+IsBody (LocalDeclaration d) = ⊥
+IsBody _ = Unit {0}
+
+unfoldable mutual
+  -- a statement, or a declaration in a block (C17 6.8)
+  pub IsStatement : StatementTree → Type 0
+  IsStatement (LocalDeclaration d) = IsLocalDeclaration d
+  IsStatement (Block left items right) = AreStatements items
+  IsStatement (Empty semicolon) = Unit {0}
+  IsStatement (Expression e semicolon) = IsExpression e
+  IsStatement (If at c s) = IsExpression c.value × IsStatement s × IsBody s
+  IsStatement (IfElse at c s other t) = IsExpression c.value × IsStatement s × IsBody s × (ends_open s ≡ false) × IsStatement t × IsBody t
+  IsStatement (While at c s) = IsExpression c.value × IsStatement s × IsBody s
+  IsStatement (Do at s again c semicolon) = IsExpression c.value × IsStatement s × IsBody s
+  IsStatement (For h s) = IsForHead h × IsStatement s × IsBody s
+  IsStatement (Return at value semicolon) = IsOptional value
+  IsStatement (Break at semicolon) = Unit {0}
+  IsStatement (Continue at semicolon) = Unit {0}
+  IsStatement (Construct d s) = ⊥
+  IsStatement (StandAlone d) = ⊥
+  IsStatement (Sections d left parts right) = ⊥
+  IsStatement (Section d items) = ⊥
+
+  pub AreStatements : StatementsTree → Type 0
+  AreStatements NoStatements = Unit {0}
+  AreStatements (Statement s rest) = IsStatement s × AreStatements rest
 
 -- each parameter has a name
 abbrev pub AreNamed : ParametersTree → Type 0
@@ -79,7 +135,7 @@ AreNamed (Listed first rest) = IsSome first.name × All (λ further. IsSome furt
 
 -- the definition of a function names its parameters (C17 6.9.1)
 unfoldable pub IsFunction : FunctionTree → Type 0
-IsFunction f = AreNamed f.head.parameters × All IsStatement f.body.items
+IsFunction f = AreNamed f.head.parameters × AreStatements (statements f.body.items)
 
 -- what may stand at file scope; a prototype need not name its parameters
 unfoldable pub IsItem : ItemTree → Type 0

@@ -2,6 +2,8 @@ pub mod Tree
 pub mod Spelling
 pub mod Formed
 pub mod Limits
+pub mod Sizes
+pub mod Places
 pub mod View
 pub mod Parsing
 pub mod Reading
@@ -10,4 +12,6 @@ pub mod Repetition
 pub mod DeclarationReading
 pub mod FunctionReading
 pub mod StatementReading
+pub mod StatementView
+pub mod PartReading
 pub mod UnitReading

@@ -1,13 +1,13 @@
 -- How large the expressions of an accepted source are.
-use Rattle.std.specs.Prelude.{ℕ, ◌+◌, ◌-◌, ◌≤◌, max, List, [], ◌∷◌, ◌++◌, length, Option, Some, None, All}
+use Rattle.std.specs.Prelude.{◌≡◌, ℕ, ◌+◌, ◌-◌, ◌≤◌, ◌⊎◌, max, List, [], ◌∷◌, ◌++◌, length, Option, Some, None}
 use Rattle.std.specs.List.{flat_map}
 use Rattle.om_lexer.specs.declared.token.Punctuator.TheVariants as punctuators
 use Rattle.om_lexer.specs.declared.token.Token.{Token}
 use Rattle.om_lexer.specs.declared.token.TokenKind.{TokenKind}
 use Rattle.om_lexer.specs.declared.token.TokenKind.TheVariants as kinds
-use Rattle.om_parser.specs.declared.unit.TheConstants.{NESTING_LIMIT, TOKEN_LIMIT}
+use Rattle.om_parser.specs.declared.unit.TheConstants.{NESTING_LIMIT, TOKEN_LIMIT, BLOCK_LIMIT, STATEMENT_LIMIT}
 use Rattle.om_parser.specs.Spelling.{expression_spelling}
-use Rattle.om_parser.specs.Tree.{ExpressionTree, Name, Constant, Text, Paren, Index, Call, Prefix, Postfix, Binary, Conditional, Assign, ArgumentsTree, NoArguments, Argument, InitializerTree, DeclaratorTree, DeclarationTree, StatementTree, Expression, Return, ItemTree, Declaration, Prototype, Function, UnitTree}
+use Rattle.om_parser.specs.Tree.{ExpressionTree, Name, Constant, Text, Paren, Index, Call, Prefix, Postfix, Binary, Conditional, Assign, ArgumentsTree, NoArguments, Argument, InitializerTree, DeclaratorTree, DeclarationTree}
 
 abbrev mutual
   -- how many parentheses and brackets stand round the innermost part
@@ -28,11 +28,7 @@ abbrev mutual
   arguments_nesting NoArguments = 0
   arguments_nesting (Argument comma e rest) = max (nesting e) (arguments_nesting rest)
 
--- the expressions that are no part of another one (C17 6.8, full expressions)
-abbrev pub expressions_of_statement : StatementTree → List ExpressionTree
-expressions_of_statement (Expression e semicolon) = e ∷ []
-expressions_of_statement (Return at (Some e) semicolon) = e ∷ []
-expressions_of_statement _ = []
+-- ---- the expressions that are no part of another one (C17 6.8, full expressions)
 
 -- that of a declarator
 abbrev pub expressions_of_declarator : DeclaratorTree → List ExpressionTree
@@ -46,32 +42,21 @@ expressions_of_declarator d = started d.initializer
 abbrev pub expressions_of_declaration : DeclarationTree → List ExpressionTree
 expressions_of_declaration d = expressions_of_declarator d.first ++ flat_map (λ further. expressions_of_declarator further.1) d.rest
 
--- those of the function's body
-abbrev pub expressions_of_item : ItemTree → List ExpressionTree
-expressions_of_item (Declaration d) = []
-expressions_of_item (Prototype h semicolon) = []
-expressions_of_item (Function f) = flat_map expressions_of_statement f.body.items
-
--- those of a whole source
-unfoldable pub whole_expressions : UnitTree → List ExpressionTree
-whole_expressions u = flat_map expressions_of_item u.items
-
--- how deep parentheses may nest in an expression, and how many tokens a whole one may have
+-- how deep parentheses may nest, how many tokens a whole expression may have, how deep blocks may nest, and how many
+-- statements may stand round a statement
 pub record Limits : Type 0 where
   pub nested : ℕ
   pub tokens : ℕ
+  pub blocks : ℕ
+  pub statements : ℕ
 
 -- those of an accepted source
 abbrev pub accepted : Limits
-accepted = record { nested = NESTING_LIMIT; tokens = TOKEN_LIMIT }
+accepted = record { nested = NESTING_LIMIT; tokens = TOKEN_LIMIT; blocks = BLOCK_LIMIT; statements = STATEMENT_LIMIT }
 
 -- the parentheses and the tokens of an expression keep these limits
 unfoldable pub IsWithin : Limits → ExpressionTree → Type 0
 IsWithin l e = (nesting e ≤ l.nested) × (length (expression_spelling e) ≤ l.tokens)
-
--- each whole expression of a source keeps the limits
-unfoldable pub IsWithinLimits : UnitTree → Type 0
-IsWithinLimits u = All (IsWithin accepted) (whole_expressions u)
 
 -- how many parentheses stand open behind these tokens, where so many stood open before
 unfoldable pub still_open : ℕ → List Token → ℕ
@@ -82,3 +67,7 @@ still_open n (t ∷ ts) = still_open (open_after n t.kind) ts
     open_after n (kinds.Punctuator punctuators.OpenParen) = n + 1
     open_after n (kinds.Punctuator punctuators.CloseParen) = n - 1
     open_after n _ = n
+
+-- the token behind these of one whole expression is one too many, or a parenthesis that nests too deep
+abbrev pub IsTooMuch : Limits → List Token → Token → Type 0
+IsTooMuch l begun t = (length begun ≡ l.tokens) ⊎ ((t.kind ≡ kinds.Punctuator punctuators.OpenParen) × (still_open 0 begun ≡ l.nested))

@@ -7,7 +7,8 @@ use Rattle.om_lexer.specs.declared.token.Token.{Token}
 use Rattle.om_lexer.specs.declared.token.TokenKind.TheVariants as kinds
 use Rattle.om_parser.specs.declared.tree.Unit as units
 use Rattle.om_parser.specs.Formed.{IsUnit}
-use Rattle.om_parser.specs.Limits.{Limits, accepted, whole_expressions, still_open}
+use Rattle.om_parser.specs.Limits.{Limits, accepted, IsTooMuch}
+use Rattle.om_parser.specs.Places.{IsPassed, IsOverInUnit}
 use Rattle.om_parser.specs.Spelling.{expression_spelling, unit_spelling}
 use Rattle.om_parser.specs.Tree.{ExpressionTree, UnitTree}
 use Rattle.om_parser.specs.View.{view_unit}
@@ -16,10 +17,6 @@ use Rattle.om_parser.specs.View.{view_unit}
 pub record IsTreeOf (tokens : List Token) (u : UnitTree) : Type 0 where
   pub formed : IsUnit u
   pub spelled : unit_spelling u ≡ tokens
-
--- the token behind these of one whole expression is one too many, or a parenthesis that nests too deep
-abbrev pub IsTooMuch : Limits → List Token → Token → Type 0
-IsTooMuch l begun t = (length begun ≡ l.tokens) ⊎ ((t.kind ≡ kinds.Punctuator punctuators.OpenParen) × (still_open 0 begun ≡ l.nested))
 
 -- A limit is passed at this place: some well-formed part of a program begins with the same tokens up to there,
 -- and there one of its whole expressions has too many tokens, or parentheses that nest too deep.
@@ -40,9 +37,9 @@ pub record PassesLimit {A : Type 0} (spelling : A → List Token) (IsFormed : A 
   pub at_place : token.span.start ≡ place
   pub too_much : IsTooMuch l begun token
 
--- the same of a whole unit
+-- the same of a whole unit, where blocks or statements may nest too deep as well
 abbrev pub IsLimitPassed : List Token → ℕ → Type 0
-IsLimitPassed = PassesLimit unit_spelling IsUnit whole_expressions accepted
+IsLimitPassed = IsPassed unit_spelling IsUnit (IsOverInUnit accepted)
 
 -- the tree, unless memory ran out
 abbrev pub IsTreeOrMemory : UnitTree → Result units.Unit SourceFault → Type 0

@@ -1,43 +1,202 @@
 -- Reading statements from the left.
-use Rattle.std.specs.Prelude.{◌-◌, List, length, Some, Ok}
+use Rattle.std.specs.Prelude.{ℕ, zero, suc, ◌-◌, List, [], ◌∷◌, length, Option, Some, None, Ok, Err}
+use Rattle.om_lexer.specs.declared.token.Keyword.{Keyword}
 use Rattle.om_lexer.specs.declared.token.Keyword.TheVariants as keywords
+use Rattle.om_lexer.specs.declared.token.Punctuator.{Punctuator}
 use Rattle.om_lexer.specs.declared.token.Punctuator.TheVariants as punctuators
 use Rattle.om_lexer.specs.declared.token.Span.{Span}
 use Rattle.om_lexer.specs.declared.token.Token.{Token}
-use Rattle.om_parser.specs.declared.tree.AssignOperator.TheVariants as assigns
-use Rattle.om_parser.specs.ExpressionReading.{sum_at}
-use Rattle.om_parser.specs.Limits.{Limits}
-use Rattle.om_parser.specs.Reading.{◌>>=◌, choose, Reader, take_mark, take_word, mark_at, name_at}
+use Rattle.om_lexer.specs.declared.token.TokenKind.{TokenKind}
+use Rattle.om_lexer.specs.declared.token.TokenKind.TheVariants as kinds
+use Rattle.om_parser.specs.declared.statement.Start.{Start}
+use Rattle.om_parser.specs.declared.statement.Start.TheVariants as starts
+use Rattle.om_parser.specs.Reading.{◌>>=◌, choose, Outcome, Reader, syntax, too_deep, take_mark, take_word, mark_at, word_at}
 use Rattle.om_parser.specs.Repetition.{until}
-use Rattle.om_parser.specs.Tree.{ExpressionTree, Name, Assign, StatementTree, Expression, Return, BlockTree}
+use Rattle.om_parser.specs.Tree.{ExpressionTree, DeclarationTree, ConditionTree, ForStartTree, Nothing, StartExpression, StartDeclaration, ForHeadTree, StatementTree, LocalDeclaration, Block, Empty, Expression, If, IfElse, While, Do, For, Return, Break, Continue, statements, BlockTree}
 
--- a sum in an expression that begins with the first tokens
-unfoldable pub value_at : Limits → (begins : List Token) → Reader ExpressionTree
-value_at l begins ts = sum_at (length begins - l.tokens) l.nested ts
+-- the readers of the parts of statements that are no statements
+pub record Parts : Type 0 where
+  -- a whole expression, and one that stands in the parentheses of a statement
+  pub expression : Reader ExpressionTree
+  pub enclosed : Reader ExpressionTree
+  -- a declaration behind its `int`, and one in the parentheses of a `for`
+  pub declaration : Span → Reader DeclarationTree
+  pub enclosed_declaration : Span → Reader DeclarationTree
+
+-- ---- what a first token begins
+
+abbrev pub start_of_mark : Punctuator → Start
+start_of_mark punctuators.OpenBrace = starts.Block
+start_of_mark punctuators.Semicolon = starts.Empty
+start_of_mark punctuators.OpenParen = starts.Expression
+start_of_mark _ = starts.Nothing
+
+abbrev pub start_of_word : Keyword → Start
+start_of_word keywords.If = starts.If
+start_of_word keywords.While = starts.While
+start_of_word keywords.Do = starts.Do
+start_of_word keywords.For = starts.For
+start_of_word keywords.Return = starts.Return
+start_of_word keywords.Break = starts.Break
+start_of_word keywords.Continue = starts.Continue
+start_of_word _ = starts.Nothing
+
+-- which statement a token begins
+abbrev pub start_of : TokenKind → Start
+start_of (kinds.Punctuator p) = start_of_mark p
+start_of (kinds.Keyword k) = start_of_word k
+start_of (kinds.Name text) = starts.Expression
+start_of (kinds.Constant value) = starts.Expression
+start_of _ = starts.Nothing
+
+-- ---- the parts of a statement
+
+-- an expression in parentheses
+unfoldable pub condition_at : Parts → Reader ConditionTree
+condition_at p ts = do
+  l ← mark_at punctuators.OpenParen ts
+  e ← p.enclosed l.1
+  r ← mark_at punctuators.CloseParen e.1
+  Ok (record { open_paren = l.0; value = e.0; close_paren = r.0 }, r.1)
+
+-- an expression that may be left out before this punctuator
+unfoldable pub optional_before : Punctuator → Reader ExpressionTree → Reader (Option ExpressionTree × Span)
+optional_before p expression ts = choose (take_mark p ts)
+    (λ s. Ok ((None, s.0), s.1))
+    (expression ts >>= λ e. mark_at p e.1 >>= λ s. Ok ((Some e.0, s.0), s.1))
+
+-- what a `for` begins with (C17 6.8.5.3)
+unfoldable pub for_start_at : Parts → Reader ForStartTree
+for_start_at p ts = choose (take_word keywords.Int ts)
+    (λ i. p.enclosed_declaration i.0 i.1 >>= λ d. Ok (StartDeclaration d.0, d.1))
+    (optional_before punctuators.Semicolon p.enclosed ts >>= λ e. Ok (choose e.0.0 (λ x. StartExpression x e.0.1) (Nothing e.0.1), e.1))
+
+-- a `for` up to its closing parenthesis, behind its word
+unfoldable pub for_head_after : Parts → Span → Reader ForHeadTree
+for_head_after p word ts = do
+  l ← mark_at punctuators.OpenParen ts
+  s ← for_start_at p l.1
+  c ← optional_before punctuators.Semicolon p.enclosed s.1
+  e ← optional_before punctuators.CloseParen p.enclosed c.1
+  Ok (record { word = word; open_paren = l.0; start = s.0; condition = c.0.0; semicolon = c.0.1; step = e.0.0; close_paren = e.0.1 }, e.1)
+
+-- what stands before the statement that is its body
+pub data OpeningTree : Type 0 where
+  OpensIf : Span → ConditionTree → OpeningTree
+  OpensWhile : Span → ConditionTree → OpeningTree
+  OpensFor : ForHeadTree → OpeningTree
+
+-- the statement with this body, without `else`
+abbrev pub with_body : OpeningTree → StatementTree → StatementTree
+with_body (OpensIf at c) s = If at c s
+with_body (OpensWhile at c) s = While at c s
+with_body (OpensFor h) s = For h s
+
+-- the opening of this start, behind its word
+unfoldable pub opening_of : Parts → Start → Span → Reader OpeningTree
+opening_of p starts.If at ts = condition_at p ts >>= λ c. Ok (OpensIf at c.0, c.1)
+opening_of p starts.While at ts = condition_at p ts >>= λ c. Ok (OpensWhile at c.0, c.1)
+opening_of p starts.For at ts = for_head_after p at ts >>= λ h. Ok (OpensFor h.0, h.1)
+opening_of p _ at ts = Err (syntax ts)
+
+-- ---- statements without a statement in them
 
 -- a value and its semicolon, behind `return` (C17 6.8.6.4)
-unfoldable pub return_after : Limits → Span → Reader StatementTree
-return_after l at ts = do
-  e ← value_at l ts ts
+unfoldable pub return_after : Parts → Span → Reader StatementTree
+return_after p at ts = optional_before punctuators.Semicolon p.expression ts >>= λ e. Ok (Return at e.0.0 e.0.1, e.1)
+
+-- the semicolon behind a word that stands alone (C17 6.8.6)
+unfoldable pub jump_after : (Span → StatementTree) → Reader StatementTree
+jump_after jump ts = mark_at punctuators.Semicolon ts >>= λ s. Ok (jump s.0, s.1)
+
+-- an expression and its semicolon (C17 6.8.3)
+unfoldable pub expression_statement_at : Parts → Reader StatementTree
+expression_statement_at p ts = do
+  e ← p.expression ts
   s ← mark_at punctuators.Semicolon e.1
-  Ok (Return at (Some e.0) s.0, s.1)
+  Ok (Expression e.0 s.0, s.1)
 
--- a name, `=`, a value and a semicolon (C17 6.8.3)
-unfoldable pub assignment_at : Limits → Reader StatementTree
-assignment_at l ts = do
-  n ← name_at ts
-  q ← mark_at punctuators.Equal n.1
-  e ← value_at l ts q.1
-  s ← mark_at punctuators.Semicolon e.1
-  Ok (Expression (Assign (Name n.0) assigns.Set q.0 e.0) s.0, s.1)
+-- ---- statements round a statement, over the reader of that
 
--- a statement (C17 6.8)
-unfoldable pub statement_at : Limits → Reader StatementTree
-statement_at l ts = choose (take_word keywords.Return ts) (λ r. return_after l r.0 r.1) (assignment_at l ts)
+-- the `else` that may follow (C17 6.8.4.1)
+unfoldable pub else_after : Reader StatementTree → Span → ConditionTree → StatementTree → Reader StatementTree
+else_after statement at c s ts = choose (take_word keywords.Else ts)
+    (λ o. statement o.1 >>= λ t. Ok (IfElse at c s o.0 t.0, t.1))
+    (Ok (If at c s, ts))
 
--- statements in braces (C17 6.8.2)
-unfoldable pub block_at : Limits → Reader BlockTree
-block_at l ts = do
+-- what follows the body
+unfoldable pub behind_body : Reader StatementTree → OpeningTree → StatementTree → Reader StatementTree
+behind_body statement (OpensIf at c) s ts = else_after statement at c s ts
+behind_body statement (OpensWhile at c) s ts = Ok (While at c s, ts)
+behind_body statement (OpensFor h) s ts = Ok (For h s, ts)
+
+-- the body, and what follows it
+unfoldable pub body_after : Reader StatementTree → OpeningTree → Reader StatementTree
+body_after statement o ts = statement ts >>= λ s. behind_body statement o s.0 s.1
+
+-- a statement of this start with its opening, behind its word
+unfoldable pub headed_of : Parts → Reader StatementTree → Start → Span → Reader StatementTree
+headed_of p statement start at ts = opening_of p start at ts >>= λ o. body_after statement o.0 o.1
+
+-- the end of a `do` behind its body (C17 6.8.5.2)
+unfoldable pub do_end : Parts → Span → StatementTree → Reader StatementTree
+do_end p at s ts = do
+  w ← word_at keywords.While ts
+  c ← condition_at p w.1
+  e ← mark_at punctuators.Semicolon c.1
+  Ok (Do at s w.0 c.0 e.0, e.1)
+
+-- a `do` behind its word
+unfoldable pub do_after : Parts → Reader StatementTree → Span → Reader StatementTree
+do_after p statement at ts = statement ts >>= λ s. do_end p at s.0 s.1
+
+-- a declaration or a statement (C17 6.8.2)
+unfoldable pub block_item_at : Parts → Reader StatementTree → Reader StatementTree
+block_item_at p statement ts = choose (take_word keywords.Int ts)
+    (λ i. p.declaration i.0 i.1 >>= λ d. Ok (LocalDeclaration d.0, d.1))
+    (statement ts)
+
+-- the items of a block behind its left brace, with room for so many blocks round it
+unfoldable pub block_items_after : Parts → (ℕ → Reader StatementTree) → (blocks : ℕ) → Span → List Token → Outcome (List StatementTree × Span × List Token)
+block_items_after p statement zero left ts = Err (too_deep left)
+block_items_after p statement (suc blocks) left ts = until (take_mark punctuators.CloseBrace) (block_item_at p (statement blocks)) (length ts) ts
+
+-- a block behind its left brace
+unfoldable pub block_after : Parts → (ℕ → Reader StatementTree) → (blocks : ℕ) → Span → Reader StatementTree
+block_after p statement blocks left ts = block_items_after p statement blocks left ts >>= λ x. Ok (Block left (statements x.0) x.1, x.2)
+
+-- a statement of this start that has no statement in it
+unfoldable pub simple_of : Parts → Start → Span → (behind whole : List Token) → Outcome (StatementTree × List Token)
+simple_of p starts.Empty at ts whole = Ok (Empty at, ts)
+simple_of p starts.Return at ts whole = return_after p at ts
+simple_of p starts.Break at ts whole = jump_after (Break at) ts
+simple_of p starts.Continue at ts whole = jump_after (Continue at) ts
+simple_of p starts.Expression at ts whole = expression_statement_at p whole
+simple_of p _ at ts whole = Err (syntax whole)
+
+-- a statement whose first token is taken, over the reader of the statements in it
+unfoldable pub statement_of : Parts → (ℕ → Reader StatementTree) → (blocks : ℕ) → Start → Span → (behind whole : List Token) → Outcome (StatementTree × List Token)
+statement_of p statement blocks starts.Block at ts whole = block_after p statement blocks at ts
+statement_of p statement blocks starts.If at ts whole = headed_of p (statement blocks) starts.If at ts
+statement_of p statement blocks starts.While at ts whole = headed_of p (statement blocks) starts.While at ts
+statement_of p statement blocks starts.For at ts whole = headed_of p (statement blocks) starts.For at ts
+statement_of p statement blocks starts.Do at ts whole = do_after p (statement blocks) at ts
+statement_of p statement blocks start at ts whole = simple_of p start at ts whole
+
+-- the fault of a statement that has no room
+unfoldable pub no_room : Start → Span → List Token → Outcome (StatementTree × List Token)
+no_room starts.Nothing s ts = Err (syntax ts)
+no_room _ s ts = Err (too_deep s)
+
+-- a statement, with room for so many statements, itself among them, and so many blocks (C17 6.8)
+unfoldable pub statement_at : Parts → (room blocks : ℕ) → Reader StatementTree
+statement_at p room blocks [] = Err (syntax [])
+statement_at p zero blocks (t ∷ ts) = no_room (start_of t.kind) t.span (t ∷ ts)
+statement_at p (suc room) blocks (t ∷ ts) = statement_of p (statement_at p room) blocks (start_of t.kind) t.span ts (t ∷ ts)
+
+-- the block of a function (C17 6.8.2)
+unfoldable pub block_with : Parts → (room blocks : ℕ) → Reader BlockTree
+block_with p room blocks ts = do
   o ← mark_at punctuators.OpenBrace ts
-  b ← until (take_mark punctuators.CloseBrace) (statement_at l) (length o.1) o.1
-  Ok (record { open_brace = o.0; items = b.0; close_brace = b.1 }, b.2)
+  x ← block_items_after p (statement_at p room) blocks o.0 o.1
+  Ok (record { open_brace = o.0; items = x.0; close_brace = x.1 }, x.2)

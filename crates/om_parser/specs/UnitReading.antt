@@ -15,7 +15,7 @@ use Rattle.om_parser.specs.FunctionReading.{are_named, head_after}
 use Rattle.om_parser.specs.Limits.{Limits}
 use Rattle.om_parser.specs.Reading.{◌>>=◌, choose, Outcome, Reader, syntax, take_mark, take_word, mark_at, word_at, name_at}
 use Rattle.om_parser.specs.Repetition.{until}
-use Rattle.om_parser.specs.StatementReading.{block_at}
+use Rattle.om_parser.specs.PartReading.{block_at}
 use Rattle.om_parser.specs.Tree.{HeadTree, ItemTree, Declaration, Prototype, Function, UnitTree}
 
 -- ---- functions

@@ -5,6 +5,7 @@ mod declaration;
 mod expression;
 mod front;
 mod function;
+mod part;
 mod statement;
 mod tree;
 mod unit;
@@ -15,7 +16,7 @@ pub use tree::{
     Expression, ForHead, ForStart, Function, FunctionHead, Initializer, Item,
     Parameter, Parameters, PostfixOperator, PrefixOperator, ResultType, Statement, Text, Unit,
 };
-pub use unit::{NESTING_LIMIT, TOKEN_LIMIT, one_tree, parse};
+pub use unit::{BLOCK_LIMIT, NESTING_LIMIT, STATEMENT_LIMIT, TOKEN_LIMIT, one_tree, parse};
 
 #[cfg(test)]
 mod tests;

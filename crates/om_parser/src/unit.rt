@@ -4,7 +4,8 @@ ghost use Rattle.std.specs.Prelude.{◌≡◌, ◌⊎◌, [], IfOk, IfErr, lengt
 ghost use Rattle.om_lexer.specs.Faults.{no_memory};
 ghost use Rattle.om_lexer.specs.declared.fault.FaultCode.TheVariants.{Syntax, TooDeep};
 ghost use Rattle.om_parser.specs.Formed.{IsUnit};
-ghost use Rattle.om_parser.specs.Limits.{accepted, IsWithinLimits};
+ghost use Rattle.om_parser.specs.Limits.{accepted};
+ghost use Rattle.om_parser.specs.Sizes.{IsWithinLimits};
 ghost use Rattle.om_parser.specs.Parsing.{IsTreeOf, IsTreeOrMemory, IsLimitPassed};
 ghost use Rattle.om_parser.specs.Reading.{Reads};
 ghost use Rattle.om_parser.specs.Spelling.{unit_spelling};
@@ -28,16 +29,24 @@ pub const NESTING_LIMIT: usize = 128;
 /// How many tokens a whole expression may have.
 pub const TOKEN_LIMIT: usize = 4096;
 
+/// How deep blocks may nest.
+pub const BLOCK_LIMIT: usize = 128;
+
+/// How many statements may stand round a statement, the function's block among them.
+pub const STATEMENT_LIMIT: usize = 1024;
+
 /// The tree of these tokens, the last of which is the end of the source (C17 6.9).
 ///
 /// The grammar is that of declarations of `int` variables and arrays, of prototypes, and of
-/// functions with assignments and returns of sums. Refusals:
+/// functions with every statement of C17 6.8 but directives, over sums and assignments.
+/// Refusals:
 /// - S0 at byte 0: no memory.
 /// - S3: no tree of any size has these tokens. Its place is the start of the first token
 ///   that no well-formed unit has there, after the tokens before it. Tokens that lack the
 ///   end of the source are S3 at 4294967295, past every source.
-/// - S16: at this token an expression has more than `TOKEN_LIMIT` tokens, or its parentheses
-///   nest deeper than `NESTING_LIMIT`. Where a token is both, it is S3.
+/// - S16: at this token an expression has more than `TOKEN_LIMIT` tokens, parentheses nest
+///   deeper than `NESTING_LIMIT` or blocks deeper than `BLOCK_LIMIT`, or a statement begins round
+///   which more than `STATEMENT_LIMIT` stand. Where a token is both, it is S3.
 pub fn parse(alloc: Global, tokens: &[Token]) -> Result<Unit, SourceFault>
     // What is found is well-formed and has these tokens.
     ensures found { IfOk result (λ unit. IsTreeOf tokens.now (view_unit unit)) }
