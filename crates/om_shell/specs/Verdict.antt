@@ -5,7 +5,7 @@ use Rattle.om_lexer.specs.declared.fault.FaultCode.TheVariants.{Syntax, TooDeep}
 use Rattle.om_lexer.specs.declared.fault.SourceFault.{SourceFault}
 use Rattle.om_lexer.specs.declared.token.Token.{Token}
 use Rattle.om_lexer.specs.Sources.{IsTokens, IsFault}
-use Rattle.om_parser.specs.Limits.{IsWithinLimits}
+use Rattle.om_parser.specs.Sizes.{IsWithinLimits}
 use Rattle.om_parser.specs.Parsing.{IsTreeOf, IsLimitPassed}
 use Rattle.om_parser.specs.Tree.{UnitTree}
 use Rattle.om_scope.specs.Breaches.{breaches_of, first_of}
