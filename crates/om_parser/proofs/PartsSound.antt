@@ -81,10 +81,13 @@ module _ (l : Limits) (room round : ℕ) (sum : room + round ≡ l.nested) where
       let value = sum_sound (length ts - l.tokens) room ts x h in
       record {
         parts = value.parts;
-        formed = ((value.formed, omega (arith, value.tight)), record {
-          nested = omega (arith, value.nested, sum);
-          long = omega (arith, value.left, ap length value.parts, length-append (expression_spelling x.0) x.1);
-        });
+        formed = (
+          (value.formed, omega (arith, value.tight)),
+          record {
+            nested = omega (arith, value.nested, sum);
+            long = omega (arith, value.left, ap length value.parts, length-append (expression_spelling x.0) x.1);
+          },
+        );
       }
 
   most_nested : (es : List ExpressionTree) → All (IsInitialWithin l round) es → most nesting es + round ≤ l.nested

@@ -196,7 +196,7 @@ module _ (p : Parts) (l : Limits) (one : 1 ≤ l.nested) (sound : ArePartsSound 
       let inner = sound.enclosed o.0.1 e.0 e.1 in
       subst (IsRead condition_spelling (λ c. IsWhole l 1 c.value) ts) (ok_is _ x c.2) (record {
         parts = after_token (mark punctuators.OpenParen o.0.0) ts o.0.1 (expression_spelling e.0.0 ++ mark punctuators.CloseParen c.0.0 ∷ []) c.0.1 (mark_at_is punctuators.OpenParen ts o.0 o.1)
-        (after_front o.0.1 (expression_spelling e.0.0) e.0.1 (mark punctuators.CloseParen c.0.0 ∷ []) c.0.1 inner.parts (mark_at_is punctuators.CloseParen e.0.1 c.0 c.1));
+            (after_front o.0.1 (expression_spelling e.0.0) e.0.1 (mark punctuators.CloseParen c.0.0 ∷ []) c.0.1 inner.parts (mark_at_is punctuators.CloseParen e.0.1 c.0 c.1));
         formed = inner.formed;
       })
 

@@ -11,9 +11,7 @@ ghost use Rattle.om_parser.specs.View.{view_expression, view_declarator, view_de
 
 use crate::expression::sum;
 use crate::front::{mark, name, number, take_mark};
-use crate::tree::{
-    ArrayLength, Declaration, Declarator, Expression, Initializer, PrefixOperator,
-};
+use crate::tree::{ArrayLength, Declaration, Declarator, Expression, Initializer, PrefixOperator};
 use crate::unit::TOKEN_LIMIT;
 use om_lexer::{Punctuator, SourceFault, Span, Token};
 use om_pragma::Name;

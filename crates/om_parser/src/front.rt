@@ -4,8 +4,8 @@ ghost use Rattle.std.specs.Prelude.{◌≡◌, option_map};
 ghost use Rattle.om_parser.specs.Reading.{take_mark, take_word, take_number, mark_at, word_at, name_at, number_at, syntax, too_deep, Reads, ReadsAlways};
 
 use om_lexer::{FaultCode, Keyword, Punctuator, SourceFault, Span, Token, TokenKind};
-use om_seq::Seq;
 use om_pragma::{Name, Number};
+use om_seq::Seq;
 use std::alloc::Global;
 
 /// The fault of tokens of which no tree has the first one there. None are left only where the

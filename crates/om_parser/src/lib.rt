@@ -13,8 +13,8 @@ mod unit;
 pub use om_pragma::{Name, Number};
 pub use tree::{
     ArrayLength, AssignOperator, BinaryOperator, Block, Condition, Declaration, Declarator,
-    Expression, ForHead, ForStart, Function, FunctionHead, Initializer, Item,
-    Parameter, Parameters, PostfixOperator, PrefixOperator, ResultType, Statement, Text, Unit,
+    Expression, ForHead, ForStart, Function, FunctionHead, Initializer, Item, Parameter,
+    Parameters, PostfixOperator, PrefixOperator, ResultType, Statement, Text, Unit,
 };
 pub use unit::{BLOCK_LIMIT, NESTING_LIMIT, STATEMENT_LIMIT, TOKEN_LIMIT, one_tree, parse};
 

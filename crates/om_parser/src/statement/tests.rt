@@ -89,7 +89,10 @@ fn statements(rt: HostRuntime) -> Result<(), Fail> {
         ("for (x = 1; x; x = x + 1) { }", "(for {})"),
         ("for (int i = 0, j; i; ) ;", "(for ;)"),
         ("return; return x;", "return;return e;"),
-        ("while (1) { break; continue; }", "(while {break;continue;})"),
+        (
+            "while (1) { break; continue; }",
+            "(while {break;continue;})",
+        ),
     ] {
         assert_eq!(rt; body(alloc, source)?.as_str(), wanted, "{source}");
     }
@@ -104,11 +107,23 @@ fn an_else_belongs_to_the_nearest_if(rt: HostRuntime) -> Result<(), Fail> {
         ("if (1) if (2) ; else ;", "(if (if ; else ;))"),
         ("if (1) if (2) ; else ; else ;", "(if (if ; else ;) else ;)"),
         ("if (1) { if (2) ; } else ;", "(if {(if ;)} else ;)"),
-        ("if (1) while (2) if (3) ; else ;", "(if (while (if ; else ;)))"),
-        ("if (1) for (;;) if (3) ; else ;", "(if (for (if ; else ;)))"),
-        ("if (1) do if (2) ; while (3); else ;", "(if (do (if ;)) else ;)"),
+        (
+            "if (1) while (2) if (3) ; else ;",
+            "(if (while (if ; else ;)))",
+        ),
+        (
+            "if (1) for (;;) if (3) ; else ;",
+            "(if (for (if ; else ;)))",
+        ),
+        (
+            "if (1) do if (2) ; while (3); else ;",
+            "(if (do (if ;)) else ;)",
+        ),
         ("if (1) ; else if (2) ; else ;", "(if ; else (if ; else ;))"),
-        ("if (1) ; else while (2) if (3) ; else ;", "(if ; else (while (if ; else ;)))"),
+        (
+            "if (1) ; else while (2) if (3) ; else ;",
+            "(if ; else (while (if ; else ;)))",
+        ),
     ] {
         assert_eq!(rt; body(alloc, source)?.as_str(), wanted, "{source}");
     }
@@ -141,7 +156,11 @@ fn the_first_token_that_no_statement_has_there(rt: HostRuntime) -> Result<(), Fa
         let source = format!(in alloc; "void f(void){{{before}{rest}}}")?;
         let at = 13 + before.len();
         let wanted = format!(in alloc; "S3 at {at}")?;
-        assert_eq!(rt; shown(alloc, source.as_bytes())?.as_str(), wanted.as_str(), "{source}");
+        assert_eq!(rt;
+            shown(alloc, source.as_bytes())?.as_str(),
+            wanted.as_str(),
+            "{source}"
+        );
     }
     Ok(())
 }
