@@ -1,5 +1,5 @@
 -- What stands behind a clause's word: what is read is spelled so, and what is spelled is read again.
-use Rattle.std.proofs.Common.{◌≡◌, ℕ, suc, ◌<◌, ◌≤◌, List, [], ◌∷◌, ◌++◌, length, Option, Some, None, Bool, true, false, cond, Result, Ok, Err, refl, sym, ap, subst, ◌∙◌, arith, append_assoc, length-append, ◌⊎◌, inl, inr}
+use Rattle.std.proofs.Common.{◌≡◌, ℕ, suc, ◌<◌, ◌≤◌, List, [], ◌∷◌, ◌++◌, length, Option, Some, None, Bool, true, false, cond, Result, Ok, refl, sym, ap, subst, ◌∙◌, arith, append_assoc, inl, inr}
 use Rattle.std.specs.Prelude.{◌-◌, ◌+◌, ◌==◌, nat_le, IsSomeAnd, if◌then◌else◌}
 use Rattle.std.specs.List.{flat_map}
 use Rattle.std.proofs.lemmas.Bool.{eqb-true, leb-true, le-leb}
@@ -32,8 +32,8 @@ use Rattle.om_pragma.specs.Reading.{◌>>=◌, choose, place, known, among, take
 use Rattle.om_pragma.specs.Spelling.{token, mark, name, number, further_spelling, names_spelling, list_spelling, chunk_spelling, argument_spelling, value_kind, data_kind, plain_kind, kind_of, span_of}
 use Rattle.om_pragma.specs.Table.{EachBehind, IsChunk, IsClause}
 use Rattle.om_pragma.specs.Words.{same_kind, same_mark, same_keyword, sharing_word, operator_word, schedule_word}
-use Rattle.om_pragma.proofs.Outcomes.{ok, ok_is, ok_err, some, some_is, none_some, bind_ok, choose_cases, known_ok, cond_some, after_front, after_token}
-use Rattle.om_pragma.proofs.Passing.{Ends, until_ends, until_passes, so_many}
+use Rattle.om_pragma.proofs.Outcomes.{ok, ok_is, ok_err, some, some_is, none_some, bind_ok, choose_cases, known_ok, cond_some, after_front}
+use Rattle.om_pragma.proofs.Passing.{until_ends, until_passes, so_many}
 use Rattle.om_pragma.proofs.Taken.{same_kind_is, take_kind_is, take_word_is, mark_at_is, name_at_is, take_mark_again, mark_again, name_again, word_again}
 
 abbrev pub IsAny : {A : Type 0} → List A → A → Type 0

@@ -1,8 +1,7 @@
 -- A directive that is read is spelled so, and one that is spelled is read again.
-use Rattle.std.proofs.Common.{◌≡◌, ℕ, suc, List, [], ◌∷◌, ◌++◌, length, Option, Some, None, Bool, true, false, cond, Result, Ok, Err, refl, sym, ap, subst, ◌∙◌, ◌<◌, arith, append_assoc, length-append, ◌⊎◌, inl, inr}
+use Rattle.std.proofs.Common.{◌≡◌, ℕ, suc, List, [], ◌∷◌, ◌++◌, length, Option, Some, None, Bool, true, false, Ok, refl, sym, ap, subst, ◌∙◌, ◌<◌, arith, length-append, inl, inr}
 use Rattle.std.specs.List.{flat_map}
 use Rattle.std.specs.Prelude.{not, ◌&&◌}
-use Rattle.om_lexer.specs.declared.fault.SourceFault.{SourceFault}
 use Rattle.om_lexer.specs.declared.token.Punctuator.TheVariants as punctuators
 use Rattle.om_lexer.specs.declared.token.Span.{Span}
 use Rattle.om_lexer.specs.declared.token.Token.{Token}
@@ -18,12 +17,12 @@ use Rattle.om_pragma.specs.declared.word.DirectiveWord.TheVariants as words
 use Rattle.om_pragma.specs.Expressions.{IsClosed}
 use Rattle.om_pragma.specs.Reading.{◌>>=◌, Outcome, stopped, syntax_at, opening_at, directive_name_at, take_end, is_end, until, item_at, clauses_at, directive_at}
 use Rattle.om_pragma.specs.Refusals.{GoesOnWith, IsWhole, IsWrittenItem}
-use Rattle.om_pragma.specs.Spelling.{token, mark, opening_spelling, name_spelling, comma_spelling, clause_spelling, argument_spelling, item_spelling, directive_spelling, kind_of, span_of}
+use Rattle.om_pragma.specs.Spelling.{token, opening_spelling, name_spelling, comma_spelling, clause_spelling, argument_spelling, item_spelling, directive_spelling, kind_of, span_of}
 use Rattle.om_pragma.specs.Table.{EachBehind, IsBetween, IsItem, IsDirective, IsDirectiveOf}
-use Rattle.om_pragma.specs.Words.{same_kind, same_mark, same_keyword, is_word, directive_word, clause_word}
-use Rattle.om_pragma.proofs.Items.{clause_is_word, item_is, item_again, item_no_end, some_item}
-use Rattle.om_pragma.proofs.Names.{stopped_ok, IsNameRead, directive_name_is, directive_name_again, opening_is, opening_again}
-use Rattle.om_pragma.proofs.Outcomes.{ok, ok_is, ok_err, err, some, none_some, bind_ok, cond_some}
+use Rattle.om_pragma.specs.Words.{same_kind, same_mark, same_keyword, directive_word, clause_word}
+use Rattle.om_pragma.proofs.Items.{item_is, item_again, item_no_end, some_item}
+use Rattle.om_pragma.proofs.Names.{stopped_ok, directive_name_is, directive_name_again, opening_is, opening_again}
+use Rattle.om_pragma.proofs.Outcomes.{ok, ok_is, ok_err, some, none_some, bind_ok, cond_some}
 use Rattle.om_pragma.proofs.Passing.{Ends, until_ends, until_passes, so_many}
 
 -- ---- clauses up to the end

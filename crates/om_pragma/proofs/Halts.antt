@@ -1,7 +1,6 @@
 -- The place of an S3 is the first token that no directive has there.
-use Rattle.std.proofs.Common.{◌≡◌, ◌≢◌, ℕ, zero, suc, ◌<◌, List, [], ◌∷◌, ◌++◌, length, Option, Some, None, Bool, true, false, cond, Result, Ok, Err, refl, sym, ap, subst, ◌∙◌, arith, append_assoc, ◌⊎◌, inl, inr}
+use Rattle.std.proofs.Common.{◌≡◌, ℕ, zero, suc, ◌<◌, List, [], ◌∷◌, ◌++◌, length, Option, Some, None, Bool, true, false, cond, Result, Ok, Err, refl, sym, ap, subst, ◌∙◌, arith, append_assoc, ◌⊎◌, inl, inr}
 use Rattle.std.proofs.lemmas.List.{append-nil}
-use Rattle.std.specs.List.{flat_map}
 use Rattle.om_lexer.specs.declared.fault.FaultCode.TheVariants as codes
 use Rattle.om_lexer.specs.declared.fault.SourceFault.{SourceFault}
 use Rattle.om_lexer.specs.declared.token.Punctuator.TheVariants as punctuators
@@ -21,18 +20,18 @@ use Rattle.om_pragma.specs.declared.tree.DirectiveName.TheVariants as directives
 use Rattle.om_pragma.specs.declared.word.DirectiveWord.{DirectiveWord}
 use Rattle.om_pragma.specs.declared.word.DirectiveWord.TheVariants as words
 use Rattle.om_pragma.specs.Expressions.{IsClosed}
-use Rattle.om_pragma.specs.Reading.{◌>>=◌, choose, Outcome, place, fault, stopped, in_clause, no_word, among, all_clauses, directive_words, take_kind, take_word, take_end, is_end, opening_at, critical_after, critical_at, list_after, names_at, flush_at, name_after, directive_name_at, clause_after, clause_at, comma_at, item_at, syntax_at, until, clauses_at, directive_at}
-use Rattle.om_pragma.specs.Refusals.{GoesOnWith, IsWhole, IsWrittenItem, BeginsDirective, StopsAt, EndsOnce}
-use Rattle.om_pragma.specs.Spelling.{token, mark, name, names_spelling, list_spelling, critical_spelling, flush_spelling, opening_spelling, name_spelling, comma_spelling, argument_spelling, clause_spelling, item_spelling, directive_spelling, kind_of, span_of}
+use Rattle.om_pragma.specs.Reading.{choose, place, fault, stopped, in_clause, no_word, among, all_clauses, directive_words, take_kind, take_word, take_end, is_end, opening_at, critical_after, critical_at, list_after, names_at, flush_at, name_after, directive_name_at, clause_after, clause_at, comma_at, item_at, syntax_at, until, clauses_at, directive_at}
+use Rattle.om_pragma.specs.Refusals.{IsWhole, IsWrittenItem, BeginsDirective, StopsAt, EndsOnce}
+use Rattle.om_pragma.specs.Spelling.{token, mark, list_spelling, critical_spelling, flush_spelling, opening_spelling, name_spelling, comma_spelling, argument_spelling, clause_spelling, item_spelling, directive_spelling, kind_of, span_of}
 use Rattle.om_pragma.specs.Table.{may_stand, kinds_of, EachBehind, IsBetween, IsClause, IsItem}
-use Rattle.om_pragma.specs.Words.{same_kind, is_word, directive_word, clause_word}
+use Rattle.om_pragma.specs.Words.{directive_word, clause_word}
 use Rattle.om_pragma.proofs.Arguments.{clause_again}
 use Rattle.om_pragma.proofs.Directives.{Items, spelling, clauses_end, clauses_pass, directive_parts, each_written, whole_written, ends_at, end_is}
 use Rattle.om_pragma.proofs.Items.{clause_known, clause_is_word, comma_is, comma_again, take_no_end, some_item}
-use Rattle.om_pragma.proofs.Names.{stopped_ok, directive_name_is, directive_name_again, name_after_again, opening_is, opening_again}
-use Rattle.om_pragma.proofs.Outcomes.{ok, err, ok_is, err_is, ok_err, some, bind_err, choose_cases}
+use Rattle.om_pragma.proofs.Names.{stopped_ok, directive_name_is, name_after_again, opening_is, opening_again}
+use Rattle.om_pragma.proofs.Outcomes.{ok, err, err_is, ok_err, some, bind_err, choose_cases}
 use Rattle.om_pragma.proofs.Passing.{so_many}
-use Rattle.om_pragma.proofs.Stops.{IsStuck, LooksAtFirst, no_span, no_name, list_tokens, names_stuck, critical_stuck, opening_stuck, kind_looks, flat_more}
+use Rattle.om_pragma.proofs.Stops.{no_span, names_stuck, critical_stuck, opening_stuck, kind_looks, flat_more}
 use Rattle.om_pragma.proofs.Taken.{take_kind_is, take_word_is, take_mark_again, word_again}
 
 -- ---- a directive by the grammar alone is refused with no S3

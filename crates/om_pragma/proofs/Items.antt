@@ -1,5 +1,5 @@
 -- Clauses in their row: what is read is spelled so, and what is spelled is read again.
-use Rattle.std.proofs.Common.{◌≡◌, ℕ, ◌<◌, List, [], ◌∷◌, ◌++◌, length, Option, Some, None, Bool, true, false, cond, Result, Ok, Err, refl, sym, ap, subst, ◌∙◌, arith, append_assoc, length-append, ◌⊎◌, inl, inr}
+use Rattle.std.proofs.Common.{◌≡◌, ℕ, ◌<◌, List, [], ◌∷◌, ◌++◌, length, Option, Some, None, Bool, true, false, cond, Result, Ok, Err, refl, ap, subst, ◌∙◌, arith, append_assoc, length-append, inl, inr}
 use Rattle.om_lexer.specs.declared.fault.FaultCode.TheVariants as fault_codes
 use Rattle.om_lexer.specs.declared.token.Punctuator.{Punctuator}
 use Rattle.om_lexer.specs.declared.token.Punctuator.TheVariants as punctuators
@@ -13,12 +13,12 @@ use Rattle.om_pragma.specs.declared.clause.ClauseKind.{ClauseKind}
 use Rattle.om_pragma.specs.declared.clause.ClauseKind.TheVariants as clause_kinds
 use Rattle.om_pragma.specs.declared.tree.DirectiveName.{DirectiveName}
 use Rattle.om_pragma.specs.Expressions.{IsClosed}
-use Rattle.om_pragma.specs.Reading.{◌>>=◌, choose, Outcome, fault, among, all_clauses, take_kind, take_word, take_end, is_end, in_clause, no_word, clause_after, clause_at, comma_at, item_at}
-use Rattle.om_pragma.specs.Spelling.{token, mark, argument_spelling, clause_spelling, comma_spelling, item_spelling, kind_of, span_of}
+use Rattle.om_pragma.specs.Reading.{choose, fault, among, all_clauses, take_kind, take_word, take_end, is_end, in_clause, clause_after, clause_at, comma_at, item_at}
+use Rattle.om_pragma.specs.Spelling.{token, argument_spelling, clause_spelling, comma_spelling, item_spelling, kind_of, span_of}
 use Rattle.om_pragma.specs.Table.{may_stand, kinds_of, IsBetween, IsClause, IsItem}
 use Rattle.om_pragma.specs.Words.{same_kind, same_keyword, is_word, clause_word}
-use Rattle.om_pragma.proofs.Arguments.{IsRead, clause_after_is, clause_again}
-use Rattle.om_pragma.proofs.Outcomes.{ok, ok_is, err, some, bind_ok, choose_cases, after_front}
+use Rattle.om_pragma.proofs.Arguments.{clause_after_is, clause_again}
+use Rattle.om_pragma.proofs.Outcomes.{ok, ok_is, some, bind_ok, choose_cases, after_front}
 use Rattle.om_pragma.proofs.Taken.{take_kind_is, take_word_is, take_mark_again, word_again}
 
 -- ---- the words of clauses

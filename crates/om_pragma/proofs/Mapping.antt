@@ -1,17 +1,16 @@
 -- A directive with other expressions in place of its own.
-use Rattle.std.proofs.Common.{◌≡◌, ℕ, List, [], ◌∷◌, ◌++◌, length, map, Option, Some, None, refl, ap, sym, subst, ◌∙◌}
+use Rattle.std.proofs.Common.{◌≡◌, List, [], ◌∷◌, ◌++◌, map, Option, Some, None, refl, ap, subst}
 use Rattle.std.specs.List.{flat_map}
 use Rattle.om_lexer.specs.declared.token.Span.{Span}
 use Rattle.om_lexer.specs.declared.token.Token.{Token}
-use Rattle.om_lexer.specs.declared.token.TokenKind.TheVariants as kinds
 use Rattle.om_pragma.specs.declared.clause.Clause.{Clause}
 use Rattle.om_pragma.specs.declared.clause.Clause.TheVariants as clauses
 use Rattle.om_pragma.specs.declared.clause.ClauseItem.{ClauseItem}
 use Rattle.om_pragma.specs.declared.tree.Directive.{Directive}
 use Rattle.om_pragma.specs.declared.tree.DirectiveName.{DirectiveName}
 use Rattle.om_pragma.specs.Expressions.{clause_expressions, expressions, map_clause, map_item, map_directive}
-use Rattle.om_pragma.specs.Spelling.{token, argument_spelling, clause_spelling, item_spelling, name_spelling, opening_spelling, directive_spelling, kind_of}
-use Rattle.om_pragma.specs.Table.{may_stand, kinds_of, IsBetween, IsClause, IsItem, EachBehind, IsDirective}
+use Rattle.om_pragma.specs.Spelling.{argument_spelling, clause_spelling, item_spelling, directive_spelling, kind_of}
+use Rattle.om_pragma.specs.Table.{kinds_of, IsBetween, IsClause, IsItem, EachBehind, IsDirective}
 use Rattle.om_pragma.proofs.Rows.{map_more}
 
 module _ {E F : Type 0} (f : E → F) where

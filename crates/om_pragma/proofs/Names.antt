@@ -1,5 +1,5 @@
 -- The words of a directive: what is read is spelled so, and what is spelled is read again.
-use Rattle.std.proofs.Common.{◌≡◌, ℕ, List, [], ◌∷◌, ◌++◌, Option, Some, None, Bool, true, false, cond, Result, Ok, Err, refl, sym, ap, subst, ◌∙◌, append_assoc, ◌⊎◌, inl, inr}
+use Rattle.std.proofs.Common.{◌≡◌, ℕ, List, [], ◌∷◌, ◌++◌, Option, Some, None, Bool, true, false, cond, Result, Ok, Err, refl, sym, ap, subst, ◌∙◌, inl, inr}
 use Rattle.std.specs.Prelude.{codes}
 use Rattle.om_lexer.specs.declared.fault.SourceFault.{SourceFault}
 use Rattle.om_lexer.specs.declared.token.Punctuator.TheVariants as punctuators
@@ -12,12 +12,12 @@ use Rattle.om_pragma.specs.declared.tree.DirectiveName.{DirectiveName}
 use Rattle.om_pragma.specs.declared.tree.DirectiveName.TheVariants as directives
 use Rattle.om_pragma.specs.declared.word.DirectiveWord.{DirectiveWord}
 use Rattle.om_pragma.specs.declared.word.DirectiveWord.TheVariants as words
-use Rattle.om_pragma.specs.Reading.{◌>>=◌, Outcome, stopped, known, among, directive_words, take_kind, take_word, mark_at, name_at, list_after, critical_after, critical_at, flush_at, parallel_at, name_after, directive_name_at, opening_at}
-use Rattle.om_pragma.specs.Refusals.{GoesOnWith, IsWhole}
+use Rattle.om_pragma.specs.Reading.{Outcome, stopped, known, among, directive_words, take_kind, take_word, mark_at, name_at, list_after, critical_after, critical_at, flush_at, parallel_at, name_after, directive_name_at, opening_at}
+use Rattle.om_pragma.specs.Refusals.{IsWhole}
 use Rattle.om_pragma.specs.Spelling.{token, mark, name, list_spelling, names_spelling, critical_spelling, flush_spelling, name_spelling, opening_spelling}
 use Rattle.om_pragma.specs.Words.{same_kind, same_mark, same_keyword, directive_word}
 use Rattle.om_pragma.proofs.Arguments.{list_after_is, list_after_again}
-use Rattle.om_pragma.proofs.Outcomes.{ok, ok_is, some, some_is, bind_ok, choose_cases, known_ok}
+use Rattle.om_pragma.proofs.Outcomes.{ok, ok_is, some, bind_ok, choose_cases, known_ok}
 use Rattle.om_pragma.proofs.Taken.{same_kind_is, take_kind_is, take_word_is, mark_at_is, name_at_is, take_mark_again, mark_again, name_again, word_again}
 
 pub directive_known : (w : DirectiveWord) → among directive_word directive_words (directive_word w) ≡ some w

@@ -1,7 +1,7 @@
 -- Outcomes of reading, step by step.
 use Rattle.std.proofs.Common.{◌≡◌, List, ◌∷◌, ◌++◌, Option, Some, None, Result, Ok, Err, refl, ap, ◌∙◌, sym, cond, Bool, true, false, ◌⊎◌, inl, inr, append_assoc}
 use Rattle.om_lexer.specs.declared.token.Token.{Token}
-use Rattle.om_pragma.specs.Reading.{◌>>=◌, choose, known, place}
+use Rattle.om_pragma.specs.Reading.{◌>>=◌, choose, known}
 
 abbrev pub ok : {A X : Type 0} → A → Result A X
 ok x = Ok x

@@ -1,10 +1,10 @@
 -- What a row of items that is read consists of, and that such a row is read again.
-use Rattle.std.proofs.Common.{◌≡◌, ℕ, zero, suc, ◌+◌, ◌<◌, ◌≤◌, List, [], ◌∷◌, ◌++◌, length, Option, Some, None, Result, Ok, Err, refl, sym, ap, subst, ◌∙◌, arith, append_assoc, length-append, ◌⊎◌, inl, inr}
+use Rattle.std.proofs.Common.{◌≡◌, ℕ, zero, suc, ◌<◌, ◌≤◌, List, [], ◌∷◌, ◌++◌, length, Option, Some, None, Result, Ok, Err, refl, sym, ap, subst, ◌∙◌, arith, append_assoc, length-append, ◌⊎◌, inl, inr}
 use Rattle.std.proofs.lemmas.List.{append-nil}
 use Rattle.std.specs.List.{flat_map}
 use Rattle.om_lexer.specs.declared.token.Span.{Span}
 use Rattle.om_lexer.specs.declared.token.Token.{Token}
-use Rattle.om_pragma.specs.Reading.{◌>>=◌, until}
+use Rattle.om_pragma.specs.Reading.{until}
 use Rattle.om_pragma.specs.Table.{EachBehind}
 use Rattle.om_pragma.proofs.Outcomes.{ok, err, some}
 use Rattle.om_pragma.proofs.Rows.{Ender, Rows}

@@ -1,5 +1,5 @@
 -- What is refused breaks its rule, and what breaks a rule is refused there.
-use Rattle.std.proofs.Common.{◌≡◌, ◌≢◌, ℕ, suc, List, [], ◌∷◌, ◌++◌, Option, Some, None, Bool, true, false, cond, Result, Ok, Err, refl, sym, ap, subst, ◌∙◌, append_assoc, ◌⊎◌, inl, inr}
+use Rattle.std.proofs.Common.{◌≡◌, ◌≢◌, ℕ, suc, List, [], ◌∷◌, ◌++◌, Option, Some, None, Bool, true, false, cond, Result, Ok, Err, refl, sym, ap, subst, ◌∙◌, ◌⊎◌, inl, inr}
 use Rattle.om_lexer.specs.declared.fault.FaultCode.{FaultCode}
 use Rattle.om_lexer.specs.declared.fault.FaultCode.TheVariants as codes
 use Rattle.om_lexer.specs.declared.fault.SourceFault.{SourceFault}
@@ -15,16 +15,16 @@ use Rattle.om_pragma.specs.declared.tree.DirectiveName.{DirectiveName}
 use Rattle.om_pragma.specs.declared.word.DirectiveWord.{DirectiveWord}
 use Rattle.om_pragma.specs.declared.word.DirectiveWord.TheVariants as words
 use Rattle.om_pragma.specs.Expressions.{IsClosed}
-use Rattle.om_pragma.specs.Reading.{◌>>=◌, choose, Outcome, fault, stopped, in_clause, no_word, among, all_clauses, directive_words, take_kind, take_word, take_end, opening_at, critical_after, critical_at, list_after, flush_at, name_after, directive_name_at, clause_after, clause_at, comma_at, item_at, syntax_at, until, clauses_at, directive_at}
-use Rattle.om_pragma.specs.Refusals.{StandsClause, IsUnknownDirective, IsUnknownClause, IsBadClause, IsWordFault, IsSyntax, IsRefusal}
-use Rattle.om_pragma.specs.Spelling.{token, opening_spelling, name_spelling, comma_spelling, argument_spelling, clause_spelling, item_spelling, kind_of, span_of}
+use Rattle.om_pragma.specs.Reading.{fault, stopped, in_clause, no_word, among, all_clauses, directive_words, take_kind, take_word, take_end, opening_at, critical_after, critical_at, list_after, flush_at, name_after, directive_name_at, clause_after, clause_at, comma_at, item_at, syntax_at, until, clauses_at, directive_at}
+use Rattle.om_pragma.specs.Refusals.{StandsClause, IsUnknownDirective, IsUnknownClause, IsBadClause, IsWordFault, IsRefusal}
+use Rattle.om_pragma.specs.Spelling.{token, opening_spelling, comma_spelling, argument_spelling, clause_spelling, kind_of, span_of}
 use Rattle.om_pragma.specs.Table.{may_stand, kinds_of, EachBehind, IsClause, IsItem, IsDirectiveOf}
 use Rattle.om_pragma.specs.Words.{same_kind, is_word, directive_word, clause_word}
-use Rattle.om_pragma.proofs.Arguments.{IsRead, clause_after_is, clause_again}
-use Rattle.om_pragma.proofs.Directives.{Items, spelling, clauses_end, clauses_pass, directive_is, directive_parts, read_again}
+use Rattle.om_pragma.proofs.Arguments.{clause_after_is, clause_again}
+use Rattle.om_pragma.proofs.Directives.{Items, spelling, clauses_end, clauses_pass, directive_parts, read_again}
 use Rattle.om_pragma.proofs.Items.{clause_known, clause_is_word, comma_is, comma_again, take_no_end}
 use Rattle.om_pragma.proofs.Names.{stopped_ok, directive_known, directive_name_is, opening_is, opening_again}
-use Rattle.om_pragma.proofs.Outcomes.{ok, err, ok_is, err_is, ok_err, some, some_is, none_some, bind_err, choose_cases}
+use Rattle.om_pragma.proofs.Outcomes.{ok, err, err_is, ok_err, some, some_is, bind_err, choose_cases}
 use Rattle.om_pragma.proofs.Taken.{same_kind_is, take_word_is, word_again}
 
 -- ---- words that are not known

@@ -1,12 +1,12 @@
 -- Reading items one after the other, as a loop does.
-use Rattle.std.proofs.Common.{◌≡◌, ℕ, zero, suc, ◌<◌, List, [], ◌∷◌, ◌++◌, length, Option, Some, None, Result, Ok, Err, refl, ap, sym, ◌∙◌, arith, map, ◌⊎◌, inl, inr}
+use Rattle.std.proofs.Common.{◌≡◌, ℕ, zero, suc, ◌<◌, List, [], ◌∷◌, ◌++◌, length, Option, None, Result, Err, refl, ap, sym, ◌∙◌, arith, map, ◌⊎◌, inl, inr}
 use Rattle.om_lexer.specs.Faults.{no_memory}
 use Rattle.om_lexer.specs.declared.fault.SourceFault.{SourceFault}
 use Rattle.om_lexer.specs.declared.token.Span.{Span}
 use Rattle.om_lexer.specs.declared.token.Token.{Token}
 use Rattle.om_pragma.specs.declared.stop.Stop.{Stop}
 use Rattle.om_pragma.specs.declared.stop.Stop.TheVariants as stops
-use Rattle.om_pragma.specs.Reading.{◌>>=◌, Outcome, until, place, syntax_at, IsStopped}
+use Rattle.om_pragma.specs.Reading.{Outcome, until, place, syntax_at, IsStopped}
 use Rattle.om_pragma.proofs.Outcomes.{ok, err, some}
 
 abbrev pub Ender : Type 0

@@ -1,5 +1,5 @@
 -- The kinds of clauses stay when their expressions change.
-use Rattle.std.proofs.Common.{◌≡◌, List, [], ◌∷◌, map, refl, ap, Bool, ◌||◌}
+use Rattle.std.proofs.Common.{◌≡◌, List, [], ◌∷◌, map, refl}
 use Rattle.std.specs.List.{list_any}
 use denote.Ref.{Bor}
 use Rattle.om_lexer.specs.declared.token.Token.{Token}

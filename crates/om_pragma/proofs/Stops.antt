@@ -1,10 +1,8 @@
 -- Where reading stops with S3: some directive begins with the tokens before, and none goes on with the token there.
-use Rattle.std.proofs.Common.{◌≡◌, ℕ, zero, suc, ◌<◌, List, [], ◌∷◌, ◌++◌, length, Option, Some, None, Bool, true, false, cond, Result, Ok, Err, refl, sym, ap, subst, ◌∙◌, arith, append_assoc, ◌⊎◌, inl, inr}
+use Rattle.std.proofs.Common.{◌≡◌, ℕ, suc, List, [], ◌∷◌, ◌++◌, length, Option, Some, None, Bool, true, false, cond, refl, sym, ap, subst, ◌∙◌, arith, append_assoc, inl, inr}
 use Rattle.std.proofs.lemmas.List.{append-nil}
 use Rattle.std.specs.Prelude.{codes}
 use Rattle.std.specs.List.{flat_map}
-use Rattle.om_lexer.specs.declared.fault.FaultCode.TheVariants as fault_codes
-use Rattle.om_lexer.specs.declared.fault.SourceFault.{SourceFault}
 use Rattle.om_lexer.specs.declared.token.Punctuator.{Punctuator}
 use Rattle.om_lexer.specs.declared.token.Punctuator.TheVariants as punctuators
 use Rattle.om_lexer.specs.declared.token.Span.{Span}
@@ -12,14 +10,13 @@ use Rattle.om_lexer.specs.declared.token.Token.{Token}
 use Rattle.om_lexer.specs.declared.token.TokenKind.{TokenKind}
 use Rattle.om_lexer.specs.declared.token.TokenKind.TheVariants as kinds
 use Rattle.om_pragma.specs.declared.name.Name as names
-use Rattle.om_pragma.specs.declared.name.NameList as lists
-use Rattle.om_pragma.specs.Reading.{◌>>=◌, choose, Part, place, known, take_kind, take_name, name_of, mark_at, name_at, until, further_at, names_at, list_after, critical_after, opening_at}
-use Rattle.om_pragma.specs.Spelling.{token, mark, name, further_spelling, names_spelling, list_spelling, opening_spelling}
+use Rattle.om_pragma.specs.Reading.{choose, Part, place, known, take_kind, take_name, name_of, mark_at, name_at, until, further_at, names_at, critical_after, opening_at}
+use Rattle.om_pragma.specs.Spelling.{token, mark, name, further_spelling, names_spelling, opening_spelling}
 use Rattle.om_pragma.specs.Table.{EachBehind}
 use Rattle.om_pragma.specs.Words.{same_kind, same_mark}
-use Rattle.om_pragma.proofs.Arguments.{IsAny, further_is, further_again, some_further, not_closed, each_any}
-use Rattle.om_pragma.proofs.Outcomes.{ok, err, err_is, ok_err, some, known_ok, bind_err}
-use Rattle.om_pragma.proofs.Passing.{Ends, until_ends, until_passes, so_many}
+use Rattle.om_pragma.proofs.Arguments.{IsAny, further_is, further_again, some_further, not_closed}
+use Rattle.om_pragma.proofs.Outcomes.{err, err_is, ok_err, some, known_ok, bind_err}
+use Rattle.om_pragma.proofs.Passing.{until_ends, until_passes, so_many}
 use Rattle.om_pragma.proofs.Taken.{take_kind_is, mark_at_is, name_at_is, mark_again, name_again}
 
 -- Reading a part stops at the first of the tokens that are left: the tokens before it begin such a part, and whatever stands behind it,

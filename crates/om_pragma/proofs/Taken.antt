@@ -1,7 +1,6 @@
 -- A token that is taken from the front is the one that stood there, and one that stands there is taken.
-use Rattle.std.proofs.Common.{◌≡◌, List, [], ◌∷◌, Option, Some, None, Bool, true, false, cond, refl, ap, ◌∙◌, sym, inl, inr, ◌⊎◌}
+use Rattle.std.proofs.Common.{◌≡◌, List, [], ◌∷◌, None, Bool, true, false, cond, refl, ap, ◌∙◌, inl, inr}
 use Rattle.std.proofs.lemmas.Slice.Eq.{bytes_eq-Decides}
-use Rattle.std.specs.Prelude.{bytes_eq}
 use denote.Enum.Bare.{same_true, true_same}
 use Rattle.om_lexer.specs.contracts.token.Keyword.{the_type as the_keywords}
 use Rattle.om_lexer.specs.contracts.token.Punctuator.{the_type as the_punctuators}
@@ -11,7 +10,7 @@ use Rattle.om_lexer.specs.declared.token.Token.{Token}
 use Rattle.om_lexer.specs.declared.token.TokenKind.{TokenKind}
 use Rattle.om_lexer.specs.declared.token.TokenKind.TheVariants as kinds
 use Rattle.om_pragma.specs.declared.name.Name as names
-use Rattle.om_pragma.specs.Reading.{among, take_kind, take_word, take_name, name_of, mark_at, name_at, known}
+use Rattle.om_pragma.specs.Reading.{among, take_kind, take_word, take_name, name_of, mark_at, name_at}
 use Rattle.om_pragma.specs.Spelling.{token, mark, name}
 use Rattle.om_pragma.specs.Words.{same_kind, same_mark, same_keyword}
 use Rattle.om_pragma.proofs.Outcomes.{ok, some, some_is, none_some, choose_cases, known_ok, cond_some}

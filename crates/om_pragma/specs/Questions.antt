@@ -1,5 +1,5 @@
 -- What a parser asks of a directive.
-use Rattle.std.specs.Prelude.{Bool, true, false, ◌||◌, if◌then◌else◌}
+use Rattle.std.specs.Prelude.{Bool, true, false, if◌then◌else◌}
 use Rattle.std.specs.List.{list_any}
 use Rattle.om_lexer.specs.declared.token.Span.{Span}
 use Rattle.om_pragma.specs.declared.clause.ClauseKind.{ClauseKind}

@@ -17,7 +17,6 @@ use Rattle.om_pragma.specs.declared.clause.ClauseKind.{ClauseKind}
 use Rattle.om_pragma.specs.declared.clause.ClauseKind.TheVariants as clause_kinds
 use Rattle.om_pragma.specs.declared.clause.DataSharing.{DataSharing}
 use Rattle.om_pragma.specs.declared.clause.DataSharing.TheVariants as data_kinds
-use Rattle.om_pragma.specs.declared.clause.PlainClause.{PlainClause}
 use Rattle.om_pragma.specs.declared.clause.PlainClause.TheVariants as plain_kinds
 use Rattle.om_pragma.specs.declared.clause.ReductionOperator.{ReductionOperator}
 use Rattle.om_pragma.specs.declared.clause.ReductionOperator.TheVariants as operators

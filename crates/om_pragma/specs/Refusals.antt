@@ -1,5 +1,5 @@
 -- Why the tokens of a directive line are refused, and where.
-use Rattle.std.specs.Prelude.{◌≡◌, ◌≢◌, ℕ, true, false, ◌⊎◌, List, [], ◌∷◌, ◌++◌, Option, Some, None, Result, Ok, Err}
+use Rattle.std.specs.Prelude.{◌≡◌, ◌≢◌, ℕ, true, false, ◌⊎◌, List, [], ◌∷◌, ◌++◌, Option, None, Result, Ok, Err}
 use Rattle.std.specs.List.{flat_map}
 use denote.Ref.{Bor}
 use Rattle.om_lexer.specs.declared.fault.FaultCode.{FaultCode}

@@ -1,4 +1,4 @@
-use Rattle.std.proofs.Common.{suc, [], length, map}
+use Rattle.std.proofs.Common.{length, map}
 use Rattle.om_pragma.specs.Expressions.{map_item, tokens_in}
 use Rattle.om_pragma.specs.Reading.{syntax_at, take_end, item_at, clauses_at}
 use Rattle.om_pragma.proofs.Rows.{GoesOn}
