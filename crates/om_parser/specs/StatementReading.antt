@@ -150,10 +150,14 @@ do_end p at s ts = do
 unfoldable pub do_after : Parts → Reader StatementTree → Span → Reader StatementTree
 do_after p statement at ts = statement ts >>= λ s. do_end p at s.0 s.1
 
+-- a declaration behind its `int`
+abbrev pub local_item_after : Parts → Span → Reader StatementTree
+local_item_after p int ts = p.declaration int ts >>= λ d. Ok (LocalDeclaration d.0, d.1)
+
 -- a declaration or a statement (C17 6.8.2)
 unfoldable pub block_item_at : Parts → Reader StatementTree → Reader StatementTree
 block_item_at p statement ts = choose (take_word keywords.Int ts)
-    (λ i. p.declaration i.0 i.1 >>= λ d. Ok (LocalDeclaration d.0, d.1))
+    (λ i. local_item_after p i.0 i.1)
     (statement ts)
 
 -- the items of a block behind its left brace, with room for so many blocks round it

@@ -5,6 +5,6 @@ use Rattle.om_parser.specs.StatementReading.{OpeningTree, OpensIf, OpensWhile, O
 use Rattle.om_parser.specs.View.{view_condition, view_for_head}
 
 abbrev pub view_opening : Opening → OpeningTree
-view_opening (openings.If at c) = OpensIf at (view_condition c)
-view_opening (openings.While at c) = OpensWhile at (view_condition c)
-view_opening (openings.For h) = OpensFor (view_for_head h)
+view_opening (openings.If at c) = OpensIf at (view_condition c.value)
+view_opening (openings.While at c) = OpensWhile at (view_condition c.value)
+view_opening (openings.For h) = OpensFor (view_for_head h.value)

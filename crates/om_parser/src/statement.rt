@@ -1,12 +1,12 @@
 //! Statements and blocks (C17 6.8).
 
-ghost use Rattle.std.specs.Prelude.{◌≡◌, length, map, option_map, Err};
+ghost use Rattle.std.specs.Prelude.{◌≡◌, IfOk, length, map, option_map, Err};
 ghost use Rattle.om_lexer.specs.declared.token.Punctuator.TheVariants.{CloseBrace};
 ghost use Rattle.om_parser.specs.Limits.{accepted};
 ghost use Rattle.om_parser.specs.PartReading.{block_at, parts};
 ghost use Rattle.om_parser.specs.Reading.{take_mark, Reads, ReadsAlways};
 ghost use Rattle.om_parser.specs.Repetition.{until};
-ghost use Rattle.om_parser.specs.StatementReading.{start_of, start_of_mark, start_of_word, condition_at, optional_before, for_start_at, for_head_after, opening_of, headed_of, behind_body, else_after, body_after, simple_of, return_after, jump_after, expression_statement_at, do_end, do_after, block_after, block_item_at, block_items_after, no_room, statement_at, block_with};
+ghost use Rattle.om_parser.specs.StatementReading.{start_of, start_of_mark, start_of_word, condition_at, optional_before, for_start_at, for_head_after, opening_of, headed_of, behind_body, else_after, body_after, simple_of, return_after, jump_after, expression_statement_at, do_end, do_after, block_after, local_item_after, block_item_at, block_items_after, no_room, statement_at, block_with};
 ghost use Rattle.om_parser.specs.Tree as trees;
 ghost use Rattle.om_parser.specs.StatementView.{view_opening};
 ghost use Rattle.om_parser.specs.View.{view_condition, view_expression, view_for_start, view_for_head, view_statement, view_block};
@@ -16,7 +16,7 @@ use crate::part::{declaration, enclosed, enclosed_declaration, expression};
 use crate::tree::{Block, Condition, Expression, ForHead, ForStart, Statement};
 use crate::unit::{BLOCK_LIMIT, STATEMENT_LIMIT};
 use om_lexer::{Keyword, Punctuator, SourceFault, Span, Token, TokenKind};
-use std::alloc::Global;
+use std::alloc::{AllocError, Global};
 
 /// Which statement a token begins.
 #[derive(Clone, Copy, Debug, PartialEq, Eq)]
@@ -100,14 +100,15 @@ fn block_after(
     tokens: &[Token],
     room: usize,
     blocks: usize,
-) -> Result<(Statement, &[Token]), SourceFault>
-    ensures { Reads (λ x. (view_statement x.0, x.1.now)) result (block_after (parts accepted) (statement_at (parts accepted) room) blocks open_brace tokens.now) }
+) -> Result<(Box<Statement>, &[Token]), SourceFault>
+    ensures { Reads (λ x. (view_statement x.0.value, x.1.now)) result (block_after (parts accepted) (statement_at (parts accepted) room) blocks open_brace tokens.now) }
 {
     let Some(blocks) = blocks.checked_sub(1) else {
         return Err(too_deep(open_brace));
     };
     let (items, close_brace, rest) = items(alloc, tokens, room, blocks)?;
-    Ok((Statement::Block(open_brace, items, close_brace), rest))
+    let block = block_of(alloc, open_brace, items, close_brace)?;
+    Ok((block, rest))
 }
 
 /// A `do`, of which the word is taken, and the tokens behind it.
@@ -119,8 +120,8 @@ fn do_after(
     tokens: &[Token],
     room: usize,
     blocks: usize,
-) -> Result<(Statement, &[Token]), SourceFault>
-    ensures { Reads (λ x. (view_statement x.0, x.1.now)) result (do_after (parts accepted) (statement_at (parts accepted) room blocks) at tokens.now) }
+) -> Result<(Box<Statement>, &[Token]), SourceFault>
+    ensures { Reads (λ x. (view_statement x.0.value, x.1.now)) result (do_after (parts accepted) (statement_at (parts accepted) room blocks) at tokens.now) }
 {
     let (body, rest) = statement(alloc, tokens, room, blocks)?;
     do_end(alloc, at, body, rest)
@@ -143,7 +144,7 @@ fn items(
             return Ok((items, close_brace, after));
         }
         let (next, after) = block_item(alloc, rest, room, blocks)?;
-        items.push(next)?;
+        items.push(Box::into_inner(next))?;
         rest = after;
     }
 }
@@ -156,14 +157,11 @@ fn block_item(
     tokens: &[Token],
     room: usize,
     blocks: usize,
-) -> Result<(Statement, &[Token]), SourceFault>
-    ensures { Reads (λ x. (view_statement x.0, x.1.now)) result (block_item_at (parts accepted) (statement_at (parts accepted) room blocks) tokens.now) }
+) -> Result<(Box<Statement>, &[Token]), SourceFault>
+    ensures { Reads (λ x. (view_statement x.0.value, x.1.now)) result (block_item_at (parts accepted) (statement_at (parts accepted) room blocks) tokens.now) }
 {
     match take_word(tokens, Keyword::Int) {
-        Some((int, rest)) => {
-            let (declaration, rest) = declaration(alloc, int, rest)?;
-            Ok((Statement::Declaration(declaration), rest))
-        }
+        Some((int, rest)) => declaration_item(alloc, int, rest),
         None => statement(alloc, tokens, room, blocks),
     }
 }
@@ -176,8 +174,8 @@ fn statement(
     tokens: &[Token],
     room: usize,
     blocks: usize,
-) -> Result<(Statement, &[Token]), SourceFault>
-    ensures { Reads (λ x. (view_statement x.0, x.1.now)) result (statement_at (parts accepted) room blocks tokens.now) }
+) -> Result<(Box<Statement>, &[Token]), SourceFault>
+    ensures { Reads (λ x. (view_statement x.0.value, x.1.now)) result (statement_at (parts accepted) room blocks tokens.now) }
 {
     let [first, rest @ ..] = tokens else {
         return Err(syntax(tokens));
@@ -192,7 +190,7 @@ fn statement(
         Start::While => headed(alloc, start, first.span, rest, room, blocks),
         Start::For => headed(alloc, start, first.span, rest, room, blocks),
         Start::Do => do_after(alloc, first.span, rest, room, blocks),
-        _ => simple(alloc, start, first.span, rest, tokens),
+        _ => simple_boxed(alloc, start, first.span, rest, tokens),
     }
 }
 
@@ -210,9 +208,106 @@ fn no_room(start: Start, tokens: &[Token], first: Span) -> SourceFault
 /// What stands before the statement that is its body.
 #[derive(Debug, Drop)]
 enum Opening {
-    If(Span, Condition),
-    While(Span, Condition),
-    For(ForHead),
+    If(Span, Box<Condition>),
+    While(Span, Box<Condition>),
+    For(Box<ForHead>),
+}
+
+// The functions of the recursion hold a statement and its parts in boxes, and leave it to these to
+// put them together, so that their frames are small.
+
+/// A block of these parts.
+fn block_of(
+    alloc: Global,
+    open_brace: Span,
+    items: Vec<Statement>,
+    close_brace: Span,
+) -> Result<Box<Statement>, AllocError>
+    ensures { IfOk result (λ s. view_statement s.value ≡ trees.Block open_brace (trees.statements (map view_statement items.items)) close_brace) }
+{
+    Ok(Box::new(alloc, Statement::Block(open_brace, items, close_brace))?)
+}
+
+/// An `if` of these parts, without `else`.
+fn if_of(
+    alloc: Global,
+    at: Span,
+    condition: Box<Condition>,
+    body: Box<Statement>,
+) -> Result<Box<Statement>, AllocError>
+    ensures { IfOk result (λ s. view_statement s.value ≡ trees.If at (view_condition condition.value) (view_statement body.value)) }
+{
+    Ok(Box::new(alloc, Statement::If(at, Box::into_inner(condition), body))?)
+}
+
+/// An `if` of these parts, with `else`.
+fn if_else_of(
+    alloc: Global,
+    at: Span,
+    condition: Box<Condition>,
+    body: Box<Statement>,
+    other: Span,
+    second: Box<Statement>,
+) -> Result<Box<Statement>, AllocError>
+    ensures { IfOk result (λ s. view_statement s.value ≡ trees.IfElse at (view_condition condition.value) (view_statement body.value) other (view_statement second.value)) }
+{
+    let condition = Box::into_inner(condition);
+    Ok(Box::new(alloc, Statement::IfElse(at, condition, body, other, second))?)
+}
+
+/// A `while` of these parts.
+fn while_of(
+    alloc: Global,
+    at: Span,
+    condition: Box<Condition>,
+    body: Box<Statement>,
+) -> Result<Box<Statement>, AllocError>
+    ensures { IfOk result (λ s. view_statement s.value ≡ trees.While at (view_condition condition.value) (view_statement body.value)) }
+{
+    Ok(Box::new(
+        alloc,
+        Statement::While(at, Box::into_inner(condition), body),
+    )?)
+}
+
+/// A `for` of these parts.
+fn for_of(
+    alloc: Global,
+    head: Box<ForHead>,
+    body: Box<Statement>,
+) -> Result<Box<Statement>, AllocError>
+    ensures { IfOk result (λ s. view_statement s.value ≡ trees.For (view_for_head head.value) (view_statement body.value)) }
+{
+    Ok(Box::new(alloc, Statement::For(Box::into_inner(head), body))?)
+}
+
+/// A declaration in a block, of which `int` is taken, and the tokens behind it.
+fn declaration_item(
+    alloc: Global,
+    int: Span,
+    tokens: &[Token],
+) -> Result<(Box<Statement>, &[Token]), SourceFault>
+    ensures { Reads (λ x. (view_statement x.0.value, x.1.now)) result (local_item_after (parts accepted) int tokens.now) }
+{
+    let (declaration, rest) = declaration(alloc, int, tokens)?;
+    let statement = Box::new(alloc, Statement::Declaration(declaration))?;
+    Ok((statement, rest))
+}
+
+/// A statement of this start that has no statement in it, of which the first token is taken, and
+/// the tokens behind it.
+fn simple_boxed<'a>(
+    alloc: Global,
+    start: Start,
+    at: Span,
+    behind: &'a [Token],
+    whole: &'a [Token],
+) -> Result<(Box<Statement>, &'a [Token]), SourceFault>
+    ensures { Reads (λ x. (view_statement x.0.value, x.1.now)) result (simple_of (parts accepted) start at behind.now whole.now) }
+{
+    let (statement, rest) = simple(alloc, start, at, behind, whole)?;
+    let statement = Box::new(alloc, statement)?;
+    Ok((statement, rest))
 }
 
 /// A statement that begins with an opening, and the tokens behind it.
@@ -225,8 +320,8 @@ fn headed(
     tokens: &[Token],
     room: usize,
     blocks: usize,
-) -> Result<(Statement, &[Token]), SourceFault>
-    ensures { Reads (λ x. (view_statement x.0, x.1.now)) result (headed_of (parts accepted) (statement_at (parts accepted) room blocks) start at tokens.now) }
+) -> Result<(Box<Statement>, &[Token]), SourceFault>
+    ensures { Reads (λ x. (view_statement x.0.value, x.1.now)) result (headed_of (parts accepted) (statement_at (parts accepted) room blocks) start at tokens.now) }
 {
     let (opening, rest) = opening_after(alloc, start, at, tokens)?;
     let (body, rest) = statement(alloc, rest, room, blocks)?;
@@ -239,25 +334,33 @@ fn headed(
 fn behind_body(
     alloc: Global,
     opening: Opening,
-    body: Statement,
+    body: Box<Statement>,
     tokens: &[Token],
     room: usize,
     blocks: usize,
-) -> Result<(Statement, &[Token]), SourceFault>
-    ensures { Reads (λ x. (view_statement x.0, x.1.now)) result (behind_body (statement_at (parts accepted) room blocks) (view_opening opening) (view_statement body) tokens.now) }
+) -> Result<(Box<Statement>, &[Token]), SourceFault>
+    ensures { Reads (λ x. (view_statement x.0.value, x.1.now)) result (behind_body (statement_at (parts accepted) room blocks) (view_opening opening) (view_statement body.value) tokens.now) }
 {
-    let body = Box::new(alloc, body)?;
     match opening {
         Opening::If(at, condition) => match take_word(tokens, Keyword::Else) {
             Some((other, rest)) => {
                 let (second, rest) = statement(alloc, rest, room, blocks)?;
-                let second = Box::new(alloc, second)?;
-                Ok((Statement::IfElse(at, condition, body, other, second), rest))
+                let statement = if_else_of(alloc, at, condition, body, other, second)?;
+                Ok((statement, rest))
             }
-            None => Ok((Statement::If(at, condition, body), tokens)),
+            None => {
+                let statement = if_of(alloc, at, condition, body)?;
+                Ok((statement, tokens))
+            }
         },
-        Opening::While(at, condition) => Ok((Statement::While(at, condition, body), tokens)),
-        Opening::For(head) => Ok((Statement::For(head, body), tokens)),
+        Opening::While(at, condition) => {
+            let statement = while_of(alloc, at, condition, body)?;
+            Ok((statement, tokens))
+        }
+        Opening::For(head) => {
+            let statement = for_of(alloc, head, body)?;
+            Ok((statement, tokens))
+        }
     }
 }
 
@@ -274,15 +377,15 @@ fn opening_after(
     match start {
         Start::If => {
             let (condition, rest) = condition(alloc, tokens)?;
-            Ok((Opening::If(at, condition), rest))
+            Ok((Opening::If(at, Box::new(alloc, condition)?), rest))
         }
         Start::While => {
             let (condition, rest) = condition(alloc, tokens)?;
-            Ok((Opening::While(at, condition), rest))
+            Ok((Opening::While(at, Box::new(alloc, condition)?), rest))
         }
         Start::For => {
             let (head, rest) = for_head(alloc, at, tokens)?;
-            Ok((Opening::For(head), rest))
+            Ok((Opening::For(Box::new(alloc, head)?), rest))
         }
         _ => Err(syntax(tokens)),
     }
@@ -368,16 +471,16 @@ fn enclosed_before(
 fn do_end(
     alloc: Global,
     at: Span,
-    body: Statement,
+    body: Box<Statement>,
     tokens: &[Token],
-) -> Result<(Statement, &[Token]), SourceFault>
-    ensures { Reads (λ x. (view_statement x.0, x.1.now)) result (do_end (parts accepted) at (view_statement body) tokens.now) }
+) -> Result<(Box<Statement>, &[Token]), SourceFault>
+    ensures { Reads (λ x. (view_statement x.0.value, x.1.now)) result (do_end (parts accepted) at (view_statement body.value) tokens.now) }
 {
-    let body = Box::new(alloc, body)?;
     let (again, rest) = word(tokens, Keyword::While)?;
     let (condition, rest) = condition(alloc, rest)?;
     let (semicolon, rest) = mark(rest, Punctuator::Semicolon)?;
-    Ok((Statement::Do(at, body, again, condition, semicolon), rest))
+    let statement = Box::new(alloc, Statement::Do(at, body, again, condition, semicolon))?;
+    Ok((statement, rest))
 }
 
 /// A statement of this start that has no statement in it, of which the first token is taken,

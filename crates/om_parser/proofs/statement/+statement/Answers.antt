@@ -1,4 +1,4 @@
-use Rattle.std.proofs.Common.{◌≡◌, [], ◌∷◌, ◌++◌, length, map, sym, arith}
+use Rattle.std.proofs.Common.{◌≡◌, [], ◌∷◌, ◌++◌, length, map, sym, arith, rules}
 use Rattle.std.proofs.lemmas.Result.{err_from_is_err_and}
 use Rattle.std.proofs.lemmas.List.{map_push}
 use Rattle.om_lexer.specs.declared.token.Punctuator.TheVariants.{CloseBrace}
@@ -28,10 +28,11 @@ items-returns-in_err-next t c =
     rw (p.1, p.2) (until_fails (take_mark CloseBrace) item (map view_statement c.items.items.items) c.items.rest.now (until (take_mark CloseBrace) item (length c.args.tokens.now) c.args.tokens.now) c.in_err-next.field-0.0 (sym c.in_default.ensures) c.in_err-next.ensures c.items.invariant)
 
 pub items-items-smaller : goal.items-items-smaller
-items-items-smaller t c = block_item_shorter (parts accepted) accepted (omega arith) (parts_sound accepted (omega arith)) c.args.room c.args.blocks c.items.rest.now (view_statement c.in_ok-next.next) c.in_ok-next.after.now c.in_ok-next.ensures
+items-items-smaller t c = block_item_shorter (parts accepted) accepted (omega arith) (parts_sound accepted (omega arith)) c.args.room c.args.blocks c.items.rest.now (view_statement c.in_ok-next.next.value) c.in_ok-next.after.now c.in_ok-next.ensures
 
 pub items-items-preserved : goal.items-items-preserved
 items-items-preserved t c =
     let item = block_item_at (parts accepted) (statement_at (parts accepted) c.args.room c.args.blocks) in
-    let pushed : map view_statement c.push.new.self.items ≡ map view_statement c.items.items.items ++ view_statement c.in_ok-next.next ∷ [] = rw c.in_ok-push.ensures.items (map_push _ c.items.items.items c.in_ok-next.next) in
-    rw pushed (until_goes_on (take_mark CloseBrace) item (map view_statement c.items.items.items) c.items.rest.now (until (take_mark CloseBrace) item (length c.args.tokens.now) c.args.tokens.now) (view_statement c.in_ok-next.next) c.in_ok-next.after.now (sym c.in_default.ensures) c.in_ok-next.ensures (block_item_shorter (parts accepted) accepted (omega arith) (parts_sound accepted (omega arith)) c.args.room c.args.blocks c.items.rest.now (view_statement c.in_ok-next.next) c.in_ok-next.after.now c.in_ok-next.ensures) c.items.invariant)
+    let inner : c.into_inner.result ≡ c.in_ok-next.next.value = search rules in
+    let pushed : map view_statement c.push.new.self.items ≡ map view_statement c.items.items.items ++ view_statement c.in_ok-next.next.value ∷ [] = rw (c.in_ok-push.ensures.items, inner) (map_push _ c.items.items.items c.in_ok-next.next.value) in
+    rw pushed (until_goes_on (take_mark CloseBrace) item (map view_statement c.items.items.items) c.items.rest.now (until (take_mark CloseBrace) item (length c.args.tokens.now) c.args.tokens.now) (view_statement c.in_ok-next.next.value) c.in_ok-next.after.now (sym c.in_default.ensures) c.in_ok-next.ensures (block_item_shorter (parts accepted) accepted (omega arith) (parts_sound accepted (omega arith)) c.args.room c.args.blocks c.items.rest.now (view_statement c.in_ok-next.next.value) c.in_ok-next.after.now c.in_ok-next.ensures) c.items.invariant)
