@@ -32,6 +32,7 @@ fn shown_unit(alloc: Global, unit: &Unit) -> Result<String, AllocError> {
     Ok(text)
 }
 
+#[cycle(showing)]
 fn show_statement(text: &mut String, statement: &Statement) -> Result<(), AllocError> {
     match statement {
         Statement::Declaration(_) => text.push_str("int;"),
@@ -62,6 +63,7 @@ fn show_statement(text: &mut String, statement: &Statement) -> Result<(), AllocE
 }
 
 /// A statement with this in front of it, and a bracket behind it.
+#[cycle(showing)]
 fn show_around(text: &mut String, front: &str, body: &Statement) -> Result<(), AllocError> {
     text.push_str(front)?;
     show_statement(text, body)?;
@@ -154,7 +156,7 @@ fn the_first_token_that_no_statement_has_there(rt: HostRuntime) -> Result<(), Fa
         ("{ ", "else ; }"),
     ] {
         let source = format!(in alloc; "void f(void){{{before}{rest}}}")?;
-        let at = 13 + before.len();
+        let at = before.len().saturating_add(13);
         let wanted = format!(in alloc; "S3 at {at}")?;
         assert_eq!(rt;
             shown(alloc, source.as_bytes())?.as_str(),
