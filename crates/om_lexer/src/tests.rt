@@ -1,7 +1,9 @@
-use crate::{FaultCode, SourceFault, TokenKind, lex, one_reading};
+use crate::{SourceFault, TokenKind, lex, one_reading};
 use std::alloc::{AllocError, Global};
 use std::process::Abort;
 use std::test::Fail;
+
+mod cuts;
 
 /// The tokens of a source, each as `LINE:START-END KIND`, or its refusal as `S2 at 7`.
 fn shown(alloc: Global, source: &[u8]) -> Result<String, AllocError> {
@@ -333,36 +335,14 @@ fn a_source_has_1024_macros(rt: HostRuntime) -> Result<(), Fail> {
     Ok(())
 }
 
-/// Wherever a source is cut, there are tokens or a numbered refusal.
-#[test]
-fn sources_cut_after_each_byte(rt: HostRuntime) -> Result<(), Fail> {
-    let source =
-        "#include <stdio.h>\n#define N 5\nint a[N];\nint main(void){\n#pragma omp parallel for\nfor (int i = 0; i < 5; i++) a[i] = omp_get_thread_num();\n#pragma once\nprintf(\"%d\\n\", a[0]); /* c */ }\n";
-    for end in 0..source.len() {
-        if let Err(fault) = lex(rt.alloc(), &source.as_bytes()[..end]) {
-            assert!(rt;
-                fault.code == FaultCode::BadToken || fault.code == FaultCode::BadHashLine,
-                "at {end}"
-            );
-            assert!(rt; (fault.at as usize) < end, "at {end}");
-        }
-    }
-    Ok(())
-}
-
-/// With an allocation refused, the answer is the tokens or want of memory.
+/// A source of each kind of token and line. With an allocation refused, this ends in S0 at byte 0.
 #[test]
 fn want_of_memory(rt: HostRuntime) -> Result<(), Fail> {
     one_reading();
-    match lex(
+    let tokens = lex(
         rt.alloc(),
         b"#define N 2\n int alpha; int beta = 1; /* */ alpha = beta + N;\n#pragma omp flush\n\"ab\"",
-    ) {
-        Ok(tokens) => assert_eq!(rt; tokens.len(), 21),
-        Err(fault) => {
-            assert!(rt; fault.code == FaultCode::Memory);
-            assert_eq!(rt; fault.at, 0);
-        }
-    }
+    )?;
+    assert_eq!(rt; tokens.len(), 21);
     Ok(())
 }
