@@ -1,7 +1,9 @@
 use crate::{AtomicKind, directive, expression_before, one_directive, one_fault};
-use om_lexer::{SourceFault, Token, lex};
+use om_lexer::{FaultCode, SourceFault, Token, lex};
 use std::alloc::{AllocError, Global};
 use std::test::Fail;
+
+mod accepted;
 
 /// What a directive line is, as `ok` or `S6 22`, with the column of its fault.
 fn shown(alloc: Global, line: &str) -> Result<String, AllocError> {
@@ -307,6 +309,7 @@ fn lines_of_other_programs(rt: HostRuntime) -> Result<(), Fail> {
         ("#pragma omp parallel p01(min: g2)\n", "S5 22"),
         ("#pragma omp task n(n) firstprivate(m)\n", "S5 18"),
         ("#pragma omp x reduction(+:x)\n", "S5 13"),
+        ("#pragma omp g0 shared(g0)\n", "S5 13"),
         ("#pragma omp masked num_threads(3)\n", "S6 20"),
         ("#pragma omp masked reduction(max:g0)\n", "S6 20"),
         (
@@ -321,8 +324,50 @@ fn lines_of_other_programs(rt: HostRuntime) -> Result<(), Fail> {
             "S6 40",
         ),
         ("#pragma omp parallel for nowait\n", "S6 26"),
+        ("#define x 3\n#pragma omp parallel shared(x)\n", "S6 34"),
+        (
+            "#pragma omp parallel num_threads(((((((((((((((((((((((((((((((((((((((((((((((((((((((((((\n",
+            "S6 22",
+        ),
     ] {
         assert_eq!(rt; shown(alloc, line)?.as_str(), wanted);
+    }
+    Ok(())
+}
+
+/// The number of a line's refusal, 0 for none. An error is want of memory.
+fn refusal(alloc: Global, line: &str) -> Result<u8, SourceFault> {
+    let tokens = lex(alloc, line.as_bytes())?;
+    match directive(alloc, run_of(&tokens)) {
+        Ok(_) => Ok(0),
+        Err(fault) if fault.code == FaultCode::Memory => Err(fault),
+        Err(fault) => Ok(fault.code.number()),
+    }
+}
+
+/// Lines that take memory in every way that a directive does. With an allocation refused, this
+/// ends in S0 at byte 0.
+#[test]
+fn want_of_memory(rt: HostRuntime) -> Result<(), Fail> {
+    let alloc = rt.alloc();
+    for (line, wanted) in [
+        ("#pragma omp critical (queue)\n", 0),
+        ("#pragma omp flush (a, b, c)\n", 0),
+        (
+            "#pragma omp parallel num_threads(n + 1) shared(a, b), private(c) firstprivate(d, e)\n",
+            0,
+        ),
+        (
+            "#pragma omp parallel for reduction(max: a, b) schedule(dynamic, 4) default(none)\n",
+            0,
+        ),
+        ("#pragma omp critical (a b)\n", 3),
+        ("#pragma omp flush (a, b,)\n", 3),
+        ("#pragma omp single private(a) copyprivate(b)\n", 5),
+        ("#pragma omp task shared(a, b 1)\n", 6),
+        ("#pragma omp sections reduction(+: a, b) nowait nowait\n", 6),
+    ] {
+        assert_eq!(rt; refusal(alloc, line)?, wanted, "at {line}");
     }
     Ok(())
 }
