@@ -5,7 +5,7 @@ use Rattle.om_parser.specs.declared.tree.AssignOperator.TheVariants as assigns
 use Rattle.om_parser.specs.Tree.{ExpressionTree, Name, Constant, Text, Paren, Index, Call, Prefix, Postfix, Binary, Conditional, Assign, StatementTree, LocalDeclaration, Block, Empty, Expression, If, IfElse, While, Do, For, Return, Break, Continue, Construct, StandAlone, Sections, Section, FunctionTree, ItemTree, Declaration, Prototype, Function}
 use Rattle.om_scope.specs.declared.symbols.Meaning.{Meaning}
 use Rattle.om_scope.specs.declared.symbols.Meaning.TheVariants as meanings
-use Rattle.om_scope.specs.Breaches.{meaning_breaches, use_breaches, expression_breaches, assignment_breaches, run_breaches, statement_breaches, breaches_along, function_breaches, redeclared_breaches, item_breaches, items_breaches, main_breaches, breaches_of}
+use Rattle.om_scope.specs.Breaches.{meaning_breaches, use_breaches, expression_breaches, assignment_breaches, run_breaches, statement_breaches, breaches_along, function_breaches, redeclared_breaches, item_breaches, items_breaches, main_breaches, rule_breaches, breaches_of}
 use Rattle.om_scope.specs.Laws.{UnbrokenTreesResolve}
 use Rattle.om_scope.specs.Resolution.{variable_of, resolved_expression, resolved_assignment, resolved_run, resolved_statement, resolved_along, resolved_function, item_functions, resolution_of}
 use Rattle.om_scope.specs.ResolvedTree as resolved
@@ -128,5 +128,5 @@ has_functions scopes (Function f) whole = let g = has_function scopes f whole in
 pub unbroken_trees_resolve : UnbrokenTreesResolve
 unfolding breaches_of resolution_of
 unbroken_trees_resolve unit whole =
-    let functions = has_all item_breaches item_functions after_item has_functions file_scope unit.items (front_empty (items_breaches file_scope unit.items) (main_breaches unit) whole) in
+    let functions = has_all item_breaches item_functions after_item has_functions file_scope unit.items (back_empty (rule_breaches unit ++ main_breaches unit) (items_breaches file_scope unit.items) whole) in
     rw functions.is refl

@@ -1,6 +1,6 @@
 -- Where no rule is broken, each use has its variable, and there is one `main`.
 use Rattle.std.proofs.Common.{◌≡◌, ◌⊎◌, inl, inr, ◌<◌, ◌≤◌, ◌+◌, ℕ, zero, suc, Bool, true, false, cond, ◌||◌, not, List, [], ◌∷◌, ◌++◌, Option, None, Some, All, map, fold, length, get_or, is_some, refl, sym, ap, subst, ◌∙◌, arith, append_assoc, length-append}
-use Rattle.std.specs.Prelude.{Any, codes, nat_lt, count_by, sum_by}
+use Rattle.std.specs.Prelude.{Result, Ok, Err, IfOk, Any, codes, nat_lt, count_by, sum_by}
 use Rattle.std.specs.List.{list_any, flat_map}
 use Rattle.std.specs.Map.{lookup}
 use Rattle.std.specs.Option.{option_or}
@@ -17,7 +17,12 @@ use Rattle.om_scope.specs.declared.resolved.Variable.{Variable}
 use Rattle.om_scope.specs.declared.resolved.Variable.TheVariants as variables
 use Rattle.om_scope.specs.declared.symbols.Meaning.{Meaning}
 use Rattle.om_scope.specs.declared.symbols.Meaning.TheVariants as meanings
-use Rattle.om_scope.specs.Breaches.{breach_if, breaches_along, breaches_of, is_main, main_breaches, item_breaches, function_breaches, statement_breaches, declarator_breaches, redeclared_breaches, global_breaches, initializer_breaches}
+use Rattle.om_scope.specs.Breaches.{breach_if, breaches_along, breaches_of, is_main, main_breaches, rule_breaches, item_breaches, items_breaches, function_breaches, statement_breaches, declarator_breaches, redeclared_breaches, global_breaches, initializer_breaches}
+use Rattle.om_parser.specs.declared.tree.Unit as units
+use Rattle.om_parser.specs.View.{view_unit}
+use Rattle.om_scope.specs.declared.resolved.Resolved.{Resolved}
+use Rattle.om_scope.specs.Outcomes.{Resolves}
+use Rattle.om_scope.specs.ResolvedView.{view_resolved}
 use Rattle.om_scope.specs.Resolution.{resolution_of, items_resolution, resolved_along, resolved_expression, resolved_assignment, resolved_run, resolved_statement, resolved_function, item_functions, variable_of, variable_named, global_of, globals_of, ◌>>=◌}
 use Rattle.om_scope.specs.ResolvedTree as resolved
 use Rattle.om_scope.specs.ResolvedTree.{ResolvedExpressionTree, ResolvedStatementTree, ResolvedFunctionTree, ResolvedTree}
@@ -368,14 +373,15 @@ one_function (Function f ∷ items) scopes xs none e =
 pub is_resolved : (unit : UnitTree) (tree : ResolvedTree) → breaches_of unit ≡ [] → resolution_of unit ≡ Some tree → IsResolved tree
 unfolding breaches_of resolution_of
 is_resolved unit tree none e =
-    let parts = empty (breaches_along item_breaches after_item file_scope unit.items) (main_breaches unit) none in
+    let parts = empty (rule_breaches unit ++ main_breaches unit) (breaches_along item_breaches after_item file_scope unit.items) none in
+    let main = (empty (rule_breaches unit) (main_breaches unit) parts.0).1 in
     let functions = bound (resolved_along item_functions after_item file_scope unit.items) _ tree e in
     let made : ResolvedTree = record { globals = flat_map globals_of unit.items; functions = functions.0 } in
     let same : made ≡ tree = let f : Some made ≡ Some tree = functions.2 in cc in
     let counts : Counts file_scope = record { below = ((tt, (tt, (tt, tt))), tt); few = omega arith } in
-    let uses = items_use unit.items file_scope (length (flat_map globals_of unit.items)) functions.0 counts (omega arith) parts.0 functions.1 in
-    let one = one_function unit.items file_scope functions.0 parts.0 functions.1 in
-    let has = main_there (list_any is_main unit.items) parts.1 in
+    let uses = items_use unit.items file_scope (length (flat_map globals_of unit.items)) functions.0 counts (omega arith) parts.1 functions.1 in
+    let one = one_function unit.items file_scope functions.0 parts.1 functions.1 in
+    let has = main_there (list_any is_main unit.items) main in
     subst IsResolved same (record {
       globals = uses.1;
       functions = omega (arith, one.0);
@@ -386,3 +392,10 @@ is_resolved unit tree none e =
     main_there : (b : Bool) → breach_if (not b) faults.NoMain unit.end.start ≡ [] → b ≡ true
     main_there true f = refl
     main_there false f = cc
+
+pub is_resolved_if_ok : (unit : units.Unit) (r : Result Resolved SourceFault) → rule_breaches (view_unit unit) ≡ [] → main_breaches (view_unit unit) ≡ []
+    → Resolves view_resolved r (items_breaches file_scope (view_unit unit).items) (resolution_of (view_unit unit)) → IfOk r (λ found. IsResolved (view_resolved found))
+unfolding breaches_of
+is_resolved_if_ok unit (Ok found) rules main resolves =
+    is_resolved (view_unit unit) (view_resolved found) (let none : breaches_of (view_unit unit) ≡ [] = rw (rules, main) resolves.0 in none) resolves.1
+is_resolved_if_ok unit (Err fault) rules main resolves = tt

@@ -1,4 +1,4 @@
--- The rules on names, each by the breaches that a tree has of it, in the order of the text.
+-- The breaches of a source: those of a rule, and then the forms that have no resolution yet.
 use Rattle.std.specs.Prelude.{ℕ, ◌+◌, List, [], ◌∷◌, ◌++◌, Option, None, Some, Bool, true, false, codes, nat_lt, if◌then◌else◌, not, is_some}
 use Rattle.std.specs.List.{list_any}
 use Rattle.std.specs.Str.{bytes_eq}
@@ -12,22 +12,12 @@ use Rattle.om_parser.specs.Tree.{ExpressionTree, Name, Constant, Text, Paren, In
 use Rattle.om_scope.specs.declared.symbols.Meaning.{Meaning}
 use Rattle.om_scope.specs.declared.symbols.Meaning.TheVariants as meanings
 use Rattle.om_scope.specs.declared.declaration.TheConstants.{GLOBAL_CELL_LIMIT}
+pub use Rattle.om_scope.specs.Faults.{first_of, breach_if, untaken_breaches, breaches_along}
+use Rattle.om_scope.specs.InScope as places
+use Rattle.om_scope.specs.UnitRules as rules
 use Rattle.om_scope.specs.Places.{expression_start, statement_start, head_start}
 use Rattle.om_scope.specs.Taken.{signed_constant, is_taken_head}
 use Rattle.om_scope.specs.Scopes.{Scopes, file_scope, body_scopes, meaning_of, is_declared, globals_in, with_function, declarators_of, after_declarator, after_statement, after_item}
-
--- the first breach, if there is one
-abbrev pub first_of : List SourceFault → Option SourceFault
-first_of [] = None
-first_of (breach ∷ breaches) = Some breach
-
--- a breach at a place, where there is one
-abbrev pub breach_if : Bool → FaultCode → ℕ → List SourceFault
-breach_if broken code at = if broken then record { code = code; at = at } ∷ [] else []
-
--- S3 at the first token of a form that is not taken; nothing else of it is looked at
-abbrev pub untaken_breaches : ℕ → List SourceFault
-untaken_breaches at = breach_if true faults.Syntax at
 
 -- S7: used where no declaration stands before; S9: a function that is used as a variable
 abbrev pub meaning_breaches : Option Meaning → ℕ → List SourceFault
@@ -129,11 +119,6 @@ scalar_breaches scopes d = redeclared_breaches scopes d.name ++ global_breaches 
 abbrev pub declarator_breaches : Scopes → DeclaratorTree → List SourceFault
 declarator_breaches scopes d = if is_some d.array then untaken_breaches d.name.span.start else scalar_breaches scopes d
 
--- the breaches of parts in a row, each in the state behind those before it (C17 6.2.1p7)
-abbrev pub breaches_along : {S X : Type 0} → (S → X → List SourceFault) → (S → X → S) → S → List X → List SourceFault
-breaches_along breaches after state [] = []
-breaches_along breaches after state (x ∷ xs) = breaches state x ++ breaches_along breaches after (after state x) xs
-
 abbrev pub declarators_breaches : Scopes → List DeclaratorTree → List SourceFault
 declarators_breaches = breaches_along declarator_breaches after_declarator
 
@@ -164,6 +149,10 @@ is_main (Function f) = bytes_eq f.head.name.text (codes "main")
 abbrev pub main_breaches : UnitTree → List SourceFault
 main_breaches unit = breach_if (not (list_any is_main unit.items)) faults.NoMain unit.end.start
 
--- all breaches of a tree
+-- the breaches of a rule at file scope and in functions
+abbrev pub rule_breaches : UnitTree → List SourceFault
+rule_breaches unit = rules.items_breaches (places.file_scope (places.definitions_of unit.items)) unit.items
+
+-- all breaches of a tree: a form that has no resolution yet is refused only where no rule is broken
 unfoldable pub breaches_of : UnitTree → List SourceFault
-breaches_of unit = items_breaches file_scope unit.items ++ main_breaches unit
+breaches_of unit = rule_breaches unit ++ main_breaches unit ++ items_breaches file_scope unit.items

@@ -2,7 +2,7 @@
 use Rattle.std.specs.Prelude.{◌≡◌, ◌≢◌, List, [], Option, Some, Result, Ok, Err}
 use Rattle.om_lexer.specs.declared.fault.SourceFault.{SourceFault}
 use Rattle.om_lexer.specs.Faults.{no_memory}
-use Rattle.om_scope.specs.Breaches.{first_of}
+use Rattle.om_scope.specs.Faults.{first_of}
 
 -- the first breach, unless memory ran out
 abbrev pub Refuses : List SourceFault → SourceFault → Type 0

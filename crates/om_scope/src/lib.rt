@@ -6,6 +6,7 @@ mod expression;
 mod function;
 pub mod laws;
 mod resolved;
+mod rules;
 mod statement;
 mod symbols;
 mod taken;

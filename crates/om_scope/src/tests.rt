@@ -75,6 +75,65 @@ fn each_rule_is_answered_at_its_place(rt: HostRuntime) {
 }
 
 #[test]
+fn rules_of_arrays_and_functions(rt: HostRuntime) {
+    for (source, number, at) in [
+        // A function that is never defined, and one that is defined only behind its use.
+        ("int f(void); int main(void){ f = 1; }", 7, 29),
+        ("int main(void){ f = 1; } int f(void){}", 7, 16),
+        // Another signature, another kind, a second definition, a parameter declared twice.
+        ("int f(void); int f(int a); int main(void){}", 8, 17),
+        ("int f(void); void f(void); int main(void){}", 8, 18),
+        ("int x; int x(void); int main(void){}", 8, 11),
+        ("int f(void){} int f(void){} int main(void){}", 8, 18),
+        ("int f(int a, int a); int main(void){}", 8, 17),
+        ("int printf(int a); int main(void){}", 8, 4),
+        ("int omp_get_thread_num(int a); int main(void){}", 8, 4),
+        ("int omp_get_thread_num(void){} int main(void){}", 8, 4),
+        // An array of no cells, an array as a scalar, a value of a `void` function, another `main`.
+        ("int a[0]; int main(void){}", 9, 4),
+        ("int a[2]; int main(void){ a = 1; }", 9, 26),
+        ("int f(void){} int main(void){ f = 1; }", 9, 30),
+        ("void f(void){ return 1; } int main(void){}", 9, 21),
+        ("int main(int a){}", 9, 4),
+        ("void main(void){}", 9, 5),
+        ("int main(int a); int main(void){}", 9, 4),
+        // One cell of a global too many.
+        ("int a[65536], b; int main(void){}", 11, 14),
+        ("int a[65537]; int main(void){}", 11, 4),
+    ] {
+        assert_eq!(rt;
+            refusal(rt.alloc(), source.as_bytes()),
+            Some((number, at)),
+            "{source}"
+        );
+    }
+}
+
+#[test]
+fn what_breaks_no_rule_and_is_not_taken_is_refused_last(rt: HostRuntime) {
+    for (source, at) in [
+        ("int a[65535], b; int main(void){}", 4),
+        ("int f(void); int f(void); int main(void){}", 0),
+        (
+            "int f(int a, int b); int f(int b, int a){ return a; } int main(void){}",
+            0,
+        ),
+        ("int omp_get_num_threads(void); int main(void){}", 0),
+        ("void f(void){} int main(void){}", 0),
+        (
+            "int x; int f(int x){ return x; } int main(void){ x = 1; }",
+            7,
+        ),
+    ] {
+        assert_eq!(rt;
+            refusal(rt.alloc(), source.as_bytes()),
+            Some((3, at)),
+            "{source}"
+        );
+    }
+}
+
+#[test]
 fn of_two_breaches_the_first_is_answered(rt: HostRuntime) {
     for (source, number, at) in [
         ("int main(void){ y = main; }", 7, 16),

@@ -4,7 +4,8 @@ ghost use Rattle.std.specs.Prelude.{◌≡◌, ◌≢◌, ◌++◌, [], Some, On
 ghost use Rattle.std.specs.List.{list_any};
 ghost use Rattle.om_lexer.specs.Faults.{no_memory};
 ghost use Rattle.om_parser.specs.View.{view_item, view_unit};
-ghost use Rattle.om_scope.specs.Breaches.{breaches_of, first_of, is_main, item_breaches, items_breaches};
+ghost use Rattle.om_scope.specs.Breaches.{breaches_of, first_of, is_main, item_breaches, items_breaches, main_breaches, rule_breaches};
+ghost use Rattle.om_scope.specs.Checks.{Checks, ChecksExactly};
 ghost use Rattle.om_scope.specs.Outcomes.{Refuses, Resolves};
 ghost use Rattle.om_scope.specs.Resolution.{globals_of, item_functions, items_resolution, resolution_of};
 ghost use Rattle.om_scope.specs.ResolvedView.{view_resolved, view_resolved_function};
@@ -14,6 +15,7 @@ ghost use Rattle.om_scope.specs.Uses.{IsResolved};
 use crate::declaration::declare_globals;
 use crate::function::define_function;
 use crate::resolved::{GlobalVariable, Resolved, ResolvedFunction};
+use crate::rules::check_items;
 use crate::symbols::Symbols;
 use crate::taken::{head_start, untaken};
 use om_lexer::{FaultCode, SourceFault};
@@ -84,6 +86,35 @@ fn has_main(items: &[Item]) -> bool
     items.iter().any(|item| is_main(item))
 }
 
+/// The rules at file scope and in functions.
+fn check_rules(alloc: Global, unit: &Unit) -> Result<(), SourceFault>
+    ensures { Checks result (rule_breaches (view_unit unit.now)) }
+{
+    check_items(alloc, unit.items.as_slice())
+}
+
+/// Resolves the items of a source.
+#[tactic(auto, unfolding(crate::specs::Resolution::resolution_of))]
+fn resolve_unit(alloc: Global, unit: &Unit) -> Result<Resolved, SourceFault>
+    ensures { let tree = view_unit unit.now in
+        Resolves view_resolved result (items_breaches file_scope tree.items) (resolution_of tree) }
+{
+    resolve_items(alloc, unit.items.as_slice())
+}
+
+/// That one of the items is a function named `main`: S15.
+fn check_main(unit: &Unit) -> Result<(), SourceFault>
+    ensures { ChecksExactly result (main_breaches (view_unit unit.now)) }
+{
+    if !has_main(unit.items.as_slice()) {
+        return Err(SourceFault {
+            code: FaultCode::NoMain,
+            at: unit.end.start,
+        });
+    }
+    Ok(())
+}
+
 /// The unit, resolved: each use of a name has the variable of its innermost declaration (C17 6.2.1).
 ///
 /// The first breach of a rule in the unit's text is answered, at one place that of the lowest
@@ -97,19 +128,14 @@ fn has_main(items: &[Item]) -> bool
 /// - S10 at a constant above 2147483647.
 /// - S11 at the name of the global past `GLOBAL_CELL_LIMIT`.
 /// - S15 at the end of the source: no function is named `main`.
-#[tactic(auto, using(crate::proofs::Firsts::first_of_left), unfolding(crate::specs::Breaches::breaches_of, crate::specs::Resolution::resolution_of))]
+#[tactic(auto, using(crate::proofs::Firsts::first_of_left), unfolding(crate::specs::Breaches::breaches_of))]
 pub fn resolve(alloc: Global, unit: Unit) -> Result<Resolved, SourceFault>
     ensures no_breach { OnOk result (breaches_of (view_unit unit) ≡ []) }
     ensures resolved { IfOk result (λ resolved. resolution_of (view_unit unit) ≡ Some (view_resolved resolved)) }
     ensures every_use_has_its_variable { IfOk result (λ resolved. IsResolved (view_resolved resolved)) }
     ensures first_breach { IfErr result (λ fault. fault ≢ no_memory → first_of (breaches_of (view_unit unit)) ≡ Some fault) }
 {
-    let resolved = resolve_items(alloc, unit.items.as_slice())?;
-    if !has_main(unit.items.as_slice()) {
-        return Err(SourceFault {
-            code: FaultCode::NoMain,
-            at: unit.end.start,
-        });
-    }
-    Ok(resolved)
+    check_rules(alloc, &unit)?;
+    check_main(&unit)?;
+    resolve_unit(alloc, &unit)
 }

@@ -1,0 +1,124 @@
+-- The rules of declarations and statements, by the breaches that a tree has of them, in the order of the text.
+use Rattle.std.specs.Prelude.{ℕ, ◌+◌, List, [], ◌∷◌, ◌++◌, Option, None, Some, Bool, true, false, nat_eq, not, if◌then◌else◌, fold}
+use Rattle.om_lexer.specs.declared.fault.FaultCode.TheVariants as faults
+use Rattle.om_lexer.specs.declared.fault.SourceFault.{SourceFault}
+use Rattle.om_parser.specs.declared.tree.ArrayLength.{ArrayLength}
+use Rattle.om_pragma.specs.declared.name.Name as names
+use Rattle.om_parser.specs.Tree.{ExpressionTree, InitializerTree, DeclaratorTree, DeclarationTree, ForStartTree, Nothing, StartExpression, StartDeclaration, ForHeadTree, StatementTree, LocalDeclaration, Block, Empty, Expression, If, IfElse, While, Do, For, Return, Break, Continue, Construct, StandAlone, Sections, Section, StatementsTree, NoStatements, Statement}
+use Rattle.om_scope.specs.declared.rules.flow.Flow.{Flow}
+use Rattle.om_scope.specs.Faults.{breach_if, breaches_along, untaken_breaches}
+use Rattle.om_scope.specs.Places.{statement_start}
+use Rattle.om_scope.specs.ExpressionRules.{expression_breaches, misplaced_breaches}
+use Rattle.om_scope.specs.InScope.{Scopes, is_declared, inside, declarators_of, after_local, after_locals}
+
+-- S8: declared again in the same scope (C17 6.7p3)
+abbrev pub redeclared_breaches : Scopes → names.Name → List SourceFault
+redeclared_breaches scopes name = breach_if (is_declared scopes name.text) faults.Redeclared name.span.start
+
+-- S9 at the declared name: an array of no cells (C17 6.7.6.2p1)
+abbrev pub is_empty_array : Option ArrayLength → Bool
+is_empty_array None = false
+is_empty_array (Some array) = nat_eq array.size.value 0
+
+abbrev pub array_size_breaches : DeclaratorTree → List SourceFault
+array_size_breaches d = breach_if (is_empty_array d.array) faults.Misuse d.name.span.start
+
+abbrev pub initializer_breaches : Scopes → Option InitializerTree → List SourceFault
+initializer_breaches scopes None = []
+initializer_breaches scopes (Some initializer) = expression_breaches scopes true initializer.value
+
+-- the name's scope begins behind it, so its initializer reads the name itself (C17 6.2.1p7)
+unfoldable pub local_breaches : Scopes → DeclaratorTree → List SourceFault
+local_breaches scopes d = redeclared_breaches scopes d.name ++ array_size_breaches d ++ initializer_breaches (after_local scopes d) d.initializer
+
+abbrev pub locals_breaches : Scopes → List DeclaratorTree → List SourceFault
+locals_breaches = breaches_along local_breaches after_local
+
+-- S14: outside a loop (C17 6.8.6.2p1, 6.8.6.3p1)
+abbrev pub outside_loop_breaches : Flow → ℕ → List SourceFault
+outside_loop_breaches flow at = breach_if (not flow.in_loop) faults.LeavesConstruct at
+
+-- S9: a value that a `void` function returns (C17 6.8.6.4p1)
+abbrev pub return_breaches : Scopes → Flow → Option ExpressionTree → List SourceFault
+return_breaches scopes flow None = []
+return_breaches scopes flow (Some e) = if flow.returns then expression_breaches scopes true e else misplaced_breaches scopes e
+
+abbrev pub perhaps_breaches : Scopes → Bool → Option ExpressionTree → List SourceFault
+perhaps_breaches scopes for_value None = []
+perhaps_breaches scopes for_value (Some e) = expression_breaches scopes for_value e
+
+abbrev pub for_start_breaches : Scopes → ForStartTree → List SourceFault
+for_start_breaches scopes (Nothing semicolon) = []
+for_start_breaches scopes (StartExpression e semicolon) = expression_breaches scopes false e
+for_start_breaches scopes (StartDeclaration d) = locals_breaches scopes (declarators_of d)
+
+abbrev pub after_for_start : Scopes → ForStartTree → Scopes
+after_for_start scopes (Nothing semicolon) = scopes
+after_for_start scopes (StartExpression e semicolon) = scopes
+after_for_start scopes (StartDeclaration d) = after_locals scopes (declarators_of d)
+
+-- of the condition and the step, behind what the `for` begins with
+abbrev pub for_turn_breaches : Scopes → ForHeadTree → List SourceFault
+for_turn_breaches scopes h = perhaps_breaches scopes true h.condition ++ perhaps_breaches scopes false h.step
+
+-- in a loop
+abbrev pub looping : Flow → Flow
+looping flow = record { in_loop = true; returns = flow.returns }
+
+-- the scopes behind an item of a block
+abbrev pub after_statement : Scopes → StatementTree → Scopes
+after_statement scopes (LocalDeclaration d) = after_locals scopes (declarators_of d)
+after_statement scopes (Block left items right) = scopes
+after_statement scopes (Empty semicolon) = scopes
+after_statement scopes (Expression e semicolon) = scopes
+after_statement scopes (If at c s) = scopes
+after_statement scopes (IfElse at c s other t) = scopes
+after_statement scopes (While at c s) = scopes
+after_statement scopes (Do at s again c semicolon) = scopes
+after_statement scopes (For h s) = scopes
+after_statement scopes (Return at value semicolon) = scopes
+after_statement scopes (Break at semicolon) = scopes
+after_statement scopes (Continue at semicolon) = scopes
+after_statement scopes (Construct d s) = scopes
+after_statement scopes (StandAlone d) = scopes
+after_statement scopes (Sections d left parts right) = scopes
+after_statement scopes (Section d items) = scopes
+
+abbrev pub after_statements : Scopes → List StatementTree → Scopes
+after_statements scopes statements = fold after_statement scopes statements
+
+-- A part of a statement is a block of its own (C17 6.8.4p3, 6.8.5p5).
+unfoldable mutual
+  pub statement_breaches : Scopes → Flow → StatementTree → List SourceFault
+  statement_breaches scopes flow (LocalDeclaration d) = locals_breaches scopes (declarators_of d)
+  statement_breaches scopes flow (Block left items right) = statements_breaches (inside scopes) flow items
+  statement_breaches scopes flow (Empty semicolon) = []
+  statement_breaches scopes flow (Expression e semicolon) = expression_breaches scopes false e
+  statement_breaches scopes flow (If at c s) = expression_breaches scopes true c.value ++ statement_breaches (inside scopes) flow s
+  statement_breaches scopes flow (IfElse at c s other t) =
+      expression_breaches scopes true c.value ++ statement_breaches (inside scopes) flow s ++ statement_breaches (inside scopes) flow t
+  statement_breaches scopes flow (While at c s) = expression_breaches scopes true c.value ++ statement_breaches (inside scopes) (looping flow) s
+  statement_breaches scopes flow (Do at s again c semicolon) = statement_breaches (inside scopes) (looping flow) s ++ expression_breaches scopes true c.value
+  statement_breaches scopes flow (For h s) =
+      for_start_breaches (inside scopes) h.start
+      ++ for_turn_breaches (after_for_start (inside scopes) h.start) h
+      ++ statement_breaches (inside (after_for_start (inside scopes) h.start)) (looping flow) s
+  statement_breaches scopes flow (Return at value semicolon) = return_breaches scopes flow value
+  statement_breaches scopes flow (Break at semicolon) = outside_loop_breaches flow at.start
+  statement_breaches scopes flow (Continue at semicolon) = outside_loop_breaches flow at.start
+  statement_breaches scopes flow (Construct d s) = untaken_breaches (statement_start (Construct d s))
+  statement_breaches scopes flow (StandAlone d) = untaken_breaches (statement_start (StandAlone d))
+  statement_breaches scopes flow (Sections d left parts right) = untaken_breaches (statement_start (Sections d left parts right))
+  statement_breaches scopes flow (Section d items) = untaken_breaches (statement_start (Section d items))
+
+  -- of the items of a block, in their order
+  pub statements_breaches : Scopes → Flow → StatementsTree → List SourceFault
+  statements_breaches scopes flow NoStatements = []
+  statements_breaches scopes flow (Statement s rest) = statement_breaches scopes flow s ++ statements_breaches (after_statement scopes s) flow rest
+
+-- of a `for`
+abbrev pub for_breaches : Scopes → Flow → ForHeadTree → StatementTree → List SourceFault
+for_breaches scopes flow h s =
+    for_start_breaches (inside scopes) h.start
+    ++ for_turn_breaches (after_for_start (inside scopes) h.start) h
+    ++ statement_breaches (inside (after_for_start (inside scopes) h.start)) (looping flow) s

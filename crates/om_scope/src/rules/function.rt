@@ -1,0 +1,258 @@
+//! The rules of functions.
+
+ghost use Rattle.std.specs.Prelude.{◌≡◌, ◌++◌, ◌+◌, ◌<◌, OnOk, length, map};
+ghost use Rattle.std.specs.List.{list_any};
+ghost use Rattle.std.specs.Str.{bytes_eq};
+ghost use Rattle.om_parser.specs.View.{view_function, view_head, view_parameters};
+ghost use Rattle.om_scope.specs.Checks.{Checks, ChecksExactly};
+ghost use Rattle.om_scope.specs.InScope.{after_function, after_parameter, after_parameter_name, after_parameters, after_prototype, asks, inside, parameters_of, returns_value, signature_eq, signature_of};
+ghost use Rattle.om_scope.specs.Faults.{breaches_along};
+ghost use Rattle.om_scope.specs.UnitRules.{body_breaches, definition_breaches, flow_of, function_breaches, head_breaches, is_other_main, is_redeclared, next_parameter, parameter_breaches, parameter_name_breaches, parameters_breaches, prototype_breaches};
+
+use crate::rules::declaration::check_new;
+use crate::rules::fault::refuse_if;
+use crate::rules::flow::Flow;
+use crate::rules::statement::check_statements;
+use crate::rules::symbols::{Meaning, Shape, Signature, Symbols};
+use crate::taken::head_start;
+use om_lexer::{FaultCode, SourceFault, Span};
+use om_parser::{Function, FunctionHead, Name, Parameter, Parameters, ResultType};
+use std::alloc::{AllocError, Global};
+
+/// How many functions a source may define.
+pub const FUNCTION_LIMIT: usize = 256;
+
+/// How many parameters a function may have.
+pub const PARAMETER_LIMIT: usize = 16;
+
+/// Whether a function returns an `int`.
+fn returns_value(kind: &ResultType) -> bool
+    ensures { result ≡ returns_value kind.now }
+{
+    match kind {
+        ResultType::Int(_) => true,
+        ResultType::Void(_) => false,
+    }
+}
+
+/// How many parameters there are.
+fn parameter_count(parameters: &Parameters) -> usize
+    ensures { result ≡ length (parameters_of (view_parameters parameters.now)) }
+{
+    match parameters {
+        Parameters::Nothing => 0,
+        Parameters::Void(_) => 0,
+        Parameters::Listed(_, rest) => rest.len() + 1,
+    }
+}
+
+/// What calls of a function need and give.
+fn signature_of(head: &FunctionHead) -> Signature
+    ensures { result ≡ signature_of (view_head head.now) }
+{
+    Signature {
+        returns: returns_value(&head.result),
+        parameters: parameter_count(&head.parameters),
+    }
+}
+
+/// Whether two functions are called alike.
+fn are_alike(one: Signature, other: Signature) -> bool
+    ensures { result ≡ signature_eq one other }
+{
+    (if one.returns {
+        other.returns
+    } else {
+        !other.returns
+    }) && one.parameters == other.parameters
+}
+
+/// Whether a function of this signature was declared before as something else.
+fn is_redeclared(signature: Signature, earlier: Option<Meaning>) -> bool
+    ensures { result ≡ is_redeclared signature earlier }
+{
+    match earlier {
+        None => false,
+        Some(Meaning::Function(earlier)) => !are_alike(earlier, signature),
+        Some(Meaning::Variable(_)) => true,
+        Some(Meaning::Printf) => true,
+    }
+}
+
+/// Whether it is `main`, but not `int main(void)`.
+fn is_other_main(name: &[u8], signature: Signature) -> bool
+    ensures { result ≡ is_other_main name.now signature }
+{
+    let asks = Signature {
+        returns: true,
+        parameters: 0,
+    };
+    name == b"main".as_slice() && !are_alike(signature, asks)
+}
+
+/// The name and the signature of a function: S8, S9.
+#[tactic(auto, using(crate::proofs::Firsts::first_of_left))]
+fn check_head(symbols: &Symbols, head: &FunctionHead) -> Result<(), SourceFault>
+    ensures { ChecksExactly result (head_breaches symbols.now (view_head head.now)) }
+{
+    let signature = signature_of(head);
+    let name = head.name.text.as_slice();
+    let redeclared = is_redeclared(signature, symbols.meaning_here(name));
+    refuse_if(redeclared, FaultCode::Redeclared, head.name.span.start)?;
+    let other = is_other_main(name, signature);
+    refuse_if(other, FaultCode::Misuse, head.name.span.start)
+}
+
+/// Declares a function, unless an earlier declaration did.
+fn declare_head(alloc: Global, symbols: &mut Symbols, head: &FunctionHead) -> Result<(), AllocError>
+    ensures { OnOk result (symbols.new ≡ after_prototype symbols.old (view_head head.now)) }
+{
+    let name = head.name.text.as_slice();
+    if symbols.is_declared(name) {
+        return Ok(());
+    }
+    symbols.declare_function(alloc, name, signature_of(head))
+}
+
+/// Declares the name of a parameter: S8.
+fn declare_parameter_name(
+    alloc: Global,
+    symbols: &mut Symbols,
+    name: &Option<Name>,
+) -> Result<(), SourceFault>
+    ensures checked { Checks result (parameter_name_breaches symbols.old name.now) }
+    ensures in_scope { OnOk result (symbols.new ≡ after_parameter_name symbols.old name.now) }
+{
+    match name {
+        None => Ok(()),
+        Some(name) => {
+            check_new(symbols, name)?;
+            symbols.declare_local(alloc, name.text.as_slice(), Shape::Scalar)?;
+            Ok(())
+        }
+    }
+}
+
+/// Declares a parameter behind so many others: S8, S11.
+#[tactic(auto, using(crate::proofs::Firsts::first_of_left))]
+fn declare_parameter(
+    alloc: Global,
+    symbols: &mut Symbols,
+    before: usize,
+    parameter: &Parameter,
+) -> Result<(), SourceFault>
+    ensures checked { Checks result (parameter_breaches (before, symbols.old) parameter.now) }
+    ensures in_scope { OnOk result (symbols.new ≡ after_parameter symbols.old parameter.now) }
+    ensures few { OnOk result (before < PARAMETER_LIMIT) }
+{
+    refuse_if(
+        PARAMETER_LIMIT <= before,
+        FaultCode::TooMany,
+        parameter.int.start,
+    )?;
+    declare_parameter_name(alloc, symbols, &parameter.name)
+}
+
+/// Declares the parameters behind the first.
+fn declare_further_parameters(
+    alloc: Global,
+    symbols: &mut Symbols,
+    rest: &[(Span, Parameter)],
+) -> Result<(), SourceFault>
+    ensures checked { Checks result (breaches_along parameter_breaches next_parameter (1, symbols.old) (map (λ further. further.1) rest.now)) }
+    ensures in_scope { OnOk result (symbols.new ≡ after_parameters symbols.old (map (λ further. further.1) rest.now)) }
+{
+    let mut before = 1;
+    for further in rest {
+        declare_parameter(alloc, symbols, before, &further.1)?;
+        before += 1;
+    }
+    Ok(())
+}
+
+/// Declares the parameters of a function.
+#[tactic(auto, using(crate::proofs::Firsts::first_of_left))]
+fn declare_parameters(
+    alloc: Global,
+    symbols: &mut Symbols,
+    parameters: &Parameters,
+) -> Result<(), SourceFault>
+    ensures checked { Checks result (parameters_breaches symbols.old (parameters_of (view_parameters parameters.now))) }
+    ensures in_scope { OnOk result (symbols.new ≡ after_parameters symbols.old (parameters_of (view_parameters parameters.now))) }
+{
+    match parameters {
+        Parameters::Nothing => Ok(()),
+        Parameters::Void(_) => Ok(()),
+        Parameters::Listed(first, rest) => {
+            declare_parameter(alloc, symbols, 0, first)?;
+            declare_further_parameters(alloc, symbols, rest.as_slice())
+        }
+    }
+}
+
+/// A function that is declared and not defined.
+#[tactic(auto, using(crate::proofs::Firsts::first_of_left))]
+pub fn check_prototype(
+    alloc: Global,
+    symbols: &mut Symbols,
+    head: &FunctionHead,
+) -> Result<(), SourceFault>
+    ensures checked { Checks result (prototype_breaches symbols.old (view_head head.now)) }
+    ensures in_scope { OnOk result (symbols.new ≡ after_prototype symbols.old (view_head head.now)) }
+{
+    check_head(symbols, head)?;
+    declare_head(alloc, symbols, head)?;
+    symbols.enter(alloc)?;
+    declare_parameters(alloc, symbols, &head.parameters)?;
+    symbols.leave();
+    Ok(())
+}
+
+/// That a definition is not one too many, that of no function before, and keeps the rules of its name.
+#[tactic(auto, using(crate::proofs::Firsts::first_of_left))]
+fn check_definition(symbols: &Symbols, head: &FunctionHead) -> Result<(), SourceFault>
+    ensures { ChecksExactly result (definition_breaches symbols.now (view_head head.now)) }
+{
+    let full = symbols.defined_count() >= FUNCTION_LIMIT + 3;
+    refuse_if(full, FaultCode::TooMany, head_start(head))?;
+    let defined = symbols.is_defined(head.name.text.as_slice());
+    refuse_if(defined, FaultCode::Redeclared, head.name.span.start)?;
+    check_head(symbols, head)
+}
+
+/// The parameters and the body of a function, in a scope of their own.
+#[tactic(auto, using(crate::proofs::Firsts::first_of_left))]
+fn check_inside(
+    alloc: Global,
+    symbols: &mut Symbols,
+    function: &Function,
+) -> Result<(), SourceFault>
+    ensures checked { Checks result (body_breaches symbols.old (view_function function.now)) }
+    ensures in_scope { OnOk result (symbols.new ≡ symbols.old) }
+{
+    symbols.enter(alloc)?;
+    declare_parameters(alloc, symbols, &function.head.parameters)?;
+    let flow = Flow {
+        in_loop: false,
+        returns: returns_value(&function.head.result),
+    };
+    check_statements(alloc, symbols, flow, function.body.items.as_slice())?;
+    symbols.leave();
+    Ok(())
+}
+
+/// The definition of a function.
+#[tactic(auto, using(crate::proofs::Firsts::first_of_left))]
+pub fn check_function(
+    alloc: Global,
+    symbols: &mut Symbols,
+    function: &Function,
+) -> Result<(), SourceFault>
+    ensures checked { Checks result (function_breaches symbols.old (view_function function.now)) }
+    ensures in_scope { OnOk result (symbols.new ≡ after_function symbols.old (view_function function.now).head) }
+{
+    check_definition(symbols, &function.head)?;
+    declare_head(alloc, symbols, &function.head)?;
+    symbols.define(alloc, function.head.name.text.as_slice())?;
+    check_inside(alloc, symbols, function)
+}

@@ -1,0 +1,212 @@
+//! The rules of statements.
+
+ghost use Rattle.std.specs.Prelude.{◌≡◌, ◌++◌, OnOk, map, option_map};
+ghost use Rattle.om_parser.specs.Tree.{statements};
+ghost use Rattle.om_parser.specs.View.{view_expression, view_for_head, view_for_start, view_statement};
+ghost use Rattle.om_scope.specs.Checks.{Checks, ChecksExactly};
+ghost use Rattle.om_scope.specs.InScope.{inside};
+ghost use Rattle.om_scope.specs.StatementRules.{after_for_start, after_statement, for_start_breaches, for_turn_breaches, after_statements, for_breaches, looping, outside_loop_breaches, perhaps_breaches, return_breaches, statement_breaches, statements_breaches};
+
+use crate::rules::declaration::declare_locals;
+use crate::rules::expression::{check_expression, refuse_misplaced};
+use crate::rules::fault::refuse_if;
+use crate::rules::flow::Flow;
+use crate::rules::symbols::Symbols;
+use crate::taken::{statement_start, untaken};
+use om_lexer::{FaultCode, SourceFault};
+use om_parser::{Expression, ForHead, ForStart, Statement};
+use std::alloc::Global;
+
+/// The same place in a loop.
+fn looping(flow: Flow) -> Flow
+    ensures { result ≡ looping flow }
+{
+    Flow {
+        in_loop: true,
+        returns: flow.returns,
+    }
+}
+
+/// A `break` or a `continue`: S14.
+fn check_in_loop(flow: Flow, at: u32) -> Result<(), SourceFault>
+    ensures { ChecksExactly result (outside_loop_breaches flow at) }
+{
+    refuse_if(!flow.in_loop, FaultCode::LeavesConstruct, at)
+}
+
+/// What a function returns: S9.
+fn check_return(
+    symbols: &Symbols,
+    flow: Flow,
+    value: &Option<Expression>,
+) -> Result<(), SourceFault>
+    ensures { ChecksExactly result (return_breaches symbols.now flow (option_map view_expression value.now)) }
+{
+    match value {
+        None => Ok(()),
+        Some(value) => {
+            if flow.returns {
+                check_expression(symbols, true, value)
+            } else {
+                refuse_misplaced(symbols, value)
+            }
+        }
+    }
+}
+
+/// An expression that may be left out.
+fn check_perhaps(
+    symbols: &Symbols,
+    for_value: bool,
+    expression: &Option<Expression>,
+) -> Result<(), SourceFault>
+    ensures { ChecksExactly result (perhaps_breaches symbols.now for_value (option_map view_expression expression.now)) }
+{
+    match expression {
+        None => Ok(()),
+        Some(expression) => check_expression(symbols, for_value, expression),
+    }
+}
+
+/// What a `for` begins with.
+fn check_for_start(
+    alloc: Global,
+    symbols: &mut Symbols,
+    start: &ForStart,
+) -> Result<(), SourceFault>
+    ensures checked { Checks result (for_start_breaches symbols.old (view_for_start start.now)) }
+    ensures in_scope { OnOk result (symbols.new ≡ after_for_start symbols.old (view_for_start start.now)) }
+{
+    match start {
+        ForStart::Nothing(_) => Ok(()),
+        ForStart::Expression(expression, _) => check_expression(symbols, false, expression),
+        ForStart::Declaration(declaration) => declare_locals(alloc, symbols, declaration),
+    }
+}
+
+/// The condition and the step of a `for`.
+#[tactic(auto, using(crate::proofs::Firsts::first_of_left))]
+fn check_for_turn(symbols: &Symbols, head: &ForHead) -> Result<(), SourceFault>
+    ensures { ChecksExactly result (for_turn_breaches symbols.now (view_for_head head.now)) }
+{
+    check_perhaps(symbols, true, &head.condition)?;
+    check_perhaps(symbols, false, &head.step)
+}
+
+/// A statement, or a declaration in a block.
+#[tactic(auto, using(crate::proofs::Firsts::first_of_left), unfolding(crate::specs::StatementRules::statement_breaches))]
+#[cycle(statement)]
+fn check_statement(
+    alloc: Global,
+    symbols: &mut Symbols,
+    flow: Flow,
+    statement: &Statement,
+) -> Result<(), SourceFault>
+    ensures checked { Checks result (statement_breaches symbols.old flow (view_statement statement.now)) }
+    ensures in_scope { OnOk result (symbols.new ≡ after_statement symbols.old (view_statement statement.now)) }
+{
+    match statement {
+        Statement::Declaration(declaration) => declare_locals(alloc, symbols, declaration),
+        Statement::Block(_, items, _) => check_block(alloc, symbols, flow, items.as_slice()),
+        Statement::Empty(_) => Ok(()),
+        Statement::Expression(expression, _) => check_expression(symbols, false, expression),
+        Statement::If(_, condition, then) => {
+            check_expression(symbols, true, &condition.value)?;
+            check_body(alloc, symbols, flow, then)
+        }
+        Statement::IfElse(_, condition, then, _, other) => {
+            check_expression(symbols, true, &condition.value)?;
+            check_body(alloc, symbols, flow, then)?;
+            check_body(alloc, symbols, flow, other)
+        }
+        Statement::While(_, condition, body) => {
+            check_expression(symbols, true, &condition.value)?;
+            check_body(alloc, symbols, looping(flow), body)
+        }
+        Statement::Do(_, body, _, condition, _) => {
+            check_body(alloc, symbols, looping(flow), body)?;
+            check_expression(symbols, true, &condition.value)
+        }
+        Statement::For(head, body) => check_for(alloc, symbols, flow, head, body),
+        Statement::Return(_, value, _) => check_return(symbols, flow, value),
+        Statement::Break(at, _) => check_in_loop(flow, at.start),
+        Statement::Continue(at, _) => check_in_loop(flow, at.start),
+        Statement::Construct(_, _) => Err(untaken(statement_start(statement))),
+        Statement::StandAlone(_) => Err(untaken(statement_start(statement))),
+        Statement::Sections(_, _, _, _) => Err(untaken(statement_start(statement))),
+        Statement::Section(_, _) => Err(untaken(statement_start(statement))),
+    }
+}
+
+/// The items of a block, in a scope of their own.
+#[cycle(statement)]
+fn check_block(
+    alloc: Global,
+    symbols: &mut Symbols,
+    flow: Flow,
+    items: &[Statement],
+) -> Result<(), SourceFault>
+    ensures checked { Checks result (statements_breaches (inside symbols.old) flow (statements (map view_statement items.now))) }
+    ensures in_scope { OnOk result (symbols.new ≡ symbols.old) }
+{
+    symbols.enter(alloc)?;
+    check_statements(alloc, symbols, flow, items)?;
+    symbols.leave();
+    Ok(())
+}
+
+/// A `for`, in a scope of its own.
+#[tactic(auto, using(crate::proofs::Firsts::first_of_left))]
+#[cycle(statement)]
+fn check_for(
+    alloc: Global,
+    symbols: &mut Symbols,
+    flow: Flow,
+    head: &ForHead,
+    body: &Statement,
+) -> Result<(), SourceFault>
+    ensures checked { Checks result (for_breaches symbols.old flow (view_for_head head.now) (view_statement body.now)) }
+    ensures in_scope { OnOk result (symbols.new ≡ symbols.old) }
+{
+    symbols.enter(alloc)?;
+    check_for_start(alloc, symbols, &head.start)?;
+    check_for_turn(symbols, head)?;
+    check_body(alloc, symbols, looping(flow), body)?;
+    symbols.leave();
+    Ok(())
+}
+
+/// A statement that is part of another one, which is a block of its own (C17 6.8.4p3, 6.8.5p5).
+#[cycle(statement)]
+fn check_body(
+    alloc: Global,
+    symbols: &mut Symbols,
+    flow: Flow,
+    body: &Statement,
+) -> Result<(), SourceFault>
+    ensures checked { Checks result (statement_breaches (inside symbols.old) flow (view_statement body.now)) }
+    ensures in_scope { OnOk result (symbols.new ≡ symbols.old) }
+{
+    symbols.enter(alloc)?;
+    check_statement(alloc, symbols, flow, body)?;
+    symbols.leave();
+    Ok(())
+}
+
+/// The items of a block.
+#[tactic(auto, unfolding(crate::specs::StatementRules::statements_breaches))]
+#[cycle(statement)]
+pub fn check_statements(
+    alloc: Global,
+    symbols: &mut Symbols,
+    flow: Flow,
+    items: &[Statement],
+) -> Result<(), SourceFault>
+    ensures checked { Checks result (statements_breaches symbols.old flow (statements (map view_statement items.now))) }
+    ensures in_scope { OnOk result (symbols.new ≡ after_statements symbols.old (map view_statement items.now)) }
+{
+    for item in items {
+        check_statement(alloc, symbols, flow, item)?;
+    }
+    Ok(())
+}
