@@ -7,7 +7,9 @@ seconds (the best of three on one core), those of a source of half the size, and
 still gives its answer, beyond what it needs for one byte, in bytes for each byte of the source. At last comes a source of twice
 the size, one half a comment and one half code, which is too long. Nothing here is a test: nothing fails but a wrong answer.
 """
-import os, resource, subprocess, sys, time
+import resource, subprocess
+
+from timing import filled, seconds, words
 
 MIXED = '''int alpha_7 = 0x1f; /* c */ void f(int a, int b) {
   if (a <= 10 && b != 017) alpha_7 += a * (b - 3); // line
@@ -32,31 +34,21 @@ KINDS = {
     "white space": ("", " "),
 }
 
+ANSWER = b"refused S3 line 1 column 1\n"
+TOO_LONG = b"refused S1 line 1 column 1048577\n"
 ENOUGH = 1 << 30
 
 
 def source(kind, size):
     front, part = KINDS[kind]
-    front = ")" + front
-    text = front + part * ((size - len(front)) // len(part))
-    return (text + " " * (size - len(text))).encode()
+    return filled(")" + front, part, "", size)
 
 
-def run(program, text, space=None):
-    limit = (lambda: resource.setrlimit(resource.RLIMIT_AS, (space, space))) if space else None
-    return subprocess.run([program], input=text, stdout=subprocess.PIPE, stderr=subprocess.DEVNULL, preexec_fn=limit).stdout
-
-
-def seconds(program, text, wanted=b"refused S3 line 1 column 1\n", times=3):
-    best = None
-    for _ in range(times):
-        begin = time.monotonic()
-        answer = run(program, text)
-        taken = time.monotonic() - begin
-        if answer != wanted:
-            sys.exit(f"{program} answered {answer!r}, not {wanted!r}")
-        best = taken if best is None else min(best, taken)
-    return best
+def has_room(program, text, space):
+    """Whether the program gives its answer with that much address space."""
+    limit = lambda: resource.setrlimit(resource.RLIMIT_AS, (space, space))
+    done = subprocess.run([program], input=text, stdout=subprocess.PIPE, stderr=subprocess.DEVNULL, preexec_fn=limit)
+    return done.stdout == ANSWER
 
 
 def least_space(program, text):
@@ -64,7 +56,7 @@ def least_space(program, text):
     low, high = 0, ENOUGH
     while high - low > 1 << 16:
         middle = (low + high) // 2
-        if run(program, text, middle) == b"refused S3 line 1 column 1\n":
+        if has_room(program, text, middle):
             high = middle
         else:
             low = middle
@@ -72,21 +64,16 @@ def least_space(program, text):
 
 
 def main():
-    if len(sys.argv) not in (2, 3):
-        sys.exit(__doc__)
-    program = os.path.abspath(sys.argv[1])
-    size = int(sys.argv[2]) if len(sys.argv) == 3 else 1048576
-    if hasattr(os, "sched_setaffinity"):
-        os.sched_setaffinity(0, {min(os.sched_getaffinity(0))})
+    program, size = words(__doc__, 1048576)
     base = least_space(program, b")")
     for kind in KINDS:
         text = source(kind, size)
-        whole, half = seconds(program, text), seconds(program, source(kind, size // 2))
+        whole, half = seconds(program, text, ANSWER), seconds(program, source(kind, size // 2), ANSWER)
         space = (least_space(program, text) - base) / size
         print(f"{kind}: {whole:.3f} s; half of it: {half:.3f} s; ratio {whole / half:.2f}; {space:.0f} bytes a byte")
     text = b")/*" + b"x" * (size - 5) + b"*/" + source("mixed tokens", size)
     if size == 1048576:
-        print(f"twice as much, a comment and code: {seconds(program, text, b'refused S1 line 1 column 1048577' + bytes([10])):.3f} s")
+        print(f"twice as much, a comment and code: {seconds(program, text, TOO_LONG):.3f} s")
 
 
 main()

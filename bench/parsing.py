@@ -6,7 +6,7 @@ repeated, and each without its last brace: so the lexer and the parser read all 
 before any later pass. It prints the seconds of each, the best of three on one core, and those of a source of half the size.
 Nothing here is a test: nothing fails but a source that is not refused at its end.
 """
-import os, subprocess, sys, time
+from timing import filled, seconds, words
 
 # what stands in front, what is repeated, and what stands behind
 KINDS = {
@@ -21,36 +21,16 @@ KINDS = {
 }
 
 
-def source(kind, size):
-    front, part, back = KINDS[kind]
-    times = (size - len(front) - len(back)) // len(part)
-    text = front + part * times + back
-    return (text + " " * (size - len(text))).encode()
-
-
-def seconds(program, text, times=3):
-    best = None
-    for _ in range(times):
-        begin = time.monotonic()
-        done = subprocess.run([program], input=text, capture_output=True)
-        taken = time.monotonic() - begin
-        line, column = text.count(b"\n") + 1, len(text) - text.rfind(b"\n")
-        wanted = f"refused S3 line {line} column {column}\n".encode()
-        if done.stdout != wanted:
-            sys.exit(f"{program} answered {done.stdout!r}, not {wanted!r}")
-        best = taken if best is None else min(best, taken)
-    return best
+def time_of(program, kind, size):
+    text = filled(*KINDS[kind], size)
+    line, column = text.count(b"\n") + 1, len(text) - text.rfind(b"\n")
+    return seconds(program, text, f"refused S3 line {line} column {column}\n".encode())
 
 
 def main():
-    if len(sys.argv) not in (2, 3):
-        sys.exit(__doc__)
-    program = os.path.abspath(sys.argv[1])
-    size = int(sys.argv[2]) if len(sys.argv) == 3 else 1048576
-    if hasattr(os, "sched_setaffinity"):
-        os.sched_setaffinity(0, {min(os.sched_getaffinity(0))})
+    program, size = words(__doc__, 1048576)
     for kind in KINDS:
-        whole, half = seconds(program, source(kind, size)), seconds(program, source(kind, size // 2))
+        whole, half = time_of(program, kind, size), time_of(program, kind, size // 2)
         print(f"{kind}: {whole:.3f} s; half of it: {half:.3f} s; ratio {whole / half:.2f}")
 
 

@@ -1,13 +1,16 @@
 #!/usr/bin/env python3
 """refused.py PROGRAM [INPUT]: each request for memory, each read and each write of a run is refused in turn.
+refused.py TESTS --test NAME: each request for memory of one test is refused in turn.
 
 INPUT is the standard input (the stored run, crates/ompback/stdin, if not given). A small library is compiled with cc and
 loaded before the C library; it refuses the N-th call of one kind. Of each such run three things are wanted: that it ends,
 that it ends with status 3 and the right fault on standard error (or as the whole run does, where nothing was lost), and
-that what it wrote is a beginning of what the whole run writes. The last line counts the runs; the status is 1 where one
-of them is wrong.
+that what it wrote is a beginning of what the whole run writes.
+TESTS is what `rt test` leaves of a crate, as crates/om_pragma/out/om_pragma_tests, and NAME a test of it that passes, and
+gives back the refusals for want of memory that it meets. Of each run it is wanted that it ends with that refusal, at byte 0.
+The last line counts the runs; the status is 1 where one of them is wrong.
 """
-import os, subprocess, sys, tempfile
+import itertools, os, subprocess, sys, tempfile
 
 SHIM = r"""
 #define _GNU_SOURCE
@@ -15,23 +18,14 @@ SHIM = r"""
 #include <errno.h>
 #include <fcntl.h>
 #include <stddef.h>
-#include <stdio.h>
 #include <stdlib.h>
 #include <unistd.h>
 #include <sys/types.h>
-static long left(const char *name) { const char *n = getenv(name); return n ? atol(n) : 0; }
-static long calls;
 static int refused(const char *name, long *count) {
-    if (!getenv(name)) return 0;
-    calls = ++*count;
-    return calls == left(name);
-}
-__attribute__((destructor)) static void told(void) {
-    const char *path = getenv("REFUSE_CALLS");
-    if (!path) return;
-    int fd = open(path, O_WRONLY | O_CREAT | O_TRUNC, 0600);
-    dprintf(fd, "%ld", calls);
-    close(fd);
+    const char *which = getenv(name);
+    if (!which || ++*count != atol(which)) return 0;
+    close(open(getenv("REFUSED"), O_WRONLY | O_CREAT, 0600));
+    return 1;
 }
 void *malloc(size_t size) {
     static void *(*real)(size_t); static long count;
@@ -58,45 +52,74 @@ ssize_t write(int fd, const void *from, size_t size) {
     return real(fd, from, size);
 }
 """
-KINDS = [("REFUSE_MEMORY", b"H5\n"), ("REFUSE_GROWTH", b"H5\n"), ("REFUSE_READ", b"H3\n"), ("REFUSE_WRITE", b"H4\n")]
+FAULTS = {"REFUSE_MEMORY": b"H5\n", "REFUSE_GROWTH": b"H5\n", "REFUSE_READ": b"H3\n", "REFUSE_WRITE": b"H4\n"}
+WANTS_MEMORY = b"error: SourceFault { code: Memory, at: 0 }\n"
 
 
-def run(program, text, environment):
-    done = subprocess.run([program], input=text, capture_output=True, env=environment, timeout=60)
+def run(command, text, environment):
+    done = subprocess.run(command, input=text, capture_output=True, env=environment, timeout=60)
     return done.returncode, done.stdout, done.stderr
 
 
-def main():
-    if len(sys.argv) not in (2, 3):
-        sys.exit(__doc__)
-    here = os.path.dirname(os.path.abspath(__file__))
-    program = os.path.abspath(sys.argv[1])
-    with open(sys.argv[2] if len(sys.argv) == 3 else os.path.join(here, "../crates/ompback/stdin"), "rb") as f:
-        text = f.read()
-    whole = run(program, text, {})
+def broken_off(command, text, kind, folder):
+    """What a command answers where the first call of a kind is refused, where the second is, and so on to the last."""
+    mark = os.path.join(folder, "refused")
+    environment = {"LD_PRELOAD": os.path.join(folder, "refuse.so"), "REFUSED": mark}
+    for number in itertools.count(1):
+        got = run(command, text, environment | {kind: str(number)})
+        if not os.path.exists(mark):
+            return
+        os.remove(mark)
+        yield number, got
+
+
+def compile_shim(folder):
+    source = os.path.join(folder, "refuse.c")
+    with open(source, "w") as f:
+        f.write(SHIM)
+    subprocess.run(["cc", "-O1", "-shared", "-fPIC", "-o", os.path.join(folder, "refuse.so"), source, "-ldl"], check=True)
+
+
+def count_runs(command, text, kinds, is_right):
+    """Runs a command with each call of these kinds refused in turn, and gives 1 where one run is wrong."""
+    whole = run(command, text, {})
     runs = wrong = 0
     with tempfile.TemporaryDirectory() as folder:
-        shim = os.path.join(folder, "refuse.so")
-        source = os.path.join(folder, "refuse.c")
-        with open(source, "w") as f:
-            f.write(SHIM)
-        subprocess.run(["cc", "-O1", "-shared", "-fPIC", "-o", shim, source, "-ldl"], check=True)
-        for kind, fault in KINDS:
-            calls = os.path.join(folder, "calls")
-            run(program, text, {"LD_PRELOAD": shim, kind: "0", "REFUSE_CALLS": calls})
-            with open(calls) as f:
-                total = int(f.read())
-            lost = 0
-            for n in range(1, total + 1):
-                got = run(program, text, {"LD_PRELOAD": shim, kind: str(n)})
-                runs += 1
+        compile_shim(folder)
+        for kind in kinds:
+            total = lost = 0
+            for number, got in broken_off(command, text, kind, folder):
+                total += 1
                 lost += got != whole
-                if got != whole and (got[0] != 3 or got[2] != fault or not whole[1].startswith(got[1])):
+                if not is_right(kind, whole, got):
                     wrong += 1
-                    print(f"{kind} {n}: status {got[0]}, fault {got[2]!r}, output {got[1][-60:]!r}")
+                    print(f"{kind} {number}: status {got[0]}, fault {got[2]!r}, output {got[1][-60:]!r}")
             print(f"{kind}: {total} runs, {lost} of them broken off")
+            runs += total
     print(f"{runs} runs, {wrong} wrong")
-    sys.exit(1 if wrong else 0)
+    return 1 if wrong or not runs else 0
+
+
+def ends_well(kind, whole, got):
+    """Whether a run of the program answers the fault of this kind behind a beginning of the whole output, or all of it."""
+    return got == whole or (got[0] == 3 and got[2] == FAULTS[kind] and whole[1].startswith(got[1]))
+
+
+def wants_memory(_kind, whole, got):
+    """Whether a test that passes otherwise ends with the refusal for want of memory."""
+    return whole[0] == 0 and got[0] == 101 and got[2].startswith(WANTS_MEMORY)
+
+
+def main():
+    words = [os.path.abspath(sys.argv[1])] + sys.argv[2:] if len(sys.argv) > 1 else []
+    if len(words) == 3 and words[1] == "--test":
+        sys.exit(count_runs([words[0], words[2]], b"", ["REFUSE_MEMORY", "REFUSE_GROWTH"], wants_memory))
+    if len(words) not in (1, 2):
+        sys.exit(__doc__)
+    here = os.path.dirname(os.path.abspath(__file__))
+    with open(words[1] if len(words) == 2 else os.path.join(here, "../crates/ompback/stdin"), "rb") as f:
+        text = f.read()
+    sys.exit(count_runs([words[0]], text, FAULTS, ends_well))
 
 
 main()

@@ -5,44 +5,27 @@ It runs one source of that many assignments (16,000 if not given, 32,000 at most
 command, with every step, and with every step and then every undo. The differences give steps a second and undos a
 second; a source of half as many assignments gives the ratio of the whole times. Nothing here is a test: nothing fails.
 """
-import os, subprocess, sys, time
+from timing import seconds, words
 
 STEPS_OF_ASSIGNMENT = 2
 
 
 def source(assignments):
     lines = "".join(f"x = {k};\n" for k in range(assignments))
-    return "int x;\nint main(void) {\n" + lines + "}\n%%\n"
-
-
-def seconds(program, text, times=3):
-    best = None
-    for _ in range(times):
-        begin = time.monotonic()
-        done = subprocess.run([program], input=text.encode(), stdout=subprocess.DEVNULL)
-        taken = time.monotonic() - begin
-        if done.returncode != 0:
-            sys.exit(f"{program} ended with status {done.returncode}")
-        best = taken if best is None else min(best, taken)
-    return best
+    return f"int x;\nint main(void) {{\n{lines}}}\n%%\n".encode()
 
 
 def measured(program, assignments):
     steps = STEPS_OF_ASSIGNMENT * assignments
     front = source(assignments)
     idle = seconds(program, front)
-    forwards = seconds(program, front + "step 0\n" * steps)
-    both = seconds(program, front + "step 0\n" * steps + "undo 0\n" * steps)
+    forwards = seconds(program, front + b"step 0\n" * steps)
+    both = seconds(program, front + b"step 0\n" * steps + b"undo 0\n" * steps)
     return steps, idle, forwards, both
 
 
 def main():
-    if len(sys.argv) not in (2, 3):
-        sys.exit(__doc__)
-    program = os.path.abspath(sys.argv[1])
-    assignments = int(sys.argv[2]) if len(sys.argv) == 3 else 16000
-    if hasattr(os, "sched_setaffinity"):
-        os.sched_setaffinity(0, {min(os.sched_getaffinity(0))})
+    program, assignments = words(__doc__, 16000)
     steps, idle, forwards, both = measured(program, assignments)
     _, _, _, half = measured(program, assignments // 2)
     print(f"{assignments} assignments, {steps} steps, {steps} undos")

@@ -1,0 +1,32 @@
+"""What the benchmarks share: the words of their command lines, the texts that they make, and the best time of three runs."""
+import os, subprocess, sys, time
+
+
+def words(usage, default):
+    """The program and the number that a benchmark is called with, `default` if it is left out; from here on it has one core."""
+    if len(sys.argv) not in (2, 3):
+        sys.exit(usage)
+    if hasattr(os, "sched_setaffinity"):
+        os.sched_setaffinity(0, {min(os.sched_getaffinity(0))})
+    return os.path.abspath(sys.argv[1]), int(sys.argv[2]) if len(sys.argv) == 3 else default
+
+
+def filled(front, part, back, size):
+    """A text of `size` bytes: between `front` and `back` a part as often as it fits, and spaces at the end."""
+    text = front + part * ((size - len(front) - len(back)) // len(part)) + back
+    return (text + " " * (size - len(text))).encode()
+
+
+def seconds(program, text, wanted=None, times=3):
+    """The best time of some runs on a text. Each has to answer `wanted`; where none is given, to end with status 0."""
+    best = None
+    for _ in range(times):
+        begin = time.monotonic()
+        done = subprocess.run([program], input=text, stdout=subprocess.DEVNULL if wanted is None else subprocess.PIPE)
+        taken = time.monotonic() - begin
+        if wanted is None and done.returncode != 0:
+            sys.exit(f"{program} ended with status {done.returncode}")
+        if wanted is not None and done.stdout != wanted:
+            sys.exit(f"{program} answered {done.stdout!r}, not {wanted!r}")
+        best = taken if best is None else min(best, taken)
+    return best
