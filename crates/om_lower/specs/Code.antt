@@ -10,8 +10,8 @@ use Rattle.om_code.specs.declared.instruction.Place.TheVariants as places
 use Rattle.om_code.specs.declared.raw.Body.{Body}
 use Rattle.om_code.specs.declared.raw.GlobalVariable as raws
 use Rattle.om_code.specs.declared.raw.Raw.{Raw}
-use Rattle.om_parser.specs.declared.tree.BinaryOperator.{BinaryOperator}
-use Rattle.om_parser.specs.declared.tree.BinaryOperator.TheVariants as sources
+use Rattle.om_scope.specs.declared.resolved.ResolvedOperator.{ResolvedOperator}
+use Rattle.om_scope.specs.declared.resolved.ResolvedOperator.TheVariants as sources
 use Rattle.om_scope.specs.declared.resolved.GlobalVariable.{GlobalVariable}
 use Rattle.om_scope.specs.declared.resolved.Variable as variables
 use Rattle.om_scope.specs.declared.resolved.Variable.TheVariants as named
@@ -23,7 +23,7 @@ abbrev pub place_of : variables.Variable → Place
 place_of (named.Global number) = places.Global number
 
 -- C17 6.5.6
-abbrev pub operator_of : BinaryOperator → instructions.BinaryOperator
+abbrev pub operator_of : ResolvedOperator → instructions.BinaryOperator
 operator_of sources.Add = operators.Add
 
 -- an instruction stands at a place of a body, with its line

@@ -7,7 +7,9 @@ ghost use Rattle.om_scope.specs.ResolvedView.{view_resolved_expression, view_res
 
 use om_code::instruction::{BinaryOperator, Instr, Place};
 use om_code::raw::Body;
-use om_scope::{ResolvedExpression, ResolvedFunction, ResolvedStatement, Variable};
+use om_scope::{
+    ResolvedExpression, ResolvedFunction, ResolvedOperator, ResolvedStatement, Variable,
+};
 use om_seq::Seq;
 use std::alloc::{AllocError, Global};
 
@@ -93,10 +95,10 @@ fn place_of(variable: Variable) -> Place
 }
 
 /// The operator of the machine that computes an operator of the source.
-fn operator_of(operator: om_parser::BinaryOperator) -> BinaryOperator
+fn operator_of(operator: ResolvedOperator) -> BinaryOperator
     ensures { result ≡ operator_of operator }
 {
     match operator {
-        om_parser::BinaryOperator::Add => BinaryOperator::Add,
+        ResolvedOperator::Add => BinaryOperator::Add,
     }
 }

@@ -117,7 +117,7 @@ fn a_statement_needs_at_most_256_operands(rt: HostRuntime) -> Result<(), Fail> {
     for _ in 0..255 {
         let left = Box::new(alloc, ResolvedExpression::Constant(1))?;
         let right = Box::new(alloc, value)?;
-        value = ResolvedExpression::Binary(left, om_parser::BinaryOperator::Add, right);
+        value = ResolvedExpression::Binary(left, om_scope::ResolvedOperator::Add, right);
     }
     assert!(rt; fits(&value, 256));
     assert!(rt; !fits(&value, 255));

@@ -1,6 +1,6 @@
 -- What is spelled is taken again, and answers that only a limit hinders.
-use Rattle.std.proofs.Common.{◌≡◌, ℕ, ◌<◌, List, ◌∷◌, length, Err, refl, sym, subst, Bool, true, false, cond, arith, ◌⊎◌, inl, inr}
-use Rattle.std.proofs.lemmas.Bool.{leb-true}
+use Rattle.std.proofs.Common.{◌≡◌, ℕ, ◌≤◌, Option, List, ◌∷◌, length, Err, refl, sym, subst, Bool, true, false, cond, arith, ◌⊎◌, inl, inr}
+use Rattle.std.proofs.lemmas.Bool.{leb-false}
 use Rattle.std.specs.Prelude.{nat_le}
 use denote.Enum.Bare.{true_same}
 use Rattle.om_lexer.specs.contracts.token.Keyword.{the_type as the_keywords}
@@ -9,13 +9,13 @@ use Rattle.om_lexer.specs.declared.token.Keyword.{Keyword}
 use Rattle.om_lexer.specs.declared.token.Punctuator.{Punctuator}
 use Rattle.om_lexer.specs.declared.token.Span.{Span}
 use Rattle.om_lexer.specs.declared.token.Token.{Token}
-use Rattle.om_parser.specs.declared.tree.BinaryOperator.{BinaryOperator}
-use Rattle.om_parser.specs.declared.tree.BinaryOperator.TheVariants as binaries
+use Rattle.om_lexer.specs.declared.token.TokenKind.{TokenKind}
+use Rattle.om_lexer.specs.declared.token.TokenKind.TheVariants as kinds
 use Rattle.om_pragma.specs.declared.name.Name as names
 use Rattle.om_pragma.specs.declared.name.Number.{Number}
-use Rattle.om_parser.specs.ExpressionReading.{within, take_binary}
+use Rattle.om_parser.specs.ExpressionReading.{within, take_operator}
 use Rattle.om_parser.specs.Reading.{◌>>=◌, Outcome, too_deep, take, same_mark, same_word, take_mark, take_word, take_name, take_number, mark_at, word_at, name_at, number_at}
-use Rattle.om_parser.specs.Spelling.{mark, word, name, number, binary_mark}
+use Rattle.om_parser.specs.Spelling.{mark, word, name, number}
 use Rattle.om_parser.proofs.Outcomes.{ok, some}
 
 pub take_mark_again : (p : Punctuator) (s : Span) (ts : List Token) → take_mark p (mark p s ∷ ts) ≡ some (s, ts)
@@ -30,9 +30,12 @@ pub take_number_again : (n : Number) (ts : List Token) → take_number (number n
 unfolding take_number take
 take_number_again n ts = refl
 
-pub take_binary_again : (o : BinaryOperator) (s : Span) (ts : List Token) → take_binary (mark (binary_mark o) s ∷ ts) ≡ some ((o, s), ts)
-unfolding take_binary take
-take_binary_again binaries.Add s ts = refl
+pub take_operator_here : {O : Type 0} (f : TokenKind → Option O) (p : Punctuator) (o : O) (s : Span) (ts : List Token) → f (kinds.Punctuator p) ≡ some o → take_operator f (mark p s ∷ ts) ≡ some ((o, s), ts)
+unfolding take_operator take
+take_operator_here f p o s ts is = rw is refl
+
+pub take_operator_again : {O : Type 0} (f : TokenKind → Option O) (spell : O → Punctuator) → ((o : O) → f (kinds.Punctuator (spell o)) ≡ some o) → (o : O) (s : Span) (ts : List Token) → take_operator f (mark (spell o) s ∷ ts) ≡ some ((o, s), ts)
+take_operator_again f spell is o s ts = take_operator_here f (spell o) o s ts (is o)
 
 pub mark_again : (p : Punctuator) (s : Span) (ts : List Token) → mark_at p (mark p s ∷ ts) ≡ ok (s, ts)
 unfolding mark_at
@@ -58,10 +61,10 @@ pub bind_answer : {A B : Type 0} {Part Whole : Type 0} (read : Outcome A) (f : A
 bind_answer {A} {B} {Part} {Whole} read f x y part (inl e) h = subst (λ r. IsAnswer Whole (r >>= f) y) (sym e) h
 bind_answer {A} {B} {Part} {Whole} read f x y part (inr (s, e, never)) h = inr (s, rw e refl, λ w. never (part w))
 
-pub within_answer : {A : Type 0} {Fits : Type 0} (beyond : ℕ) (s : Span) (ts : List Token) (read : Outcome A) (x : A) → (Fits → beyond < length ts) → IsAnswer Fits read x → IsAnswer Fits (within beyond s ts read) x
+pub within_answer : {A : Type 0} {Fits : Type 0} (beyond : ℕ) (s : Span) (rest : List Token) (read : Outcome A) (x : A) → (Fits → beyond ≤ length rest) → IsAnswer Fits read x → IsAnswer Fits (within beyond s rest read) x
 unfolding within
-within_answer {A} {Fits} beyond s ts read x inside h = go (nat_le (length ts) beyond) refl
+within_answer {A} {Fits} beyond s rest read x inside h = go (nat_le beyond (length rest)) refl
   where
-    go : (b : Bool) → nat_le (length ts) beyond ≡ b → IsAnswer Fits (cond b (Err (too_deep s)) read) x
-    go true is = inr (s, refl, λ w. let lt = inside w in let le = leb-true _ _ is in omega arith)
-    go false is = h
+    go : (b : Bool) → nat_le beyond (length rest) ≡ b → IsAnswer Fits (cond b read (Err (too_deep s))) x
+    go true is = h
+    go false is = inr (s, refl, λ w. let le = inside w in let lt = leb-false _ _ is in omega arith)

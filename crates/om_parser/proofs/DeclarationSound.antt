@@ -19,7 +19,7 @@ use Rattle.om_parser.specs.Spelling.{mark, word, name, number, perhaps, expressi
 use Rattle.om_parser.specs.Tree.{ExpressionTree, InitializerTree, DeclaratorTree, DeclarationTree}
 use Rattle.om_parser.proofs.Outcomes.{ok, ok_is, some, bind_ok, choose_cases, after_front, after_token}
 use Rattle.om_parser.proofs.Taken.{take_mark_is, mark_at_is, name_at_is, number_at_is}
-use Rattle.om_parser.proofs.ExpressionSound.{sum_sound}
+use Rattle.om_parser.proofs.ExpressionSound.{whole_sound}
 use Rattle.om_parser.proofs.ItemsSound.{IsRead, IsSound, until_sound, all_flat}
 
 abbrev pub IsAny : {A : Type 0} → A → Type 0
@@ -139,7 +139,7 @@ further_some d = omega arith
 initial_any : (l : Limits) (i : Initial) → IsSound expression_spelling IsAny (initial_at l i)
 unfolding initial_at
 initial_any l initials.Constant ts x h = let r = constant_sound ts x h in record { parts = r.parts; formed = tt }
-initial_any l (initials.Expression room) ts x h = let r = sum_sound _ room ts x h in record { parts = r.parts; formed = tt }
+initial_any l (initials.Expression room) ts x h = let r = whole_sound l room ts x h in record { parts = r.parts; formed = tt }
 
 pub initial_further_shorter : (l : Limits) (i : Initial) (ts : List Token) (d : Span × DeclaratorTree) (us : List Token) → further_at (initial_at l i) ts ≡ ok (d, us) → length us < length ts
 initial_further_shorter l i ts d us e = let r = further_sound IsAny (initial_at l i) (initial_any l i) ts (d, us) e in omega (arith, ap length r.parts, length-append (further_spelling d) us, further_some d)

@@ -2,7 +2,7 @@ pub mod Views
 pub mod Outcomes
 pub mod Taken
 pub mod ExpressionSound
-pub mod Sums
+pub mod Chains
 pub mod Loops
 pub mod ItemsSound
 pub mod StatementSound

@@ -61,7 +61,7 @@ module _ (ts : List Token) where
   pub is_too_deep : (r : Result units.Unit SourceFault) → Reads view_unit r (unit_at accepted ts) → IfErr r (λ f. f.code ≡ codes.TooDeep → IsLimitPassed ts f.at)
   is_too_deep (Ok u) h = tt
   is_too_deep (Err f) (inl memory) = λ deep. let m = memory_only f memory in absurd cc
-  is_too_deep (Err f) (inr e) = λ deep. unit_cut accepted (omega arith) (omega arith) ts f e deep
+  is_too_deep (Err f) (inr e) = λ deep. unit_cut accepted (omega arith) ts f e deep
 
   pub is_no_other : (r : Result units.Unit SourceFault) → Reads view_unit r (unit_at accepted ts) → IfErr r (λ f. (f ≡ no_memory) ⊎ (f.code ≡ codes.Syntax) ⊎ (f.code ≡ codes.TooDeep))
   is_no_other (Ok u) h = tt

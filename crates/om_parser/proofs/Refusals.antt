@@ -40,11 +40,11 @@ expected ts None = wrong ts
 
 pub limited : {A : Type 0} (beyond : ℕ) (s : Span) (ts : List Token) (read : Outcome A) → Refuses read → Refuses (within beyond s ts read)
 unfolding within
-limited beyond s ts read h = go (nat_le (length ts) beyond)
+limited beyond s ts read h = go (nat_le beyond (length ts))
   where
-    go : (b : Bool) → Refuses (cond b (Err (too_deep s)) read)
-    go true = deep s
-    go false = h
+    go : (b : Bool) → Refuses (cond b read (Err (too_deep s)))
+    go true = h
+    go false = deep s
 
 pub until_refuses : {A : Type 0} (ender : Ender) (item : Reader A) → ((ts : List Token) → Refuses (item ts)) → (k : ℕ) (ts : List Token) → Refuses (until ender item k ts)
 unfolding until

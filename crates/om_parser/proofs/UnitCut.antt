@@ -36,7 +36,7 @@ use Rattle.om_parser.proofs.StatementCut.{within_larger, function_block_cut}
 use Rattle.om_parser.proofs.PartsSound.{parts_sound}
 use Rattle.om_parser.proofs.PartsCut.{parts_cut}
 
-module _ (l : Limits) (one : 1 ≤ l.nested) (two : 2 ≤ l.tokens) where
+module _ (l : Limits) (one : 1 ≤ l.nested) where
   abbrev IsItemCut : List Token → SourceFault → Type 0
   IsItemCut ts f = IsPassed item_spelling IsItem (IsOverInItem l) ts f.at
 
@@ -50,7 +50,7 @@ module _ (l : Limits) (one : 1 ≤ l.nested) (two : 2 ≤ l.tokens) where
           | inr (b, read, no_err) ↦ absurd cc
           | inl d ↦ within_larger item_spelling IsItem (IsOverInItem l) (head_spelling h) [] (λ b. Function (record { head = h; body = b })) (head_spelling h ++ ts) ts f.at
               (λ b is. (named_is h.parameters named.0, is)) (λ b. ap (λ w. head_spelling h ++ w) (sym (append-nil (block_spelling b)))) (λ b before t over. (before, refl, over)) refl
-              (function_block_cut (parts l) l one (parts_sound l one) (parts_cut l two) ts f d deep)
+              (function_block_cut (parts l) l one (parts_sound l one) (parts_cut l) ts f d deep)
         ]
   ]
 

@@ -7,7 +7,7 @@ use Rattle.om_parser.specs.declared.declaration.Initial.TheVariants as initials
 use Rattle.om_parser.specs.declared.tree.ArrayLength.{ArrayLength}
 use Rattle.om_pragma.specs.declared.name.Name as names
 use Rattle.om_parser.specs.declared.tree.PrefixOperator.TheVariants as prefixes
-use Rattle.om_parser.specs.ExpressionReading.{sum_at}
+use Rattle.om_parser.specs.ExpressionReading.{whole_at}
 use Rattle.om_parser.specs.Limits.{Limits}
 use Rattle.om_parser.specs.Reading.{◌>>=◌, choose, Reader, take_mark, mark_at, name_at, number_at}
 use Rattle.om_parser.specs.Repetition.{until}
@@ -22,7 +22,7 @@ constant_at ts = choose (take_mark punctuators.Minus ts)
 -- what stands behind the `=` of a declarator (C17 6.7.9): a constant at file scope, an expression in a block
 unfoldable pub initial_at : Limits → Initial → Reader ExpressionTree
 initial_at l initials.Constant ts = constant_at ts
-initial_at l (initials.Expression room) ts = sum_at (length ts - l.tokens) room ts
+initial_at l (initials.Expression room) ts = whole_at l room ts
 
 -- the size of an array and the right bracket, behind the left one (C17 6.7.6.2)
 unfoldable pub array_after : Span → Reader ArrayLength

@@ -1,46 +1,77 @@
 -- Which trees are well-formed: the grammar beyond the order of tokens.
-use Rattle.std.specs.Prelude.{◌≡◌, ℕ, ◌<◌, ◌≤◌, Option, Some, None, IsSome, All, Bool, true, false}
+use Rattle.std.specs.Prelude.{◌≡◌, ℕ, ◌<◌, ◌≤◌, ◌⊎◌, Option, Some, None, IsSome, All, Bool, true, false, codes}
+use Rattle.om_pragma.specs.declared.name.Name as names
 use Rattle.om_parser.specs.declared.tree.ArrayLength.{ArrayLength}
 use Rattle.om_parser.specs.declared.tree.BinaryOperator.{BinaryOperator}
 use Rattle.om_parser.specs.declared.tree.BinaryOperator.TheVariants as binaries
 use Rattle.om_parser.specs.declared.tree.PrefixOperator.TheVariants as prefixes
 use Rattle.om_parser.specs.declared.tree.ResultType.{ResultType}
 use Rattle.om_parser.specs.declared.tree.ResultType.TheVariants as results
-use Rattle.om_parser.specs.Tree.{ExpressionTree, Name, Constant, Text, Paren, Index, Call, Prefix, Postfix, Binary, Conditional, Assign, InitializerTree, DeclaratorTree, DeclarationTree, StatementTree, Expression, Return, ParametersTree, NoParameters, Void, Listed, FunctionTree, ItemTree, Declaration, Prototype, Function, UnitTree, ConditionTree, ForStartTree, Nothing, StartExpression, StartDeclaration, ForHeadTree, StatementsTree, LocalDeclaration, Block, Empty, If, IfElse, While, Do, For, Break, Continue, Construct, StandAlone, Sections, Section, NoStatements, Statement, statements}
+use Rattle.om_parser.specs.Tree.{ExpressionTree, Name, Constant, Text, Paren, Index, Call, Prefix, Postfix, Binary, Conditional, Assign, ArgumentsTree, NoArguments, Argument, InitializerTree, DeclaratorTree, DeclarationTree, StatementTree, Expression, Return, ParametersTree, NoParameters, Void, Listed, FunctionTree, ItemTree, Declaration, Prototype, Function, UnitTree, ConditionTree, ForStartTree, Nothing, StartExpression, StartDeclaration, ForHeadTree, StatementsTree, LocalDeclaration, Block, Empty, If, IfElse, While, Do, For, Break, Continue, Construct, StandAlone, Sections, Section, NoStatements, Statement, statements}
 
 -- levels of precedence, the loosest first: 1 assignment (C17 6.5.16), 2 conditional (6.5.15), 3 and 4 logical (6.5.14, 6.5.13),
--- 5 equality (6.5.9), 6 relational (6.5.8), 7 additive (6.5.6), 8 multiplicative (6.5.5), 9 unary (6.5.3), 10 postfix and primary (6.5.2, 6.5.1)
+-- 5 equality (6.5.9), 6 relational (6.5.8), 7 additive (6.5.6), 8 multiplicative (6.5.5), 9 unary (6.5.3), 10 postfix (6.5.2), 11 primary, indexed or called (6.5.1, 6.5.2)
 abbrev pub binary_level : BinaryOperator → ℕ
+binary_level binaries.Or = 3
+binary_level binaries.And = 4
+binary_level binaries.Equal = 5
+binary_level binaries.NotEqual = 5
+binary_level binaries.Less = 6
+binary_level binaries.Greater = 6
+binary_level binaries.LessEqual = 6
+binary_level binaries.GreaterEqual = 6
 binary_level binaries.Add = 7
+binary_level binaries.Subtract = 7
+binary_level binaries.Multiply = 8
+binary_level binaries.Divide = 8
+binary_level binaries.Remainder = 8
 
 -- how tightly the outermost operator of an expression binds
 abbrev pub level : ExpressionTree → ℕ
-level (Name n) = 10
-level (Constant n) = 10
-level (Text t) = 10
-level (Paren left e right) = 10
-level (Index n left e right) = 10
-level (Call n left values right) = 10
+level (Name n) = 11
+level (Constant n) = 11
+level (Text t) = 11
+level (Paren left e right) = 11
+level (Index n left e right) = 11
+level (Call n left values right) = 11
 level (Prefix o at e) = 9
 level (Postfix e o at) = 10
 level (Binary a o at b) = binary_level o
 level (Conditional c question a colon b) = 2
 level (Assign a o at b) = 1
 
--- what may be assigned to: a name
-abbrev pub IsTarget : ExpressionTree → Type 0
-IsTarget (Name n) = Unit {0}
-IsTarget _ = ⊥
+-- a text, which alone `printf` takes
+abbrev pub IsTextOf : names.Name → ExpressionTree → Type 0
+IsTextOf n (Text t) = n.text ≡ codes "printf"
+IsTextOf n _ = ⊥
 
--- Each operand binds as tightly as its place asks: a binary operator takes its left operand first.
--- No assignment stands inside another expression.
-unfoldable pub IsExpression : ExpressionTree → Type 0
-IsExpression (Name n) = Unit {0}
-IsExpression (Constant n) = Unit {0}
-IsExpression (Paren left e right) = IsExpression e × (2 ≤ level e)
-IsExpression (Binary a o at b) = IsExpression a × IsExpression b × (binary_level o ≤ level a) × (binary_level o < level b)
-IsExpression (Assign a o at b) = IsExpression a × IsExpression b × IsTarget a × (2 ≤ level b)
-IsExpression _ = ⊥
+unfoldable mutual
+  -- Each operand binds as tightly as its place asks: a binary operator takes its left operand first, an assignment and
+  -- a conditional expression their right one. What is assigned to is a unary expression.
+  pub IsExpression : ExpressionTree → Type 0
+  IsExpression (Name n) = Unit {0}
+  IsExpression (Constant n) = Unit {0}
+  IsExpression (Text t) = ⊥
+  IsExpression (Paren left e right) = IsExpression e
+  IsExpression (Index n left e right) = IsExpression e
+  IsExpression (Call n left values right) = AreArguments n values
+  IsExpression (Prefix o at e) = IsExpression e × (9 ≤ level e)
+  IsExpression (Postfix e o at) = IsExpression e × (10 ≤ level e)
+  IsExpression (Binary a o at b) = IsExpression a × IsExpression b × (binary_level o ≤ level a) × (binary_level o < level b)
+  IsExpression (Conditional c question a colon b) = IsExpression c × IsExpression a × IsExpression b × (3 ≤ level c) × (2 ≤ level b)
+  IsExpression (Assign a o at b) = IsExpression a × IsExpression b × (9 ≤ level a)
+
+  -- the arguments of a call of this function: commas stand between them
+  pub AreArguments : names.Name → ArgumentsTree → Type 0
+  AreArguments n NoArguments = Unit {0}
+  AreArguments n (Argument None e rest) = (IsExpression e ⊎ IsTextOf n e) × AreFurther rest
+  AreArguments n (Argument (Some comma) e rest) = ⊥
+
+  -- those behind the first
+  pub AreFurther : ArgumentsTree → Type 0
+  AreFurther NoArguments = Unit {0}
+  AreFurther (Argument None e rest) = ⊥
+  AreFurther (Argument (Some comma) e rest) = IsExpression e × AreFurther rest
 
 -- a constant, perhaps with a minus (C17 6.6)
 abbrev pub IsSignedConstant : ExpressionTree → Type 0
@@ -65,13 +96,9 @@ IsDeclaration Admitted d = IsDeclarator Admitted d.first × All (λ further. IsD
 abbrev pub IsGlobalDeclaration : DeclarationTree → Type 0
 IsGlobalDeclaration = IsDeclaration IsSignedConstant
 
--- what a variable of a block starts with
-abbrev pub IsInitialValue : ExpressionTree → Type 0
-IsInitialValue e = IsExpression e × (2 ≤ level e)
-
 -- a variable of a block starts with the value of an expression
 abbrev pub IsLocalDeclaration : DeclarationTree → Type 0
-IsLocalDeclaration = IsDeclaration IsInitialValue
+IsLocalDeclaration = IsDeclaration IsExpression
 
 -- ---- statements
 

@@ -58,16 +58,22 @@ accepted = record { nested = NESTING_LIMIT; tokens = TOKEN_LIMIT; blocks = BLOCK
 unfoldable pub IsWithin : Limits → ExpressionTree → Type 0
 IsWithin l e = (nesting e ≤ l.nested) × (length (expression_spelling e) ≤ l.tokens)
 
--- how many parentheses stand open behind these tokens, where so many stood open before
+-- how many parentheses and brackets stand open behind these tokens, where so many stood open before
 unfoldable pub still_open : ℕ → List Token → ℕ
 still_open n [] = n
 still_open n (t ∷ ts) = still_open (open_after n t.kind) ts
   where
     open_after : ℕ → TokenKind → ℕ
     open_after n (kinds.Punctuator punctuators.OpenParen) = n + 1
+    open_after n (kinds.Punctuator punctuators.OpenBracket) = n + 1
     open_after n (kinds.Punctuator punctuators.CloseParen) = n - 1
+    open_after n (kinds.Punctuator punctuators.CloseBracket) = n - 1
     open_after n _ = n
 
--- the token behind these of one whole expression is one too many, or a parenthesis that nests too deep
+-- a left parenthesis or bracket
+abbrev pub IsOpening : TokenKind → Type 0
+IsOpening k = (k ≡ kinds.Punctuator punctuators.OpenParen) ⊎ (k ≡ kinds.Punctuator punctuators.OpenBracket)
+
+-- the token behind these of one whole expression is one too many, or a bracket that nests too deep
 abbrev pub IsTooMuch : Limits → List Token → Token → Type 0
-IsTooMuch l begun t = (length begun ≡ l.tokens) ⊎ ((t.kind ≡ kinds.Punctuator punctuators.OpenParen) × (still_open 0 begun ≡ l.nested))
+IsTooMuch l begun t = (length begun ≡ l.tokens) ⊎ (IsOpening t.kind × (still_open 0 begun ≡ l.nested))

@@ -66,11 +66,28 @@ postfix_mark postfixes.Decrement = punctuators.MinusMinus
 
 -- the punctuator of a binary operator
 abbrev pub binary_mark : BinaryOperator → Punctuator
+binary_mark binaries.Or = punctuators.OrOr
+binary_mark binaries.And = punctuators.AndAnd
+binary_mark binaries.Equal = punctuators.EqualEqual
+binary_mark binaries.NotEqual = punctuators.BangEqual
+binary_mark binaries.Less = punctuators.Less
+binary_mark binaries.Greater = punctuators.Greater
+binary_mark binaries.LessEqual = punctuators.LessEqual
+binary_mark binaries.GreaterEqual = punctuators.GreaterEqual
 binary_mark binaries.Add = punctuators.Plus
+binary_mark binaries.Subtract = punctuators.Minus
+binary_mark binaries.Multiply = punctuators.Star
+binary_mark binaries.Divide = punctuators.Slash
+binary_mark binaries.Remainder = punctuators.Percent
 
 -- the punctuator of an assignment
 abbrev pub assign_mark : AssignOperator → Punctuator
 assign_mark assigns.Set = punctuators.Equal
+assign_mark assigns.Add = punctuators.PlusEqual
+assign_mark assigns.Subtract = punctuators.MinusEqual
+assign_mark assigns.Multiply = punctuators.StarEqual
+assign_mark assigns.Divide = punctuators.SlashEqual
+assign_mark assigns.Remainder = punctuators.PercentEqual
 
 -- a part that may be left out
 abbrev pub perhaps : {A : Type 0} → (A → List Token) → Option A → List Token

@@ -29,6 +29,11 @@ abbrev pub start_of_mark : Punctuator → Start
 start_of_mark punctuators.OpenBrace = starts.Block
 start_of_mark punctuators.Semicolon = starts.Empty
 start_of_mark punctuators.OpenParen = starts.Expression
+start_of_mark punctuators.Plus = starts.Expression
+start_of_mark punctuators.Minus = starts.Expression
+start_of_mark punctuators.Bang = starts.Expression
+start_of_mark punctuators.PlusPlus = starts.Expression
+start_of_mark punctuators.MinusMinus = starts.Expression
 start_of_mark _ = starts.Nothing
 
 abbrev pub start_of_word : Keyword → Start

@@ -1,5 +1,5 @@
 -- The tree of a value of the program.
-use Rattle.std.specs.Prelude.{map, option_map}
+use Rattle.std.specs.Prelude.{Option, map, option_map}
 use Rattle.om_lexer.specs.declared.token.Span.{Span}
 use Rattle.om_pragma.specs.declared.tree.Directive.{Directive}
 use Rattle.om_pragma.specs.Expressions.{map_directive}
@@ -42,6 +42,10 @@ expression_layer (Expression-F.Assign a o at b) = trees.Assign a.value o at b.va
 -- an expression without boxes and capacities
 abbrev pub view_expression : Expression → ExpressionTree
 view_expression = fold-Expression ExpressionTree expression_layer
+
+-- an argument behind its comma, if it has one
+abbrev pub view_argument : Option Span × Expression → Option Span × ExpressionTree
+view_argument a = (a.0, view_expression a.1)
 
 -- the same of an initializer
 abbrev pub view_initializer : Initializer → InitializerTree

@@ -9,10 +9,9 @@ ghost use Rattle.om_parser.specs.DeclarationReading.{constant_at, initial_at, ar
 ghost use Rattle.om_parser.specs.declared.declaration.Initial.TheVariants as initials;
 ghost use Rattle.om_parser.specs.View.{view_expression, view_declarator, view_declaration};
 
-use crate::expression::sum;
+use crate::expression::whole;
 use crate::front::{mark, name, number, take_mark};
 use crate::tree::{ArrayLength, Declaration, Declarator, Expression, Initializer, PrefixOperator};
-use crate::unit::TOKEN_LIMIT;
 use om_lexer::{Punctuator, SourceFault, Span, Token};
 use om_pragma::Name;
 use std::alloc::Global;
@@ -175,12 +174,7 @@ fn initial_value(
 {
     match initial {
         Initial::Constant => constant(alloc, tokens),
-        Initial::Expression(room) => sum(
-            alloc,
-            tokens,
-            tokens.len().saturating_sub(TOKEN_LIMIT),
-            room,
-        ),
+        Initial::Expression(room) => whole(alloc, tokens, room),
     }
 }
 

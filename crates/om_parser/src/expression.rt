@@ -1,131 +1,515 @@
-//! Expressions: sums of names, constants and sums in parentheses (C17 6.5).
+//! Expressions (C17 6.5).
 
-ghost use Rattle.std.specs.Prelude.{◌≡◌, IfOk, option_map};
-ghost use Rattle.om_parser.specs.ExpressionReading.{binary_of, take_binary, IsTakenWithin, sum_at, primary_at, paren_after, sum_step};
+ghost use Rattle.std.specs.Prelude.{◌≡◌, ◌-◌, suc, true, false, Some, length, map, IfOk};
+ghost use Rattle.om_parser.specs.ExpressionReading.{argument_at, arguments_at, binary_at, binary_more, call_after, chain_at, closed_by, conditional_after, deeper, expression_after, expression_at, expression_step, first_at, named_after, operand_at, postfix_more, postfix_step, primary_step, unary_step, whole_at, IsTakenWithin};
+ghost use Rattle.om_parser.specs.Limits.{accepted};
 ghost use Rattle.om_parser.specs.Reading.{Reads};
-ghost use Rattle.om_parser.specs.Tree.{Binary};
-ghost use Rattle.om_parser.specs.View.{view_expression};
+ghost use Rattle.om_parser.specs.Tree.{Assign, Binary, Conditional, Postfix, Prefix};
+ghost use Rattle.om_parser.specs.View.{view_argument, view_expression};
 
-use crate::front::{mark, name, take_mark, take_number, too_deep};
-use crate::tree::{BinaryOperator, Expression};
-use om_lexer::{Punctuator, SourceFault, Span, Token, TokenKind};
+use crate::front::{mark, name, syntax, take_mark, take_number, too_deep};
+use crate::operator::{take_assign, take_looser, take_postfix, take_prefix, take_text};
+use crate::tree::{AssignOperator, BinaryOperator, Expression, PostfixOperator, PrefixOperator};
+use crate::unit::TOKEN_LIMIT;
+use om_lexer::{Punctuator, SourceFault, Span, Token};
+use om_pragma::Name;
 use std::alloc::{AllocError, Global};
 
-/// The binary operator that a token of this kind is (C17 6.5.5 to 6.5.14).
-fn binary_operator(kind: &TokenKind) -> Option<BinaryOperator>
-    ensures { result ≡ binary_of kind.now }
-{
-    match kind {
-        TokenKind::Punctuator(Punctuator::Plus) => Some(BinaryOperator::Add),
-        _ => None,
-    }
-}
+/// The levels of precedence between operands: from `||` to `*`.
+const LEVELS: usize = 6;
 
-/// The operator that stands first, its span, and the tokens behind it.
-#[tactic(auto, unfolding(crate::specs::ExpressionReading::take_binary, crate::specs::Reading::take))]
-fn take_binary(tokens: &[Token]) -> Option<(BinaryOperator, Span, &[Token])>
-    ensures { option_map (λ x. ((x.0, x.1), x.2.now)) result ≡ take_binary tokens.now }
-{
-    match tokens {
-        [first, rest @ ..] => {
-            let operator = binary_operator(&first.kind)?;
-            Some((operator, first.span, rest))
-        }
-        [] => None,
-    }
-}
-
-/// Refuses the first of these tokens, at its span, where only the `beyond` tokens that the
-/// expression may not have are left.
-fn within(tokens: &[Token], span: Span, beyond: usize) -> Result<(), SourceFault>
-    ensures { IsTakenWithin beyond span tokens.now result }
-{
-    if tokens.len() <= beyond {
-        return Err(too_deep(span));
-    }
-    Ok(())
-}
-
-/// Two operands and the operator between them.
-fn binary(
+/// A whole expression, with room for `room` brackets round a part of it, and the tokens behind it.
+#[tactic(auto, unfolding(crate::specs::ExpressionReading::whole_at))]
+pub fn whole(
     alloc: Global,
-    left: Expression,
-    operator: BinaryOperator,
-    span: Span,
-    right: Expression,
-) -> Result<Expression, AllocError>
-    ensures { IfOk result (λ both. view_expression both ≡ Binary (view_expression left) operator span (view_expression right)) }
+    tokens: &[Token],
+    room: usize,
+) -> Result<(Expression, &[Token]), SourceFault>
+    ensures { Reads (λ x. (view_expression x.0, x.1.now)) result (whole_at accepted room tokens.now) }
 {
-    let left = Box::new(alloc, left)?;
-    let right = Box::new(alloc, right)?;
-    Ok(Expression::Binary(left, operator, span, right))
+    let beyond = tokens.len().saturating_sub(TOKEN_LIMIT);
+    expression(alloc, tokens, beyond, tokens.len(), true, room)
 }
 
-/// A sum, in at most `room` parentheses, and the tokens behind it.
+/// Refuses the token before these, at its span, where fewer than `beyond` tokens are left
+/// behind it.
+fn within(rest: &[Token], span: Span, beyond: usize) -> Result<(), SourceFault>
+    ensures { IsTakenWithin beyond span rest.now result }
+{
+    if beyond <= rest.len() {
+        Ok(())
+    } else {
+        Err(too_deep(span))
+    }
+}
+
+/// An expression, or one that is no assignment, with room for `room` brackets round a part of
+/// it, and the tokens behind it. `turns` bounds how often operators and brackets nest.
 #[cycle(expression)]
-#[tactic(auto, unfolding(crate::specs::ExpressionReading::sum_at, crate::specs::ExpressionReading::sum_step))]
-pub fn sum(
+#[tactic(auto, unfolding(crate::specs::ExpressionReading::expression_at))]
+fn expression(
     alloc: Global,
     tokens: &[Token],
     beyond: usize,
+    turns: usize,
+    may_assign: bool,
     room: usize,
 ) -> Result<(Expression, &[Token]), SourceFault>
-    ensures { Reads (λ x. (view_expression x.0, x.1.now)) result (sum_at beyond room tokens.now) }
+    ensures { Reads (λ x. (view_expression x.0, x.1.now)) result (expression_at beyond turns may_assign room tokens.now) }
 {
-    let (mut left, mut rest) = primary(alloc, tokens, beyond, room)?;
-    while let Some((operator, span, others)) = take_binary(rest) {
-        within(rest, span, beyond)?;
-        let (right, others) = primary(alloc, others, beyond, room)?;
-        left = binary(alloc, left, operator, span, right)?;
+    let Some(turns) = turns.checked_sub(1) else {
+        return Err(syntax(tokens));
+    };
+    next_expression(alloc, tokens, beyond, turns, may_assign, room)
+}
+
+/// An expression, or one that is no assignment, of which a turn is taken.
+#[cycle(expression)]
+#[tactic(auto, unfolding(crate::specs::ExpressionReading::expression_step))]
+fn next_expression(
+    alloc: Global,
+    tokens: &[Token],
+    beyond: usize,
+    turns: usize,
+    may_assign: bool,
+    room: usize,
+) -> Result<(Expression, &[Token]), SourceFault>
+    ensures { Reads (λ x. (view_expression x.0, x.1.now)) result (expression_step beyond may_assign (binary_at beyond (operand_at beyond turns room) LEVELS) (expression_at beyond turns true room) (expression_at beyond turns false room) tokens.now) }
+{
+    let (left, rest) = binary(alloc, tokens, beyond, turns, room, LEVELS)?;
+    expression_after(alloc, left, rest, beyond, turns, may_assign, room)
+}
+
+/// An operand and what goes on with it: the rest of a conditional expression, of an assignment,
+/// or nothing.
+#[cycle(expression)]
+#[tactic(auto, unfolding(crate::specs::ExpressionReading::expression_after, crate::specs::ExpressionReading::within))]
+fn expression_after(
+    alloc: Global,
+    left: Expression,
+    tokens: &[Token],
+    beyond: usize,
+    turns: usize,
+    may_assign: bool,
+    room: usize,
+) -> Result<(Expression, &[Token]), SourceFault>
+    ensures { Reads (λ x. (view_expression x.0, x.1.now)) result (expression_after beyond may_assign (expression_at beyond turns true room) (expression_at beyond turns false room) (view_expression left) tokens.now) }
+{
+    if let Some((question, rest)) = take_mark(tokens, Punctuator::Question) {
+        within(rest, question, beyond)?;
+        return conditional_after(alloc, left, question, rest, beyond, turns, room);
+    }
+    if let Some((operator, at, rest)) = take_assign(may_assign, &left, tokens) {
+        within(rest, at, beyond)?;
+        let (value, rest) = expression(alloc, rest, beyond, turns, true, room)?;
+        return Ok((assignment(alloc, left, operator, at, value)?, rest));
+    }
+    Ok((left, tokens))
+}
+
+/// The rest of a conditional expression, of which the question mark is taken.
+#[cycle(expression)]
+#[tactic(auto, unfolding(crate::specs::ExpressionReading::conditional_after, crate::specs::ExpressionReading::within))]
+fn conditional_after(
+    alloc: Global,
+    condition: Expression,
+    question: Span,
+    tokens: &[Token],
+    beyond: usize,
+    turns: usize,
+    room: usize,
+) -> Result<(Expression, &[Token]), SourceFault>
+    ensures { Reads (λ x. (view_expression x.0, x.1.now)) result (conditional_after beyond (expression_at beyond turns true room) (expression_at beyond turns false room) (view_expression condition) question tokens.now) }
+{
+    let (value, rest) = expression(alloc, tokens, beyond, turns, true, room)?;
+    let (colon, rest) = mark(rest, Punctuator::Colon)?;
+    within(rest, colon, beyond)?;
+    let (other, rest) = expression(alloc, rest, beyond, turns, false, room)?;
+    Ok((
+        conditional(alloc, condition, question, value, colon, other)?,
+        rest,
+    ))
+}
+
+/// Operands and the operators between them, of the tightest `levels` levels, and the tokens
+/// behind them.
+#[cycle(expression)]
+#[tactic(auto, unfolding(crate::specs::ExpressionReading::binary_at))]
+fn binary(
+    alloc: Global,
+    tokens: &[Token],
+    beyond: usize,
+    turns: usize,
+    room: usize,
+    levels: usize,
+) -> Result<(Expression, &[Token]), SourceFault>
+    ensures { Reads (λ x. (view_expression x.0, x.1.now)) result (binary_at beyond (operand_at beyond turns room) levels tokens.now) }
+{
+    let Some(tighter) = levels.checked_sub(1) else {
+        return unary(alloc, tokens, beyond, turns, room);
+    };
+    looser(alloc, tokens, beyond, turns, room, tighter)
+}
+
+/// Operands and the operators between them, of the tightest `tighter` levels and the next, and
+/// the tokens behind them.
+#[cycle(expression)]
+#[tactic(auto, unfolding(crate::specs::ExpressionReading::binary_at))]
+fn looser(
+    alloc: Global,
+    tokens: &[Token],
+    beyond: usize,
+    turns: usize,
+    room: usize,
+    tighter: usize,
+) -> Result<(Expression, &[Token]), SourceFault>
+    ensures { Reads (λ x. (view_expression x.0, x.1.now)) result (binary_at beyond (operand_at beyond turns room) (suc tighter) tokens.now) }
+{
+    let (left, rest) = binary(alloc, tokens, beyond, turns, room, tighter)?;
+    operators(alloc, left, rest, beyond, turns, room, tighter)
+}
+
+/// An operand, the operators of one level with their right operands, and the tokens behind them.
+#[cycle(expression)]
+fn operators(
+    alloc: Global,
+    operand: Expression,
+    tokens: &[Token],
+    beyond: usize,
+    turns: usize,
+    room: usize,
+    tighter: usize,
+) -> Result<(Expression, &[Token]), SourceFault>
+    ensures { let operands = binary_at beyond (operand_at beyond turns room) tighter in
+        Reads (λ x. (view_expression x.0, x.1.now)) result (chain_at (binary_more beyond (8 - tighter) operands) (length tokens.now) (view_expression operand) tokens.now) }
+{
+    let mut left = operand;
+    let mut rest = tokens;
+    while let Some((operator, at, others)) = take_looser(rest, tighter) {
+        within(others, at, beyond)?;
+        let (right, others) = binary(alloc, others, beyond, turns, room, tighter)?;
+        left = joined(alloc, left, operator, at, right)?;
         rest = others;
     }
     Ok((left, rest))
 }
 
-/// A name, a constant or a sum in parentheses, and the tokens behind it.
+/// An operand with the operators before and behind it, and the tokens behind it.
 #[cycle(expression)]
-#[tactic(auto, unfolding(crate::specs::ExpressionReading::primary_at, crate::specs::ExpressionReading::primary_step, crate::specs::ExpressionReading::sum_at, crate::specs::ExpressionReading::within))]
+#[tactic(auto, unfolding(crate::specs::ExpressionReading::unary_at, crate::specs::ExpressionReading::unary_step, crate::specs::ExpressionReading::within))]
+fn unary(
+    alloc: Global,
+    tokens: &[Token],
+    beyond: usize,
+    turns: usize,
+    room: usize,
+) -> Result<(Expression, &[Token]), SourceFault>
+    ensures { Reads (λ x. (view_expression x.0, x.1.now)) result (operand_at beyond turns room tokens.now) }
+{
+    let Some((operator, at, rest)) = take_prefix(tokens) else {
+        return postfix(alloc, tokens, beyond, turns, room);
+    };
+    within(rest, at, beyond)?;
+    let Some(turns) = turns.checked_sub(1) else {
+        return Err(syntax(rest));
+    };
+    let (operand, rest) = unary(alloc, rest, beyond, turns, room)?;
+    Ok((prefixed(alloc, operator, at, operand)?, rest))
+}
+
+/// An operand with the operators behind it, and the tokens behind them.
+#[cycle(expression)]
+#[tactic(auto, unfolding(crate::specs::ExpressionReading::postfix_step))]
+fn postfix(
+    alloc: Global,
+    tokens: &[Token],
+    beyond: usize,
+    turns: usize,
+    room: usize,
+) -> Result<(Expression, &[Token]), SourceFault>
+    ensures { Reads (λ x. (view_expression x.0, x.1.now)) result (postfix_step beyond (primary_step beyond (deeper (expression_at beyond turns true) room)) tokens.now) }
+{
+    let (operand, rest) = primary(alloc, tokens, beyond, turns, room)?;
+    postfixes(alloc, operand, rest, beyond)
+}
+
+/// An operand, the operators behind it, and the tokens behind them.
+fn postfixes(
+    alloc: Global,
+    operand: Expression,
+    tokens: &[Token],
+    beyond: usize,
+) -> Result<(Expression, &[Token]), SourceFault>
+    ensures { Reads (λ x. (view_expression x.0, x.1.now)) result (chain_at (postfix_more beyond) (length tokens.now) (view_expression operand) tokens.now) }
+{
+    let mut left = operand;
+    let mut rest = tokens;
+    while let Some((operator, at, others)) = take_postfix(rest) {
+        within(others, at, beyond)?;
+        left = postfixed(alloc, left, operator, at)?;
+        rest = others;
+    }
+    Ok((left, rest))
+}
+
+/// A constant, an expression in parentheses, or what begins with a name, and the tokens behind
+/// it.
+#[cycle(expression)]
+#[tactic(auto, unfolding(crate::specs::ExpressionReading::primary_step, crate::specs::ExpressionReading::paren_after, crate::specs::ExpressionReading::within))]
 fn primary(
     alloc: Global,
     tokens: &[Token],
     beyond: usize,
+    turns: usize,
     room: usize,
 ) -> Result<(Expression, &[Token]), SourceFault>
-    ensures { Reads (λ x. (view_expression x.0, x.1.now)) result (primary_at beyond room tokens.now) }
+    ensures { Reads (λ x. (view_expression x.0, x.1.now)) result (primary_step beyond (deeper (expression_at beyond turns true) room) tokens.now) }
 {
     if let Some((number, rest)) = take_number(tokens) {
-        within(tokens, number.span, beyond)?;
+        within(rest, number.span, beyond)?;
         return Ok((Expression::Constant(number), rest));
     }
     if let Some((left, rest)) = take_mark(tokens, Punctuator::OpenParen) {
-        within(tokens, left, beyond)?;
+        within(rest, left, beyond)?;
         let Some(room) = room.checked_sub(1) else {
             return Err(too_deep(left));
         };
-        return paren_after(alloc, left, rest, beyond, room);
+        let (inner, right, rest) = closed(
+            alloc,
+            rest,
+            Punctuator::CloseParen,
+            beyond,
+            turns,
+            room,
+        )?;
+        return Ok((
+            Expression::Paren(left, Box::new(alloc, inner)?, right),
+            rest,
+        ));
     }
     let (name, rest) = name(alloc, tokens)?;
-    within(tokens, name.span, beyond)?;
-    Ok((Expression::Name(name), rest))
+    within(rest, name.span, beyond)?;
+    named_after(alloc, name, rest, beyond, turns, room)
 }
 
-/// The rest of a sum in parentheses, of which the left one is taken.
+/// An expression, the span of the mark that closes its bracket, and the tokens behind it.
 #[cycle(expression)]
-#[tactic(auto, unfolding(crate::specs::ExpressionReading::paren_after, crate::specs::ExpressionReading::sum_at, crate::specs::ExpressionReading::within, crate::specs::Reading::mark_at))]
-fn paren_after(
+#[tactic(auto, unfolding(crate::specs::ExpressionReading::closed_by, crate::specs::ExpressionReading::within))]
+fn closed(
     alloc: Global,
+    tokens: &[Token],
+    close: Punctuator,
+    beyond: usize,
+    turns: usize,
+    room: usize,
+) -> Result<(Expression, Span, &[Token]), SourceFault>
+    ensures { Reads (λ x. ((view_expression x.0, x.1), x.2.now)) result (closed_by beyond close (expression_at beyond turns true room) tokens.now) }
+{
+    let (inner, rest) = expression(alloc, tokens, beyond, turns, true, room)?;
+    let (right, rest) = mark(rest, close)?;
+    within(rest, right, beyond)?;
+    Ok((inner, right, rest))
+}
+
+/// A name, and its index or its arguments, where they stand behind it.
+#[cycle(expression)]
+#[tactic(auto, unfolding(crate::specs::ExpressionReading::named_after, crate::specs::ExpressionReading::index_after, crate::specs::ExpressionReading::within))]
+fn named_after(
+    alloc: Global,
+    name: Name,
+    tokens: &[Token],
+    beyond: usize,
+    turns: usize,
+    room: usize,
+) -> Result<(Expression, &[Token]), SourceFault>
+    ensures { Reads (λ x. (view_expression x.0, x.1.now)) result (named_after beyond (deeper (expression_at beyond turns true) room) name tokens.now) }
+{
+    if let Some((left, rest)) = take_mark(tokens, Punctuator::OpenBracket) {
+        within(rest, left, beyond)?;
+        let Some(room) = room.checked_sub(1) else {
+            return Err(too_deep(left));
+        };
+        let (index, right, rest) = closed(
+            alloc,
+            rest,
+            Punctuator::CloseBracket,
+            beyond,
+            turns,
+            room,
+        )?;
+        let index = Box::new(alloc, index)?;
+        return Ok((Expression::Index(name, left, index, right), rest));
+    }
+    if let Some((left, rest)) = take_mark(tokens, Punctuator::OpenParen) {
+        within(rest, left, beyond)?;
+        let Some(room) = room.checked_sub(1) else {
+            return Err(too_deep(left));
+        };
+        return call_after(alloc, name, left, rest, beyond, turns, room);
+    }
+    Ok((Expression::Name(name), tokens))
+}
+
+/// The rest of a call, of which the left parenthesis is taken.
+#[cycle(expression)]
+#[tactic(auto, unfolding(crate::specs::ExpressionReading::call_after, crate::specs::ExpressionReading::arguments_after, crate::specs::ExpressionReading::within))]
+fn call_after(
+    alloc: Global,
+    name: Name,
     left: Span,
     tokens: &[Token],
     beyond: usize,
+    turns: usize,
     room: usize,
 ) -> Result<(Expression, &[Token]), SourceFault>
-    ensures { Reads (λ x. (view_expression x.0, x.1.now)) result (paren_after beyond (sum_at beyond room) left tokens.now) }
+    ensures { Reads (λ x. (view_expression x.0, x.1.now)) result (call_after beyond (expression_at beyond turns true room) name left tokens.now) }
 {
-    let (inner, rest) = sum(alloc, tokens, beyond, room)?;
-    let (right, others) = mark(rest, Punctuator::CloseParen)?;
+    if let Some((right, rest)) = take_mark(tokens, Punctuator::CloseParen) {
+        within(rest, right, beyond)?;
+        return Ok((Expression::Call(name, left, Vec::new(alloc), right), rest));
+    }
+    let (first, rest) = first_argument(alloc, &name, tokens, beyond, turns, room)?;
+    let (arguments, right, rest) = arguments(alloc, first, rest, beyond, turns, room)?;
     within(rest, right, beyond)?;
-    Ok((
-        Expression::Paren(left, Box::new(alloc, inner)?, right),
-        others,
-    ))
+    Ok((Expression::Call(name, left, arguments, right), rest))
 }
+
+/// The first argument of a call of this function, and the tokens behind it.
+#[cycle(expression)]
+#[tactic(auto, unfolding(crate::specs::ExpressionReading::first_at, crate::specs::ExpressionReading::within))]
+fn first_argument<'a>(
+    alloc: Global,
+    function: &Name,
+    tokens: &'a [Token],
+    beyond: usize,
+    turns: usize,
+    room: usize,
+) -> Result<(Expression, &'a [Token]), SourceFault>
+    ensures { Reads (λ x. (view_expression x.0, x.1.now)) result (first_at beyond (expression_at beyond turns true room) function.now tokens.now) }
+{
+    if let Some((text, rest)) = take_text(alloc, function, tokens)? {
+        within(rest, text.span, beyond)?;
+        return Ok((Expression::Text(text), rest));
+    }
+    expression(alloc, tokens, beyond, turns, true, room)
+}
+
+/// The first argument and those behind commas, the span of the parenthesis behind them, and the
+/// tokens behind that.
+#[cycle(expression)]
+fn arguments(
+    alloc: Global,
+    first: Expression,
+    tokens: &[Token],
+    beyond: usize,
+    turns: usize,
+    room: usize,
+) -> Result<(Vec<(Option<Span>, Expression)>, Span, &[Token]), SourceFault>
+    ensures { Reads (λ x. (map view_argument x.0.items, x.1, x.2.now)) result (arguments_at beyond (expression_at beyond turns true room) (view_expression first) tokens.now) }
+{
+    let mut arguments = Vec::new(alloc);
+    arguments.push((None, first))?;
+    let mut rest = tokens;
+    'further: loop {
+        if let Some((right, after)) = take_mark(rest, Punctuator::CloseParen) {
+            return Ok((arguments, right, after));
+        }
+        let (comma, next, after) = argument(alloc, rest, beyond, turns, room)?;
+        arguments.push((Some(comma), next))?;
+        rest = after;
+    }
+}
+
+/// A comma, the argument behind it, and the tokens behind that.
+#[cycle(expression)]
+#[tactic(auto, unfolding(crate::specs::ExpressionReading::argument_at, crate::specs::ExpressionReading::within))]
+fn argument(
+    alloc: Global,
+    tokens: &[Token],
+    beyond: usize,
+    turns: usize,
+    room: usize,
+) -> Result<(Span, Expression, &[Token]), SourceFault>
+    ensures { Reads (λ x. ((Some x.0, view_expression x.1), x.2.now)) result (argument_at beyond (expression_at beyond turns true room) tokens.now) }
+{
+    let (comma, rest) = mark(tokens, Punctuator::Comma)?;
+    within(rest, comma, beyond)?;
+    let (next, rest) = expression(alloc, rest, beyond, turns, true, room)?;
+    Ok((comma, next, rest))
+}
+
+/// An operator and its operand.
+fn prefixed(
+    alloc: Global,
+    operator: PrefixOperator,
+    at: Span,
+    operand: Expression,
+) -> Result<Expression, AllocError>
+    ensures { IfOk result (λ made. view_expression made ≡ Prefix operator at (view_expression operand)) }
+{
+    let operand = Box::new(alloc, operand)?;
+    Ok(Expression::Prefix(operator, at, operand))
+}
+
+/// An operand and the operator behind it.
+fn postfixed(
+    alloc: Global,
+    operand: Expression,
+    operator: PostfixOperator,
+    at: Span,
+) -> Result<Expression, AllocError>
+    ensures { IfOk result (λ made. view_expression made ≡ Postfix (view_expression operand) operator at) }
+{
+    let operand = Box::new(alloc, operand)?;
+    Ok(Expression::Postfix(operand, operator, at))
+}
+
+/// Two operands and the operator between them.
+fn joined(
+    alloc: Global,
+    left: Expression,
+    operator: BinaryOperator,
+    at: Span,
+    right: Expression,
+) -> Result<Expression, AllocError>
+    ensures { IfOk result (λ made. view_expression made ≡ Binary (view_expression left) operator at (view_expression right)) }
+{
+    let left = Box::new(alloc, left)?;
+    let right = Box::new(alloc, right)?;
+    Ok(Expression::Binary(left, operator, at, right))
+}
+
+/// A conditional expression.
+fn conditional(
+    alloc: Global,
+    condition: Expression,
+    question: Span,
+    value: Expression,
+    colon: Span,
+    other: Expression,
+) -> Result<Expression, AllocError>
+    ensures { IfOk result (λ made. view_expression made ≡ Conditional (view_expression condition) question (view_expression value) colon (view_expression other)) }
+{
+    let condition = Box::new(alloc, condition)?;
+    let value = Box::new(alloc, value)?;
+    let other = Box::new(alloc, other)?;
+    Ok(Expression::Conditional(condition, question, value, colon, other))
+}
+
+/// An assignment.
+fn assignment(
+    alloc: Global,
+    target: Expression,
+    operator: AssignOperator,
+    at: Span,
+    value: Expression,
+) -> Result<Expression, AllocError>
+    ensures { IfOk result (λ made. view_expression made ≡ Assign (view_expression target) operator at (view_expression value)) }
+{
+    let target = Box::new(alloc, target)?;
+    let value = Box::new(alloc, value)?;
+    Ok(Expression::Assign(target, operator, at, value))
+}
+
+#[cfg(test)]
+mod tests;

@@ -5,6 +5,7 @@ mod declaration;
 mod expression;
 mod front;
 mod function;
+mod operator;
 mod part;
 mod statement;
 mod tree;

@@ -55,6 +55,11 @@ fn start_of_mark(mark: Punctuator) -> Start
         Punctuator::OpenBrace => Start::Block,
         Punctuator::Semicolon => Start::Empty,
         Punctuator::OpenParen => Start::Expression,
+        Punctuator::Plus => Start::Expression,
+        Punctuator::Minus => Start::Expression,
+        Punctuator::Bang => Start::Expression,
+        Punctuator::PlusPlus => Start::Expression,
+        Punctuator::MinusMinus => Start::Expression,
         _ => Start::Nothing,
     }
 }

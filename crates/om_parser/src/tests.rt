@@ -177,23 +177,14 @@ fn the_first_token_that_no_unit_has_there(rt: HostRuntime) -> Result<(), Fail> {
         ("int main(void) { } ", "}"),
         // statements
         ("int main(void) { ", "else ; }"),
-        ("int main(void) { 1 ", "= 2; }"),
-        ("int main(void) { (x) ", "= 2; }"),
-        ("int main(void) { x ", "+= 1; }"),
         ("int main(void) { x = ", "; }"),
         ("int main(void) { x = 1 ", "}"),
-        ("int main(void) { x = y ", "= 1; }"),
         // expressions
         ("int main(void) { x = 1 ", "2; }"),
-        ("int main(void) { x = 1 ", "- 2; }"),
         ("int main(void) { x = 1 + ", "; }"),
-        ("int main(void) { x = 1 + ", "+ 2; }"),
-        ("int main(void) { x = ", "-1; }"),
         ("int main(void) { x = (", "); }"),
         ("int main(void) { x = (1 + 2", "; }"),
         ("int main(void) { x = (1 + 2)", "); }"),
-        ("int main(void) { x = (y ", "= 1); }"),
-        ("int main(void) { x = f", "(1); }"),
         ("int main(void) { x = ", "return; }"),
     ] {
         let source = format!(in alloc; "{before}{rest}")?;
@@ -261,7 +252,7 @@ fn limits_at_their_edge(rt: HostRuntime) -> Result<(), Fail> {
         (2046, "1+", "2+", "", "S3 at 4111"),
         (2047, "1+", "", "", "S3 at 4111"),
         (2047, "1+", "2", "", "S16 at 4111"),
-        (2047, "1+", " +", "", "S3 at 4112"),
+        (2047, "1+", " +", "", "S16 at 4112"),
         (2047, "1+", "(", "", "S16 at 4111"),
     ] {
         let source = repeated(alloc, count, open, middle, close)?;

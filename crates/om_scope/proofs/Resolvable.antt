@@ -2,6 +2,8 @@
 use Rattle.std.proofs.Common.{◌≡◌, pos, ℕ, suc, ◌≤◌, List, [], ◌∷◌, ◌++◌, All, Option, None, Some, refl, arith}
 use Rattle.om_lexer.specs.declared.fault.SourceFault.{SourceFault}
 use Rattle.om_parser.specs.declared.tree.AssignOperator.TheVariants as assigns
+use Rattle.om_parser.specs.declared.tree.BinaryOperator.TheVariants as binaries
+use Rattle.om_scope.specs.declared.resolved.ResolvedOperator.TheVariants as operators
 use Rattle.om_parser.specs.Tree.{ExpressionTree, Name, Constant, Text, Paren, Index, Call, Prefix, Postfix, Binary, Conditional, Assign, StatementTree, LocalDeclaration, Block, Empty, Expression, If, IfElse, While, Do, For, Return, Break, Continue, Construct, StandAlone, Sections, Section, FunctionTree, ItemTree, Declaration, Prototype, Function}
 use Rattle.om_scope.specs.declared.symbols.Meaning.{Meaning}
 use Rattle.om_scope.specs.declared.symbols.Meaning.TheVariants as meanings
@@ -38,10 +40,11 @@ has_expression scopes (Name n) whole =
     record { value = resolved.Variable v.value; is = rw v.is refl }
 has_expression scopes (Constant n) whole = record { value = resolved.Constant (pos n.value); is = refl }
 has_expression scopes (Paren left e right) whole = has_expression scopes e whole
-has_expression scopes (Binary a o at b) whole =
+has_expression scopes (Binary a binaries.Add at b) whole =
     let x = has_expression scopes a (front_empty (expression_breaches scopes a) (expression_breaches scopes b) whole) in
     let y = has_expression scopes b (back_empty (expression_breaches scopes a) (expression_breaches scopes b) whole) in
-    record { value = resolved.Binary x.value o y.value; is = rw (x.is, y.is) refl }
+    record { value = resolved.Binary x.value operators.Add y.value; is = rw (x.is, y.is) refl }
+has_expression scopes (Binary a o at b) whole = cc
 has_expression scopes (Text t) whole = cc
 has_expression scopes (Index name left i right) whole = cc
 has_expression scopes (Call name left values right) whole = cc
@@ -70,6 +73,7 @@ has_assignment scopes (Conditional c question a colon d) b whole = cc
 has_run : (scopes : Scopes) (e : ExpressionTree) → run_breaches scopes e ≡ [] → Has (resolved_run scopes e)
 unfolding run_breaches resolved_run
 has_run scopes (Assign a assigns.Set at b) whole = has_assignment scopes a b whole
+has_run scopes (Assign a o at b) whole = cc
 has_run scopes (Name name) whole = cc
 has_run scopes (Constant number) whole = cc
 has_run scopes (Paren left c right) whole = cc

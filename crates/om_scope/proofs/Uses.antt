@@ -11,6 +11,8 @@ use Rattle.std.proofs.lemmas.List.Elements.{All-nil, All-cons, All-append, All-h
 use Rattle.om_lexer.specs.declared.fault.FaultCode.TheVariants as faults
 use Rattle.om_lexer.specs.declared.fault.SourceFault.{SourceFault}
 use Rattle.om_parser.specs.declared.tree.AssignOperator.TheVariants as assigns
+use Rattle.om_parser.specs.declared.tree.BinaryOperator.TheVariants as binaries
+use Rattle.om_scope.specs.declared.resolved.ResolvedOperator.TheVariants as operators
 use Rattle.om_parser.specs.Tree.{ExpressionTree, Name, Constant, Text, Paren, Index, Call, Prefix, Postfix, Binary, Conditional, Assign, DeclaratorTree, StatementTree, LocalDeclaration, Block, Empty, Expression, If, IfElse, While, Do, For, Return, Break, Continue, Construct, StandAlone, Sections, Section, FunctionTree, ItemTree, Declaration, Prototype, Function, UnitTree}
 use Rattle.om_scope.specs.declared.resolved.GlobalVariable.{GlobalVariable}
 use Rattle.om_scope.specs.declared.resolved.Variable.{Variable}
@@ -107,11 +109,12 @@ expression_uses n scopes (Constant number) x h e = let s = some_same e in subst 
     some_same : {y : ResolvedExpressionTree} → Some y ≡ Some x → y ≡ x
     some_same f = cc
 expression_uses n scopes (Paren left e right) x h f = expression_uses n scopes e x h f
-expression_uses n scopes (Binary a o at b) x h e =
+expression_uses n scopes (Binary a binaries.Add at b) x h e =
     let va = bound (resolved_expression scopes a) _ x e in
     let vb = bound (resolved_expression scopes b) _ x va.2 in
-    let s : resolved.Binary va.0 o vb.0 ≡ x = let f : Some (resolved.Binary va.0 o vb.0) ≡ Some x = vb.2 in cc in
+    let s : resolved.Binary va.0 operators.Add vb.0 ≡ x = let f : Some (resolved.Binary va.0 operators.Add vb.0) ≡ Some x = vb.2 in cc in
     subst (λ y. UsesVariables n y) s (expression_uses n scopes a va.0 h va.1, expression_uses n scopes b vb.0 h vb.1)
+expression_uses n scopes (Binary a o at b) x h e = cc
 expression_uses n scopes (Text t) x h e = cc
 expression_uses n scopes (Index name left i right) x h e = cc
 expression_uses n scopes (Call name left values right) x h e = cc
@@ -144,6 +147,7 @@ assignment_uses n scopes (Assign c o at d) b xs h e = cc
 run_uses : (n : ℕ) (scopes : Scopes) (e : ExpressionTree) (xs : List ResolvedStatementTree) → Below n scopes → resolved_run scopes e ≡ Some xs → All (λ t. StatementUsesVariables n t) xs
 unfolding resolved_run
 run_uses n scopes (Assign a assigns.Set at b) xs h e = assignment_uses n scopes a b xs h e
+run_uses n scopes (Assign a o at b) xs h e = cc
 run_uses n scopes (Name name) xs h e = cc
 run_uses n scopes (Constant number) xs h e = cc
 run_uses n scopes (Text t) xs h e = cc

@@ -6,6 +6,7 @@ use Rattle.om_lexer.specs.declared.fault.FaultCode.{FaultCode}
 use Rattle.om_lexer.specs.declared.fault.FaultCode.TheVariants as faults
 use Rattle.om_lexer.specs.declared.fault.SourceFault.{SourceFault}
 use Rattle.om_parser.specs.declared.tree.AssignOperator.TheVariants as assigns
+use Rattle.om_parser.specs.declared.tree.BinaryOperator.TheVariants as binaries
 use Rattle.om_pragma.specs.declared.name.Name as names
 use Rattle.om_pragma.specs.declared.name.Number.{Number}
 use Rattle.om_parser.specs.Tree.{ExpressionTree, Name, Constant, Text, Paren, Index, Call, Prefix, Postfix, Binary, Conditional, Assign, InitializerTree, DeclaratorTree, StatementTree, LocalDeclaration, Block, Empty, Expression, If, IfElse, While, Do, For, Return, Break, Continue, Construct, StandAlone, Sections, Section, HeadTree, FunctionTree, ItemTree, Declaration, Prototype, Function, UnitTree}
@@ -55,7 +56,8 @@ unfoldable pub expression_breaches : Scopes → ExpressionTree → List SourceFa
 expression_breaches scopes (Name n) = use_breaches scopes n
 expression_breaches scopes (Constant n) = constant_breaches n
 expression_breaches scopes (Paren left e right) = expression_breaches scopes e
-expression_breaches scopes (Binary a o at b) = expression_breaches scopes a ++ expression_breaches scopes b
+expression_breaches scopes (Binary a binaries.Add at b) = expression_breaches scopes a ++ expression_breaches scopes b
+expression_breaches scopes (Binary a o at b) = untaken_breaches (expression_start (Binary a o at b))
 expression_breaches scopes (Text t) = untaken_breaches (expression_start (Text t))
 expression_breaches scopes (Index n left e right) = untaken_breaches (expression_start (Index n left e right))
 expression_breaches scopes (Call n left values right) = untaken_breaches (expression_start (Call n left values right))
@@ -81,6 +83,7 @@ assignment_breaches scopes (Assign a o at b) value = untaken_breaches (expressio
 -- of an expression that stands alone
 unfoldable pub run_breaches : Scopes → ExpressionTree → List SourceFault
 run_breaches scopes (Assign a assigns.Set at b) = assignment_breaches scopes a b
+run_breaches scopes (Assign a o at b) = untaken_breaches (expression_start (Assign a o at b))
 run_breaches scopes (Name n) = untaken_breaches (expression_start (Name n))
 run_breaches scopes (Constant n) = untaken_breaches (expression_start (Constant n))
 run_breaches scopes (Text t) = untaken_breaches (expression_start (Text t))

@@ -3,6 +3,8 @@
 use Rattle.std.specs.Prelude.{ℕ, ℤ, pos, ◌-ℤ◌, List, [], ◌∷◌, ◌++◌, Option, None, Some, Bool, true, false, map}
 use Rattle.std.specs.List.{flat_map}
 use Rattle.om_parser.specs.declared.tree.AssignOperator.TheVariants as assigns
+use Rattle.om_parser.specs.declared.tree.BinaryOperator.TheVariants as binaries
+use Rattle.om_scope.specs.declared.resolved.ResolvedOperator.TheVariants as operators
 use Rattle.om_pragma.specs.declared.name.Name as names
 use Rattle.om_pragma.specs.declared.name.Number.{Number}
 use Rattle.om_parser.specs.Tree.{ExpressionTree, Name, Constant, Text, Paren, Index, Call, Prefix, Postfix, Binary, Conditional, Assign, InitializerTree, DeclaratorTree, StatementTree, LocalDeclaration, Block, Empty, Expression, If, IfElse, While, Do, For, Return, Break, Continue, Construct, StandAlone, Sections, Section, FunctionTree, ItemTree, Declaration, Prototype, Function, UnitTree}
@@ -34,10 +36,11 @@ unfoldable pub resolved_expression : Scopes → ExpressionTree → Option Resolv
 resolved_expression scopes (Name n) = variable_named scopes n >>= λ v. Some (resolved.Variable v)
 resolved_expression scopes (Constant n) = Some (resolved.Constant (pos n.value))
 resolved_expression scopes (Paren left e right) = resolved_expression scopes e
-resolved_expression scopes (Binary a o at b) = do
+resolved_expression scopes (Binary a binaries.Add at b) = do
   x ← resolved_expression scopes a
   y ← resolved_expression scopes b
-  Some (resolved.Binary x o y)
+  Some (resolved.Binary x operators.Add y)
+resolved_expression scopes (Binary a o at b) = None
 resolved_expression scopes (Text t) = None
 resolved_expression scopes (Index n left e right) = None
 resolved_expression scopes (Call n left values right) = None
@@ -66,6 +69,7 @@ resolved_assignment scopes (Assign a o at b) value = None
 -- an expression that stands alone
 unfoldable pub resolved_run : Scopes → ExpressionTree → Option (List ResolvedStatementTree)
 resolved_run scopes (Assign a assigns.Set at b) = resolved_assignment scopes a b
+resolved_run scopes (Assign a o at b) = None
 resolved_run scopes (Name n) = None
 resolved_run scopes (Constant n) = None
 resolved_run scopes (Text t) = None

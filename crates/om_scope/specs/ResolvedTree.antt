@@ -1,6 +1,6 @@
 -- Resolved trees without the memory that they lie in.
 use Rattle.std.specs.Prelude.{ℕ, ℤ, List}
-use Rattle.om_parser.specs.declared.tree.BinaryOperator.{BinaryOperator}
+use Rattle.om_scope.specs.declared.resolved.ResolvedOperator.{ResolvedOperator}
 use Rattle.om_scope.specs.declared.resolved.GlobalVariable.{GlobalVariable}
 use Rattle.om_scope.specs.declared.resolved.Variable as variables
 
@@ -8,7 +8,7 @@ use Rattle.om_scope.specs.declared.resolved.Variable as variables
 pub data ResolvedExpressionTree : Type 0 where
   Variable : variables.Variable → ResolvedExpressionTree
   Constant : ℤ → ResolvedExpressionTree
-  Binary : ResolvedExpressionTree → BinaryOperator → ResolvedExpressionTree → ResolvedExpressionTree
+  Binary : ResolvedExpressionTree → ResolvedOperator → ResolvedExpressionTree → ResolvedExpressionTree
 
 -- a statement (C17 6.8), with the line of its first token
 pub data ResolvedStatementTree : Type 0 where

@@ -8,11 +8,11 @@ ghost use Rattle.om_scope.specs.Resolution.{variable_named, resolved_expression}
 ghost use Rattle.om_scope.specs.ResolvedView.{view_resolved_expression};
 ghost use Rattle.om_scope.specs.Scopes.{body_scopes};
 
-use crate::resolved::{ResolvedExpression, Variable};
+use crate::resolved::{ResolvedExpression, ResolvedOperator, Variable};
 use crate::symbols::{Meaning, Symbols};
 use crate::taken::{expression_start, untaken};
 use om_lexer::{FaultCode, SourceFault};
-use om_parser::{Expression, Name, Number};
+use om_parser::{BinaryOperator, Expression, Name, Number};
 use std::alloc::Global;
 
 /// The variable that a name stands for in a function's body: S7, S9.
@@ -62,13 +62,18 @@ pub fn resolve_expression(
         Expression::Name(name) => Ok(ResolvedExpression::Variable(variable_named(symbols, name)?)),
         Expression::Constant(number) => Ok(ResolvedExpression::Constant(constant_of(number)?)),
         Expression::Paren(_, inner, _) => resolve_expression(alloc, symbols, inner),
-        Expression::Binary(left, operator, _, right) => {
+        Expression::Binary(left, BinaryOperator::Add, _, right) => {
             let left = resolve_expression(alloc, symbols, left)?;
             let right = resolve_expression(alloc, symbols, right)?;
             let left = Box::new(alloc, left)?;
             let right = Box::new(alloc, right)?;
-            Ok(ResolvedExpression::Binary(left, *operator, right))
+            Ok(ResolvedExpression::Binary(
+                left,
+                ResolvedOperator::Add,
+                right,
+            ))
         }
+        Expression::Binary(_, _, _, _) => Err(untaken(expression_start(expression))),
         Expression::Text(_) => Err(untaken(expression_start(expression))),
         Expression::Index(_, _, _, _) => Err(untaken(expression_start(expression))),
         Expression::Call(_, _, _, _) => Err(untaken(expression_start(expression))),

@@ -14,7 +14,8 @@ mod unit;
 
 pub use declaration::GLOBAL_CELL_LIMIT;
 pub use resolved::{
-    GlobalVariable, Resolved, ResolvedExpression, ResolvedFunction, ResolvedStatement, Variable,
+    GlobalVariable, Resolved, ResolvedExpression, ResolvedFunction, ResolvedOperator,
+    ResolvedStatement, Variable,
 };
 pub use unit::resolve;
 

@@ -1,6 +1,5 @@
 //! The resolved tree: every use has its variable, and no name need be looked up again.
 
-use om_parser::BinaryOperator;
 use om_seq::Seq;
 
 /// A variable of the program.
@@ -19,13 +18,20 @@ pub struct GlobalVariable {
     pub initial: i32,
 }
 
+/// An operator between two operands that is taken (C17 6.5.6).
+#[derive(Clone, Copy, Debug, PartialEq, Eq)]
+pub enum ResolvedOperator {
+    /// `+`
+    Add,
+}
+
 /// An expression (C17 6.5). Its parentheses are gone.
 #[derive(Debug, Drop)]
 pub enum ResolvedExpression {
     /// The value of a variable.
     Variable(Variable),
     Constant(i32),
-    Binary(Box<ResolvedExpression>, BinaryOperator, Box<ResolvedExpression>),
+    Binary(Box<ResolvedExpression>, ResolvedOperator, Box<ResolvedExpression>),
 }
 
 /// A statement (C17 6.8), with the line of its first token.

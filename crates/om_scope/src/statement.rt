@@ -69,6 +69,7 @@ fn resolve_run(
         Expression::Assign(target, AssignOperator::Set, _, value) => {
             resolve_assignment(alloc, symbols, target, value)
         }
+        Expression::Assign(_, _, _, _) => Err(untaken(expression_start(expression))),
         Expression::Name(_) => Err(untaken(expression_start(expression))),
         Expression::Constant(_) => Err(untaken(expression_start(expression))),
         Expression::Text(_) => Err(untaken(expression_start(expression))),

@@ -1,37 +1,89 @@
-use Rattle.std.proofs.Common.{sym, inr}
+use Rattle.std.proofs.Common.{◌≡◌, ◌-◌, ◌∷◌, ◌++◌, [], Some, true, length, map, sym, inr, refl, arith}
+use Rattle.std.proofs.lemmas.List.{map_push}
 use Rattle.std.proofs.lemmas.Result.{err_from_is_err_and}
-use Rattle.om_parser.specs.ExpressionReading.{sum_at}
-use Rattle.om_parser.specs.View.{view_expression}
-use Rattle.om_parser.proofs.Sums.{sum_begins, sum_ends, sum_beyond, sum_fails, sum_goes_on, operand_shorter}
+use Rattle.om_lexer.specs.declared.token.Punctuator.TheVariants.{CloseParen}
+use Rattle.om_parser.specs.ExpressionReading.{argument_at, arguments_at, binary_at, binary_more, chain_at, expression_at, operand_at}
+use Rattle.om_parser.specs.Reading.{take_mark, too_deep}
+use Rattle.om_parser.specs.Tree.{Binary}
+use Rattle.om_parser.specs.View.{view_argument, view_expression}
+use Rattle.om_parser.proofs.Chains.{chain_ends, chain_stops, chain_goes_on, no_binary, binary_over, binary_fails, binary_on, binary_shorter, operand_shorter, argument_shorter, fails_or}
+use Rattle.om_parser.proofs.Loops.{until_ends, until_fails, until_goes_on}
+use Rattle.om_parser.proofs.Taken.{mark_shorter}
 use Rattle.om_parser.proofs.expression.+expression.Goals as goal
 
-pub sum-loop-operator-init : goal.sum-loop-operator-init
-sum-loop-operator-init t c = sum_begins c.args.beyond c.args.room c.args.tokens.now (view_expression c.in_ok-left.left) c.in_ok-left.rest.now c.in_ok-left.ensures
-
-pub sum-returns-in_err-within : goal.sum-returns-in_err-within
-sum-returns-in_err-within t c =
-    let p = err_from_is_err_and c.from_residual-in_err-within.result c.from_residual-in_err-within.ensures.1 in
-    let total = sum_at c.args.beyond c.args.room c.args.tokens.now in
+pub operators-returns-in_err-within : goal.operators-returns-in_err-within
+operators-returns-in_err-within t c =
+    let p = err_from_is_err_and c.from_residual.result c.from_residual.ensures.1 in
+    let operands = binary_at c.args.beyond (operand_at c.args.beyond c.args.turns c.args.room) c.args.tighter in
+    let more = binary_more c.args.beyond (8 - c.args.tighter) operands in
+    let total = chain_at more (length c.args.tokens.now) (view_expression c.args.operand) c.args.tokens.now in
+    let left = view_expression c.loop-operator.left in
+    let rest = c.loop-operator.rest.now in
     let over = c.in_err-within.ensures in
-    rw (p.1, p.2, over.1) (inr (sum_beyond c.args.beyond c.args.room (view_expression c.loop-operator.left) c.loop-operator.rest.now total c.in-Some.operator c.in-Some.span c.in-Some.others.now (sym c.in-Some.ensures) over.0 c.loop-operator.invariant))
+    let taken = sym c.in-Some.ensures in
+    let lt = binary_shorter (8 - c.args.tighter) rest c.in-Some.operator c.in-Some.at c.in-Some.others.now taken in
+    rw (p.1, p.2, over.1) (inr (chain_stops more left rest total (too_deep c.in-Some.at) (binary_over c.args.beyond (8 - c.args.tighter) operands left rest c.in-Some.operator c.in-Some.at c.in-Some.others.now taken over.0) (omega (arith, lt)) c.loop-operator.invariant))
 
-pub sum-returns-in_err-right : goal.sum-returns-in_err-right
-sum-returns-in_err-right t c =
+pub operators-returns-in_err-right : goal.operators-returns-in_err-right
+operators-returns-in_err-right t c =
     let p = err_from_is_err_and c.from_residual-in_err-right.result c.from_residual-in_err-right.ensures.1 in
-    let total = sum_at c.args.beyond c.args.room c.args.tokens.now in
-    rw (p.1, p.2) (sum_fails c.args.beyond c.args.room (view_expression c.loop-operator.left) c.loop-operator.rest.now total c.in-Some.operator c.in-Some.span c.in-Some.others.now (sym c.in-Some.ensures) c.in_err-right.field-0.0 c.in_ok-within.ensures c.in_err-right.ensures c.loop-operator.invariant)
+    let operands = binary_at c.args.beyond (operand_at c.args.beyond c.args.turns c.args.room) c.args.tighter in
+    let more = binary_more c.args.beyond (8 - c.args.tighter) operands in
+    let total = chain_at more (length c.args.tokens.now) (view_expression c.args.operand) c.args.tokens.now in
+    let left = view_expression c.loop-operator.left in
+    let rest = c.loop-operator.rest.now in
+    let taken = sym c.in-Some.ensures in
+    let lt = binary_shorter (8 - c.args.tighter) rest c.in-Some.operator c.in-Some.at c.in-Some.others.now taken in
+    rw (p.1, p.2) (fails_or c.in_err-right.field-0.0 c.in_err-right.ensures (λ fails. chain_stops more left rest total c.in_err-right.field-0.0 (binary_fails c.args.beyond (8 - c.args.tighter) operands left rest c.in-Some.operator c.in-Some.at c.in-Some.others.now taken c.in_err-right.field-0.0 c.in_ok-within.ensures fails) (omega (arith, lt)) c.loop-operator.invariant))
 
-pub sum-loop-operator-smaller : goal.sum-loop-operator-smaller
-sum-loop-operator-smaller t c =
-    let total = sum_at c.args.beyond c.args.room c.args.tokens.now in
-    operand_shorter c.args.beyond c.args.room (view_expression c.loop-operator.left) c.loop-operator.rest.now total c.in-Some.operator c.in-Some.span c.in-Some.others.now (sym c.in-Some.ensures) (view_expression c.in_ok-right.right) c.in_ok-right.others.now c.in_ok-right.ensures
+pub operators-loop-operator-smaller : goal.operators-loop-operator-smaller
+operators-loop-operator-smaller t c =
+    let lt = binary_shorter (8 - c.args.tighter) c.loop-operator.rest.now c.in-Some.operator c.in-Some.at c.in-Some.others.now (sym c.in-Some.ensures) in
+    let le = operand_shorter c.args.beyond c.args.turns c.args.room c.args.tighter c.in-Some.others.now (view_expression c.in_ok-right.right) c.in_ok-right.others.now c.in_ok-right.ensures in
+    omega (arith, lt, le)
 
-pub sum-loop-operator-preserved : goal.sum-loop-operator-preserved
-sum-loop-operator-preserved t c =
-    let total = sum_at c.args.beyond c.args.room c.args.tokens.now in
-    rw c.in_ok-left-2.ensures (sum_goes_on c.args.beyond c.args.room (view_expression c.loop-operator.left) c.loop-operator.rest.now total c.in-Some.operator c.in-Some.span c.in-Some.others.now (sym c.in-Some.ensures) (view_expression c.in_ok-right.right) c.in_ok-right.others.now c.in_ok-within.ensures c.in_ok-right.ensures c.loop-operator.invariant)
+pub operators-loop-operator-preserved : goal.operators-loop-operator-preserved
+operators-loop-operator-preserved t c =
+    let operands = binary_at c.args.beyond (operand_at c.args.beyond c.args.turns c.args.room) c.args.tighter in
+    let more = binary_more c.args.beyond (8 - c.args.tighter) operands in
+    let total = chain_at more (length c.args.tokens.now) (view_expression c.args.operand) c.args.tokens.now in
+    let left = view_expression c.loop-operator.left in
+    let right = view_expression c.in_ok-right.right in
+    let rest = c.loop-operator.rest.now in
+    let taken = sym c.in-Some.ensures in
+    let lt = binary_shorter (8 - c.args.tighter) rest c.in-Some.operator c.in-Some.at c.in-Some.others.now taken in
+    let le = operand_shorter c.args.beyond c.args.turns c.args.room c.args.tighter c.in-Some.others.now right c.in_ok-right.others.now c.in_ok-right.ensures in
+    rw c.in_ok-left.ensures (chain_goes_on more left rest total (Binary left c.in-Some.operator c.in-Some.at right) c.in_ok-right.others.now (binary_on c.args.beyond (8 - c.args.tighter) operands left rest c.in-Some.operator c.in-Some.at c.in-Some.others.now taken right c.in_ok-right.others.now c.in_ok-within.ensures c.in_ok-right.ensures) (omega (arith, lt, le)) c.loop-operator.invariant)
 
-pub sum-returns : goal.sum-returns
-sum-returns t c =
-    let total = sum_at c.args.beyond c.args.room c.args.tokens.now in
-    sum_ends c.args.beyond c.args.room (view_expression c.loop-operator.left) c.loop-operator.rest.now total (sym c.in_default.ensures) c.loop-operator.invariant
+pub operators-returns : goal.operators-returns
+operators-returns t c =
+    let operands = binary_at c.args.beyond (operand_at c.args.beyond c.args.turns c.args.room) c.args.tighter in
+    let more = binary_more c.args.beyond (8 - c.args.tighter) operands in
+    let total = chain_at more (length c.args.tokens.now) (view_expression c.args.operand) c.args.tokens.now in
+    let left = view_expression c.loop-operator.left in
+    chain_ends more left c.loop-operator.rest.now total (no_binary c.args.beyond (8 - c.args.tighter) operands left c.loop-operator.rest.now (sym c.in_default.ensures)) c.loop-operator.invariant
+
+pub arguments-further-init : goal.arguments-further-init
+unfolding arguments_at
+arguments-further-init t c = rw (c.in_ok-push.ensures.items, c.new-arguments.ensures.items) (length c.args.tokens.now, omega arith, refl)
+
+pub arguments-returns-in-Some : goal.arguments-returns-in-Some
+arguments-returns-in-Some t c =
+    let whole = expression_at c.args.beyond c.args.turns true c.args.room in
+    until_ends (take_mark CloseParen) (argument_at c.args.beyond whole) (map view_argument c.further.arguments.items) c.further.rest.now (arguments_at c.args.beyond whole (view_expression c.args.first) c.args.tokens.now) c.in-Some.right c.in-Some.after.now (sym c.in-Some.ensures) (mark_shorter CloseParen c.further.rest.now c.in-Some.right c.in-Some.after.now (sym c.in-Some.ensures)) c.further.invariant
+
+pub arguments-returns-in_err-comma : goal.arguments-returns-in_err-comma
+arguments-returns-in_err-comma t c =
+    let p = err_from_is_err_and c.from_residual-in_err-comma.result c.from_residual-in_err-comma.ensures.1 in
+    let whole = expression_at c.args.beyond c.args.turns true c.args.room in
+    rw (p.1, p.2) (until_fails (take_mark CloseParen) (argument_at c.args.beyond whole) (map view_argument c.further.arguments.items) c.further.rest.now (arguments_at c.args.beyond whole (view_expression c.args.first) c.args.tokens.now) c.in_err-comma.field-0.0 (sym c.in_default.ensures) c.in_err-comma.ensures c.further.invariant)
+
+pub arguments-further-smaller : goal.arguments-further-smaller
+arguments-further-smaller t c = argument_shorter c.args.beyond c.args.turns c.args.room c.further.rest.now (Some c.in_ok-comma.comma, view_expression c.in_ok-comma.next) c.in_ok-comma.after.now c.in_ok-comma.ensures
+
+pub arguments-further-preserved : goal.arguments-further-preserved
+arguments-further-preserved t c =
+    let whole = expression_at c.args.beyond c.args.turns true c.args.room in
+    let next = view_argument (Some c.in_ok-comma.comma, c.in_ok-comma.next) in
+    let pushed : map view_argument c.push-in-further.new.self.items ≡ map view_argument c.further.arguments.items ++ next ∷ [] = rw c.in_ok-push-2.ensures.items (map_push _ c.further.arguments.items (Some c.in_ok-comma.comma, c.in_ok-comma.next)) in
+    rw pushed (until_goes_on (take_mark CloseParen) (argument_at c.args.beyond whole) (map view_argument c.further.arguments.items) c.further.rest.now (arguments_at c.args.beyond whole (view_expression c.args.first) c.args.tokens.now) next c.in_ok-comma.after.now (sym c.in_default.ensures) c.in_ok-comma.ensures (argument_shorter c.args.beyond c.args.turns c.args.room c.further.rest.now next c.in_ok-comma.after.now c.in_ok-comma.ensures) c.further.invariant)

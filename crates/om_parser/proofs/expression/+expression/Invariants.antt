@@ -1,21 +1,72 @@
-use Rattle.std.proofs.Common.{◌+◌, ◌*◌, length}
-use Rattle.om_parser.specs.ExpressionReading.{sum_at}
-use Rattle.om_parser.specs.View.{view_expression}
-use Rattle.om_parser.proofs.Sums.{GoesOn}
+use Rattle.std.proofs.Common.{◌-◌, ◌+◌, ◌*◌, length, map, true}
+use Rattle.om_lexer.specs.declared.token.Punctuator.TheVariants.{CloseParen}
+use Rattle.om_parser.specs.ExpressionReading.{argument_at, arguments_at, binary_at, binary_more, chain_at, expression_at, operand_at}
+use Rattle.om_parser.specs.Reading.{take_mark}
+use Rattle.om_parser.specs.View.{view_argument, view_expression}
+use Rattle.om_parser.proofs.Chains.{GoesOn}
+use Rattle.om_parser.proofs.Loops as loops
 use Rattle.om_parser.proofs.expression.+expression.Given as goal
 
-abbrev pub decreases-paren_after : goal.decreases-paren_after
-decreases-paren_after l = 3 * l.room + 3
+-- the turns that are left, and in a turn the call that is nearer to an operand
+abbrev pub decreases-expression : goal.decreases-expression
+decreases-expression l = 40 * l.turns
+
+abbrev pub decreases-next_expression : goal.decreases-next_expression
+decreases-next_expression l = 40 * l.turns + 39
+
+abbrev pub decreases-expression_after : goal.decreases-expression_after
+decreases-expression_after l = 40 * l.turns + 38
+
+abbrev pub decreases-conditional_after : goal.decreases-conditional_after
+decreases-conditional_after l = 40 * l.turns + 37
+
+abbrev pub decreases-binary : goal.decreases-binary
+decreases-binary l = 40 * l.turns + 20 + 3 * l.levels
+
+abbrev pub decreases-looser : goal.decreases-looser
+decreases-looser l = 40 * l.turns + 22 + 3 * l.tighter
+
+abbrev pub decreases-operators : goal.decreases-operators
+decreases-operators l = 40 * l.turns + 21 + 3 * l.tighter
+
+abbrev pub decreases-unary : goal.decreases-unary
+decreases-unary l = 40 * l.turns + 19
+
+abbrev pub decreases-postfix : goal.decreases-postfix
+decreases-postfix l = 40 * l.turns + 18
 
 abbrev pub decreases-primary : goal.decreases-primary
-decreases-primary l = 3 * l.room + 1
+decreases-primary l = 40 * l.turns + 17
 
-abbrev pub decreases-sum : goal.decreases-sum
-decreases-sum l = 3 * l.room + 2
+abbrev pub decreases-named_after : goal.decreases-named_after
+decreases-named_after l = 40 * l.turns + 16
+
+abbrev pub decreases-call_after : goal.decreases-call_after
+decreases-call_after l = 40 * l.turns + 15
+
+abbrev pub decreases-arguments : goal.decreases-arguments
+decreases-arguments l = 40 * l.turns + 5
+
+abbrev pub decreases-argument : goal.decreases-argument
+decreases-argument l = 40 * l.turns + 4
+
+abbrev pub decreases-first_argument : goal.decreases-first_argument
+decreases-first_argument l = 40 * l.turns + 3
+
+abbrev pub decreases-closed : goal.decreases-closed
+decreases-closed l = 40 * l.turns + 2
 
 -- what is still to be read makes the whole
-abbrev pub invariant-sum-loop-operator : goal.invariant-sum-loop-operator
-invariant-sum-loop-operator l = GoesOn l.beyond l.room (view_expression l.left) l.rest (sum_at l.beyond l.room l.tokens)
+abbrev pub invariant-operators-loop-operator : goal.invariant-operators-loop-operator
+invariant-operators-loop-operator l =
+    let more = binary_more l.beyond (8 - l.tighter) (binary_at l.beyond (operand_at l.beyond l.turns l.room) l.tighter) in
+    GoesOn more (view_expression l.left) l.rest (chain_at more (length l.tokens) (view_expression l.fn.operand) l.tokens)
 
-abbrev pub decreases-sum-loop-operator : goal.decreases-sum-loop-operator
-decreases-sum-loop-operator l = length l.rest
+abbrev pub decreases-operators-loop-operator : goal.decreases-operators-loop-operator
+decreases-operators-loop-operator l = length l.rest
+
+abbrev pub invariant-arguments-further : goal.invariant-arguments-further
+invariant-arguments-further l = loops.GoesOn (take_mark CloseParen) (argument_at l.beyond (expression_at l.beyond l.turns true l.room)) (map view_argument l.arguments.items) l.rest (arguments_at l.beyond (expression_at l.beyond l.turns true l.room) (view_expression l.fn.first) l.tokens)
+
+abbrev pub decreases-arguments-further : goal.decreases-arguments-further
+decreases-arguments-further l = length l.rest
