@@ -27,7 +27,7 @@ fn parsed(alloc: Global, expression: &str) -> Result<Result<Unit, SourceFault>, 
 
 fn refusal(alloc: Global, fault: SourceFault) -> Result<String, AllocError> {
     let number = fault.code.number();
-    let at = fault.at as usize - HEAD.len();
+    let at = (fault.at as usize).saturating_sub(HEAD.len());
     format!(in alloc; "S{number} at {at}")
 }
 
@@ -94,21 +94,6 @@ fn show_bytes(alloc: Global, text: &mut String, bytes: &[u8]) -> Result<(), Allo
 }
 
 #[cycle(show)]
-fn show_pair(
-    alloc: Global,
-    text: &mut String,
-    left: &Expression,
-    mark: &str,
-    right: &Expression,
-) -> Result<(), AllocError> {
-    text.push_str("[")?;
-    show(alloc, text, left)?;
-    write!(text, " {mark} ")?;
-    show(alloc, text, right)?;
-    text.push_str("]")
-}
-
-#[cycle(show)]
 fn show_arguments(
     alloc: Global,
     text: &mut String,
@@ -168,10 +153,20 @@ fn show(alloc: Global, text: &mut String, expression: &Expression) -> Result<(),
             })
         }
         Expression::Binary(left, operator, _, right) => {
-            show_pair(alloc, text, left, binary_text(*operator), right)
+            let mark = binary_text(*operator);
+            text.push_str("[")?;
+            show(alloc, text, left)?;
+            write!(text, " {mark} ")?;
+            show(alloc, text, right)?;
+            text.push_str("]")
         }
         Expression::Assign(left, operator, _, right) => {
-            show_pair(alloc, text, left, assign_text(*operator), right)
+            let mark = assign_text(*operator);
+            text.push_str("[")?;
+            show(alloc, text, left)?;
+            write!(text, " {mark} ")?;
+            show(alloc, text, right)?;
+            text.push_str("]")
         }
         Expression::Conditional(condition, _, value, _, other) => {
             text.push_str("[")?;
