@@ -8,7 +8,7 @@ use Rattle.om_parser.specs.declared.tree.Expression.TheVariants as expressions
 use Rattle.om_parser.specs.View.{expression_layer, view_expression}
 use Rattle.om_parser.specs.Tree.{ExpressionTree, Call, ArgumentsTree, Argument, arguments}
 use Rattle.om_scope.specs.Faults.{first_of}
-use Rattle.om_scope.specs.ExpressionRules.{argument_count, arguments_breaches, expression_breaches}
+use Rattle.om_scope.specs.ExpressionRules.{argument_breaches, argument_count, arguments_breaches, expression_breaches, printed_breaches}
 use Rattle.om_scope.specs.InScope.{Scopes}
 use Rattle.om_scope.specs.Views.{view_argument}
 use Rattle.om_scope.proofs.Firsts.{first_of_left}
@@ -28,6 +28,19 @@ pub arguments_step : (scopes : Scopes) (all : ArgumentsTree) (comma : Option Spa
     → arguments_breaches scopes all ≡ arguments_breaches scopes rest
 unfolding arguments_breaches
 arguments_step scopes all comma e rest left whole = left ∙ ap (λ here. here ++ arguments_breaches scopes rest) whole
+
+pub printed_refuse : (scopes : Scopes) (place : ℕ) (all : ArgumentsTree) (comma : Option Span) (e : ExpressionTree) (rest : ArgumentsTree) (fault : SourceFault)
+    → printed_breaches scopes 0 all ≡ printed_breaches scopes place (Argument comma e rest) → first_of (argument_breaches scopes place e) ≡ Some fault
+    → first_of (printed_breaches scopes 0 all) ≡ Some fault
+unfolding printed_breaches
+printed_refuse scopes place all comma e rest fault left refused =
+    ap first_of left ∙ first_of_left (argument_breaches scopes place e) (printed_breaches scopes (place + 1) rest) fault refused
+
+pub printed_step : (scopes : Scopes) (place : ℕ) (all : ArgumentsTree) (comma : Option Span) (e : ExpressionTree) (rest : ArgumentsTree)
+    → printed_breaches scopes 0 all ≡ printed_breaches scopes place (Argument comma e rest) → argument_breaches scopes place e ≡ []
+    → printed_breaches scopes 0 all ≡ printed_breaches scopes (place + 1) rest
+unfolding printed_breaches
+printed_step scopes place all comma e rest left whole = left ∙ ap (λ here. here ++ printed_breaches scopes (place + 1) rest) whole
 
 -- a call, as a tree
 pub view_call : (name : _) (left : _) (values : _) (right : _) → view_expression (expressions.Call name left values right) ≡ Call name left (arguments (map view_argument values.items)) right

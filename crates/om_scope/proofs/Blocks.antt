@@ -1,82 +1,86 @@
 -- What a block declares is forgotten behind it.
-use Rattle.std.proofs.Common.{◌≡◌, List, [], ◌∷◌, ◌++◌, fold, Option, None, Some, refl, ap, ◌∙◌}
+use Rattle.std.specs.Prelude.{nat_le}
+use Rattle.std.proofs.Common.{◌≡◌, ℕ, ◌+◌, List, [], ◌∷◌, ◌++◌, fold, Option, None, Some, refl, ap, ◌∙◌}
+use Rattle.om_lexer.specs.declared.fault.FaultCode.TheVariants as faults
 use Rattle.om_lexer.specs.declared.fault.SourceFault.{SourceFault}
 use Rattle.om_parser.specs.Tree.{DeclaratorTree, ForStartTree, Nothing, StartExpression, StartDeclaration, StatementTree, LocalDeclaration, Block, Empty, Expression, If, IfElse, While, Do, For, Return, Break, Continue, Construct, StandAlone, Sections, Section, StatementsTree, Statement}
 use Rattle.om_pragma.specs.declared.name.Name as names
 use Rattle.om_parser.specs.declared.tree.Parameter.{Parameter}
 use Rattle.om_scope.specs.declared.rules.flow.Flow.{Flow}
 use Rattle.om_scope.specs.declared.rules.symbols.Meaning.TheVariants as meanings
+use Rattle.om_scope.specs.declared.rules.symbols.Region.{Region}
 use Rattle.om_scope.specs.declared.rules.symbols.Shape.TheVariants as shapes
-use Rattle.om_scope.specs.Faults.{first_of}
+use Rattle.om_scope.specs.declared.rules.statement.TheConstants.{SECTION_LIMIT}
+use Rattle.om_scope.specs.Faults.{breach_if, first_of}
+use Rattle.om_scope.specs.Places.{statement_start}
 use Rattle.om_scope.specs.Outcomes.{Refuses}
-use Rattle.om_scope.specs.InScope.{Scope, Scopes, inside, outside, declarators_of, shape_of, after_local, after_locals, after_parameter_name, after_parameters}
-use Rattle.om_scope.specs.StatementRules.{after_for_start, after_statement, after_statements, statement_breaches, statements_breaches}
+use Rattle.om_scope.specs.InScope.{Scope, Scopes, inside, outside, plain, within, declarators_of, shape_of, after_local, after_locals, after_parameter_name, after_parameters}
+use Rattle.om_scope.specs.StatementRules.{after_for_start, after_statement, after_statements, part_breaches, sections_breaches, statement_breaches, statements_breaches}
 use Rattle.om_scope.proofs.Firsts.{first_of_left}
 
--- the scopes in a block that has these declarations so far
-abbrev pub within : Scope → Scopes → Scopes
-within inner scopes = record { inner = inner; outer = scopes.inner ∷ scopes.outer; cells = scopes.cells; definitions = scopes.definitions; defined = scopes.defined }
+-- in the same construct or block still
+abbrev pub StaysWithin : Region → Scopes → Scopes → Type 0
+StaysWithin region scopes behind = (inner : Scope) × (behind ≡ within inner region scopes)
 
--- in that block still
-abbrev pub StaysWithin : Scopes → Scopes → Type 0
-StaysWithin scopes behind = (inner : Scope) × (behind ≡ within inner scopes)
+locals_within : (inner : Scope) (region : Region) (scopes : Scopes) (ds : List DeclaratorTree) → StaysWithin region scopes (after_locals (within inner region scopes) ds)
+locals_within inner region scopes [] = (inner, refl)
+locals_within inner region scopes (d ∷ ds) = locals_within (inner ++ (d.name.text, meanings.Variable (shape_of d.array)) ∷ []) region scopes ds
 
-locals_within : (inner : Scope) (scopes : Scopes) (ds : List DeclaratorTree) → StaysWithin scopes (after_locals (within inner scopes) ds)
-locals_within inner scopes [] = (inner, refl)
-locals_within inner scopes (d ∷ ds) = locals_within (inner ++ (d.name.text, meanings.Variable (shape_of d.array)) ∷ []) scopes ds
+statement_within : (inner : Scope) (region : Region) (scopes : Scopes) (s : StatementTree) → StaysWithin region scopes (after_statement (within inner region scopes) s)
+statement_within inner region scopes (LocalDeclaration d) = locals_within inner region scopes (declarators_of d)
+statement_within inner region scopes (Block left items right) = (inner, refl)
+statement_within inner region scopes (Empty semicolon) = (inner, refl)
+statement_within inner region scopes (Expression e semicolon) = (inner, refl)
+statement_within inner region scopes (If at c s) = (inner, refl)
+statement_within inner region scopes (IfElse at c s other t) = (inner, refl)
+statement_within inner region scopes (While at c s) = (inner, refl)
+statement_within inner region scopes (Do at s again c semicolon) = (inner, refl)
+statement_within inner region scopes (For h s) = (inner, refl)
+statement_within inner region scopes (Return at value semicolon) = (inner, refl)
+statement_within inner region scopes (Break at semicolon) = (inner, refl)
+statement_within inner region scopes (Continue at semicolon) = (inner, refl)
+statement_within inner region scopes (Construct d s) = (inner, refl)
+statement_within inner region scopes (StandAlone d) = (inner, refl)
+statement_within inner region scopes (Sections d left parts right) = (inner, refl)
+statement_within inner region scopes (Section d items) = (inner, refl)
 
-statement_within : (inner : Scope) (scopes : Scopes) (s : StatementTree) → StaysWithin scopes (after_statement (within inner scopes) s)
-statement_within inner scopes (LocalDeclaration d) = locals_within inner scopes (declarators_of d)
-statement_within inner scopes (Block left items right) = (inner, refl)
-statement_within inner scopes (Empty semicolon) = (inner, refl)
-statement_within inner scopes (Expression e semicolon) = (inner, refl)
-statement_within inner scopes (If at c s) = (inner, refl)
-statement_within inner scopes (IfElse at c s other t) = (inner, refl)
-statement_within inner scopes (While at c s) = (inner, refl)
-statement_within inner scopes (Do at s again c semicolon) = (inner, refl)
-statement_within inner scopes (For h s) = (inner, refl)
-statement_within inner scopes (Return at value semicolon) = (inner, refl)
-statement_within inner scopes (Break at semicolon) = (inner, refl)
-statement_within inner scopes (Continue at semicolon) = (inner, refl)
-statement_within inner scopes (Construct d s) = (inner, refl)
-statement_within inner scopes (StandAlone d) = (inner, refl)
-statement_within inner scopes (Sections d left parts right) = (inner, refl)
-statement_within inner scopes (Section d items) = (inner, refl)
-
-pub statements_within : (inner : Scope) (scopes : Scopes) (ss : List StatementTree) → StaysWithin scopes (after_statements (within inner scopes) ss)
-statements_within inner scopes [] = (inner, refl)
-statements_within inner scopes (s ∷ ss) =
-    let one = statement_within inner scopes s in
-    let rest = statements_within one.0 scopes ss in
+pub statements_within : (inner : Scope) (region : Region) (scopes : Scopes) (ss : List StatementTree) → StaysWithin region scopes (after_statements (within inner region scopes) ss)
+statements_within inner region scopes [] = (inner, refl)
+statements_within inner region scopes (s ∷ ss) =
+    let one = statement_within inner region scopes s in
+    let rest = statements_within one.0 region scopes ss in
     (rest.0, ap (λ behind. after_statements behind ss) one.1 ∙ rest.1)
 
-pub parameters_within : (inner : Scope) (scopes : Scopes) (ps : List Parameter) → StaysWithin scopes (after_parameters (within inner scopes) ps)
-parameters_within inner scopes [] = (inner, refl)
-parameters_within inner scopes (p ∷ ps) = by p.name (λ own. parameters_within own scopes ps)
+pub parameters_within : (inner : Scope) (region : Region) (scopes : Scopes) (ps : List Parameter) → StaysWithin region scopes (after_parameters (within inner region scopes) ps)
+parameters_within inner region scopes [] = (inner, refl)
+parameters_within inner region scopes (p ∷ ps) = by p.name (λ own. parameters_within own region scopes ps)
   where
-    by : (name : Option names.Name) → ((own : Scope) → StaysWithin scopes (after_parameters (within own scopes) ps))
-        → StaysWithin scopes (after_parameters (after_parameter_name (within inner scopes) name) ps)
+    by : (name : Option names.Name) → ((own : Scope) → StaysWithin region scopes (after_parameters (within own region scopes) ps))
+        → StaysWithin region scopes (after_parameters (after_parameter_name (within inner region scopes) name) ps)
     by None rest = rest inner
     by (Some name) rest = rest (inner ++ (name.text, meanings.Variable shapes.Scalar) ∷ [])
 
 pub body_outside : (scopes : Scopes) (s : StatementTree) → outside (after_statement (inside scopes) s) ≡ scopes
-body_outside scopes s = ap outside (statement_within [] scopes s).1
+body_outside scopes s = ap outside (statement_within [] plain scopes s).1
+
+pub construct_outside : (copies : Scope) (region : Region) (scopes : Scopes) (s : StatementTree) → outside (after_statement (within copies region scopes) s) ≡ scopes
+construct_outside copies region scopes s = ap outside (statement_within copies region scopes s).1
 
 pub block_outside : (scopes : Scopes) (ss : List StatementTree) → outside (after_statements (inside scopes) ss) ≡ scopes
-block_outside scopes ss = ap outside (statements_within [] scopes ss).1
+block_outside scopes ss = ap outside (statements_within [] plain scopes ss).1
 
 pub for_outside : (scopes : Scopes) (start : ForStartTree) → outside (after_for_start (inside scopes) start) ≡ scopes
 for_outside scopes (Nothing semicolon) = refl
 for_outside scopes (StartExpression e semicolon) = refl
-for_outside scopes (StartDeclaration d) = ap outside (locals_within [] scopes (declarators_of d)).1
+for_outside scopes (StartDeclaration d) = ap outside (locals_within [] plain scopes (declarators_of d)).1
 
 pub prototype_outside : (scopes : Scopes) (ps : List Parameter) → outside (after_parameters (inside scopes) ps) ≡ scopes
-prototype_outside scopes ps = ap outside (parameters_within [] scopes ps).1
+prototype_outside scopes ps = ap outside (parameters_within [] plain scopes ps).1
 
 pub function_outside : (scopes : Scopes) (ps : List Parameter) (ss : List StatementTree) → outside (after_statements (after_parameters (inside scopes) ps) ss) ≡ scopes
 function_outside scopes ps ss =
-    let parameters = parameters_within [] scopes ps in
-    ap (λ behind. outside (after_statements behind ss)) parameters.1 ∙ ap outside (statements_within parameters.0 scopes ss).1
+    let parameters = parameters_within [] plain scopes ps in
+    ap (λ behind. outside (after_statements behind ss)) parameters.1 ∙ ap outside (statements_within parameters.0 plain scopes ss).1
 
 pub statements_refuse : (scopes state : Scopes) (flow : Flow) (all : StatementsTree) (s : StatementTree) (rest : StatementsTree) (fault : SourceFault)
     → statements_breaches scopes flow all ≡ statements_breaches state flow (Statement s rest) → Refuses (statement_breaches state flow s) fault
@@ -89,3 +93,16 @@ pub statements_step : (scopes state : Scopes) (flow : Flow) (all : StatementsTre
     → statements_breaches scopes flow all ≡ statements_breaches (after_statement state s) flow rest
 unfolding statements_breaches
 statements_step scopes state flow all s rest left whole = left ∙ ap (λ here. here ++ statements_breaches (after_statement state s) flow rest) whole
+
+pub parts_refuse : (scopes : Scopes) (flow : Flow) (before : ℕ) (all : StatementsTree) (s : StatementTree) (rest : StatementsTree) (fault : SourceFault)
+    → sections_breaches scopes flow 0 all ≡ sections_breaches scopes flow before (Statement s rest) → Refuses (part_breaches scopes flow before s) fault
+    → Refuses (sections_breaches scopes flow 0 all) fault
+unfolding sections_breaches
+parts_refuse scopes flow before all s rest fault left refused other =
+    ap first_of left ∙ first_of_left (part_breaches scopes flow before s) (sections_breaches scopes flow (before + 1) rest) fault (refused other)
+
+pub parts_step : (scopes : Scopes) (flow : Flow) (before : ℕ) (all : StatementsTree) (s : StatementTree) (rest : StatementsTree)
+    → sections_breaches scopes flow 0 all ≡ sections_breaches scopes flow before (Statement s rest) → part_breaches scopes flow before s ≡ []
+    → sections_breaches scopes flow 0 all ≡ sections_breaches scopes flow (before + 1) rest
+unfolding sections_breaches
+parts_step scopes flow before all s rest left whole = left ∙ ap (λ here. here ++ sections_breaches scopes flow (before + 1) rest) whole

@@ -1,5 +1,5 @@
 -- The rules of names and expressions, each by the breaches that a tree has of it, in the order of the text.
-use Rattle.std.specs.Prelude.{ℕ, ◌+◌, List, [], ◌∷◌, ◌++◌, Option, None, Some, Bool, true, false, codes, nat_lt, nat_eq, if◌then◌else◌, not, ◌&&◌, ◌||◌}
+use Rattle.std.specs.Prelude.{ℕ, ◌+◌, ◌==◌, List, [], ◌∷◌, ◌++◌, Option, None, Some, Bool, true, false, codes, nat_lt, nat_eq, if◌then◌else◌, not, ◌&&◌, ◌||◌}
 use Rattle.std.specs.List.{list_any}
 use Rattle.std.specs.Str.{bytes_eq}
 use Rattle.om_lexer.specs.declared.fault.FaultCode.TheVariants as faults
@@ -12,9 +12,12 @@ use Rattle.om_parser.specs.Tree.{ExpressionTree, Name, Constant, Text, Paren, In
 use Rattle.om_scope.specs.declared.rules.symbols.Meaning.{Meaning}
 use Rattle.om_scope.specs.declared.rules.symbols.Meaning.TheVariants as meanings
 use Rattle.om_scope.specs.declared.rules.symbols.Shape.TheVariants as shapes
-use Rattle.om_scope.specs.Faults.{breach_if, untaken_breaches}
+use Rattle.om_scope.specs.Faults.{breach_if, perhaps_with}
+use Rattle.om_scope.specs.declared.rules.print.TheConstants.{PRINTED_LIMIT}
+use Rattle.om_scope.specs.Formats.{is_format}
 use Rattle.om_scope.specs.Places.{expression_start}
 use Rattle.om_scope.specs.InScope.{Scopes, meaning_of}
+use Rattle.om_scope.specs.Sharing.{is_copied, is_unlisted}
 
 -- ---- names
 
@@ -47,13 +50,25 @@ is_array (Some (meanings.Function signature)) = false
 is_array (Some meanings.Printf) = false
 is_array None = false
 
+-- S13: a construct round the place asks for a clause that lists the variable, and has none
+abbrev pub unlisted_breaches : Scopes → names.Name → List SourceFault
+unlisted_breaches scopes name = breach_if (is_unlisted scopes name.text) faults.Unlisted name.span.start
+
 -- S9: an array or a function that is used as a scalar
 abbrev pub scalar_breaches : Scopes → names.Name → List SourceFault
-scalar_breaches scopes name = undeclared_breaches scopes name ++ breach_if (not (is_scalar (meaning_of scopes name.text))) faults.Misuse name.span.start
+scalar_breaches scopes name =
+    undeclared_breaches scopes name ++ breach_if (not (is_scalar (meaning_of scopes name.text))) faults.Misuse name.span.start ++ unlisted_breaches scopes name
 
--- S9: a scalar or a function that is used as an array
+-- an array of which a `task` round the place would make a copy
+abbrev pub is_copied_array : Scopes → List ℕ → Bool
+is_copied_array scopes name = is_array (meaning_of scopes name) && is_copied scopes name
+
+-- S9: a scalar or a function that is used as an array, or an array that a `task` would copy
 abbrev pub array_breaches : Scopes → names.Name → List SourceFault
-array_breaches scopes name = undeclared_breaches scopes name ++ breach_if (not (is_array (meaning_of scopes name.text))) faults.Misuse name.span.start
+array_breaches scopes name =
+    undeclared_breaches scopes name
+    ++ breach_if (not (is_array (meaning_of scopes name.text)) || is_copied scopes name.text) faults.Misuse name.span.start
+    ++ unlisted_breaches scopes name
 
 -- a call of a variable, of `main`, with the wrong number of values, or of a `void` function for its value
 abbrev pub is_miscalled : Bool → List ℕ → ℕ → Option Meaning → Bool
@@ -110,6 +125,29 @@ is_step prefixes.Plus = false
 is_step prefixes.Minus = false
 is_step prefixes.Not = false
 
+-- a name or an element, in parentheses or not
+unfoldable pub is_target : ExpressionTree → Bool
+is_target (Name n) = true
+is_target (Index n left e right) = true
+is_target (Paren left e right) = is_target e
+is_target (Constant n) = false
+is_target (Text t) = false
+is_target (Call n left values right) = false
+is_target (Prefix o at e) = false
+is_target (Postfix e o at) = false
+is_target (Binary a o at b) = false
+is_target (Conditional c question a colon b) = false
+is_target (Assign a o at b) = false
+
+-- a format, and as many values as it takes
+abbrev pub is_print : ArgumentsTree → Bool
+is_print NoArguments = false
+is_print (Argument comma format rest) = is_format format (argument_count rest)
+
+-- S9 at the name: the value of `printf` is used, or it has no format or one for another number of values
+abbrev pub misprint_breaches : Bool → names.Name → ArgumentsTree → List SourceFault
+misprint_breaches for_value n values = breach_if (for_value || not (is_print values)) faults.Misuse n.span.start
+
 unfoldable mutual
   -- of an expression; the Boolean tells whether its value is used
   pub expression_breaches : Scopes → Bool → ExpressionTree → List SourceFault
@@ -120,7 +158,7 @@ unfoldable mutual
   expression_breaches scopes for_value (Index n left e right) = array_breaches scopes n ++ expression_breaches scopes true e
   expression_breaches scopes for_value (Call n left values right) =
       if is_printf (meaning_of scopes n.text)
-      then untaken_breaches n.span.start
+      then misprint_breaches for_value n values ++ printed_breaches scopes 0 values
       else call_breaches scopes for_value n (argument_count values) ++ arguments_breaches scopes values
   expression_breaches scopes for_value (Prefix o at e) = if is_step o then target_breaches scopes e else expression_breaches scopes true e
   expression_breaches scopes for_value (Postfix e o at) = target_breaches scopes e
@@ -133,11 +171,18 @@ unfoldable mutual
   arguments_breaches scopes NoArguments = []
   arguments_breaches scopes (Argument comma e rest) = expression_breaches scopes true e ++ arguments_breaches scopes rest
 
-  -- S9: what is assigned to is a name or an element, in parentheses or not (C17 6.5.16p2)
+  -- of the arguments of a `printf` from a place on, at the first of which the format stands; S11 at the first token of a value too many
+  pub printed_breaches : Scopes → ℕ → ArgumentsTree → List SourceFault
+  printed_breaches scopes place NoArguments = []
+  printed_breaches scopes place (Argument comma e rest) =
+      (if place == 0 then [] else perhaps_with (nat_lt PRINTED_LIMIT place) faults.TooMany (expression_start e) (expression_breaches scopes true e))
+      ++ printed_breaches scopes (place + 1) rest
+
+  -- S9: what is assigned to is such (C17 6.5.16p2)
   pub target_breaches : Scopes → ExpressionTree → List SourceFault
   target_breaches scopes (Name n) = scalar_breaches scopes n
   target_breaches scopes (Index n left e right) = array_breaches scopes n ++ expression_breaches scopes true e
-  target_breaches scopes (Paren left e right) = target_breaches scopes e
+  target_breaches scopes (Paren left e right) = if is_target e then target_breaches scopes e else misplaced_breaches scopes (Paren left e right)
   target_breaches scopes (Text t) = misplaced_breaches scopes (Text t)
   target_breaches scopes (Constant n) = misplaced_breaches scopes (Constant n)
   target_breaches scopes (Call n left values right) = misplaced_breaches scopes (Call n left values right)
@@ -151,6 +196,19 @@ unfoldable mutual
 abbrev pub own_call_breaches : Scopes → Bool → names.Name → ArgumentsTree → List SourceFault
 own_call_breaches scopes for_value n values = call_breaches scopes for_value n (argument_count values) ++ arguments_breaches scopes values
 
+-- of a call of `printf`
+abbrev pub print_breaches : Scopes → Bool → names.Name → ArgumentsTree → List SourceFault
+print_breaches scopes for_value n values = misprint_breaches for_value n values ++ printed_breaches scopes 0 values
+
+-- of an argument of a `printf` at a place
+abbrev pub argument_breaches : Scopes → ℕ → ExpressionTree → List SourceFault
+argument_breaches scopes place e =
+    if place == 0 then [] else perhaps_with (nat_lt PRINTED_LIMIT place) faults.TooMany (expression_start e) (expression_breaches scopes true e)
+
+-- of an element of an array
+abbrev pub element_breaches : Scopes → names.Name → ExpressionTree → List SourceFault
+element_breaches scopes n e = array_breaches scopes n ++ expression_breaches scopes true e
+
 -- of a call
 abbrev pub called_breaches : Scopes → Bool → names.Name → ArgumentsTree → List SourceFault
-called_breaches scopes for_value n values = if is_printf (meaning_of scopes n.text) then untaken_breaches n.span.start else own_call_breaches scopes for_value n values
+called_breaches scopes for_value n values = if is_printf (meaning_of scopes n.text) then print_breaches scopes for_value n values else own_call_breaches scopes for_value n values

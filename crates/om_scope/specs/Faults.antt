@@ -1,5 +1,6 @@
 -- Breaches of rules, and where they stand.
-use Rattle.std.specs.Prelude.{ℕ, List, [], ◌∷◌, ◌++◌, Option, None, Some, Bool, true, if◌then◌else◌}
+use Rattle.std.specs.Prelude.{ℕ, List, [], ◌∷◌, ◌++◌, ◌&&◌, ◌||◌, nat_lt, nat_le, nat_eq, Option, None, Some, Bool, true, if◌then◌else◌}
+use Rattle.om_lexer.specs.Faults.{number_of}
 use Rattle.om_lexer.specs.declared.fault.FaultCode.{FaultCode}
 use Rattle.om_lexer.specs.declared.fault.FaultCode.TheVariants as faults
 use Rattle.om_lexer.specs.declared.fault.SourceFault.{SourceFault}
@@ -12,6 +13,19 @@ first_of (breach ∷ breaches) = Some breach
 -- a breach at a place, where there is one
 abbrev pub breach_if : Bool → FaultCode → ℕ → List SourceFault
 breach_if broken code at = if broken then record { code = code; at = at } ∷ [] else []
+
+-- a breach is answered before another one: its place is lower, or the same and its number is
+abbrev pub goes_first : SourceFault → SourceFault → Bool
+goes_first a b = nat_lt a.at b.at || (nat_eq a.at b.at && nat_le (number_of a.code) (number_of b.code))
+
+-- a further breach among others, in the order in which they are answered
+abbrev pub with_breach : SourceFault → List SourceFault → List SourceFault
+with_breach b [] = b ∷ []
+with_breach b (breach ∷ breaches) = if goes_first breach b then breach ∷ with_breach b breaches else b ∷ breach ∷ breaches
+
+-- a further breach at a place, where there is one, among others
+abbrev pub perhaps_with : Bool → FaultCode → ℕ → List SourceFault → List SourceFault
+perhaps_with broken code at breaches = if broken then with_breach (record { code = code; at = at }) breaches else breaches
 
 -- S3 at the first token of a form that is not taken; nothing else of it is looked at
 abbrev pub untaken_breaches : ℕ → List SourceFault

@@ -6,6 +6,7 @@ use Rattle.std.specs.Option.{option_or}
 use Rattle.std.specs.Str.{bytes_eq}
 use Rattle.std.specs.declared.alloc.Global.{Global}
 use Rattle.om_lexer.specs.declared.token.Span.{Span}
+use Rattle.om_pragma.specs.declared.clause.Sharing.{Sharing}
 use Rattle.om_parser.specs.declared.tree.ArrayLength.{ArrayLength}
 use Rattle.om_pragma.specs.declared.name.Name as names
 use Rattle.om_parser.specs.declared.tree.Parameter.{Parameter}
@@ -14,6 +15,9 @@ use Rattle.om_parser.specs.declared.tree.ResultType.TheVariants as results
 use Rattle.om_parser.specs.Tree.{DeclaratorTree, DeclarationTree, ParametersTree, NoParameters, Void, Listed, HeadTree, ItemTree, Declaration, Prototype, Function}
 use Rattle.om_scope.specs.declared.rules.symbols.Meaning.{Meaning}
 use Rattle.om_scope.specs.declared.rules.symbols.Meaning.TheVariants as meanings
+use Rattle.om_scope.specs.declared.rules.symbols.Region.{Region}
+use Rattle.om_scope.specs.declared.rules.symbols.RegionKind.{RegionKind}
+use Rattle.om_scope.specs.declared.rules.symbols.RegionKind.TheVariants as regions
 use Rattle.om_scope.specs.declared.rules.symbols.Shape.{Shape}
 use Rattle.om_scope.specs.declared.rules.symbols.Shape.TheVariants as shapes
 use Rattle.om_scope.specs.declared.rules.symbols.Signature.{Signature}
@@ -30,12 +34,18 @@ Scope = List Binding
 abbrev pub scope_of : List (Vec ℕ Global × Meaning) → Scope
 scope_of entries = map (λ entry. (entry.0.items, entry.1)) entries
 
+-- a scope round another one
+pub record Enclosing : Type 0 where
+  pub scope : Scope
+  -- the construct that the scope inside of it belongs to
+  pub region : Region
+
 -- what is in scope at a place
 pub record Scopes : Type 0 where
   -- the declarations of the innermost scope, up to the place
   pub inner : Scope
-  -- those of the scopes round it, the innermost first (C17 6.2.1p4)
-  pub outer : List Scope
+  -- the scopes round it, the innermost first (C17 6.2.1p4)
+  pub outer : List Enclosing
   -- how many cells the globals have that are declared before the place
   pub cells : ℕ
   -- the functions that the whole source defines
@@ -44,9 +54,9 @@ pub record Scopes : Type 0 where
   pub defined : List (List ℕ)
 
 -- what a name means in scopes: its declaration in the innermost that has one
-abbrev pub meaning_outside : List Scope → List ℕ → Option Meaning
+abbrev pub meaning_outside : List Enclosing → List ℕ → Option Meaning
 meaning_outside [] name = None
-meaning_outside (scope ∷ outer) name = option_or (lookup (bytes_eq name) scope) (meaning_outside outer name)
+meaning_outside (e ∷ outer) name = option_or (lookup (bytes_eq name) e.scope) (meaning_outside outer name)
 
 -- what a name means at a place
 abbrev pub meaning_of : Scopes → List ℕ → Option Meaning
@@ -100,23 +110,31 @@ with_defined scopes name = record {
   defined = with_name scopes.defined name;
 }
 
--- the scopes in a block, in which nothing is declared yet
-abbrev pub inside : Scopes → Scopes
-inside scopes = record {
-  inner = [];
-  outer = scopes.inner ∷ scopes.outer;
+-- the scopes in a construct that has these declarations so far
+abbrev pub within : Scope → Region → Scopes → Scopes
+within inner region scopes = record {
+  inner = inner;
+  outer = record { scope = scopes.inner; region = region } ∷ scopes.outer;
   cells = scopes.cells;
   definitions = scopes.definitions;
   defined = scopes.defined;
 }
 
-abbrev pub first_scope : Scope → List Scope → Scope
-first_scope inner [] = inner
-first_scope inner (scope ∷ outer) = scope
+-- no construct that says how variables are shared
+abbrev pub plain : Region
+plain = record { kind = regions.Plain; default = None; shared = [] }
 
-abbrev pub further_scopes : List Scope → List Scope
+-- the scopes in a block, in which nothing is declared yet
+abbrev pub inside : Scopes → Scopes
+inside scopes = within [] plain scopes
+
+abbrev pub first_scope : Scope → List Enclosing → Scope
+first_scope inner [] = inner
+first_scope inner (e ∷ outer) = e.scope
+
+abbrev pub further_scopes : List Enclosing → List Enclosing
 further_scopes [] = []
-further_scopes (scope ∷ outer) = outer
+further_scopes (e ∷ outer) = outer
 
 -- the scopes behind a block
 abbrev pub outside : Scopes → Scopes

@@ -10,7 +10,11 @@ pub mod Outcomes
 pub mod Laws
 pub mod InScope
 pub mod Views
+pub mod Enclosings
+pub mod Sharing
+pub mod Formats
 pub mod ExpressionRules
+pub mod DirectiveRules
 pub mod StatementRules
 pub mod UnitRules
 pub mod Checks

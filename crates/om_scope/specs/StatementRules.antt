@@ -1,14 +1,17 @@
 -- The rules of declarations and statements, by the breaches that a tree has of them, in the order of the text.
-use Rattle.std.specs.Prelude.{ℕ, ◌+◌, List, [], ◌∷◌, ◌++◌, Option, None, Some, Bool, true, false, nat_eq, not, if◌then◌else◌, fold}
+use Rattle.std.specs.Prelude.{ℕ, ◌+◌, List, [], ◌∷◌, ◌++◌, Option, None, Some, Bool, true, false, nat_eq, nat_le, not, if◌then◌else◌, fold}
 use Rattle.om_lexer.specs.declared.fault.FaultCode.TheVariants as faults
 use Rattle.om_lexer.specs.declared.fault.SourceFault.{SourceFault}
 use Rattle.om_parser.specs.declared.tree.ArrayLength.{ArrayLength}
 use Rattle.om_pragma.specs.declared.name.Name as names
 use Rattle.om_parser.specs.Tree.{ExpressionTree, InitializerTree, DeclaratorTree, DeclarationTree, ForStartTree, Nothing, StartExpression, StartDeclaration, ForHeadTree, StatementTree, LocalDeclaration, Block, Empty, Expression, If, IfElse, While, Do, For, Return, Break, Continue, Construct, StandAlone, Sections, Section, StatementsTree, NoStatements, Statement}
+use Rattle.om_pragma.specs.declared.tree.Directive.{Directive}
 use Rattle.om_scope.specs.declared.rules.flow.Flow.{Flow}
+use Rattle.om_scope.specs.declared.rules.statement.TheConstants.{SECTION_LIMIT}
 use Rattle.om_scope.specs.Faults.{breach_if, breaches_along, untaken_breaches}
 use Rattle.om_scope.specs.Places.{statement_start}
 use Rattle.om_scope.specs.ExpressionRules.{expression_breaches, misplaced_breaches}
+use Rattle.om_scope.specs.DirectiveRules.{constructing, directive_breaches, flush_breaches, in_construct, traits_of}
 use Rattle.om_scope.specs.InScope.{Scopes, is_declared, inside, declarators_of, after_local, after_locals}
 
 -- S8: declared again in the same scope (C17 6.7p3)
@@ -34,9 +37,9 @@ local_breaches scopes d = redeclared_breaches scopes d.name ++ array_size_breach
 abbrev pub locals_breaches : Scopes → List DeclaratorTree → List SourceFault
 locals_breaches = breaches_along local_breaches after_local
 
--- S14: outside a loop (C17 6.8.6.2p1, 6.8.6.3p1)
-abbrev pub outside_loop_breaches : Flow → ℕ → List SourceFault
-outside_loop_breaches flow at = breach_if (not flow.in_loop) faults.LeavesConstruct at
+-- S14: a `break` or a `continue` outside of a loop (C17 6.8.6.2p1, 6.8.6.3p1), or a jump that leaves a construct
+abbrev pub jump_breaches : Bool → ℕ → List SourceFault
+jump_breaches allowed at = breach_if (not allowed) faults.LeavesConstruct at
 
 -- S9: a value that a `void` function returns (C17 6.8.6.4p1)
 abbrev pub return_breaches : Scopes → Flow → Option ExpressionTree → List SourceFault
@@ -63,7 +66,7 @@ for_turn_breaches scopes h = perhaps_breaches scopes true h.condition ++ perhaps
 
 -- in a loop
 abbrev pub looping : Flow → Flow
-looping flow = record { in_loop = true; returns = flow.returns }
+looping flow = record { may_break = true; may_continue = true; returns = flow.returns; in_construct = flow.in_construct; is_closed = flow.is_closed }
 
 -- the scopes behind an item of a block
 abbrev pub after_statement : Scopes → StatementTree → Scopes
@@ -103,18 +106,43 @@ unfoldable mutual
       for_start_breaches (inside scopes) h.start
       ++ for_turn_breaches (after_for_start (inside scopes) h.start) h
       ++ statement_breaches (inside (after_for_start (inside scopes) h.start)) (looping flow) s
-  statement_breaches scopes flow (Return at value semicolon) = return_breaches scopes flow value
-  statement_breaches scopes flow (Break at semicolon) = outside_loop_breaches flow at.start
-  statement_breaches scopes flow (Continue at semicolon) = outside_loop_breaches flow at.start
-  statement_breaches scopes flow (Construct d s) = untaken_breaches (statement_start (Construct d s))
-  statement_breaches scopes flow (StandAlone d) = untaken_breaches (statement_start (StandAlone d))
-  statement_breaches scopes flow (Sections d left parts right) = untaken_breaches (statement_start (Sections d left parts right))
-  statement_breaches scopes flow (Section d items) = untaken_breaches (statement_start (Section d items))
+  statement_breaches scopes flow (Return at value semicolon) = jump_breaches (not flow.in_construct) at.start ++ return_breaches scopes flow value
+  statement_breaches scopes flow (Break at semicolon) = jump_breaches flow.may_break at.start
+  statement_breaches scopes flow (Continue at semicolon) = jump_breaches flow.may_continue at.start
+  statement_breaches scopes flow (Construct d s) =
+      if (traits_of d.name).takes_loop
+      then untaken_breaches d.hash.start
+      else directive_breaches scopes flow d ++ statement_breaches (in_construct d scopes) (constructing d.name flow) s
+  statement_breaches scopes flow (StandAlone d) = directive_breaches scopes flow d ++ flush_breaches scopes d.name
+  statement_breaches scopes flow (Sections d left parts right) =
+      directive_breaches scopes flow d ++ sections_breaches (in_construct d scopes) (constructing d.name flow) 0 parts
+  statement_breaches scopes flow (Section d items) = statements_breaches (inside scopes) flow items
 
   -- of the items of a block, in their order
   pub statements_breaches : Scopes → Flow → StatementsTree → List SourceFault
   statements_breaches scopes flow NoStatements = []
   statements_breaches scopes flow (Statement s rest) = statement_breaches scopes flow s ++ statements_breaches (after_statement scopes s) flow rest
+
+  -- of the parts of `sections`, behind so many others; S11 at the first token of one too many
+  pub sections_breaches : Scopes → Flow → ℕ → StatementsTree → List SourceFault
+  sections_breaches scopes flow before NoStatements = []
+  sections_breaches scopes flow before (Statement s rest) =
+      breach_if (nat_le SECTION_LIMIT before) faults.TooMany (statement_start s)
+      ++ statement_breaches (inside scopes) flow s
+      ++ sections_breaches scopes flow (before + 1) rest
+
+-- of a construct
+abbrev pub construct_breaches : Scopes → Flow → Directive ExpressionTree → StatementTree → List SourceFault
+construct_breaches scopes flow d s = directive_breaches scopes flow d ++ statement_breaches (in_construct d scopes) (constructing d.name flow) s
+
+abbrev pub sections_construct_breaches : Scopes → Flow → Directive ExpressionTree → StatementsTree → List SourceFault
+sections_construct_breaches scopes flow d parts = directive_breaches scopes flow d ++ sections_breaches (in_construct d scopes) (constructing d.name flow) 0 parts
+
+abbrev pub part_breaches : Scopes → Flow → ℕ → StatementTree → List SourceFault
+part_breaches scopes flow before s = breach_if (nat_le SECTION_LIMIT before) faults.TooMany (statement_start s) ++ statement_breaches (inside scopes) flow s
+
+abbrev pub stand_alone_breaches : Scopes → Flow → Directive ExpressionTree → List SourceFault
+stand_alone_breaches scopes flow d = directive_breaches scopes flow d ++ flush_breaches scopes d.name
 
 -- of a `for`
 abbrev pub for_breaches : Scopes → Flow → ForHeadTree → StatementTree → List SourceFault

@@ -89,7 +89,7 @@ prototype_breaches scopes head = head_breaches scopes head ++ parameters_breache
 
 -- what a function's statements may do
 abbrev pub flow_of : HeadTree → Flow
-flow_of head = record { in_loop = false; returns = (signature_of head).returns }
+flow_of head = record { may_break = false; may_continue = false; returns = (signature_of head).returns; in_construct = false; is_closed = false }
 
 -- S11 at the first definition too many, S8 at a second one of a function
 abbrev pub definition_breaches : Scopes → HeadTree → List SourceFault

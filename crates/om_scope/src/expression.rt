@@ -67,11 +67,7 @@ pub fn resolve_expression(
             let right = resolve_expression(alloc, symbols, right)?;
             let left = Box::new(alloc, left)?;
             let right = Box::new(alloc, right)?;
-            Ok(ResolvedExpression::Binary(
-                left,
-                ResolvedOperator::Add,
-                right,
-            ))
+            Ok(ResolvedExpression::Binary(left, ResolvedOperator::Add, right))
         }
         Expression::Binary(_, _, _, _) => Err(untaken(expression_start(expression))),
         Expression::Text(_) => Err(untaken(expression_start(expression))),

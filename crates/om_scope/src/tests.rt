@@ -110,6 +110,103 @@ fn rules_of_arrays_and_functions(rt: HostRuntime) {
 }
 
 #[test]
+fn rules_of_expressions(rt: HostRuntime) {
+    for (source, number, at) in [
+        ("int f(int a){ return a; } int main(void){ f(); }", 9, 42),
+        (
+            "int f(int a){ return a; } int main(void){ f(1, 2); }",
+            9,
+            42,
+        ),
+        ("void f(void){} int main(void){ return f(); }", 9, 38),
+        ("int main(void){ main(); }", 9, 16),
+        ("int x; int main(void){ x(); }", 9, 23),
+        ("int x; int main(void){ x[0]; }", 9, 23),
+        ("int a[2]; int main(void){ a[y] = 1; }", 7, 28),
+        ("int f(void); int main(void){ f(); }", 7, 29),
+        ("int main(void){ g(); }", 7, 16),
+        ("int main(void){ 1 = 2; }", 9, 16),
+        ("int x; int main(void){ (x + 1)++; }", 9, 23),
+        ("int x; int main(void){ ++-x; }", 9, 25),
+        ("int x; int main(void){ y++ = 1; }", 7, 23),
+        ("int x; int main(void){ { int x[2]; } x[0] = 1; }", 9, 37),
+        ("int main(void){ if (1) break; }", 14, 23),
+        ("int main(void){ for (int i = j; i < 2; i++) ; }", 7, 29),
+        (
+            "int main(void){ for (int i = 0; i < 2; i++) ; i = 1; }",
+            7,
+            46,
+        ),
+    ] {
+        assert_eq!(rt;
+            refusal(rt.alloc(), source.as_bytes()),
+            Some((number, at)),
+            "{source}"
+        );
+    }
+}
+
+#[test]
+fn rules_of_printf(rt: HostRuntime) {
+    for (source, number, at) in [
+        ("int main(void){ printf(); }", 9, 16),
+        ("int main(void){ printf(1); }", 9, 16),
+        ("int main(void){ printf(\"%d\"); }", 9, 16),
+        ("int main(void){ printf(\"a\", 1); }", 9, 16),
+        ("int main(void){ printf(\"%x\", 1); }", 9, 16),
+        ("int main(void){ printf(\"%d%\", 1); }", 9, 16),
+        ("int main(void){ 1 + printf(\"a\"); }", 9, 20),
+        ("int main(void){ printf = 1; }", 9, 16),
+        ("int main(void){ printf(\"%d\", y); }", 7, 29),
+        ("int main(void){ int printf; printf(1); }", 9, 28),
+        // Nothing is broken, and the form is not taken yet.
+        ("int main(void){ printf(\"%d%%%d\", 1, 2); }", 3, 16),
+        ("int main(void){ int printf = 1; }", 3, 16),
+    ] {
+        assert_eq!(rt;
+            refusal(rt.alloc(), source.as_bytes()),
+            Some((number, at)),
+            "{source}"
+        );
+    }
+}
+
+/// A `printf` of so many values, each `1`, with that last value.
+fn with_values(alloc: Global, count: u32, last: &str) -> Result<String, AllocError> {
+    let mut source = String::from_str(alloc, "int main(void){ printf(\"")?;
+    for _ in 0..count {
+        source.push_str("%d")?;
+    }
+    source.push_str("\"")?;
+    for _ in 1..count {
+        source.push_str(", 1")?;
+    }
+    source.push_str(", ")?;
+    source.push_str(last)?;
+    source.push_str("); }")?;
+    Ok(source)
+}
+
+#[test]
+fn printf_writes_16_values_at_most(rt: HostRuntime) -> Result<(), Fail> {
+    // The 17th value stands at byte 16 + 8 + 34 + 1 + 48 + 2.
+    for (count, last, number, at) in [
+        (16, "1", 3, 16),
+        (17, "1", 11, 109),
+        (17, "1 + y", 11, 109),
+        (17, "y", 7, 109),
+    ] {
+        let source = with_values(rt.alloc(), count, last)?;
+        assert_eq!(rt;
+            refusal(rt.alloc(), source.as_bytes()),
+            Some((number, at)),
+            "{count} {last}"
+        );
+    }
+    Ok(())
+}
+
+#[test]
 fn what_breaks_no_rule_and_is_not_taken_is_refused_last(rt: HostRuntime) {
     for (source, at) in [
         ("int a[65535], b; int main(void){}", 4),

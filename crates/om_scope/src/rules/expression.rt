@@ -3,11 +3,12 @@
 ghost use Rattle.std.specs.Prelude.{◌≡◌, ◌++◌, true, map, length};
 ghost use Rattle.om_parser.specs.Tree.{arguments};
 ghost use Rattle.om_parser.specs.View.{view_expression};
-ghost use Rattle.om_scope.specs.ExpressionRules.{undeclared_breaches, is_undeclared, is_scalar, is_array, is_printf, is_miscalled, scalar_breaches, array_breaches, call_breaches, constant_breaches, leading_breaches, misplaced_breaches, is_step, expression_breaches, called_breaches, own_call_breaches, argument_count, arguments_breaches, target_breaches};
+ghost use Rattle.om_scope.specs.ExpressionRules.{undeclared_breaches, is_undeclared, is_scalar, is_array, is_printf, is_copied_array, is_miscalled, scalar_breaches, unlisted_breaches, array_breaches, call_breaches, constant_breaches, leading_breaches, misplaced_breaches, is_step, expression_breaches, called_breaches, own_call_breaches, argument_count, arguments_breaches, target_breaches, argument_breaches, element_breaches, is_print, is_target, print_breaches, printed_breaches};
 ghost use Rattle.om_scope.specs.Views.{view_argument};
 ghost use Rattle.om_scope.specs.Checks.{ChecksExactly};
 
-use crate::rules::fault::refuse_if;
+use crate::rules::fault::{refuse_among, refuse_if};
+use crate::rules::print::{PRINTED_LIMIT, is_format};
 use crate::rules::symbols::{Meaning, Shape, Symbols};
 use crate::taken::expression_start;
 use om_lexer::{FaultCode, SourceFault, Span};
@@ -26,7 +27,7 @@ fn is_undeclared(symbols: &Symbols, name: &[u8], meaning: Option<Meaning>) -> bo
 }
 
 /// S7 at a name.
-fn check_declared(symbols: &Symbols, name: &Name) -> Result<(), SourceFault>
+pub fn check_declared(symbols: &Symbols, name: &Name) -> Result<(), SourceFault>
     ensures { ChecksExactly result (undeclared_breaches symbols.now name.now) }
 {
     let meaning = symbols.meaning_of(name.text.as_slice());
@@ -35,7 +36,7 @@ fn check_declared(symbols: &Symbols, name: &Name) -> Result<(), SourceFault>
 }
 
 /// Whether it is one `int`.
-fn is_scalar(meaning: Option<Meaning>) -> bool
+pub fn is_scalar(meaning: Option<Meaning>) -> bool
     ensures { result ≡ is_scalar meaning }
 {
     match meaning {
@@ -88,22 +89,42 @@ fn is_miscalled(for_value: bool, name: &[u8], count: usize, meaning: Option<Mean
     }
 }
 
-/// A name that is used as a scalar: S7, S9.
+/// A name that is used as a scalar: S7, S9, S13.
+#[tactic(auto, using(crate::proofs::Firsts::first_of_left))]
 fn check_scalar(symbols: &Symbols, name: &Name) -> Result<(), SourceFault>
     ensures { ChecksExactly result (scalar_breaches symbols.now name.now) }
 {
     check_declared(symbols, name)?;
     let broken = !is_scalar(symbols.meaning_of(name.text.as_slice()));
-    refuse_if(broken, FaultCode::Misuse, name.span.start)
+    refuse_if(broken, FaultCode::Misuse, name.span.start)?;
+    check_is_listed(symbols, name)
 }
 
-/// A name that is used as an array: S7, S9.
+/// Whether it is an array of which a `task` round the place would make a copy.
+pub fn is_copied_array(symbols: &Symbols, name: &[u8]) -> bool
+    ensures { result ≡ is_copied_array symbols.now name.now }
+{
+    is_array(symbols.meaning_of(name)) && symbols.is_copied(name)
+}
+
+/// A variable that the constructs round the place have to list: S13.
+fn check_is_listed(symbols: &Symbols, name: &Name) -> Result<(), SourceFault>
+    ensures { ChecksExactly result (unlisted_breaches symbols.now name.now) }
+{
+    let broken = symbols.is_unlisted(name.text.as_slice());
+    refuse_if(broken, FaultCode::Unlisted, name.span.start)
+}
+
+/// A name that is used as an array: S7, S9, S13.
+#[tactic(auto, using(crate::proofs::Firsts::first_of_left))]
 fn check_array(symbols: &Symbols, name: &Name) -> Result<(), SourceFault>
     ensures { ChecksExactly result (array_breaches symbols.now name.now) }
 {
     check_declared(symbols, name)?;
-    let broken = !is_array(symbols.meaning_of(name.text.as_slice()));
-    refuse_if(broken, FaultCode::Misuse, name.span.start)
+    let text = name.text.as_slice();
+    let broken = !is_array(symbols.meaning_of(text)) || symbols.is_copied(text);
+    refuse_if(broken, FaultCode::Misuse, name.span.start)?;
+    check_is_listed(symbols, name)
 }
 
 /// A name that is called with so many values: S7, S9.
@@ -173,6 +194,26 @@ fn is_step(operator: PrefixOperator) -> bool
     }
 }
 
+/// Whether an expression is a name or an element, in parentheses or not.
+#[tactic(auto, unfolding(crate::specs::ExpressionRules::is_target))]
+fn is_target(expression: &Expression) -> bool
+    ensures { result ≡ is_target (view_expression expression.now) }
+{
+    match expression {
+        Expression::Name(_) => true,
+        Expression::Index(_, _, _, _) => true,
+        Expression::Paren(_, inner, _) => is_target(inner),
+        Expression::Constant(_) => false,
+        Expression::Text(_) => false,
+        Expression::Call(_, _, _, _) => false,
+        Expression::Prefix(_, _, _) => false,
+        Expression::Postfix(_, _, _) => false,
+        Expression::Binary(_, _, _, _) => false,
+        Expression::Conditional(_, _, _, _, _) => false,
+        Expression::Assign(_, _, _, _) => false,
+    }
+}
+
 /// An expression, whose value is used or not.
 #[tactic(auto, using(crate::proofs::Firsts::first_of_left), unfolding(crate::specs::ExpressionRules::expression_breaches))]
 #[cycle(expression)]
@@ -188,10 +229,7 @@ pub fn check_expression(
         Expression::Constant(number) => check_constant(number),
         Expression::Text(text) => refuse_if(true, FaultCode::Misuse, text.span.start),
         Expression::Paren(_, inner, _) => check_expression(symbols, for_value, inner),
-        Expression::Index(name, _, index, _) => {
-            check_array(symbols, name)?;
-            check_expression(symbols, true, index)
-        }
+        Expression::Index(name, _, index, _) => check_element(symbols, name, index),
         Expression::Call(name, _, values, _) => {
             check_call(symbols, for_value, name, values.as_slice())
         }
@@ -227,11 +265,14 @@ fn check_target(symbols: &Symbols, target: &Expression) -> Result<(), SourceFaul
 {
     match target {
         Expression::Name(name) => check_scalar(symbols, name),
-        Expression::Index(name, _, index, _) => {
-            check_array(symbols, name)?;
-            check_expression(symbols, true, index)
+        Expression::Index(name, _, index, _) => check_element(symbols, name, index),
+        Expression::Paren(_, inner, _) => {
+            if is_target(inner) {
+                check_target(symbols, inner)
+            } else {
+                refuse_misplaced(symbols, target)
+            }
         }
-        Expression::Paren(_, inner, _) => check_target(symbols, inner),
         Expression::Constant(_) => refuse_misplaced(symbols, target),
         Expression::Text(_) => refuse_misplaced(symbols, target),
         Expression::Call(_, _, _, _) => refuse_misplaced(symbols, target),
@@ -241,6 +282,15 @@ fn check_target(symbols: &Symbols, target: &Expression) -> Result<(), SourceFaul
         Expression::Conditional(_, _, _, _, _) => refuse_misplaced(symbols, target),
         Expression::Assign(_, _, _, _) => refuse_misplaced(symbols, target),
     }
+}
+
+/// An element of an array.
+#[cycle(expression)]
+fn check_element(symbols: &Symbols, name: &Name, index: &Expression) -> Result<(), SourceFault>
+    ensures { ChecksExactly result (element_breaches symbols.now name.now (view_expression index.now)) }
+{
+    check_array(symbols, name)?;
+    check_expression(symbols, true, index)
 }
 
 /// How many values a call has.
@@ -261,9 +311,65 @@ fn check_call(
     ensures { ChecksExactly result (called_breaches symbols.now for_value name.now (arguments (map view_argument values.now))) }
 {
     if is_printf(symbols.meaning_of(name.text.as_slice())) {
-        return refuse_if(true, FaultCode::Syntax, name.span.start);
+        return check_print(symbols, for_value, name, values);
     }
     check_own_call(symbols, for_value, name, values)
+}
+
+/// Whether a call of `printf` has a format, and as many values as it takes.
+fn is_print(values: &[(Option<Span>, Expression)]) -> bool
+    ensures { result ≡ is_print (arguments (map view_argument values.now)) }
+{
+    match values {
+        [] => false,
+        [format, printed @ ..] => is_format(&format.1, argument_count(printed)),
+    }
+}
+
+/// A call of `printf`: S9, S11.
+#[tactic(auto, using(crate::proofs::Firsts::first_of_left))]
+#[cycle(expression)]
+fn check_print(
+    symbols: &Symbols,
+    for_value: bool,
+    name: &Name,
+    values: &[(Option<Span>, Expression)],
+) -> Result<(), SourceFault>
+    ensures { ChecksExactly result (print_breaches symbols.now for_value name.now (arguments (map view_argument values.now))) }
+{
+    let broken = for_value || !is_print(values);
+    refuse_if(broken, FaultCode::Misuse, name.span.start)?;
+    check_printed(symbols, values)
+}
+
+/// The arguments of a `printf`, of which the first is its format.
+#[tactic(auto, using(crate::proofs::Firsts::first_of_left), unfolding(crate::specs::ExpressionRules::printed_breaches))]
+#[cycle(expression)]
+fn check_printed(
+    symbols: &Symbols,
+    values: &[(Option<Span>, Expression)],
+) -> Result<(), SourceFault>
+    ensures { ChecksExactly result (printed_breaches symbols.now 0 (arguments (map view_argument values.now))) }
+{
+    let mut place = 0;
+    for argument in values {
+        check_argument(symbols, place, &argument.1)?;
+        place += 1;
+    }
+    Ok(())
+}
+
+/// An argument of a `printf` at a place: S11.
+#[cycle(expression)]
+fn check_argument(symbols: &Symbols, place: usize, argument: &Expression) -> Result<(), SourceFault>
+    ensures { ChecksExactly result (argument_breaches symbols.now place (view_expression argument.now)) }
+{
+    if place == 0 {
+        return Ok(());
+    }
+    let checked = check_expression(symbols, true, argument);
+    let at = expression_start(argument);
+    refuse_among(checked, PRINTED_LIMIT < place, FaultCode::TooMany, at)
 }
 
 /// A call of another function than `printf`.

@@ -220,6 +220,19 @@ fn check_definition(symbols: &Symbols, head: &FunctionHead) -> Result<(), Source
     check_head(symbols, head)
 }
 
+/// What a function's statements may do.
+fn flow_of(head: &FunctionHead) -> Flow
+    ensures { result ≡ flow_of (view_head head.now) }
+{
+    Flow {
+        may_break: false,
+        may_continue: false,
+        returns: returns_value(&head.result),
+        in_construct: false,
+        is_closed: false,
+    }
+}
+
 /// The parameters and the body of a function, in a scope of their own.
 #[tactic(auto, using(crate::proofs::Firsts::first_of_left))]
 fn check_inside(
@@ -232,10 +245,7 @@ fn check_inside(
 {
     symbols.enter(alloc)?;
     declare_parameters(alloc, symbols, &function.head.parameters)?;
-    let flow = Flow {
-        in_loop: false,
-        returns: returns_value(&function.head.result),
-    };
+    let flow = flow_of(&function.head);
     check_statements(alloc, symbols, flow, function.body.items.as_slice())?;
     symbols.leave();
     Ok(())

@@ -2,12 +2,15 @@
 
 ghost use Rattle.std.specs.Prelude.{◌≡◌, ◌++◌, OnOk, map, option_map};
 ghost use Rattle.om_parser.specs.Tree.{statements};
-ghost use Rattle.om_parser.specs.View.{view_expression, view_for_head, view_for_start, view_statement};
+ghost use Rattle.om_parser.specs.View.{view_expression, view_for_head, view_directive, view_for_start, view_statement};
 ghost use Rattle.om_scope.specs.Checks.{Checks, ChecksExactly};
+ghost use Rattle.om_scope.specs.DirectiveRules.{directive_breaches, in_construct};
 ghost use Rattle.om_scope.specs.InScope.{inside};
-ghost use Rattle.om_scope.specs.StatementRules.{after_for_start, after_statement, for_start_breaches, for_turn_breaches, after_statements, for_breaches, looping, outside_loop_breaches, perhaps_breaches, return_breaches, statement_breaches, statements_breaches};
+ghost use Rattle.om_scope.specs.StatementRules.{after_for_start, after_statement, for_start_breaches, for_turn_breaches, after_statements, for_breaches, looping, jump_breaches, construct_breaches, part_breaches, sections_breaches, sections_construct_breaches, stand_alone_breaches, perhaps_breaches, return_breaches, statement_breaches, statements_breaches};
 
+use crate::rules::construct::{constructing, traits_of};
 use crate::rules::declaration::declare_locals;
+use crate::rules::directive::{check_directive, check_flush};
 use crate::rules::expression::{check_expression, refuse_misplaced};
 use crate::rules::fault::refuse_if;
 use crate::rules::flow::Flow;
@@ -15,23 +18,30 @@ use crate::rules::symbols::Symbols;
 use crate::taken::{statement_start, untaken};
 use om_lexer::{FaultCode, SourceFault};
 use om_parser::{Expression, ForHead, ForStart, Statement};
+use om_pragma::Directive;
 use std::alloc::Global;
+
+/// How many parts a `sections` may have.
+pub const SECTION_LIMIT: usize = 256;
 
 /// The same place in a loop.
 fn looping(flow: Flow) -> Flow
     ensures { result ≡ looping flow }
 {
     Flow {
-        in_loop: true,
+        may_break: true,
+        may_continue: true,
         returns: flow.returns,
+        in_construct: flow.in_construct,
+        is_closed: flow.is_closed,
     }
 }
 
-/// A `break` or a `continue`: S14.
-fn check_in_loop(flow: Flow, at: u32) -> Result<(), SourceFault>
-    ensures { ChecksExactly result (outside_loop_breaches flow at) }
+/// A jump: S14.
+fn check_jump(allowed: bool, at: u32) -> Result<(), SourceFault>
+    ensures { ChecksExactly result (jump_breaches allowed at) }
 {
-    refuse_if(!flow.in_loop, FaultCode::LeavesConstruct, at)
+    refuse_if(!allowed, FaultCode::LeavesConstruct, at)
 }
 
 /// What a function returns: S9.
@@ -93,6 +103,36 @@ fn check_for_turn(symbols: &Symbols, head: &ForHead) -> Result<(), SourceFault>
     check_perhaps(symbols, false, &head.step)
 }
 
+/// A directive that stands alone.
+#[tactic(auto, using(crate::proofs::Firsts::first_of_left))]
+fn check_stand_alone(
+    alloc: Global,
+    symbols: &Symbols,
+    flow: Flow,
+    directive: &Directive<Expression>,
+) -> Result<(), SourceFault>
+    ensures { Checks result (stand_alone_breaches symbols.now flow (view_directive directive.now)) }
+{
+    check_directive(alloc, symbols, flow, directive)?;
+    check_flush(alloc, symbols, &directive.name)
+}
+
+/// Enters a construct, after its clauses.
+fn enter_construct(
+    alloc: Global,
+    symbols: &mut Symbols,
+    flow: Flow,
+    directive: &Directive<Expression>,
+) -> Result<(), SourceFault>
+    ensures checked { Checks result (directive_breaches symbols.old flow (view_directive directive.now)) }
+    ensures in_scope { OnOk result (symbols.new ≡ in_construct (view_directive directive.now) symbols.old) }
+{
+    let listed = check_directive(alloc, symbols, flow, directive)?;
+    let (copies, region) = listed.into_region(traits_of(&directive.name).region);
+    symbols.enter_region(copies, region)?;
+    Ok(())
+}
+
 /// A statement, or a declaration in a block.
 #[tactic(auto, using(crate::proofs::Firsts::first_of_left), unfolding(crate::specs::StatementRules::statement_breaches))]
 #[cycle(statement)]
@@ -128,14 +168,106 @@ fn check_statement(
             check_expression(symbols, true, &condition.value)
         }
         Statement::For(head, body) => check_for(alloc, symbols, flow, head, body),
-        Statement::Return(_, value, _) => check_return(symbols, flow, value),
-        Statement::Break(at, _) => check_in_loop(flow, at.start),
-        Statement::Continue(at, _) => check_in_loop(flow, at.start),
-        Statement::Construct(_, _) => Err(untaken(statement_start(statement))),
-        Statement::StandAlone(_) => Err(untaken(statement_start(statement))),
-        Statement::Sections(_, _, _, _) => Err(untaken(statement_start(statement))),
-        Statement::Section(_, _) => Err(untaken(statement_start(statement))),
+        Statement::Return(at, value, _) => {
+            check_jump(!flow.in_construct, at.start)?;
+            check_return(symbols, flow, value)
+        }
+        Statement::Break(at, _) => check_jump(flow.may_break, at.start),
+        Statement::Continue(at, _) => check_jump(flow.may_continue, at.start),
+        Statement::Construct(directive, body) => {
+            if traits_of(&directive.name).takes_loop {
+                Err(untaken(directive.hash.start))
+            } else {
+                check_construct(alloc, symbols, flow, directive, body)
+            }
+        }
+        Statement::StandAlone(directive) => check_stand_alone(alloc, symbols, flow, directive),
+        Statement::Sections(directive, _, parts, _) => {
+            check_sections(alloc, symbols, flow, directive, parts.as_slice())
+        }
+        Statement::Section(_, items) => check_block(alloc, symbols, flow, items.as_slice()),
     }
+}
+
+/// A construct and its statement.
+#[tactic(auto, using(crate::proofs::Firsts::first_of_left))]
+#[cycle(statement)]
+fn check_construct(
+    alloc: Global,
+    symbols: &mut Symbols,
+    flow: Flow,
+    directive: &Directive<Expression>,
+    body: &Statement,
+) -> Result<(), SourceFault>
+    ensures checked { Checks result (construct_breaches symbols.old flow (view_directive directive.now) (view_statement body.now)) }
+    ensures in_scope { OnOk result (symbols.new ≡ symbols.old) }
+{
+    let inside = constructing(&directive.name, flow);
+    enter_construct(alloc, symbols, flow, directive)?;
+    check_statement(alloc, symbols, inside, body)?;
+    symbols.leave();
+    Ok(())
+}
+
+/// `sections` and its parts.
+#[tactic(auto, using(crate::proofs::Firsts::first_of_left))]
+#[cycle(statement)]
+fn check_sections(
+    alloc: Global,
+    symbols: &mut Symbols,
+    flow: Flow,
+    directive: &Directive<Expression>,
+    parts: &[Statement],
+) -> Result<(), SourceFault>
+    ensures checked { Checks result (sections_construct_breaches symbols.old flow (view_directive directive.now) (statements (map view_statement parts.now))) }
+    ensures in_scope { OnOk result (symbols.new ≡ symbols.old) }
+{
+    let inside = constructing(&directive.name, flow);
+    enter_construct(alloc, symbols, flow, directive)?;
+    check_parts(alloc, symbols, inside, parts)?;
+    symbols.leave();
+    Ok(())
+}
+
+/// The parts of `sections`.
+#[tactic(auto, unfolding(crate::specs::StatementRules::sections_breaches))]
+#[cycle(statement)]
+fn check_parts(
+    alloc: Global,
+    symbols: &mut Symbols,
+    flow: Flow,
+    parts: &[Statement],
+) -> Result<(), SourceFault>
+    ensures checked { Checks result (sections_breaches symbols.old flow 0 (statements (map view_statement parts.now))) }
+    ensures in_scope { OnOk result (symbols.new ≡ symbols.old) }
+{
+    let mut before = 0;
+    for part in parts {
+        check_part(alloc, symbols, flow, before, part)?;
+        before += 1;
+    }
+    Ok(())
+}
+
+/// A part of `sections` behind so many others: S11.
+#[tactic(auto, using(crate::proofs::Firsts::first_of_left))]
+#[cycle(statement)]
+fn check_part(
+    alloc: Global,
+    symbols: &mut Symbols,
+    flow: Flow,
+    before: usize,
+    part: &Statement,
+) -> Result<(), SourceFault>
+    ensures checked { Checks result (part_breaches symbols.old flow before (view_statement part.now)) }
+    ensures in_scope { OnOk result (symbols.new ≡ symbols.old) }
+{
+    refuse_if(
+        SECTION_LIMIT <= before,
+        FaultCode::TooMany,
+        statement_start(part),
+    )?;
+    check_body(alloc, symbols, flow, part)
 }
 
 /// The items of a block, in a scope of their own.

@@ -4,10 +4,13 @@ ghost use Rattle.std.specs.Prelude.{◌≡◌, ◌≢◌, ◌+◌, ◌<◌, ◌^
 ghost use Rattle.std.specs.List.{list_any};
 ghost use Rattle.std.specs.Map.{lookup};
 ghost use Rattle.std.specs.Str.{bytes_eq};
-ghost use Rattle.om_scope.specs.InScope.{scope_of, predeclared, file_scope, inside, outside, meaning_of, meaning_here, meaning_outside, is_declared, with_local, with_global, with_function, with_defined, with_name};
+ghost use Rattle.om_scope.specs.Sharing.{asks_for_clauses, copied_outside, declares, is_copied, is_own, is_parallel, is_task, is_task_without, is_unlisted, lacks_clause, unlisted_outside};
+ghost use Rattle.om_scope.specs.Enclosings.{view_enclosing};
+ghost use Rattle.om_scope.specs.InScope.{scope_of, plain, predeclared, file_scope, inside, within, outside, meaning_of, meaning_here, meaning_outside, is_declared, with_local, with_global, with_function, with_defined, with_name};
 
 use crate::rules::names::Names;
 use indexmap::IndexMap;
+use om_pragma::Sharing;
 use std::alloc::{AllocError, Global};
 use std::marker::Model;
 use std::mem;
@@ -38,13 +41,42 @@ pub enum Meaning {
     Printf,
 }
 
+/// How a construct shares the variables round it.
+#[derive(Clone, Copy, Debug, PartialEq, Eq)]
+pub enum RegionKind {
+    /// `parallel`.
+    Parallel,
+    /// `task`.
+    Task,
+    /// No construct, or one that shares all but its copies.
+    Plain,
+}
+
+/// What a construct says of the variables round it.
+#[derive(Drop)]
+pub struct Region {
+    pub kind: RegionKind,
+    /// What its `default` says of those that no clause lists.
+    pub default: Option<Sharing>,
+    /// Those that it lists as shared.
+    pub shared: Names,
+}
+
+/// A scope round another one.
+#[derive(Drop)]
+struct Enclosing {
+    names: IndexMap<Vec<u8>, Meaning>,
+    /// The construct that the scope inside of it belongs to.
+    region: Region,
+}
+
 /// The names in scope at a place. Contracts see the scopes round that place.
 #[derive(Drop)]
 pub struct Symbols {
     /// The names of the innermost scope, in the order of their declarations.
     inner: IndexMap<Vec<u8>, Meaning>,
-    /// Those of the scopes round it, the file scope first.
-    outer: Vec<IndexMap<Vec<u8>, Meaning>>,
+    /// The scopes round it, the file scope first.
+    outer: Vec<Enclosing>,
     /// How many cells the globals have.
     cells: u32,
     /// The functions that the whole source defines.
@@ -56,12 +88,13 @@ pub struct Symbols {
 impl Model for Symbols {
     ghost use Rattle.std.specs.Prelude.{map, reverse};
     ghost use Rattle.om_scope.specs.InScope.{Scopes, scope_of};
+    ghost use Rattle.om_scope.specs.Enclosings.{view_enclosing};
 
     ghost Value = { Scopes };
 
     ghost view = { λ s. record {
       inner = scope_of s.inner.entries;
-      outer = map (λ table. scope_of table.entries) (reverse s.outer.items);
+      outer = map view_enclosing (reverse s.outer.items);
       cells = s.cells;
       definitions = s.definitions;
       defined = s.defined;
@@ -80,7 +113,7 @@ pub fn predeclared(alloc: Global) -> Result<Names, AllocError>
 }
 
 /// Puts a new name into a table, as the last. Without memory the table stays.
-fn put(
+pub fn put(
     names: &mut IndexMap<Vec<u8>, Meaning>,
     alloc: Global,
     name: &[u8],
@@ -100,15 +133,115 @@ fn found_in(table: &IndexMap<Vec<u8>, Meaning>, name: &[u8]) -> Option<Meaning>
     table.get(name).copied()
 }
 
-/// What a name means in tables, of which the last is the innermost.
-fn meaning_in(tables: &[IndexMap<Vec<u8>, Meaning>], name: &[u8]) -> Option<Meaning>
-    ensures { result ≡ meaning_outside (map (λ table. scope_of table.entries) (reverse tables.now)) name.now }
+/// What a name means in scopes, of which the last is the innermost.
+fn meaning_in(scopes: &[Enclosing], name: &[u8]) -> Option<Meaning>
+    ensures { result ≡ meaning_outside (map view_enclosing (reverse scopes.now)) name.now }
 {
-    let (table, outer) = tables.split_last()?;
-    match found_in(table, name) {
+    let (scope, outer) = scopes.split_last()?;
+    match found_in(&scope.names, name) {
         Some(meaning) => Some(meaning),
         None => meaning_in(outer, name),
     }
+}
+
+/// Whether a table declares a name.
+pub fn declares(table: &IndexMap<Vec<u8>, Meaning>, name: &[u8]) -> bool
+    ensures { result ≡ declares (scope_of table.now.entries) name.now }
+{
+    found_in(table, name).is_some()
+}
+
+/// Whether it is `default(none)`.
+fn asks_for_clauses(default: Option<Sharing>) -> bool
+    ensures { result ≡ asks_for_clauses default }
+{
+    match default {
+        None => false,
+        Some(Sharing::Shared) => false,
+        Some(Sharing::None) => true,
+    }
+}
+
+impl Region {
+    /// No construct.
+    fn plain(alloc: Global) -> Region
+        ensures { result ≡ plain }
+    {
+        Region {
+            kind: RegionKind::Plain,
+            default: None,
+            shared: Names::new(alloc),
+        }
+    }
+
+    /// Whether it asks for a clause that lists a name, and has none.
+    fn lacks_clause(&self, name: &[u8]) -> bool
+        ensures { result ≡ lacks_clause self.now name.now }
+    {
+        asks_for_clauses(self.default) && !self.shared.contains(name)
+    }
+
+    /// Whether it is a `task` without `default` that does not list a name as shared.
+    fn is_task_without(&self, name: &[u8]) -> bool
+        ensures { result ≡ is_task_without self.now name.now }
+    {
+        is_task(self.kind) && !self.default.is_some() && !self.shared.contains(name)
+    }
+}
+
+fn is_task(kind: RegionKind) -> bool
+    ensures { result ≡ is_task kind }
+{
+    match kind {
+        RegionKind::Task => true,
+        RegionKind::Parallel => false,
+        RegionKind::Plain => false,
+    }
+}
+
+fn is_parallel(kind: RegionKind) -> bool
+    ensures { result ≡ is_parallel kind }
+{
+    match kind {
+        RegionKind::Parallel => true,
+        RegionKind::Task => false,
+        RegionKind::Plain => false,
+    }
+}
+
+/// Whether a construct between a place in these scopes and a name's declaration lacks a clause.
+fn is_unlisted_in(scopes: &[Enclosing], name: &[u8]) -> bool
+    ensures { result ≡ unlisted_outside (map view_enclosing (reverse scopes.now)) name.now }
+{
+    let Some((scope, outer)) = scopes.split_last() else {
+        return false;
+    };
+    scope.region.lacks_clause(name)
+        || (!declares(&scope.names, name) && is_unlisted_in(outer, name))
+}
+
+/// Whether a name is declared in a function, and in the innermost `parallel` round a place if there
+/// is one.
+fn is_own(scopes: &[Enclosing], name: &[u8]) -> bool
+    ensures { result ≡ is_own (map view_enclosing (reverse scopes.now)) name.now }
+{
+    let Some((scope, outer)) = scopes.split_last() else {
+        return false;
+    };
+    0 < outer.len()
+        && !is_parallel(scope.region.kind)
+        && (declares(&scope.names, name) || is_own(outer, name))
+}
+
+/// Whether a `task` between a place in these scopes and a name's declaration makes a copy.
+fn is_copied_in(scopes: &[Enclosing], name: &[u8]) -> bool
+    ensures { result ≡ copied_outside (map view_enclosing (reverse scopes.now)) name.now }
+{
+    let Some((scope, outer)) = scopes.split_last() else {
+        return false;
+    };
+    (scope.region.is_task_without(name) && is_own(scopes, name))
+        || (!declares(&scope.names, name) && is_copied_in(outer, name))
 }
 
 impl Symbols {
@@ -196,12 +329,37 @@ impl Symbols {
         self.cells
     }
 
+    /// Whether a construct round this place asks for a clause that lists a name, and has none.
+    pub fn is_unlisted(&self, name: &[u8]) -> bool
+        ensures { result ≡ is_unlisted self.now name.now }
+    {
+        !declares(&self.inner, name) && is_unlisted_in(self.outer.as_slice(), name)
+    }
+
+    /// Whether a `task` round this place makes a copy of a name's variable.
+    pub fn is_copied(&self, name: &[u8]) -> bool
+        ensures { result ≡ is_copied self.now name.now }
+    {
+        !declares(&self.inner, name) && is_copied_in(self.outer.as_slice(), name)
+    }
+
     /// Enters a block, in which nothing is declared yet.
     pub fn enter(&mut self, alloc: Global) -> Result<(), AllocError>
         ensures { OnOk result (self.new ≡ inside self.old) }
     {
-        let outer = mem::replace(&mut self.inner, IndexMap::new(alloc));
-        self.outer.push(outer)?;
+        self.enter_region(IndexMap::new(alloc), Region::plain(alloc))
+    }
+
+    /// Enters a construct in which these names are declared.
+    pub fn enter_region(
+        &mut self,
+        copies: IndexMap<Vec<u8>, Meaning>,
+        region: Region,
+    ) -> Result<(), AllocError>
+        ensures { OnOk result (self.new ≡ within (scope_of copies.entries) region self.old) }
+    {
+        let names = mem::replace(&mut self.inner, copies);
+        self.outer.push(Enclosing { names, region })?;
         Ok(())
     }
 
@@ -210,7 +368,7 @@ impl Symbols {
         ensures { self.new ≡ outside self.old }
     {
         if let Some(outer) = self.outer.pop() {
-            self.inner = outer;
+            self.inner = outer.names;
         }
     }
 

@@ -1,9 +1,9 @@
-use Rattle.std.proofs.Common.{map, ap, ◌∙◌}
+use Rattle.std.proofs.Common.{ℕ, ◌+◌, ◌≤◌, map, ap, ◌∙◌, arith}
 use Rattle.std.proofs.lemmas.Result.{err_from_is_err_and}
 use Rattle.om_parser.specs.View.{view_for_start, view_statement}
 use Rattle.om_scope.specs.InScope.{inside, outside}
 use Rattle.om_scope.specs.StatementRules.{after_for_start, after_statement, after_statements}
-use Rattle.om_scope.proofs.Blocks.{block_outside, body_outside, for_outside, statements_refuse, statements_step}
+use Rattle.om_scope.proofs.Blocks.{block_outside, body_outside, construct_outside, for_outside, parts_refuse, parts_step, statements_refuse, statements_step}
 use Rattle.om_scope.proofs.Items.{drop-item}
 use Rattle.om_scope.proofs.rules.statement.+statement.Goals as goal
 
@@ -36,3 +36,28 @@ check_for-returns-clause-in_scope t c =
     c.leave.ensures
     ∙ ap outside (c.in_ok-check_body.ensures.in_scope ∙ c.in_ok-check_for_start.ensures.in_scope ∙ ap (λ scopes. after_for_start scopes start) c.in_ok-enter.ensures)
     ∙ for_outside c.args.symbols.now start
+
+pub check_construct-returns-clause-in_scope : goal.check_construct-returns-clause-in_scope
+check_construct-returns-clause-in_scope t c =
+    c.leave.ensures
+    ∙ ap outside (c.in_ok-check_statement.ensures.in_scope ∙ ap (λ scopes. after_statement scopes (view_statement c.args.body.now)) c.in_ok-enter_construct.ensures.in_scope)
+    ∙ construct_outside _ _ c.args.symbols.now (view_statement c.args.body.now)
+
+pub check_parts-returns-in_err-check_part-clause-checked : goal.check_parts-returns-in_err-check_part-clause-checked
+check_parts-returns-in_err-check_part-clause-checked t c =
+    let p = err_from_is_err_and c.from_residual.result c.from_residual.ensures.1 in
+    let here = ap (map view_statement) (drop-item c.args.parts.now c.loop-part.part-index c.part-item.result c.loop-part-test.true c.part-item.is) in
+    let left = rw here at c.loop-part.invariant in
+    let refused = rw left.1 at c.in_err-check_part.ensures.checked in
+    rw (p.1, p.2) (parts_refuse _ _ _ _ _ _ _ left.0 refused)
+
+pub check_parts-loop-part-preserved : goal.check_parts-loop-part-preserved
+check_parts-loop-part-preserved t c =
+    let here = ap (map view_statement) (drop-item c.args.parts.now c.loop-part.part-index c.part-item.result c.loop-part-test.true c.part-item.is) in
+    let left = rw here at c.loop-part.invariant in
+    let one = c.in_ok-check_part.ensures in
+    let whole = rw left.1 at one.checked in
+    (parts_step _ _ _ _ _ _ left.0 whole, one.in_scope ∙ left.1, add-le left.2)
+  where
+    add-le : {a b : ℕ} → a ≤ b → a + 1 ≤ b + 1
+    add-le le = omega (arith, le)

@@ -1,0 +1,96 @@
+//! What each directive is as a construct.
+
+ghost use Rattle.std.specs.Prelude.{◌≡◌};
+ghost use Rattle.om_scope.specs.DirectiveRules.{constructing, is_closed_inside, row, traits_of};
+
+use crate::rules::flow::Flow;
+use crate::rules::symbols::RegionKind;
+use om_pragma::DirectiveName;
+
+/// Whether worksharing constructs and barriers may stand in a construct.
+#[derive(Clone, Copy, Debug)]
+pub enum Inside {
+    /// They may.
+    Opens,
+    /// They may not.
+    Closes,
+    /// As outside of it.
+    Keeps,
+}
+
+/// What a directive is as a construct.
+#[derive(Clone, Copy, Debug)]
+pub struct Traits {
+    /// How it shares the variables round it.
+    pub region: RegionKind,
+    /// Whether it is a worksharing construct or a barrier.
+    pub is_bound: bool,
+    pub inside: Inside,
+    /// Whether its statement is a loop.
+    pub takes_loop: bool,
+}
+
+fn row(region: RegionKind, is_bound: bool, inside: Inside, takes_loop: bool) -> Traits
+    ensures { result ≡ row region is_bound inside takes_loop }
+{
+    Traits {
+        region,
+        is_bound,
+        inside,
+        takes_loop,
+    }
+}
+
+/// What a directive is as a construct.
+pub fn traits_of(name: &DirectiveName) -> Traits
+    ensures { result ≡ traits_of name.now }
+{
+    match name {
+        DirectiveName::Parallel(_) => row(RegionKind::Parallel, false, Inside::Opens, false),
+        DirectiveName::For(_) => row(RegionKind::Plain, true, Inside::Closes, true),
+        DirectiveName::Sections(_) => row(RegionKind::Plain, true, Inside::Closes, false),
+        DirectiveName::Section(_) => row(RegionKind::Plain, false, Inside::Keeps, false),
+        DirectiveName::Single(_) => row(RegionKind::Plain, true, Inside::Closes, false),
+        DirectiveName::ParallelFor(_, _) => row(RegionKind::Parallel, false, Inside::Closes, true),
+        DirectiveName::ParallelSections(_, _) => row(
+            RegionKind::Parallel,
+            false,
+            Inside::Closes,
+            false,
+        ),
+        DirectiveName::Masked(_) => row(RegionKind::Plain, false, Inside::Closes, false),
+        DirectiveName::Master(_) => row(RegionKind::Plain, false, Inside::Closes, false),
+        DirectiveName::Critical(_, _) => row(RegionKind::Plain, false, Inside::Closes, false),
+        DirectiveName::Atomic(_) => row(RegionKind::Plain, false, Inside::Keeps, false),
+        DirectiveName::Task(_) => row(RegionKind::Task, false, Inside::Closes, false),
+        DirectiveName::Barrier(_) => row(RegionKind::Plain, true, Inside::Keeps, false),
+        DirectiveName::Taskwait(_) => row(RegionKind::Plain, false, Inside::Keeps, false),
+        DirectiveName::Taskyield(_) => row(RegionKind::Plain, false, Inside::Keeps, false),
+        DirectiveName::Flush(_, _) => row(RegionKind::Plain, false, Inside::Keeps, false),
+    }
+}
+
+/// Whether worksharing is closed out in a construct.
+fn is_closed_inside(inside: Inside, closed: bool) -> bool
+    ensures { result ≡ is_closed_inside inside closed }
+{
+    match inside {
+        Inside::Opens => false,
+        Inside::Closes => true,
+        Inside::Keeps => closed,
+    }
+}
+
+/// What the statements in a construct may do.
+pub fn constructing(name: &DirectiveName, flow: Flow) -> Flow
+    ensures { result ≡ constructing name.now flow }
+{
+    let traits = traits_of(name);
+    Flow {
+        may_break: false,
+        may_continue: false,
+        returns: flow.returns,
+        in_construct: true,
+        is_closed: is_closed_inside(traits.inside, flow.is_closed),
+    }
+}
