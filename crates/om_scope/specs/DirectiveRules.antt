@@ -169,15 +169,12 @@ directive_breaches scopes flow d = nesting_breaches flow d.name ++ breaches_alon
 abbrev pub listed_by : Directive ExpressionTree → Listed
 listed_by d = fold after_item nothing_listed d.clauses
 
-abbrev pub region_of : DirectiveName → Listed → Region
-region_of name listed = record { kind = (traits_of name).region; default = listed.default; shared = listed.shared }
-
--- the scopes in a construct whose clauses say this
-abbrev pub in_region : DirectiveName → Listed → Scopes → Scopes
-in_region name listed scopes = within listed.copies (region_of name listed) scopes
+-- the scopes in a construct of a kind whose clauses say this
+abbrev pub in_kind : RegionKind → Listed → Scopes → Scopes
+in_kind kind listed scopes = within listed.copies (record { kind = kind; default = listed.default; shared = listed.shared }) scopes
 
 abbrev pub in_construct : Directive ExpressionTree → Scopes → Scopes
-in_construct d scopes = in_region d.name (listed_by d) scopes
+in_construct d scopes = in_kind (traits_of d.name).region (listed_by d) scopes
 
 -- ---- `flush`
 

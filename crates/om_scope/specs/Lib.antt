@@ -14,6 +14,8 @@ pub mod Enclosings
 pub mod Sharing
 pub mod Formats
 pub mod ExpressionRules
+pub mod Loops
+pub mod LoopViews
 pub mod DirectiveRules
 pub mod StatementRules
 pub mod UnitRules

@@ -1,5 +1,5 @@
 -- The rules of declarations and statements, by the breaches that a tree has of them, in the order of the text.
-use Rattle.std.specs.Prelude.{ℕ, ◌+◌, List, [], ◌∷◌, ◌++◌, Option, None, Some, Bool, true, false, nat_eq, nat_le, not, if◌then◌else◌, fold}
+use Rattle.std.specs.Prelude.{ℕ, ◌+◌, List, [], ◌∷◌, ◌++◌, Option, None, Some, Bool, true, false, nat_eq, nat_le, not, if◌then◌else◌, is_some, fold}
 use Rattle.om_lexer.specs.declared.fault.FaultCode.TheVariants as faults
 use Rattle.om_lexer.specs.declared.fault.SourceFault.{SourceFault}
 use Rattle.om_parser.specs.declared.tree.ArrayLength.{ArrayLength}
@@ -8,11 +8,14 @@ use Rattle.om_parser.specs.Tree.{ExpressionTree, InitializerTree, DeclaratorTree
 use Rattle.om_pragma.specs.declared.tree.Directive.{Directive}
 use Rattle.om_scope.specs.declared.rules.flow.Flow.{Flow}
 use Rattle.om_scope.specs.declared.rules.statement.TheConstants.{SECTION_LIMIT}
-use Rattle.om_scope.specs.Faults.{breach_if, breaches_along, untaken_breaches}
+use Rattle.om_scope.specs.Faults.{breach_if, breaches_along, with_breach}
 use Rattle.om_scope.specs.Places.{statement_start}
-use Rattle.om_scope.specs.ExpressionRules.{expression_breaches, misplaced_breaches}
+use Rattle.om_scope.specs.ExpressionRules.{expression_breaches, is_scalar, misplaced_breaches, undeclared_breaches}
 use Rattle.om_scope.specs.DirectiveRules.{constructing, directive_breaches, flush_breaches, in_construct, traits_of}
-use Rattle.om_scope.specs.InScope.{Scopes, is_declared, inside, declarators_of, after_local, after_locals}
+use Rattle.om_scope.specs.Loops.{Loop, loop_in}
+use Rattle.om_scope.specs.Sharing.{is_parallel}
+use Rattle.om_scope.specs.declared.rules.symbols.Shape.TheVariants as shapes
+use Rattle.om_scope.specs.InScope.{Scopes, is_declared, inside, meaning_of, with_local, declarators_of, after_local, after_locals}
 
 -- S8: declared again in the same scope (C17 6.7p3)
 abbrev pub redeclared_breaches : Scopes → names.Name → List SourceFault
@@ -68,6 +71,45 @@ for_turn_breaches scopes h = perhaps_breaches scopes true h.condition ++ perhaps
 abbrev pub looping : Flow → Flow
 looping flow = record { may_break = true; may_continue = true; returns = flow.returns; in_construct = flow.in_construct; is_closed = flow.is_closed }
 
+-- ---- canonical loops
+
+-- the bounds of a loop use the originals of the copies that a `for` makes, and the copies of a `parallel for`, which are those of its
+-- `parallel` (OpenMP API 5.2, section 11.5)
+abbrev pub round_bounds : Directive ExpressionTree → Scopes → Scopes
+round_bounds d scopes = if is_parallel (traits_of d.name).region then in_construct d scopes else scopes
+
+-- the scopes in which a loop's variable is one of its own
+abbrev pub with_iteration : Scopes → Loop → Scopes
+with_iteration scopes found = with_local (inside scopes) found.start.variable.text shapes.Scalar
+
+-- S7, S9: a variable that the loop does not declare is an `int`; the loop uses a copy of it, and not the original
+abbrev pub variable_breaches : Scopes → names.Name → List SourceFault
+variable_breaches scopes name = undeclared_breaches scopes name ++ breach_if (not (is_scalar (meaning_of scopes name.text))) faults.Misuse name.span.start
+
+abbrev pub values_breaches : Scopes → Loop → List SourceFault
+values_breaches scopes found = expression_breaches scopes true found.start.from ++ expression_breaches scopes true found.to
+
+-- a variable that the loop declares is seen in the bounds
+abbrev pub found_breaches : Scopes → Loop → List SourceFault
+found_breaches scopes found =
+    if found.start.is_declared
+    then values_breaches (with_iteration scopes found) found
+    else variable_breaches scopes found.start.variable ++ values_breaches scopes found
+
+abbrev pub bounds_breaches : Scopes → Option Loop → List SourceFault
+bounds_breaches scopes None = []
+bounds_breaches scopes (Some found) = found_breaches scopes found
+
+abbrev pub in_loop : Scopes → Option Loop → Scopes
+in_loop scopes None = scopes
+in_loop scopes (Some found) = inside (with_iteration scopes found)
+
+-- a `continue` goes on with the next iteration
+abbrev pub continuing : Flow → Flow
+continuing flow = record { may_break = flow.may_break; may_continue = true; returns = flow.returns; in_construct = flow.in_construct; is_closed = flow.is_closed }
+
+-- ---- statements
+
 -- the scopes behind an item of a block
 abbrev pub after_statement : Scopes → StatementTree → Scopes
 after_statement scopes (LocalDeclaration d) = after_locals scopes (declarators_of d)
@@ -110,9 +152,12 @@ unfoldable mutual
   statement_breaches scopes flow (Break at semicolon) = jump_breaches flow.may_break at.start
   statement_breaches scopes flow (Continue at semicolon) = jump_breaches flow.may_continue at.start
   statement_breaches scopes flow (Construct d s) =
-      if (traits_of d.name).takes_loop
-      then untaken_breaches d.hash.start
-      else directive_breaches scopes flow d ++ statement_breaches (in_construct d scopes) (constructing d.name flow) s
+      directive_breaches scopes flow d
+      ++ (if not (traits_of d.name).takes_loop
+      then statement_breaches (in_construct d scopes) (constructing d.name flow) s
+      else if is_some (loop_in s)
+      then bounds_breaches (round_bounds d scopes) (loop_in s) ++ body_breaches (in_construct d scopes) (constructing d.name flow) (loop_in s) s
+      else with_breach (record { code = faults.LoopForm; at = statement_start s }) (statement_breaches (in_construct d scopes) (constructing d.name flow) s))
   statement_breaches scopes flow (StandAlone d) = directive_breaches scopes flow d ++ flush_breaches scopes d.name
   statement_breaches scopes flow (Sections d left parts right) =
       directive_breaches scopes flow d ++ sections_breaches (in_construct d scopes) (constructing d.name flow) 0 parts
@@ -123,6 +168,25 @@ unfoldable mutual
   statements_breaches scopes flow NoStatements = []
   statements_breaches scopes flow (Statement s rest) = statement_breaches scopes flow s ++ statements_breaches (after_statement scopes s) flow rest
 
+  -- of the body of a canonical loop
+  pub body_breaches : Scopes → Flow → Option Loop → StatementTree → List SourceFault
+  body_breaches scopes flow found (For h s) = statement_breaches (in_loop scopes found) (continuing flow) s
+  body_breaches scopes flow found (LocalDeclaration d) = []
+  body_breaches scopes flow found (Block left items right) = []
+  body_breaches scopes flow found (Empty semicolon) = []
+  body_breaches scopes flow found (Expression e semicolon) = []
+  body_breaches scopes flow found (If at c s) = []
+  body_breaches scopes flow found (IfElse at c s other t) = []
+  body_breaches scopes flow found (While at c s) = []
+  body_breaches scopes flow found (Do at s again c semicolon) = []
+  body_breaches scopes flow found (Return at value semicolon) = []
+  body_breaches scopes flow found (Break at semicolon) = []
+  body_breaches scopes flow found (Continue at semicolon) = []
+  body_breaches scopes flow found (Construct d s) = []
+  body_breaches scopes flow found (StandAlone d) = []
+  body_breaches scopes flow found (Sections d left parts right) = []
+  body_breaches scopes flow found (Section d items) = []
+
   -- of the parts of `sections`, behind so many others; S11 at the first token of one too many
   pub sections_breaches : Scopes → Flow → ℕ → StatementsTree → List SourceFault
   sections_breaches scopes flow before NoStatements = []
@@ -131,9 +195,27 @@ unfoldable mutual
       ++ statement_breaches (inside scopes) flow s
       ++ sections_breaches scopes flow (before + 1) rest
 
+-- of a construct that is for a loop, which is this one
+abbrev pub loop_construct_breaches : Scopes → Flow → Directive ExpressionTree → Option Loop → StatementTree → List SourceFault
+loop_construct_breaches scopes flow d found s =
+    directive_breaches scopes flow d
+    ++ (if is_some found
+    then bounds_breaches (round_bounds d scopes) found ++ body_breaches (in_construct d scopes) (constructing d.name flow) found s
+    else with_breach (record { code = faults.LoopForm; at = statement_start s }) (statement_breaches (in_construct d scopes) (constructing d.name flow) s))
+
+-- of another construct
+abbrev pub plain_construct_breaches : Scopes → Flow → Directive ExpressionTree → StatementTree → List SourceFault
+plain_construct_breaches scopes flow d s = directive_breaches scopes flow d ++ statement_breaches (in_construct d scopes) (constructing d.name flow) s
+
 -- of a construct
 abbrev pub construct_breaches : Scopes → Flow → Directive ExpressionTree → StatementTree → List SourceFault
-construct_breaches scopes flow d s = directive_breaches scopes flow d ++ statement_breaches (in_construct d scopes) (constructing d.name flow) s
+construct_breaches scopes flow d s =
+    directive_breaches scopes flow d
+    ++ (if not (traits_of d.name).takes_loop
+    then statement_breaches (in_construct d scopes) (constructing d.name flow) s
+    else if is_some (loop_in s)
+    then bounds_breaches (round_bounds d scopes) (loop_in s) ++ body_breaches (in_construct d scopes) (constructing d.name flow) (loop_in s) s
+    else with_breach (record { code = faults.LoopForm; at = statement_start s }) (statement_breaches (in_construct d scopes) (constructing d.name flow) s))
 
 abbrev pub sections_construct_breaches : Scopes → Flow → Directive ExpressionTree → StatementsTree → List SourceFault
 sections_construct_breaches scopes flow d parts = directive_breaches scopes flow d ++ sections_breaches (in_construct d scopes) (constructing d.name flow) 0 parts

@@ -1,5 +1,7 @@
 //! The rules of names, values and jumps, each checked at its place.
 
+mod bounds;
+mod canonical;
 mod construct;
 mod declaration;
 mod directive;

@@ -118,15 +118,21 @@ fn check_main(unit: &Unit) -> Result<(), SourceFault>
 /// The unit, resolved: each use of a name has the variable of its innermost declaration (C17 6.2.1).
 ///
 /// The first breach of a rule in the unit's text is answered, at one place that of the lowest
-/// number; nothing is kept then. Refusals:
+/// number, and where no rule is broken the first form that is not taken; nothing is kept then.
+/// Refusals:
 /// - S0 at byte 0: no memory.
-/// - S3 at the first token of a form that is not taken yet; nothing else of it is looked at.
-/// - S7 at a name that is used where no declaration of it stands before.
-/// - S8 at a name that is declared again. `printf`, `omp_get_thread_num` and
-///   `omp_get_num_threads` count as declared before the source.
-/// - S9 at the name: a global named `main`, or a function used as a variable.
+/// - S3 at the first token of a form that is not taken yet.
+/// - S7 at a name that no declaration before it declares, or of a function that is never defined.
+/// - S8 at a name that is declared again as something else, or a function that is defined again.
+///   `printf`, `omp_get_thread_num` and `omp_get_num_threads` count as defined before the source.
+/// - S9 at a name that is used, called, listed or declared as what it can't be, or at the first
+///   token of a value that can't stand there.
 /// - S10 at a constant above 2147483647.
-/// - S11 at the name of the global past `GLOBAL_CELL_LIMIT`.
+/// - S11 at the first function, parameter, printed value, section or global too many.
+/// - S12 at the `for`, or the first token of what stands where a canonical loop must.
+/// - S13 at a use of a variable that a construct with `default(none)` does not list.
+/// - S14 at a jump out of a construct or outside of a loop, or at the word of a directive where no
+///   worksharing construct and no barrier may stand.
 /// - S15 at the end of the source: no function is named `main`.
 #[tactic(auto, using(crate::proofs::Firsts::first_of_left), unfolding(crate::specs::Breaches::breaches_of))]
 pub fn resolve(alloc: Global, unit: Unit) -> Result<Resolved, SourceFault>

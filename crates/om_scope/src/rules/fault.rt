@@ -1,8 +1,9 @@
 //! Refusals at a place.
 
 ghost use Rattle.std.specs.Prelude.{◌≡◌, List, [], ◌∷◌, true, OnOk, IfErr, Some};
-ghost use Rattle.om_scope.specs.Checks.{ChecksExactly};
-ghost use Rattle.om_scope.specs.Faults.{breach_if, first_of, goes_first, perhaps_with};
+ghost use Rattle.om_scope.specs.Checks.{Checks, ChecksExactly};
+ghost use Rattle.om_scope.specs.Faults.{breach_if, first_of, goes_first, perhaps_with, with_breach};
+ghost use Rattle.om_scope.specs.Outcomes.{Refuses};
 
 use om_lexer::{FaultCode, SourceFault};
 
@@ -48,5 +49,21 @@ pub fn refuse_among(
                 Err(further)
             }
         }
+    }
+}
+
+/// What is answered of a statement whose check answered `checked`, where a loop had to stand: S12,
+/// or what goes before it.
+pub fn loop_fault(checked: Result<(), SourceFault>, at: u32) -> SourceFault
+    ensures { (breaches : List SourceFault) → Checks checked breaches
+        → Refuses (with_breach (record { code = FaultCode.LoopForm; at = at }) breaches) result }
+{
+    let form = SourceFault {
+        code: FaultCode::LoopForm,
+        at,
+    };
+    match checked {
+        Ok(()) => form,
+        Err(fault) => { if goes_first(fault, form) { fault } else { form } }
     }
 }

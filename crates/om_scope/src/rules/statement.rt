@@ -1,25 +1,33 @@
 //! The rules of statements.
 
-ghost use Rattle.std.specs.Prelude.{◌≡◌, ◌++◌, OnOk, map, option_map};
+ghost use Rattle.std.specs.Prelude.{◌≡◌, ◌++◌, OnOk, Some, map, option_map};
 ghost use Rattle.om_parser.specs.Tree.{statements};
 ghost use Rattle.om_parser.specs.View.{view_expression, view_for_head, view_directive, view_for_start, view_statement};
 ghost use Rattle.om_scope.specs.Checks.{Checks, ChecksExactly};
-ghost use Rattle.om_scope.specs.DirectiveRules.{directive_breaches, in_construct};
+ghost use Rattle.om_scope.specs.DirectiveRules.{directive_breaches, in_construct, in_kind};
+ghost use Rattle.om_scope.specs.Faults.{with_breach};
+ghost use Rattle.om_scope.specs.LoopViews.{view_loop};
+ghost use Rattle.om_scope.specs.Loops.{loop_in};
+ghost use Rattle.om_scope.specs.Outcomes.{Refuses};
+ghost use Rattle.om_scope.specs.Places.{statement_start};
 ghost use Rattle.om_scope.specs.InScope.{inside};
-ghost use Rattle.om_scope.specs.StatementRules.{after_for_start, after_statement, for_start_breaches, for_turn_breaches, after_statements, for_breaches, looping, jump_breaches, construct_breaches, part_breaches, sections_breaches, sections_construct_breaches, stand_alone_breaches, perhaps_breaches, return_breaches, statement_breaches, statements_breaches};
+ghost use Rattle.om_scope.specs.StatementRules.{after_for_start, after_statement, for_start_breaches, for_turn_breaches, after_statements, for_breaches, looping, body_breaches, continuing, found_breaches, in_loop, loop_construct_breaches, jump_breaches, construct_breaches, plain_construct_breaches, part_breaches, sections_breaches, sections_construct_breaches, stand_alone_breaches, perhaps_breaches, return_breaches, statement_breaches, statements_breaches};
 
+use crate::rules::bounds::{check_bounds, enter_loop};
+use crate::rules::canonical::{Loop, loop_in};
 use crate::rules::construct::{constructing, traits_of};
 use crate::rules::declaration::declare_locals;
 use crate::rules::directive::{check_directive, check_flush};
 use crate::rules::expression::{check_expression, refuse_misplaced};
-use crate::rules::fault::refuse_if;
+use crate::rules::fault::{loop_fault, refuse_if};
 use crate::rules::flow::Flow;
-use crate::rules::symbols::Symbols;
-use crate::taken::{statement_start, untaken};
+use crate::rules::listed::Listed;
+use crate::rules::symbols::{RegionKind, Symbols, is_parallel};
+use crate::taken::statement_start;
 use om_lexer::{FaultCode, SourceFault};
 use om_parser::{Expression, ForHead, ForStart, Statement};
 use om_pragma::Directive;
-use std::alloc::Global;
+use std::alloc::{AllocError, Global};
 
 /// How many parts a `sections` may have.
 pub const SECTION_LIMIT: usize = 256;
@@ -117,6 +125,24 @@ fn check_stand_alone(
     check_flush(alloc, symbols, &directive.name)
 }
 
+/// The same place, where a `continue` goes on with the next iteration.
+fn continuing(flow: Flow) -> Flow
+    ensures { result ≡ continuing flow }
+{
+    Flow {
+        may_continue: true,
+        ..flow
+    }
+}
+
+/// Enters a construct of a kind whose clauses say this.
+fn enter_listed(symbols: &mut Symbols, kind: RegionKind, listed: Listed) -> Result<(), AllocError>
+    ensures { OnOk result (symbols.new ≡ in_kind kind listed symbols.old) }
+{
+    let (copies, region) = listed.into_region(kind);
+    symbols.enter_region(copies, region)
+}
+
 /// Enters a construct, after its clauses.
 fn enter_construct(
     alloc: Global,
@@ -128,8 +154,7 @@ fn enter_construct(
     ensures in_scope { OnOk result (symbols.new ≡ in_construct (view_directive directive.now) symbols.old) }
 {
     let listed = check_directive(alloc, symbols, flow, directive)?;
-    let (copies, region) = listed.into_region(traits_of(&directive.name).region);
-    symbols.enter_region(copies, region)?;
+    enter_listed(symbols, traits_of(&directive.name).region, listed)?;
     Ok(())
 }
 
@@ -175,11 +200,7 @@ fn check_statement(
         Statement::Break(at, _) => check_jump(flow.may_break, at.start),
         Statement::Continue(at, _) => check_jump(flow.may_continue, at.start),
         Statement::Construct(directive, body) => {
-            if traits_of(&directive.name).takes_loop {
-                Err(untaken(directive.hash.start))
-            } else {
-                check_construct(alloc, symbols, flow, directive, body)
-            }
+            check_construct(alloc, symbols, flow, directive, body)
         }
         Statement::StandAlone(directive) => check_stand_alone(alloc, symbols, flow, directive),
         Statement::Sections(directive, _, parts, _) => {
@@ -190,7 +211,6 @@ fn check_statement(
 }
 
 /// A construct and its statement.
-#[tactic(auto, using(crate::proofs::Firsts::first_of_left))]
 #[cycle(statement)]
 fn check_construct(
     alloc: Global,
@@ -202,9 +222,188 @@ fn check_construct(
     ensures checked { Checks result (construct_breaches symbols.old flow (view_directive directive.now) (view_statement body.now)) }
     ensures in_scope { OnOk result (symbols.new ≡ symbols.old) }
 {
+    if !traits_of(&directive.name).takes_loop {
+        check_plain_construct(alloc, symbols, flow, directive, body)
+    } else {
+        check_loop_construct(alloc, symbols, flow, directive, body)
+    }
+}
+
+/// A construct that is for any statement.
+#[tactic(auto, using(crate::proofs::Firsts::first_of_left))]
+#[cycle(statement)]
+fn check_plain_construct(
+    alloc: Global,
+    symbols: &mut Symbols,
+    flow: Flow,
+    directive: &Directive<Expression>,
+    body: &Statement,
+) -> Result<(), SourceFault>
+    ensures checked { Checks result (plain_construct_breaches symbols.old flow (view_directive directive.now) (view_statement body.now)) }
+    ensures in_scope { OnOk result (symbols.new ≡ symbols.old) }
+{
     let inside = constructing(&directive.name, flow);
     enter_construct(alloc, symbols, flow, directive)?;
     check_statement(alloc, symbols, inside, body)?;
+    symbols.leave();
+    Ok(())
+}
+
+/// A construct that is for a loop: S12.
+#[tactic(auto, using(crate::proofs::Firsts::first_of_left))]
+#[cycle(statement)]
+fn check_loop_construct(
+    alloc: Global,
+    symbols: &mut Symbols,
+    flow: Flow,
+    directive: &Directive<Expression>,
+    body: &Statement,
+) -> Result<(), SourceFault>
+    ensures checked { Checks result (loop_construct_breaches symbols.old flow (view_directive directive.now) (loop_in (view_statement body.now)) (view_statement body.now)) }
+    ensures in_scope { OnOk result (symbols.new ≡ symbols.old) }
+{
+    let listed = check_directive(alloc, symbols, flow, directive)?;
+    let inside = constructing(&directive.name, flow);
+    let kind = traits_of(&directive.name).region;
+    match loop_in(body) {
+        None => Err(refuse_loop(alloc, symbols, inside, kind, listed, body)),
+        Some(found) => {
+            if is_parallel(kind) {
+                check_parallel_loop(alloc, symbols, inside, kind, listed, &found, body)
+            } else {
+                check_shared_loop(alloc, symbols, inside, kind, listed, &found, body)
+            }
+        }
+    }
+}
+
+/// Why a statement is refused where a canonical loop must stand: S12, or what goes before it.
+#[cycle(statement)]
+fn refuse_loop(
+    alloc: Global,
+    symbols: &mut Symbols,
+    inside: Flow,
+    kind: RegionKind,
+    listed: Listed,
+    body: &Statement,
+) -> SourceFault
+    ensures { let tree = view_statement body.now in
+        let breaches = statement_breaches (in_kind kind listed symbols.old) inside tree in
+        Refuses (with_breach (record { code = FaultCode.LoopForm; at = statement_start tree }) breaches) result }
+{
+    let checked = check_listed_statement(alloc, symbols, inside, kind, listed, body);
+    loop_fault(checked, statement_start(body))
+}
+
+/// A statement in a construct.
+#[cycle(statement)]
+fn check_listed_statement(
+    alloc: Global,
+    symbols: &mut Symbols,
+    inside: Flow,
+    kind: RegionKind,
+    listed: Listed,
+    body: &Statement,
+) -> Result<(), SourceFault>
+    ensures { Checks result (statement_breaches (in_kind kind listed symbols.old) inside (view_statement body.now)) }
+{
+    enter_listed(symbols, kind, listed)?;
+    check_statement(alloc, symbols, inside, body)
+}
+
+/// The loop of a `parallel for`, whose bounds use the copies.
+#[tactic(auto, using(crate::proofs::Firsts::first_of_left))]
+#[cycle(statement)]
+fn check_parallel_loop(
+    alloc: Global,
+    symbols: &mut Symbols,
+    inside: Flow,
+    kind: RegionKind,
+    listed: Listed,
+    found: &Loop<'_>,
+    body: &Statement,
+) -> Result<(), SourceFault>
+    ensures checked { let scopes = in_kind kind listed symbols.old in
+        Checks result (found_breaches scopes (view_loop found.now) ++ body_breaches scopes inside (Some (view_loop found.now)) (view_statement body.now)) }
+    ensures in_scope { OnOk result (symbols.new ≡ symbols.old) }
+{
+    enter_listed(symbols, kind, listed)?;
+    check_bounds(alloc, symbols, found)?;
+    check_loop_body(alloc, symbols, inside, found, body)?;
+    symbols.leave();
+    Ok(())
+}
+
+/// The loop of a `for`, whose bounds use the originals.
+#[tactic(auto, using(crate::proofs::Firsts::first_of_left))]
+#[cycle(statement)]
+fn check_shared_loop(
+    alloc: Global,
+    symbols: &mut Symbols,
+    inside: Flow,
+    kind: RegionKind,
+    listed: Listed,
+    found: &Loop<'_>,
+    body: &Statement,
+) -> Result<(), SourceFault>
+    ensures checked { let scopes = in_kind kind listed symbols.old in
+        Checks result (found_breaches symbols.old (view_loop found.now) ++ body_breaches scopes inside (Some (view_loop found.now)) (view_statement body.now)) }
+    ensures in_scope { OnOk result (symbols.new ≡ symbols.old) }
+{
+    check_bounds(alloc, symbols, found)?;
+    enter_listed(symbols, kind, listed)?;
+    check_loop_body(alloc, symbols, inside, found, body)?;
+    symbols.leave();
+    Ok(())
+}
+
+/// The body of a canonical loop.
+#[tactic(auto, unfolding(crate::specs::StatementRules::body_breaches))]
+#[cycle(statement)]
+fn check_loop_body(
+    alloc: Global,
+    symbols: &mut Symbols,
+    inside: Flow,
+    found: &Loop<'_>,
+    body: &Statement,
+) -> Result<(), SourceFault>
+    ensures checked { Checks result (body_breaches symbols.old inside (Some (view_loop found.now)) (view_statement body.now)) }
+    ensures in_scope { OnOk result (symbols.new ≡ symbols.old) }
+{
+    match body {
+        Statement::For(_, repeated) => check_repeated(alloc, symbols, inside, found, repeated),
+        Statement::Declaration(_) => Ok(()),
+        Statement::Block(_, _, _) => Ok(()),
+        Statement::Empty(_) => Ok(()),
+        Statement::Expression(_, _) => Ok(()),
+        Statement::If(_, _, _) => Ok(()),
+        Statement::IfElse(_, _, _, _, _) => Ok(()),
+        Statement::While(_, _, _) => Ok(()),
+        Statement::Do(_, _, _, _, _) => Ok(()),
+        Statement::Return(_, _, _) => Ok(()),
+        Statement::Break(_, _) => Ok(()),
+        Statement::Continue(_, _) => Ok(()),
+        Statement::Construct(_, _) => Ok(()),
+        Statement::StandAlone(_) => Ok(()),
+        Statement::Sections(_, _, _, _) => Ok(()),
+        Statement::Section(_, _) => Ok(()),
+    }
+}
+
+/// What a canonical loop repeats.
+#[cycle(statement)]
+fn check_repeated(
+    alloc: Global,
+    symbols: &mut Symbols,
+    inside: Flow,
+    found: &Loop<'_>,
+    repeated: &Statement,
+) -> Result<(), SourceFault>
+    ensures checked { Checks result (statement_breaches (in_loop symbols.old (Some (view_loop found.now))) (continuing inside) (view_statement repeated.now)) }
+    ensures in_scope { OnOk result (symbols.new ≡ symbols.old) }
+{
+    enter_loop(alloc, symbols, found)?;
+    check_body(alloc, symbols, continuing(inside), repeated)?;
     symbols.leave();
     Ok(())
 }

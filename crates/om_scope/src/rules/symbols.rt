@@ -199,7 +199,8 @@ fn is_task(kind: RegionKind) -> bool
     }
 }
 
-fn is_parallel(kind: RegionKind) -> bool
+/// Whether it is a `parallel`.
+pub fn is_parallel(kind: RegionKind) -> bool
     ensures { result ≡ is_parallel kind }
 {
     match kind {

@@ -3,8 +3,9 @@
 use crate::resolve;
 use om_lexer::Span;
 use om_parser::{
-    Block, Declaration, Declarator, Expression, Function, FunctionHead, Item, Name, Parameters,
-    ResultType, Statement, Unit,
+    BinaryOperator, Block, Declaration, Declarator, Expression, ForHead, ForStart, Function,
+    FunctionHead, Initializer, Item, Name, Number, Parameters, PostfixOperator, ResultType,
+    Statement, Unit,
 };
 use om_pragma::{
     Clause, ClauseItem, DataSharing, DefaultArgument, Directive, DirectiveName, NameList, Sharing,
@@ -176,5 +177,64 @@ fn a_variable_stands_in_one_clause(rt: HostRuntime) -> Result<(), Fail> {
     let alloc = rt.alloc();
     let statement = with_x(alloc, use_of_x(alloc, twice(alloc)?)?)?;
     assert_eq!(rt; refusal(alloc, statement)?, Some((9, 34)));
+    Ok(())
+}
+
+/// `for (int i = 0; i < 3; i++) BODY`.
+fn counting_loop(alloc: Global, body: Statement) -> Result<Statement, AllocError> {
+    let first = Declarator {
+        name: name(alloc, b"i", 52)?,
+        array: None,
+        initializer: Some(Initializer {
+            equal: at(53),
+            value: number(0, 54),
+        }),
+    };
+    let start = ForStart::Declaration(Declaration {
+        int: at(51),
+        first,
+        rest: Vec::new(alloc),
+        semicolon: at(55),
+    });
+    let bounded = Box::new(alloc, Expression::Name(name(alloc, b"i", 56)?))?;
+    let bound = Box::new(alloc, number(3, 58))?;
+    let stepped = Box::new(alloc, Expression::Name(name(alloc, b"i", 60)?))?;
+    let head = ForHead {
+        word: at(50),
+        open_paren: at(50),
+        start,
+        condition: Some(Expression::Binary(bounded, BinaryOperator::Less, at(57), bound)),
+        semicolon: at(59),
+        step: Some(Expression::Postfix(stepped, PostfixOperator::Increment, at(61))),
+        close_paren: at(62),
+    };
+    Ok(Statement::For(head, Box::new(alloc, body)?))
+}
+
+fn number(value: u32, start: u32) -> Expression {
+    Expression::Constant(Number {
+        value,
+        span: at(start),
+    })
+}
+
+#[test]
+fn a_loop_directive_is_for_a_loop(rt: HostRuntime) -> Result<(), Fail> {
+    let alloc = rt.alloc();
+    let statement = construct(alloc, DirectiveName::For(at(20)), Statement::Empty(at(60)))?;
+    assert_eq!(rt; refusal(alloc, statement)?, Some((12, 60)));
+    Ok(())
+}
+
+#[test]
+fn a_canonical_loop_is_continued_and_not_left(rt: HostRuntime) -> Result<(), Fail> {
+    let alloc = rt.alloc();
+    let left = counting_loop(alloc, Statement::Break(at(70), at(71)))?;
+    let statement = construct(alloc, DirectiveName::For(at(20)), left)?;
+    assert_eq!(rt; refusal(alloc, statement)?, Some((14, 70)));
+    // No rule is broken; the form is not taken yet.
+    let continued = counting_loop(alloc, Statement::Continue(at(70), at(71)))?;
+    let statement = construct(alloc, DirectiveName::For(at(20)), continued)?;
+    assert_eq!(rt; refusal(alloc, statement)?, Some((3, 10)));
     Ok(())
 }

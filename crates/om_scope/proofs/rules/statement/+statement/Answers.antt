@@ -37,8 +37,8 @@ check_for-returns-clause-in_scope t c =
     ∙ ap outside (c.in_ok-check_body.ensures.in_scope ∙ c.in_ok-check_for_start.ensures.in_scope ∙ ap (λ scopes. after_for_start scopes start) c.in_ok-enter.ensures)
     ∙ for_outside c.args.symbols.now start
 
-pub check_construct-returns-clause-in_scope : goal.check_construct-returns-clause-in_scope
-check_construct-returns-clause-in_scope t c =
+pub check_plain_construct-returns-clause-in_scope : goal.check_plain_construct-returns-clause-in_scope
+check_plain_construct-returns-clause-in_scope t c =
     c.leave.ensures
     ∙ ap outside (c.in_ok-check_statement.ensures.in_scope ∙ ap (λ scopes. after_statement scopes (view_statement c.args.body.now)) c.in_ok-enter_construct.ensures.in_scope)
     ∙ construct_outside _ _ c.args.symbols.now (view_statement c.args.body.now)
