@@ -1,10 +1,12 @@
--- What is spelled is taken again, and answers that only a limit hinders.
+-- What is spelled is taken again, and answers that only a fault of another code than that of syntax hinders.
 use Rattle.std.proofs.Common.{◌≡◌, ℕ, ◌≤◌, Option, List, ◌∷◌, length, Err, refl, sym, subst, Bool, true, false, cond, arith, ◌⊎◌, inl, inr}
 use Rattle.std.proofs.lemmas.Bool.{leb-false}
 use Rattle.std.specs.Prelude.{nat_le}
 use denote.Enum.Bare.{true_same}
 use Rattle.om_lexer.specs.contracts.token.Keyword.{the_type as the_keywords}
 use Rattle.om_lexer.specs.contracts.token.Punctuator.{the_type as the_punctuators}
+use Rattle.om_lexer.specs.declared.fault.FaultCode.TheVariants as codes
+use Rattle.om_lexer.specs.declared.fault.SourceFault.{SourceFault}
 use Rattle.om_lexer.specs.declared.token.Keyword.{Keyword}
 use Rattle.om_lexer.specs.declared.token.Punctuator.{Punctuator}
 use Rattle.om_lexer.specs.declared.token.Span.{Span}
@@ -53,13 +55,30 @@ pub number_again : (n : Number) (ts : List Token) → number_at (number n ∷ ts
 unfolding number_at
 number_again n ts = rw (take_number_again n ts) refl
 
--- the item is read, or it is too deep, and then it does not fit the limits
+-- a fault of another code than that of syntax
+pub record Stopping : Type 0 where
+  pub fault : SourceFault
+  pub other : fault.code ≡ codes.Syntax → ⊥
+
+pub too_deep_other : (s : Span) → (too_deep s).code ≡ codes.Syntax → ⊥
+too_deep_other s e = absurd cc
+
+-- a limit that is passed at this token
+abbrev pub deep_at : Span → Stopping
+deep_at s = record { fault = too_deep s; other = too_deep_other s }
+
+-- the item is read, or such a fault stops it, and then it does not fit what is asked of it
 abbrev pub IsAnswer : {A : Type 0} → (Fits : Type 0) → Outcome A → A → Type 0
-IsAnswer Fits read x = (read ≡ ok x) ⊎ ((s : Span) × (read ≡ Err (too_deep s)) × (Fits → ⊥))
+IsAnswer Fits read x = (read ≡ ok x) ⊎ ((stop : Stopping) × (read ≡ Err stop.fault) × (Fits → ⊥))
 
 pub bind_answer : {A B : Type 0} {Part Whole : Type 0} (read : Outcome A) (f : A → Outcome B) (x : A) (y : B) → (Whole → Part) → IsAnswer Part read x → IsAnswer Whole (f x) y → IsAnswer Whole (read >>= f) y
 bind_answer {A} {B} {Part} {Whole} read f x y part (inl e) h = subst (λ r. IsAnswer Whole (r >>= f) y) (sym e) h
-bind_answer {A} {B} {Part} {Whole} read f x y part (inr (s, e, never)) h = inr (s, rw e refl, λ w. never (part w))
+bind_answer {A} {B} {Part} {Whole} read f x y part (inr (stop, e, never)) h = inr (stop, rw e refl, λ w. never (part w))
+
+-- what is asked of the whole asks as much of the part
+pub narrower : {A : Type 0} {Part Whole : Type 0} (read : Outcome A) (x : A) → (Whole → Part) → IsAnswer Part read x → IsAnswer Whole read x
+narrower read x part (inl e) = inl e
+narrower read x part (inr (stop, e, never)) = inr (stop, e, λ w. never (part w))
 
 pub within_answer : {A : Type 0} {Fits : Type 0} (beyond : ℕ) (s : Span) (rest : List Token) (read : Outcome A) (x : A) → (Fits → beyond ≤ length rest) → IsAnswer Fits read x → IsAnswer Fits (within beyond s rest read) x
 unfolding within
@@ -67,4 +86,4 @@ within_answer {A} {Fits} beyond s rest read x inside h = go (nat_le beyond (leng
   where
     go : (b : Bool) → nat_le beyond (length rest) ≡ b → IsAnswer Fits (cond b read (Err (too_deep s))) x
     go true is = h
-    go false is = inr (s, refl, λ w. let le = inside w in let lt = leb-false _ _ is in omega arith)
+    go false is = inr (deep_at s, refl, λ w. let le = inside w in let lt = leb-false _ _ is in omega arith)

@@ -1,9 +1,9 @@
 -- What a well-formed expression spells is read again as that expression, within the limits.
-use Rattle.std.proofs.Common.{◌≡◌, ℕ, zero, suc, ◌+◌, ◌-◌, ◌<◌, ◌≤◌, max, List, [], ◌∷◌, ◌++◌, length, Option, Some, None, Err, refl, sym, ap, subst, ◌∙◌, Bool, true, false, arith, append_assoc, length-append, ◌⊎◌, inl, inr}
+use Rattle.std.proofs.Common.{◌≡◌, ℕ, zero, suc, ◌+◌, ◌-◌, ◌<◌, ◌≤◌, List, [], ◌∷◌, ◌++◌, length, Option, Some, None, Err, refl, sym, ap, subst, ◌∙◌, Bool, true, false, arith, append_assoc, length-append, ◌⊎◌, inl, inr}
 use Rattle.std.proofs.lemmas.Bool.{leb-true, leb-false}
 use Rattle.std.proofs.lemmas.Bool.Decides.{eqb_tells}
 use Rattle.std.proofs.lemmas.Slice.Eq.{bytes_eq-Decides}
-use Rattle.std.specs.Prelude.{nat_le, nat_eq, bytes_eq, codes, if◌then◌else◌}
+use Rattle.std.specs.Prelude.{nat_le, bytes_eq, codes, if◌then◌else◌}
 use denote.Enum.Bare.{sameb, same_true}
 use Rattle.om_lexer.specs.contracts.token.Punctuator.{the_type as the_punctuators}
 use Rattle.om_lexer.specs.declared.token.Keyword.{Keyword}
@@ -24,15 +24,15 @@ use Rattle.om_parser.specs.declared.tree.PostfixOperator.TheVariants as postfixe
 use Rattle.om_parser.specs.declared.tree.PrefixOperator.{PrefixOperator}
 use Rattle.om_parser.specs.declared.tree.PrefixOperator.TheVariants as prefixes
 use Rattle.om_parser.specs.declared.tree.Text as texts
-use Rattle.om_parser.specs.ExpressionReading.{within, prefix_of, postfix_of, binary_of, assign_of, of_level, level_operator, take_operator, take_assign, text_of, take_text, enter, closed_by, paren_after, index_after, first_at, argument_at, arguments_at, arguments_after, call_after, named_after, primary_step, More, chain_at, postfix_more, binary_more, postfix_step, unary_step, binary_at, conditional_after, expression_after, expression_step, deeper, unary_at, expression_at, operand_at, whole_at}
+use Rattle.om_parser.specs.ExpressionReading.{within, prefix_of, postfix_of, assign_of, of_level, level_operator, take_operator, take_assign, text_of, take_text, closed_by, paren_after, index_after, first_at, argument_at, arguments_at, arguments_after, call_after, named_after, primary_step, More, chain_at, postfix_more, binary_more, postfix_step, unary_step, binary_at, conditional_after, expression_after, expression_step, deeper, unary_at, expression_at, operand_at, whole_at}
 use Rattle.om_parser.specs.Formed.{level, binary_level, IsExpression, AreArguments, AreFurther, IsTextOf}
 use Rattle.om_parser.specs.Limits.{Limits, nesting, arguments_nesting}
-use Rattle.om_parser.specs.Reading.{◌>>=◌, Outcome, Reader, choose, too_deep, take, same_mark, mark_of, take_mark, take_word, take_number}
+use Rattle.om_parser.specs.Reading.{◌>>=◌, Reader, choose, take, same_mark, mark_of, take_mark, take_word, take_number}
 use Rattle.om_parser.specs.Repetition.{until}
-use Rattle.om_parser.specs.Spelling.{token, mark, word, name, number, text, perhaps, prefix_mark, postfix_mark, binary_mark, assign_mark, expression_spelling, arguments_spelling}
+use Rattle.om_parser.specs.Spelling.{mark, name, text, prefix_mark, postfix_mark, binary_mark, assign_mark, expression_spelling, arguments_spelling}
 use Rattle.om_parser.specs.Tree.{ExpressionTree, Name, Constant, Text, Paren, Index, Call, Prefix, Postfix, Binary, Conditional, Assign, ArgumentsTree, NoArguments, Argument, arguments}
 use Rattle.om_parser.proofs.Outcomes.{ok, some}
-use Rattle.om_parser.proofs.Again.{take_mark_again, take_number_again, mark_again, name_again, take_operator_again, take_operator_here, IsAnswer, bind_answer, within_answer}
+use Rattle.om_parser.proofs.Again.{take_mark_again, take_number_again, mark_again, name_again, take_operator_again, take_operator_here, Stopping, deep_at, IsAnswer, bind_answer, narrower, within_answer}
 use Rattle.om_parser.proofs.ExpressionSound.{grade}
 
 -- ---- the token behind an expression
@@ -387,7 +387,7 @@ Again reader m t = (beyond turns room : ℕ) (rest : List Token) → length (exp
 abbrev Begins : Readers → ((beyond turns room : ℕ) → More) → (m : ℕ) → ExpressionTree → Type 0
 Begins reader more m t = (beyond turns room : ℕ) (rest : List Token) → length (expression_spelling t) ≤ suc turns → following rest < suc m
     → ((k : ℕ) × (length rest ≤ k) × (reader beyond turns room (expression_spelling t ++ rest) ≡ chain_at (more beyond turns room) k t rest))
-    ⊎ ((s : Span) × (reader beyond turns room (expression_spelling t ++ rest) ≡ Err (too_deep s)) × (Fits beyond room t rest → ⊥))
+    ⊎ ((stop : Stopping) × (reader beyond turns room (expression_spelling t ++ rest) ≡ Err stop.fault) × (Fits beyond room t rest → ⊥))
 
 abbrev postfix_mores : (beyond turns room : ℕ) → More
 postfix_mores beyond turns room = postfix_more beyond
@@ -415,7 +415,7 @@ postfix_from : (t : ExpressionTree) → Again primaries 11 t → Begins postfixe
 unfolding postfix_step
 postfix_from t again beyond turns room rest len lt = elim (again beyond turns room rest len lt) [
   | inl e ↦ inl (length rest, omega arith, rw e refl)
-  | inr (s, e, never) ↦ inr (s, rw e refl, never)
+  | inr (stop, e, never) ↦ inr (stop, rw e refl, never)
 ]
 
 unary_from : (t : ExpressionTree) → IsExpression t → 10 ≤ level t → Begins postfixed postfix_mores 10 t → Again operand_at 10 t
@@ -426,7 +426,7 @@ binary_from : (k : ℕ) (t : ExpressionTree) → k ≤ 5 → Again (binaries_of 
 unfolding binary_at
 binary_from k t le again beyond turns room rest len lt = elim (again beyond turns room rest len (omega (arith, lt, le))) [
   | inl e ↦ inl (length rest, omega arith, rw e refl)
-  | inr (s, e, never) ↦ inr (s, rw e refl, never)
+  | inr (stop, e, never) ↦ inr (stop, rw e refl, never)
 ]
 
 weaken : (reader : Readers) (m n : ℕ) (t : ExpressionTree) → n ≤ m → Again reader m t → Again reader n t
@@ -454,7 +454,7 @@ expression_from : (may : Bool) (t : ExpressionTree) → Again (binaries_of 6) 3 
 unfolding expression_at expression_step expression_after
 expression_from may t again beyond turns room rest len lt = elim (again beyond turns room rest len (omega (arith, lt, least may))) [
   | inl e ↦ inl (rw (e, mark_none punctuators.Question rest (omega (arith, lt, least may)), no_assign may t rest lt) refl)
-  | inr (s, e, never) ↦ inr (s, rw e refl, never)
+  | inr (stop, e, never) ↦ inr (stop, rw e refl, never)
 ]
   where
     least : (may : Bool) → grade may ≤ 2
@@ -484,7 +484,7 @@ paren_read : (left : Span) (t : ExpressionTree) (right : Span) → Again (expres
 unfolding primary_step paren_after expression_spelling take_number take
 paren_read left t right again beyond zero room rest len lt = absurd (omega (arith, len, length-append (expression_spelling t) (mark punctuators.CloseParen right ∷ [])))
 paren_read left t right again beyond (suc turns) zero rest len lt =
-    rw (append_assoc, take_mark_again punctuators.OpenParen left) (within_answer beyond left _ _ (Paren left t right, rest) (λ w. absurd (omega (arith, w.0))) (inr (left, refl, λ w. omega (arith, w.0))))
+    rw (append_assoc, take_mark_again punctuators.OpenParen left) (within_answer beyond left _ _ (Paren left t right, rest) (λ w. absurd (omega (arith, w.0))) (inr (deep_at left, refl, λ w. omega (arith, w.0))))
 paren_read left t right again beyond (suc turns) (suc room) rest len lt =
     let behind : List Token = mark punctuators.CloseParen right ∷ rest in
     let whole = expression_at beyond (suc turns) true room in
@@ -505,7 +505,7 @@ index_read : (n : names.Name) (left : Span) (t : ExpressionTree) (right : Span) 
 unfolding primary_step named_after index_after expression_spelling
 index_read n left t right again beyond zero room rest len lt = absurd (omega (arith, len, length-append (expression_spelling t) (mark punctuators.CloseBracket right ∷ [])))
 index_read n left t right again beyond (suc turns) zero rest len lt =
-    rw (append_assoc, name_no_number n, name_no_paren n, name_again n, take_mark_again punctuators.OpenBracket left) (within_answer beyond n.span _ _ (Index n left t right, rest) (λ w. absurd (omega (arith, w.0))) (within_answer beyond left _ _ (Index n left t right, rest) (λ w. absurd (omega (arith, w.0))) (inr (left, refl, λ w. omega (arith, w.0)))))
+    rw (append_assoc, name_no_number n, name_no_paren n, name_again n, take_mark_again punctuators.OpenBracket left) (within_answer beyond n.span _ _ (Index n left t right, rest) (λ w. absurd (omega (arith, w.0))) (within_answer beyond left _ _ (Index n left t right, rest) (λ w. absurd (omega (arith, w.0))) (inr (deep_at left, refl, λ w. omega (arith, w.0)))))
 index_read n left t right again beyond (suc turns) (suc room) rest len lt =
     let behind : List Token = mark punctuators.CloseBracket right ∷ rest in
     let whole = expression_at beyond (suc turns) true room in
@@ -575,11 +575,6 @@ first_text : (n : names.Name) (t : texts.Text) → n.text ≡ codes "printf" →
 unfolding first_at expression_spelling
 first_text n t named beyond turns room rest len lt = rw (text_again n t rest named) (within_answer beyond t.span rest (ok (Text t, rest)) (Text t, rest) (λ w. w.1) (inl refl))
 
--- limits that are kept by the whole are kept by the part
-narrower : {A : Type 0} {Part Whole : Type 0} (read : Outcome A) (x : A) → (Whole → Part) → IsAnswer Part read x → IsAnswer Whole read x
-narrower read x part (inl e) = inl e
-narrower read x part (inr (s, e, never)) = inr (s, e, λ w. never (part w))
-
 call_read : (n : names.Name) (left : Span) (values : ArgumentsTree) (right : Span)
     → ((beyond turns room : ℕ) (rest : List Token) → length (arguments_spelling values) ≤ suc turns → IsAnswer (FitsArguments beyond room values rest) (call_after beyond (expression_at beyond (suc turns) true room) n left (arguments_spelling values ++ mark punctuators.CloseParen right ∷ rest)) (Call n left values right, rest))
     → Again primaries 11 (Call n left values right)
@@ -588,7 +583,7 @@ call_read n left values right again beyond zero room rest len lt = absurd (omega
 call_read n left values right again beyond (suc turns) zero rest len lt =
     let behind : List Token = arguments_spelling values ++ mark punctuators.CloseParen right ∷ rest in
     rw (append_assoc, name_no_number n (mark punctuators.OpenParen left ∷ behind), name_no_paren n (mark punctuators.OpenParen left ∷ behind), name_again n (mark punctuators.OpenParen left ∷ behind), other_mark punctuators.OpenBracket punctuators.OpenParen left behind (λ same. absurd cc), take_mark_again punctuators.OpenParen left behind)
-    (within_answer beyond n.span _ _ (Call n left values right, rest) (λ w. absurd (omega (arith, w.0))) (within_answer beyond left _ _ (Call n left values right, rest) (λ w. absurd (omega (arith, w.0))) (inr (left, refl, λ w. omega (arith, w.0)))))
+    (within_answer beyond n.span _ _ (Call n left values right, rest) (λ w. absurd (omega (arith, w.0))) (within_answer beyond left _ _ (Call n left values right, rest) (λ w. absurd (omega (arith, w.0))) (inr (deep_at left, refl, λ w. omega (arith, w.0)))))
 call_read n left values right again beyond (suc turns) (suc room) rest len lt =
     let behind : List Token = arguments_spelling values ++ mark punctuators.CloseParen right ∷ rest in
     let sum = length-append (arguments_spelling values) (mark punctuators.CloseParen right ∷ rest) in
@@ -627,15 +622,15 @@ postfix_read : (e : ExpressionTree) (o : PostfixOperator) (at : Span) → Begins
 unfolding chain_at postfix_more within expression_spelling
 postfix_read e o at begins beyond turns room rest len lt =
     rw append_assoc (elim (begins beyond turns room (mark (postfix_mark o) at ∷ rest) (omega (arith, len, length-append (expression_spelling e) (mark (postfix_mark o) at ∷ []))) (omega (arith, postfix_strength o))) [
-      | inr (s, deep, never) ↦ inr (s, deep, λ w. never (omega (arith, w.0), omega (arith, w.1)))
+      | inr (stop, stops, never) ↦ inr (stop, stops, λ w. never (omega (arith, w.0), omega (arith, w.1)))
       | inl (zero, le, same) ↦ absurd (omega arith)
       | inl (suc k, le, same) ↦ go k le same (nat_le beyond (length rest)) refl
     ])
   where
     go : (k : ℕ) → length (mark (postfix_mark o) at ∷ rest) ≤ suc k → postfixed beyond turns room (expression_spelling e ++ mark (postfix_mark o) at ∷ rest) ≡ chain_at (postfix_more beyond) (suc k) e (mark (postfix_mark o) at ∷ rest) → (b : Bool) → nat_le beyond (length rest) ≡ b
-        → ((k : ℕ) × (length rest ≤ k) × (postfixed beyond turns room (expression_spelling e ++ mark (postfix_mark o) at ∷ rest) ≡ chain_at (postfix_more beyond) k (Postfix e o at) rest)) ⊎ ((s : Span) × (postfixed beyond turns room (expression_spelling e ++ mark (postfix_mark o) at ∷ rest) ≡ Err (too_deep s)) × (Fits beyond room (Postfix e o at) rest → ⊥))
+        → ((k : ℕ) × (length rest ≤ k) × (postfixed beyond turns room (expression_spelling e ++ mark (postfix_mark o) at ∷ rest) ≡ chain_at (postfix_more beyond) k (Postfix e o at) rest)) ⊎ ((stop : Stopping) × (postfixed beyond turns room (expression_spelling e ++ mark (postfix_mark o) at ∷ rest) ≡ Err stop.fault) × (Fits beyond room (Postfix e o at) rest → ⊥))
     go k le same true is = inl (k, omega (arith, le), same ∙ rw (take_operator_again postfix_of postfix_mark postfix_again o at rest, is) refl)
-    go k le same false is = inr (at, same ∙ rw (take_operator_again postfix_of postfix_mark postfix_again o at rest, is) refl, λ w. let over = leb-false _ _ is in omega (arith, w.1, over))
+    go k le same false is = inr (deep_at at, same ∙ rw (take_operator_again postfix_of postfix_mark postfix_again o at rest, is) refl, λ w. let over = leb-false _ _ is in omega (arith, w.1, over))
 
 prefix_read : (o : PrefixOperator) (at : Span) (e : ExpressionTree) → Again operand_at 9 e → Again operand_at 9 (Prefix o at e)
 unfolding unary_step unary_at expression_spelling
@@ -654,7 +649,7 @@ binary_read k le a o at b tight begins again beyond turns room rest len lt =
     let end = length-append (expression_spelling b) rest in
     let inner = again beyond turns room rest (omega (arith, len, sum)) (omega (arith, lt, le)) in
     rw append_assoc (elim (begins beyond turns room behind (omega (arith, len, sum)) (omega (arith, binary_strength o, tight))) [
-      | inr (s, deep, never) ↦ inr (s, deep, λ w. never (omega (arith, w.0), omega (arith, w.1, end)))
+      | inr (stop, stops, never) ↦ inr (stop, stops, λ w. never (omega (arith, w.0), omega (arith, w.1, end)))
       | inl (zero, more, same) ↦ absurd (omega arith)
       | inl (suc n, more, same) ↦ go n more same inner (nat_le beyond (length (expression_spelling b ++ rest))) refl
     ])
@@ -665,10 +660,10 @@ binary_read k le a o at b tight begins again beyond turns room rest len lt =
     go : (n : ℕ) → length (mark (binary_mark o) at ∷ (expression_spelling b ++ rest)) ≤ suc n → binaries_of (suc k) beyond turns room (expression_spelling a ++ mark (binary_mark o) at ∷ (expression_spelling b ++ rest)) ≡ chain_at (binary_mores k beyond turns room) (suc n) a (mark (binary_mark o) at ∷ (expression_spelling b ++ rest))
         → IsAnswer (Fits beyond room b rest) (binaries_of k beyond turns room (expression_spelling b ++ rest)) (b, rest)
         → (c : Bool) → nat_le beyond (length (expression_spelling b ++ rest)) ≡ c
-        → ((m : ℕ) × (length rest ≤ m) × (binaries_of (suc k) beyond turns room (expression_spelling a ++ mark (binary_mark o) at ∷ (expression_spelling b ++ rest)) ≡ chain_at (binary_mores k beyond turns room) m (Binary a o at b) rest)) ⊎ ((s : Span) × (binaries_of (suc k) beyond turns room (expression_spelling a ++ mark (binary_mark o) at ∷ (expression_spelling b ++ rest)) ≡ Err (too_deep s)) × (Fits beyond room (Binary a o at b) rest → ⊥))
-    go n more same inner false is = inr (at, same ∙ rw (taken, is) refl, λ w. let over = leb-false _ _ is in omega (arith, w.1, over, length-append (expression_spelling b) rest))
+        → ((m : ℕ) × (length rest ≤ m) × (binaries_of (suc k) beyond turns room (expression_spelling a ++ mark (binary_mark o) at ∷ (expression_spelling b ++ rest)) ≡ chain_at (binary_mores k beyond turns room) m (Binary a o at b) rest)) ⊎ ((stop : Stopping) × (binaries_of (suc k) beyond turns room (expression_spelling a ++ mark (binary_mark o) at ∷ (expression_spelling b ++ rest)) ≡ Err stop.fault) × (Fits beyond room (Binary a o at b) rest → ⊥))
+    go n more same inner false is = inr (deep_at at, same ∙ rw (taken, is) refl, λ w. let over = leb-false _ _ is in omega (arith, w.1, over, length-append (expression_spelling b) rest))
     go n more same (inl e) true is = inl (n, omega (arith, more, length-append (expression_spelling b) rest), same ∙ rw (taken, is, e) refl)
-    go n more same (inr (s, e, never)) true is = inr (s, same ∙ rw (taken, is, e) refl, λ w. never (omega (arith, w.0), w.1))
+    go n more same (inr (stop, e, never)) true is = inr (stop, same ∙ rw (taken, is, e) refl, λ w. never (omega (arith, w.0), w.1))
 
 -- ---- conditional expressions and assignments
 

@@ -16,7 +16,7 @@ use Rattle.om_parser.specs.declared.tree.PostfixOperator.TheVariants as postfixe
 use Rattle.om_parser.specs.declared.tree.PrefixOperator.TheVariants as prefixes
 use Rattle.om_parser.specs.ExpressionReading.{within, prefix_of, postfix_of, level_operator, take_operator, take_assign, take_text, Inside, enter, closed_by, paren_after, index_after, first_at, argument_at, arguments_at, arguments_after, call_after, named_after, primary_step, More, chain_at, postfix_more, binary_more, postfix_step, unary_step, binary_at, conditional_after, expression_after, expression_step, deeper, unary_at, expression_at, operand_at, whole_at}
 use Rattle.om_parser.specs.Formed.{level, binary_level, IsExpression, AreFurther, IsTextOf}
-use Rattle.om_parser.specs.Limits.{Limits, IsOpening, still_open}
+use Rattle.om_parser.specs.Limits.{Limits, IsOpening, IsTooMuch, still_open}
 use Rattle.om_parser.specs.Reading.{◌>>=◌, Outcome, Reader, syntax, too_deep, known, take_mark, take_number, mark_at, name_at}
 use Rattle.om_parser.specs.Repetition.{until}
 use Rattle.om_parser.specs.Spelling.{mark, name, number, text, perhaps, prefix_mark, postfix_mark, binary_mark, assign_mark, expression_spelling, arguments_spelling}
@@ -740,3 +740,8 @@ all_cutting beyond (suc turns) room =
 pub whole_cut : (l : Limits) (room : ℕ) (ts : List Token) (f : SourceFault) → whole_at l room ts ≡ Err f → f.code ≡ codes.TooDeep → IsExpressionCut 1 (length ts - l.tokens) room ts f.at
 unfolding whole_at
 whole_cut l room ts f h deep = (all_cutting (length ts - l.tokens) (length ts) room).any true ts f (omega arith) h deep
+
+-- a limit of a whole expression is passed at this token
+pub too_much_at : (m : Limits) (begins begun : List Token) (t : Token) (after : List Token) → begins ≡ begun ++ t ∷ after → IsPassed (length begins - m.tokens) m.nested begun t after → IsTooMuch m begun t
+too_much_at m begins begun t after is (inl e) = inl (omega (arith, e, ap length is, length-append begun (t ∷ after)))
+too_much_at m begins begun t after is (inr (opening, nests)) = inr (opening, let from_none = nests 0 in omega (arith, from_none))

@@ -58,7 +58,7 @@ ends_first (p ∷ ps) s rest = EndsByComma p.0 ((parameter_spelling p.1 ++ flat_
 -- an answer that no limit hinders
 surely : {A : Type 0} {Fits : Type 0} (read : Outcome A) (x : A) → Fits → IsAnswer Fits read x → read ≡ ok x
 surely read x fits (inl e) = e
-surely read x fits (inr (s, e, never)) = absurd (never fits)
+surely read x fits (inr (stop, e, never)) = absurd (never fits)
 
 listed_again : (p : Parameter) (ps : List (Span × Parameter)) (s : Span) (rest : List Token) → listed_at (parameter_spelling p ++ (flat_map (behind_comma parameter_spelling) ps ++ mark punctuators.CloseParen s ∷ rest)) ≡ ok ((Listed p ps, s), rest)
 unfolding listed_at

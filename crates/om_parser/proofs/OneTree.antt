@@ -1,38 +1,40 @@
 -- One unit at most has these tokens.
-use Rattle.std.proofs.Common.{◌≡◌, ◌+◌, ◌≤◌, List, [], ◌∷◌, sym, ap, ◌∙◌, arith, inl, inr, All}
+use Rattle.std.proofs.Common.{◌≡◌, ◌+◌, ◌≤◌, List, [], ◌∷◌, false, refl, sym, ap, subst, ◌∙◌, arith, inl, inr, All}
 use Rattle.std.proofs.lemmas.List.Elements.{All-nil, All-cons, All-weaker}
 use Rattle.om_parser.specs.Formed.{IsUnit}
 use Rattle.om_parser.specs.Limits.{Limits}
-use Rattle.om_parser.specs.Sizes.{longest_of, brackets_of, blocks_of, height_of, IsItemWithin}
+use Rattle.om_parser.specs.Sizes.{longest_of, brackets_of, blocks_of, height_of, HaveForms, IsItemWithin}
 use Rattle.om_parser.specs.Spelling.{unit_spelling}
 use Rattle.om_parser.specs.Tree.{ItemTree, Declaration, Prototype, Function, UnitTree, statements}
 use Rattle.om_parser.specs.UnitReading.{unit_at}
 use Rattle.om_parser.proofs.Outcomes.{ok, ok_is}
+use Rattle.om_parser.proofs.Forms.{no_forms_of}
 use Rattle.om_parser.proofs.UnitComplete.{unit_again}
 
--- limits that both keep
+-- limits that both keep, where no `atomic` is checked
 abbrev both : Limits → Limits → Limits
-both l m = record { nested = l.nested + m.nested; tokens = l.tokens + m.tokens; blocks = l.blocks + m.blocks; statements = l.statements + m.statements }
+both l m = record { nested = l.nested + m.nested; tokens = l.tokens + m.tokens; blocks = l.blocks + m.blocks; statements = l.statements + m.statements; checked = false }
 
 -- limits that an item keeps
 abbrev limits_of : ItemTree → Limits
-limits_of (Declaration d) = record { nested = 0; tokens = 0; blocks = 0; statements = 0 }
-limits_of (Prototype h semicolon) = record { nested = 0; tokens = 0; blocks = 0; statements = 0 }
+limits_of (Declaration d) = record { nested = 0; tokens = 0; blocks = 0; statements = 0; checked = false }
+limits_of (Prototype h semicolon) = record { nested = 0; tokens = 0; blocks = 0; statements = 0; checked = false }
 limits_of (Function f) =
     let items = statements f.body.items in
-    record { nested = brackets_of items; tokens = longest_of items; blocks = blocks_of items + 1; statements = height_of items }
+    record { nested = brackets_of items; tokens = longest_of items; blocks = blocks_of items + 1; statements = height_of items; checked = false }
 
 -- limits that these items keep, with room for a parenthesis
 abbrev large : List ItemTree → Limits
-large [] = record { nested = 1; tokens = 0; blocks = 0; statements = 0 }
+large [] = record { nested = 1; tokens = 0; blocks = 0; statements = 0; checked = false }
 large (i ∷ items) = both (limits_of i) (large items)
 
--- one that keeps limits keeps wider ones
+-- one that keeps limits keeps wider ones, where no `atomic` is checked
 record IsWider (l m : Limits) : Type 0 where
   nested : l.nested ≤ m.nested
   tokens : l.tokens ≤ m.tokens
   blocks : l.blocks ≤ m.blocks
   statements : l.statements ≤ m.statements
+  checked : m.checked ≡ false
 
 item_wider : (l m : Limits) → IsWider l m → (i : ItemTree) → IsItemWithin l i → IsItemWithin m i
 item_wider l m w (Declaration d) g = tt
@@ -42,21 +44,22 @@ item_wider l m w (Function f) g = record {
   deep = omega (arith, g.deep, w.blocks);
   nested = omega (arith, g.nested, w.nested);
   long = omega (arith, g.long, w.tokens);
+  forms = subst (λ c. HaveForms c (statements f.body.items)) (sym w.checked) (no_forms_of (statements f.body.items));
 }
 
 wider : (l m : Limits) → IsWider l m → (items : List ItemTree) → All (IsItemWithin l) items → All (IsItemWithin m) items
 wider l m w items g = All-weaker (IsItemWithin l) (IsItemWithin m) (λ i h. item_wider l m w i h) items g
 
 first_wider : (l m : Limits) → IsWider l (both l m)
-first_wider l m = record { nested = omega arith; tokens = omega arith; blocks = omega arith; statements = omega arith }
+first_wider l m = record { nested = omega arith; tokens = omega arith; blocks = omega arith; statements = omega arith; checked = refl }
 
 second_wider : (l m : Limits) → IsWider m (both l m)
-second_wider l m = record { nested = omega arith; tokens = omega arith; blocks = omega arith; statements = omega arith }
+second_wider l m = record { nested = omega arith; tokens = omega arith; blocks = omega arith; statements = omega arith; checked = refl }
 
 own_limits : (i : ItemTree) → IsItemWithin (limits_of i) i
 own_limits (Declaration d) = tt
 own_limits (Prototype h semicolon) = tt
-own_limits (Function f) = record { high = omega arith; deep = omega arith; nested = omega arith; long = omega arith }
+own_limits (Function f) = record { high = omega arith; deep = omega arith; nested = omega arith; long = omega arith; forms = no_forms_of (statements f.body.items) }
 
 large_enough : (items : List ItemTree) → All (IsItemWithin (large items)) items
 large_enough [] = All-nil (IsItemWithin (large []))
@@ -71,7 +74,7 @@ some_nested (i ∷ items) = let le = some_nested items in omega (arith, le)
 read_whole : (l : Limits) → 1 ≤ l.nested → (u : UnitTree) → IsUnit u → All (IsItemWithin l) u.items → unit_at l (unit_spelling u) ≡ ok u
 read_whole l one u f w = elim (unit_again l one u f) [
   | inl e ↦ e
-  | inr (s, e, never) ↦ absurd (never w)
+  | inr (stop, e, never) ↦ absurd (never w)
 ]
 
 pub same_unit : (t u : UnitTree) → IsUnit t → IsUnit u → unit_spelling t ≡ unit_spelling u → t ≡ u

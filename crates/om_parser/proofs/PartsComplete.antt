@@ -1,5 +1,5 @@
 -- What the parts of statements spell is read again, within the limits.
-use Rattle.std.proofs.Common.{◌≡◌, ℕ, ◌+◌, ◌-◌, ◌<◌, ◌≤◌, List, [], ◌∷◌, ◌++◌, length, refl, sym, ap, subst, arith, append_assoc, ◌⊎◌, inl, inr, All}
+use Rattle.std.proofs.Common.{◌≡◌, ℕ, ◌+◌, ◌-◌, ◌<◌, ◌≤◌, List, [], ◌∷◌, ◌++◌, refl, sym, subst, arith, append_assoc, inl, inr, All}
 use Rattle.std.proofs.lemmas.List.Elements.{All-nil, All-cons}
 use Rattle.om_lexer.specs.declared.token.Punctuator.{Punctuator}
 use Rattle.om_lexer.specs.declared.token.Punctuator.TheVariants as punctuators
@@ -15,12 +15,12 @@ use Rattle.om_parser.specs.ExpressionReading.{whole_at}
 use Rattle.om_parser.specs.Formed.{IsExpression}
 use Rattle.om_parser.specs.Limits.{Limits, nesting, expressions_of_declaration}
 use Rattle.om_parser.specs.PartReading.{parts}
-use Rattle.om_parser.specs.Reading.{Reader}
 use Rattle.om_parser.specs.Sizes.{most, extent}
-use Rattle.om_parser.specs.Spelling.{mark, name, number, prefix_mark, expression_spelling, declaration_spelling, declarator_spelling}
+use Rattle.om_parser.specs.Spelling.{mark, name, number, prefix_mark, expression_spelling, declarator_spelling}
 use Rattle.om_parser.specs.StatementReading.{start_of}
 use Rattle.om_parser.specs.Tree.{ExpressionTree, Name, Constant, Paren, Index, Call, Prefix, Postfix, Binary, Conditional, Assign, DeclarationTree}
-use Rattle.om_parser.proofs.Again.{IsAnswer}
+use Rattle.om_parser.proofs.LineComplete.{line_again}
+use Rattle.om_parser.proofs.Again.{IsAnswer, narrower}
 use Rattle.om_parser.proofs.ExpressionComplete.{following, whole_again}
 use Rattle.om_parser.proofs.DeclarationComplete.{EndsDeclarator, EndsBySemicolon, EndsByComma, declaration_rest, declared_again}
 use Rattle.om_parser.proofs.StatementComplete.{Keeps, KeepsDeclaration, StartsExpression, IsEnd, IsExpressionAgain, declaration_tail, IsDeclarationAgain, ArePartsAgain}
@@ -59,10 +59,7 @@ ends_declarator _ (EndsByComma s us) = omega arith
 module _ (l : Limits) (room round : ℕ) (sum : room + round ≡ l.nested) where
   -- an expression is read again before tokens that do not go on with it
   again : (e : ExpressionTree) (rest : List Token) → IsExpression e → following rest < 1 → IsAnswer (Keeps l round e) (whole_at l room (expression_spelling e ++ rest)) (e, rest)
-  again e rest f lt = elim (whole_again l room e rest f lt) [
-    | inl read ↦ inl read
-    | inr (at, stops, never) ↦ inr (at, stops, λ w. never (omega (arith, w.nested, sum), w.long))
-  ]
+  again e rest f lt = narrower (whole_at l room (expression_spelling e ++ rest)) (e, rest) (λ w. (omega (arith, w.nested, sum), w.long)) (whole_again l room e rest f lt)
 
   pub expression_again : IsExpressionAgain l round (whole_at l room)
   expression_again e q s rest is f = again e (mark q s ∷ rest) f (ends q s rest is)
@@ -80,10 +77,9 @@ module _ (l : Limits) (room round : ℕ) (sum : room + round ≡ l.nested) where
   tail_is d rest = simp append_assoc
 
   pub local_again : IsDeclarationAgain l round (declared_at (initial_at l (initials.Expression room)))
-  local_again d rest f = subst (λ us. IsAnswer (KeepsDeclaration l round d) (declared_at (initial_at l (initials.Expression room)) d.int us) (d, rest)) (tail_is d rest) (elim (declared_again IsExpression (Keeps l round) (initial_at l (initials.Expression room)) initial_again d rest f) [
-    | inl read ↦ inl read
-    | inr (at, stops, never) ↦ inr (at, stops, λ w. never (keep_all (expressions_of_declaration d) w.nested w.long))
-  ])
+  local_again d rest f = subst (λ us. IsAnswer (KeepsDeclaration l round d) (declared_at (initial_at l (initials.Expression room)) d.int us) (d, rest)) (tail_is d rest)
+      (narrower (declared_at (initial_at l (initials.Expression room)) d.int (name d.first.name ∷ declaration_rest d rest)) (d, rest) (λ w. keep_all (expressions_of_declaration d) w.nested w.long)
+      (declared_again IsExpression (Keeps l round) (initial_at l (initials.Expression room)) initial_again d rest f))
 
 -- what an enclosed part keeps, it keeps with one parenthesis of room at least
 pub parts_again : (l : Limits) → 1 ≤ l.nested → ArePartsAgain (parts l) l
@@ -94,4 +90,5 @@ parts_again l one = record {
   enclosed = expression_again l (l.nested - 1) 1 (omega (arith, one));
   declaration = local_again l l.nested 0 (omega arith);
   enclosed_declaration = local_again l (l.nested - 1) 1 (omega (arith, one));
+  line = line_again l one;
 }

@@ -1,7 +1,6 @@
--- Where a part of a statement is too deep, its tokens up to there begin a well-formed one.
-use Rattle.std.proofs.Common.{◌≡◌, ℕ, suc, ◌+◌, ◌-◌, ◌≤◌, List, [], ◌∷◌, ◌++◌, length, None, Err, refl, sym, ap, subst, ◌∙◌, arith, append_assoc, length-append, ◌⊎◌, inl, inr}
+-- Where a part of a statement is refused by another code than that of syntax: at a limit its tokens up to there begin a well-formed one.
+use Rattle.std.proofs.Common.{◌≡◌, ℕ, ◌+◌, ◌-◌, ◌≤◌, List, [], ◌∷◌, ◌++◌, length, refl, ap, ◌∙◌, arith, append_assoc, length-append, inl, inr}
 use Rattle.std.proofs.lemmas.List.{append-nil}
-use Rattle.om_lexer.specs.declared.fault.SourceFault.{SourceFault}
 use Rattle.om_lexer.specs.declared.token.Keyword.{Keyword}
 use Rattle.om_lexer.specs.declared.token.Keyword.TheVariants as keywords
 use Rattle.om_lexer.specs.declared.token.Punctuator.{Punctuator}
@@ -17,19 +16,24 @@ use Rattle.om_parser.specs.declared.tree.PrefixOperator.TheVariants as prefixes
 use Rattle.om_parser.specs.DeclarationReading.{initial_at, declared_at}
 use Rattle.om_parser.specs.ExpressionReading.{whole_at}
 use Rattle.om_parser.specs.Formed.{IsExpression}
-use Rattle.om_parser.specs.Limits.{Limits, IsTooMuch, expressions_of_declaration}
+use Rattle.om_parser.specs.Limits.{Limits, expressions_of_declaration}
 use Rattle.om_parser.specs.Parsing.{PassesLimit}
 use Rattle.om_parser.specs.PartReading.{parts}
-use Rattle.om_parser.specs.Places.{IsOverIn, IsOverInExpression, IsPassed, in_parentheses}
+use Rattle.om_parser.specs.Places.{IsOverIn, IsPassed, in_parentheses}
 use Rattle.om_parser.specs.Spelling.{token, mark, prefix_mark, expression_spelling, declaration_spelling}
 use Rattle.om_parser.specs.StatementReading.{start_of}
 use Rattle.om_parser.specs.Tree.{ExpressionTree, Name, Constant, Paren, Prefix}
+use Rattle.om_parser.proofs.LineCut.{line_cut}
 use Rattle.om_parser.proofs.ExpressionSound.{whole_sound}
-use Rattle.om_parser.proofs.ExpressionCut.{IsPassed as IsStopped, whole_cut}
+use Rattle.om_parser.proofs.ExpressionCut.{too_much_at, whole_cut}
+use Rattle.om_parser.proofs.ExpressionRefusals.{whole_refuses}
 use Rattle.om_parser.proofs.ItemsSound.{IsSound}
-use Rattle.om_parser.proofs.ItemsCut.{Deep, IsCuttingAt}
+use Rattle.om_parser.proofs.ItemsCut.{IsCuttingAt}
 use Rattle.om_parser.proofs.DeclarationCut.{declared_cut}
-use Rattle.om_parser.proofs.StatementCut.{Begins, IsExpressionPassed, IsDeclarationPassed, ArePartsCut}
+use Rattle.om_parser.proofs.DeclarationRefusals.{declared_refuses}
+use Rattle.om_parser.proofs.Refusals.{Refuses}
+use Rattle.om_parser.proofs.Stopped.{stops_too_deep}
+use Rattle.om_parser.proofs.StatementCut.{Begins, IsExpressionCut, IsDeclarationCut, ArePartsCut}
 
 -- where a limit is passed, said by the place
 passed_in : {A : Type 0} (spell : A → List Token) (P : A → Type 0) (whole : A → List ExpressionTree) (m : Limits) (ts : List Token) (place : ℕ) → PassesLimit spell P whole m ts place → IsPassed spell P (IsOverIn spell whole m) ts place
@@ -91,37 +95,36 @@ begins_with _ s e = absurd cc
 
 -- ---- expressions and declarations
 
-too_much_at : (m : Limits) (begins begun : List Token) (t : Token) (after : List Token) → begins ≡ begun ++ t ∷ after → IsStopped (length begins - m.tokens) m.nested begun t after → IsTooMuch m begun t
-too_much_at m begins begun t after is (inl e) = inl (omega (arith, e, ap length is, length-append begun (t ∷ after)))
-too_much_at m begins begun t after is (inr (opening, nests)) = inr (opening, let from_none = nests 0 in omega (arith, from_none))
-
 module _ (m : Limits) where
-  expression_passed : IsExpressionPassed m (whole_at m m.nested)
-  expression_passed ts f h deep =
-      let c = whole_cut m m.nested ts f h deep in
-      record {
-        part = c.tree;
-        formed = c.formed;
-        before = c.begun;
-        token = c.token;
-        after = c.after;
-        rest_of_part = c.more;
-        stands = c.stands;
-        in_part = c.spelled;
-        at_place = c.at_place;
-        too_much = record {
-          expression = c.tree;
-          whole = (0, omega arith, refl);
-          front = [];
-          begun = c.begun;
-          rest_of_expression = c.more;
-          rest_of_part = [];
-          parts = refl;
-          in_expression = c.spelled;
-          in_part = simp append-nil;
-          too_much = too_much_at m ts c.begun c.token c.after c.stands c.too_much;
-        };
-      }
+  expression_passed : IsExpressionCut m (whole_at m m.nested)
+  expression_passed ts f h stops =
+      let deep = stops_too_deep f (whole_refuses m m.nested ts f h) stops in
+      let c = whole_cut m m.nested ts f h deep in (
+        deep,
+        record {
+          part = c.tree;
+          formed = c.formed;
+          before = c.begun;
+          token = c.token;
+          after = c.after;
+          rest_of_part = c.more;
+          stands = c.stands;
+          in_part = c.spelled;
+          at_place = c.at_place;
+          too_much = record {
+            expression = c.tree;
+            whole = (0, omega arith, refl);
+            front = [];
+            begun = c.begun;
+            rest_of_expression = c.more;
+            rest_of_part = [];
+            parts = refl;
+            in_expression = c.spelled;
+            in_part = simp append-nil;
+            too_much = too_much_at m ts c.begun c.token c.after c.stands c.too_much;
+          };
+        },
+      )
 
   initial_sound : IsSound expression_spelling IsExpression (initial_at m (initials.Expression m.nested))
   unfolding initial_at
@@ -149,15 +152,23 @@ module _ (m : Limits) where
         too_much = too_much_at m ts c.begun c.token c.after c.stands c.too_much;
       }
 
-  local_passed : IsDeclarationPassed m (declared_at (initial_at m (initials.Expression m.nested)))
-  local_passed int ts f h deep = passed_in declaration_spelling _ expressions_of_declaration m (_ ∷ ts) f.at (declared_cut IsExpression m (initial_at m (initials.Expression m.nested)) initial_sound initial_cut int ts f h deep)
+  initial_refuses : (ts : List Token) → Refuses (initial_at m (initials.Expression m.nested) ts)
+  unfolding initial_at
+  initial_refuses ts = whole_refuses m m.nested ts
 
-pub parts_cut : (l : Limits) → ArePartsCut (parts l) l
+  local_passed : IsDeclarationCut m (declared_at (initial_at m (initials.Expression m.nested)))
+  local_passed int ts f h stops =
+      let initial = initial_at m (initials.Expression m.nested) in
+      let deep = stops_too_deep f (declared_refuses initial initial_refuses int ts f h) stops in
+      (deep, passed_in declaration_spelling _ expressions_of_declaration m (_ ∷ ts) f.at (declared_cut IsExpression m initial initial_sound initial_cut int ts f h deep))
+
+pub parts_cut : (l : Limits) → 1 ≤ l.nested → ArePartsCut (parts l) l
 unfolding parts whole_at initial_at
-parts_cut l = record {
+parts_cut l one = record {
   begins = λ t e. begins_with t.kind t.span e;
   expression = expression_passed l;
   enclosed = expression_passed (in_parentheses l);
   declaration = local_passed l;
   enclosed_declaration = local_passed (in_parentheses l);
+  line = line_cut l one;
 }

@@ -10,6 +10,7 @@ use Rattle.om_parser.specs.PartReading.{parts}
 use Rattle.om_parser.specs.Sizes.{most, extent}
 use Rattle.om_parser.specs.Spelling.{expression_spelling}
 use Rattle.om_parser.specs.Tree.{ExpressionTree}
+use Rattle.om_parser.proofs.LineSound.{line_sound}
 use Rattle.om_parser.proofs.ExpressionSound.{whole_sound}
 use Rattle.om_parser.proofs.ItemsSound.{IsSound}
 use Rattle.om_parser.proofs.DeclarationSound.{declared_sound, declaration_parts}
@@ -60,4 +61,5 @@ parts_sound l one = record {
   enclosed = expression_sound l (l.nested - 1) 1 (omega (arith, one));
   declaration = local_sound l l.nested 0 (omega arith);
   enclosed_declaration = local_sound l (l.nested - 1) 1 (omega (arith, one));
+  line = line_sound l one;
 }

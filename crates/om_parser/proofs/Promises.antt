@@ -6,7 +6,9 @@ use Rattle.om_lexer.specs.declared.fault.FaultCode.TheVariants as codes
 use Rattle.om_lexer.specs.declared.fault.SourceFault.{SourceFault}
 use Rattle.om_lexer.specs.declared.token.Token.{Token}
 use Rattle.om_parser.specs.declared.tree.Unit as units
+use Rattle.om_parser.specs.Faults.{IsBadAtomic}
 use Rattle.om_parser.specs.Limits.{accepted}
+use Rattle.om_parser.specs.LineFaults.{IsRefusedLine}
 use Rattle.om_parser.specs.Sizes.{IsWithinLimits}
 use Rattle.om_parser.specs.Parsing.{IsTreeOf, IsTreeOrMemory, IsLimitPassed}
 use Rattle.om_parser.specs.Reading.{Reads}
@@ -18,8 +20,7 @@ use Rattle.om_parser.proofs.Again.{IsAnswer}
 use Rattle.om_parser.proofs.ExpressionCut.{err_is}
 use Rattle.om_parser.proofs.UnitSound.{unit_sound}
 use Rattle.om_parser.proofs.UnitComplete.{unit_again}
-use Rattle.om_parser.proofs.UnitCut.{unit_cut}
-use Rattle.om_parser.proofs.UnitRefusals.{unit_refuses}
+use Rattle.om_parser.proofs.UnitRefusals.{unit_refuses, too_deep_unit, unknown_in_unit, bad_in_unit}
 
 memory_only : (f : SourceFault) → f ≡ no_memory → f.code ≡ codes.Memory
 memory_only f e = ap (λ (g : SourceFault). g.code) e
@@ -55,15 +56,25 @@ module _ (ts : List Token) where
   is_syntax (Err f) (inl memory) = λ wrong u t. let m = memory_only f memory in absurd cc
   is_syntax (Err f) (inr e) = λ wrong u t. elim (again u t) [
     | inl read ↦ let both : ok u ≡ Err f = sym read ∙ e in absurd cc
-    | inr (s, deep, never) ↦ let both = ap (λ (g : SourceFault). g.code) (err_is _ f (sym deep ∙ e)) in absurd cc
+    | inr (stop, stops, never) ↦ stop.other (ap (λ (g : SourceFault). g.code) (err_is stop.fault f (sym stops ∙ e)) ∙ wrong)
   ]
 
   pub is_too_deep : (r : Result units.Unit SourceFault) → Reads view_unit r (unit_at accepted ts) → IfErr r (λ f. f.code ≡ codes.TooDeep → IsLimitPassed ts f.at)
   is_too_deep (Ok u) h = tt
   is_too_deep (Err f) (inl memory) = λ deep. let m = memory_only f memory in absurd cc
-  is_too_deep (Err f) (inr e) = λ deep. unit_cut accepted (omega arith) ts f e deep
+  is_too_deep (Err f) (inr e) = λ deep. too_deep_unit accepted (omega arith) ts f e deep
 
-  pub is_no_other : (r : Result units.Unit SourceFault) → Reads view_unit r (unit_at accepted ts) → IfErr r (λ f. (f ≡ no_memory) ⊎ (f.code ≡ codes.Syntax) ⊎ (f.code ≡ codes.TooDeep))
+  pub is_unknown : (r : Result units.Unit SourceFault) → Reads view_unit r (unit_at accepted ts) → IfErr r (λ f. f.code ≡ codes.UnknownDirective → IsRefusedLine ts f)
+  is_unknown (Ok u) h = tt
+  is_unknown (Err f) (inl memory) = λ unknown. let m = memory_only f memory in absurd cc
+  is_unknown (Err f) (inr e) = λ unknown. unknown_in_unit accepted (omega arith) ts f e unknown
+
+  pub is_bad_clause : (r : Result units.Unit SourceFault) → Reads view_unit r (unit_at accepted ts) → IfErr r (λ f. f.code ≡ codes.BadClause → IsRefusedLine ts f ⊎ IsBadAtomic ts f.at)
+  is_bad_clause (Ok u) h = tt
+  is_bad_clause (Err f) (inl memory) = λ bad. let m = memory_only f memory in absurd cc
+  is_bad_clause (Err f) (inr e) = λ bad. bad_in_unit accepted (omega arith) ts f e bad
+
+  pub is_no_other : (r : Result units.Unit SourceFault) → Reads view_unit r (unit_at accepted ts) → IfErr r (λ f. (f ≡ no_memory) ⊎ (f.code ≡ codes.Syntax) ⊎ (f.code ≡ codes.TooDeep) ⊎ (f.code ≡ codes.UnknownDirective) ⊎ (f.code ≡ codes.BadClause))
   is_no_other (Ok u) h = tt
   is_no_other (Err f) (inl memory) = inl memory
-  is_no_other (Err f) (inr e) = inr (unit_refuses accepted ts f e)
+  is_no_other (Err f) (inr e) = inr (unit_refuses accepted (omega arith) ts f e)

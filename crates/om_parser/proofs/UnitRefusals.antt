@@ -1,55 +1,64 @@
--- A unit is refused by no other code.
-use Rattle.std.proofs.Common.{◌≡◌, List, length, Err, Bool, true, false, cond}
+-- A unit is refused by four codes, and what each but that of syntax says.
+use Rattle.std.proofs.Common.{◌≡◌, ℕ, ◌≤◌, List, Err, refl, subst, ◌⊎◌, inl, inr}
+use Rattle.om_lexer.specs.declared.fault.FaultCode.{FaultCode}
+use Rattle.om_lexer.specs.declared.fault.FaultCode.TheVariants as codes
 use Rattle.om_lexer.specs.declared.fault.SourceFault.{SourceFault}
-use Rattle.om_lexer.specs.declared.token.Keyword.TheVariants as keywords
-use Rattle.om_lexer.specs.declared.token.Punctuator.TheVariants as punctuators
-use Rattle.om_lexer.specs.declared.token.Span.{Span}
 use Rattle.om_lexer.specs.declared.token.Token.{Token}
-use Rattle.om_parser.specs.declared.declaration.Initial.TheVariants as initials
-use Rattle.om_pragma.specs.declared.name.Name as names
-use Rattle.om_parser.specs.declared.tree.ResultType.{ResultType}
-use Rattle.om_parser.specs.DeclarationReading.{initial_at, declaration_after}
-use Rattle.om_parser.specs.FunctionReading.{are_named, head_after}
+use Rattle.om_pragma.specs.Refusals.{IsWordFault}
+use Rattle.om_parser.specs.Faults.{IsBadAtomic}
+use Rattle.om_parser.specs.Formed.{IsUnit}
 use Rattle.om_parser.specs.Limits.{Limits}
-use Rattle.om_parser.specs.Reading.{Outcome, mark_at, word_at, name_at}
-use Rattle.om_parser.specs.Repetition.{until}
-use Rattle.om_parser.specs.PartReading.{block_at}
-use Rattle.om_parser.specs.Tree.{HeadTree}
-use Rattle.om_parser.specs.UnitReading.{function_after, prototype_after, void_after, int_after, item_at, unit_at}
-use Rattle.om_parser.proofs.Refusals.{IsRefusal, Refuses, done, wrong, bind, either, expected, until_refuses}
-use Rattle.om_parser.proofs.DeclarationRefusals.{constant_refuses, declaration_refuses}
-use Rattle.om_parser.proofs.FunctionRefusals.{head_refuses}
-use Rattle.om_parser.proofs.PartsRefuse.{function_block_refuses}
+use Rattle.om_parser.specs.LineFaults.{IsPassedInClause, IsRefusedLine}
+use Rattle.om_parser.specs.Places.{IsOverInUnit, IsPassed}
+use Rattle.om_parser.specs.Spelling.{unit_spelling}
+use Rattle.om_parser.specs.UnitReading.{unit_at}
+use Rattle.om_parser.proofs.UnitCut.{unit_cut}
 
-if_so : {A : Type 0} (b : Bool) (first other : Outcome A) → Refuses first → Refuses other → Refuses (cond b first other)
-if_so true first other f g = f
-if_so false first other f g = g
+-- the codes by which a unit is refused
+abbrev pub IsUnitRefusal : SourceFault → Type 0
+IsUnitRefusal f = (f.code ≡ codes.Syntax) ⊎ (f.code ≡ codes.TooDeep) ⊎ (f.code ≡ codes.UnknownDirective) ⊎ (f.code ≡ codes.BadClause)
 
-module _ (l : Limits) where
-  function_refuses : (h : HeadTree) (ts : List Token) → Refuses (function_after l h ts)
-  unfolding function_after
-  function_refuses h ts = either _ _ _ (λ s. done _) (if_so (are_named h.parameters) _ _ (bind (block_at l ts) _ (function_block_refuses l ts) (λ b. done _)) (wrong ts))
+word_code : (run : List Token) (code : FaultCode) (at : ℕ) → IsWordFault run code at → (code ≡ codes.UnknownDirective) ⊎ (code ≡ codes.BadClause)
+word_code run codes.UnknownDirective at w = inl refl
+word_code run codes.BadClause at w = inr refl
+word_code run _ at w = absurd w
 
-  prototype_refuses : (result : ResultType) (n : names.Name) (left : Span) (ts : List Token) → Refuses (prototype_after l result n left ts)
-  unfolding prototype_after
-  prototype_refuses result n left ts = bind (head_after result n left ts) _ (head_refuses result n left ts) (λ h. function_refuses h.0 h.1)
+syntax_or_not : (code : FaultCode) → (code ≡ codes.Syntax) ⊎ (code ≡ codes.Syntax → ⊥)
+syntax_or_not codes.Syntax = inl refl
+syntax_or_not _ = inr (λ e. absurd cc)
 
-  void_refuses : (void : Span) (ts : List Token) → Refuses (void_after l void ts)
-  unfolding void_after name_at mark_at
-  void_refuses void ts = bind (name_at ts) _ (expected ts _) (λ n. bind (mark_at punctuators.OpenParen n.1) _ (expected n.1 _) (λ p. prototype_refuses _ n.0 p.0 p.1))
+module _ (l : Limits) (one : 1 ≤ l.nested) (ts : List Token) (f : SourceFault) (fails : unit_at l ts ≡ Err f) where
+  pub unit_refuses : IsUnitRefusal f
+  unit_refuses = elim (syntax_or_not f.code) [
+    | inl wrong ↦ inl wrong
+    | inr stops ↦ elim (unit_cut l one ts f fails stops) [
+      | inl (deep, passed) ↦ inr (inl deep)
+      | inr (inl (inl (deep, passed))) ↦ inr (inl deep)
+      | inr (inl (inr line)) ↦ inr (inr (word_code line.run f.code f.at line.refused))
+      | inr (inr (bad, atomic)) ↦ inr (inr (inr bad))
+    ]
+  ]
 
-  global_refuses : (ts : List Token) → Refuses (initial_at l initials.Constant ts)
-  unfolding initial_at
-  global_refuses ts = constant_refuses ts
+  pub too_deep_unit : f.code ≡ codes.TooDeep → IsPassed unit_spelling IsUnit (IsOverInUnit l) ts f.at ⊎ IsPassedInClause l ts f.at
+  too_deep_unit is = elim (unit_cut l one ts f fails (λ wrong. absurd cc)) [
+    | inl (deep, passed) ↦ inl passed
+    | inr (inl (inl (deep, passed))) ↦ inr passed
+    | inr (inl (inr line)) ↦ absurd (subst (λ c. IsWordFault line.run c f.at) is line.refused)
+    | inr (inr (bad, atomic)) ↦ absurd cc
+  ]
 
-  int_refuses : (int : Span) (ts : List Token) → Refuses (int_after l int ts)
-  unfolding int_after name_at
-  int_refuses int ts = bind (name_at ts) _ (expected ts _) (λ n. either _ _ _ (λ (p : Span × List Token). prototype_refuses _ n.0 p.0 p.1) (bind (declaration_after (initial_at l initials.Constant) int n.0 n.1) _ (declaration_refuses (initial_at l initials.Constant) global_refuses int n.0 n.1) (λ d. done _)))
+  pub unknown_in_unit : f.code ≡ codes.UnknownDirective → IsRefusedLine ts f
+  unknown_in_unit is = elim (unit_cut l one ts f fails (λ wrong. absurd cc)) [
+    | inl (deep, passed) ↦ absurd cc
+    | inr (inl (inl (deep, passed))) ↦ absurd cc
+    | inr (inl (inr line)) ↦ line
+    | inr (inr (bad, atomic)) ↦ absurd cc
+  ]
 
-  item_refuses : (ts : List Token) → Refuses (item_at l ts)
-  unfolding item_at word_at
-  item_refuses ts = either _ _ _ (λ (v : Span × List Token). void_refuses v.0 v.1) (bind (word_at keywords.Int ts) _ (expected ts _) (λ i. int_refuses i.0 i.1))
-
-pub unit_refuses : (l : Limits) (ts : List Token) (f : SourceFault) → unit_at l ts ≡ Err f → IsRefusal f
-unfolding unit_at
-unit_refuses l ts = bind (until _ (item_at l) (length ts) ts) _ (until_refuses _ (item_at l) (item_refuses l) (length ts) ts) (λ u. done _)
+  pub bad_in_unit : f.code ≡ codes.BadClause → IsRefusedLine ts f ⊎ IsBadAtomic ts f.at
+  bad_in_unit is = elim (unit_cut l one ts f fails (λ wrong. absurd cc)) [
+    | inl (deep, passed) ↦ absurd cc
+    | inr (inl (inl (deep, passed))) ↦ absurd cc
+    | inr (inl (inr line)) ↦ inl line
+    | inr (inr (bad, atomic)) ↦ inr atomic
+  ]

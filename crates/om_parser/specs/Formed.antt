@@ -1,6 +1,10 @@
 -- Which trees are well-formed: the grammar beyond the order of tokens.
 use Rattle.std.specs.Prelude.{◌≡◌, ℕ, ◌<◌, ◌≤◌, ◌⊎◌, Option, Some, None, IsSome, All, Bool, true, false, codes}
 use Rattle.om_pragma.specs.declared.name.Name as names
+use Rattle.om_pragma.specs.declared.tree.Directive.{Directive}
+use Rattle.om_pragma.specs.declared.tree.DirectiveName.{DirectiveName}
+use Rattle.om_pragma.specs.Questions.{is_stand_alone, is_section, is_sections}
+use Rattle.om_pragma.specs.Table.{IsDirective}
 use Rattle.om_parser.specs.declared.tree.ArrayLength.{ArrayLength}
 use Rattle.om_parser.specs.declared.tree.BinaryOperator.{BinaryOperator}
 use Rattle.om_parser.specs.declared.tree.BinaryOperator.TheVariants as binaries
@@ -102,6 +106,10 @@ IsLocalDeclaration = IsDeclaration IsExpression
 
 -- ---- statements
 
+-- a directive as the table has it, whose expression is one by the grammar
+abbrev pub IsLine : Directive ExpressionTree → Type 0
+IsLine = IsDirective IsExpression
+
 -- an expression that may be left out
 abbrev pub IsOptional : Option ExpressionTree → Type 0
 IsOptional None = Unit {0}
@@ -123,12 +131,42 @@ ends_open (If at c s) = true
 ends_open (IfElse at c s other t) = ends_open t
 ends_open (While at c s) = ends_open s
 ends_open (For h s) = ends_open s
+ends_open (Construct d s) = ends_open s
 ends_open _ = false
 
--- it may be a part of another statement, where a declaration may not stand
+-- it may be a part of another statement, where neither a declaration nor a directive alone may stand
 abbrev pub IsBody : StatementTree → Type 0
 IsBody (LocalDeclaration d) = ⊥
+IsBody (StandAlone d) = ⊥
+IsBody (Section d s) = ⊥
 IsBody _ = Unit {0}
+
+-- it may be an item of a block, where no `section` may stand
+abbrev pub IsBlockItem : StatementTree → Type 0
+IsBlockItem (Section d s) = ⊥
+IsBlockItem _ = Unit {0}
+
+-- it may be an item in the braces of `sections`, where no declaration may stand
+abbrev pub IsSectionItem : StatementTree → Type 0
+IsSectionItem (LocalDeclaration d) = ⊥
+IsSectionItem _ = Unit {0}
+
+-- it may stand behind `section`
+abbrev pub IsPartItem : StatementTree → Type 0
+IsPartItem (LocalDeclaration d) = ⊥
+IsPartItem (Section d s) = ⊥
+IsPartItem _ = Unit {0}
+
+-- ---- directives
+
+-- a directive that is for one statement behind it
+abbrev pub IsConstruct : DirectiveName → Type 0
+IsConstruct name = (is_stand_alone name ≡ false) × (is_section name ≡ false) × (is_sections name ≡ false)
+
+-- one at least
+abbrev pub AreSome : StatementsTree → Type 0
+AreSome NoStatements = ⊥
+AreSome (Statement s rest) = Unit {0}
 
 unfoldable mutual
   -- a statement, or a declaration in a block (C17 6.8)
@@ -145,14 +183,19 @@ unfoldable mutual
   IsStatement (Return at value semicolon) = IsOptional value
   IsStatement (Break at semicolon) = Unit {0}
   IsStatement (Continue at semicolon) = Unit {0}
-  IsStatement (Construct d s) = ⊥
-  IsStatement (StandAlone d) = ⊥
-  IsStatement (Sections d left parts right) = ⊥
-  IsStatement (Section d items) = ⊥
+  IsStatement (Construct d s) = IsLine d × IsConstruct d.name × IsStatement s × IsBody s
+  IsStatement (StandAlone d) = IsLine d × (is_stand_alone d.name ≡ true)
+  IsStatement (Sections d left items right) = IsLine d × (is_sections d.name ≡ true) × AreSome items × AreSectionItems items
+  IsStatement (Section d s) = IsLine d × (is_section d.name ≡ true) × IsStatement s × IsPartItem s
 
   pub AreStatements : StatementsTree → Type 0
   AreStatements NoStatements = Unit {0}
-  AreStatements (Statement s rest) = IsStatement s × AreStatements rest
+  AreStatements (Statement s rest) = IsStatement s × IsBlockItem s × AreStatements rest
+
+  -- the items in the braces of `sections` (OpenMP 5.2 section 11.3): each part begins with `section`, which the first may lack
+  pub AreSectionItems : StatementsTree → Type 0
+  AreSectionItems NoStatements = Unit {0}
+  AreSectionItems (Statement s rest) = IsStatement s × IsSectionItem s × AreSectionItems rest
 
 -- each parameter has a name
 abbrev pub AreNamed : ParametersTree → Type 0

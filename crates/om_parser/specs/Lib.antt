@@ -11,7 +11,12 @@ pub mod ExpressionReading
 pub mod Repetition
 pub mod DeclarationReading
 pub mod FunctionReading
+pub mod AtomicForms
+pub mod ConstructReading
 pub mod StatementReading
 pub mod StatementView
+pub mod LineReading
+pub mod LineFaults
+pub mod Faults
 pub mod PartReading
 pub mod UnitReading

@@ -1,5 +1,5 @@
 -- How large the expressions of an accepted source are.
-use Rattle.std.specs.Prelude.{◌≡◌, ℕ, ◌+◌, ◌-◌, ◌≤◌, ◌⊎◌, max, List, [], ◌∷◌, ◌++◌, length, Option, Some, None}
+use Rattle.std.specs.Prelude.{◌≡◌, ℕ, ◌+◌, ◌-◌, ◌≤◌, ◌⊎◌, max, List, [], ◌∷◌, ◌++◌, length, Option, Some, None, Bool, true}
 use Rattle.std.specs.List.{flat_map}
 use Rattle.om_lexer.specs.declared.token.Punctuator.TheVariants as punctuators
 use Rattle.om_lexer.specs.declared.token.Token.{Token}
@@ -43,16 +43,17 @@ abbrev pub expressions_of_declaration : DeclarationTree → List ExpressionTree
 expressions_of_declaration d = expressions_of_declarator d.first ++ flat_map (λ further. expressions_of_declarator further.1) d.rest
 
 -- how deep parentheses may nest, how many tokens a whole expression may have, how deep blocks may nest, and how many
--- statements may stand round a statement
+-- statements may stand round a statement; and whether each outermost `atomic` must have one of its forms
 pub record Limits : Type 0 where
   pub nested : ℕ
   pub tokens : ℕ
   pub blocks : ℕ
   pub statements : ℕ
+  pub checked : Bool
 
 -- those of an accepted source
 abbrev pub accepted : Limits
-accepted = record { nested = NESTING_LIMIT; tokens = TOKEN_LIMIT; blocks = BLOCK_LIMIT; statements = STATEMENT_LIMIT }
+accepted = record { nested = NESTING_LIMIT; tokens = TOKEN_LIMIT; blocks = BLOCK_LIMIT; statements = STATEMENT_LIMIT; checked = true }
 
 -- the parentheses and the tokens of an expression keep these limits
 unfoldable pub IsWithin : Limits → ExpressionTree → Type 0

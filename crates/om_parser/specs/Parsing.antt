@@ -1,13 +1,12 @@
 -- What parsing promises.
-use Rattle.std.specs.Prelude.{◌≡◌, ℕ, List, ◌∷◌, ◌++◌, length, ◌⊎◌, Contains, Result, Ok, Err}
+use Rattle.std.specs.Prelude.{◌≡◌, ℕ, List, ◌∷◌, ◌++◌, ◌⊎◌, Contains, Result, Ok, Err}
 use Rattle.om_lexer.specs.declared.fault.SourceFault.{SourceFault}
 use Rattle.om_lexer.specs.Faults.{no_memory}
-use Rattle.om_lexer.specs.declared.token.Punctuator.TheVariants as punctuators
 use Rattle.om_lexer.specs.declared.token.Token.{Token}
-use Rattle.om_lexer.specs.declared.token.TokenKind.TheVariants as kinds
 use Rattle.om_parser.specs.declared.tree.Unit as units
 use Rattle.om_parser.specs.Formed.{IsUnit}
 use Rattle.om_parser.specs.Limits.{Limits, accepted, IsTooMuch}
+use Rattle.om_parser.specs.LineFaults.{IsPassedInClause}
 use Rattle.om_parser.specs.Places.{IsPassed, IsOverInUnit}
 use Rattle.om_parser.specs.Spelling.{expression_spelling, unit_spelling}
 use Rattle.om_parser.specs.Tree.{ExpressionTree, UnitTree}
@@ -37,9 +36,10 @@ pub record PassesLimit {A : Type 0} (spelling : A → List Token) (IsFormed : A 
   pub at_place : token.span.start ≡ place
   pub too_much : IsTooMuch l begun token
 
--- the same of a whole unit, where blocks or statements may nest too deep as well
+-- A limit is passed at this place: in a whole unit, where blocks or statements may nest too deep as well, or in the expression
+-- of a clause.
 abbrev pub IsLimitPassed : List Token → ℕ → Type 0
-IsLimitPassed = IsPassed unit_spelling IsUnit (IsOverInUnit accepted)
+IsLimitPassed tokens place = IsPassed unit_spelling IsUnit (IsOverInUnit accepted) tokens place ⊎ IsPassedInClause accepted tokens place
 
 -- the tree, unless memory ran out
 abbrev pub IsTreeOrMemory : UnitTree → Result units.Unit SourceFault → Type 0

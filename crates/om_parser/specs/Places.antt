@@ -4,10 +4,11 @@ use Rattle.om_lexer.specs.declared.token.Keyword.TheVariants as keywords
 use Rattle.om_lexer.specs.declared.token.Punctuator.TheVariants as punctuators
 use Rattle.om_lexer.specs.declared.token.Span.{Span}
 use Rattle.om_lexer.specs.declared.token.Token.{Token}
+use Rattle.om_pragma.specs.Spelling.{directive_spelling}
 use Rattle.om_parser.specs.Limits.{Limits, IsTooMuch, expressions_of_declaration}
 use Rattle.om_parser.specs.Spelling.{mark, word, perhaps, expression_spelling, declaration_spelling, condition_spelling, for_start_spelling, for_head_spelling, statement_spelling, head_spelling, item_spelling}
 use Rattle.om_parser.specs.Formed.{IsBody}
-use Rattle.om_parser.specs.Tree.{ExpressionTree, DeclarationTree, ConditionTree, ForStartTree, Nothing, StartExpression, StartDeclaration, ForHeadTree, StatementTree, StatementsTree, LocalDeclaration, Block, Empty, Expression, If, IfElse, While, Do, For, Return, Break, Continue, NoStatements, Statement, statements, BlockTree, ItemTree, Declaration, Prototype, Function, UnitTree}
+use Rattle.om_parser.specs.Tree.{ExpressionTree, DeclarationTree, ConditionTree, ForStartTree, Nothing, StartExpression, StartDeclaration, ForHeadTree, StatementTree, StatementsTree, LocalDeclaration, Block, Empty, Expression, If, IfElse, While, Do, For, Return, Break, Continue, Construct, StandAlone, Sections, Section, NoStatements, Statement, statements, BlockTree, ItemTree, Declaration, Prototype, Function, UnitTree}
 
 -- Where a limit is passed in a part: the tokens of the part before that place, and the token there.
 abbrev pub Place : Type 1
@@ -40,7 +41,7 @@ pub record IsOverIn {A : Type 0} (spelling : A → List Token) (expressions : A 
 
 -- the limits of an expression in the parentheses of a statement, which are the outermost ones round its parts
 abbrev pub in_parentheses : Limits → Limits
-in_parentheses l = record { nested = l.nested - 1; tokens = l.tokens; blocks = l.blocks; statements = l.statements }
+in_parentheses l = record { nested = l.nested - 1; tokens = l.tokens; blocks = l.blocks; statements = l.statements; checked = l.checked }
 
 -- in an expression
 abbrev pub IsOverInExpression : Limits → ExpressionTree → Place
@@ -76,6 +77,10 @@ InForHead l h =
 abbrev pub AtFirst : Limits → (depth : ℕ) → StatementTree → Place
 AtFirst l depth s before token = IsBody s × (depth ≡ suc l.statements) × (before ≡ [])
 
+-- at the left brace of `sections` round which so many statements stand already
+abbrev pub AtDepth : Limits → (depth : ℕ) → Place
+AtDepth l depth before token = (depth ≡ suc l.statements) × (before ≡ [])
+
 -- at the left brace of a block round which so many stand already
 abbrev pub AtBrace : Limits → (nested : ℕ) → Place
 AtBrace l nested before token = (nested ≡ l.blocks) × (before ≡ [])
@@ -95,7 +100,10 @@ unfoldable mutual
   IsOverInside l depth nested (Return at value semicolon) = Behind (word keywords.Return at ∷ []) (InOptional l value)
   IsOverInside l depth nested (Break at semicolon) = Nowhere
   IsOverInside l depth nested (Continue at semicolon) = Nowhere
-  IsOverInside l depth nested _ = Nowhere
+  IsOverInside l depth nested (Construct d s) = Behind (directive_spelling expression_spelling d) (Either (AtFirst l (suc depth) s) (IsOverInside l (suc depth) nested s))
+  IsOverInside l depth nested (StandAlone d) = Nowhere
+  IsOverInside l depth nested (Sections d left items right) = Behind (directive_spelling expression_spelling d) (Either (Either (AtDepth l (suc depth)) (AtBrace l nested)) (Behind (mark punctuators.OpenBrace left ∷ []) (IsOverInItems l (suc (suc depth)) (suc nested) items)))
+  IsOverInside l depth nested (Section d s) = Behind (directive_spelling expression_spelling d) (Either (AtFirst l depth s) (IsOverInside l depth nested s))
 
   -- in one of the items of a block
   pub IsOverInItems : Limits → (depth nested : ℕ) → StatementsTree → Place

@@ -173,7 +173,7 @@ unfoldable mutual
   statement_spelling (Construct d s) = directive_spelling expression_spelling d ++ statement_spelling s
   statement_spelling (StandAlone d) = directive_spelling expression_spelling d
   statement_spelling (Sections d left parts right) = directive_spelling expression_spelling d ++ mark punctuators.OpenBrace left ∷ (statements_spelling parts ++ mark punctuators.CloseBrace right ∷ [])
-  statement_spelling (Section d items) = perhaps (directive_spelling expression_spelling) d ++ statements_spelling items
+  statement_spelling (Section d s) = directive_spelling expression_spelling d ++ statement_spelling s
 
   -- several of them
   pub statements_spelling : StatementsTree → List Token

@@ -1,5 +1,5 @@
 -- Reading statements from the left.
-use Rattle.std.specs.Prelude.{ℕ, zero, suc, ◌-◌, List, [], ◌∷◌, length, Option, Some, None, Ok, Err}
+use Rattle.std.specs.Prelude.{ℕ, zero, suc, ◌-◌, List, [], ◌∷◌, length, Option, Some, None, Ok, Err, Bool, true}
 use Rattle.om_lexer.specs.declared.token.Keyword.{Keyword}
 use Rattle.om_lexer.specs.declared.token.Keyword.TheVariants as keywords
 use Rattle.om_lexer.specs.declared.token.Punctuator.{Punctuator}
@@ -8,6 +8,9 @@ use Rattle.om_lexer.specs.declared.token.Span.{Span}
 use Rattle.om_lexer.specs.declared.token.Token.{Token}
 use Rattle.om_lexer.specs.declared.token.TokenKind.{TokenKind}
 use Rattle.om_lexer.specs.declared.token.TokenKind.TheVariants as kinds
+use Rattle.om_parser.specs.ConstructReading.{LineReader, PartsReader, line_start, part_item_at, section_item_at, line_of}
+use Rattle.om_parser.specs.declared.statement.Inside.{Inside}
+use Rattle.om_parser.specs.declared.statement.Inside.TheVariants as insides
 use Rattle.om_parser.specs.declared.statement.Start.{Start}
 use Rattle.om_parser.specs.declared.statement.Start.TheVariants as starts
 use Rattle.om_parser.specs.Reading.{◌>>=◌, choose, Outcome, Reader, syntax, too_deep, take_mark, take_word, mark_at, word_at}
@@ -22,6 +25,8 @@ pub record Parts : Type 0 where
   -- a declaration behind its `int`, and one in the parentheses of a `for`
   pub declaration : Span → Reader DeclarationTree
   pub enclosed_declaration : Span → Reader DeclarationTree
+  -- a directive line
+  pub line : LineReader
 
 -- ---- what a first token begins
 
@@ -52,6 +57,7 @@ start_of (kinds.Punctuator p) = start_of_mark p
 start_of (kinds.Keyword k) = start_of_word k
 start_of (kinds.Name text) = starts.Expression
 start_of (kinds.Constant value) = starts.Expression
+start_of kinds.DirectiveBegin = starts.Directive
 start_of _ = starts.Nothing
 
 -- ---- the parts of a statement
@@ -159,20 +165,40 @@ do_after p statement at ts = statement ts >>= λ s. do_end p at s.0 s.1
 abbrev pub local_item_after : Parts → Span → Reader StatementTree
 local_item_after p int ts = p.declaration int ts >>= λ d. Ok (LocalDeclaration d.0, d.1)
 
--- a declaration or a statement (C17 6.8.2)
+-- a declaration, a statement, or a directive that stands alone (C17 6.8.2)
 unfoldable pub block_item_at : Parts → Reader StatementTree → Reader StatementTree
 block_item_at p statement ts = choose (take_word keywords.Int ts)
     (λ i. local_item_after p i.0 i.1)
-    (statement ts)
+    (part_item_at p.line statement ts)
+
+-- an item in the braces of a block, or in those of `sections`
+abbrev pub item_at : Inside → Parts → Reader StatementTree → Reader StatementTree
+item_at insides.Block p statement = block_item_at p statement
+item_at insides.Sections p statement = section_item_at p.line statement
+
+-- the items in such braces, behind the left one
+abbrev pub items_at : Inside → Parts → Reader StatementTree → List Token → Outcome (List StatementTree × Span × List Token)
+items_at i p statement ts = until (take_mark punctuators.CloseBrace) (item_at i p statement) (length ts) ts
 
 -- the items of a block behind its left brace, with room for so many blocks round it
 unfoldable pub block_items_after : Parts → (ℕ → Reader StatementTree) → (blocks : ℕ) → Span → List Token → Outcome (List StatementTree × Span × List Token)
 block_items_after p statement zero left ts = Err (too_deep left)
-block_items_after p statement (suc blocks) left ts = until (take_mark punctuators.CloseBrace) (block_item_at p (statement blocks)) (length ts) ts
+block_items_after p statement (suc blocks) left ts = items_at insides.Block p (statement blocks) ts
 
 -- a block behind its left brace
 unfoldable pub block_after : Parts → (ℕ → Reader StatementTree) → (blocks : ℕ) → Span → Reader StatementTree
 block_after p statement blocks left ts = block_items_after p statement blocks left ts >>= λ x. Ok (Block left (statements x.0) x.1, x.2)
+
+-- the items in the braces of `sections`, behind the left one: one at least
+unfoldable pub section_items_after : Parts → Reader StatementTree → List Token → Outcome (List StatementTree × Span × List Token)
+section_items_after p statement ts = choose (take_mark punctuators.CloseBrace ts)
+    (λ r. Err (syntax ts))
+    (items_at insides.Sections p statement ts)
+
+-- what stands in the braces of `sections`, behind the left one, with room for so many blocks
+unfoldable pub parts_after : Parts → (statement : (blocks : ℕ) → Reader StatementTree) → (blocks : ℕ) → Span → PartsReader
+parts_after p statement zero left ts = Err (too_deep left)
+parts_after p statement (suc blocks) left ts = section_items_after p (statement blocks) ts >>= λ x. Ok ((left, statements x.0, x.1), x.2)
 
 -- a statement of this start that has no statement in it
 unfoldable pub simple_of : Parts → Start → Span → (behind whole : List Token) → Outcome (StatementTree × List Token)
@@ -183,29 +209,37 @@ simple_of p starts.Continue at ts whole = jump_after (Continue at) ts
 simple_of p starts.Expression at ts whole = expression_statement_at p whole
 simple_of p _ at ts whole = Err (syntax whole)
 
--- a statement whose first token is taken, over the reader of the statements in it
-unfoldable pub statement_of : Parts → (ℕ → Reader StatementTree) → (blocks : ℕ) → Start → Span → (behind whole : List Token) → Outcome (StatementTree × List Token)
-statement_of p statement blocks starts.Block at ts whole = block_after p statement blocks at ts
-statement_of p statement blocks starts.If at ts whole = headed_of p (statement blocks) starts.If at ts
-statement_of p statement blocks starts.While at ts whole = headed_of p (statement blocks) starts.While at ts
-statement_of p statement blocks starts.For at ts whole = headed_of p (statement blocks) starts.For at ts
-statement_of p statement blocks starts.Do at ts whole = do_after p (statement blocks) at ts
-statement_of p statement blocks start at ts whole = simple_of p start at ts whole
+-- a statement whose first token is taken, over the readers of the statements in it
+unfoldable pub statement_of : Parts → (checked : Bool) → (statement : Bool → (blocks : ℕ) → Reader StatementTree) → (parts : (blocks : ℕ) → PartsReader) → (blocks : ℕ) → Start → Span → (behind whole : List Token) → Outcome (StatementTree × List Token)
+statement_of p checked statement parts blocks starts.Block at ts whole = block_after p (statement checked) blocks at ts
+statement_of p checked statement parts blocks starts.If at ts whole = headed_of p (statement checked blocks) starts.If at ts
+statement_of p checked statement parts blocks starts.While at ts whole = headed_of p (statement checked blocks) starts.While at ts
+statement_of p checked statement parts blocks starts.For at ts whole = headed_of p (statement checked blocks) starts.For at ts
+statement_of p checked statement parts blocks starts.Do at ts whole = do_after p (statement checked blocks) at ts
+statement_of p checked statement parts blocks starts.Directive at ts whole = line_of p.line checked (λ c. statement c blocks) (parts blocks) (line_start whole) whole
+statement_of p checked statement parts blocks start at ts whole = simple_of p start at ts whole
 
 -- the fault of a statement that has no room
 unfoldable pub no_room : Start → Span → List Token → Outcome (StatementTree × List Token)
 no_room starts.Nothing s ts = Err (syntax ts)
 no_room _ s ts = Err (too_deep s)
 
--- a statement, with room for so many statements, itself among them, and so many blocks (C17 6.8)
-unfoldable pub statement_at : Parts → (room blocks : ℕ) → Reader StatementTree
-statement_at p room blocks [] = Err (syntax [])
-statement_at p zero blocks (t ∷ ts) = no_room (start_of t.kind) t.span (t ∷ ts)
-statement_at p (suc room) blocks (t ∷ ts) = statement_of p (statement_at p room) blocks (start_of t.kind) t.span ts (t ∷ ts)
+unfoldable mutual
+  -- A statement, with room for so many statements, itself among them, and so many blocks (C17 6.8).
+  -- Each `atomic` in it must have one of its forms, if that is checked.
+  pub statement_at : Parts → (checked : Bool) → (room blocks : ℕ) → Reader StatementTree
+  statement_at p checked room blocks [] = Err (syntax [])
+  statement_at p checked zero blocks (t ∷ ts) = no_room (start_of t.kind) t.span (t ∷ ts)
+  statement_at p checked (suc room) blocks (t ∷ ts) = statement_of p checked (λ c. statement_at p c room) (parts_at p checked room) blocks (start_of t.kind) t.span ts (t ∷ ts)
+
+  -- the braces of `sections` and what stands in them
+  pub parts_at : Parts → (checked : Bool) → (room blocks : ℕ) → PartsReader
+  parts_at p checked zero blocks ts = mark_at punctuators.OpenBrace ts >>= λ o. Err (too_deep o.0)
+  parts_at p checked (suc room) blocks ts = mark_at punctuators.OpenBrace ts >>= λ o. parts_after p (statement_at p checked room) blocks o.0 o.1
 
 -- the block of a function (C17 6.8.2)
-unfoldable pub block_with : Parts → (room blocks : ℕ) → Reader BlockTree
-block_with p room blocks ts = do
+unfoldable pub block_with : Parts → (checked : Bool) → (room blocks : ℕ) → Reader BlockTree
+block_with p checked room blocks ts = do
   o ← mark_at punctuators.OpenBrace ts
-  x ← block_items_after p (statement_at p room) blocks o.0 o.1
+  x ← block_items_after p (statement_at p checked room) blocks o.0 o.1
   Ok (record { open_brace = o.0; items = x.0; close_brace = x.1 }, x.2)

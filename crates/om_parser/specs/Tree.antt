@@ -96,7 +96,7 @@ mutual
     Construct : Directive ExpressionTree → StatementTree → StatementTree
     StandAlone : Directive ExpressionTree → StatementTree
     Sections : Directive ExpressionTree → (left : Span) → StatementsTree → (right : Span) → StatementTree
-    Section : Option (Directive ExpressionTree) → StatementsTree → StatementTree
+    Section : Directive ExpressionTree → StatementTree → StatementTree
 
   -- several of them
   pub data StatementsTree : Type 0 where

@@ -106,7 +106,7 @@ statement_layer (Statement-F.Continue at semicolon) = trees.Continue at semicolo
 statement_layer (Statement-F.Construct d s) = trees.Construct (view_directive d) s.value
 statement_layer (Statement-F.StandAlone d) = trees.StandAlone (view_directive d)
 statement_layer (Statement-F.Sections d left parts right) = trees.Sections (view_directive d) left (trees.statements parts.items) right
-statement_layer (Statement-F.Section d items) = trees.Section (option_map view_directive d) (trees.statements items.items)
+statement_layer (Statement-F.Section d s) = trees.Section (view_directive d) s.value
 
 -- a statement without boxes and capacities
 abbrev pub view_statement : Statement → StatementTree

@@ -1,10 +1,13 @@
 //! The parser: the tokens of a C source to its tree (C17 6.5 to 6.9).
 #![tactic(auto)]
 
+mod atomic;
+mod construct;
 mod declaration;
 mod expression;
 mod front;
 mod function;
+mod line;
 mod operator;
 mod part;
 mod statement;

@@ -2,20 +2,27 @@
 
 ghost use Rattle.std.specs.Prelude.{◌≡◌, IfOk, length, map, option_map, Err};
 ghost use Rattle.om_lexer.specs.declared.token.Punctuator.TheVariants.{CloseBrace};
+ghost use Rattle.om_pragma.specs.Questions.{atomic_kind};
+ghost use Rattle.om_parser.specs.AtomicForms.{has_atomic_form};
+ghost use Rattle.om_parser.specs.ConstructReading.{atomic_after, atomic_of, construct_at, constructed_after, line_of, line_start, part_item_at, section_at, section_item_at, sections_after, stand_alone_at, unknown_line};
 ghost use Rattle.om_parser.specs.Limits.{accepted};
 ghost use Rattle.om_parser.specs.PartReading.{block_at, parts};
 ghost use Rattle.om_parser.specs.Reading.{take_mark, Reads, ReadsAlways};
 ghost use Rattle.om_parser.specs.Repetition.{until};
-ghost use Rattle.om_parser.specs.StatementReading.{start_of, start_of_mark, start_of_word, condition_at, optional_before, for_start_at, for_head_after, opening_of, headed_of, behind_body, else_after, body_after, simple_of, return_after, jump_after, expression_statement_at, do_end, do_after, block_after, local_item_after, block_item_at, block_items_after, no_room, statement_at, block_with};
+ghost use Rattle.om_parser.specs.StatementReading.{start_of, start_of_mark, start_of_word, condition_at, optional_before, for_start_at, for_head_after, opening_of, headed_of, behind_body, else_after, body_after, simple_of, return_after, jump_after, expression_statement_at, do_end, do_after, block_after, local_item_after, block_item_at, block_items_after, item_at, items_at, section_items_after, no_room, statement_at, parts_at, block_with};
 ghost use Rattle.om_parser.specs.Tree as trees;
 ghost use Rattle.om_parser.specs.StatementView.{view_opening};
-ghost use Rattle.om_parser.specs.View.{view_condition, view_expression, view_for_start, view_for_head, view_statement, view_block};
+ghost use Rattle.om_parser.specs.View.{view_condition, view_expression, view_for_start, view_for_head, view_directive, view_statement, view_block};
 
+use crate::atomic::has_atomic_form;
+use crate::construct::{LineStart, line_start, misplaced};
 use crate::front::{mark, syntax, take_mark, take_word, too_deep, word};
+use crate::line::line;
 use crate::part::{declaration, enclosed, enclosed_declaration, expression};
 use crate::tree::{Block, Condition, Expression, ForHead, ForStart, Statement};
 use crate::unit::{BLOCK_LIMIT, STATEMENT_LIMIT};
-use om_lexer::{Keyword, Punctuator, SourceFault, Span, Token, TokenKind};
+use om_lexer::{FaultCode, Keyword, Punctuator, SourceFault, Span, Token, TokenKind};
+use om_pragma::Directive;
 use std::alloc::{AllocError, Global};
 
 /// Which statement a token begins.
@@ -31,6 +38,7 @@ pub enum Start {
     Break,
     Continue,
     Expression,
+    Directive,
     /// None.
     Nothing,
 }
@@ -44,6 +52,7 @@ fn start_of(kind: &TokenKind) -> Start
         TokenKind::Keyword(word) => start_of_word(*word),
         TokenKind::Name(_) => Start::Expression,
         TokenKind::Constant(_) => Start::Expression,
+        TokenKind::DirectiveBegin => Start::Directive,
         _ => Start::Nothing,
     }
 }
@@ -79,13 +88,29 @@ fn start_of_word(word: Keyword) -> Start
     }
 }
 
+/// In which braces items stand.
+#[derive(Clone, Copy, Debug, PartialEq, Eq)]
+pub enum Inside {
+    /// Those of a block.
+    Block,
+    /// Those of `sections`.
+    Sections,
+}
+
 /// The block of a function, and the tokens behind it.
 #[tactic(auto, unfolding(crate::specs::PartReading::block_at, crate::specs::StatementReading::block_with, crate::specs::StatementReading::block_items_after))]
 pub fn block(alloc: Global, tokens: &[Token]) -> Result<(Block, &[Token]), SourceFault>
     ensures { Reads (λ x. (view_block x.0, x.1.now)) result (block_at accepted tokens.now) }
 {
     let (open_brace, rest) = mark(tokens, Punctuator::OpenBrace)?;
-    let (items, close_brace, rest) = items(alloc, rest, STATEMENT_LIMIT, BLOCK_LIMIT - 1)?;
+    let (items, close_brace, rest) = items(
+        alloc,
+        Inside::Block,
+        rest,
+        true,
+        STATEMENT_LIMIT,
+        BLOCK_LIMIT - 1,
+    )?;
     Ok((
         Block {
             open_brace,
@@ -103,15 +128,16 @@ fn block_after(
     alloc: Global,
     open_brace: Span,
     tokens: &[Token],
+    checked: bool,
     room: usize,
     blocks: usize,
 ) -> Result<(Box<Statement>, &[Token]), SourceFault>
-    ensures { Reads (λ x. (view_statement x.0.value, x.1.now)) result (block_after (parts accepted) (statement_at (parts accepted) room) blocks open_brace tokens.now) }
+    ensures { Reads (λ x. (view_statement x.0.value, x.1.now)) result (block_after (parts accepted) (statement_at (parts accepted) checked room) blocks open_brace tokens.now) }
 {
     let Some(blocks) = blocks.checked_sub(1) else {
         return Err(too_deep(open_brace));
     };
-    let (items, close_brace, rest) = items(alloc, tokens, room, blocks)?;
+    let (items, close_brace, rest) = items(alloc, Inside::Block, tokens, checked, room, blocks)?;
     let block = block_of(alloc, open_brace, items, close_brace)?;
     Ok((block, rest))
 }
@@ -123,24 +149,27 @@ fn do_after(
     alloc: Global,
     at: Span,
     tokens: &[Token],
+    checked: bool,
     room: usize,
     blocks: usize,
 ) -> Result<(Box<Statement>, &[Token]), SourceFault>
-    ensures { Reads (λ x. (view_statement x.0.value, x.1.now)) result (do_after (parts accepted) (statement_at (parts accepted) room blocks) at tokens.now) }
+    ensures { Reads (λ x. (view_statement x.0.value, x.1.now)) result (do_after (parts accepted) (statement_at (parts accepted) checked room blocks) at tokens.now) }
 {
-    let (body, rest) = statement(alloc, tokens, room, blocks)?;
+    let (body, rest) = statement(alloc, tokens, checked, room, blocks)?;
     do_end(alloc, at, body, rest)
 }
 
-/// Declarations and statements up to a closing brace, its span, and the tokens behind it.
+/// Items up to a closing brace, its span, and the tokens behind it.
 #[cycle(statement)]
 fn items(
     alloc: Global,
+    kind: Inside,
     tokens: &[Token],
+    checked: bool,
     room: usize,
     blocks: usize,
 ) -> Result<(Vec<Statement>, Span, &[Token]), SourceFault>
-    ensures { Reads (λ x. (map view_statement x.0.items, x.1, x.2.now)) result (until (take_mark CloseBrace) (block_item_at (parts accepted) (statement_at (parts accepted) room blocks)) (length tokens.now) tokens.now) }
+    ensures { Reads (λ x. (map view_statement x.0.items, x.1, x.2.now)) result (items_at kind (parts accepted) (statement_at (parts accepted) checked room blocks) tokens.now) }
 {
     let mut items = Vec::new(alloc);
     let mut rest = tokens;
@@ -148,39 +177,121 @@ fn items(
         if let Some((close_brace, after)) = take_mark(rest, Punctuator::CloseBrace) {
             return Ok((items, close_brace, after));
         }
-        let (next, after) = block_item(alloc, rest, room, blocks)?;
+        let (next, after) = item(alloc, kind, rest, checked, room, blocks)?;
         items.push(Box::into_inner(next))?;
         rest = after;
     }
 }
 
-/// A declaration or a statement, and the tokens behind it.
+/// An item in such braces, and the tokens behind it.
+#[cycle(statement)]
+fn item(
+    alloc: Global,
+    kind: Inside,
+    tokens: &[Token],
+    checked: bool,
+    room: usize,
+    blocks: usize,
+) -> Result<(Box<Statement>, &[Token]), SourceFault>
+    ensures { Reads (λ x. (view_statement x.0.value, x.1.now)) result (item_at kind (parts accepted) (statement_at (parts accepted) checked room blocks) tokens.now) }
+{
+    match kind {
+        Inside::Block => block_item(alloc, tokens, checked, room, blocks),
+        Inside::Sections => section_item(alloc, tokens, checked, room, blocks),
+    }
+}
+
+/// A declaration, a statement or a directive that stands alone, and the tokens behind it.
 #[cycle(statement)]
 #[tactic(auto, unfolding(crate::specs::StatementReading::block_item_at))]
 fn block_item(
     alloc: Global,
     tokens: &[Token],
+    checked: bool,
     room: usize,
     blocks: usize,
 ) -> Result<(Box<Statement>, &[Token]), SourceFault>
-    ensures { Reads (λ x. (view_statement x.0.value, x.1.now)) result (block_item_at (parts accepted) (statement_at (parts accepted) room blocks) tokens.now) }
+    ensures { Reads (λ x. (view_statement x.0.value, x.1.now)) result (block_item_at (parts accepted) (statement_at (parts accepted) checked room blocks) tokens.now) }
 {
     match take_word(tokens, Keyword::Int) {
         Some((int, rest)) => declaration_item(alloc, int, rest),
-        None => statement(alloc, tokens, room, blocks),
+        None => part_item(alloc, tokens, checked, room, blocks),
     }
 }
 
-/// A statement, and the tokens behind it.
+/// A statement or a directive that stands alone, and the tokens behind it.
+#[cycle(statement)]
+#[tactic(auto, unfolding(crate::specs::ConstructReading::part_item_at, crate::specs::ConstructReading::item_of, crate::specs::ConstructReading::misplaced))]
+fn part_item(
+    alloc: Global,
+    tokens: &[Token],
+    checked: bool,
+    room: usize,
+    blocks: usize,
+) -> Result<(Box<Statement>, &[Token]), SourceFault>
+    ensures { Reads (λ x. (view_statement x.0.value, x.1.now)) result (part_item_at (parts accepted).line (statement_at (parts accepted) checked room blocks) tokens.now) }
+{
+    match line_start(tokens) {
+        LineStart::StandAlone => stand_alone(alloc, tokens),
+        LineStart::Section => Err(misplaced(tokens)),
+        LineStart::Unknown => unknown_line(alloc, tokens),
+        LineStart::Construct => statement(alloc, tokens, checked, room, blocks),
+        LineStart::Nothing => statement(alloc, tokens, checked, room, blocks),
+    }
+}
+
+/// An item of a part of `sections`, with the `section` that stands before it, and the tokens
+/// behind it.
+#[cycle(statement)]
+#[tactic(auto, unfolding(crate::specs::ConstructReading::section_item_at, crate::specs::ConstructReading::section_item_of))]
+fn section_item(
+    alloc: Global,
+    tokens: &[Token],
+    checked: bool,
+    room: usize,
+    blocks: usize,
+) -> Result<(Box<Statement>, &[Token]), SourceFault>
+    ensures { Reads (λ x. (view_statement x.0.value, x.1.now)) result (section_item_at (parts accepted).line (statement_at (parts accepted) checked room blocks) tokens.now) }
+{
+    match line_start(tokens) {
+        LineStart::Section => section(alloc, tokens, checked, room, blocks),
+        LineStart::StandAlone => part_item(alloc, tokens, checked, room, blocks),
+        LineStart::Unknown => part_item(alloc, tokens, checked, room, blocks),
+        LineStart::Construct => part_item(alloc, tokens, checked, room, blocks),
+        LineStart::Nothing => part_item(alloc, tokens, checked, room, blocks),
+    }
+}
+
+/// `section`, the first item of its part, and the tokens behind it.
+#[cycle(statement)]
+#[tactic(auto, unfolding(crate::specs::ConstructReading::section_at))]
+fn section(
+    alloc: Global,
+    tokens: &[Token],
+    checked: bool,
+    room: usize,
+    blocks: usize,
+) -> Result<(Box<Statement>, &[Token]), SourceFault>
+    ensures { Reads (λ x. (view_statement x.0.value, x.1.now)) result (section_at (parts accepted).line (statement_at (parts accepted) checked room blocks) tokens.now) }
+{
+    let (directive, rest) = boxed_line(alloc, tokens)?;
+    let (first, rest) = part_item(alloc, rest, checked, room, blocks)?;
+    let statement = section_of(alloc, directive, first)?;
+    Ok((statement, rest))
+}
+
+/// A statement, and the tokens behind it. Each `atomic` in it must have one of its forms where
+/// it is `checked`.
 #[cycle(statement)]
 #[tactic(auto, unfolding(crate::specs::StatementReading::statement_at, crate::specs::StatementReading::statement_of))]
 fn statement(
     alloc: Global,
     tokens: &[Token],
+    checked: bool,
     room: usize,
     blocks: usize,
 ) -> Result<(Box<Statement>, &[Token]), SourceFault>
-    ensures { Reads (λ x. (view_statement x.0.value, x.1.now)) result (statement_at (parts accepted) room blocks tokens.now) }
+    ensures { Reads (λ x. (view_statement x.0.value, x.1.now)) result (statement_at (parts accepted) checked room blocks tokens.now) }
 {
     let [first, rest @ ..] = tokens else {
         return Err(syntax(tokens));
@@ -190,13 +301,150 @@ fn statement(
         return Err(no_room(start, tokens, first.span));
     };
     match start {
-        Start::Block => block_after(alloc, first.span, rest, room, blocks),
-        Start::If => headed(alloc, start, first.span, rest, room, blocks),
-        Start::While => headed(alloc, start, first.span, rest, room, blocks),
-        Start::For => headed(alloc, start, first.span, rest, room, blocks),
-        Start::Do => do_after(alloc, first.span, rest, room, blocks),
+        Start::Block => block_after(alloc, first.span, rest, checked, room, blocks),
+        Start::If => headed(alloc, start, first.span, rest, checked, room, blocks),
+        Start::While => headed(alloc, start, first.span, rest, checked, room, blocks),
+        Start::For => headed(alloc, start, first.span, rest, checked, room, blocks),
+        Start::Do => do_after(alloc, first.span, rest, checked, room, blocks),
+        Start::Directive => directive(alloc, tokens, checked, room, blocks),
         _ => simple_boxed(alloc, start, first.span, rest, tokens),
     }
+}
+
+/// A construct whose line stands first, and the tokens behind it.
+#[cycle(statement)]
+#[tactic(auto, unfolding(crate::specs::ConstructReading::line_of, crate::specs::ConstructReading::misplaced))]
+fn directive(
+    alloc: Global,
+    tokens: &[Token],
+    checked: bool,
+    room: usize,
+    blocks: usize,
+) -> Result<(Box<Statement>, &[Token]), SourceFault>
+    ensures { Reads (λ x. (view_statement x.0.value, x.1.now)) result (line_of (parts accepted).line checked (λ c. statement_at (parts accepted) c room blocks) (parts_at (parts accepted) checked room blocks) (line_start tokens.now) tokens.now) }
+{
+    match line_start(tokens) {
+        LineStart::Construct => construct(alloc, tokens, checked, room, blocks),
+        LineStart::Unknown => unknown_line(alloc, tokens),
+        _ => Err(misplaced(tokens)),
+    }
+}
+
+/// A construct, and the tokens behind it.
+#[cycle(statement)]
+#[tactic(auto, unfolding(crate::specs::ConstructReading::construct_at, crate::specs::ConstructReading::construct_after))]
+fn construct(
+    alloc: Global,
+    tokens: &[Token],
+    checked: bool,
+    room: usize,
+    blocks: usize,
+) -> Result<(Box<Statement>, &[Token]), SourceFault>
+    ensures { Reads (λ x. (view_statement x.0.value, x.1.now)) result (construct_at (parts accepted).line checked (λ c. statement_at (parts accepted) c room blocks) (parts_at (parts accepted) checked room blocks) tokens.now) }
+{
+    let (directive, rest) = boxed_line(alloc, tokens)?;
+    if directive.name.is_sections() {
+        sections(alloc, directive, rest, checked, room, blocks)
+    } else if directive.name.is_atomic() {
+        atomic(alloc, directive, rest, checked, room, blocks)
+    } else {
+        constructed(alloc, directive, rest, checked, room, blocks)
+    }
+}
+
+/// A construct with one statement, of which the line is taken, and the tokens behind it.
+#[cycle(statement)]
+#[tactic(auto, unfolding(crate::specs::ConstructReading::constructed_after))]
+fn constructed(
+    alloc: Global,
+    directive: Box<Directive<Expression>>,
+    tokens: &[Token],
+    checked: bool,
+    room: usize,
+    blocks: usize,
+) -> Result<(Box<Statement>, &[Token]), SourceFault>
+    ensures { Reads (λ x. (view_statement x.0.value, x.1.now)) result (constructed_after (statement_at (parts accepted) checked room blocks) (view_directive directive.value) tokens.now) }
+{
+    let (body, rest) = statement(alloc, tokens, checked, room, blocks)?;
+    let statement = construct_of(alloc, directive, body)?;
+    Ok((statement, rest))
+}
+
+/// An `atomic`, of which the line is taken, and the tokens behind it.
+#[cycle(statement)]
+#[tactic(auto, unfolding(crate::specs::ConstructReading::atomic_after))]
+fn atomic(
+    alloc: Global,
+    directive: Box<Directive<Expression>>,
+    tokens: &[Token],
+    checked: bool,
+    room: usize,
+    blocks: usize,
+) -> Result<(Box<Statement>, &[Token]), SourceFault>
+    ensures { Reads (λ x. (view_statement x.0.value, x.1.now)) result (atomic_after checked (λ c. statement_at (parts accepted) c room blocks) (view_directive directive.value) tokens.now) }
+{
+    let (body, rest) = statement(alloc, tokens, false, room, blocks)?;
+    atomic_of(alloc, checked, directive, body, rest)
+}
+
+/// A `sections`, of which the line is taken, and the tokens behind it.
+#[cycle(statement)]
+#[tactic(auto, unfolding(crate::specs::ConstructReading::sections_after))]
+fn sections(
+    alloc: Global,
+    directive: Box<Directive<Expression>>,
+    tokens: &[Token],
+    checked: bool,
+    room: usize,
+    blocks: usize,
+) -> Result<(Box<Statement>, &[Token]), SourceFault>
+    ensures { Reads (λ x. (view_statement x.0.value, x.1.now)) result (sections_after (parts_at (parts accepted) checked room blocks) (view_directive directive.value) tokens.now) }
+{
+    let (open_brace, items, close_brace, rest) = braces(alloc, tokens, checked, room, blocks)?;
+    let statement = sections_of(alloc, directive, open_brace, items, close_brace)?;
+    Ok((statement, rest))
+}
+
+/// The braces of `sections`, the items in them, and the tokens behind them.
+#[cycle(statement)]
+#[tactic(auto, unfolding(crate::specs::StatementReading::parts_at, crate::specs::StatementReading::parts_after))]
+fn braces(
+    alloc: Global,
+    tokens: &[Token],
+    checked: bool,
+    room: usize,
+    blocks: usize,
+) -> Result<(Span, Vec<Statement>, Span, &[Token]), SourceFault>
+    ensures { Reads (λ x. ((x.0, trees.statements (map view_statement x.1.items), x.2), x.3.now)) result (parts_at (parts accepted) checked room blocks tokens.now) }
+{
+    let (open_brace, rest) = mark(tokens, Punctuator::OpenBrace)?;
+    let Some(room) = room.checked_sub(1) else {
+        return Err(too_deep(open_brace));
+    };
+    let Some(blocks) = blocks.checked_sub(1) else {
+        return Err(too_deep(open_brace));
+    };
+    let (items, close_brace, rest) = section_items(alloc, rest, checked, room, blocks)?;
+    Ok((open_brace, items, close_brace, rest))
+}
+
+/// The items in the braces of `sections`, of which the left one is taken, the span of the right
+/// one, and the tokens behind it.
+#[cycle(statement)]
+#[tactic(auto, unfolding(crate::specs::StatementReading::section_items_after))]
+fn section_items(
+    alloc: Global,
+    tokens: &[Token],
+    checked: bool,
+    room: usize,
+    blocks: usize,
+) -> Result<(Vec<Statement>, Span, &[Token]), SourceFault>
+    ensures { Reads (λ x. (map view_statement x.0.items, x.1, x.2.now)) result (section_items_after (parts accepted) (statement_at (parts accepted) checked room blocks) tokens.now) }
+{
+    if take_mark(tokens, Punctuator::CloseBrace).is_some() {
+        return Err(syntax(tokens));
+    }
+    items(alloc, Inside::Sections, tokens, checked, room, blocks)
 }
 
 /// The fault of a statement, of this start, round which no statement may stand.
@@ -286,6 +534,108 @@ fn for_of(
     Ok(Box::new(alloc, Statement::For(Box::into_inner(head), body))?)
 }
 
+/// A construct of these parts.
+fn construct_of(
+    alloc: Global,
+    directive: Box<Directive<Expression>>,
+    body: Box<Statement>,
+) -> Result<Box<Statement>, AllocError>
+    ensures { IfOk result (λ s. view_statement s.value ≡ trees.Construct (view_directive directive.value) (view_statement body.value)) }
+{
+    let directive = Box::into_inner(directive);
+    Ok(Box::new(alloc, Statement::Construct(directive, body))?)
+}
+
+/// A `sections` of these parts.
+fn sections_of(
+    alloc: Global,
+    directive: Box<Directive<Expression>>,
+    open_brace: Span,
+    items: Vec<Statement>,
+    close_brace: Span,
+) -> Result<Box<Statement>, AllocError>
+    ensures { IfOk result (λ s. view_statement s.value ≡ trees.Sections (view_directive directive.value) open_brace (trees.statements (map view_statement items.items)) close_brace) }
+{
+    let directive = Box::into_inner(directive);
+    Ok(Box::new(
+        alloc,
+        Statement::Sections(directive, open_brace, items, close_brace),
+    )?)
+}
+
+/// A `section` and the first item of its part.
+fn section_of(
+    alloc: Global,
+    directive: Box<Directive<Expression>>,
+    first: Box<Statement>,
+) -> Result<Box<Statement>, AllocError>
+    ensures { IfOk result (λ s. view_statement s.value ≡ trees.Section (view_directive directive.value) (view_statement first.value)) }
+{
+    let directive = Box::into_inner(directive);
+    Ok(Box::new(alloc, Statement::Section(directive, first))?)
+}
+
+/// A directive line, and the tokens behind it.
+#[tactic(auto, unfolding(crate::specs::PartReading::parts))]
+fn boxed_line(
+    alloc: Global,
+    tokens: &[Token],
+) -> Result<(Box<Directive<Expression>>, &[Token]), SourceFault>
+    ensures { Reads (λ x. (view_directive x.0.value, x.1.now)) result ((parts accepted).line tokens.now) }
+{
+    let (directive, rest) = line(alloc, tokens)?;
+    let directive = Box::new(alloc, directive)?;
+    Ok((directive, rest))
+}
+
+/// A directive that stands alone, and the tokens behind it.
+#[tactic(auto, unfolding(crate::specs::ConstructReading::stand_alone_at, crate::specs::PartReading::parts))]
+fn stand_alone(alloc: Global, tokens: &[Token]) -> Result<(Box<Statement>, &[Token]), SourceFault>
+    ensures { Reads (λ x. (view_statement x.0.value, x.1.now)) result (stand_alone_at (parts accepted).line tokens.now) }
+{
+    let (directive, rest) = line(alloc, tokens)?;
+    let statement = Box::new(alloc, Statement::StandAlone(directive))?;
+    Ok((statement, rest))
+}
+
+/// Refuses a line whose word names no directive.
+#[tactic(auto, unfolding(crate::specs::ConstructReading::unknown_line, crate::specs::ConstructReading::misplaced, crate::specs::PartReading::parts))]
+fn unknown_line(alloc: Global, tokens: &[Token]) -> Result<(Box<Statement>, &[Token]), SourceFault>
+    ensures { Reads (λ x. (view_statement x.0.value, x.1.now)) result (unknown_line (parts accepted).line tokens.now) }
+{
+    line(alloc, tokens)?;
+    Err(misplaced(tokens))
+}
+
+/// An `atomic` with its statement, which has one of the forms where that is `checked`.
+#[tactic(auto, unfolding(crate::specs::ConstructReading::atomic_of))]
+fn atomic_of<'a>(
+    alloc: Global,
+    checked: bool,
+    directive: Box<Directive<Expression>>,
+    body: Box<Statement>,
+    tokens: &'a [Token],
+) -> Result<(Box<Statement>, &'a [Token]), SourceFault>
+    ensures { Reads (λ x. (view_statement x.0.value, x.1.now)) result (atomic_of checked (view_directive directive.value) (view_statement body.value) tokens.now) }
+{
+    if !checked || has_form(&directive, &body) {
+        let statement = construct_of(alloc, directive, body)?;
+        return Ok((statement, tokens));
+    }
+    Err(SourceFault {
+        code: FaultCode::BadClause,
+        at: directive.name.span().start,
+    })
+}
+
+/// Whether a statement is one of the forms that this `atomic` has.
+#[tactic(auto, using(crate::proofs::AtomicKinds::atomic_viewed))]
+fn has_form(directive: &Directive<Expression>, body: &Statement) -> bool
+    ensures { result ≡ has_atomic_form (atomic_kind (view_directive directive.now)) (view_statement body.now) }
+{
+    has_atomic_form(directive.atomic_kind(), body)
+}
+
 /// A declaration in a block, of which `int` is taken, and the tokens behind it.
 fn declaration_item(
     alloc: Global,
@@ -323,14 +673,15 @@ fn headed(
     start: Start,
     at: Span,
     tokens: &[Token],
+    checked: bool,
     room: usize,
     blocks: usize,
 ) -> Result<(Box<Statement>, &[Token]), SourceFault>
-    ensures { Reads (λ x. (view_statement x.0.value, x.1.now)) result (headed_of (parts accepted) (statement_at (parts accepted) room blocks) start at tokens.now) }
+    ensures { Reads (λ x. (view_statement x.0.value, x.1.now)) result (headed_of (parts accepted) (statement_at (parts accepted) checked room blocks) start at tokens.now) }
 {
     let (opening, rest) = opening_after(alloc, start, at, tokens)?;
-    let (body, rest) = statement(alloc, rest, room, blocks)?;
-    behind_body(alloc, opening, body, rest, room, blocks)
+    let (body, rest) = statement(alloc, rest, checked, room, blocks)?;
+    behind_body(alloc, opening, body, rest, checked, room, blocks)
 }
 
 /// What follows the body of a statement.
@@ -341,15 +692,16 @@ fn behind_body(
     opening: Opening,
     body: Box<Statement>,
     tokens: &[Token],
+    checked: bool,
     room: usize,
     blocks: usize,
 ) -> Result<(Box<Statement>, &[Token]), SourceFault>
-    ensures { Reads (λ x. (view_statement x.0.value, x.1.now)) result (behind_body (statement_at (parts accepted) room blocks) (view_opening opening) (view_statement body.value) tokens.now) }
+    ensures { Reads (λ x. (view_statement x.0.value, x.1.now)) result (behind_body (statement_at (parts accepted) checked room blocks) (view_opening opening) (view_statement body.value) tokens.now) }
 {
     match opening {
         Opening::If(at, condition) => match take_word(tokens, Keyword::Else) {
             Some((other, rest)) => {
-                let (second, rest) = statement(alloc, rest, room, blocks)?;
+                let (second, rest) = statement(alloc, rest, checked, room, blocks)?;
                 let statement = if_else_of(alloc, at, condition, body, other, second)?;
                 Ok((statement, rest))
             }

@@ -199,10 +199,11 @@ pub enum Statement {
     Construct(Directive<Expression>, Box<Statement>),
     /// A directive that is for no statement.
     StandAlone(Directive<Expression>),
-    /// `sections` or `parallel sections`, and its parts in braces, each a [`Statement::Section`].
+    /// `sections` or `parallel sections`, and in braces the items of its parts. The first item
+    /// begins a part, and so does each [`Statement::Section`].
     Sections(Directive<Expression>, Span, Vec<Statement>, Span),
-    /// A part of `sections`: its `section`, which the first part may lack, and its items.
-    Section(Option<Directive<Expression>>, Vec<Statement>),
+    /// `section`, and the first item of the part that it begins.
+    Section(Directive<Expression>, Box<Statement>),
 }
 
 /// The block of a function (C17 6.8.2).

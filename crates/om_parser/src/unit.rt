@@ -2,9 +2,11 @@
 
 ghost use Rattle.std.specs.Prelude.{◌≡◌, ◌⊎◌, [], IfOk, IfErr, length, map, option_map};
 ghost use Rattle.om_lexer.specs.Faults.{no_memory};
-ghost use Rattle.om_lexer.specs.declared.fault.FaultCode.TheVariants.{Syntax, TooDeep};
+ghost use Rattle.om_lexer.specs.declared.fault.FaultCode.TheVariants.{BadClause, Syntax, TooDeep, UnknownDirective};
+ghost use Rattle.om_parser.specs.Faults.{IsBadAtomic};
 ghost use Rattle.om_parser.specs.Formed.{IsUnit};
 ghost use Rattle.om_parser.specs.Limits.{accepted};
+ghost use Rattle.om_parser.specs.LineFaults.{IsRefusedLine};
 ghost use Rattle.om_parser.specs.Sizes.{IsWithinLimits};
 ghost use Rattle.om_parser.specs.Parsing.{IsTreeOf, IsTreeOrMemory, IsLimitPassed};
 ghost use Rattle.om_parser.specs.Reading.{Reads};
@@ -37,16 +39,24 @@ pub const STATEMENT_LIMIT: usize = 1024;
 
 /// The tree of these tokens, the last of which is the end of the source (C17 6.9).
 ///
-/// The grammar is that of declarations of `int` variables and arrays, of prototypes, and of
-/// functions with every statement of C17 6.8 but directives, over sums and assignments.
+/// The grammar is that of declarations of `int` variables and arrays, of prototypes, and of functions
+/// with every statement of C17 6.8 over the expressions of C17 6.5, and with the directives of
+/// OpenMP API 5.2 that `om_pragma` has before or among them.
 /// Refusals:
 /// - S0 at byte 0: no memory.
 /// - S3: no tree of any size has these tokens. Its place is the start of the first token
 ///   that no well-formed unit has there, after the tokens before it. Tokens that lack the
 ///   end of the source are S3 at 4294967295, past every source.
+/// - S5: in a directive line a word stands that is no directive, or no clause, where one must
+///   stand. Its place is that of the word.
+/// - S6: in a directive line the word of a clause stands that the directive does not have, or not
+///   once more, or behind which nothing stands that makes it a clause; its place is that of the
+///   word. Or the statement of an `atomic` has none of its forms (OpenMP API 5.2, 15.8.4); its place
+///   is that of the word `atomic`, of the outermost one where they stand in one another.
 /// - S16: at this token an expression has more than `TOKEN_LIMIT` tokens, parentheses nest
-///   deeper than `NESTING_LIMIT` or blocks deeper than `BLOCK_LIMIT`, or a statement begins round
-///   which more than `STATEMENT_LIMIT` stand. Where a token is both, it is S3.
+///   deeper than `NESTING_LIMIT` (those of a clause count) or blocks deeper than `BLOCK_LIMIT`, or a
+///   statement begins round which more than `STATEMENT_LIMIT` stand (the braces of `sections` are one).
+///   Where a token is both, it is S3.
 pub fn parse(alloc: Global, tokens: &[Token]) -> Result<Unit, SourceFault>
     // What is found is well-formed and has these tokens.
     ensures found { IfOk result (λ unit. IsTreeOf tokens.now (view_unit unit)) }
@@ -57,7 +67,9 @@ pub fn parse(alloc: Global, tokens: &[Token]) -> Result<Unit, SourceFault>
 
     ensures syntax_has_no_tree { IfErr result (λ fault. fault.code ≡ Syntax → (unit : UnitTree) → ¬ IsTreeOf tokens.now unit) }
     ensures too_deep_passes_a_limit { IfErr result (λ fault. fault.code ≡ TooDeep → IsLimitPassed tokens.now fault.at) }
-    ensures no_other_refusal { IfErr result (λ fault. (fault ≡ no_memory) ⊎ (fault.code ≡ Syntax) ⊎ (fault.code ≡ TooDeep)) }
+    ensures unknown_word { IfErr result (λ fault. fault.code ≡ UnknownDirective → IsRefusedLine tokens.now fault) }
+    ensures bad_clause { IfErr result (λ fault. fault.code ≡ BadClause → IsRefusedLine tokens.now fault ⊎ IsBadAtomic tokens.now fault.at) }
+    ensures no_other_refusal { IfErr result (λ fault. (fault ≡ no_memory) ⊎ (fault.code ≡ Syntax) ⊎ (fault.code ≡ TooDeep) ⊎ (fault.code ≡ UnknownDirective) ⊎ (fault.code ≡ BadClause)) }
 {
     unit(alloc, tokens)
 }

@@ -1,6 +1,6 @@
 -- What a block declares is forgotten behind it.
-use Rattle.std.specs.Prelude.{nat_le}
-use Rattle.std.proofs.Common.{◌≡◌, ℕ, ◌+◌, List, [], ◌∷◌, ◌++◌, fold, Option, None, Some, refl, ap, ◌∙◌}
+use Rattle.std.specs.Prelude.{nat_le, if◌then◌else◌}
+use Rattle.std.proofs.Common.{◌≡◌, ℕ, ◌+◌, ◌≤◌, Bool, true, false, arith, List, [], ◌∷◌, ◌++◌, fold, Option, None, Some, refl, ap, ◌∙◌}
 use Rattle.om_lexer.specs.declared.fault.FaultCode.TheVariants as faults
 use Rattle.om_lexer.specs.declared.fault.SourceFault.{SourceFault}
 use Rattle.om_parser.specs.Tree.{DeclaratorTree, ForStartTree, Nothing, StartExpression, StartDeclaration, StatementTree, LocalDeclaration, Block, Empty, Expression, If, IfElse, While, Do, For, Return, Break, Continue, Construct, StandAlone, Sections, Section, StatementsTree, Statement}
@@ -15,7 +15,7 @@ use Rattle.om_scope.specs.Faults.{breach_if, first_of}
 use Rattle.om_scope.specs.Places.{statement_start}
 use Rattle.om_scope.specs.Outcomes.{Refuses}
 use Rattle.om_scope.specs.InScope.{Scope, Scopes, inside, outside, plain, within, declarators_of, shape_of, after_local, after_locals, after_parameter_name, after_parameters}
-use Rattle.om_scope.specs.StatementRules.{after_for_start, after_statement, after_statements, part_breaches, sections_breaches, statement_breaches, statements_breaches}
+use Rattle.om_scope.specs.StatementRules.{after_for_start, after_statement, after_statements, part_breaches, begins_part, parts_behind, sections_breaches, statement_breaches, statements_breaches}
 use Rattle.om_scope.proofs.Firsts.{first_of_left}
 
 -- in the same construct or block still
@@ -42,7 +42,7 @@ statement_within inner region scopes (Continue at semicolon) = (inner, refl)
 statement_within inner region scopes (Construct d s) = (inner, refl)
 statement_within inner region scopes (StandAlone d) = (inner, refl)
 statement_within inner region scopes (Sections d left parts right) = (inner, refl)
-statement_within inner region scopes (Section d items) = (inner, refl)
+statement_within inner region scopes (Section d s) = (inner, refl)
 
 pub statements_within : (inner : Scope) (region : Region) (scopes : Scopes) (ss : List StatementTree) → StaysWithin region scopes (after_statements (within inner region scopes) ss)
 statements_within inner region scopes [] = (inner, refl)
@@ -94,15 +94,22 @@ pub statements_step : (scopes state : Scopes) (flow : Flow) (all : StatementsTre
 unfolding statements_breaches
 statements_step scopes state flow all s rest left whole = left ∙ ap (λ here. here ++ statements_breaches (after_statement state s) flow rest) whole
 
+pub parts_behind_le : (before : ℕ) (s : StatementTree) (index : ℕ) → before ≤ index → parts_behind before s ≤ index + 1
+parts_behind_le before s index le = go (begins_part before s)
+  where
+    go : (b : Bool) → (if b then before + 1 else before) ≤ index + 1
+    go true = omega (arith, le)
+    go false = omega (arith, le)
+
 pub parts_refuse : (scopes : Scopes) (flow : Flow) (before : ℕ) (all : StatementsTree) (s : StatementTree) (rest : StatementsTree) (fault : SourceFault)
     → sections_breaches scopes flow 0 all ≡ sections_breaches scopes flow before (Statement s rest) → Refuses (part_breaches scopes flow before s) fault
     → Refuses (sections_breaches scopes flow 0 all) fault
 unfolding sections_breaches
 parts_refuse scopes flow before all s rest fault left refused other =
-    ap first_of left ∙ first_of_left (part_breaches scopes flow before s) (sections_breaches scopes flow (before + 1) rest) fault (refused other)
+    ap first_of left ∙ first_of_left (part_breaches scopes flow before s) (sections_breaches scopes flow (parts_behind before s) rest) fault (refused other)
 
 pub parts_step : (scopes : Scopes) (flow : Flow) (before : ℕ) (all : StatementsTree) (s : StatementTree) (rest : StatementsTree)
     → sections_breaches scopes flow 0 all ≡ sections_breaches scopes flow before (Statement s rest) → part_breaches scopes flow before s ≡ []
-    → sections_breaches scopes flow 0 all ≡ sections_breaches scopes flow (before + 1) rest
+    → sections_breaches scopes flow 0 all ≡ sections_breaches scopes flow (parts_behind before s) rest
 unfolding sections_breaches
-parts_step scopes flow before all s rest left whole = left ∙ ap (λ here. here ++ sections_breaches scopes flow (before + 1) rest) whole
+parts_step scopes flow before all s rest left whole = left ∙ ap (λ here. here ++ sections_breaches scopes flow (parts_behind before s) rest) whole

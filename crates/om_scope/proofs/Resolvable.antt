@@ -105,7 +105,7 @@ has_statement scopes (Continue at semicolon) whole = cc
 has_statement scopes (Construct d s) whole = cc
 has_statement scopes (StandAlone d) whole = cc
 has_statement scopes (Sections d left parts right) whole = cc
-has_statement scopes (Section d items) whole = cc
+has_statement scopes (Section d s) whole = cc
 
 module _ {X Y : Type 0} (breaches : Scopes → X → List SourceFault) (resolved : Scopes → X → Option (List Y)) (after : Scopes → X → Scopes)
     (has_one : (scopes : Scopes) (x : X) → breaches scopes x ≡ [] → Has (resolved scopes x)) where

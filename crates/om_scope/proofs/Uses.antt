@@ -180,7 +180,7 @@ statement_uses n scopes (Continue at semicolon) xs h e = cc
 statement_uses n scopes (Construct d s) xs h e = cc
 statement_uses n scopes (StandAlone d) xs h e = cc
 statement_uses n scopes (Sections d left parts right) xs h e = cc
-statement_uses n scopes (Section d items) xs h e = cc
+statement_uses n scopes (Section d s) xs h e = cc
 
 statements_use : (n : ℕ) (scopes : Scopes) (ss : List StatementTree) (xs : List ResolvedStatementTree) → Below n scopes → resolved_along resolved_statement after_statement scopes ss ≡ Some xs → All (λ t. StatementUsesVariables n t) xs
 statements_use n scopes [] xs h e = let s : [] ≡ xs = cc in subst (λ ys. All (λ t. StatementUsesVariables n t) ys) s (All-nil (λ t. StatementUsesVariables n t))

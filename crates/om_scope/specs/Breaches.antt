@@ -112,7 +112,7 @@ statement_breaches scopes (Continue at semicolon) = untaken_breaches (statement_
 statement_breaches scopes (Construct d s) = untaken_breaches (statement_start (Construct d s))
 statement_breaches scopes (StandAlone d) = untaken_breaches (statement_start (StandAlone d))
 statement_breaches scopes (Sections d left parts right) = untaken_breaches (statement_start (Sections d left parts right))
-statement_breaches scopes (Section d items) = untaken_breaches (statement_start (Section d items))
+statement_breaches scopes (Section d s) = untaken_breaches (statement_start (Section d s))
 
 -- S8, S9, S11 at the name, S10 at the initializer
 unfoldable pub scalar_breaches : Scopes → DeclaratorTree → List SourceFault

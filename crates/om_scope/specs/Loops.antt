@@ -258,4 +258,4 @@ loop_in (Continue at semicolon) = None
 loop_in (Construct d s) = None
 loop_in (StandAlone d) = None
 loop_in (Sections d left parts right) = None
-loop_in (Section d items) = None
+loop_in (Section d s) = None

@@ -1,5 +1,5 @@
 -- Where a part of a tree begins: the byte of its first token.
-use Rattle.std.specs.Prelude.{ℕ, Some, None}
+use Rattle.std.specs.Prelude.{ℕ}
 use Rattle.om_parser.specs.declared.tree.ResultType.{ResultType}
 use Rattle.om_parser.specs.declared.tree.ResultType.TheVariants as results
 use Rattle.om_parser.specs.Tree.{ExpressionTree, Name, Constant, Text, Paren, Index, Call, Prefix, Postfix, Binary, Conditional, Assign, StatementTree, LocalDeclaration, Block, Empty, Expression, If, IfElse, While, Do, For, Return, Break, Continue, Construct, StandAlone, Sections, Section, HeadTree, ItemTree, Declaration, Prototype, Function}
@@ -33,8 +33,7 @@ statement_start (Continue at semicolon) = at.start
 statement_start (Construct d s) = d.hash.start
 statement_start (StandAlone d) = d.hash.start
 statement_start (Sections d left parts right) = d.hash.start
-statement_start (Section (Some d) items) = d.hash.start
-statement_start (Section None items) = 0
+statement_start (Section d s) = d.hash.start
 
 abbrev pub result_start : ResultType → ℕ
 result_start (results.Int at) = at.start

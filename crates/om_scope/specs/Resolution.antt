@@ -98,7 +98,7 @@ resolved_statement scopes (Continue at semicolon) = None
 resolved_statement scopes (Construct d s) = None
 resolved_statement scopes (StandAlone d) = None
 resolved_statement scopes (Sections d left parts right) = None
-resolved_statement scopes (Section d items) = None
+resolved_statement scopes (Section d s) = None
 
 -- the resolutions of parts in a row, each in the scopes behind those before it
 abbrev pub resolved_along : {X Y : Type 0} → (Scopes → X → Option (List Y)) → (Scopes → X → Scopes) → Scopes → List X → Option (List Y)

@@ -1,5 +1,5 @@
 -- The rules of declarations and statements, by the breaches that a tree has of them, in the order of the text.
-use Rattle.std.specs.Prelude.{ℕ, ◌+◌, List, [], ◌∷◌, ◌++◌, Option, None, Some, Bool, true, false, nat_eq, nat_le, not, if◌then◌else◌, is_some, fold}
+use Rattle.std.specs.Prelude.{ℕ, ◌+◌, List, [], ◌∷◌, ◌++◌, Option, None, Some, Bool, true, false, nat_eq, nat_le, not, ◌&&◌, ◌||◌, if◌then◌else◌, is_some, fold}
 use Rattle.om_lexer.specs.declared.fault.FaultCode.TheVariants as faults
 use Rattle.om_lexer.specs.declared.fault.SourceFault.{SourceFault}
 use Rattle.om_parser.specs.declared.tree.ArrayLength.{ArrayLength}
@@ -127,10 +127,23 @@ after_statement scopes (Continue at semicolon) = scopes
 after_statement scopes (Construct d s) = scopes
 after_statement scopes (StandAlone d) = scopes
 after_statement scopes (Sections d left parts right) = scopes
-after_statement scopes (Section d items) = scopes
+after_statement scopes (Section d s) = scopes
 
 abbrev pub after_statements : Scopes → List StatementTree → Scopes
 after_statements scopes statements = fold after_statement scopes statements
+
+-- `section` stands before it
+abbrev pub has_section : StatementTree → Bool
+has_section (Section d s) = true
+has_section _ = false
+
+-- an item of `sections`, behind so many parts, begins a part: the first one, and each that has its `section`
+abbrev pub begins_part : ℕ → StatementTree → Bool
+begins_part before s = nat_eq before 0 || has_section s
+
+-- how many parts have begun behind it
+abbrev pub parts_behind : ℕ → StatementTree → ℕ
+parts_behind before s = if begins_part before s then before + 1 else before
 
 -- A part of a statement is a block of its own (C17 6.8.4p3, 6.8.5p5).
 unfoldable mutual
@@ -161,7 +174,7 @@ unfoldable mutual
   statement_breaches scopes flow (StandAlone d) = directive_breaches scopes flow d ++ flush_breaches scopes d.name
   statement_breaches scopes flow (Sections d left parts right) =
       directive_breaches scopes flow d ++ sections_breaches (in_construct d scopes) (constructing d.name flow) 0 parts
-  statement_breaches scopes flow (Section d items) = statements_breaches (inside scopes) flow items
+  statement_breaches scopes flow (Section d s) = statement_breaches (inside scopes) flow s
 
   -- of the items of a block, in their order
   pub statements_breaches : Scopes → Flow → StatementsTree → List SourceFault
@@ -185,15 +198,15 @@ unfoldable mutual
   body_breaches scopes flow found (Construct d s) = []
   body_breaches scopes flow found (StandAlone d) = []
   body_breaches scopes flow found (Sections d left parts right) = []
-  body_breaches scopes flow found (Section d items) = []
+  body_breaches scopes flow found (Section d s) = []
 
-  -- of the parts of `sections`, behind so many others; S11 at the first token of one too many
+  -- of the items of `sections`, behind so many parts; S11 at the first token of a part too many
   pub sections_breaches : Scopes → Flow → ℕ → StatementsTree → List SourceFault
   sections_breaches scopes flow before NoStatements = []
   sections_breaches scopes flow before (Statement s rest) =
-      breach_if (nat_le SECTION_LIMIT before) faults.TooMany (statement_start s)
+      breach_if (begins_part before s && nat_le SECTION_LIMIT before) faults.TooMany (statement_start s)
       ++ statement_breaches (inside scopes) flow s
-      ++ sections_breaches scopes flow (before + 1) rest
+      ++ sections_breaches scopes flow (parts_behind before s) rest
 
 -- of a construct that is for a loop, which is this one
 abbrev pub loop_construct_breaches : Scopes → Flow → Directive ExpressionTree → Option Loop → StatementTree → List SourceFault
@@ -221,7 +234,7 @@ abbrev pub sections_construct_breaches : Scopes → Flow → Directive Expressio
 sections_construct_breaches scopes flow d parts = directive_breaches scopes flow d ++ sections_breaches (in_construct d scopes) (constructing d.name flow) 0 parts
 
 abbrev pub part_breaches : Scopes → Flow → ℕ → StatementTree → List SourceFault
-part_breaches scopes flow before s = breach_if (nat_le SECTION_LIMIT before) faults.TooMany (statement_start s) ++ statement_breaches (inside scopes) flow s
+part_breaches scopes flow before s = breach_if (begins_part before s && nat_le SECTION_LIMIT before) faults.TooMany (statement_start s) ++ statement_breaches (inside scopes) flow s
 
 abbrev pub stand_alone_breaches : Scopes → Flow → Directive ExpressionTree → List SourceFault
 stand_alone_breaches scopes flow d = directive_breaches scopes flow d ++ flush_breaches scopes d.name

@@ -61,8 +61,7 @@ pub fn statement_start(statement: &Statement) -> u32
         Statement::Construct(directive, _) => directive.hash.start,
         Statement::StandAlone(directive) => directive.hash.start,
         Statement::Sections(directive, _, _, _) => directive.hash.start,
-        Statement::Section(Some(directive), _) => directive.hash.start,
-        Statement::Section(None, _) => 0,
+        Statement::Section(directive, _) => directive.hash.start,
     }
 }
 

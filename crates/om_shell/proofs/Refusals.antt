@@ -1,10 +1,12 @@
 -- Which pass refuses a source.
 use Rattle.std.proofs.Common.{◌≡◌, ◌≢◌, ◌⊎◌, inl, inr, ℕ, List, Some, Result, Ok, Err, IfErr}
-use Rattle.om_lexer.specs.declared.fault.FaultCode.TheVariants.{Syntax, TooDeep}
+use Rattle.om_lexer.specs.declared.fault.FaultCode.TheVariants.{Syntax, TooDeep, UnknownDirective, BadClause}
 use Rattle.om_lexer.specs.declared.fault.SourceFault.{SourceFault}
 use Rattle.om_lexer.specs.declared.token.Token.{Token}
 use Rattle.om_lexer.specs.Faults.{no_memory}
 use Rattle.om_lexer.specs.Sources.{IsTokens, IsRefusal}
+use Rattle.om_parser.specs.Faults.{IsBadAtomic}
+use Rattle.om_parser.specs.LineFaults.{IsRefusedLine}
 use Rattle.om_parser.specs.Parsing.{IsTreeOf, IsLimitPassed}
 use Rattle.om_parser.specs.Tree.{UnitTree}
 use Rattle.om_scope.specs.Breaches.{breaches_of, first_of}
@@ -22,11 +24,16 @@ lexer_refuses source fault (inr p) other = by_lexer p
 pub parser_refuses : {X : Type 0} (source : List ℕ) (tokens : List Token) (r : Result X SourceFault) → IsTokens source tokens
     → IfErr r (λ fault. fault.code ≡ Syntax → (tree : UnitTree) → ¬ IsTreeOf tokens tree)
     → IfErr r (λ fault. fault.code ≡ TooDeep → IsLimitPassed tokens fault.at)
-    → IfErr r (λ fault. (fault ≡ no_memory) ⊎ (fault.code ≡ Syntax) ⊎ (fault.code ≡ TooDeep))
+    → IfErr r (λ fault. fault.code ≡ UnknownDirective → IsRefusedLine tokens fault)
+    → IfErr r (λ fault. fault.code ≡ BadClause → IsRefusedLine tokens fault ⊎ IsBadAtomic tokens fault.at)
+    → IfErr r (λ fault. (fault ≡ no_memory) ⊎ (fault.code ≡ Syntax) ⊎ (fault.code ≡ TooDeep) ⊎ (fault.code ≡ UnknownDirective) ⊎ (fault.code ≡ BadClause))
     → IfErr r (Refuses source)
-parser_refuses source tokens (Ok x) lexed syntax deep other = tt
-parser_refuses source tokens (Err fault) lexed syntax deep other =
-    λ memory. elim other [ inl none ↦ absurd (memory none) | inr rest ↦ elim rest [ inl e ↦ by_parser tokens lexed (inl (e, syntax e)) | inr e ↦ by_parser tokens lexed (inr (e, deep e)) ] ]
+parser_refuses source tokens (Ok x) lexed syntax deep unknown bad other = tt
+parser_refuses source tokens (Err fault) lexed syntax deep unknown bad (inl none) = λ memory. absurd (memory none)
+parser_refuses source tokens (Err fault) lexed syntax deep unknown bad (inr (inl e)) = λ memory. by_parser tokens lexed (inl (e, syntax e))
+parser_refuses source tokens (Err fault) lexed syntax deep unknown bad (inr (inr (inl e))) = λ memory. by_parser tokens lexed (inr (inl (e, deep e)))
+parser_refuses source tokens (Err fault) lexed syntax deep unknown bad (inr (inr (inr (inl e)))) = λ memory. by_parser tokens lexed (inr (inr (inl (e, unknown e))))
+parser_refuses source tokens (Err fault) lexed syntax deep unknown bad (inr (inr (inr (inr e)))) = λ memory. by_parser tokens lexed (inr (inr (inr (e, bad e))))
 
 pub names_refuse : {X : Type 0} (source : List ℕ) (tree : UnitTree) (r : Result X SourceFault) → IsTreeOfSource source tree
     → IfErr r (λ fault. fault ≢ no_memory → first_of (breaches_of tree) ≡ Some fault) → IfErr r (Refuses source)

@@ -1,10 +1,12 @@
 -- What a source comes to: its program, or its refusal.
 use Rattle.std.specs.Prelude.{◌≡◌, ◌⊎◌, ℕ, List, [], Some, Result, Ok, Err}
 use Rattle.om_code.specs.declared.raw.Raw.{Raw}
-use Rattle.om_lexer.specs.declared.fault.FaultCode.TheVariants.{Syntax, TooDeep}
+use Rattle.om_lexer.specs.declared.fault.FaultCode.TheVariants.{Syntax, TooDeep, UnknownDirective, BadClause}
 use Rattle.om_lexer.specs.declared.fault.SourceFault.{SourceFault}
 use Rattle.om_lexer.specs.declared.token.Token.{Token}
 use Rattle.om_lexer.specs.Sources.{IsTokens, IsFault}
+use Rattle.om_parser.specs.Faults.{IsBadAtomic}
+use Rattle.om_parser.specs.LineFaults.{IsRefusedLine}
 use Rattle.om_parser.specs.Sizes.{IsWithinLimits}
 use Rattle.om_parser.specs.Parsing.{IsTreeOf, IsLimitPassed}
 use Rattle.om_parser.specs.Tree.{UnitTree}
@@ -35,9 +37,12 @@ pub record IsProgramOf (source : List ℕ) (program : Raw) : Type 0 where
   pub no_breach : limit_breaches resolved ≡ []
   pub code : IsCodeOf resolved program
 
--- no tree has these tokens, or a limit on expressions is passed at this place
+-- no tree has these tokens, a limit is passed at this place, or a directive is refused there
 abbrev pub IsSyntaxFault : List Token → SourceFault → Type 0
-IsSyntaxFault tokens fault = ((fault.code ≡ Syntax) × ((tree : UnitTree) → ¬ IsTreeOf tokens tree)) ⊎ ((fault.code ≡ TooDeep) × IsLimitPassed tokens fault.at)
+IsSyntaxFault tokens fault = ((fault.code ≡ Syntax) × ((tree : UnitTree) → ¬ IsTreeOf tokens tree))
+    ⊎ ((fault.code ≡ TooDeep) × IsLimitPassed tokens fault.at)
+    ⊎ ((fault.code ≡ UnknownDirective) × IsRefusedLine tokens fault)
+    ⊎ ((fault.code ≡ BadClause) × (IsRefusedLine tokens fault ⊎ IsBadAtomic tokens fault.at))
 
 -- why a source is refused: the passes run in the order lexer, parser, names, code, and the first that refuses answers
 pub data IsRefused (source : List ℕ) (fault : SourceFault) : Type 0 where

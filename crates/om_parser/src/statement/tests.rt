@@ -58,7 +58,16 @@ fn show_statement(text: &mut String, statement: &Statement) -> Result<(), AllocE
         Statement::Return(_, None, _) => text.push_str("return;"),
         Statement::Break(..) => text.push_str("break;"),
         Statement::Continue(..) => text.push_str("continue;"),
-        _ => text.push_str("directive"),
+        Statement::Construct(_, body) => show_around(text, "(# ", body),
+        Statement::StandAlone(_) => text.push_str("#;"),
+        Statement::Section(_, first) => show_around(text, "(section ", first),
+        Statement::Sections(_, _, items, _) => {
+            text.push_str("#{")?;
+            for item in items {
+                show_statement(text, item)?;
+            }
+            text.push_str("}")
+        }
     }
 }
 
@@ -244,5 +253,225 @@ fn brackets_in_the_parentheses_of_a_statement(rt: HostRuntime) -> Result<(), Fai
     assert_eq!(rt; body(alloc, over.as_str())?.as_str(), "S16 at 143");
     let step = format!(in alloc; "for(;;{open}(1){close});")?;
     assert_eq!(rt; body(alloc, step.as_str())?.as_str(), "S16 at 146");
+    Ok(())
+}
+
+/// Statements with directives, and what they are shown as.
+const DIRECTIVES: [(&str, &str); 18] = [
+    ("\n#pragma omp parallel\n;", "(# ;)"),
+    (
+        "\n#pragma omp parallel num_threads(x = 2) private(y)\n{ }",
+        "(# {})",
+    ),
+    (
+        "\n#pragma omp parallel\n#pragma omp for\nfor (;;) ;",
+        "(# (# (for ;)))",
+    ),
+    (
+        "\n#pragma omp parallel for schedule(static, 2)\nfor (;;) ;",
+        "(# (for ;))",
+    ),
+    ("\n#pragma omp masked filter(1)\nx;", "(# e;)"),
+    ("\n#pragma omp critical (a)\nx;", "(# e;)"),
+    ("\n#pragma omp barrier\n#pragma omp flush(x)\n", "#;#;"),
+    ("{\n#pragma omp taskwait\n}", "{#;}"),
+    ("\n#pragma omp sections\n{ ; }", "#{;}"),
+    (
+        "\n#pragma omp sections\n{ ;\n#pragma omp section\n; x; }",
+        "#{;(section ;)e;}",
+    ),
+    (
+        "\n#pragma omp parallel sections\n{\n#pragma omp section\n{ }\n#pragma omp section\n#pragma omp barrier\n}",
+        "#{(section {})(section #;)}",
+    ),
+    // an `else` belongs to the nearest `if`, which no directive hides
+    ("if (1)\n#pragma omp single\n; else ;", "(if (# ;) else ;)"),
+    (
+        "if (1)\n#pragma omp single\nif (2) ; else ;",
+        "(if (# (if ; else ;)))",
+    ),
+    (
+        "if (1)\n#pragma omp single\nif (2) ; else ; else ;",
+        "(if (# (if ; else ;)) else ;)",
+    ),
+    // the forms of an `atomic`
+    ("\n#pragma omp atomic\nx++;", "(# e;)"),
+    ("\n#pragma omp atomic update\nx = 1 + x;", "(# e;)"),
+    ("\n#pragma omp atomic read\nx = a[1];", "(# e;)"),
+    ("\n#pragma omp atomic write seq_cst\na[1] = x;", "(# e;)"),
+];
+
+#[test]
+fn directives(rt: HostRuntime) -> Result<(), Fail> {
+    let alloc = rt.alloc();
+    for (source, wanted) in DIRECTIVES {
+        assert_eq!(rt; body(alloc, source)?.as_str(), wanted, "{source}");
+    }
+    Ok(())
+}
+
+/// Directives with a statement behind them.
+const CONSTRUCTS: [&str; 9] = [
+    "parallel",
+    "for",
+    "single",
+    "parallel for",
+    "masked",
+    "master",
+    "critical",
+    "task",
+    "parallel private(x)",
+];
+
+/// Statements, each of which may stand behind them.
+const STATEMENTS: [&str; 14] = [
+    ";",
+    "{ }",
+    "{ int x; }",
+    "x = 1;",
+    "if (1) ;",
+    "if (1) ; else ;",
+    "while (1) ;",
+    "do ; while (1);",
+    "for (;;) ;",
+    "return;",
+    "break;",
+    "continue;",
+    "\n#pragma omp single\n;",
+    "\n#pragma omp sections\n{ ; }",
+];
+
+#[test]
+fn every_statement_in_every_construct(rt: HostRuntime) -> Result<(), Fail> {
+    let alloc = rt.alloc();
+    for construct in CONSTRUCTS {
+        for statement in STATEMENTS {
+            let source = format!(in alloc;
+                "void f(void){{\n#pragma omp {construct}\n{statement}}}"
+            )?;
+            assert_eq!(rt; refusal(alloc, source.as_bytes())?.as_str(), "", "{source}");
+        }
+    }
+    Ok(())
+}
+
+/// What stands before a fault and from it on, and its number.
+const REFUSED: [(&str, &str, u32); 34] = [
+    // a directive alone, or `section`, where a statement must stand
+    ("if (1)\n#pragma omp ", "barrier\n", 3),
+    ("if (1) ; else\n#pragma omp ", "barrier\n", 3),
+    ("while (1)\n#pragma omp ", "flush\n", 3),
+    ("do\n#pragma omp ", "taskyield\nwhile (1);", 3),
+    ("for (;;)\n#pragma omp ", "barrier\n", 3),
+    ("\n#pragma omp parallel\n#pragma omp ", "taskwait\n", 3),
+    ("if (1)\n#pragma omp ", "barrier nowait\n", 3),
+    ("\n#pragma omp ", "section\n;", 3),
+    ("if (1)\n#pragma omp ", "section\n;", 3),
+    // no statement behind a directive
+    ("\n#pragma omp parallel\n", "}", 3),
+    ("\n#pragma omp parallel\n", "int x;", 3),
+    ("\n#pragma omp parallel\n", "else ;", 3),
+    // parts of `sections`
+    ("\n#pragma omp sections\n", ";", 3),
+    ("\n#pragma omp sections\n{ ", "}", 3),
+    ("\n#pragma omp sections\n{ ", "int x; }", 3),
+    ("\n#pragma omp sections\n{\n#pragma omp section\n", "}", 3),
+    (
+        "\n#pragma omp sections\n{\n#pragma omp section\n#pragma omp ",
+        "section\n; }",
+        3,
+    ),
+    (
+        "\n#pragma omp sections\n{ {\n#pragma omp ",
+        "section\n; } }",
+        3,
+    ),
+    // words that no directive has, and clauses that this one does not
+    ("\n#pragma omp ", "target\n;", 5),
+    ("if (1)\n#pragma omp ", "target\n;", 5),
+    ("\n#pragma omp parallel ", "if(1)\n;", 5),
+    ("\n#pragma omp for ", "num_threads(2)\n;", 6),
+    (
+        "\n#pragma omp parallel num_threads(2) ",
+        "num_threads(3)\n;",
+        6,
+    ),
+    ("\n#pragma omp ", "3\n;", 3),
+    // the expression of a clause, which is lower than what stands behind it
+    ("\n#pragma omp parallel num_threads(1 +", ")\n;", 3),
+    ("\n#pragma omp parallel num_threads(1 ", "2) nowait\n;", 3),
+    // an `atomic` of no form: the outermost
+    ("\n#pragma omp ", "atomic\n{ x++; }", 6),
+    ("\n#pragma omp ", "atomic\nx %= 2;", 6),
+    ("\n#pragma omp ", "atomic read\nx++;", 6),
+    ("\n#pragma omp ", "atomic\n#pragma omp atomic\nx++;", 6),
+    ("\n#pragma omp ", "atomic\n#pragma omp atomic\nx = 1;", 6),
+    ("\n#pragma omp ", "atomic\nwhile (1) { break; }", 6),
+    ("\n#pragma omp atomic\n{ x = ", "; }", 3),
+    ("\n#pragma omp atomic\n", "int x;", 3),
+];
+
+#[test]
+fn refused_directives(rt: HostRuntime) -> Result<(), Fail> {
+    let alloc = rt.alloc();
+    for (before, rest, number) in REFUSED {
+        let source = format!(in alloc; "void f(void){{{before}{rest}}}")?;
+        let at = before.len().saturating_add(13);
+        let wanted = format!(in alloc; "S{number} at {at}")?;
+        assert_eq!(rt;
+            refusal(alloc, source.as_bytes())?.as_str(),
+            wanted.as_str(),
+            "{source}"
+        );
+    }
+    Ok(())
+}
+
+/// Statements round directives: how often what stands round them, the directive, what closes, and
+/// the refusal.
+const DEEP_DIRECTIVES: [(u32, &str, &str, &str, &str); 9] = [
+    (1022, "if(1)", "\n#pragma omp parallel\n;", "", ""),
+    (
+        1023,
+        "if(1)",
+        "\n#pragma omp parallel\n;",
+        "",
+        "S16 at 5150",
+    ),
+    (1024, "if(1)", "\n#pragma omp barrier\n", "", "S16 at 5134"),
+    (1023, "if(1)", "{\n#pragma omp barrier\n}", "", ""),
+    (
+        1023,
+        "if(1)",
+        "{\n#pragma omp parallel\n;}",
+        "",
+        "S16 at 5130",
+    ),
+    (1023, "if(1)", "{\n#pragma omp other\n;}", "", "S5 at 5142"),
+    (1021, "if(1)", "\n#pragma omp sections\n{;}", "", ""),
+    (
+        1022,
+        "if(1)",
+        "\n#pragma omp sections\n{;}",
+        "",
+        "S16 at 5146",
+    ),
+    (
+        1023,
+        "if(1)",
+        "\n#pragma omp sections\n{;}",
+        "",
+        "S16 at 5150",
+    ),
+];
+
+#[test]
+fn directives_at_the_limits(rt: HostRuntime) -> Result<(), Fail> {
+    let alloc = rt.alloc();
+    for (count, open, middle, close, wanted) in DEEP_DIRECTIVES {
+        let source = repeated(alloc, count, open, middle, close)?;
+        let text = refusal(alloc, source.as_bytes())?;
+        assert_eq!(rt; text.as_str(), wanted, "{count} {middle}");
+    }
     Ok(())
 }

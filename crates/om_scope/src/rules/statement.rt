@@ -1,6 +1,6 @@
 //! The rules of statements.
 
-ghost use Rattle.std.specs.Prelude.{◌≡◌, ◌++◌, OnOk, Some, map, option_map};
+ghost use Rattle.std.specs.Prelude.{◌≡◌, ◌++◌, ◌<◌, OnOk, Some, map, option_map};
 ghost use Rattle.om_parser.specs.Tree.{statements};
 ghost use Rattle.om_parser.specs.View.{view_expression, view_for_head, view_directive, view_for_start, view_statement};
 ghost use Rattle.om_scope.specs.Checks.{Checks, ChecksExactly};
@@ -11,7 +11,7 @@ ghost use Rattle.om_scope.specs.Loops.{loop_in};
 ghost use Rattle.om_scope.specs.Outcomes.{Refuses};
 ghost use Rattle.om_scope.specs.Places.{statement_start};
 ghost use Rattle.om_scope.specs.InScope.{inside};
-ghost use Rattle.om_scope.specs.StatementRules.{after_for_start, after_statement, for_start_breaches, for_turn_breaches, after_statements, for_breaches, looping, body_breaches, continuing, found_breaches, in_loop, loop_construct_breaches, jump_breaches, construct_breaches, plain_construct_breaches, part_breaches, sections_breaches, sections_construct_breaches, stand_alone_breaches, perhaps_breaches, return_breaches, statement_breaches, statements_breaches};
+ghost use Rattle.om_scope.specs.StatementRules.{after_for_start, after_statement, for_start_breaches, for_turn_breaches, after_statements, for_breaches, looping, body_breaches, continuing, found_breaches, in_loop, loop_construct_breaches, jump_breaches, construct_breaches, plain_construct_breaches, part_breaches, begins_part, has_section, parts_behind, sections_breaches, sections_construct_breaches, stand_alone_breaches, perhaps_breaches, return_breaches, statement_breaches, statements_breaches};
 
 use crate::rules::bounds::{check_bounds, enter_loop};
 use crate::rules::canonical::{Loop, loop_in};
@@ -206,7 +206,7 @@ fn check_statement(
         Statement::Sections(directive, _, parts, _) => {
             check_sections(alloc, symbols, flow, directive, parts.as_slice())
         }
-        Statement::Section(_, items) => check_block(alloc, symbols, flow, items.as_slice()),
+        Statement::Section(_, first) => check_body(alloc, symbols, flow, first),
     }
 }
 
@@ -428,7 +428,50 @@ fn check_sections(
     Ok(())
 }
 
-/// The parts of `sections`.
+/// Whether an item of `sections`, behind so many parts, begins a part.
+fn begins_part(before: usize, item: &Statement) -> bool
+    ensures { result ≡ begins_part before (view_statement item.now) }
+{
+    before == 0 || has_section(item)
+}
+
+/// Whether `section` stands before an item.
+fn has_section(item: &Statement) -> bool
+    ensures { result ≡ has_section (view_statement item.now) }
+{
+    match item {
+        Statement::Declaration(_) => false,
+        Statement::Block(..) => false,
+        Statement::Empty(_) => false,
+        Statement::Expression(..) => false,
+        Statement::If(..) => false,
+        Statement::IfElse(..) => false,
+        Statement::While(..) => false,
+        Statement::Do(..) => false,
+        Statement::For(..) => false,
+        Statement::Return(..) => false,
+        Statement::Break(..) => false,
+        Statement::Continue(..) => false,
+        Statement::Construct(..) => false,
+        Statement::StandAlone(_) => false,
+        Statement::Sections(..) => false,
+        Statement::Section(..) => true,
+    }
+}
+
+/// How many parts have begun behind an item.
+fn parts_behind(before: usize, item: &Statement) -> usize
+    requires { before < 18446744073709551615 }
+    ensures { result ≡ parts_behind before (view_statement item.now) }
+{
+    if begins_part(before, item) {
+        before + 1
+    } else {
+        before
+    }
+}
+
+/// The items of `sections`.
 #[tactic(auto, unfolding(crate::specs::StatementRules::sections_breaches))]
 #[cycle(statement)]
 fn check_parts(
@@ -443,12 +486,12 @@ fn check_parts(
     let mut before = 0;
     for part in parts {
         check_part(alloc, symbols, flow, before, part)?;
-        before += 1;
+        before = parts_behind(before, part);
     }
     Ok(())
 }
 
-/// A part of `sections` behind so many others: S11.
+/// An item of `sections` behind so many parts: S11 where it begins one too many.
 #[tactic(auto, using(crate::proofs::Firsts::first_of_left))]
 #[cycle(statement)]
 fn check_part(
@@ -462,7 +505,7 @@ fn check_part(
     ensures in_scope { OnOk result (symbols.new ≡ symbols.old) }
 {
     refuse_if(
-        SECTION_LIMIT <= before,
+        begins_part(before, part) && SECTION_LIMIT <= before,
         FaultCode::TooMany,
         statement_start(part),
     )?;

@@ -1,4 +1,4 @@
-use Rattle.om_parser.proofs.Promises.{is_found, is_within, is_only, is_syntax, is_too_deep, is_no_other}
+use Rattle.om_parser.proofs.Promises.{is_found, is_within, is_only, is_syntax, is_too_deep, is_unknown, is_bad_clause, is_no_other}
 use Rattle.om_parser.proofs.unit.parse.Goals as goal
 
 pub returns-clause-found : goal.returns-clause-found
@@ -15,6 +15,12 @@ returns-clause-syntax_has_no_tree c = is_syntax c.args.tokens.now c.unit.result 
 
 pub returns-clause-too_deep_passes_a_limit : goal.returns-clause-too_deep_passes_a_limit
 returns-clause-too_deep_passes_a_limit c = is_too_deep c.args.tokens.now c.unit.result c.unit.ensures
+
+pub returns-clause-unknown_word : goal.returns-clause-unknown_word
+returns-clause-unknown_word c = is_unknown c.args.tokens.now c.unit.result c.unit.ensures
+
+pub returns-clause-bad_clause : goal.returns-clause-bad_clause
+returns-clause-bad_clause c = is_bad_clause c.args.tokens.now c.unit.result c.unit.ensures
 
 pub returns-clause-no_other_refusal : goal.returns-clause-no_other_refusal
 returns-clause-no_other_refusal c = is_no_other c.args.tokens.now c.unit.result c.unit.ensures

@@ -3,7 +3,7 @@ use Rattle.std.proofs.lemmas.Result.{err_from_is_err_and}
 use Rattle.om_parser.specs.View.{view_for_start, view_statement}
 use Rattle.om_scope.specs.InScope.{inside, outside}
 use Rattle.om_scope.specs.StatementRules.{after_for_start, after_statement, after_statements}
-use Rattle.om_scope.proofs.Blocks.{block_outside, body_outside, construct_outside, for_outside, parts_refuse, parts_step, statements_refuse, statements_step}
+use Rattle.om_scope.proofs.Blocks.{block_outside, body_outside, construct_outside, for_outside, parts_behind_le, parts_refuse, parts_step, statements_refuse, statements_step}
 use Rattle.om_scope.proofs.Items.{drop-item}
 use Rattle.om_scope.proofs.rules.statement.+statement.Goals as goal
 
@@ -57,7 +57,4 @@ check_parts-loop-part-preserved t c =
     let left = rw here at c.loop-part.invariant in
     let one = c.in_ok-check_part.ensures in
     let whole = rw left.1 at one.checked in
-    (parts_step _ _ _ _ _ _ left.0 whole, one.in_scope ∙ left.1, add-le left.2)
-  where
-    add-le : {a b : ℕ} → a ≤ b → a + 1 ≤ b + 1
-    add-le le = omega (arith, le)
+    rw c.parts_behind-before.ensures (parts_step _ _ _ _ _ _ left.0 whole, one.in_scope ∙ left.1, parts_behind_le _ _ _ left.2)

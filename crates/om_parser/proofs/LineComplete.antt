@@ -1,0 +1,96 @@
+-- What a directive line spells is read again, within the limits.
+use Rattle.std.proofs.Common.{◌≡◌, ◌+◌, ◌-◌, ◌≤◌, List, [], ◌∷◌, ◌++◌, Option, Some, None, Ok, Err, refl, false, ap, subst, ◌∙◌, arith, inl, inr}
+use Rattle.std.specs.Prelude.{option_to_list}
+use Rattle.std.proofs.lemmas.List.{append-nil}
+use Rattle.om_lexer.specs.declared.fault.FaultCode.{FaultCode}
+use Rattle.om_lexer.specs.declared.fault.FaultCode.TheVariants as codes
+use Rattle.om_lexer.specs.declared.fault.SourceFault.{SourceFault}
+use Rattle.om_lexer.specs.declared.token.Token.{Token}
+use Rattle.om_lexer.specs.declared.token.TokenKind.TheVariants as kinds
+use Rattle.om_pragma.specs.declared.tree.Directive.{Directive}
+use Rattle.om_pragma.specs.Expressions.{first_expression, map_directive, IsClosed}
+use Rattle.om_pragma.specs.Reading.{directive_at}
+use Rattle.om_pragma.specs.Spelling.{directive_spelling}
+use Rattle.om_pragma.proofs.Directives.{directive_again}
+use Rattle.om_pragma.proofs.Mapping.{mapped_spelling, mapped_directive}
+use Rattle.om_parser.specs.ExpressionReading.{whole_at}
+use Rattle.om_parser.specs.Formed.{IsExpression, IsLine}
+use Rattle.om_parser.specs.Limits.{Limits, nesting}
+use Rattle.om_parser.specs.LineReading.{run_of, is_syntax, in_run, clause_value, all_of, no_value, with_value, line_at}
+use Rattle.om_parser.specs.Reading.{Outcome}
+use Rattle.om_parser.specs.Sizes.{most, extent, line_longest, line_nesting}
+use Rattle.om_parser.specs.Spelling.{token, expression_spelling}
+use Rattle.om_parser.specs.Tree.{ExpressionTree}
+use Rattle.om_parser.proofs.Again.{IsAnswer, bind_answer}
+use Rattle.om_parser.proofs.Outcomes.{ok, some}
+use Rattle.om_parser.proofs.ExpressionComplete.{whole_again}
+use Rattle.om_parser.proofs.LineParts.{Each, first_mapped, mapped_twice, formed_value, only_first, mapped_itself}
+use Rattle.om_parser.proofs.LineRuns.{run_again}
+use Rattle.om_parser.proofs.LineTokens.{expression_closed, before_end, before_end_endless, end_last}
+
+-- the limits that a line keeps
+pub record KeepsLine (l : Limits) (d : Directive ExpressionTree) : Type 0 where
+  pub nested : line_nesting d ≤ l.nested
+  pub long : line_longest d ≤ l.tokens
+
+not_syntax : (code : FaultCode) → (code ≡ codes.Syntax → ⊥) → is_syntax code ≡ false
+not_syntax codes.Syntax other = absurd (other refl)
+not_syntax _ other = refl
+
+-- another fault than that of syntax stays as it is
+in_run_other : (run es : List Token) (f : SourceFault) → (f.code ≡ codes.Syntax → ⊥) → in_run run es f ≡ f
+in_run_other run es f other = rw (not_syntax f.code other) refl
+
+-- the expression of a clause is read again
+value_again : (l : Limits) → 1 ≤ l.nested → (run : List Token) (e : ExpressionTree) → IsExpression e → IsAnswer ((nesting e ≤ l.nested - 1) × (extent e ≤ l.tokens)) (clause_value l run (expression_spelling e)) e
+unfolding clause_value
+value_again l one run e formed =
+    let again = subst (λ (ts : List Token). IsAnswer ((nesting e ≤ l.nested - 1) × (extent e ≤ l.tokens)) (whole_at l (l.nested - 1) ts) (e, [])) (append-nil (expression_spelling e)) (whole_again l (l.nested - 1) e [] formed (omega arith)) in
+    go (whole_at l (l.nested - 1) (expression_spelling e)) again
+  where
+    go : (read : Outcome (ExpressionTree × List Token)) → IsAnswer ((nesting e ≤ l.nested - 1) × (extent e ≤ l.tokens)) read (e, []) → IsAnswer ((nesting e ≤ l.nested - 1) × (extent e ≤ l.tokens)) (all_of run (expression_spelling e) read) e
+    go read (inl is) = inl (rw is refl)
+    go read (inr (s, is, never)) = inr (s, rw is (ap (λ (f : SourceFault). Err f) (in_run_other run (expression_spelling e) s.fault s.other)), never)
+
+-- a directive with its expressions as tokens
+tokens_of : Directive ExpressionTree → Directive (List Token)
+tokens_of d = map_directive expression_spelling d
+
+directive_read : (d : Directive ExpressionTree) → IsLine d → directive_at (directive_spelling expression_spelling d) ≡ Ok (tokens_of d)
+unfolding tokens_of
+directive_read d formed =
+    let spelled : directive_spelling (λ e. e) (map_directive expression_spelling d) ≡ directive_spelling expression_spelling d = mapped_spelling expression_spelling (λ e. e) d in
+    rw spelled at (directive_again (map_directive expression_spelling d) (mapped_directive expression_spelling IsExpression IsClosed (λ e f. expression_closed e) d formed))
+
+-- the expression in place of its tokens makes the directive
+restored : (d : Directive ExpressionTree) → IsLine d → (o : Option ExpressionTree) → first_expression d.clauses ≡ o → (e : ExpressionTree) → Each (λ x. e ≡ x) (option_to_list o) → map_directive (λ (any : List Token). e) (tokens_of d) ≡ d
+unfolding tokens_of
+restored d formed o is e each = mapped_twice expression_spelling (λ (any : List Token). e) d ∙ mapped_itself IsExpression d formed o is (λ any. e) each
+
+with_value_again : (l : Limits) → 1 ≤ l.nested → (run : List Token) (d : Directive ExpressionTree) → IsLine d → IsAnswer (KeepsLine l d) (with_value l run (tokens_of d)) d
+unfolding with_value tokens_of
+with_value_again l one run d formed = go (first_expression d.clauses) refl
+  where
+    kept : (e : ExpressionTree) → first_expression d.clauses ≡ some e → KeepsLine l d → (nesting e ≤ l.nested - 1) × (extent e ≤ l.tokens)
+    kept e is w =
+        let only = only_first IsExpression d formed (Some e) is in
+        let nested : most (λ x. nesting x + 1) (e ∷ []) ≤ l.nested = subst (λ (xs : List ExpressionTree). most (λ x. nesting x + 1) xs ≤ l.nested) only w.nested in
+        let long : most extent (e ∷ []) ≤ l.tokens = subst (λ (xs : List ExpressionTree). most extent xs ≤ l.tokens) only w.long in
+        (omega (arith, nested, one), omega (arith, long))
+
+    go : (o : Option ExpressionTree) → first_expression d.clauses ≡ o → IsAnswer (KeepsLine l d) (with_value l run (map_directive expression_spelling d)) d
+    go None is = inl (rw (first_mapped expression_spelling d.clauses, is) (ap ok (restored d formed None is no_value tt)))
+    go (Some e) is =
+        let same = restored d formed (Some e) is e (refl, tt) in
+        let filled : IsAnswer (KeepsLine l d) (ok (map_directive (λ (any : List Token). e) (map_directive expression_spelling d))) d = inl (ap ok same) in
+        rw (first_mapped expression_spelling d.clauses, is) (bind_answer (clause_value l run (expression_spelling e)) (λ x. Ok (map_directive (λ (any : List Token). x) (map_directive expression_spelling d))) e d (kept e is) (value_again l one run e (formed_value IsExpression d formed e is)) filled)
+
+run_read : (d : Directive ExpressionTree) (rest : List Token) → run_of (directive_spelling expression_spelling d ++ rest) ≡ some (directive_spelling expression_spelling d, rest)
+run_read d rest = rw (end_last d) (run_again (before_end d) (token kinds.DirectiveEnd d.end) rest (before_end_endless d) refl)
+
+pub line_again : (l : Limits) → 1 ≤ l.nested → (d : Directive ExpressionTree) (rest : List Token) → IsLine d → IsAnswer (KeepsLine l d) (line_at l (directive_spelling expression_spelling d ++ rest)) (d, rest)
+unfolding line_at
+line_again l one d rest formed =
+    let run : List Token = directive_spelling expression_spelling d in
+    let filled : IsAnswer (KeepsLine l d) (ok (d, rest)) (d, rest) = inl refl in
+    rw (run_read d rest, directive_read d formed) (bind_answer (with_value l run (tokens_of d)) (λ x. Ok (x, rest)) d (d, rest) (λ w. w) (with_value_again l one run d formed) filled)

@@ -1,0 +1,115 @@
+-- Where a directive line is refused with another code than that of syntax, a limit is passed in its expression, or S5 or S6 stands there.
+use Rattle.std.proofs.Common.{◌≡◌, ◌-◌, ◌≤◌, List, [], ◌∷◌, ◌++◌, Bool, true, false, cond, Ok, Err, refl, sym, ap, subst, ◌∙◌, append_assoc, inl, inr}
+use Rattle.std.specs.Prelude.{◌&&◌, nat_eq}
+use Rattle.om_lexer.specs.declared.fault.FaultCode.TheVariants as codes
+use Rattle.om_lexer.specs.declared.fault.SourceFault.{SourceFault}
+use Rattle.om_lexer.specs.declared.token.Punctuator.TheVariants as punctuators
+use Rattle.om_lexer.specs.declared.token.Token.{Token}
+use Rattle.om_pragma.specs.declared.tree.Directive.{Directive}
+use Rattle.om_pragma.specs.Expressions.{first_expression}
+use Rattle.om_pragma.specs.Reading.{directive_at, expression_before}
+use Rattle.om_pragma.proofs.Directives.{directive_is}
+use Rattle.om_pragma.proofs.Refused.{refused_fault}
+use Rattle.om_parser.specs.ExpressionReading.{whole_at}
+use Rattle.om_parser.specs.Limits.{Limits}
+use Rattle.om_parser.specs.LineFaults.{clause_token, IsPassedInClause, IsLineFault}
+use Rattle.om_parser.specs.LineReading.{run_of, is_syntax, in_run, place_behind, last_start, all_of, clause_value, with_value, sooner, line_of, line_at}
+use Rattle.om_parser.specs.Places.{in_parentheses}
+use Rattle.om_parser.specs.Reading.{Outcome, syntax}
+use Rattle.om_parser.specs.Spelling.{mark}
+use Rattle.om_parser.specs.Tree.{ExpressionTree}
+use Rattle.om_parser.proofs.Outcomes.{ok, bind_err, choose_cases}
+use Rattle.om_parser.proofs.ExpressionCut.{err_is, too_much_at, whole_cut}
+use Rattle.om_parser.proofs.ExpressionRefusals.{whole_refuses}
+use Rattle.om_parser.proofs.LineRuns.{run_is}
+use Rattle.om_parser.proofs.LineStands.{StandsIn, stands_before, stands_in_directive, stands_before_place}
+
+abbrev NoSyntax : SourceFault → Type 0
+NoSyntax f = f.code ≡ codes.Syntax → ⊥
+
+-- a fault that is not one of syntax is kept
+kept : (run es : List Token) (d f : SourceFault) → in_run run es d ≡ f → NoSyntax f → d ≡ f
+kept run es d f e not = go (is_syntax d.code && nat_eq d.at 4294967295) e
+  where
+    go : (b : Bool) → cond {A = SourceFault} b (record { code = codes.Syntax; at = place_behind (last_start es) run }) d ≡ f → d ≡ f
+    go true e = absurd (not (ap (λ (g : SourceFault). g.code) (sym e)))
+    go false e = e
+
+not_alone : (e : ExpressionTree) (ts : List Token) (f : SourceFault) (run es : List Token) → all_of run es (ok (e, ts)) ≡ Err f → NoSyntax f → ⊥
+not_alone e [] f run es h not = absurd cc
+not_alone e (t ∷ ts) f run es h not = not (ap (λ (g : SourceFault). g.code) (sym (err_is (syntax (t ∷ ts)) f h)))
+
+-- what is refused of the tokens of a clause
+value_err : (l : Limits) (run es : List Token) (f : SourceFault) → clause_value l run es ≡ Err f → NoSyntax f → whole_at l (l.nested - 1) es ≡ Err f
+unfolding clause_value
+value_err l run es f h not = go (whole_at l (l.nested - 1) es) refl h
+  where
+    go : (r : Outcome (ExpressionTree × List Token)) → whole_at l (l.nested - 1) es ≡ r → all_of run es r ≡ Err f → whole_at l (l.nested - 1) es ≡ Err f
+    go (Ok x) is h = absurd (not_alone x.0 x.1 f run es h not)
+    go (Err d) is h = is ∙ ap (λ (c : SourceFault). Err c) (kept run es d f (err_is (in_run run es d) f h) not)
+
+-- where a limit is passed in the tokens of a clause
+passed : (l : Limits) (tokens es : List Token) (f : SourceFault) → StandsIn tokens es → whole_at l (l.nested - 1) es ≡ Err f → f.code ≡ codes.TooDeep → IsPassedInClause l tokens f.at
+passed l tokens es f s h deep =
+    let c = whole_cut l (l.nested - 1) es f h deep in
+    record {
+      before = s.before;
+      word = s.word;
+      at = s.at;
+      left = s.left;
+      expression = c.tree;
+      formed = c.formed;
+      begun = c.begun;
+      token = c.token;
+      after = c.after ++ s.after;
+      rest_of_expression = c.more;
+      stands = s.stands ∙ ap (λ (w : List Token). s.before ++ clause_token s.word s.at ∷ mark punctuators.OpenParen s.left ∷ (w ++ s.after)) c.stands ∙ simp append_assoc;
+      in_expression = c.spelled;
+      at_place = c.at_place;
+      too_much = too_much_at (in_parentheses l) es c.begun c.token c.after c.stands c.too_much;
+    }
+
+value_fault : (l : Limits) (run tokens es : List Token) (f : SourceFault) → StandsIn tokens es → clause_value l run es ≡ Err f → NoSyntax f → IsLineFault l tokens f
+value_fault l run tokens es f s h not =
+    let whole = value_err l run es f h not in
+    elim (whole_refuses l (l.nested - 1) es f whole) [
+      | inl syntax ↦ absurd (not syntax)
+      | inr deep ↦ inl (deep, passed l tokens es f s whole deep)
+    ]
+
+line_fault : (l : Limits) (run rest : List Token) (o : Outcome (Directive (List Token))) (f : SourceFault) → directive_at run ≡ o → line_of l run o ≡ Err f → NoSyntax f → IsLineFault l (run ++ rest) f
+unfolding with_value sooner
+line_fault l run rest (Ok d) f is h not = elim (choose_cases (first_expression d.clauses) _ _ (Err f) h) [
+  | inl (es, first, e) ↦ elim (bind_err (clause_value l run es) _ f e) [
+    | inl fails ↦
+        let s = subst (λ (ts : List Token). StandsIn ts es) (directive_is run d is).spelled (stands_in_directive d es first) in
+        value_fault l run (run ++ rest) es f (stands_before run rest es s) fails not
+    | inr done ↦ absurd cc
+  ]
+  | inr (none, e) ↦ absurd cc
+]
+line_fault l run rest (Err d) f is h not = elim (choose_cases (expression_before d.at run) _ _ (Err f) h) [
+  | inl (es, first, e) ↦ elim (bind_err (clause_value l run es) _ f e) [
+    | inl fails ↦ value_fault l run (run ++ rest) es f (stands_before run rest es (stands_before_place d.at run es first)) fails not
+    | inr done ↦ refused (err_is d f done.2)
+  ]
+  | inr (none, e) ↦ refused (err_is d f e)
+]
+  where
+    refused : d ≡ f → IsLineFault l (run ++ rest) f
+    refused same =
+        let at_run : directive_at run ≡ Err f = is ∙ ap (λ (c : SourceFault). Err c) same in
+        elim (refused_fault run f at_run) [
+          | inl syntax ↦ absurd (not syntax)
+          | inr word ↦ inr (record { before = []; run = run; after = rest; stands = refl; refused = word })
+        ]
+
+pub line_cut : (l : Limits) → 1 ≤ l.nested → (ts : List Token) (f : SourceFault) → line_at l ts ≡ Err f → (f.code ≡ codes.Syntax → ⊥) → IsLineFault l ts f
+unfolding line_at
+line_cut l one ts f h not = elim (choose_cases (run_of ts) _ _ (Err f) h) [
+  | inl (r, is, e) ↦ elim (bind_err (line_of l r.0 (directive_at r.0)) _ f e) [
+    | inl fails ↦ subst (λ (us : List Token). IsLineFault l us f) (sym (run_is ts r is)) (line_fault l r.0 r.1 (directive_at r.0) f refl fails not)
+    | inr done ↦ absurd cc
+  ]
+  | inr (none, e) ↦ absurd (not (ap (λ (g : SourceFault). g.code) (sym (err_is (syntax []) f e))))
+]

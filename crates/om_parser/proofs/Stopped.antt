@@ -1,0 +1,129 @@
+-- Reading that stops by another code than that of syntax: in a part, and in the tree round it.
+use Rattle.std.proofs.Common.{◌≡◌, ℕ, List, ◌++◌, Option, Some, None, Ok, Err, sym, ap, subst, ◌∙◌, append_assoc, inl, inr}
+use Rattle.om_lexer.specs.declared.fault.FaultCode.TheVariants as codes
+use Rattle.om_lexer.specs.declared.fault.SourceFault.{SourceFault}
+use Rattle.om_lexer.specs.declared.token.Keyword.{Keyword}
+use Rattle.om_lexer.specs.declared.token.Punctuator.{Punctuator}
+use Rattle.om_lexer.specs.declared.token.Span.{Span}
+use Rattle.om_lexer.specs.declared.token.Token.{Token}
+use Rattle.om_parser.specs.Faults.{IsBadAtomic, IsStopped}
+use Rattle.om_parser.specs.Limits.{Limits}
+use Rattle.om_parser.specs.LineFaults.{IsPassedInClause, IsLineFault}
+use Rattle.om_parser.specs.Places.{Place, IsPassed}
+use Rattle.om_parser.specs.Reading.{◌>>=◌, Outcome, syntax, known, mark_at, word_at}
+use Rattle.om_parser.proofs.Outcomes.{ok}
+use Rattle.om_parser.proofs.ExpressionCut.{err_is, IsNeverDeep}
+use Rattle.om_parser.proofs.Refusals.{IsRefusal, Refuses}
+
+-- a fault of another code than that of syntax
+abbrev pub Stops : SourceFault → Type 0
+Stops f = f.code ≡ codes.Syntax → ⊥
+
+-- a limit is passed in a part
+abbrev pub IsTooDeep : {A : Type 0} → (A → List Token) → (A → Type 0) → (A → Place) → List Token → SourceFault → Type 0
+IsTooDeep spelling IsFormed over tokens f = (f.code ≡ codes.TooDeep) × IsPassed spelling IsFormed over tokens f.at
+
+-- a reader that is refused by syntax alone
+abbrev pub IsPlain : {A : Type 0} → Outcome A → Type 0
+IsPlain read = (f : SourceFault) → read ≡ Err f → Stops f → ⊥
+
+pub syntax_plain : {A : Type 0} (ts : List Token) (f : SourceFault) → ◌≡◌ {A = Outcome A} (Err (syntax ts)) (Err f) → Stops f → ⊥
+syntax_plain ts f e stops = stops (sym (ap (λ (g : SourceFault). g.code) (err_is (syntax ts) f e)))
+
+pub known_plain : {A : Type 0} (ts : List Token) (o : Option A) → IsPlain (known ts o)
+known_plain ts (Some x) f e stops = absurd cc
+known_plain ts None f e stops = syntax_plain ts f e stops
+
+pub bind_plain : {A B : Type 0} (read : Outcome A) (g : A → Outcome B) → IsPlain read → ((x : A) → IsPlain (g x)) → IsPlain (read >>= g)
+bind_plain (Ok x) g first second f e stops = second x f e stops
+bind_plain (Err d) g first second f e stops = first f (ap (λ (c : SourceFault). Err c) (err_is d f e)) stops
+
+-- what is refused by syntax or a limit
+pub stops_too_deep : (f : SourceFault) → IsRefusal f → Stops f → f.code ≡ codes.TooDeep
+stops_too_deep f refused stops = elim refused [
+  | inl wrong ↦ absurd (stops wrong)
+  | inr deep ↦ deep
+]
+
+-- what is refused by syntax or a limit, and by no limit
+pub never_stops : {A : Type 0} (read : Outcome A) → Refuses read → IsNeverDeep read → IsPlain read
+never_stops read refuses never f e stops = never f e (stops_too_deep f (refuses f e) stops)
+
+pub mark_plain : (q : Punctuator) (ts : List Token) → IsPlain (mark_at q ts)
+unfolding mark_at
+mark_plain q ts = known_plain ts _
+
+pub word_plain : (k : Keyword) (ts : List Token) → IsPlain (word_at k ts)
+unfolding word_at
+word_plain k ts = known_plain ts _
+
+-- a punctuator that ends what is read
+pub last_mark_plain : {A : Type 0} (q : Punctuator) (ts : List Token) (g : Span × List Token → A) → IsPlain (mark_at q ts >>= λ s. ok (g s))
+last_mark_plain q ts g = bind_plain (mark_at q ts) _ (mark_plain q ts) (λ s f h stops. absurd cc)
+
+-- ---- a fault of tokens is one of those with more before them
+
+clause_behind : (l : Limits) (front us : List Token) (place : ℕ) → IsPassedInClause l us place → IsPassedInClause l (front ++ us) place
+clause_behind l front us place c = record {
+  before = front ++ c.before;
+  word = c.word;
+  at = c.at;
+  left = c.left;
+  expression = c.expression;
+  formed = c.formed;
+  begun = c.begun;
+  token = c.token;
+  after = c.after;
+  rest_of_expression = c.rest_of_expression;
+  stands = ap (λ (w : List Token). front ++ w) c.stands ∙ simp append_assoc;
+  in_expression = c.in_expression;
+  at_place = c.at_place;
+  too_much = c.too_much;
+}
+
+line_behind : (l : Limits) (front us : List Token) (f : SourceFault) → IsLineFault l us f → IsLineFault l (front ++ us) f
+line_behind l front us f (inl (deep, c)) = inl (deep, clause_behind l front us f.at c)
+line_behind l front us f (inr r) = inr (record { before = front ++ r.before; run = r.run; after = r.after; stands = ap (λ (w : List Token). front ++ w) r.stands ∙ simp append_assoc; refused = r.refused })
+
+atomic_behind : (front us : List Token) (place : ℕ) → IsBadAtomic us place → IsBadAtomic (front ++ us) place
+atomic_behind front us place a = record {
+  before = front ++ a.before;
+  directive = a.directive;
+  statement = a.statement;
+  after = a.after;
+  stands = ap (λ (w : List Token). front ++ w) a.stands ∙ simp append_assoc;
+  line = a.line;
+  atomic = a.atomic;
+  formed = a.formed;
+  body = a.body;
+  no_form = a.no_form;
+  at_place = a.at_place;
+}
+
+-- a part in which a limit is passed stands in a larger one
+passed_larger : {A B : Type 0} {spell : A → List Token} {P : A → Type 0} {over : A → Place} (spell_whole : B → List Token) (Q : B → Type 0) (over_whole : B → Place) (front back : List Token) (wrap : A → B) (us : List Token) (place : ℕ)
+    → ((a : A) → P a → Q (wrap a)) → ((a : A) → spell_whole (wrap a) ≡ front ++ (spell a ++ back)) → ((a : A) (before : List Token) (t : Token) → over a before t → over_whole (wrap a) (front ++ before) t)
+    → IsPassed spell P over us place → IsPassed spell_whole Q over_whole (front ++ us) place
+passed_larger spell_whole Q over_whole front back wrap us place formed spelled passed c = record {
+  part = wrap c.part;
+  formed = formed c.part c.formed;
+  before = front ++ c.before;
+  token = c.token;
+  after = c.after;
+  rest_of_part = c.rest_of_part ++ back;
+  stands = ap (λ (w : List Token). front ++ w) c.stands ∙ simp append_assoc;
+  in_part = spelled c.part ∙ ap (λ (w : List Token). front ++ (w ++ back)) c.in_part ∙ simp append_assoc;
+  at_place = c.at_place;
+  too_much = passed c.part c.before c.token c.too_much;
+}
+
+-- a part at which reading stops stands in a larger one
+pub within_larger : {A B : Type 0} {spell : A → List Token} {P : A → Type 0} {over : A → Place} {l : Limits} (spell_whole : B → List Token) (Q : B → Type 0) (over_whole : B → Place) (front back : List Token) (wrap : A → B) (ts us : List Token) (f : SourceFault)
+    → ((a : A) → P a → Q (wrap a)) → ((a : A) → spell_whole (wrap a) ≡ front ++ (spell a ++ back)) → ((a : A) (before : List Token) (t : Token) → over a before t → over_whole (wrap a) (front ++ before) t)
+    → ts ≡ front ++ us → IsStopped spell P over l us f → IsStopped spell_whole Q over_whole l ts f
+within_larger {A} {B} {spell} {P} {over} {l} spell_whole Q over_whole front back wrap ts us f formed spelled passed is stopped =
+    subst (λ (vs : List Token). IsStopped spell_whole Q over_whole l vs f) (sym is) (elim stopped [
+      | inl (deep, c) ↦ inl (deep, passed_larger spell_whole Q over_whole front back wrap us f.at formed spelled passed c)
+      | inr (inl fault) ↦ inr (inl (line_behind l front us f fault))
+      | inr (inr (bad, a)) ↦ inr (inr (bad, atomic_behind front us f.at a))
+    ])
