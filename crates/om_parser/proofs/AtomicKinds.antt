@@ -1,6 +1,5 @@
 -- The kind of an `atomic` is that of its tree.
-use Rattle.std.proofs.Common.{◌≡◌, List, [], ◌∷◌, map, refl, ap, sym, ◌∙◌}
-use Rattle.std.specs.Prelude.{Bool, ◌||◌}
+use Rattle.std.proofs.Common.{◌≡◌, List, [], ◌∷◌, map, refl}
 use Rattle.std.specs.List.{list_any}
 use Rattle.om_pragma.specs.declared.clause.Clause.{Clause}
 use Rattle.om_pragma.specs.declared.clause.Clause.TheVariants as clauses
@@ -9,7 +8,7 @@ use Rattle.om_pragma.specs.declared.clause.ClauseKind.{ClauseKind}
 use Rattle.om_pragma.specs.declared.clause.ClauseKind.TheVariants as clause_kinds
 use Rattle.om_pragma.specs.declared.tree.Directive.{Directive}
 use Rattle.om_pragma.specs.Expressions.{map_clause, map_item, map_directive}
-use Rattle.om_pragma.specs.Questions.{has_clause, atomic_kind}
+use Rattle.om_pragma.specs.Questions.{atomic_kind}
 use Rattle.om_pragma.specs.Spelling.{kind_of}
 use Rattle.om_pragma.specs.Table.{same_clause}
 use Rattle.om_parser.specs.declared.tree.Expression.{Expression}

@@ -1,15 +1,17 @@
 -- Reading what goes on with a tree step by step, as a loop does.
-use Rattle.std.proofs.Common.{◌≡◌, ℕ, zero, suc, ◌<◌, ◌≤◌, ◌-◌, List, length, Option, Some, None, Ok, Err, ◌⊎◌, inl, inr, refl, sym, ap, ◌∙◌, arith, length-append, true, false}
-use Rattle.std.specs.Prelude.{nat_le}
+use Rattle.std.proofs.Common.{◌≡◌, ℕ, zero, suc, ◌<◌, ◌≤◌, ◌+◌, ◌-◌, List, length, Option, Some, None, Ok, Err, ◌⊎◌, inl, inr, refl, sym, ap, subst, ◌∙◌, arith, length-append, true, false}
+use Rattle.std.proofs.Math.Nat.{le-suc_iff}
+use Rattle.std.specs.Prelude.{nat_le, Bool}
 use Rattle.om_lexer.specs.declared.fault.SourceFault.{SourceFault}
 use Rattle.om_lexer.specs.Faults.{no_memory}
 use Rattle.om_lexer.specs.declared.token.Punctuator.TheVariants.{Comma}
 use Rattle.om_lexer.specs.declared.token.Span.{Span}
 use Rattle.om_lexer.specs.declared.token.Token.{Token}
+use Rattle.om_parser.specs.declared.expression.TheConstants.{LEVELS}
 use Rattle.om_parser.specs.declared.tree.BinaryOperator.{BinaryOperator}
 use Rattle.om_parser.specs.declared.tree.PostfixOperator.{PostfixOperator}
-use Rattle.om_parser.specs.ExpressionReading.{within, postfix_of, level_operator, take_operator, More, chain_at, postfix_more, binary_more, binary_at, argument_at, expression_at, operand_at}
-use Rattle.om_parser.specs.Reading.{◌>>=◌, Outcome, Reader, too_deep, mark_at}
+use Rattle.om_parser.specs.ExpressionReading.{within, postfix_of, level_operator, take_operator, More, chain_at, postfix_more, binary_more, binary_at, argument_at, expression_at, expression_step, expression_after, operand_at}
+use Rattle.om_parser.specs.Reading.{Outcome, Reader, too_deep, mark_at}
 use Rattle.om_parser.specs.Tree.{ExpressionTree, Postfix, Binary}
 use Rattle.om_parser.specs.Spelling.{postfix_mark, expression_spelling}
 use Rattle.om_parser.proofs.Outcomes.{ok, ok_is, some, bind_ok, choose_cases}
@@ -126,3 +128,32 @@ argument_shorter beyond turns room ts a us h =
 pub fails_or : {A B : Type 0} {part : Outcome A} {whole : Outcome B} (f : SourceFault) → (f ≡ no_memory) ⊎ (part ≡ Err f) → (part ≡ Err f → whole ≡ Err f) → (f ≡ no_memory) ⊎ (whole ≡ Err f)
 fails_or f (inl memory) go = inl memory
 fails_or f (inr fails) go = inr (go fails)
+
+-- ---- operators of one level after those of another
+
+-- what stops the operands of some levels stops those of all
+pub binary_stops : (beyond : ℕ) (unary : Reader ExpressionTree) (ts : List Token) (f : SourceFault) (k m : ℕ) → k ≤ m → binary_at beyond unary k ts ≡ Err f → binary_at beyond unary m ts ≡ Err f
+unfolding binary_at
+binary_stops beyond unary ts f k zero le e = let same : k ≡ 0 = omega (arith, le) in subst (λ (n : ℕ). binary_at beyond unary n ts ≡ Err f) same e
+binary_stops beyond unary ts f k (suc m) le e = elim (le-suc_iff.0 le) [
+  | inl less ↦ rw (binary_stops beyond unary ts f k m less e) refl
+  | inr same ↦ subst (λ (n : ℕ). binary_at beyond unary n ts ≡ Err f) same e
+]
+
+module _ (beyond : ℕ) (unary : Reader ExpressionTree) (ts : List Token) (k : ℕ) (a : ExpressionTree) (us : List Token) (reads : binary_at beyond unary k ts ≡ Ok (a, us)) where
+  pub level_stops : (f : SourceFault) (m : ℕ) → k < m → chain_at (binary_more beyond (8 - k) (binary_at beyond unary k)) (length us) a us ≡ Err f → binary_at beyond unary m ts ≡ Err f
+  unfolding binary_at
+  level_stops f m lt stops = binary_stops beyond unary ts f (suc k) m lt (rw (reads, stops) refl)
+
+  pub level_ends : (b : ExpressionTree) (vs : List Token) → chain_at (binary_more beyond (8 - k) (binary_at beyond unary k)) (length us) a us ≡ Ok (b, vs) → binary_at beyond unary (k + 1) ts ≡ Ok (b, vs)
+  unfolding binary_at
+  level_ends b vs ends =
+      let next : binary_at beyond unary (suc k) ts ≡ Ok (b, vs) = rw (reads, ends) refl in
+      let same : suc k ≡ k + 1 = omega arith in
+      subst (λ (n : ℕ). binary_at beyond unary n ts ≡ Ok (b, vs)) same next
+
+-- an expression of which the operands are read
+pub turn_goes_on : (beyond turns fewer room : ℕ) (may_assign : Bool) (ts : List Token) (a : ExpressionTree) (us : List Token) → turns ≡ suc fewer → binary_at beyond (operand_at beyond fewer room) LEVELS ts ≡ Ok (a, us)
+    → expression_at beyond turns may_assign room ts ≡ expression_after beyond may_assign (expression_at beyond fewer true room) (expression_at beyond fewer false room) a us
+unfolding expression_at expression_step
+turn_goes_on beyond turns fewer room may_assign ts a us taken reads = subst (λ (n : ℕ). expression_at beyond n may_assign room ts ≡ expression_after beyond may_assign (expression_at beyond fewer true room) (expression_at beyond fewer false room) a us) (sym taken) (rw reads refl)

@@ -1,6 +1,6 @@
 -- An expression that is read is well-formed, within the limits, and spelled as the tokens were.
-use Rattle.std.proofs.Common.{◌≡◌, ℕ, zero, suc, ◌-◌, ◌<◌, ◌≤◌, max, List, [], ◌∷◌, ◌++◌, length, Option, Some, None, Err, refl, sym, ap, subst, ◌∙◌, Bool, true, false, cond, ◌&&◌, arith, append_assoc, length-append, ◌⊎◌, inl, inr, All, option_map}
-use Rattle.std.proofs.lemmas.Bool.{leb-true, leb-false, eqb-true}
+use Rattle.std.proofs.Common.{◌≡◌, ℕ, zero, suc, ◌-◌, ◌≤◌, List, [], ◌∷◌, ◌++◌, length, Option, Some, None, Err, refl, sym, ap, subst, ◌∙◌, Bool, true, false, cond, ◌&&◌, arith, append_assoc, length-append, ◌⊎◌, inl, inr, All, option_map}
+use Rattle.std.proofs.lemmas.Bool.{leb-true, eqb-true}
 use Rattle.std.proofs.lemmas.List.Elements.{All-head, All-tail}
 use Rattle.std.proofs.lemmas.Slice.Eq.{bytes_eq-Decides}
 use Rattle.std.specs.List.{flat_map}
@@ -13,20 +13,16 @@ use Rattle.om_lexer.specs.declared.token.TokenKind.{TokenKind}
 use Rattle.om_lexer.specs.declared.token.TokenKind.TheVariants as kinds
 use Rattle.om_pragma.specs.declared.name.Name as names
 use Rattle.om_parser.specs.declared.tree.AssignOperator.{AssignOperator}
-use Rattle.om_parser.specs.declared.tree.AssignOperator.TheVariants as assigns
 use Rattle.om_parser.specs.declared.tree.BinaryOperator.{BinaryOperator}
-use Rattle.om_parser.specs.declared.tree.BinaryOperator.TheVariants as binaries
 use Rattle.om_parser.specs.declared.tree.PostfixOperator.{PostfixOperator}
-use Rattle.om_parser.specs.declared.tree.PostfixOperator.TheVariants as postfixes
 use Rattle.om_parser.specs.declared.tree.PrefixOperator.{PrefixOperator}
-use Rattle.om_parser.specs.declared.tree.PrefixOperator.TheVariants as prefixes
 use Rattle.om_parser.specs.declared.tree.Text as texts
 use Rattle.om_parser.specs.ExpressionReading.{within, prefix_of, postfix_of, binary_of, assign_of, of_level, level_operator, take_operator, take_assign, text_of, take_text, Inside, enter, closed_by, paren_after, index_after, first_at, argument_at, arguments_at, arguments_after, call_after, named_after, primary_step, More, chain_at, postfix_more, binary_more, postfix_step, unary_step, binary_at, conditional_after, expression_after, expression_step, deeper, unary_at, expression_at, operand_at, whole_at}
 use Rattle.om_parser.specs.Formed.{level, binary_level, IsExpression, AreFurther, IsTextOf}
 use Rattle.om_parser.specs.Limits.{Limits, nesting, arguments_nesting}
 use Rattle.om_parser.specs.Reading.{◌>>=◌, Outcome, Reader, choose, take, too_deep, take_mark, take_number, mark_at, name_at}
 use Rattle.om_parser.specs.Repetition.{until}
-use Rattle.om_parser.specs.Spelling.{token, mark, name, number, text, perhaps, prefix_mark, postfix_mark, binary_mark, assign_mark, expression_spelling, arguments_spelling}
+use Rattle.om_parser.specs.Spelling.{token, mark, name, text, perhaps, prefix_mark, postfix_mark, binary_mark, assign_mark, expression_spelling, arguments_spelling}
 use Rattle.om_parser.specs.Tree.{ExpressionTree, Name, Constant, Text, Paren, Index, Call, Prefix, Postfix, Binary, Conditional, Assign, NoArguments, Argument, arguments}
 use Rattle.om_parser.proofs.Outcomes.{ok, ok_is, some, some_is, bind_ok, choose_cases, after_front, after_token, cond_some}
 use Rattle.om_parser.proofs.Taken.{take_is, take_mark_is, take_number_is, mark_at_is, name_at_is}

@@ -3,6 +3,7 @@ pub mod Outcomes
 pub mod Taken
 pub mod ExpressionSound
 pub mod Chains
+pub mod Prefixes
 pub mod Loops
 pub mod ItemsSound
 pub mod LineRuns

@@ -1,5 +1,5 @@
 -- Where a part of a statement is refused by another code than that of syntax: at a limit its tokens up to there begin a well-formed one.
-use Rattle.std.proofs.Common.{◌≡◌, ℕ, ◌+◌, ◌-◌, ◌≤◌, List, [], ◌∷◌, ◌++◌, length, refl, ap, ◌∙◌, arith, append_assoc, length-append, inl, inr}
+use Rattle.std.proofs.Common.{◌≡◌, ℕ, ◌≤◌, List, [], ◌∷◌, ◌++◌, refl, ap, ◌∙◌, arith, append_assoc}
 use Rattle.std.proofs.lemmas.List.{append-nil}
 use Rattle.om_lexer.specs.declared.token.Keyword.{Keyword}
 use Rattle.om_lexer.specs.declared.token.Keyword.TheVariants as keywords

@@ -1,5 +1,5 @@
 -- The parts of statements that are read are well-formed, within the limits, and spelled as the tokens were.
-use Rattle.std.proofs.Common.{◌≡◌, ℕ, ◌+◌, ◌-◌, ◌≤◌, List, [], ◌∷◌, length, arith, All}
+use Rattle.std.proofs.Common.{◌≡◌, ℕ, ◌+◌, ◌-◌, ◌≤◌, List, [], ◌∷◌, arith, All}
 use Rattle.std.proofs.lemmas.List.Elements.{All-head, All-tail}
 use Rattle.om_parser.specs.declared.declaration.Initial.TheVariants as initials
 use Rattle.om_parser.specs.DeclarationReading.{initial_at, declared_at}

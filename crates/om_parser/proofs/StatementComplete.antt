@@ -28,7 +28,7 @@ use Rattle.om_parser.specs.Reading.{◌>>=◌, Reader, take, same_mark, same_wor
 use Rattle.om_parser.specs.Spelling.{token, mark, word, perhaps, expression_spelling, declarator_spelling, further_spelling, declaration_spelling, condition_spelling, for_start_spelling, for_head_spelling, statement_spelling, statements_spelling, block_spelling}
 use Rattle.om_parser.specs.Formed.{IsOptional, IsForStart, IsForHead, ends_open, IsBody, IsPartItem, IsLine, IsConstruct, AreSome, IsStatement, AreStatements, AreSectionItems, IsExpression, IsLocalDeclaration}
 use Rattle.om_parser.specs.Limits.{Limits, nesting}
-use Rattle.om_parser.specs.Sizes.{Where, HasForms, HasRoom, HaveRoom, HasBlockRoom, line_longest, line_nesting, extent, optional_extent, optional_nesting, for_start_extent, for_start_nesting, declaration_nesting, declaration_longest}
+use Rattle.om_parser.specs.Sizes.{Where, HasForms, HasRoom, HaveRoom, HasBlockRoom, extent, optional_extent, optional_nesting, for_start_extent, for_start_nesting, declaration_nesting, declaration_longest}
 use Rattle.om_parser.specs.StatementReading.{Parts, start_of, condition_at, optional_before, for_start_at, for_head_after, OpeningTree, OpensIf, OpensWhile, OpensFor, opening_of, return_after, jump_after, expression_statement_at, else_after, behind_body, body_after, headed_of, do_end, do_after, block_item_at, item_at, items_at, block_items_after, block_after, section_items_after, parts_after, simple_of, statement_of, no_room, statement_at, parts_at, block_with}
 use Rattle.om_parser.specs.Tree.{ExpressionTree, DeclarationTree, ConditionTree, ForStartTree, Nothing, StartExpression, StartDeclaration, ForHeadTree, StatementTree, StatementsTree, LocalDeclaration, Block, Empty, Expression, If, IfElse, While, Do, For, Return, Break, Continue, Construct, StandAlone, Sections, Section, NoStatements, Statement, statements, BlockTree}
 use Rattle.om_parser.proofs.LineComplete.{KeepsLine}

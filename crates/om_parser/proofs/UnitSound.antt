@@ -1,5 +1,5 @@
 -- A unit that is read is well-formed, within the limits, and spelled as the tokens were.
-use Rattle.std.proofs.Common.{◌≡◌, ◌<◌, ◌≤◌, ℕ, zero, suc, List, [], ◌∷◌, ◌++◌, length, Err, refl, sym, ap, subst, ◌∙◌, Bool, true, false, cond, arith, append_assoc, length-append, inl, inr, All}
+use Rattle.std.proofs.Common.{◌≡◌, ◌<◌, ◌≤◌, ℕ, zero, suc, List, [], ◌∷◌, ◌++◌, length, Err, refl, sym, ap, subst, ◌∙◌, Bool, true, false, cond, arith, length-append, inl, inr, All}
 use Rattle.std.specs.List.{flat_map}
 use Rattle.std.proofs.lemmas.List.{append-nil}
 use Rattle.std.proofs.lemmas.List.Elements.{All-weaker}
@@ -15,7 +15,7 @@ use Rattle.om_pragma.specs.declared.name.Name as names
 use Rattle.om_parser.specs.declared.tree.ResultType.{ResultType}
 use Rattle.om_parser.specs.declared.tree.ResultType.TheVariants as results
 use Rattle.om_parser.specs.DeclarationReading.{initial_at, declaration_after}
-use Rattle.om_parser.specs.Formed.{IsSignedConstant, IsDeclaration, IsFunction, IsItem, IsUnit}
+use Rattle.om_parser.specs.Formed.{IsSignedConstant, IsFunction, IsItem, IsUnit}
 use Rattle.om_parser.specs.FunctionReading.{are_named, head_after}
 use Rattle.om_parser.specs.Limits.{Limits}
 use Rattle.om_parser.specs.Reading.{Reader, Outcome, take_mark, take_word, mark_at, word_at, name_at}
@@ -25,7 +25,7 @@ use Rattle.om_parser.specs.Spelling.{token, mark, word, name, result_spelling, e
 use Rattle.om_parser.specs.PartReading.{parts, block_at}
 use Rattle.om_parser.specs.Tree.{HeadTree, ItemTree, Declaration, Prototype, Function, UnitTree}
 use Rattle.om_parser.specs.UnitReading.{function_after, prototype_after, void_after, int_after, item_at, end_of, take_end, unit_at}
-use Rattle.om_parser.proofs.Outcomes.{ok, ok_is, some, some_is, bind_ok, choose_cases, after_front, after_token}
+use Rattle.om_parser.proofs.Outcomes.{ok, ok_is, some, some_is, bind_ok, choose_cases, after_front}
 use Rattle.om_parser.proofs.Taken.{take_mark_is, take_word_is, mark_at_is, word_at_is, name_at_is}
 use Rattle.om_parser.proofs.ItemsSound.{IsRead, IsSound, until_sound}
 use Rattle.om_parser.proofs.DeclarationSound.{constant_sound, declaration_after_sound}

@@ -1,5 +1,5 @@
 -- Reading directives and their statements from the left.
-use Rattle.std.specs.Prelude.{ℕ, List, [], ◌∷◌, Ok, Err, Bool, true, false, ◌||◌, not, bytes_eq, codes, if◌then◌else◌}
+use Rattle.std.specs.Prelude.{ℕ, List, [], ◌∷◌, Ok, Err, Bool, false, ◌||◌, not, bytes_eq, codes, if◌then◌else◌}
 use Rattle.om_lexer.specs.declared.fault.FaultCode.TheVariants as faults
 use Rattle.om_lexer.specs.declared.fault.SourceFault.{SourceFault}
 use Rattle.om_lexer.specs.declared.token.Keyword.TheVariants as keywords

@@ -1,5 +1,5 @@
 -- Reading declarations from the left.
-use Rattle.std.specs.Prelude.{◌-◌, length, Some, None, Ok}
+use Rattle.std.specs.Prelude.{length, Some, None, Ok}
 use Rattle.om_lexer.specs.declared.token.Punctuator.TheVariants as punctuators
 use Rattle.om_lexer.specs.declared.token.Span.{Span}
 use Rattle.om_parser.specs.declared.declaration.Initial.{Initial}

@@ -22,7 +22,7 @@ use Rattle.om_parser.specs.Formed.{binary_level, level}
 use Rattle.om_parser.specs.Limits.{Limits}
 use Rattle.om_parser.specs.Reading.{◌>>=◌, choose, Outcome, Reader, syntax, too_deep, take, take_mark, take_number, mark_at, name_at}
 use Rattle.om_parser.specs.Repetition.{until}
-use Rattle.om_parser.specs.Tree.{ExpressionTree, Name, Constant, Text, Paren, Index, Call, Prefix, Postfix, Binary, Conditional, Assign, NoArguments, Argument, arguments}
+use Rattle.om_parser.specs.Tree.{ExpressionTree, Name, Constant, Text, Paren, Index, Call, Prefix, Postfix, Binary, Conditional, Assign, NoArguments, arguments}
 
 -- goes on, unless the token before these is beyond the expression's limit: at least so many tokens are left behind those that it may have
 unfoldable pub within : {A : Type 0} → (beyond : ℕ) → Span → List Token → Outcome A → Outcome A
@@ -239,6 +239,19 @@ unfoldable mutual
 -- an operand with the operators round it, with so many turns left
 abbrev pub operand_at : (beyond turns room : ℕ) → Reader ExpressionTree
 operand_at beyond turns room = unary_step beyond (unary_at beyond turns room) (deeper (expression_at beyond turns true) room)
+
+-- an operand with the operators behind it, with so many turns left
+abbrev pub postfix_at : (beyond turns room : ℕ) → Reader ExpressionTree
+postfix_at beyond turns room = postfix_step beyond (primary_step beyond (deeper (expression_at beyond turns true) room))
+
+-- an operand behind these operators
+abbrev pub prefixed : List (PrefixOperator × Span) → ExpressionTree → ExpressionTree
+prefixed [] e = e
+prefixed (o ∷ more) e = Prefix o.0 o.1 (prefixed more e)
+
+-- what reading an operand gives, behind these operators
+abbrev pub behind : List (PrefixOperator × Span) → Outcome (ExpressionTree × List Token) → Outcome (ExpressionTree × List Token)
+behind operators read = read >>= λ e. Ok (prefixed operators e.0, e.1)
 
 -- a whole expression, which begins with the first token, with room for so many brackets round a part of it
 unfoldable pub whole_at : Limits → (room : ℕ) → Reader ExpressionTree

@@ -9,9 +9,7 @@ use Rattle.om_parser.specs.declared.tree.ArrayLength.{ArrayLength}
 use Rattle.om_parser.specs.declared.tree.BinaryOperator.{BinaryOperator}
 use Rattle.om_parser.specs.declared.tree.BinaryOperator.TheVariants as binaries
 use Rattle.om_parser.specs.declared.tree.PrefixOperator.TheVariants as prefixes
-use Rattle.om_parser.specs.declared.tree.ResultType.{ResultType}
-use Rattle.om_parser.specs.declared.tree.ResultType.TheVariants as results
-use Rattle.om_parser.specs.Tree.{ExpressionTree, Name, Constant, Text, Paren, Index, Call, Prefix, Postfix, Binary, Conditional, Assign, ArgumentsTree, NoArguments, Argument, InitializerTree, DeclaratorTree, DeclarationTree, StatementTree, Expression, Return, ParametersTree, NoParameters, Void, Listed, FunctionTree, ItemTree, Declaration, Prototype, Function, UnitTree, ConditionTree, ForStartTree, Nothing, StartExpression, StartDeclaration, ForHeadTree, StatementsTree, LocalDeclaration, Block, Empty, If, IfElse, While, Do, For, Break, Continue, Construct, StandAlone, Sections, Section, NoStatements, Statement, statements}
+use Rattle.om_parser.specs.Tree.{ExpressionTree, Name, Constant, Text, Paren, Index, Call, Prefix, Postfix, Binary, Conditional, Assign, ArgumentsTree, NoArguments, Argument, InitializerTree, DeclaratorTree, DeclarationTree, StatementTree, Expression, Return, ParametersTree, NoParameters, Void, Listed, FunctionTree, ItemTree, Declaration, Prototype, Function, UnitTree, ForStartTree, Nothing, StartExpression, StartDeclaration, ForHeadTree, StatementsTree, LocalDeclaration, Block, Empty, If, IfElse, While, Do, For, Break, Continue, Construct, StandAlone, Sections, Section, NoStatements, Statement, statements}
 
 -- levels of precedence, the loosest first: 1 assignment (C17 6.5.16), 2 conditional (6.5.15), 3 and 4 logical (6.5.14, 6.5.13),
 -- 5 equality (6.5.9), 6 relational (6.5.8), 7 additive (6.5.6), 8 multiplicative (6.5.5), 9 unary (6.5.3), 10 postfix (6.5.2), 11 primary, indexed or called (6.5.1, 6.5.2)

@@ -6,7 +6,7 @@ use Rattle.om_pragma.specs.Questions.{is_atomic, atomic_kind}
 use Rattle.om_parser.specs.AtomicForms.{has_atomic_form}
 use Rattle.om_parser.specs.Limits.{Limits, accepted, nesting, expressions_of_declaration}
 use Rattle.om_parser.specs.Spelling.{expression_spelling}
-use Rattle.om_parser.specs.Tree.{ExpressionTree, DeclarationTree, ConditionTree, ForStartTree, Nothing, StartExpression, StartDeclaration, ForHeadTree, StatementTree, StatementsTree, LocalDeclaration, Block, Empty, Expression, If, IfElse, While, Do, For, Return, Break, Continue, Construct, StandAlone, Sections, Section, NoStatements, Statement, statements, BlockTree, ItemTree, Declaration, Prototype, Function, UnitTree}
+use Rattle.om_parser.specs.Tree.{ExpressionTree, DeclarationTree, ForStartTree, Nothing, StartExpression, StartDeclaration, StatementTree, StatementsTree, LocalDeclaration, Block, Empty, Expression, If, IfElse, While, Do, For, Return, Break, Continue, Construct, StandAlone, Sections, Section, NoStatements, Statement, statements, BlockTree, ItemTree, Declaration, Prototype, Function, UnitTree}
 
 -- the largest of these
 abbrev pub most : {A : Type 0} → (A → ℕ) → List A → ℕ

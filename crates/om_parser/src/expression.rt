@@ -1,7 +1,8 @@
 //! Expressions (C17 6.5).
 
-ghost use Rattle.std.specs.Prelude.{◌≡◌, ◌-◌, suc, true, false, Some, length, map, IfOk};
-ghost use Rattle.om_parser.specs.ExpressionReading.{argument_at, arguments_at, binary_at, binary_more, call_after, chain_at, closed_by, conditional_after, deeper, expression_after, expression_at, expression_step, first_at, named_after, operand_at, postfix_more, postfix_step, primary_step, unary_step, whole_at, IsTakenWithin};
+ghost use Rattle.std.specs.Prelude.{◌≡◌, ℕ, ◌-◌, ◌≤◌, ◌⊎◌, true, false, Some, Err, length, map, IfOk, IfErr};
+ghost use Rattle.om_lexer.specs.Faults.{no_memory};
+ghost use Rattle.om_parser.specs.ExpressionReading.{argument_at, arguments_at, behind, binary_at, binary_more, call_after, chain_at, closed_by, conditional_after, deeper, expression_after, expression_at, first_at, named_after, operand_at, postfix_at, postfix_more, postfix_step, prefixed, primary_step, whole_at, IsTakenWithin};
 ghost use Rattle.om_parser.specs.Limits.{accepted};
 ghost use Rattle.om_parser.specs.Reading.{Reads};
 ghost use Rattle.om_parser.specs.Tree.{Assign, Binary, Conditional, Postfix, Prefix};
@@ -46,7 +47,7 @@ fn within(rest: &[Token], span: Span, beyond: usize) -> Result<(), SourceFault>
 /// An expression, or one that is no assignment, with room for `room` brackets round a part of
 /// it, and the tokens behind it. `turns` bounds how often operators and brackets nest.
 #[cycle(expression)]
-#[tactic(auto, unfolding(crate::specs::ExpressionReading::expression_at))]
+#[tactic(auto, unfolding(crate::specs::ExpressionReading::expression_at, crate::specs::ExpressionReading::expression_step))]
 fn expression(
     alloc: Global,
     tokens: &[Token],
@@ -60,22 +61,6 @@ fn expression(
     let Some(turns) = turns.checked_sub(1) else {
         return Err(syntax(tokens));
     };
-    next_expression(alloc, tokens, beyond, turns, may_assign, room)
-}
-
-/// An expression, or one that is no assignment, of which a turn is taken.
-#[cycle(expression)]
-#[tactic(auto, unfolding(crate::specs::ExpressionReading::expression_step))]
-fn next_expression(
-    alloc: Global,
-    tokens: &[Token],
-    beyond: usize,
-    turns: usize,
-    may_assign: bool,
-    room: usize,
-) -> Result<(Expression, &[Token]), SourceFault>
-    ensures { Reads (λ x. (view_expression x.0, x.1.now)) result (expression_step beyond may_assign (binary_at beyond (operand_at beyond turns room) LEVELS) (expression_at beyond turns true room) (expression_at beyond turns false room) tokens.now) }
-{
     let (left, rest) = binary(alloc, tokens, beyond, turns, room, LEVELS)?;
     expression_after(alloc, left, rest, beyond, turns, may_assign, room)
 }
@@ -134,7 +119,6 @@ fn conditional_after(
 /// Operands and the operators between them, of the tightest `levels` levels, and the tokens
 /// behind them.
 #[cycle(expression)]
-#[tactic(auto, unfolding(crate::specs::ExpressionReading::binary_at))]
 fn binary(
     alloc: Global,
     tokens: &[Token],
@@ -145,28 +129,13 @@ fn binary(
 ) -> Result<(Expression, &[Token]), SourceFault>
     ensures { Reads (λ x. (view_expression x.0, x.1.now)) result (binary_at beyond (operand_at beyond turns room) levels tokens.now) }
 {
-    let Some(tighter) = levels.checked_sub(1) else {
-        return unary(alloc, tokens, beyond, turns, room);
-    };
-    looser(alloc, tokens, beyond, turns, room, tighter)
-}
-
-/// Operands and the operators between them, of the tightest `tighter` levels and the next, and
-/// the tokens behind them.
-#[cycle(expression)]
-#[tactic(auto, unfolding(crate::specs::ExpressionReading::binary_at))]
-fn looser(
-    alloc: Global,
-    tokens: &[Token],
-    beyond: usize,
-    turns: usize,
-    room: usize,
-    tighter: usize,
-) -> Result<(Expression, &[Token]), SourceFault>
-    ensures { Reads (λ x. (view_expression x.0, x.1.now)) result (binary_at beyond (operand_at beyond turns room) (suc tighter) tokens.now) }
-{
-    let (left, rest) = binary(alloc, tokens, beyond, turns, room, tighter)?;
-    operators(alloc, left, rest, beyond, turns, room, tighter)
+    let (mut left, mut rest) = unary(alloc, tokens, beyond, turns, room)?;
+    'levels: for tighter in 0..levels {
+        let (joined, others) = operators(alloc, left, rest, beyond, turns, room, tighter)?;
+        left = joined;
+        rest = others;
+    }
+    Ok((left, rest))
 }
 
 /// An operand, the operators of one level with their right operands, and the tokens behind them.
@@ -196,7 +165,6 @@ fn operators(
 
 /// An operand with the operators before and behind it, and the tokens behind it.
 #[cycle(expression)]
-#[tactic(auto, unfolding(crate::specs::ExpressionReading::unary_at, crate::specs::ExpressionReading::unary_step, crate::specs::ExpressionReading::within))]
 fn unary(
     alloc: Global,
     tokens: &[Token],
@@ -206,15 +174,36 @@ fn unary(
 ) -> Result<(Expression, &[Token]), SourceFault>
     ensures { Reads (λ x. (view_expression x.0, x.1.now)) result (operand_at beyond turns room tokens.now) }
 {
-    let Some((operator, at, rest)) = take_prefix(tokens) else {
-        return postfix(alloc, tokens, beyond, turns, room);
-    };
-    within(rest, at, beyond)?;
-    let Some(turns) = turns.checked_sub(1) else {
-        return Err(syntax(rest));
-    };
-    let (operand, rest) = unary(alloc, rest, beyond, turns, room)?;
-    Ok((prefixed(alloc, operator, at, operand)?, rest))
+    let (operators, turns, rest) = prefixes(alloc, tokens, beyond, turns)?;
+    let (operand, rest) = postfix(alloc, rest, beyond, turns, room)?;
+    Ok((prefixed(alloc, operators, operand)?, rest))
+}
+
+/// The operators before an operand, the turns that are left behind them, and the tokens behind
+/// them.
+fn prefixes(
+    alloc: Global,
+    tokens: &[Token],
+    beyond: usize,
+    turns: usize,
+) -> Result<(Vec<(PrefixOperator, Span)>, usize, &[Token]), SourceFault>
+    ensures fewer_turns { IfOk result (λ x. x.1 ≤ turns) }
+    ensures taken { IfOk result (λ x. (room : ℕ) → operand_at beyond turns room tokens.now ≡ behind x.0.items (postfix_at beyond x.1 room x.2.now)) }
+    ensures refused { IfErr result (λ fault. (fault ≡ no_memory) ⊎ ((room : ℕ) → operand_at beyond turns room tokens.now ≡ Err fault)) }
+{
+    let mut operators = Vec::new(alloc);
+    let mut left = turns;
+    let mut rest = tokens;
+    while let Some((operator, at, others)) = take_prefix(rest) {
+        within(others, at, beyond)?;
+        let Some(fewer) = left.checked_sub(1) else {
+            return Err(syntax(others));
+        };
+        operators.push((operator, at))?;
+        left = fewer;
+        rest = others;
+    }
+    Ok((operators, left, rest))
 }
 
 /// An operand with the operators behind it, and the tokens behind them.
@@ -227,7 +216,7 @@ fn postfix(
     turns: usize,
     room: usize,
 ) -> Result<(Expression, &[Token]), SourceFault>
-    ensures { Reads (λ x. (view_expression x.0, x.1.now)) result (postfix_step beyond (primary_step beyond (deeper (expression_at beyond turns true) room)) tokens.now) }
+    ensures { Reads (λ x. (view_expression x.0, x.1.now)) result (postfix_at beyond turns room tokens.now) }
 {
     let (operand, rest) = primary(alloc, tokens, beyond, turns, room)?;
     postfixes(alloc, operand, rest, beyond)
@@ -438,8 +427,24 @@ fn argument(
     Ok((comma, next, rest))
 }
 
-/// An operator and its operand.
+/// An operand behind these operators.
 fn prefixed(
+    alloc: Global,
+    operators: Vec<(PrefixOperator, Span)>,
+    operand: Expression,
+) -> Result<Expression, AllocError>
+    ensures { IfOk result (λ made. view_expression made ≡ prefixed operators.items (view_expression operand)) }
+{
+    let mut outer = operators;
+    let mut made = operand;
+    while let Some((operator, at)) = outer.pop() {
+        made = with_prefix(alloc, operator, at, made)?;
+    }
+    Ok(made)
+}
+
+/// An operator and its operand.
+fn with_prefix(
     alloc: Global,
     operator: PrefixOperator,
     at: Span,

@@ -6,10 +6,32 @@ use Rattle.om_parser.specs.ExpressionReading.{argument_at, arguments_at, binary_
 use Rattle.om_parser.specs.Reading.{take_mark, too_deep}
 use Rattle.om_parser.specs.Tree.{Binary}
 use Rattle.om_parser.specs.View.{view_argument, view_expression}
-use Rattle.om_parser.proofs.Chains.{chain_ends, chain_stops, chain_goes_on, no_binary, binary_over, binary_fails, binary_on, binary_shorter, operand_shorter, argument_shorter, fails_or}
+use Rattle.om_parser.proofs.Chains.{chain_ends, chain_stops, chain_goes_on, no_binary, binary_over, binary_fails, binary_on, binary_shorter, operand_shorter, argument_shorter, fails_or, binary_stops, level_stops, level_ends, turn_goes_on}
 use Rattle.om_parser.proofs.Loops.{until_ends, until_fails, until_goes_on}
 use Rattle.om_parser.proofs.Taken.{mark_shorter}
 use Rattle.om_parser.proofs.expression.+expression.Goals as goal
+
+pub expression-returns : goal.expression-returns
+expression-returns t c =
+    rw (turn_goes_on c.args.beyond c.args.turns c.in-Some.turns c.args.room c.args.may_assign c.args.tokens.now (view_expression c.in_ok-left.left) c.in_ok-left.rest.now (omega (arith, c.in-Some.ensures)) c.in_ok-left.ensures) c.expression_after.ensures
+
+pub binary-returns-in_err-left : goal.binary-returns-in_err-left
+unfolding binary_at
+binary-returns-in_err-left t c =
+    let p = err_from_is_err_and c.from_residual.result c.from_residual.ensures.1 in
+    rw (p.1, p.2) (fails_or c.in_err-left.field-0.0 c.in_err-left.ensures (λ fails. binary_stops c.args.beyond (operand_at c.args.beyond c.args.turns c.args.room) c.args.tokens.now c.in_err-left.field-0.0 0 c.args.levels (omega arith) fails))
+
+pub binary-levels-init : goal.binary-levels-init
+unfolding binary_at
+binary-levels-init t c = c.in_ok-left.ensures
+
+pub binary-returns-in_err-joined : goal.binary-returns-in_err-joined
+binary-returns-in_err-joined t c =
+    let p = err_from_is_err_and c.from_residual-in_err-joined.result c.from_residual-in_err-joined.ensures.1 in
+    rw (p.1, p.2) (fails_or c.in_err-joined.field-0.0 c.in_err-joined.ensures (λ fails. level_stops c.args.beyond (operand_at c.args.beyond c.args.turns c.args.room) c.args.tokens.now c.levels.tighter (view_expression c.levels.left) c.levels.rest.now c.levels.invariant c.in_err-joined.field-0.0 c.args.levels c.levels-test.true fails))
+
+pub binary-levels-preserved : goal.binary-levels-preserved
+binary-levels-preserved t c = level_ends c.args.beyond (operand_at c.args.beyond c.args.turns c.args.room) c.args.tokens.now c.levels.tighter (view_expression c.levels.left) c.levels.rest.now c.levels.invariant (view_expression c.in_ok-joined.joined) c.in_ok-joined.others.now c.in_ok-joined.ensures
 
 pub operators-returns-in_err-within : goal.operators-returns-in_err-within
 operators-returns-in_err-within t c =

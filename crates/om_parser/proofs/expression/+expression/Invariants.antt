@@ -1,4 +1,4 @@
-use Rattle.std.proofs.Common.{◌-◌, ◌+◌, ◌*◌, length, map, true}
+use Rattle.std.proofs.Common.{◌≡◌, ◌-◌, ◌+◌, ◌*◌, length, map, true, Ok}
 use Rattle.om_lexer.specs.declared.token.Punctuator.TheVariants.{CloseParen}
 use Rattle.om_parser.specs.ExpressionReading.{argument_at, arguments_at, binary_at, binary_more, chain_at, expression_at, operand_at}
 use Rattle.om_parser.specs.Reading.{take_mark}
@@ -11,9 +11,6 @@ use Rattle.om_parser.proofs.expression.+expression.Given as goal
 abbrev pub decreases-expression : goal.decreases-expression
 decreases-expression l = 40 * l.turns
 
-abbrev pub decreases-next_expression : goal.decreases-next_expression
-decreases-next_expression l = 40 * l.turns + 39
-
 abbrev pub decreases-expression_after : goal.decreases-expression_after
 decreases-expression_after l = 40 * l.turns + 38
 
@@ -21,13 +18,10 @@ abbrev pub decreases-conditional_after : goal.decreases-conditional_after
 decreases-conditional_after l = 40 * l.turns + 37
 
 abbrev pub decreases-binary : goal.decreases-binary
-decreases-binary l = 40 * l.turns + 20 + 3 * l.levels
-
-abbrev pub decreases-looser : goal.decreases-looser
-decreases-looser l = 40 * l.turns + 22 + 3 * l.tighter
+decreases-binary l = 40 * l.turns + 20 + 2 * l.levels
 
 abbrev pub decreases-operators : goal.decreases-operators
-decreases-operators l = 40 * l.turns + 21 + 3 * l.tighter
+decreases-operators l = 40 * l.turns + 21 + 2 * l.tighter
 
 abbrev pub decreases-unary : goal.decreases-unary
 decreases-unary l = 40 * l.turns + 19
@@ -55,6 +49,10 @@ decreases-first_argument l = 40 * l.turns + 3
 
 abbrev pub decreases-closed : goal.decreases-closed
 decreases-closed l = 40 * l.turns + 2
+
+-- the operand and what goes on with it in the tighter levels are read
+abbrev pub invariant-binary-levels : goal.invariant-binary-levels
+invariant-binary-levels l = binary_at l.beyond (operand_at l.beyond l.turns l.room) l.tighter l.tokens ≡ Ok (view_expression l.left, l.rest)
 
 -- what is still to be read makes the whole
 abbrev pub invariant-operators-loop-operator : goal.invariant-operators-loop-operator

@@ -1,4 +1,4 @@
-use Rattle.std.proofs.Common.{◌-◌, length, sym, inr, arith}
+use Rattle.std.proofs.Common.{length, sym, inr, arith}
 use Rattle.std.proofs.lemmas.Result.{err_from_is_err_and}
 use Rattle.om_parser.specs.ExpressionReading.{chain_at, postfix_more}
 use Rattle.om_parser.specs.Reading.{too_deep}
