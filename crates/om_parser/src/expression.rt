@@ -181,6 +181,7 @@ fn unary(
 
 /// The operators before an operand, the turns that are left behind them, and the tokens behind
 /// them.
+#[inline(never)]
 fn prefixes(
     alloc: Global,
     tokens: &[Token],
@@ -223,6 +224,7 @@ fn postfix(
 }
 
 /// An operand, the operators behind it, and the tokens behind them.
+#[inline(never)]
 fn postfixes(
     alloc: Global,
     operand: Expression,
@@ -428,6 +430,7 @@ fn argument(
 }
 
 /// An operand behind these operators.
+#[inline(never)]
 fn prefixed(
     alloc: Global,
     operators: Vec<(PrefixOperator, Span)>,
@@ -444,6 +447,7 @@ fn prefixed(
 }
 
 /// An operator and its operand.
+#[inline(never)]
 fn with_prefix(
     alloc: Global,
     operator: PrefixOperator,
@@ -457,6 +461,7 @@ fn with_prefix(
 }
 
 /// An operand and the operator behind it.
+#[inline(never)]
 fn postfixed(
     alloc: Global,
     operand: Expression,
@@ -470,6 +475,7 @@ fn postfixed(
 }
 
 /// Two operands and the operator between them.
+#[inline(never)]
 fn joined(
     alloc: Global,
     left: Expression,
@@ -485,6 +491,7 @@ fn joined(
 }
 
 /// A conditional expression.
+#[inline(never)]
 fn conditional(
     alloc: Global,
     condition: Expression,
@@ -502,6 +509,7 @@ fn conditional(
 }
 
 /// An assignment.
+#[inline(never)]
 fn assignment(
     alloc: Global,
     target: Expression,

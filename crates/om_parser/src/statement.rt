@@ -467,9 +467,10 @@ enum Opening {
 }
 
 // The functions of the recursion hold a statement and its parts in boxes, and leave it to these to
-// put them together, so that their frames are small.
+// put them together, so that their frames are small: none of these may be inlined into them.
 
 /// A block of these parts.
+#[inline(never)]
 fn block_of(
     alloc: Global,
     open_brace: Span,
@@ -482,6 +483,7 @@ fn block_of(
 }
 
 /// An `if` of these parts, without `else`.
+#[inline(never)]
 fn if_of(
     alloc: Global,
     at: Span,
@@ -494,6 +496,7 @@ fn if_of(
 }
 
 /// An `if` of these parts, with `else`.
+#[inline(never)]
 fn if_else_of(
     alloc: Global,
     at: Span,
@@ -509,6 +512,7 @@ fn if_else_of(
 }
 
 /// A `while` of these parts.
+#[inline(never)]
 fn while_of(
     alloc: Global,
     at: Span,
@@ -524,6 +528,7 @@ fn while_of(
 }
 
 /// A `for` of these parts.
+#[inline(never)]
 fn for_of(
     alloc: Global,
     head: Box<ForHead>,
@@ -535,6 +540,7 @@ fn for_of(
 }
 
 /// A construct of these parts.
+#[inline(never)]
 fn construct_of(
     alloc: Global,
     directive: Box<Directive<Expression>>,
@@ -547,6 +553,7 @@ fn construct_of(
 }
 
 /// A `sections` of these parts.
+#[inline(never)]
 fn sections_of(
     alloc: Global,
     directive: Box<Directive<Expression>>,
@@ -564,6 +571,7 @@ fn sections_of(
 }
 
 /// A `section` and the first item of its part.
+#[inline(never)]
 fn section_of(
     alloc: Global,
     directive: Box<Directive<Expression>>,
@@ -577,6 +585,7 @@ fn section_of(
 
 /// A directive line, and the tokens behind it.
 #[tactic(auto, unfolding(crate::specs::PartReading::parts))]
+#[inline(never)]
 fn boxed_line(
     alloc: Global,
     tokens: &[Token],
@@ -590,6 +599,7 @@ fn boxed_line(
 
 /// A directive that stands alone, and the tokens behind it.
 #[tactic(auto, unfolding(crate::specs::ConstructReading::stand_alone_at, crate::specs::PartReading::parts))]
+#[inline(never)]
 fn stand_alone(alloc: Global, tokens: &[Token]) -> Result<(Box<Statement>, &[Token]), SourceFault>
     ensures { Reads (λ x. (view_statement x.0.value, x.1.now)) result (stand_alone_at (parts accepted).line tokens.now) }
 {
@@ -600,6 +610,7 @@ fn stand_alone(alloc: Global, tokens: &[Token]) -> Result<(Box<Statement>, &[Tok
 
 /// Refuses a line whose word names no directive.
 #[tactic(auto, unfolding(crate::specs::ConstructReading::unknown_line, crate::specs::ConstructReading::misplaced, crate::specs::PartReading::parts))]
+#[inline(never)]
 fn unknown_line(alloc: Global, tokens: &[Token]) -> Result<(Box<Statement>, &[Token]), SourceFault>
     ensures { Reads (λ x. (view_statement x.0.value, x.1.now)) result (unknown_line (parts accepted).line tokens.now) }
 {
@@ -609,6 +620,7 @@ fn unknown_line(alloc: Global, tokens: &[Token]) -> Result<(Box<Statement>, &[To
 
 /// An `atomic` with its statement, which has one of the forms where that is `checked`.
 #[tactic(auto, unfolding(crate::specs::ConstructReading::atomic_of))]
+#[inline(never)]
 fn atomic_of<'a>(
     alloc: Global,
     checked: bool,
@@ -637,6 +649,7 @@ fn has_form(directive: &Directive<Expression>, body: &Statement) -> bool
 }
 
 /// A declaration in a block, of which `int` is taken, and the tokens behind it.
+#[inline(never)]
 fn declaration_item(
     alloc: Global,
     int: Span,
@@ -651,6 +664,7 @@ fn declaration_item(
 
 /// A statement of this start that has no statement in it, of which the first token is taken, and
 /// the tokens behind it.
+#[inline(never)]
 fn simple_boxed<'a>(
     alloc: Global,
     start: Start,
@@ -723,6 +737,7 @@ fn behind_body(
 
 /// The opening of a statement of this start, of which the word is taken.
 #[tactic(auto, unfolding(crate::specs::StatementReading::opening_of))]
+#[inline(never)]
 fn opening_after(
     alloc: Global,
     start: Start,
@@ -825,6 +840,7 @@ fn enclosed_before(
 
 /// The rest of a `do` behind its body, and the tokens behind it.
 #[tactic(auto, unfolding(crate::specs::StatementReading::do_end))]
+#[inline(never)]
 fn do_end(
     alloc: Global,
     at: Span,
