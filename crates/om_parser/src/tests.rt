@@ -1,9 +1,10 @@
 use crate::{
     Declaration, Declarator, Expression, Item, Parameters, Statement, Unit, one_tree, parse,
 };
-use om_lexer::lex;
+use om_lexer::{FaultCode, SourceFault, lex};
 use std::alloc::{AllocError, Global};
 use std::test::Fail;
+use std::thread::Builder;
 
 /// The tree of a source, with brackets round each sum, or its refusal as `S3 at 7`.
 fn shown(alloc: Global, source: &[u8]) -> Result<String, AllocError> {
@@ -265,6 +266,112 @@ fn limits_at_their_edge(rt: HostRuntime) -> Result<(), Fail> {
         } else {
             assert_eq!(rt; text.as_str(), wanted, "{count} {open} {middle}");
         }
+    }
+    Ok(())
+}
+
+/// How much of a source is in `if` and in parentheses, and what is left of an expression's tokens.
+const ROUND: (u32, u32) = (1022, 127);
+
+/// As many `if` as stand round a statement, in it as many parentheses as nest, and in these `count`
+/// times `open`, then `1`, then `count` times `close`.
+fn deepest(alloc: Global, count: u32, open: &str, close: &str) -> Result<String, AllocError> {
+    let mut source = String::from_str(alloc, "int main(void){")?;
+    for _ in 0..ROUND.0 {
+        source.push_str("if(1)")?;
+    }
+    for _ in 0..ROUND.1 {
+        source.push_str("(")?;
+    }
+    for _ in 0..count {
+        source.push_str(open)?;
+    }
+    source.push_str("1")?;
+    for _ in 0..count {
+        source.push_str(close)?;
+    }
+    for _ in 0..ROUND.1 {
+        source.push_str(")")?;
+    }
+    source.push_str(";}")?;
+    Ok(source)
+}
+
+/// Such sources, and their refusals.
+const DEEPEST: [(u32, &str, &str, &str); 5] = [
+    (3841, "!", "", ""),
+    (3842, "!", "", "S16 at 9221"),
+    (1920, "a=", "", ""),
+    (960, "a?", ":1", ""),
+    (960, "a?1:", "", ""),
+];
+
+/// How many of these sources come out as they must, from the first on.
+fn deepest_right(alloc: Global) -> Result<usize, AllocError> {
+    for (index, (count, open, close, wanted)) in DEEPEST.iter().enumerate() {
+        let source = deepest(alloc, *count, open, close)?;
+        let text = shown(alloc, source.as_bytes())?;
+        let right = if wanted.is_empty() {
+            text.as_str().starts_with("main")
+        } else {
+            text.as_str() == *wanted
+        };
+        if !right {
+            return Ok(index);
+        }
+    }
+    Ok(DEEPEST.len())
+}
+
+/// Bytes of stack for the deepest sources, as many as the program takes.
+pub const STACK_SIZE: usize = 256 << 20;
+
+#[test]
+fn the_deepest_of_all(rt: HostRuntime) -> Result<(), Fail> {
+    let alloc = rt.alloc();
+    let thread = Builder::new()
+        .stack_size(STACK_SIZE)
+        .spawn(&rt, move || deepest_right(alloc))?;
+    assert_eq!(rt; thread.join(&rt)?, DEEPEST.len());
+    Ok(())
+}
+
+/// The number of a source's refusal, 0 if it is accepted; want of memory as an error.
+fn number(alloc: Global, source: &str) -> Result<u8, SourceFault> {
+    let tokens = lex(alloc, source.as_bytes())?;
+    match parse(alloc, &tokens) {
+        Ok(_) => Ok(0),
+        Err(fault) if fault.code == FaultCode::Memory => Err(fault),
+        Err(fault) => Ok(fault.code.number()),
+    }
+}
+
+/// Sources that take memory in every way that a tree does, with a line `%%` between them.
+const MEMORY: &str = r#"int a, b = -3, c[4]; void f(int, int d); int g(void) { return f(1, 2); }
+%%
+int main(void) { int a = 1, b; { a = -!++b++ + c[a ? 1 : (2)]; } printf("%d", a, b); }
+%%
+int main(void) { if (a) ; else while (b) ; for (int i = 0; i < 2; i++) do ; while (1); for (a; ; ) break; }
+%%
+int main(void) {
+#pragma omp parallel num_threads(a + 1) private(b)
+#pragma omp sections
+{ a = 1;
+#pragma omp section
+b = 2; }
+#pragma omp barrier
+#pragma omp atomic
+a = a + 1;
+}
+"#;
+
+/// With an allocation refused, this ends in S0 at byte 0.
+#[test]
+fn want_of_memory(rt: HostRuntime) -> Result<(), Fail> {
+    let alloc = rt.alloc();
+    for source in MEMORY.split("%%\n") {
+        let found = number(alloc, source)?;
+        assert_eq!(rt; found, 0, "{source}");
     }
     Ok(())
 }

@@ -1,3 +1,4 @@
+use crate::tests::STACK_SIZE;
 use crate::{
     AssignOperator, BinaryOperator, Expression, Item, PostfixOperator, PrefixOperator, Statement,
     Unit, parse,
@@ -5,6 +6,7 @@ use crate::{
 use om_lexer::{SourceFault, lex};
 use std::alloc::{AllocError, Global};
 use std::test::Fail;
+use std::thread::Builder;
 
 /// The expression of a function's first statement, with brackets round each operator and its
 /// operands, or its refusal as `S3 at 7`, counted from the expression's first byte.
@@ -340,8 +342,12 @@ fn repeated(
 }
 
 /// How often an opening, what stands in the middle, and how often a closing; the refusal.
-const EDGES: [(u32, &str, &str, &str, &str); 19] = [
+const EDGES: [(u32, &str, &str, &str, &str); 26] = [
     (1000, "!", "1", "", ""),
+    (4095, "!", "1", "", ""),
+    (4096, "!", "1", "", "S16 at 4096"),
+    (4096, "!", "", "", "S3 at 4096"),
+    (4097, "!", "", "", "S16 at 4096"),
     (128, "(", "1", ")", ""),
     (129, "(", "1", ")", "S16 at 128"),
     (129, "(", ")", "", "S16 at 128"),
@@ -357,18 +363,32 @@ const EDGES: [(u32, &str, &str, &str, &str); 19] = [
     (2048, "1+", "2", "", "S16 at 4096"),
     (2048, "1+", ";", "", "S3 at 4096"),
     (2047, "1+", "2=3", "", "S3 at 4095"),
-    (200, "a=", "2", "", ""),
-    (200, "a?b:", "c", "", ""),
-    (200, "a?", "c", ":d", ""),
+    (2047, "a=", "2", "", ""),
+    (2048, "a=", "2", "", "S16 at 4096"),
+    (1023, "a?b:", "c", "", ""),
+    (1024, "a?b:", "c", "", "S16 at 4096"),
+    (1023, "a?", "c", ":d", ""),
+    (1024, "a?", "c", ":d", "S16 at 4096"),
 ];
+
+/// How many of these edges come out as they must, from the first on.
+fn edges_right(alloc: Global) -> Result<usize, AllocError> {
+    for (index, (count, open, middle, close, wanted)) in EDGES.iter().enumerate() {
+        let source = repeated(alloc, *count, open, middle, close)?;
+        let text = refused(alloc, source.as_str())?;
+        if text.as_str() != *wanted {
+            return Ok(index);
+        }
+    }
+    Ok(EDGES.len())
+}
 
 #[test]
 fn limits_at_their_edge(rt: HostRuntime) -> Result<(), Fail> {
     let alloc = rt.alloc();
-    for (count, open, middle, close, wanted) in EDGES {
-        let source = repeated(alloc, count, open, middle, close)?;
-        let text = refused(alloc, source.as_str())?;
-        assert_eq!(rt; text.as_str(), wanted, "{count} {open} {middle}");
-    }
+    let thread = Builder::new()
+        .stack_size(STACK_SIZE)
+        .spawn(&rt, move || edges_right(alloc))?;
+    assert_eq!(rt; thread.join(&rt)?, EDGES.len());
     Ok(())
 }

@@ -1,7 +1,9 @@
+use crate::tests::STACK_SIZE;
 use crate::{Item, Statement, Unit, parse};
 use om_lexer::lex;
 use std::alloc::{AllocError, Global};
 use std::test::Fail;
+use std::thread::Builder;
 
 /// The statements of the last function of a source, each in brackets if others are in it, or its
 /// refusal as `S3 at 7`.
@@ -212,28 +214,45 @@ fn refusal(alloc: Global, source: &[u8]) -> Result<String, AllocError> {
     }
 }
 
+/// How often an opening, what stands in the middle, and how often a closing; the refusal.
+const EDGES: [(u32, &str, &str, &str, &str); 10] = [
+    // the function's block and 1,023 `if` round a statement, and one more
+    (1023, "if(1)", ";", "", ""),
+    (1024, "if(1)", ";", "", "S16 at 5133"),
+    (1024, "if(1)", ")", "", "S3 at 5133"),
+    (1023, "if(1)", "while(1);", "", "S16 at 5136"),
+    (1023, "if(1)", "{int x;}", "", ""),
+    (1023, "if(1)", "{int x;;}", "", "S16 at 5135"),
+    // the function's block and 127 more, and one more
+    (127, "{", ";", "}", ""),
+    (128, "{", ";", "}", "S16 at 140"),
+    (128, "{", "", "", "S16 at 140"),
+    // the parenthesis of a statement counts for the nesting
+    (127, "while(1);", "x=1;", "", ""),
+];
+
+/// How many of such sources come out as they must, from the first on.
+fn edges_right(
+    alloc: Global,
+    edges: &[(u32, &str, &str, &str, &str)],
+) -> Result<usize, AllocError> {
+    for (index, (count, open, middle, close, wanted)) in edges.iter().enumerate() {
+        let source = repeated(alloc, *count, open, middle, close)?;
+        let text = refusal(alloc, source.as_bytes())?;
+        if text.as_str() != *wanted {
+            return Ok(index);
+        }
+    }
+    Ok(edges.len())
+}
+
 #[test]
 fn limits_at_their_edge(rt: HostRuntime) -> Result<(), Fail> {
     let alloc = rt.alloc();
-    for (count, open, middle, close, wanted) in [
-        // the function's block and 1,023 `if` round a statement, and one more
-        (1023, "if(1)", ";", "", ""),
-        (1024, "if(1)", ";", "", "S16 at 5133"),
-        (1024, "if(1)", ")", "", "S3 at 5133"),
-        (1023, "if(1)", "while(1);", "", "S16 at 5136"),
-        (1023, "if(1)", "{int x;}", "", ""),
-        (1023, "if(1)", "{int x;;}", "", "S16 at 5135"),
-        // the function's block and 127 more, and one more
-        (127, "{", ";", "}", ""),
-        (128, "{", ";", "}", "S16 at 140"),
-        (128, "{", "", "", "S16 at 140"),
-        // the parenthesis of a statement counts for the nesting
-        (127, "while(1);", "x=1;", "", ""),
-    ] {
-        let source = repeated(alloc, count, open, middle, close)?;
-        let text = refusal(alloc, source.as_bytes())?;
-        assert_eq!(rt; text.as_str(), wanted, "{count} {open} {middle}");
-    }
+    let thread = Builder::new()
+        .stack_size(STACK_SIZE)
+        .spawn(&rt, move || edges_right(alloc, EDGES.as_slice()))?;
+    assert_eq!(rt; thread.join(&rt)?, EDGES.len());
     Ok(())
 }
 
@@ -468,10 +487,10 @@ const DEEP_DIRECTIVES: [(u32, &str, &str, &str, &str); 9] = [
 #[test]
 fn directives_at_the_limits(rt: HostRuntime) -> Result<(), Fail> {
     let alloc = rt.alloc();
-    for (count, open, middle, close, wanted) in DEEP_DIRECTIVES {
-        let source = repeated(alloc, count, open, middle, close)?;
-        let text = refusal(alloc, source.as_bytes())?;
-        assert_eq!(rt; text.as_str(), wanted, "{count} {middle}");
-    }
+    let thread = Builder::new().stack_size(STACK_SIZE).spawn(
+        &rt,
+        move || edges_right(alloc, DEEP_DIRECTIVES.as_slice()),
+    )?;
+    assert_eq!(rt; thread.join(&rt)?, DEEP_DIRECTIVES.len());
     Ok(())
 }
