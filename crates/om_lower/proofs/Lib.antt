@@ -1,5 +1,9 @@
 pub mod Lists
+pub mod Firsts
+pub mod Taken
 pub mod Sizes
+pub mod Rooms
+pub mod Views
 pub mod Heights
 pub mod Standing
 pub mod Bodies

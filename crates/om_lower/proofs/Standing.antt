@@ -5,10 +5,16 @@ use Rattle.std.proofs.lemmas.List.{length-replicate}
 use Rattle.om_code.specs.declared.instruction.Instr.{Instr}
 use Rattle.om_code.specs.declared.instruction.Instr.TheVariants as instrs
 use Rattle.om_code.specs.declared.raw.Body.{Body}
-use Rattle.om_scope.specs.ResolvedTree.{ResolvedExpressionTree, Variable, Constant, Binary}
-use Rattle.om_lower.specs.Code.{place_of, operator_of, Stands, HasExpression}
+use Rattle.om_code.specs.declared.instruction.BinaryOperator.TheVariants as operators
+use Rattle.om_code.specs.declared.instruction.Place.TheVariants as places
+use Rattle.om_parser.specs.declared.tree.BinaryOperator.TheVariants as binaries
+use Rattle.om_scope.specs.ResolvedTree.{ResolvedExpressionTree, Binary}
+use Rattle.om_lower.specs.Code as code
+use Rattle.om_lower.specs.Code.{Stands, HasExpression}
 use Rattle.om_lower.specs.Written.{expression_code}
 use Rattle.om_lower.proofs.Lists.{same_by_get}
+use Rattle.om_lower.proofs.Taken as taken
+use Rattle.om_lower.proofs.Taken.{IsTakenExpression}
 
 -- a list stands in another from a place on
 pub record HasAt (X : Type 0) (xs : List X) (at : ℕ) (part : List X) : Type 0 where
@@ -128,18 +134,19 @@ pub one_stands : (body : Body) (at line : ℕ) (instr : Instr) → HasAt Instr b
 one_stands body at line instr h l = record { instruction = has_one body.instructions at instr h; line_is = lines_one body at line l }
 
 -- what is written stands
-pub expression_stands : (e : ResolvedExpressionTree) (body : Body) (line at : ℕ) → HasAt Instr body.instructions at (expression_code e) → LinesAt body at (length (expression_code e)) line → HasExpression body line e at (at + length (expression_code e))
-expression_stands (Variable v) body line at h l = (one_stands body at line (instrs.Load (place_of v)) h l, omega arith)
-expression_stands (Constant z) body line at h l = (one_stands body at line (instrs.Constant z) h l, omega arith)
-expression_stands (Binary a o b) body line at h l =
+pub expression_stands : (e : ResolvedExpressionTree) → IsTakenExpression e → (body : Body) (line at : ℕ) → HasAt Instr body.instructions at (expression_code e) → LinesAt body at (length (expression_code e)) line → HasExpression body line e at (at + length (expression_code e))
+expression_stands e (taken.global number) body line at h l = code.global number at (one_stands body at line (instrs.Load (places.Global number)) h l)
+expression_stands e (taken.constant z) body line at h l = code.constant z at (one_stands body at line (instrs.Constant z) h l)
+expression_stands e (taken.sum a b ta tb) body line at h l =
     let ca = expression_code a in
     let cb = expression_code b in
-    let last = instrs.Binary (operator_of o) in
+    let last = instrs.Binary operators.Add in
     let n : length (ca ++ (cb ++ last ∷ [])) ≡ length ca + (length cb + 1) = omega (arith, length-append ca (cb ++ last ∷ []), length-append cb (last ∷ [])) in
     let l' = lines_as body at _ _ line n l in
     let hb = has_back body.instructions at ca (cb ++ last ∷ []) h in
     let lb = lines_back body at (length ca) (length cb + 1) line l' in
-    (at + length ca, at + length ca + length cb, expression_stands a body line at (has_front body.instructions at ca (cb ++ last ∷ []) h) (lines_front body at (length ca) _ line (omega arith) l'), expression_stands b body line (at + length ca) (has_front body.instructions (at + length ca) cb (last ∷ []) hb) (lines_front body (at + length ca) (length cb) _ line (omega arith) lb), one_stands body (at + length ca + length cb) line last (has_back body.instructions (at + length ca) cb (last ∷ []) hb) (lines_back body (at + length ca) (length cb) 1 line lb), omega (arith, n))
+    let end : at + length ca + length cb + 1 ≡ at + length (ca ++ (cb ++ last ∷ [])) = omega (arith, n) in
+    subst (λ to. HasExpression body line (Binary a binaries.Add b) at to) end (code.sum a b at (at + length ca) (at + length ca + length cb) (expression_stands a ta body line at (has_front body.instructions at ca (cb ++ last ∷ []) h) (lines_front body at (length ca) _ line (omega arith) l')) (expression_stands b tb body line (at + length ca) (has_front body.instructions (at + length ca) cb (last ∷ []) hb) (lines_front body (at + length ca) (length cb) _ line (omega arith) lb)) (one_stands body (at + length ca + length cb) line last (has_back body.instructions (at + length ca) cb (last ∷ []) hb) (lines_back body (at + length ca) (length cb) 1 line lb)))
 
 -- what stands is what is written
 pub record IsWritten (body : Body) (line from to : ℕ) (code : List Instr) : Type 0 where
@@ -157,8 +164,8 @@ both_written body line from middle to a b wa wb = record {
   lines = lines_as body from (length a + length b) (length (a ++ b)) line (omega (arith, length-append a b)) (lines_append body from (length a) (length b) line wa.lines (subst (λ p. LinesAt body p (length b) line) wa.to_is wb.lines));
 }
 
-pub expression_written : (e : ResolvedExpressionTree) (body : Body) (line from to : ℕ) → HasExpression body line e from to → IsWritten body line from to (expression_code e)
-expression_written (Variable v) body line from to (s, e) = one_written body line from to (instrs.Load (place_of v)) s e
-expression_written (Constant z) body line from to (s, e) = one_written body line from to (instrs.Constant z) s e
-expression_written (Binary a o b) body line from to (middle, last, ha, hb, s, e) =
-    both_written body line from middle to (expression_code a) _ (expression_written a body line from middle ha) (both_written body line middle last to (expression_code b) _ (expression_written b body line middle last hb) (one_written body line last to (instrs.Binary (operator_of o)) s e))
+pub expression_written : (body : Body) (line : ℕ) (e : ResolvedExpressionTree) (from to : ℕ) → HasExpression body line e from to → IsWritten body line from to (expression_code e)
+expression_written body line e from to (code.global number start s) = one_written body line start (start + 1) (instrs.Load (places.Global number)) s refl
+expression_written body line e from to (code.constant z start s) = one_written body line start (start + 1) (instrs.Constant z) s refl
+expression_written body line e from to (code.sum a b start middle last ha hb s) =
+    both_written body line start middle (last + 1) (expression_code a) _ (expression_written body line a start middle ha) (both_written body line middle last (last + 1) (expression_code b) _ (expression_written body line b middle last hb) (one_written body line last (last + 1) (instrs.Binary operators.Add) s refl))

@@ -1,3 +1,9 @@
 pub mod Code
-pub mod Limits
+pub mod Untaken
 pub mod Written
+pub mod SameExpression
+pub mod Slots
+pub mod Heights
+pub mod Limits
+pub mod Breaches
+pub mod Rooms

@@ -1,33 +1,54 @@
--- The code of a resolved tree as lists, which is what the emitter writes.
-use Rattle.std.specs.Prelude.{ℕ, List, [], ◌∷◌, ◌++◌, true, false, length, map, replicate}
+-- The code of a resolved tree as lists, which is what the emitter writes. A form that is not taken has the empty list.
+use Rattle.std.specs.Prelude.{ℕ, List, [], ◌∷◌, ◌++◌, Option, None, Some, true, false, length, map, replicate}
 use Rattle.std.specs.List.{flat_map}
+use Rattle.om_code.specs.declared.instruction.BinaryOperator.TheVariants as operators
 use Rattle.om_code.specs.declared.instruction.Instr.{Instr}
 use Rattle.om_code.specs.declared.instruction.Instr.TheVariants as instrs
+use Rattle.om_code.specs.declared.instruction.Place.TheVariants as places
 use Rattle.om_code.specs.declared.raw.Body.{Body}
 use Rattle.om_code.specs.declared.raw.Raw.{Raw}
-use Rattle.om_lower.specs.Code.{place_of, operator_of, global_of}
-use Rattle.om_lower.specs.Limits.{value_of}
-use Rattle.om_scope.specs.ResolvedTree.{ResolvedExpressionTree, Variable, Constant, Binary, ResolvedStatementTree, Assign, Return, ResolvedFunctionTree, ResolvedTree}
+use Rattle.om_lower.specs.Code.{global_of, statements_of}
+use Rattle.om_lower.specs.Untaken.{statement_first}
+use Rattle.om_parser.specs.declared.tree.BinaryOperator.{BinaryOperator}
+use Rattle.om_parser.specs.declared.tree.BinaryOperator.TheVariants as binaries
+use Rattle.om_scope.specs.declared.resolved.Variable as variables
+use Rattle.om_scope.specs.declared.resolved.Variable.TheVariants as named
+use Rattle.om_scope.specs.ResolvedTree.{ResolvedExpressionTree, Variable, Constant, Binary, Assign, ResolvedStatementTree, Expression, Return, ResolvedFunctionTree, ResolvedTree}
+
+abbrev pub load_code : variables.Variable → List Instr
+load_code (named.Global number) = instrs.Load (places.Global number) ∷ []
+load_code (named.Local at) = []
+
+abbrev pub store_code : variables.Variable → List Instr
+store_code (named.Global number) = instrs.Store (places.Global number) false ∷ []
+store_code (named.Local at) = []
+
+abbrev pub operator_code : BinaryOperator → List Instr
+operator_code binaries.Add = instrs.Binary operators.Add ∷ []
+operator_code _ = []
 
 abbrev pub expression_code : ResolvedExpressionTree → List Instr
-expression_code (Variable variable) = instrs.Load (place_of variable) ∷ []
 expression_code (Constant value) = instrs.Constant value ∷ []
-expression_code (Binary left operator right) = expression_code left ++ (expression_code right ++ instrs.Binary (operator_of operator) ∷ [])
+expression_code (Variable v) = load_code v
+expression_code (Binary a o b) = expression_code a ++ (expression_code b ++ operator_code o)
+expression_code _ = []
 
--- what is done with a statement's value
-abbrev pub last_of : ResolvedStatementTree → Instr
-last_of (Assign line variable value) = instrs.Store (place_of variable) false
-last_of (Return line value) = instrs.Finish true
+-- the code of an expression that stands alone
+abbrev pub effect_code : ResolvedExpressionTree → List Instr
+effect_code (Assign v o e) = expression_code e ++ store_code v
+effect_code _ = []
 
-abbrev pub line_of_statement : ResolvedStatementTree → ℕ
-line_of_statement (Assign line variable value) = line
-line_of_statement (Return line value) = line
+abbrev pub return_code : Option ResolvedExpressionTree → List Instr
+return_code None = []
+return_code (Some e) = expression_code e ++ instrs.Finish true ∷ []
 
 abbrev pub statement_code : ResolvedStatementTree → List Instr
-statement_code statement = expression_code (value_of statement) ++ last_of statement ∷ []
+statement_code (Expression at e) = effect_code e
+statement_code (Return at value) = return_code value
+statement_code _ = []
 
 abbrev pub statement_lines : ResolvedStatementTree → List ℕ
-statement_lines statement = replicate (length (statement_code statement)) (line_of_statement statement)
+statement_lines s = replicate (length (statement_code s)) (statement_first s).line
 
 abbrev pub statements_code : List ResolvedStatementTree → List Instr
 statements_code statements = flat_map statement_code statements
@@ -37,8 +58,8 @@ statements_lines statements = flat_map statement_lines statements
 
 abbrev pub body_of : ResolvedFunctionTree → Body
 body_of function = record {
-  instructions = statements_code function.statements ++ instrs.Finish false ∷ [];
-  lines = statements_lines function.statements ++ function.closing_line ∷ [];
+  instructions = statements_code (statements_of function) ++ instrs.Finish false ∷ [];
+  lines = statements_lines (statements_of function) ++ function.closing_line ∷ [];
   slots = 0;
 }
 

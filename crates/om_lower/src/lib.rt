@@ -2,9 +2,14 @@
 #![tactic(auto)]
 
 mod emit;
+mod height;
 pub mod laws;
 pub mod limit;
 pub mod look;
 pub mod lower;
+mod same;
+mod slots;
 #[cfg(test)]
 mod tests;
+mod untaken;
+mod update;

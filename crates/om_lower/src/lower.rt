@@ -1,35 +1,68 @@
 //! From a resolved tree to its code.
 
-ghost use Rattle.std.specs.Prelude.{◌≡◌, ◌≢◌, ◌≤◌, ◌<◌, [], ◌∷◌, Some, true, OnOk, IfOk, IfErr, IfSome, Any, map, length, position};
+ghost use Rattle.std.specs.Prelude.{◌≡◌, ◌≢◌, ◌≤◌, ◌<◌, [], ◌∷◌, ◌++◌, Some, true, OnOk, IfOk, IfErr, IfSome, Any, map, length, position};
 ghost use Rattle.om_lexer.specs.Faults.{no_memory};
 ghost use Rattle.om_lower.specs.Code.{IsCodeOf, global_of};
-ghost use Rattle.om_lower.specs.Limits.{limit_breaches, function_breaches};
+ghost use Rattle.om_lower.specs.Breaches.{code_breaches};
+ghost use Rattle.om_lower.specs.Limits.{length_breaches, limit_breaches, size_breaches};
 ghost use Rattle.om_scope.specs.Uses.{IsResolved, is_main_function};
+ghost use Rattle.om_lower.specs.Untaken.{untaken_breaches};
 ghost use Rattle.om_lower.specs.Written.{body_of};
-ghost use Rattle.om_lexer.specs.declared.fault.FaultCode.TheVariants.{TooMany};
-ghost use Rattle.om_scope.specs.Breaches.{first_of, breach_if};
+ghost use Rattle.om_scope.specs.Faults.{first_of};
 ghost use Rattle.om_scope.specs.ResolvedView.{view_resolved, view_resolved_function};
 
 use crate::emit::emit_function;
-use crate::limit::{INSTRUCTION_LIMIT, needs_too_many_operands};
+use crate::limit::{INSTRUCTION_LIMIT, check_limits, too_many};
+use crate::untaken::{check_taken, is_main};
 use om_code::program::Program;
 use om_code::raw::{self, Body, Raw};
-use om_lexer::{FaultCode, SourceFault};
+use om_lexer::SourceFault;
 use om_scope::{GlobalVariable, Resolved, ResolvedFunction};
 use om_seq::Seq;
 use std::alloc::{AllocError, Global};
 
 /// The program whose bodies are the code of the tree's functions and whose `main` is the body of `main`.
 ///
+/// Bodies that are too large are refused first, then forms that are not taken, and then code that is too long.
 /// Refusals:
 /// - S0 at byte 0: no memory.
-/// - S11 at a function's name: its body would have more than 65,536 instructions, or a statement of it would
-///   need more than 256 operands at once. Of several such functions the first is named.
+/// - S11 at a function's name: its body, or that of a `parallel` or a `task` in it, would have more than 256 slots, more
+///   than 4,096 cells of its own, or more than 256 operands at once. Of several such functions the first is named.
+/// - S3 at the first token of a function other than `main`, or of a statement of it that is not taken, and at the
+///   name of an array among the globals. Of several the first in the text is named.
+/// - S11 at a function's name: it would have more than 65,536 instructions. Of several the first is named.
+#[tactic(auto, using(crate::proofs::Firsts::first_front))]
 pub fn lower(alloc: Global, resolved: &Resolved) -> Result<Program, SourceFault>
     requires { IsResolved (view_resolved resolved.now) }
     ensures code { IfOk result (λ program. IsCodeOf (view_resolved resolved.now) program) }
-    ensures no_breach { OnOk result (limit_breaches (view_resolved resolved.now) ≡ []) }
-    ensures first_breach { IfErr result (λ fault. fault ≢ no_memory → first_of (limit_breaches (view_resolved resolved.now)) ≡ Some fault) }
+    ensures no_breach { OnOk result (code_breaches (view_resolved resolved.now) ≡ []) }
+    ensures first_breach { IfErr result (λ fault. fault ≢ no_memory → first_of (code_breaches (view_resolved resolved.now)) ≡ Some fault) }
+{
+    check_limits(resolved)?;
+    lower_within(alloc, resolved)
+}
+
+/// The program of a tree whose bodies are all within their limits.
+#[tactic(auto, using(crate::proofs::Firsts::first_front))]
+fn lower_within(alloc: Global, resolved: &Resolved) -> Result<Program, SourceFault>
+    requires resolved { IsResolved (view_resolved resolved.now) }
+    requires within { limit_breaches (view_resolved resolved.now) ≡ [] }
+    ensures code { IfOk result (λ program. IsCodeOf (view_resolved resolved.now) program) }
+    ensures no_breach { OnOk result (untaken_breaches (view_resolved resolved.now) ++ length_breaches (view_resolved resolved.now) ≡ []) }
+    ensures first_breach { IfErr result (λ fault. fault ≢ no_memory → first_of (untaken_breaches (view_resolved resolved.now) ++ length_breaches (view_resolved resolved.now)) ≡ Some fault) }
+{
+    check_taken(resolved)?;
+    lower_taken(alloc, resolved)
+}
+
+/// The program of such a tree whose forms are all taken.
+fn lower_taken(alloc: Global, resolved: &Resolved) -> Result<Program, SourceFault>
+    requires resolved { IsResolved (view_resolved resolved.now) }
+    requires within { limit_breaches (view_resolved resolved.now) ≡ [] }
+    requires taken { untaken_breaches (view_resolved resolved.now) ≡ [] }
+    ensures code { IfOk result (λ program. IsCodeOf (view_resolved resolved.now) program) }
+    ensures no_breach { OnOk result (length_breaches (view_resolved resolved.now) ≡ []) }
+    ensures first_breach { IfErr result (λ fault. fault ≢ no_memory → first_of (length_breaches (view_resolved resolved.now)) ≡ Some fault) }
 {
     let mut bodies = Vec::new(alloc);
     for function in resolved.functions.as_slice() {
@@ -43,30 +76,17 @@ pub fn lower(alloc: Global, resolved: &Resolved) -> Result<Program, SourceFault>
     }))
 }
 
-/// The body of a function, if it passes no limit.
+/// The body of a function, if it is not too long.
 fn lower_function(alloc: Global, function: &ResolvedFunction) -> Result<Body, SourceFault>
     ensures body { IfOk result (λ body. body ≡ body_of (view_resolved_function function.now)) }
-    ensures within { OnOk result (function_breaches (view_resolved_function function.now) ≡ []) }
-    ensures refused { IfErr result (λ fault. fault ≢ no_memory → function_breaches (view_resolved_function function.now) ≡ fault ∷ []) }
+    ensures within { OnOk result (size_breaches (view_resolved_function function.now) ≡ []) }
+    ensures refused { IfErr result (λ fault. fault ≢ no_memory → size_breaches (view_resolved_function function.now) ≡ fault ∷ []) }
 {
-    if needs_too_many_operands(function) {
-        return Err(too_many(function));
-    }
     let body = emit_function(alloc, function)?;
     if body.instructions.len() > INSTRUCTION_LIMIT {
         return Err(too_many(function));
     }
     Ok(body)
-}
-
-/// S11 at the function's name.
-fn too_many(function: &ResolvedFunction) -> SourceFault
-    ensures { breach_if true TooMany function.now.name_at ≡ result ∷ [] }
-{
-    SourceFault {
-        code: FaultCode::TooMany,
-        at: function.name_at,
-    }
 }
 
 /// The global variables of the code.
@@ -112,11 +132,4 @@ fn index_of_main(functions: &[ResolvedFunction]) -> Option<usize>
     ensures within { IfSome result (λ index. index < length functions.now) }
 {
     functions.iter().position(is_main)
-}
-
-/// Whether a function is `main`.
-fn is_main(function: &ResolvedFunction) -> bool
-    ensures { result ≡ is_main_function (view_resolved_function function.now) }
-{
-    function.name.as_slice() == b"main".as_slice()
 }

@@ -1,13 +1,14 @@
-//! Sources and their code, and one for each refusal.
+//! Sources and their code, and one for each refusal; what resolving answers is in `resolving`.
 
-use crate::limit::fits;
+mod resolving;
+
 use crate::look::{global_named, line_of};
 use crate::lower::lower;
 use om_code::instruction::{BinaryOperator, Instr, Place};
 use om_code::program::Program;
 use om_lexer::{SourceFault, lex};
 use om_parser::parse;
-use om_scope::{ResolvedExpression, resolve};
+use om_scope::resolve;
 use std::alloc::{AllocError, Global};
 use std::test::Fail;
 
@@ -18,18 +19,28 @@ fn program_of(alloc: Global, source: &[u8]) -> Result<Program, SourceFault> {
     lower(alloc, &resolved)
 }
 
-const HEAD: &[u8] = b"int x;int main(void){";
-
-const ASSIGNMENT: &[u8] = b"x=1;";
-
-/// `int main(void){ .. }` of so many assignments.
-fn assignments(alloc: Global, count: usize) -> Result<Vec<u8>, AllocError> {
-    let mut source = HEAD.to_vec(alloc)?;
+/// A source of so many copies of a part, with what stands before and behind them.
+fn repeated(
+    alloc: Global,
+    front: &[u8],
+    part: &[u8],
+    back: &[u8],
+    count: usize,
+) -> Result<Vec<u8>, AllocError> {
+    let mut source = front.to_vec(alloc)?;
     for _ in 0..count {
-        source.extend_from_slice(ASSIGNMENT)?;
+        source.extend_from_slice(part)?;
     }
-    source.push(b'}')?;
+    source.extend_from_slice(back)?;
     Ok(source)
+}
+
+/// The number and the place of a source's refusal; none where it has a program.
+fn refusal_of(alloc: Global, source: &[u8]) -> (u8, u32) {
+    match program_of(alloc, source) {
+        Ok(_) => (0, 0),
+        Err(fault) => (fault.code.number(), fault.at),
+    }
 }
 
 const X: Place = Place::Global(0);
@@ -93,33 +104,109 @@ fn globals_have_their_names_and_values(rt: HostRuntime) -> Result<(), Fail> {
     Ok(())
 }
 
+// Sources with forms that have no code, each with the byte of the first.
+const UNTAKEN: [(&[u8], u32); 5] = [
+    (b"int x; int main(void) { x = 1; if (x) x = 2; }", 31),
+    (b"int x; int main(void) { x = 1 + (x - 1); }", 24),
+    (b"int main(void) { int x; return 0; }", 17),
+    (
+        b"int f(void) { return 1; } int a[2]; int main(void) { return 0; }",
+        0,
+    ),
+    (
+        b"int a[2]; int f(void) { return 1; } int main(void) { return 0; }",
+        4,
+    ),
+];
+
+#[test]
+fn what_has_no_code_is_refused(rt: HostRuntime) -> Result<(), Fail> {
+    for (source, at) in UNTAKEN {
+        assert!(rt; refusal_of(rt.alloc(), source) == (3, at), "{at}");
+    }
+    Ok(())
+}
+
+const ASSIGNMENTS: &[u8] = b"int x;int main(void){";
+
 #[test]
 fn a_body_has_at_most_65536_instructions(rt: HostRuntime) -> Result<(), Fail> {
     let alloc = rt.alloc();
-    let most = program_of(alloc, assignments(alloc, 32_767)?.as_slice())?;
+    let most = program_of(
+        alloc,
+        repeated(alloc, ASSIGNMENTS, b"x=1;", b"}", 32_767)?.as_slice(),
+    )?;
     assert_eq!(rt;
         most.instruction(0, 65_534),
         Some(Instr::Finish { has_value: false })
     );
-    let Err(fault) = program_of(alloc, assignments(alloc, 32_768)?.as_slice()) else {
-        assert!(rt; false, "too many instructions were taken");
-        return Ok(());
-    };
-    assert_eq!(rt; fault.code.number(), 11);
-    assert_eq!(rt; fault.at, 10);
+    let more = repeated(alloc, ASSIGNMENTS, b"x=1;", b"}", 32_768)?;
+    assert!(rt; refusal_of(alloc, more.as_slice()) == (11, 10));
     Ok(())
 }
 
+// Parts with what stands round them: how many copies are within the limits, where the source is refused then,
+// and the function's name.
+const LARGEST: [(&[u8], &[u8], &[u8], usize, u32, u32); 8] = [
+    // Slots: those of `main`, and those of a `parallel`, which has one for the `x` that it shares.
+    (b"int main(void){", b"{int a;}", b"}", 256, 15, 4),
+    (
+        b"int main(void){int x;\n#pragma omp parallel\n{x=1;",
+        b"{int a;}",
+        b"}}",
+        255,
+        15,
+        4,
+    ),
+    // Cells: a shared variable has none.
+    (b"int main(void){int a[4095];", b"{int b;}", b"}", 1, 15, 4),
+    (
+        b"int main(void){int x;\n#pragma omp parallel\n{x=1;int a[4095];",
+        b"{int b;}",
+        b"}}",
+        1,
+        15,
+        4,
+    ),
+    (
+        b"int main(void){int x;\n#pragma omp task\n{x=1;int a[4094];",
+        b"{int b;}",
+        b"}}",
+        1,
+        15,
+        4,
+    ),
+    // Operands: each `a[0]=` leaves its index below its value, `b[0]+=` also the old one, an update does not.
+    (b"int a[1];int main(void){", b"a[0]=", b"1;}", 255, 4, 13),
+    (
+        b"int a[1],b[1];int main(void){b[0]+=",
+        b"a[0]=",
+        b"1;}",
+        253,
+        4,
+        18,
+    ),
+    (
+        b"int a[1],b[1];int main(void){\n#pragma omp atomic\nb[0]=b[0]*(",
+        b"a[0]=",
+        b"1);}",
+        254,
+        4,
+        18,
+    ),
+];
+
 #[test]
-fn a_statement_needs_at_most_256_operands(rt: HostRuntime) -> Result<(), Fail> {
+fn a_body_has_at_most_256_slots_4096_cells_and_256_operands(rt: HostRuntime) -> Result<(), Fail> {
     let alloc = rt.alloc();
-    let mut value = ResolvedExpression::Constant(1);
-    for _ in 0..255 {
-        let left = Box::new(alloc, ResolvedExpression::Constant(1))?;
-        let right = Box::new(alloc, value)?;
-        value = ResolvedExpression::Binary(left, om_scope::ResolvedOperator::Add, right);
+    for (front, part, back, count, at, name_at) in LARGEST {
+        let most = repeated(alloc, front, part, back, count)?;
+        assert!(rt; refusal_of(alloc, most.as_slice()) == (3, at), "{count}");
+        let more = repeated(alloc, front, part, back, count + 1)?;
+        assert!(rt;
+            refusal_of(alloc, more.as_slice()) == (11, name_at),
+            "{count}"
+        );
     }
-    assert!(rt; fits(&value, 256));
-    assert!(rt; !fits(&value, 255));
     Ok(())
 }

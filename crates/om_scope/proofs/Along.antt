@@ -1,10 +1,9 @@
 -- Parts in a row, as a loop goes through them.
-use Rattle.std.proofs.Common.{◌≡◌, List, [], ◌∷◌, ◌++◌, append_assoc, Option, None, Some, fold, option_map, refl, sym, ap, ◌∙◌}
+use Rattle.std.proofs.Common.{◌≡◌, List, [], ◌∷◌, ◌++◌, append_assoc, append-nil, Option, None, Some, fold, option_map, refl, sym, ap, ◌∙◌}
 use Rattle.om_lexer.specs.declared.fault.SourceFault.{SourceFault}
-use Rattle.om_scope.specs.Breaches.{first_of, breaches_along}
+use Rattle.om_scope.specs.Faults.{breaches_along, first_of}
 use Rattle.om_scope.specs.Outcomes.{Refuses}
-use Rattle.om_scope.specs.Resolution.{resolved_along, ◌>>=◌}
-use Rattle.om_scope.specs.Scopes.{Scopes}
+use Rattle.om_scope.specs.Perhaps.{◌>>=◌, all_along, all_of, each, each_along}
 use Rattle.om_scope.proofs.Firsts.{first_of_left}
 
 module _ {S X : Type 0} (breaches : S → X → List SourceFault) (after : S → X → S) where
@@ -28,32 +27,63 @@ module _ {S X : Type 0} (breaches : S → X → List SourceFault) (after : S →
   unbroken-refuse {start} {all} {state} {x} {left} {fault} l refused other =
       ap first_of l.unbroken ∙ first_of_left (breaches state x) (breaches_along breaches after (after state x) left) fault (refused other)
 
-module _ {X Y : Type 0} (resolved : Scopes → X → Option (List Y)) (after : Scopes → X → Scopes) where
-  -- these parts are left, in these scopes; this is made of those before them
-  pub record Made (start : Scopes) (all : List X) (scopes : Scopes) (left : List X) (made : List Y) : Type 0 where
-    pub resolution : resolved_along resolved after start all ≡ option_map (λ rest. made ++ rest) (resolved_along resolved after scopes left)
+-- what is made so far, and behind it what the parts that are left give
+abbrev pub made_and : {Y : Type 0} → List Y → Option (List Y) → Option (List Y)
+made_and made left = option_map (λ rest. made ++ rest) left
 
-  nothing_made : (rest : Option (List Y)) → rest ≡ option_map (λ rest. [] ++ rest) rest
-  nothing_made None = refl
-  nothing_made (Some rest) = refl
+pub nothing_made : {Y : Type 0} (left : Option (List Y)) → made_and [] left ≡ left
+nothing_made None = refl
+nothing_made (Some left) = refl
 
-  pub made-begin : (start : Scopes) (all : List X) → Made start all start all []
-  made-begin start all = record { resolution = nothing_made (resolved_along resolved after start all) }
+pub nothing_left : {Y : Type 0} (made : List Y) → made_and made (Some []) ≡ Some made
+nothing_left made = ap Some (append-nil made)
 
-  more_made : (made front : List Y) (rest : Option (List Y)) → option_map (λ rest. made ++ rest) (rest >>= λ rest. Some (front ++ rest)) ≡ option_map (λ rest. (made ++ front) ++ rest) rest
-  more_made made front None = refl
-  more_made made front (Some rest) = ap Some (sym (append_assoc made front rest))
+-- one more
+one_made : {Y : Type 0} (made : List Y) (y : Y) (rest : Option (List Y))
+    → made_and made (rest >>= λ ys. Some (y ∷ ys)) ≡ made_and (made ++ y ∷ []) rest
+one_made made y None = refl
+one_made made y (Some rest) = ap Some (sym (append_assoc made (y ∷ []) rest))
 
-  grown_made : (made grown : List Y) (front rest : Option (List Y)) → option_map (λ front. made ++ front) front ≡ Some grown
-      → option_map (λ rest. made ++ rest) (front >>= λ front. rest >>= λ rest. Some (front ++ rest)) ≡ option_map (λ rest. grown ++ rest) rest
-  grown_made made grown None rest e = cc
-  grown_made made grown (Some front) rest e =
-      let same : made ++ front ≡ grown = cc in
-      more_made made front rest ∙ ap (λ done. option_map (λ rest. done ++ rest) rest) same
+-- several more
+front_made : {Y : Type 0} (made front : List Y) (rest : Option (List Y))
+    → made_and made (rest >>= λ rest. Some (front ++ rest)) ≡ made_and (made ++ front) rest
+front_made made front None = refl
+front_made made front (Some rest) = ap Some (sym (append_assoc made front rest))
 
-  pub made-step : {start : Scopes} {all : List X} {scopes : Scopes} {x : X} {left : List X} {made : List Y}
-      → Made start all scopes (x ∷ left) made → (grown : List Y) → option_map (λ front. made ++ front) (resolved scopes x) ≡ Some grown
-      → Made start all (after scopes x) left grown
-  made-step {start} {all} {scopes} {x} {left} {made} l grown found = record {
-    resolution = l.resolution ∙ grown_made made grown (resolved scopes x) (resolved_along resolved after (after scopes x) left) found;
-  }
+more_made : {Y : Type 0} (made grown : List Y) (front rest : Option (List Y)) → made_and made front ≡ Some grown
+    → made_and made (front >>= λ front. rest >>= λ rest. Some (front ++ rest)) ≡ made_and grown rest
+more_made made grown None rest e = cc
+more_made made grown (Some front) rest e =
+    let same : made ++ front ≡ grown = cc in
+    front_made made front rest ∙ ap (λ done. made_and done rest) same
+
+module _ {S X Y : Type 0} (after : S → X → S) where
+  pub each_along-step : (f : S → X → Option Y) (state : S) (x : X) (left : List X) (made : List Y) (y : Y) → f state x ≡ Some y
+      → made_and made (each_along f after state (x ∷ left)) ≡ made_and (made ++ y ∷ []) (each_along f after (after state x) left)
+  each_along-step f state x left made y found =
+      ap (λ one. made_and made (one >>= λ y. each_along f after (after state x) left >>= λ ys. Some (y ∷ ys))) found
+      ∙ one_made made y (each_along f after (after state x) left)
+
+  -- the first, and what the others give behind it
+  pub each_along-first : (f : S → X → Option Y) (state behind : S) (x : X) (left : List X) (y : Y) (made all : List Y) → f state x ≡ Some y → behind ≡ after state x
+      → made ≡ y ∷ [] → made_and made (each_along f after behind left) ≡ Some all → each_along f after state (x ∷ left) ≡ Some all
+  each_along-first f state behind x left y made all found here one rest =
+      sym (nothing_made (each_along f after state (x ∷ left)))
+      ∙ each_along-step f state x left [] y found
+      ∙ ap (λ scopes. made_and (y ∷ []) (each_along f after scopes left)) (sym here)
+      ∙ ap (λ now. made_and now (each_along f after behind left)) (sym one)
+      ∙ rest
+
+  pub all_along-step : (f : S → X → Option (List Y)) (state : S) (x : X) (left : List X) (made grown : List Y) → made_and made (f state x) ≡ Some grown
+      → made_and made (all_along f after state (x ∷ left)) ≡ made_and grown (all_along f after (after state x) left)
+  all_along-step f state x left made grown found = more_made made grown (f state x) (all_along f after (after state x) left) found
+
+module _ {X Y : Type 0} where
+  pub each-step : (f : X → Option Y) (x : X) (left : List X) (made : List Y) (y : Y) → f x ≡ Some y
+      → made_and made (each f (x ∷ left)) ≡ made_and (made ++ y ∷ []) (each f left)
+  each-step f x left made y found =
+      ap (λ one. made_and made (one >>= λ y. each f left >>= λ ys. Some (y ∷ ys))) found ∙ one_made made y (each f left)
+
+  pub all_of-step : (f : X → Option (List Y)) (x : X) (left : List X) (made grown : List Y) → made_and made (f x) ≡ Some grown
+      → made_and made (all_of f (x ∷ left)) ≡ made_and grown (all_of f left)
+  all_of-step f x left made grown found = more_made made grown (f x) (all_of f left) found

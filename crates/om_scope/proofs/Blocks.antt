@@ -1,22 +1,25 @@
 -- What a block declares is forgotten behind it.
-use Rattle.std.specs.Prelude.{nat_le, if◌then◌else◌}
-use Rattle.std.proofs.Common.{◌≡◌, ℕ, ◌+◌, ◌≤◌, Bool, true, false, arith, List, [], ◌∷◌, ◌++◌, fold, Option, None, Some, refl, ap, ◌∙◌}
-use Rattle.om_lexer.specs.declared.fault.FaultCode.TheVariants as faults
+use Rattle.std.specs.Prelude.{if◌then◌else◌}
+use Rattle.std.proofs.Common.{◌≡◌, ℕ, ◌+◌, ◌≤◌, Bool, true, false, arith, List, [], ◌∷◌, ◌++◌, Option, None, Some, refl, ap, ◌∙◌}
 use Rattle.om_lexer.specs.declared.fault.SourceFault.{SourceFault}
-use Rattle.om_parser.specs.Tree.{DeclaratorTree, ForStartTree, Nothing, StartExpression, StartDeclaration, StatementTree, LocalDeclaration, Block, Empty, Expression, If, IfElse, While, Do, For, Return, Break, Continue, Construct, StandAlone, Sections, Section, StatementsTree, Statement}
+use Rattle.om_parser.specs.Tree.{DeclaratorTree, ForStartTree, Nothing, StartExpression, StartDeclaration, StatementTree, LocalDeclaration, Block, Empty, Expression, If, IfElse, While, Do, For, Return, Break, Continue, Construct, StandAlone, Sections, Section, StatementsTree, NoStatements, Statement}
 use Rattle.om_pragma.specs.declared.name.Name as names
 use Rattle.om_parser.specs.declared.tree.Parameter.{Parameter}
-use Rattle.om_scope.specs.declared.rules.flow.Flow.{Flow}
-use Rattle.om_scope.specs.declared.rules.symbols.Meaning.TheVariants as meanings
-use Rattle.om_scope.specs.declared.rules.symbols.Region.{Region}
-use Rattle.om_scope.specs.declared.rules.symbols.Shape.TheVariants as shapes
-use Rattle.om_scope.specs.declared.rules.statement.TheConstants.{SECTION_LIMIT}
-use Rattle.om_scope.specs.Faults.{breach_if, first_of}
-use Rattle.om_scope.specs.Places.{statement_start}
+use Rattle.om_scope.specs.declared.flow.Flow.{Flow}
+use Rattle.om_scope.specs.declared.resolved.Variable.TheVariants as variables
+use Rattle.om_scope.specs.declared.symbols.Meaning.TheVariants as meanings
+use Rattle.om_scope.specs.declared.symbols.Region.{Region}
+use Rattle.om_scope.specs.declared.symbols.Shape.TheVariants as shapes
+use Rattle.om_scope.specs.Faults.{first_of}
 use Rattle.om_scope.specs.Outcomes.{Refuses}
-use Rattle.om_scope.specs.InScope.{Scope, Scopes, inside, outside, plain, within, declarators_of, shape_of, after_local, after_locals, after_parameter_name, after_parameters}
+use Rattle.om_scope.specs.Scopes.{Scope, Scopes, inside, outside, plain, within, declarators_of, shape_of, after_locals, after_parameter_name, after_parameters}
+use Rattle.om_scope.specs.Perhaps.{◌>>=◌}
+use Rattle.om_scope.specs.ResolvedTree as resolved
+use Rattle.om_scope.specs.ResolvedTree.{ResolvedStatementTree, ResolvedStatementsTree}
+use Rattle.om_scope.specs.StatementResolution.{part_of, resolved_part, resolved_parts, resolved_statement, resolved_statements}
 use Rattle.om_scope.specs.StatementRules.{after_for_start, after_statement, after_statements, part_breaches, begins_part, parts_behind, sections_breaches, statement_breaches, statements_breaches}
 use Rattle.om_scope.proofs.Firsts.{first_of_left}
+use Rattle.om_scope.proofs.Statements.{Made, made_step, made_whole}
 
 -- in the same construct or block still
 abbrev pub StaysWithin : Region → Scopes → Scopes → Type 0
@@ -24,7 +27,7 @@ StaysWithin region scopes behind = (inner : Scope) × (behind ≡ within inner r
 
 locals_within : (inner : Scope) (region : Region) (scopes : Scopes) (ds : List DeclaratorTree) → StaysWithin region scopes (after_locals (within inner region scopes) ds)
 locals_within inner region scopes [] = (inner, refl)
-locals_within inner region scopes (d ∷ ds) = locals_within (inner ++ (d.name.text, meanings.Variable (shape_of d.array)) ∷ []) region scopes ds
+locals_within inner region scopes (d ∷ ds) = locals_within (inner ++ (d.name.text, meanings.Variable (variables.Local d.name.span.start) (shape_of d.array)) ∷ []) region scopes ds
 
 statement_within : (inner : Scope) (region : Region) (scopes : Scopes) (s : StatementTree) → StaysWithin region scopes (after_statement (within inner region scopes) s)
 statement_within inner region scopes (LocalDeclaration d) = locals_within inner region scopes (declarators_of d)
@@ -58,7 +61,7 @@ parameters_within inner region scopes (p ∷ ps) = by p.name (λ own. parameters
     by : (name : Option names.Name) → ((own : Scope) → StaysWithin region scopes (after_parameters (within own region scopes) ps))
         → StaysWithin region scopes (after_parameters (after_parameter_name (within inner region scopes) name) ps)
     by None rest = rest inner
-    by (Some name) rest = rest (inner ++ (name.text, meanings.Variable shapes.Scalar) ∷ [])
+    by (Some name) rest = rest (inner ++ (name.text, meanings.Variable (variables.Local name.span.start) shapes.Scalar) ∷ [])
 
 pub body_outside : (scopes : Scopes) (s : StatementTree) → outside (after_statement (inside scopes) s) ≡ scopes
 body_outside scopes s = ap outside (statement_within [] plain scopes s).1
@@ -113,3 +116,29 @@ pub parts_step : (scopes : Scopes) (flow : Flow) (before : ℕ) (all : Statement
     → sections_breaches scopes flow 0 all ≡ sections_breaches scopes flow (parts_behind before s) rest
 unfolding sections_breaches
 parts_step scopes flow before all s rest left whole = left ∙ ap (λ here. here ++ sections_breaches scopes flow (parts_behind before s) rest) whole
+
+pub statements_made : (state : Scopes) (parallel : Option ℕ) (s : StatementTree) (rest : StatementsTree) (whole : Option ResolvedStatementsTree) (made : List ResolvedStatementTree) (t : ResolvedStatementTree)
+    → Made whole (resolved_statements state parallel (Statement s rest)) made → resolved_statement state parallel s ≡ Some t
+    → Made whole (resolved_statements (after_statement state s) parallel rest) (made ++ t ∷ [])
+unfolding resolved_statements
+statements_made state parallel s rest whole made t left one = made_step whole _ made t (λ t. t) (resolved_statement state parallel s) left (same (resolved_statement state parallel s) ∙ one)
+  where
+    same : (found : Option ResolvedStatementTree) → (found >>= λ t. Some t) ≡ found
+    same None = refl
+    same (Some t) = refl
+
+pub parts_made : (scopes : Scopes) (parallel : Option ℕ) (before : ℕ) (s : StatementTree) (rest : StatementsTree) (whole : Option ResolvedStatementsTree) (made : List ResolvedStatementTree) (t : ResolvedStatementTree)
+    → Made whole (resolved_parts scopes parallel before (Statement s rest)) made → resolved_part scopes parallel before s ≡ Some t
+    → Made whole (resolved_parts scopes parallel (parts_behind before s) rest) (made ++ t ∷ [])
+unfolding resolved_parts
+parts_made scopes parallel before s rest whole made t left one = made_step whole _ made t (part_of (begins_part before s)) (resolved_statement (inside scopes) parallel s) left one
+
+pub statements_whole : (state : Scopes) (parallel : Option ℕ) (whole : Option ResolvedStatementsTree) (made : List ResolvedStatementTree)
+    → Made whole (resolved_statements state parallel NoStatements) made → whole ≡ Some (resolved.statements made)
+unfolding resolved_statements
+statements_whole state parallel whole made left = made_whole whole made left
+
+pub parts_whole : (scopes : Scopes) (parallel : Option ℕ) (before : ℕ) (whole : Option ResolvedStatementsTree) (made : List ResolvedStatementTree)
+    → Made whole (resolved_parts scopes parallel before NoStatements) made → whole ≡ Some (resolved.statements made)
+unfolding resolved_parts
+parts_whole scopes parallel before whole made left = made_whole whole made left

@@ -1,50 +1,21 @@
--- The numbers of variables are the places of their names among the globals.
-use Rattle.std.proofs.Common.{◌≡◌, codes, ℕ, zero, suc, ◌+◌, Bool, true, false, cond, ◌⊎◌, inl, inr, List, [], ◌∷◌, ◌++◌, append_assoc, append-nil, Option, None, Some, option_map, fold, map, length, slice_get, refl, sym, ap, subst, ◌∙◌, arith, length-append}
-use Rattle.std.proofs.lemmas.List.{map-append}
-use Rattle.std.proofs.lemmas.List.Sums.{sum_by-append}
-use Rattle.std.proofs.lemmas.Slice.Eq.{bytes_eq-Decides}
+-- The numbers of globals are the places of their names among those that are declared.
+use Rattle.std.proofs.Common.{◌≡◌, ℕ, zero, suc, Bool, true, false, cond, List, [], ◌∷◌, ◌++◌, append_assoc, append-nil, Some, fold, map, length, slice_get, refl, sym, ap, subst, ◌∙◌, arith, length-append}
+use Rattle.std.specs.Prelude.{IfSome}
 use Rattle.std.specs.List.{flat_map}
 use Rattle.std.specs.Map.{lookup}
-use Rattle.std.specs.Option.{option_or}
 use Rattle.std.specs.Str.{bytes_eq}
-use Rattle.om_parser.specs.Tree.{DeclaratorTree, ItemTree, Declaration, Prototype, Function}
+use Rattle.std.proofs.lemmas.List.{map-append}
+use Rattle.std.proofs.lemmas.Option.{slice_get-map}
+use Rattle.std.proofs.lemmas.Slice.Eq.{bytes_eq-Decides}
+use Rattle.om_parser.specs.Tree.{DeclaratorTree, HeadTree, ItemTree, Declaration, Prototype, Function}
 use Rattle.om_scope.specs.declared.resolved.GlobalVariable.{GlobalVariable}
 use Rattle.om_scope.specs.declared.resolved.Variable.TheVariants as variables
 use Rattle.om_scope.specs.declared.symbols.Meaning.{Meaning}
 use Rattle.om_scope.specs.declared.symbols.Meaning.TheVariants as meanings
 use Rattle.om_scope.specs.Laws.{NumbersNameGlobals}
-use Rattle.om_scope.specs.Resolution.{global_of, globals_of}
-use Rattle.om_scope.specs.Scopes.{Binding, Scope, Scopes, file_scope, meaning_of, is_global, globals_in, with_binding, with_global, with_function, after_declarator, after_item, declarators_of}
-
--- ---- what a name means once another is declared
-
-at_last : (test : Bool) (own : Meaning) (other : Option Meaning) (found : Meaning)
-    → option_or (cond test (Some own) None) other ≡ Some found → (other ≡ Some found) ⊎ ((test ≡ true) × (own ≡ found))
-at_last true own other found e = inr (refl, cc)
-at_last false own other found e = inl e
-
-at_first : (test : Bool) (own : Meaning) (front all other : Option Meaning) (found : Meaning) (P : Type 0)
-    → (option_or all other ≡ Some found → (option_or front other ≡ Some found) ⊎ P)
-    → option_or (cond test (Some own) all) other ≡ Some found → (option_or (cond test (Some own) front) other ≡ Some found) ⊎ P
-at_first true own front all other found P behind e = inl e
-at_first false own front all other found P behind e = behind e
-
-in_scope : (test : List ℕ → Bool) (scope : Scope) (binding : Binding) (other : Option Meaning) (found : Meaning)
-    → option_or (lookup test (scope ++ binding ∷ [])) other ≡ Some found
-    → (option_or (lookup test scope) other ≡ Some found) ⊎ ((test binding.0 ≡ true) × (binding.1 ≡ found))
-in_scope test [] binding other found e = at_last (test binding.0) binding.1 other found e
-in_scope test (own ∷ scope) binding other found e =
-    at_first (test own.0) own.1 (lookup test scope) (lookup test (scope ++ binding ∷ [])) other found _ (in_scope test scope binding other found) e
-
--- its meaning before, or it is the name that is declared
-meaning_of-with_binding : (scopes : Scopes) (binding : Binding) (name : List ℕ) (found : Meaning) → meaning_of (with_binding scopes binding) name ≡ Some found
-    → (meaning_of scopes name ≡ Some found) ⊎ ((bytes_eq name binding.0 ≡ true) × (binding.1 ≡ found))
-meaning_of-with_binding [] binding name found e = at_last (bytes_eq name binding.0) binding.1 None found e
-meaning_of-with_binding (scope ∷ outer) binding name found e = in_scope (bytes_eq name) scope binding (meaning_of outer name) found e
-
-globals_in-with_binding : (scopes : Scopes) (binding : Binding) → globals_in (with_binding scopes binding) ≡ globals_in scopes + cond (is_global binding) 1 0
-globals_in-with_binding [] binding = omega arith
-globals_in-with_binding (scope ∷ outer) binding = omega (arith, sum_by-append (λ own. cond (is_global own) 1 0) scope (binding ∷ []))
+use Rattle.om_scope.specs.Scopes.{Binding, Scope, Scopes, file_scope, definitions_of, meaning_of, meaning_outside, is_declared, shape_of, signature_of, with_function, after_global, after_globals, after_prototype, after_function, after_item, declarators_of}
+use Rattle.om_scope.specs.UnitResolution.{global_of, globals_of}
+use Rattle.om_scope.proofs.Steps.{if_either, if_first, if_given}
 
 -- ---- places in a list that grows
 
@@ -57,75 +28,100 @@ slice_get-last : {X : Type 0} (xs : List X) (x : X) → slice_get (xs ++ x ∷ [
 slice_get-last [] x = refl
 slice_get-last (y ∷ xs) x = slice_get-last xs x
 
-slice_get-map : {X Y : Type 0} (f : X → Y) (xs : List X) (i : ℕ) → slice_get (map f xs) i ≡ option_map f (slice_get xs i)
-slice_get-map f [] i = refl
-slice_get-map f (x ∷ xs) zero = refl
-slice_get-map f (x ∷ xs) (suc i) = slice_get-map f xs i
+-- ---- scopes whose globals are numbered by the places of their names among these
 
--- ---- the names of the globals so far, in the order of their numbers
+abbrev Names : Type 0
+Names = List (List ℕ)
 
-abbrev pub global : ℕ → Meaning
-global number = meanings.Variable (variables.Global number)
+abbrev MeansOne : Names → List ℕ → Meaning → Type 0
+MeansOne globals name (meanings.Variable (variables.Global number) shape) = slice_get globals number ≡ Some name
+MeansOne globals name (meanings.Variable (variables.Local at) shape) = Unit {0}
+MeansOne globals name (meanings.Function signature) = Unit {0}
+MeansOne globals name meanings.Printf = Unit {0}
 
-record Numbered (scopes : Scopes) (names : List (List ℕ)) : Type 0 where
-  pub count : globals_in scopes ≡ length names
-  pub named : (name : List ℕ) (number : ℕ) → meaning_of scopes name ≡ Some (global number) → slice_get names number ≡ Some name
+abbrev AllMeanOne : Names → Scope → Type 0
+AllMeanOne globals [] = Unit {0}
+AllMeanOne globals (b ∷ bs) = MeansOne globals b.0 b.1 × AllMeanOne globals bs
 
-only_functions : (a b c : Bool) (number : ℕ)
-    → option_or (cond a (Some meanings.Function) (cond b (Some meanings.Function) (cond c (Some meanings.Function) None))) None ≡ Some (global number) → ⊥
-only_functions true b c number e = cc
-only_functions false true c number e = cc
-only_functions false false true number e = cc
-only_functions false false false number e = cc
+record Numbered (globals : Names) (scopes : Scopes) : Type 0 where
+  count : scopes.globals ≡ length globals
+  inner : AllMeanOne globals scopes.inner
+  outer : scopes.outer ≡ []
 
-numbered-file : Numbered file_scope []
-numbered-file = record {
-  count = refl;
-  named = λ name number e. absurd (only_functions (bytes_eq name (codes "printf")) (bytes_eq name (codes "omp_get_thread_num")) (bytes_eq name (codes "omp_get_num_threads")) number e);
-}
+means_more : (globals further : Names) (name : List ℕ) (meaning : Meaning) → MeansOne globals name meaning → MeansOne (globals ++ further) name meaning
+means_more globals further name (meanings.Variable (variables.Global number) shape) h = slice_get-append globals further number name h
+means_more globals further name (meanings.Variable (variables.Local at) shape) h = tt
+means_more globals further name (meanings.Function signature) h = tt
+means_more globals further name meanings.Printf h = tt
 
-numbered-function : (scopes : Scopes) (names : List (List ℕ)) (name : List ℕ) → Numbered scopes names → Numbered (with_function scopes name) names
-numbered-function scopes names name n = record {
-  count = omega (arith, globals_in-with_binding scopes (name, meanings.Function), n.count);
-  named = λ used number e. by used number (meaning_of-with_binding scopes (name, meanings.Function) used (global number) e);
-}
+mean_more : (globals further : Names) (scope : Scope) → AllMeanOne globals scope → AllMeanOne (globals ++ further) scope
+mean_more globals further [] h = tt
+mean_more globals further (b ∷ bs) h = (means_more globals further b.0 b.1 h.0, mean_more globals further bs h.1)
+
+mean_push : (globals : Names) (scope : Scope) (b : Binding) → AllMeanOne globals scope → MeansOne globals b.0 b.1 → AllMeanOne globals (scope ++ b ∷ [])
+mean_push globals [] b h hb = (hb, tt)
+mean_push globals (c ∷ cs) b h hb = (h.0, mean_push globals cs b h.1 hb)
+
+-- ---- what a name means
+
+lookup_means : (globals : Names) (name : List ℕ) (scope : Scope) → AllMeanOne globals scope → IfSome (lookup (bytes_eq name) scope) (MeansOne globals name)
+lookup_means globals name [] h = tt
+lookup_means globals name ((other, meaning) ∷ bs) h = by (bytes_eq name other) refl (lookup_means globals name bs h.1)
   where
-    by : (used : List ℕ) (number : ℕ) → (meaning_of scopes used ≡ Some (global number)) ⊎ ((bytes_eq used name ≡ true) × (meanings.Function ≡ global number)) → slice_get names number ≡ Some used
-    by used number (inl e) = n.named used number e
-    by used number (inr (same, e)) = cc
+    by : (test : Bool) → bytes_eq name other ≡ test → IfSome (lookup (bytes_eq name) bs) (MeansOne globals name) → IfSome (cond test (Some meaning) (lookup (bytes_eq name) bs)) (MeansOne globals name)
+    by true same rest = subst (λ own. MeansOne globals own meaning) (sym ((bytes_eq-Decides name other).0 same)) h.0
+    by false same rest = rest
 
-numbered-global : (scopes : Scopes) (names : List (List ℕ)) (name : List ℕ) → Numbered scopes names → Numbered (with_global scopes name) (names ++ name ∷ [])
-numbered-global scopes names name n = record {
-  count = omega (arith, globals_in-with_binding scopes (name, global (globals_in scopes)), n.count, length-append names (name ∷ []));
-  named = λ used number e. by used number (meaning_of-with_binding scopes (name, global (globals_in scopes)) used (global number) e);
+means_one : (globals : Names) (scopes : Scopes) (name : List ℕ) → Numbered globals scopes → IfSome (meaning_of scopes name) (MeansOne globals name)
+means_one globals scopes name h =
+    if_first (MeansOne globals name) (lookup (bytes_eq name) scopes.inner) (meaning_outside scopes.outer name) (lookup_means globals name scopes.inner h.inner)
+    (subst (λ outer. IfSome (meaning_outside outer name) (MeansOne globals name)) (sym h.outer) tt)
+
+-- ---- declarations
+
+numbered_function : (globals : Names) (scopes : Scopes) (head : HeadTree) → Numbered globals scopes → Numbered globals (after_prototype scopes head)
+numbered_function globals scopes head h =
+    if_either (Numbered globals) (is_declared scopes head.name.text) scopes (with_function scopes head.name.text (signature_of head)) h
+    (record { count = h.count; inner = mean_push globals scopes.inner (head.name.text, meanings.Function (signature_of head)) h.inner tt; outer = h.outer })
+
+numbered_global : (globals : Names) (scopes : Scopes) (d : DeclaratorTree) → Numbered globals scopes → Numbered (globals ++ d.name.text ∷ []) (after_global scopes d)
+numbered_global globals scopes d h = record {
+  count = omega (arith, h.count, length-append globals (d.name.text ∷ []));
+  inner = mean_push (globals ++ d.name.text ∷ []) scopes.inner (d.name.text, meanings.Variable (variables.Global scopes.globals) (shape_of d.array))
+      (mean_more globals (d.name.text ∷ []) scopes.inner h.inner)
+      (subst (λ number. slice_get (globals ++ d.name.text ∷ []) number ≡ Some d.name.text) (sym h.count) (slice_get-last globals d.name.text));
+  outer = h.outer;
 }
-  where
-    by : (used : List ℕ) (number : ℕ) → (meaning_of scopes used ≡ Some (global number)) ⊎ ((bytes_eq used name ≡ true) × (global (globals_in scopes) ≡ global number)) → slice_get (names ++ name ∷ []) number ≡ Some used
-    by used number (inl e) = slice_get-append names (name ∷ []) number used (n.named used number e)
-    by used number (inr (same, e)) =
-        let here : length names ≡ number = cc (n.count) in
-        subst (λ i. slice_get (names ++ name ∷ []) i ≡ Some used) here (slice_get-last names name ∙ ap Some (sym ((bytes_eq-Decides used name).0 same)))
 
-abbrev pub name_of : GlobalVariable → List ℕ
+abbrev name_of : GlobalVariable → List ℕ
 name_of variable = variable.name
 
-numbered-declarators : (scopes : Scopes) (names : List (List ℕ)) (ds : List DeclaratorTree) → Numbered scopes names → Numbered (fold after_declarator scopes ds) (names ++ map name_of (map global_of ds))
-numbered-declarators scopes names [] n = rw append-nil n
-numbered-declarators scopes names (d ∷ ds) n =
-    subst (Numbered _) (append_assoc names (d.name.text ∷ []) (map name_of (map global_of ds)))
-    (numbered-declarators (with_global scopes d.name.text) (names ++ d.name.text ∷ []) ds (numbered-global scopes names d.name.text n))
+numbered_globals : (ds : List DeclaratorTree) (globals : Names) (scopes : Scopes) → Numbered globals scopes → Numbered (globals ++ map name_of (map global_of ds)) (after_globals scopes ds)
+numbered_globals [] globals scopes h = rw append-nil h
+numbered_globals (d ∷ ds) globals scopes h =
+    subst (λ all. Numbered all (after_globals scopes (d ∷ ds))) (append_assoc globals (d.name.text ∷ []) (map name_of (map global_of ds)))
+    (numbered_globals ds (globals ++ d.name.text ∷ []) (after_global scopes d) (numbered_global globals scopes d h))
 
-numbered-item : (scopes : Scopes) (names : List (List ℕ)) (item : ItemTree) → Numbered scopes names → Numbered (after_item scopes item) (names ++ map name_of (globals_of item))
-numbered-item scopes names (Declaration d) n = numbered-declarators scopes names (declarators_of d) n
-numbered-item scopes names (Prototype head semicolon) n = rw append-nil n
-numbered-item scopes names (Function f) n = rw append-nil (numbered-function scopes names f.head.name.text n)
+numbered_item : (globals : Names) (scopes : Scopes) (item : ItemTree) → Numbered globals scopes → Numbered (globals ++ map name_of (globals_of item)) (after_item scopes item)
+numbered_item globals scopes (Declaration d) h = numbered_globals (declarators_of d) globals scopes h
+numbered_item globals scopes (Prototype head semicolon) h = rw append-nil (numbered_function globals scopes head h)
+numbered_item globals scopes (Function f) h =
+    let p = numbered_function globals scopes f.head h in
+    let behind : Numbered globals (after_function scopes f.head) = record { count = p.count; inner = p.inner; outer = p.outer } in
+    rw append-nil behind
 
-numbered-items : (scopes : Scopes) (names : List (List ℕ)) (items : List ItemTree) → Numbered scopes names → Numbered (fold after_item scopes items) (names ++ map name_of (flat_map globals_of items))
-numbered-items scopes names [] n = rw append-nil n
-numbered-items scopes names (item ∷ items) n =
-    let more = numbered-items (after_item scopes item) (names ++ map name_of (globals_of item)) items (numbered-item scopes names item n) in
-    subst (Numbered _) (append_assoc names (map name_of (globals_of item)) (map name_of (flat_map globals_of items))
-    ∙ ap (λ own. names ++ own) (sym (map-append name_of (globals_of item) (flat_map globals_of items)))) more
+numbered_items : (items : List ItemTree) (globals : Names) (scopes : Scopes) → Numbered globals scopes → Numbered (globals ++ map name_of (flat_map globals_of items)) (fold after_item scopes items)
+numbered_items [] globals scopes h = rw append-nil h
+numbered_items (item ∷ items) globals scopes h =
+    subst (λ all. Numbered all (fold after_item scopes (item ∷ items)))
+    (append_assoc globals (map name_of (globals_of item)) (map name_of (flat_map globals_of items))
+    ∙ ap (λ own. globals ++ own) (sym (map-append name_of (globals_of item) (flat_map globals_of items))))
+    (numbered_items items (globals ++ map name_of (globals_of item)) (after_item scopes item) (numbered_item globals scopes item h))
 
 pub numbers_name_globals : NumbersNameGlobals
-numbers_name_globals items name number e = sym (slice_get-map name_of (flat_map globals_of items) number) ∙ (numbered-items file_scope [] items numbered-file).named name number e
+numbers_name_globals items name number shape e =
+    let start : Numbered [] (file_scope (definitions_of items)) = record { count = refl; inner = (tt, (tt, (tt, tt))); outer = refl } in
+    let all = numbered_items items [] (file_scope (definitions_of items)) start in
+    let own = if_given (MeansOne (map name_of (flat_map globals_of items)) name) (meaning_of (fold after_item (file_scope (definitions_of items)) items) name) (meanings.Variable (variables.Global number) shape)
+    (means_one (map name_of (flat_map globals_of items)) (fold after_item (file_scope (definitions_of items)) items) name all) e in
+    sym (slice_get-map name_of (flat_map globals_of items) number) ∙ own

@@ -1,7 +1,6 @@
 -- The rules of directives, each by the breaches that one has of it, in the order of the text.
-use Rattle.std.specs.Prelude.{ℕ, List, [], ◌∷◌, ◌++◌, Option, None, Some, Bool, true, false, fold, map, is_some, not, ◌&&◌, ◌||◌}
+use Rattle.std.specs.Prelude.{ℕ, List, [], ◌∷◌, ◌++◌, Option, None, Some, Bool, true, false, fold, map, not, ◌&&◌, ◌||◌, if◌then◌else◌}
 use Rattle.std.specs.List.{list_any, flat_map}
-use Rattle.std.specs.Map.{lookup}
 use Rattle.std.specs.Str.{bytes_eq}
 use Rattle.om_lexer.specs.declared.fault.FaultCode.TheVariants as faults
 use Rattle.om_lexer.specs.declared.fault.SourceFault.{SourceFault}
@@ -19,20 +18,22 @@ use Rattle.om_pragma.specs.declared.tree.DirectiveName.{DirectiveName}
 use Rattle.om_pragma.specs.declared.tree.DirectiveName.TheVariants as directives
 use Rattle.om_pragma.specs.Questions.{word_span}
 use Rattle.om_parser.specs.Tree.{ExpressionTree}
-use Rattle.om_scope.specs.declared.rules.construct.Inside.{Inside}
-use Rattle.om_scope.specs.declared.rules.construct.Inside.TheVariants as insides
-use Rattle.om_scope.specs.declared.rules.construct.Traits.{Traits}
-use Rattle.om_scope.specs.declared.rules.flow.Flow.{Flow}
-use Rattle.om_scope.specs.declared.rules.symbols.Meaning.{Meaning}
-use Rattle.om_scope.specs.declared.rules.symbols.Meaning.TheVariants as meanings
-use Rattle.om_scope.specs.declared.rules.symbols.Region.{Region}
-use Rattle.om_scope.specs.declared.rules.symbols.RegionKind.{RegionKind}
-use Rattle.om_scope.specs.declared.rules.symbols.RegionKind.TheVariants as regions
-use Rattle.om_scope.specs.declared.rules.symbols.Shape.TheVariants as shapes
+use Rattle.om_scope.specs.declared.construct.Inside.{Inside}
+use Rattle.om_scope.specs.declared.construct.Inside.TheVariants as insides
+use Rattle.om_scope.specs.declared.construct.Traits.{Traits}
+use Rattle.om_scope.specs.declared.flow.Flow.{Flow}
+use Rattle.om_scope.specs.declared.symbols.Meaning.{Meaning}
+use Rattle.om_scope.specs.declared.symbols.Meaning.TheVariants as meanings
+use Rattle.om_scope.specs.declared.symbols.RegionKind.{RegionKind}
+use Rattle.om_scope.specs.declared.symbols.RegionKind.TheVariants as regions
+use Rattle.om_scope.specs.declared.symbols.Shape.TheVariants as shapes
+use Rattle.om_scope.specs.declared.resolved.CopyKind.{CopyKind}
+use Rattle.om_scope.specs.declared.resolved.CopyKind.TheVariants as copies
+use Rattle.om_scope.specs.declared.resolved.Variable.TheVariants as variables
 use Rattle.om_scope.specs.Faults.{breach_if, breaches_along}
 use Rattle.om_scope.specs.ExpressionRules.{expression_breaches, is_copied_array, is_scalar, undeclared_breaches}
-use Rattle.om_scope.specs.InScope.{Scope, Scopes, meaning_of, with_name, within}
-use Rattle.om_scope.specs.Sharing.{declares, is_unlisted}
+use Rattle.om_scope.specs.Scopes.{Binding, Scope, Scopes, meaning_of, with_name, within}
+use Rattle.om_scope.specs.Sharing.{declares, is_parallel, is_unlisted}
 
 -- ---- directives
 
@@ -64,14 +65,19 @@ is_closed_inside insides.Opens closed = false
 is_closed_inside insides.Closes closed = true
 is_closed_inside insides.Keeps closed = closed
 
+-- where the innermost `parallel` begins
+abbrev pub parallel_in : Directive ExpressionTree → Option ℕ → Option ℕ
+parallel_in d outer = if is_parallel (traits_of d.name).region then Some d.hash.start else outer
+
 -- in a construct, which no jump leaves
-abbrev pub constructing : DirectiveName → Flow → Flow
-constructing name flow = record {
+abbrev pub constructing : Directive ExpressionTree → Flow → Flow
+constructing d flow = record {
   may_break = false;
   may_continue = false;
   returns = flow.returns;
   in_construct = true;
-  is_closed = is_closed_inside (traits_of name).inside flow.is_closed;
+  is_closed = is_closed_inside (traits_of d.name).inside flow.is_closed;
+  parallel = parallel_in d flow.parallel;
 }
 
 -- S14 at the word: a worksharing construct or a barrier in a region of worksharing, `task`, `critical` or `masked`, with no `parallel`
@@ -94,14 +100,18 @@ nothing_listed = record { default = None; shared = []; copies = [] }
 abbrev pub is_listed : Listed → List ℕ → Bool
 is_listed listed name = list_any (bytes_eq name) listed.shared || declares listed.copies name
 
--- once a name stands in the list of a clause; what is copied is no array
+-- the copy that a construct has for a name, which is no array and is known by where the name is listed
+abbrev pub copy_of : names.Name → Binding
+copy_of name = (name.text, meanings.Variable (variables.Local name.span.start) shapes.Scalar)
+
+-- once a name stands in the list of a clause
 abbrev pub after_name : DataSharing → Listed → names.Name → Listed
 after_name lists.Shared listed name = record { default = listed.default; shared = with_name listed.shared name.text; copies = listed.copies }
-after_name lists.Private listed name = record { default = listed.default; shared = listed.shared; copies = listed.copies ++ (name.text, meanings.Variable shapes.Scalar) ∷ [] }
-after_name lists.Firstprivate listed name = record { default = listed.default; shared = listed.shared; copies = listed.copies ++ (name.text, meanings.Variable shapes.Scalar) ∷ [] }
+after_name lists.Private listed name = record { default = listed.default; shared = listed.shared; copies = listed.copies ++ copy_of name ∷ [] }
+after_name lists.Firstprivate listed name = record { default = listed.default; shared = listed.shared; copies = listed.copies ++ copy_of name ∷ [] }
 
 abbrev pub is_variable : Option Meaning → Bool
-is_variable (Some (meanings.Variable shape)) = true
+is_variable (Some (meanings.Variable variable shape)) = true
 is_variable (Some (meanings.Function signature)) = false
 is_variable (Some meanings.Printf) = false
 is_variable None = false
@@ -117,6 +127,13 @@ abbrev pub uses_original : DataSharing → Bool
 uses_original lists.Shared = true
 uses_original lists.Private = false
 uses_original lists.Firstprivate = true
+
+-- how a variable is listed of which a construct has such a copy, or none: a `reduction` has copies and uses the originals, as `firstprivate`
+abbrev pub sharing_of : Option CopyKind → DataSharing
+sharing_of None = lists.Shared
+sharing_of (Some copies.Private) = lists.Private
+sharing_of (Some copies.Firstprivate) = lists.Firstprivate
+sharing_of (Some (copies.Reduction operator)) = lists.Firstprivate
 
 -- S7; S9: no variable, an array of which a copy were made, a name that stands in a clause already; S13
 abbrev pub listed_breaches : Scopes → DataSharing → Listed → names.Name → List SourceFault
@@ -138,7 +155,6 @@ after_names sharing listed names = fold (after_name sharing) listed names
 abbrev pub with_default : Listed → Sharing → Listed
 with_default listed sharing = record { default = Some sharing; shared = listed.shared; copies = listed.copies }
 
--- a `reduction` has copies and uses the originals, as `firstprivate`
 unfoldable pub clause_breaches : Scopes → Listed → Clause ExpressionTree → List SourceFault
 clause_breaches scopes listed (clauses.Value kind s v) = expression_breaches scopes true v.expression
 clause_breaches scopes listed (clauses.Default s argument) = []

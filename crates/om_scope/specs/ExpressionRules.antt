@@ -1,6 +1,5 @@
 -- The rules of names and expressions, each by the breaches that a tree has of it, in the order of the text.
-use Rattle.std.specs.Prelude.{ℕ, ◌+◌, ◌==◌, List, [], ◌∷◌, ◌++◌, Option, None, Some, Bool, true, false, codes, nat_lt, nat_eq, if◌then◌else◌, not, ◌&&◌, ◌||◌}
-use Rattle.std.specs.List.{list_any}
+use Rattle.std.specs.Prelude.{ℕ, ◌+◌, ◌==◌, List, [], ◌++◌, Option, None, Some, Bool, true, false, codes, nat_lt, nat_eq, if◌then◌else◌, not, ◌&&◌, ◌||◌, is_some, position}
 use Rattle.std.specs.Str.{bytes_eq}
 use Rattle.om_lexer.specs.declared.fault.FaultCode.TheVariants as faults
 use Rattle.om_lexer.specs.declared.fault.SourceFault.{SourceFault}
@@ -9,43 +8,43 @@ use Rattle.om_pragma.specs.declared.name.Number.{Number}
 use Rattle.om_parser.specs.declared.tree.PrefixOperator.{PrefixOperator}
 use Rattle.om_parser.specs.declared.tree.PrefixOperator.TheVariants as prefixes
 use Rattle.om_parser.specs.Tree.{ExpressionTree, Name, Constant, Text, Paren, Index, Call, Prefix, Postfix, Binary, Conditional, Assign, ArgumentsTree, NoArguments, Argument}
-use Rattle.om_scope.specs.declared.rules.symbols.Meaning.{Meaning}
-use Rattle.om_scope.specs.declared.rules.symbols.Meaning.TheVariants as meanings
-use Rattle.om_scope.specs.declared.rules.symbols.Shape.TheVariants as shapes
+use Rattle.om_scope.specs.declared.symbols.Meaning.{Meaning}
+use Rattle.om_scope.specs.declared.symbols.Meaning.TheVariants as meanings
+use Rattle.om_scope.specs.declared.symbols.Shape.TheVariants as shapes
 use Rattle.om_scope.specs.Faults.{breach_if, perhaps_with}
-use Rattle.om_scope.specs.declared.rules.print.TheConstants.{PRINTED_LIMIT}
+use Rattle.om_scope.specs.declared.print.TheConstants.{PRINTED_LIMIT}
 use Rattle.om_scope.specs.Formats.{is_format}
 use Rattle.om_scope.specs.Places.{expression_start}
-use Rattle.om_scope.specs.InScope.{Scopes, meaning_of}
+use Rattle.om_scope.specs.Scopes.{Scopes, meaning_of}
 use Rattle.om_scope.specs.Sharing.{is_copied, is_unlisted}
 
 -- ---- names
 
 -- a function that the source defines, before the place or behind it
 abbrev pub has_definition : Scopes → List ℕ → Bool
-has_definition scopes name = list_any (bytes_eq name) scopes.definitions
+has_definition scopes name = is_some (position (bytes_eq name) scopes.definitions)
 
 -- no declaration stands before the place, or a function is never defined
 abbrev pub is_undeclared : Scopes → List ℕ → Option Meaning → Bool
 is_undeclared scopes name None = true
 is_undeclared scopes name (Some (meanings.Function signature)) = not (has_definition scopes name)
 is_undeclared scopes name (Some meanings.Printf) = false
-is_undeclared scopes name (Some (meanings.Variable shape)) = false
+is_undeclared scopes name (Some (meanings.Variable variable shape)) = false
 
 -- S7
 abbrev pub undeclared_breaches : Scopes → names.Name → List SourceFault
 undeclared_breaches scopes name = breach_if (is_undeclared scopes name.text (meaning_of scopes name.text)) faults.Undeclared name.span.start
 
 abbrev pub is_scalar : Option Meaning → Bool
-is_scalar (Some (meanings.Variable shapes.Scalar)) = true
-is_scalar (Some (meanings.Variable shapes.Array)) = false
+is_scalar (Some (meanings.Variable variable shapes.Scalar)) = true
+is_scalar (Some (meanings.Variable variable shapes.Array)) = false
 is_scalar (Some (meanings.Function signature)) = false
 is_scalar (Some meanings.Printf) = false
 is_scalar None = false
 
 abbrev pub is_array : Option Meaning → Bool
-is_array (Some (meanings.Variable shapes.Array)) = true
-is_array (Some (meanings.Variable shapes.Scalar)) = false
+is_array (Some (meanings.Variable variable shapes.Array)) = true
+is_array (Some (meanings.Variable variable shapes.Scalar)) = false
 is_array (Some (meanings.Function signature)) = false
 is_array (Some meanings.Printf) = false
 is_array None = false
@@ -55,19 +54,25 @@ abbrev pub unlisted_breaches : Scopes → names.Name → List SourceFault
 unlisted_breaches scopes name = breach_if (is_unlisted scopes name.text) faults.Unlisted name.span.start
 
 -- S9: an array or a function that is used as a scalar
+abbrev pub misused_scalar_breaches : Option Meaning → ℕ → List SourceFault
+misused_scalar_breaches meaning at = breach_if (not (is_scalar meaning)) faults.Misuse at
+
 abbrev pub scalar_breaches : Scopes → names.Name → List SourceFault
 scalar_breaches scopes name =
-    undeclared_breaches scopes name ++ breach_if (not (is_scalar (meaning_of scopes name.text))) faults.Misuse name.span.start ++ unlisted_breaches scopes name
+    undeclared_breaches scopes name ++ misused_scalar_breaches (meaning_of scopes name.text) name.span.start ++ unlisted_breaches scopes name
 
 -- an array of which a `task` round the place would make a copy
 abbrev pub is_copied_array : Scopes → List ℕ → Bool
 is_copied_array scopes name = is_array (meaning_of scopes name) && is_copied scopes name
 
 -- S9: a scalar or a function that is used as an array, or an array that a `task` would copy
+abbrev pub misused_array_breaches : Option Meaning → (is_copied : Bool) → ℕ → List SourceFault
+misused_array_breaches meaning copied at = breach_if (not (is_array meaning) || copied) faults.Misuse at
+
 abbrev pub array_breaches : Scopes → names.Name → List SourceFault
 array_breaches scopes name =
     undeclared_breaches scopes name
-    ++ breach_if (not (is_array (meaning_of scopes name.text)) || is_copied scopes name.text) faults.Misuse name.span.start
+    ++ misused_array_breaches (meaning_of scopes name.text) (is_copied scopes name.text) name.span.start
     ++ unlisted_breaches scopes name
 
 -- a call of a variable, of `main`, with the wrong number of values, or of a `void` function for its value
@@ -75,7 +80,7 @@ abbrev pub is_miscalled : Bool → List ℕ → ℕ → Option Meaning → Bool
 is_miscalled for_value name count (Some (meanings.Function signature)) =
     bytes_eq name (codes "main") || not (nat_eq signature.parameters count) || (for_value && not signature.returns)
 is_miscalled for_value name count (Some meanings.Printf) = true
-is_miscalled for_value name count (Some (meanings.Variable shape)) = true
+is_miscalled for_value name count (Some (meanings.Variable variable shape)) = true
 is_miscalled for_value name count None = true
 
 -- S9 at the name of the called
@@ -86,7 +91,7 @@ call_breaches scopes for_value name count =
 abbrev pub is_printf : Option Meaning → Bool
 is_printf (Some meanings.Printf) = true
 is_printf (Some (meanings.Function signature)) = false
-is_printf (Some (meanings.Variable shape)) = false
+is_printf (Some (meanings.Variable variable shape)) = false
 is_printf None = false
 
 -- ---- expressions
@@ -191,6 +196,10 @@ unfoldable mutual
   target_breaches scopes (Binary a o at b) = misplaced_breaches scopes (Binary a o at b)
   target_breaches scopes (Conditional c question a colon b) = misplaced_breaches scopes (Conditional c question a colon b)
   target_breaches scopes (Assign a o at b) = misplaced_breaches scopes (Assign a o at b)
+
+-- of an operator before its operand
+abbrev pub prefix_breaches : Scopes → PrefixOperator → ExpressionTree → List SourceFault
+prefix_breaches scopes o e = if is_step o then target_breaches scopes e else expression_breaches scopes true e
 
 -- of a call of another function than `printf`
 abbrev pub own_call_breaches : Scopes → Bool → names.Name → ArgumentsTree → List SourceFault

@@ -23,6 +23,11 @@ abbrev pub with_breach : SourceFault → List SourceFault → List SourceFault
 with_breach b [] = b ∷ []
 with_breach b (breach ∷ breaches) = if goes_first breach b then breach ∷ with_breach b breaches else b ∷ breach ∷ breaches
 
+-- what is answered of a part that has this fault, or none, and in which a further rule is broken
+abbrev pub answered_among : Option SourceFault → SourceFault → SourceFault
+answered_among None b = b
+answered_among (Some fault) b = if goes_first fault b then fault else b
+
 -- a further breach at a place, where there is one, among others
 abbrev pub perhaps_with : Bool → FaultCode → ℕ → List SourceFault → List SourceFault
 perhaps_with broken code at breaches = if broken then with_breach (record { code = code; at = at }) breaches else breaches

@@ -1,5 +1,5 @@
 -- Canonical loops (OpenMP API 5.2, section 4.4.1).
-use Rattle.std.specs.Prelude.{ℕ, List, [], ◌∷◌, Option, None, Some, Bool, true, false, ◌&&◌, ◌||◌, not, nat_lt, if◌then◌else◌}
+use Rattle.std.specs.Prelude.{ℕ, ℤ, pos, ◌-ℤ◌, List, [], ◌∷◌, Option, None, Some, Bool, true, false, ◌&&◌, not, nat_lt, nat_le, if◌then◌else◌}
 use Rattle.std.specs.Str.{bytes_eq}
 use Rattle.om_lexer.specs.declared.token.Span.{Span}
 use Rattle.om_pragma.specs.declared.name.Name as names
@@ -13,9 +13,10 @@ use Rattle.om_parser.specs.declared.tree.PostfixOperator.TheVariants as postfixe
 use Rattle.om_parser.specs.declared.tree.PrefixOperator.{PrefixOperator}
 use Rattle.om_parser.specs.declared.tree.PrefixOperator.TheVariants as prefixes
 use Rattle.om_parser.specs.Tree.{ExpressionTree, Name, Constant, Text, Paren, Index, Call, Prefix, Postfix, Binary, Conditional, Assign, InitializerTree, DeclaratorTree, ForStartTree, Nothing, StartExpression, StartDeclaration, ForHeadTree, StatementTree, LocalDeclaration, Block, Empty, Expression, If, IfElse, While, Do, For, Return, Break, Continue, Construct, StandAlone, Sections, Section}
-use Rattle.om_scope.specs.declared.rules.canonical.Direction.{Direction}
-use Rattle.om_scope.specs.declared.rules.canonical.Direction.TheVariants as directions
-use Rattle.om_scope.specs.Resolution.{◌>>=◌}
+use Rattle.om_scope.specs.declared.canonical.Direction.{Direction}
+use Rattle.om_scope.specs.declared.canonical.Direction.TheVariants as directions
+use Rattle.om_scope.specs.declared.canonical.Step.{Step}
+use Rattle.om_scope.specs.Perhaps.{◌>>=◌}
 
 -- the name that an expression is
 abbrev pub name_in : ExpressionTree → Option names.Name
@@ -45,22 +46,31 @@ is_named (Binary a o at b) name = false
 is_named (Conditional c question a colon b) name = false
 is_named (Assign a o at b) name = false
 
--- an expression is a constant of 1 or more
-abbrev pub is_stride : ExpressionTree → Bool
-is_stride (Constant n) = nat_lt 0 n.value
-is_stride (Name n) = false
-is_stride (Text t) = false
-is_stride (Paren left e right) = false
-is_stride (Index n left e right) = false
-is_stride (Call n left values right) = false
-is_stride (Prefix o at e) = false
-is_stride (Postfix e o at) = false
-is_stride (Binary a o at b) = false
-is_stride (Conditional c question a colon b) = false
-is_stride (Assign a o at b) = false
+-- what a loop adds to its variable, with its sign
+abbrev pub signed : Direction → ℕ → ℤ
+signed directions.Up value = pos value
+signed directions.Down value = pos 0 -ℤ pos value
 
-abbrev pub when : Bool → Direction → Option Direction
-when holds direction = if holds then Some direction else None
+abbrev pub one_step : Direction → Step
+one_step direction = record { direction = direction; value = signed direction 1 }
+
+-- a step of 1 or more
+abbrev pub step_of : Direction → ℕ → Option Step
+step_of direction value = if nat_lt 0 value && nat_le value 2147483647 then Some (record { direction = direction; value = signed direction value }) else None
+
+-- the step by an expression, which is a constant
+abbrev pub stride_in : Direction → ExpressionTree → Option Step
+stride_in direction (Constant n) = step_of direction n.value
+stride_in direction (Name n) = None
+stride_in direction (Text t) = None
+stride_in direction (Paren left e right) = None
+stride_in direction (Index n left e right) = None
+stride_in direction (Call n left values right) = None
+stride_in direction (Prefix o at e) = None
+stride_in direction (Postfix e o at) = None
+stride_in direction (Binary a o at b) = None
+stride_in direction (Conditional c question a colon b) = None
+stride_in direction (Assign a o at b) = None
 
 -- ---- `i = lb`, or `int i = lb`
 
@@ -128,14 +138,15 @@ comparison_direction binaries.Remainder = None
 
 -- where the variable is bounded, and by what
 pub record Bound : Type 0 where
+  pub comparison : BinaryOperator
   pub direction : Direction
   pub to : ExpressionTree
 
-abbrev pub bounded : ExpressionTree → Direction → Bound
-bounded to direction = record { direction = direction; to = to }
+abbrev pub bounded : BinaryOperator → ExpressionTree → Direction → Bound
+bounded o to direction = record { comparison = o; direction = direction; to = to }
 
 abbrev pub compared : BinaryOperator → ExpressionTree → Option Bound
-compared o b = comparison_direction o >>= λ direction. Some (bounded b direction)
+compared o b = comparison_direction o >>= λ direction. Some (bounded o b direction)
 
 abbrev pub bound_of : ExpressionTree → List ℕ → Option Bound
 bound_of (Binary a o at b) name = if is_named a name then compared o b else None
@@ -152,66 +163,73 @@ bound_of (Assign a o at b) name = None
 
 -- ---- `i++`, `i += c`, `i = i + c` and their kin
 
-abbrev pub prefix_direction : PrefixOperator → Option Direction
-prefix_direction prefixes.Increment = Some directions.Up
-prefix_direction prefixes.Decrement = Some directions.Down
-prefix_direction prefixes.Plus = None
-prefix_direction prefixes.Minus = None
-prefix_direction prefixes.Not = None
+abbrev pub prefix_step : PrefixOperator → Option Step
+prefix_step prefixes.Increment = Some (one_step directions.Up)
+prefix_step prefixes.Decrement = Some (one_step directions.Down)
+prefix_step prefixes.Plus = None
+prefix_step prefixes.Minus = None
+prefix_step prefixes.Not = None
 
-abbrev pub postfix_direction : PostfixOperator → Direction
-postfix_direction postfixes.Increment = directions.Up
-postfix_direction postfixes.Decrement = directions.Down
+abbrev pub postfix_step : PostfixOperator → Step
+postfix_step postfixes.Increment = one_step directions.Up
+postfix_step postfixes.Decrement = one_step directions.Down
 
--- `i + c`, `c + i` or `i - c`
-abbrev pub sum_direction : BinaryOperator → ExpressionTree → ExpressionTree → List ℕ → Option Direction
-sum_direction binaries.Add a b name = when ((is_named a name && is_stride b) || (is_stride a && is_named b name)) directions.Up
-sum_direction binaries.Subtract a b name = when (is_named a name && is_stride b) directions.Down
-sum_direction binaries.Or a b name = None
-sum_direction binaries.And a b name = None
-sum_direction binaries.Equal a b name = None
-sum_direction binaries.NotEqual a b name = None
-sum_direction binaries.Less a b name = None
-sum_direction binaries.Greater a b name = None
-sum_direction binaries.LessEqual a b name = None
-sum_direction binaries.GreaterEqual a b name = None
-sum_direction binaries.Multiply a b name = None
-sum_direction binaries.Divide a b name = None
-sum_direction binaries.Remainder a b name = None
+-- `i + c` or `c + i`
+abbrev pub added_step : ExpressionTree → ExpressionTree → List ℕ → Option Step
+added_step a b name = if is_named a name then stride_in directions.Up b else (if is_named b name then stride_in directions.Up a else None)
 
-abbrev pub value_direction : ExpressionTree → List ℕ → Option Direction
-value_direction (Binary a o at b) name = sum_direction o a b name
-value_direction (Name n) name = None
-value_direction (Constant n) name = None
-value_direction (Text t) name = None
-value_direction (Paren left e right) name = None
-value_direction (Index n left e right) name = None
-value_direction (Call n left values right) name = None
-value_direction (Prefix o at e) name = None
-value_direction (Postfix e o at) name = None
-value_direction (Conditional c question a colon b) name = None
-value_direction (Assign a o at b) name = None
+-- `i - c`
+abbrev pub subtracted_step : ExpressionTree → ExpressionTree → List ℕ → Option Step
+subtracted_step a b name = if is_named a name then stride_in directions.Down b else None
 
-abbrev pub assigned_direction : AssignOperator → ExpressionTree → List ℕ → Option Direction
-assigned_direction assigns.Set value name = value_direction value name
-assigned_direction assigns.Add value name = when (is_stride value) directions.Up
-assigned_direction assigns.Subtract value name = when (is_stride value) directions.Down
-assigned_direction assigns.Multiply value name = None
-assigned_direction assigns.Divide value name = None
-assigned_direction assigns.Remainder value name = None
+abbrev pub sum_step : BinaryOperator → ExpressionTree → ExpressionTree → List ℕ → Option Step
+sum_step binaries.Add a b name = added_step a b name
+sum_step binaries.Subtract a b name = subtracted_step a b name
+sum_step binaries.Or a b name = None
+sum_step binaries.And a b name = None
+sum_step binaries.Equal a b name = None
+sum_step binaries.NotEqual a b name = None
+sum_step binaries.Less a b name = None
+sum_step binaries.Greater a b name = None
+sum_step binaries.LessEqual a b name = None
+sum_step binaries.GreaterEqual a b name = None
+sum_step binaries.Multiply a b name = None
+sum_step binaries.Divide a b name = None
+sum_step binaries.Remainder a b name = None
 
-abbrev pub step_direction : ExpressionTree → List ℕ → Option Direction
-step_direction (Prefix o at e) name = if is_named e name then prefix_direction o else None
-step_direction (Postfix e o at) name = if is_named e name then Some (postfix_direction o) else None
-step_direction (Assign a o at b) name = if is_named a name then assigned_direction o b name else None
-step_direction (Name n) name = None
-step_direction (Constant n) name = None
-step_direction (Text t) name = None
-step_direction (Paren left e right) name = None
-step_direction (Index n left e right) name = None
-step_direction (Call n left values right) name = None
-step_direction (Binary a o at b) name = None
-step_direction (Conditional c question a colon b) name = None
+abbrev pub value_step : ExpressionTree → List ℕ → Option Step
+value_step (Binary a o at b) name = sum_step o a b name
+value_step (Name n) name = None
+value_step (Constant n) name = None
+value_step (Text t) name = None
+value_step (Paren left e right) name = None
+value_step (Index n left e right) name = None
+value_step (Call n left values right) name = None
+value_step (Prefix o at e) name = None
+value_step (Postfix e o at) name = None
+value_step (Conditional c question a colon b) name = None
+value_step (Assign a o at b) name = None
+
+abbrev pub assigned_step : AssignOperator → ExpressionTree → List ℕ → Option Step
+assigned_step assigns.Set value name = value_step value name
+assigned_step assigns.Add value name = stride_in directions.Up value
+assigned_step assigns.Subtract value name = stride_in directions.Down value
+assigned_step assigns.Multiply value name = None
+assigned_step assigns.Divide value name = None
+assigned_step assigns.Remainder value name = None
+
+abbrev pub step_in : ExpressionTree → List ℕ → Option Step
+step_in (Prefix o at e) name = if is_named e name then prefix_step o else None
+step_in (Postfix e o at) name = if is_named e name then Some (postfix_step o) else None
+step_in (Assign a o at b) name = if is_named a name then assigned_step o b name else None
+step_in (Name n) name = None
+step_in (Constant n) name = None
+step_in (Text t) name = None
+step_in (Paren left e right) name = None
+step_in (Index n left e right) name = None
+step_in (Call n left values right) name = None
+step_in (Binary a o at b) name = None
+step_in (Conditional c question a colon b) name = None
 
 abbrev pub is_up : Direction → Bool
 is_up directions.Up = true
@@ -222,14 +240,21 @@ same_direction a b = if is_up a then is_up b else not (is_up b)
 
 -- ---- the loop
 
--- a canonical loop: its variable, and its bounds
+-- a canonical loop: its variable and first value, what that is compared with and how, and its step
 pub record Loop : Type 0 where
+  -- the word `for`
+  pub at : Span
   pub start : LoopStart
+  pub comparison : BinaryOperator
   pub to : ExpressionTree
+  pub step : ℤ
 
 -- the step goes to the bound
-abbrev pub loop_to : LoopStart → Bound → Direction → Option Loop
-loop_to start bound direction = if same_direction bound.direction direction then Some (record { start = start; to = bound.to }) else None
+abbrev pub loop_to : Span → LoopStart → Bound → Step → Option Loop
+loop_to at start bound step =
+    if same_direction bound.direction step.direction
+    then Some (record { at = at; start = start; comparison = bound.comparison; to = bound.to; step = step.value })
+    else None
 
 -- the loop of a `for`, where it is canonical
 abbrev pub loop_of : ForHeadTree → Option Loop
@@ -238,8 +263,8 @@ loop_of h = do
   condition ← h.condition
   step ← h.step
   bound ← bound_of condition start.variable.text
-  direction ← step_direction step start.variable.text
-  loop_to start bound direction
+  by ← step_in step start.variable.text
+  loop_to h.word start bound by
 
 -- the loop that a statement is, where it is canonical
 abbrev pub loop_in : StatementTree → Option Loop

@@ -1,149 +1,168 @@
--- The resolution of a tree: every use has the variable of its innermost declaration.
+-- The resolution of expressions: every use has the variable of its innermost declaration.
 -- There is none where a name that is used means no variable.
-use Rattle.std.specs.Prelude.{ℕ, ℤ, pos, ◌-ℤ◌, List, [], ◌∷◌, ◌++◌, Option, None, Some, Bool, true, false, map}
-use Rattle.std.specs.List.{flat_map}
+use Rattle.std.specs.Prelude.{ℕ, ◌-◌, pos, List, Option, None, Some, position, nat_eq, if◌then◌else◌}
+use Rattle.std.specs.Str.{bytes_eq}
+use Rattle.om_parser.specs.declared.tree.AssignOperator.{AssignOperator}
 use Rattle.om_parser.specs.declared.tree.AssignOperator.TheVariants as assigns
-use Rattle.om_parser.specs.declared.tree.BinaryOperator.TheVariants as binaries
-use Rattle.om_scope.specs.declared.resolved.ResolvedOperator.TheVariants as operators
+use Rattle.om_parser.specs.declared.tree.PostfixOperator.{PostfixOperator}
+use Rattle.om_parser.specs.declared.tree.PrefixOperator.{PrefixOperator}
+use Rattle.om_parser.specs.declared.tree.PrefixOperator.TheVariants as prefixes
+use Rattle.om_parser.specs.Tree.{ExpressionTree, Name, Constant, Text, Paren, Index, Call, Prefix, Postfix, Binary, Conditional, Assign, ArgumentsTree, NoArguments, Argument}
 use Rattle.om_pragma.specs.declared.name.Name as names
-use Rattle.om_pragma.specs.declared.name.Number.{Number}
-use Rattle.om_parser.specs.Tree.{ExpressionTree, Name, Constant, Text, Paren, Index, Call, Prefix, Postfix, Binary, Conditional, Assign, InitializerTree, DeclaratorTree, StatementTree, LocalDeclaration, Block, Empty, Expression, If, IfElse, While, Do, For, Return, Break, Continue, Construct, StandAlone, Sections, Section, FunctionTree, ItemTree, Declaration, Prototype, Function, UnitTree}
-use Rattle.om_scope.specs.declared.resolved.GlobalVariable.{GlobalVariable}
+use Rattle.om_scope.specs.declared.resolved.UnaryOperator.TheVariants as unaries
 use Rattle.om_scope.specs.declared.resolved.Variable.{Variable}
 use Rattle.om_scope.specs.declared.symbols.Meaning.{Meaning}
 use Rattle.om_scope.specs.declared.symbols.Meaning.TheVariants as meanings
+use Rattle.om_scope.specs.ExpressionRules.{is_printf}
+use Rattle.om_scope.specs.Perhaps.{◌>>=◌}
 use Rattle.om_scope.specs.ResolvedTree as resolved
-use Rattle.om_scope.specs.ResolvedTree.{ResolvedExpressionTree, ResolvedStatementTree, ResolvedFunctionTree, ResolvedTree}
-use Rattle.om_scope.specs.Taken.{signed_constant, is_taken_head}
-use Rattle.om_scope.specs.Scopes.{Scopes, file_scope, body_scopes, meaning_of, with_function, declarators_of, after_statement, after_item}
-
-infixl 10 ◌>>=◌
-abbrev pub ◌>>=◌ : {A B : Type 0} → Option A → (A → Option B) → Option B
-(Some x) >>= f = f x
-None >>= f = None
+use Rattle.om_scope.specs.ResolvedTree.{ResolvedExpressionTree, ValuesTree}
+use Rattle.om_scope.specs.Scopes.{Scopes, meaning_of}
 
 abbrev pub variable_of : Option Meaning → Option Variable
-variable_of (Some (meanings.Variable variable)) = Some variable
-variable_of (Some meanings.Function) = None
+variable_of (Some (meanings.Variable variable shape)) = Some variable
+variable_of (Some (meanings.Function signature)) = None
+variable_of (Some meanings.Printf) = None
 variable_of None = None
 
 -- the variable that a name stands for
 abbrev pub variable_named : Scopes → names.Name → Option Variable
 variable_named scopes name = variable_of (meaning_of scopes name.text)
 
--- an assignment stands only as a statement
-unfoldable pub resolved_expression : Scopes → ExpressionTree → Option ResolvedExpressionTree
-resolved_expression scopes (Name n) = variable_named scopes n >>= λ v. Some (resolved.Variable v)
-resolved_expression scopes (Constant n) = Some (resolved.Constant (pos n.value))
-resolved_expression scopes (Paren left e right) = resolved_expression scopes e
-resolved_expression scopes (Binary a binaries.Add at b) = do
-  x ← resolved_expression scopes a
-  y ← resolved_expression scopes b
-  Some (resolved.Binary x operators.Add y)
-resolved_expression scopes (Binary a o at b) = None
-resolved_expression scopes (Text t) = None
-resolved_expression scopes (Index n left e right) = None
-resolved_expression scopes (Call n left values right) = None
-resolved_expression scopes (Prefix o at e) = None
-resolved_expression scopes (Postfix e o at) = None
-resolved_expression scopes (Conditional c question a colon b) = None
-resolved_expression scopes (Assign a o at b) = None
+-- ---- what is assigned to
 
--- the assignment of a value to a name; its line is the name's
-unfoldable pub resolved_assignment : Scopes → ExpressionTree → ExpressionTree → Option (List ResolvedStatementTree)
-resolved_assignment scopes (Name n) value = do
-  variable ← variable_named scopes n
-  x ← resolved_expression scopes value
-  Some (resolved.Assign n.span.line variable x ∷ [])
-resolved_assignment scopes (Constant n) value = None
-resolved_assignment scopes (Text t) value = None
-resolved_assignment scopes (Paren left e right) value = None
-resolved_assignment scopes (Index n left e right) value = None
-resolved_assignment scopes (Call n left values right) value = None
-resolved_assignment scopes (Prefix o at e) value = None
-resolved_assignment scopes (Postfix e o at) value = None
-resolved_assignment scopes (Binary a o at b) value = None
-resolved_assignment scopes (Conditional c question a colon b) value = None
-resolved_assignment scopes (Assign a o at b) value = None
+-- a variable, or an element of an array
+pub data TargetTree : Type 0 where
+  Scalar : Variable → TargetTree
+  ElementOf : Variable → (index : ResolvedExpressionTree) → TargetTree
 
--- an expression that stands alone
-unfoldable pub resolved_run : Scopes → ExpressionTree → Option (List ResolvedStatementTree)
-resolved_run scopes (Assign a assigns.Set at b) = resolved_assignment scopes a b
-resolved_run scopes (Assign a o at b) = None
-resolved_run scopes (Name n) = None
-resolved_run scopes (Constant n) = None
-resolved_run scopes (Text t) = None
-resolved_run scopes (Paren left e right) = None
-resolved_run scopes (Index n left e right) = None
-resolved_run scopes (Call n left values right) = None
-resolved_run scopes (Prefix o at e) = None
-resolved_run scopes (Postfix e o at) = None
-resolved_run scopes (Binary a o at b) = None
-resolved_run scopes (Conditional c question a colon b) = None
+abbrev pub assigned : TargetTree → AssignOperator → ResolvedExpressionTree → ResolvedExpressionTree
+assigned (Scalar variable) o e = resolved.Assign variable o e
+assigned (ElementOf variable index) o e = resolved.AssignElement variable index o e
 
-unfoldable pub resolved_statement : Scopes → StatementTree → Option (List ResolvedStatementTree)
-resolved_statement scopes (Expression e semicolon) = resolved_run scopes e
-resolved_statement scopes (Return at (Some e) semicolon) = resolved_expression scopes e >>= λ x. Some (resolved.Return at.line x ∷ [])
-resolved_statement scopes (Return at None semicolon) = None
-resolved_statement scopes (LocalDeclaration d) = None
-resolved_statement scopes (Block left items right) = None
-resolved_statement scopes (Empty semicolon) = None
-resolved_statement scopes (If at c s) = None
-resolved_statement scopes (IfElse at c s other t) = None
-resolved_statement scopes (While at c s) = None
-resolved_statement scopes (Do at s again c semicolon) = None
-resolved_statement scopes (For h s) = None
-resolved_statement scopes (Break at semicolon) = None
-resolved_statement scopes (Continue at semicolon) = None
-resolved_statement scopes (Construct d s) = None
-resolved_statement scopes (StandAlone d) = None
-resolved_statement scopes (Sections d left parts right) = None
-resolved_statement scopes (Section d s) = None
+abbrev pub stepped : TargetTree → PostfixOperator → ResolvedExpressionTree
+stepped (Scalar variable) o = resolved.Postfix variable o
+stepped (ElementOf variable index) o = resolved.PostfixElement variable index o
 
--- the resolutions of parts in a row, each in the scopes behind those before it
-abbrev pub resolved_along : {X Y : Type 0} → (Scopes → X → Option (List Y)) → (Scopes → X → Scopes) → Scopes → List X → Option (List Y)
-resolved_along resolved after scopes [] = Some []
-resolved_along resolved after scopes (x ∷ xs) = do
-  front ← resolved scopes x
-  rest ← resolved_along resolved after (after scopes x) xs
-  Some (front ++ rest)
+-- `++x` is `x += 1` (C17 6.5.3.1p2)
+abbrev pub prefixed : PrefixOperator → (target : Option TargetTree) → (operand : Option ResolvedExpressionTree) → Option ResolvedExpressionTree
+prefixed prefixes.Increment target operand = target >>= λ t. Some (assigned t assigns.Add (resolved.Constant (pos 1)))
+prefixed prefixes.Decrement target operand = target >>= λ t. Some (assigned t assigns.Subtract (resolved.Constant (pos 1)))
+prefixed prefixes.Plus target operand = operand >>= λ e. Some (resolved.Unary unaries.Plus e)
+prefixed prefixes.Minus target operand = operand >>= λ e. Some (resolved.Unary unaries.Negate e)
+prefixed prefixes.Not target operand = operand >>= λ e. Some (resolved.Unary unaries.Not e)
 
-abbrev pub resolved_statements : Scopes → List StatementTree → Option (List ResolvedStatementTree)
-resolved_statements = resolved_along resolved_statement after_statement
+-- ---- calls
 
-unfoldable pub resolved_function : Scopes → FunctionTree → Option ResolvedFunctionTree
-resolved_function scopes f = do
-  statements ← resolved_statements (body_scopes (with_function scopes f.head.name.text)) f.body.items
-  Some (record { name = f.head.name.text; name_at = f.head.name.span.start; statements = statements; closing_line = f.body.close_brace.line })
+-- the place of a called function among those that the source defines and the three that are there before it
+abbrev pub callee_of : Option Meaning → Option ℕ → Option ℕ
+callee_of (Some (meanings.Function signature)) place = place
+callee_of (Some meanings.Printf) place = None
+callee_of (Some (meanings.Variable variable shape)) place = None
+callee_of None place = None
 
--- the functions that an item defines
-unfoldable pub item_functions : Scopes → ItemTree → Option (List ResolvedFunctionTree)
-item_functions scopes (Declaration d) = Some []
-item_functions scopes (Prototype head semicolon) = Some []
-item_functions scopes (Function f) = resolved_function scopes f >>= λ function. Some (function ∷ [])
+abbrev pub callee_named : Scopes → names.Name → Option ℕ
+callee_named scopes name = callee_of (meaning_of scopes name.text) (position (bytes_eq name.text) scopes.definitions)
 
--- what a global holds at the start: 0 without an initializer (C17 6.7.9p10)
-abbrev pub signed_value : Option (Bool × Number) → ℤ
-signed_value None = pos 0
-signed_value (Some (false, number)) = pos number.value
-signed_value (Some (true, number)) = pos 0 -ℤ pos number.value
+-- the functions of OpenMP are the second and the third of these, behind `printf`
+abbrev pub call_of : ℕ → ValuesTree → ResolvedExpressionTree
+call_of place values =
+    if nat_eq place 1 then resolved.ThreadNumber
+    else (if nat_eq place 2 then resolved.TeamSize else resolved.Call (place - 3) values)
 
-abbrev pub initial_of : Option InitializerTree → ℤ
-initial_of None = pos 0
-initial_of (Some initializer) = signed_value (signed_constant initializer.value)
+-- the format that a `printf` begins with
+abbrev pub text_in : ExpressionTree → Option (List ℕ)
+text_in (Text t) = Some t.value
+text_in (Name n) = None
+text_in (Constant n) = None
+text_in (Paren left e right) = None
+text_in (Index n left e right) = None
+text_in (Call n left values right) = None
+text_in (Prefix o at e) = None
+text_in (Postfix e o at) = None
+text_in (Binary a o at b) = None
+text_in (Conditional c question a colon b) = None
+text_in (Assign a o at b) = None
 
-abbrev pub global_of : DeclaratorTree → GlobalVariable
-global_of d = record { name = d.name.text; initial = initial_of d.initializer }
+abbrev pub format_in : ArgumentsTree → Option (List ℕ)
+format_in NoArguments = None
+format_in (Argument comma e rest) = text_in e
 
--- the globals that an item declares
-abbrev pub globals_of : ItemTree → List GlobalVariable
-globals_of (Declaration d) = map global_of (declarators_of d)
-globals_of (Prototype head semicolon) = []
-globals_of (Function f) = []
+abbrev pub print_of : Option (List ℕ) → Option ValuesTree → Option ResolvedExpressionTree
+print_of format values = do
+  f ← format
+  vs ← values
+  Some (resolved.Print f vs)
 
-abbrev pub items_resolution : List ItemTree → Option ResolvedTree
-items_resolution items = resolved_along item_functions after_item file_scope items >>= λ functions. Some (record { globals = flat_map globals_of items; functions = functions })
+abbrev pub own_call_of : Option ℕ → Option ValuesTree → Option ResolvedExpressionTree
+own_call_of callee values = do
+  place ← callee
+  vs ← values
+  Some (call_of place vs)
 
--- the resolution of a whole source
-unfoldable pub resolution_of : UnitTree → Option ResolvedTree
-resolution_of unit = items_resolution unit.items
+-- ---- expressions
+
+unfoldable mutual
+  pub resolved_expression : Scopes → ExpressionTree → Option ResolvedExpressionTree
+  resolved_expression scopes (Name n) = variable_named scopes n >>= λ v. Some (resolved.Variable v)
+  resolved_expression scopes (Constant n) = Some (resolved.Constant (pos n.value))
+  resolved_expression scopes (Text t) = None
+  resolved_expression scopes (Paren left e right) = resolved_expression scopes e
+  resolved_expression scopes (Index n left e right) = do
+    v ← variable_named scopes n
+    i ← resolved_expression scopes e
+    Some (resolved.Element v i)
+  resolved_expression scopes (Call n left values right) =
+      if is_printf (meaning_of scopes n.text)
+      then print_of (format_in values) (resolved_printed scopes values)
+      else own_call_of (callee_named scopes n) (resolved_values scopes values)
+  resolved_expression scopes (Prefix o at e) = prefixed o (resolved_target scopes e) (resolved_expression scopes e)
+  resolved_expression scopes (Postfix e o at) = resolved_target scopes e >>= λ t. Some (stepped t o)
+  resolved_expression scopes (Binary a o at b) = do
+    x ← resolved_expression scopes a
+    y ← resolved_expression scopes b
+    Some (resolved.Binary x o y)
+  resolved_expression scopes (Conditional c question a colon b) = do
+    z ← resolved_expression scopes c
+    x ← resolved_expression scopes a
+    y ← resolved_expression scopes b
+    Some (resolved.Conditional z x y)
+  resolved_expression scopes (Assign a o at b) = do
+    t ← resolved_target scopes a
+    y ← resolved_expression scopes b
+    Some (assigned t o y)
+
+  pub resolved_values : Scopes → ArgumentsTree → Option ValuesTree
+  resolved_values scopes NoArguments = Some resolved.NoValues
+  resolved_values scopes (Argument comma e rest) = do
+    x ← resolved_expression scopes e
+    xs ← resolved_values scopes rest
+    Some (resolved.Value x xs)
+
+  -- the values behind the format
+  pub resolved_printed : Scopes → ArgumentsTree → Option ValuesTree
+  resolved_printed scopes NoArguments = Some resolved.NoValues
+  resolved_printed scopes (Argument comma e rest) = resolved_values scopes rest
+
+  pub resolved_target : Scopes → ExpressionTree → Option TargetTree
+  resolved_target scopes (Name n) = variable_named scopes n >>= λ v. Some (Scalar v)
+  resolved_target scopes (Index n left e right) = do
+    v ← variable_named scopes n
+    i ← resolved_expression scopes e
+    Some (ElementOf v i)
+  resolved_target scopes (Paren left e right) = resolved_target scopes e
+  resolved_target scopes (Constant n) = None
+  resolved_target scopes (Text t) = None
+  resolved_target scopes (Call n left values right) = None
+  resolved_target scopes (Prefix o at e) = None
+  resolved_target scopes (Postfix e o at) = None
+  resolved_target scopes (Binary a o at b) = None
+  resolved_target scopes (Conditional c question a colon b) = None
+  resolved_target scopes (Assign a o at b) = None
+
+-- of a call
+abbrev pub resolved_call : Scopes → names.Name → ArgumentsTree → Option ResolvedExpressionTree
+resolved_call scopes n values =
+    if is_printf (meaning_of scopes n.text)
+    then print_of (format_in values) (resolved_printed scopes values)
+    else own_call_of (callee_named scopes n) (resolved_values scopes values)

@@ -1,14 +1,14 @@
 -- Which variables a construct shares (OpenMP API 5.2, section 5.1).
-use Rattle.std.specs.Prelude.{ℕ, List, [], ◌∷◌, Option, None, Some, Bool, true, false, length, nat_lt, is_some, not, ◌&&◌, ◌||◌, if◌then◌else◌}
+use Rattle.std.specs.Prelude.{ℕ, List, [], ◌∷◌, Option, None, Some, Bool, true, false, length, nat_lt, is_some, not, ◌&&◌, ◌||◌}
 use Rattle.std.specs.List.{list_any}
 use Rattle.std.specs.Map.{lookup}
 use Rattle.std.specs.Str.{bytes_eq}
 use Rattle.om_pragma.specs.declared.clause.Sharing.{Sharing}
 use Rattle.om_pragma.specs.declared.clause.Sharing.TheVariants as sharings
-use Rattle.om_scope.specs.declared.rules.symbols.Region.{Region}
-use Rattle.om_scope.specs.declared.rules.symbols.RegionKind.{RegionKind}
-use Rattle.om_scope.specs.declared.rules.symbols.RegionKind.TheVariants as regions
-use Rattle.om_scope.specs.InScope.{Scope, Scopes, Enclosing, is_declared}
+use Rattle.om_scope.specs.declared.symbols.Region.{Region}
+use Rattle.om_scope.specs.declared.symbols.RegionKind.{RegionKind}
+use Rattle.om_scope.specs.declared.symbols.RegionKind.TheVariants as regions
+use Rattle.om_scope.specs.Scopes.{Scope, Scopes, Enclosing, is_declared}
 
 abbrev pub declares : Scope → List ℕ → Bool
 declares scope name = is_some (lookup (bytes_eq name) scope)

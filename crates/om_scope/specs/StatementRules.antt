@@ -1,21 +1,21 @@
 -- The rules of declarations and statements, by the breaches that a tree has of them, in the order of the text.
-use Rattle.std.specs.Prelude.{ℕ, ◌+◌, List, [], ◌∷◌, ◌++◌, Option, None, Some, Bool, true, false, nat_eq, nat_le, not, ◌&&◌, ◌||◌, if◌then◌else◌, is_some, fold}
+use Rattle.std.specs.Prelude.{ℕ, ◌+◌, List, [], ◌++◌, Option, None, Some, Bool, true, false, nat_eq, nat_le, not, ◌&&◌, ◌||◌, if◌then◌else◌, is_some, fold}
 use Rattle.om_lexer.specs.declared.fault.FaultCode.TheVariants as faults
 use Rattle.om_lexer.specs.declared.fault.SourceFault.{SourceFault}
 use Rattle.om_parser.specs.declared.tree.ArrayLength.{ArrayLength}
 use Rattle.om_pragma.specs.declared.name.Name as names
-use Rattle.om_parser.specs.Tree.{ExpressionTree, InitializerTree, DeclaratorTree, DeclarationTree, ForStartTree, Nothing, StartExpression, StartDeclaration, ForHeadTree, StatementTree, LocalDeclaration, Block, Empty, Expression, If, IfElse, While, Do, For, Return, Break, Continue, Construct, StandAlone, Sections, Section, StatementsTree, NoStatements, Statement}
+use Rattle.om_parser.specs.Tree.{ExpressionTree, InitializerTree, DeclaratorTree, ForStartTree, Nothing, StartExpression, StartDeclaration, ForHeadTree, StatementTree, LocalDeclaration, Block, Empty, Expression, If, IfElse, While, Do, For, Return, Break, Continue, Construct, StandAlone, Sections, Section, StatementsTree, NoStatements, Statement}
 use Rattle.om_pragma.specs.declared.tree.Directive.{Directive}
-use Rattle.om_scope.specs.declared.rules.flow.Flow.{Flow}
-use Rattle.om_scope.specs.declared.rules.statement.TheConstants.{SECTION_LIMIT}
+use Rattle.om_scope.specs.declared.flow.Flow.{Flow}
+use Rattle.om_scope.specs.declared.statement.TheConstants.{SECTION_LIMIT}
 use Rattle.om_scope.specs.Faults.{breach_if, breaches_along, with_breach}
 use Rattle.om_scope.specs.Places.{statement_start}
 use Rattle.om_scope.specs.ExpressionRules.{expression_breaches, is_scalar, misplaced_breaches, undeclared_breaches}
 use Rattle.om_scope.specs.DirectiveRules.{constructing, directive_breaches, flush_breaches, in_construct, traits_of}
 use Rattle.om_scope.specs.Loops.{Loop, loop_in}
 use Rattle.om_scope.specs.Sharing.{is_parallel}
-use Rattle.om_scope.specs.declared.rules.symbols.Shape.TheVariants as shapes
-use Rattle.om_scope.specs.InScope.{Scopes, is_declared, inside, meaning_of, with_local, declarators_of, after_local, after_locals}
+use Rattle.om_scope.specs.declared.symbols.Shape.TheVariants as shapes
+use Rattle.om_scope.specs.Scopes.{Scopes, is_declared, inside, meaning_of, with_local, declarators_of, after_local, after_locals}
 
 -- S8: declared again in the same scope (C17 6.7p3)
 abbrev pub redeclared_breaches : Scopes → names.Name → List SourceFault
@@ -69,7 +69,7 @@ for_turn_breaches scopes h = perhaps_breaches scopes true h.condition ++ perhaps
 
 -- in a loop
 abbrev pub looping : Flow → Flow
-looping flow = record { may_break = true; may_continue = true; returns = flow.returns; in_construct = flow.in_construct; is_closed = flow.is_closed }
+looping flow = record { may_break = true; may_continue = true; returns = flow.returns; in_construct = flow.in_construct; is_closed = flow.is_closed; parallel = flow.parallel }
 
 -- ---- canonical loops
 
@@ -80,7 +80,7 @@ round_bounds d scopes = if is_parallel (traits_of d.name).region then in_constru
 
 -- the scopes in which a loop's variable is one of its own
 abbrev pub with_iteration : Scopes → Loop → Scopes
-with_iteration scopes found = with_local (inside scopes) found.start.variable.text shapes.Scalar
+with_iteration scopes found = with_local (inside scopes) found.start.variable shapes.Scalar
 
 -- S7, S9: a variable that the loop does not declare is an `int`; the loop uses a copy of it, and not the original
 abbrev pub variable_breaches : Scopes → names.Name → List SourceFault
@@ -106,7 +106,7 @@ in_loop scopes (Some found) = inside (with_iteration scopes found)
 
 -- a `continue` goes on with the next iteration
 abbrev pub continuing : Flow → Flow
-continuing flow = record { may_break = flow.may_break; may_continue = true; returns = flow.returns; in_construct = flow.in_construct; is_closed = flow.is_closed }
+continuing flow = record { may_break = flow.may_break; may_continue = true; returns = flow.returns; in_construct = flow.in_construct; is_closed = flow.is_closed; parallel = flow.parallel }
 
 -- ---- statements
 
@@ -167,13 +167,13 @@ unfoldable mutual
   statement_breaches scopes flow (Construct d s) =
       directive_breaches scopes flow d
       ++ (if not (traits_of d.name).takes_loop
-      then statement_breaches (in_construct d scopes) (constructing d.name flow) s
+      then statement_breaches (in_construct d scopes) (constructing d flow) s
       else if is_some (loop_in s)
-      then bounds_breaches (round_bounds d scopes) (loop_in s) ++ body_breaches (in_construct d scopes) (constructing d.name flow) (loop_in s) s
-      else with_breach (record { code = faults.LoopForm; at = statement_start s }) (statement_breaches (in_construct d scopes) (constructing d.name flow) s))
+      then bounds_breaches (round_bounds d scopes) (loop_in s) ++ body_breaches (in_construct d scopes) (constructing d flow) (loop_in s) s
+      else with_breach (record { code = faults.LoopForm; at = statement_start s }) (statement_breaches (in_construct d scopes) (constructing d flow) s))
   statement_breaches scopes flow (StandAlone d) = directive_breaches scopes flow d ++ flush_breaches scopes d.name
   statement_breaches scopes flow (Sections d left parts right) =
-      directive_breaches scopes flow d ++ sections_breaches (in_construct d scopes) (constructing d.name flow) 0 parts
+      directive_breaches scopes flow d ++ sections_breaches (in_construct d scopes) (constructing d flow) 0 parts
   statement_breaches scopes flow (Section d s) = statement_breaches (inside scopes) flow s
 
   -- of the items of a block, in their order
@@ -213,25 +213,25 @@ abbrev pub loop_construct_breaches : Scopes → Flow → Directive ExpressionTre
 loop_construct_breaches scopes flow d found s =
     directive_breaches scopes flow d
     ++ (if is_some found
-    then bounds_breaches (round_bounds d scopes) found ++ body_breaches (in_construct d scopes) (constructing d.name flow) found s
-    else with_breach (record { code = faults.LoopForm; at = statement_start s }) (statement_breaches (in_construct d scopes) (constructing d.name flow) s))
+    then bounds_breaches (round_bounds d scopes) found ++ body_breaches (in_construct d scopes) (constructing d flow) found s
+    else with_breach (record { code = faults.LoopForm; at = statement_start s }) (statement_breaches (in_construct d scopes) (constructing d flow) s))
 
 -- of another construct
 abbrev pub plain_construct_breaches : Scopes → Flow → Directive ExpressionTree → StatementTree → List SourceFault
-plain_construct_breaches scopes flow d s = directive_breaches scopes flow d ++ statement_breaches (in_construct d scopes) (constructing d.name flow) s
+plain_construct_breaches scopes flow d s = directive_breaches scopes flow d ++ statement_breaches (in_construct d scopes) (constructing d flow) s
 
 -- of a construct
 abbrev pub construct_breaches : Scopes → Flow → Directive ExpressionTree → StatementTree → List SourceFault
 construct_breaches scopes flow d s =
     directive_breaches scopes flow d
     ++ (if not (traits_of d.name).takes_loop
-    then statement_breaches (in_construct d scopes) (constructing d.name flow) s
+    then statement_breaches (in_construct d scopes) (constructing d flow) s
     else if is_some (loop_in s)
-    then bounds_breaches (round_bounds d scopes) (loop_in s) ++ body_breaches (in_construct d scopes) (constructing d.name flow) (loop_in s) s
-    else with_breach (record { code = faults.LoopForm; at = statement_start s }) (statement_breaches (in_construct d scopes) (constructing d.name flow) s))
+    then bounds_breaches (round_bounds d scopes) (loop_in s) ++ body_breaches (in_construct d scopes) (constructing d flow) (loop_in s) s
+    else with_breach (record { code = faults.LoopForm; at = statement_start s }) (statement_breaches (in_construct d scopes) (constructing d flow) s))
 
 abbrev pub sections_construct_breaches : Scopes → Flow → Directive ExpressionTree → StatementsTree → List SourceFault
-sections_construct_breaches scopes flow d parts = directive_breaches scopes flow d ++ sections_breaches (in_construct d scopes) (constructing d.name flow) 0 parts
+sections_construct_breaches scopes flow d parts = directive_breaches scopes flow d ++ sections_breaches (in_construct d scopes) (constructing d flow) 0 parts
 
 abbrev pub part_breaches : Scopes → Flow → ℕ → StatementTree → List SourceFault
 part_breaches scopes flow before s = breach_if (begins_part before s && nat_le SECTION_LIMIT before) faults.TooMany (statement_start s) ++ statement_breaches (inside scopes) flow s

@@ -1,5 +1,5 @@
 -- The rules at file scope, by the breaches that a source has of them, in the order of the text.
-use Rattle.std.specs.Prelude.{ℕ, ◌+◌, List, [], ◌∷◌, ◌++◌, Option, None, Some, Bool, true, false, codes, nat_lt, nat_le, not, ◌&&◌, fold, length}
+use Rattle.std.specs.Prelude.{ℕ, ◌+◌, List, [], ◌++◌, Option, None, Some, Bool, true, false, codes, nat_lt, nat_le, not, ◌&&◌, length}
 use Rattle.std.specs.List.{list_any}
 use Rattle.std.specs.Str.{bytes_eq}
 use Rattle.om_lexer.specs.declared.fault.FaultCode.TheVariants as faults
@@ -7,18 +7,18 @@ use Rattle.om_lexer.specs.declared.fault.SourceFault.{SourceFault}
 use Rattle.om_pragma.specs.declared.name.Name as names
 use Rattle.om_pragma.specs.declared.name.Number.{Number}
 use Rattle.om_parser.specs.declared.tree.Parameter.{Parameter}
-use Rattle.om_parser.specs.Tree.{ExpressionTree, InitializerTree, DeclaratorTree, StatementsTree, statements, HeadTree, FunctionTree, ItemTree, Declaration, Prototype, Function, UnitTree}
-use Rattle.om_scope.specs.declared.rules.flow.Flow.{Flow}
-use Rattle.om_scope.specs.declared.declaration.TheConstants.{GLOBAL_CELL_LIMIT}
-use Rattle.om_scope.specs.declared.rules.function.TheConstants.{FUNCTION_LIMIT, PARAMETER_LIMIT}
-use Rattle.om_scope.specs.declared.rules.symbols.Meaning.{Meaning}
-use Rattle.om_scope.specs.declared.rules.symbols.Meaning.TheVariants as meanings
-use Rattle.om_scope.specs.declared.rules.symbols.Signature.{Signature}
+use Rattle.om_parser.specs.Tree.{InitializerTree, DeclaratorTree, statements, HeadTree, FunctionTree, ItemTree, Declaration, Prototype, Function}
+use Rattle.om_scope.specs.declared.flow.Flow.{Flow}
+use Rattle.om_scope.specs.declared.globals.TheConstants.{GLOBAL_CELL_LIMIT}
+use Rattle.om_scope.specs.declared.function.TheConstants.{FUNCTION_LIMIT, PARAMETER_LIMIT}
+use Rattle.om_scope.specs.declared.symbols.Meaning.{Meaning}
+use Rattle.om_scope.specs.declared.symbols.Meaning.TheVariants as meanings
+use Rattle.om_scope.specs.declared.symbols.Signature.{Signature}
 use Rattle.om_scope.specs.Faults.{breach_if, untaken_breaches}
 use Rattle.om_scope.specs.ExpressionRules.{constant_breaches}
 use Rattle.om_scope.specs.Places.{expression_start, head_start}
-use Rattle.om_scope.specs.Taken.{signed_constant}
-use Rattle.om_scope.specs.InScope.{Scopes, file_scope, predeclared, asks, meaning_here, is_declared, inside, signature_of, signature_eq, parameters_of, declarators_of, definitions_of, cells_of, after_global, after_parameter, after_parameters, after_prototype, after_function, after_item}
+use Rattle.om_scope.specs.Constants.{signed_constant}
+use Rattle.om_scope.specs.Scopes.{Scopes, predeclared, asks, meaning_here, inside, signature_of, signature_eq, parameters_of, declarators_of, cells_of, after_global, after_parameter, after_parameters, after_prototype, after_function, after_item}
 use Rattle.om_scope.specs.Faults.{breaches_along}
 use Rattle.om_scope.specs.StatementRules.{redeclared_breaches, array_size_breaches, statements_breaches}
 
@@ -53,7 +53,7 @@ globals_breaches = breaches_along global_breaches after_global
 abbrev pub is_redeclared : Signature → Option Meaning → Bool
 is_redeclared signature None = false
 is_redeclared signature (Some (meanings.Function earlier)) = not (signature_eq earlier signature)
-is_redeclared signature (Some (meanings.Variable shape)) = true
+is_redeclared signature (Some (meanings.Variable variable shape)) = true
 is_redeclared signature (Some meanings.Printf) = true
 
 -- S9: `main` is `int main(void)` (C17 5.1.2.2.1)
@@ -89,7 +89,7 @@ prototype_breaches scopes head = head_breaches scopes head ++ parameters_breache
 
 -- what a function's statements may do
 abbrev pub flow_of : HeadTree → Flow
-flow_of head = record { may_break = false; may_continue = false; returns = (signature_of head).returns; in_construct = false; is_closed = false }
+flow_of head = record { may_break = false; may_continue = false; returns = (signature_of head).returns; in_construct = false; is_closed = false; parallel = None }
 
 -- S11 at the first definition too many, S8 at a second one of a function
 abbrev pub definition_breaches : Scopes → HeadTree → List SourceFault

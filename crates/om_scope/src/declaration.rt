@@ -1,23 +1,77 @@
-//! Declarations at file scope.
+//! Declarations in functions: their rules, and the variables that they declare.
 
-ghost use Rattle.std.specs.Prelude.{◌≡◌, ◌<◌, ◌++◌, [], ◌∷◌, false, Some, OnOk, IfOk, IfErr, map, option_map};
+ghost use Rattle.std.specs.Prelude.{◌≡◌, ◌++◌, false, OnOk, IfOk, Some, option_map, map};
 ghost use Rattle.om_parser.specs.View.{view_declaration, view_declarator, view_further, view_initializer};
-ghost use Rattle.om_scope.specs.Breaches.{declarator_breaches, declarators_breaches, first_of, global_breaches, initializer_breaches, redeclared_breaches, scalar_breaches, signed_breaches};
-ghost use Rattle.om_scope.specs.Outcomes.{ResolvesExactly, Refuses};
-ghost use Rattle.om_scope.specs.Resolution.{global_of, initial_of, signed_value};
-ghost use Rattle.om_scope.specs.Scopes.{after_declarator, after_declarators, behind_commas, declarators_of, globals_in, is_declared};
+ghost use Rattle.om_scope.specs.Checks.{Checks, ChecksExactly};
+ghost use Rattle.om_scope.specs.Scopes.{after_local, after_locals, behind_commas, cells_of, declarators_of, shape_of};
+ghost use Rattle.om_scope.specs.ResolvedView.{view_resolved_declarator, view_resolved_expression};
+ghost use Rattle.om_scope.specs.StatementResolution.{length_of, local_of, resolved_declarator, resolved_declarators, resolved_initial};
+ghost use Rattle.om_scope.specs.StatementRules.{array_size_breaches, initializer_breaches, is_empty_array, local_breaches, locals_breaches, redeclared_breaches};
 
-use crate::expression::constant_of;
-use crate::resolved::GlobalVariable;
-use crate::symbols::Symbols;
-use crate::taken::{expression_start, signed_constant, untaken};
+use crate::expression::resolve_expression;
+use crate::fault::refuse_if;
+use crate::resolved::{LocalVariable, ResolvedDeclarator, ResolvedExpression};
+use crate::symbols::{Shape, Symbols};
 use om_lexer::{FaultCode, SourceFault, Span};
-use om_parser::{Declaration, Declarator, Initializer, Name, Number};
+use om_parser::{ArrayLength, Declaration, Declarator, Initializer, Name};
 use om_seq::Seq;
 use std::alloc::{AllocError, Global};
 
-/// How many cells the globals of a source may have. A scalar has one.
-pub const GLOBAL_CELL_LIMIT: u32 = 65_536;
+/// That a name is not declared in this scope yet: S8.
+pub fn check_new(symbols: &Symbols, name: &Name) -> Result<(), SourceFault>
+    ensures { ChecksExactly result (redeclared_breaches symbols.now name.now) }
+{
+    let broken = symbols.is_declared(name.text.as_slice());
+    refuse_if(broken, FaultCode::Redeclared, name.span.start)
+}
+
+/// Whether a variable is an array.
+pub fn shape_of(array: &Option<ArrayLength>) -> Shape
+    ensures { result ≡ shape_of array.now }
+{
+    match array {
+        None => Shape::Scalar,
+        Some(_) => Shape::Array,
+    }
+}
+
+/// How many cells a variable has.
+pub fn cells_of(array: &Option<ArrayLength>) -> u32
+    ensures { result ≡ cells_of array.now }
+{
+    match array {
+        None => 1,
+        Some(array) => array.size.value,
+    }
+}
+
+/// Whether it is an array without cells.
+fn is_empty_array(array: &Option<ArrayLength>) -> bool
+    ensures { result ≡ is_empty_array array.now }
+{
+    match array {
+        None => false,
+        Some(array) => array.size.value == 0,
+    }
+}
+
+/// That an array has cells: S9.
+pub fn check_size(declarator: &Declarator) -> Result<(), SourceFault>
+    ensures { ChecksExactly result (array_size_breaches (view_declarator declarator.now)) }
+{
+    let broken = is_empty_array(&declarator.array);
+    refuse_if(broken, FaultCode::Misuse, declarator.name.span.start)
+}
+
+/// How many elements a variable has, where it is an array.
+pub fn length_of(array: &Option<ArrayLength>) -> Option<u32>
+    ensures { result ≡ length_of array.now }
+{
+    match array {
+        None => None,
+        Some(array) => Some(array.size.value),
+    }
+}
 
 /// A copy of a name.
 pub fn copy_of(alloc: Global, name: &Name) -> Result<Seq<u8>, AllocError>
@@ -26,137 +80,89 @@ pub fn copy_of(alloc: Global, name: &Name) -> Result<Seq<u8>, AllocError>
     Ok(Seq::of(Vec::from_slice(alloc, name.text.as_slice())?))
 }
 
-/// That a name is not declared in this scope yet: S8.
-pub fn check_new(symbols: &Symbols, name: &Name) -> Result<(), SourceFault>
-    ensures is_new { OnOk result (is_declared symbols.now name.now.text ≡ false) }
-    ensures refused { IfErr result (λ fault. first_of (redeclared_breaches symbols.now name.now) ≡ Some fault) }
+/// The variable of a function that a name declares.
+pub fn local_of(alloc: Global, name: &Name) -> Result<LocalVariable, AllocError>
+    ensures { IfOk result (λ local. local ≡ local_of name.now) }
 {
-    if symbols.is_declared(name.text.as_slice()) {
-        return Err(SourceFault {
-            code: FaultCode::Redeclared,
-            at: name.span.start,
-        });
-    }
-    Ok(())
+    Ok(LocalVariable {
+        name: copy_of(alloc, name)?,
+        at: name.span.start,
+    })
 }
 
-/// That a name may be that of a further global: S9, S11.
-fn check_global(symbols: &Symbols, name: &Name) -> Result<(), SourceFault>
-    ensures no_breach { OnOk result (global_breaches symbols.now name.now ≡ []) }
-    ensures has_room { OnOk result (globals_in symbols.now < GLOBAL_CELL_LIMIT) }
-    ensures refused { IfErr result (λ fault. first_of (global_breaches symbols.now name.now) ≡ Some fault) }
-{
-    let at = name.span.start;
-    if name.text.as_slice() == b"main".as_slice() {
-        return Err(SourceFault {
-            code: FaultCode::Misuse,
-            at,
-        });
-    }
-    if symbols.globals() >= GLOBAL_CELL_LIMIT {
-        return Err(SourceFault {
-            code: FaultCode::TooMany,
-            at,
-        });
-    }
-    Ok(())
-}
-
-/// What a global holds at the start: S10.
-fn initial_of(initializer: &Option<Initializer>) -> Result<i32, SourceFault>
-    ensures { let tree = option_map view_initializer initializer.now in
-        ResolvesExactly (λ value. value) result (initializer_breaches tree) (Some (initial_of tree)) }
+/// What a local variable holds at the start.
+fn resolve_initializer(
+    alloc: Global,
+    symbols: &Symbols,
+    initializer: &Option<Initializer>,
+) -> Result<Option<ResolvedExpression>, SourceFault>
+    ensures checked { Checks result (initializer_breaches symbols.now (option_map view_initializer initializer.now)) }
+    ensures resolved { IfOk result (λ found. resolved_initial symbols.now (option_map view_initializer initializer.now) ≡ Some (option_map view_resolved_expression found)) }
 {
     match initializer {
-        None => Ok(0),
-        Some(initializer) => value_of(
-            signed_constant(&initializer.value),
-            expression_start(&initializer.value),
-        ),
+        None => Ok(None),
+        Some(initializer) => {
+            let value = resolve_expression(alloc, symbols, true, &initializer.value)?;
+            Ok(Some(value))
+        }
     }
 }
 
-/// What a constant with its minus stands for, or where there is none S3 at a place.
-fn value_of(constant: Option<(bool, Number)>, at: u32) -> Result<i32, SourceFault>
-    ensures { ResolvesExactly (λ value. value) result (signed_breaches at constant) (Some (signed_value constant)) }
-{
-    match constant {
-        None => Err(untaken(at)),
-        Some((false, number)) => constant_of(&number),
-        Some((true, number)) => Ok(-constant_of(&number)?),
-    }
-}
-
-/// Declares a global that is no array.
-fn declare_scalar(
+/// Declares one local variable.
+#[tactic(auto, using(crate::proofs::Firsts::first_of_left), unfolding(crate::specs::StatementRules::local_breaches, crate::specs::StatementResolution::resolved_declarator))]
+fn resolve_declarator(
     alloc: Global,
     symbols: &mut Symbols,
-    globals: &mut Vec<GlobalVariable>,
     declarator: &Declarator,
-) -> Result<(), SourceFault>
-    ensures no_breach { OnOk result (scalar_breaches symbols.old (view_declarator declarator.now) ≡ []) }
-    ensures in_scope { OnOk result (symbols.new ≡ after_declarator symbols.old (view_declarator declarator.now)) }
-    ensures declared { OnOk result (globals.new.items ≡ globals.old.items ++ global_of (view_declarator declarator.now) ∷ []) }
-    ensures refused { IfErr result (Refuses (scalar_breaches symbols.old (view_declarator declarator.now))) }
+) -> Result<ResolvedDeclarator, SourceFault>
+    ensures checked { Checks result (local_breaches symbols.old (view_declarator declarator.now)) }
+    ensures in_scope { OnOk result (symbols.new ≡ after_local symbols.old (view_declarator declarator.now)) }
+    ensures resolved { IfOk result (λ found. resolved_declarator symbols.old (view_declarator declarator.now) ≡ Some (view_resolved_declarator found)) }
 {
     check_new(symbols, &declarator.name)?;
-    check_global(symbols, &declarator.name)?;
-    let initial = initial_of(&declarator.initializer)?;
-    let name = copy_of(alloc, &declarator.name)?;
-    symbols.declare_global(alloc, name.as_slice())?;
-    globals.push(GlobalVariable { name, initial })?;
-    Ok(())
+    check_size(declarator)?;
+    let shape = shape_of(&declarator.array);
+    symbols.declare_local(alloc, &declarator.name, shape)?;
+    let initial = resolve_initializer(alloc, symbols, &declarator.initializer)?;
+    Ok(ResolvedDeclarator {
+        variable: local_of(alloc, &declarator.name)?,
+        length: length_of(&declarator.array),
+        initial,
+    })
 }
 
-/// Declares one global.
-fn declare(
+/// Declares the local variables behind the first of a declaration.
+fn resolve_further_locals(
     alloc: Global,
     symbols: &mut Symbols,
-    globals: &mut Vec<GlobalVariable>,
-    declarator: &Declarator,
-) -> Result<(), SourceFault>
-    ensures no_breach { OnOk result (declarator_breaches symbols.old (view_declarator declarator.now) ≡ []) }
-    ensures in_scope { OnOk result (symbols.new ≡ after_declarator symbols.old (view_declarator declarator.now)) }
-    ensures declared { OnOk result (globals.new.items ≡ globals.old.items ++ global_of (view_declarator declarator.now) ∷ []) }
-    ensures refused { IfErr result (Refuses (declarator_breaches symbols.old (view_declarator declarator.now))) }
-{
-    if declarator.array.is_some() {
-        return Err(untaken(declarator.name.span.start));
-    }
-    declare_scalar(alloc, symbols, globals, declarator)
-}
-
-/// Declares the globals behind the first of a declaration.
-fn declare_rest(
-    alloc: Global,
-    symbols: &mut Symbols,
-    globals: &mut Vec<GlobalVariable>,
+    declared: &mut Vec<ResolvedDeclarator>,
     rest: &[(Span, Declarator)],
 ) -> Result<(), SourceFault>
-    ensures no_breach { OnOk result (declarators_breaches symbols.old (behind_commas (map view_further rest.now)) ≡ []) }
-    ensures in_scope { OnOk result (symbols.new ≡ after_declarators symbols.old (behind_commas (map view_further rest.now))) }
-    ensures declared { OnOk result (globals.new.items ≡ globals.old.items ++ map global_of (behind_commas (map view_further rest.now))) }
-    ensures refused { IfErr result (Refuses (declarators_breaches symbols.old (behind_commas (map view_further rest.now)))) }
+    ensures checked { Checks result (locals_breaches symbols.old (behind_commas (map view_further rest.now))) }
+    ensures in_scope { OnOk result (symbols.new ≡ after_locals symbols.old (behind_commas (map view_further rest.now))) }
+    ensures resolved { let before = map view_resolved_declarator declared.old.items in
+        let after = map view_resolved_declarator declared.new.items in
+        OnOk result (option_map (λ own. before ++ own) (resolved_declarators symbols.old (behind_commas (map view_further rest.now))) ≡ Some after) }
 {
     for further in rest {
-        declare(alloc, symbols, globals, &further.1)?;
+        declared.push(resolve_declarator(alloc, symbols, &further.1)?)?;
     }
     Ok(())
 }
 
-/// Declares the globals of a declaration, in their order.
-pub fn declare_globals(
+/// Declares the variables of a declaration in a function.
+#[tactic(auto, using(crate::proofs::Firsts::first_of_left))]
+pub fn resolve_locals(
     alloc: Global,
     symbols: &mut Symbols,
-    globals: &mut Vec<GlobalVariable>,
     declaration: &Declaration,
-) -> Result<(), SourceFault>
-    ensures no_breach { OnOk result (declarators_breaches symbols.old (declarators_of (view_declaration declaration.now)) ≡ []) }
-    ensures in_scope { OnOk result (symbols.new ≡ after_declarators symbols.old (declarators_of (view_declaration declaration.now))) }
-    ensures declared { let declarators = declarators_of (view_declaration declaration.now) in
-        OnOk result (globals.new.items ≡ globals.old.items ++ map global_of declarators) }
-    ensures refused { IfErr result (Refuses (declarators_breaches symbols.old (declarators_of (view_declaration declaration.now)))) }
+) -> Result<Vec<ResolvedDeclarator>, SourceFault>
+    ensures checked { Checks result (locals_breaches symbols.old (declarators_of (view_declaration declaration.now))) }
+    ensures in_scope { OnOk result (symbols.new ≡ after_locals symbols.old (declarators_of (view_declaration declaration.now))) }
+    ensures resolved { IfOk result (λ found. resolved_declarators symbols.old (declarators_of (view_declaration declaration.now)) ≡ Some (map view_resolved_declarator found.items)) }
 {
-    declare(alloc, symbols, globals, &declaration.first)?;
-    declare_rest(alloc, symbols, globals, declaration.rest.as_slice())
+    let mut declared = Vec::new(alloc);
+    declared.push(resolve_declarator(alloc, symbols, &declaration.first)?)?;
+    resolve_further_locals(alloc, symbols, &mut declared, declaration.rest.as_slice())?;
+    Ok(declared)
 }

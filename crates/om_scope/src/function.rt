@@ -1,56 +1,295 @@
-//! Definitions of functions.
+//! Functions: their rules, and their variables.
 
-ghost use Rattle.std.specs.Prelude.{◌≡◌, OnOk};
-ghost use Rattle.om_parser.specs.View.{view_function};
-ghost use Rattle.om_scope.specs.Breaches.{definition_breaches, function_breaches};
-ghost use Rattle.om_scope.specs.Outcomes.{Resolves};
-ghost use Rattle.om_scope.specs.Resolution.{resolved_function};
-ghost use Rattle.om_scope.specs.ResolvedView.{view_resolved_function};
-ghost use Rattle.om_scope.specs.Scopes.{with_function};
+ghost use Rattle.std.specs.Prelude.{◌≡◌, ◌++◌, ◌+◌, ◌<◌, OnOk, IfOk, Some, length, map};
+ghost use Rattle.std.specs.List.{flat_map, list_any};
+ghost use Rattle.std.specs.Str.{bytes_eq};
+ghost use Rattle.om_parser.specs.View.{view_function, view_head, view_parameters};
+ghost use Rattle.om_scope.specs.Checks.{Checks, ChecksExactly};
+ghost use Rattle.om_scope.specs.Scopes.{after_function, after_parameter, after_parameter_name, after_parameters, after_prototype, asks, inside, parameters_of, returns_value, signature_eq, signature_of};
+ghost use Rattle.om_scope.specs.Faults.{breaches_along};
+ghost use Rattle.om_scope.specs.ResolvedTree as resolved;
+ghost use Rattle.om_scope.specs.ResolvedView.{view_resolved_function, view_resolved_statement};
+ghost use Rattle.om_scope.specs.UnitResolution.{named_parameter, parameter_variable, resolved_function, resolved_inside};
+ghost use Rattle.om_scope.specs.UnitRules.{body_breaches, definition_breaches, flow_of, function_breaches, head_breaches, is_other_main, is_redeclared, next_parameter, parameter_breaches, parameter_name_breaches, parameters_breaches, prototype_breaches};
 
-use crate::declaration::{check_new, copy_of};
-use crate::resolved::ResolvedFunction;
+use crate::declaration::{check_new, copy_of, local_of};
+use crate::fault::refuse_if;
+use crate::flow::Flow;
+use crate::place::head_first;
+use crate::resolved::{LocalVariable, ResolvedFunction, ResolvedStatement};
 use crate::statement::resolve_statements;
-use crate::symbols::Symbols;
-use crate::taken::{head_start, is_taken_head, untaken};
-use om_lexer::SourceFault;
-use om_parser::Function;
+use crate::symbols::{Meaning, Shape, Signature, Symbols};
+use om_lexer::{FaultCode, SourceFault, Span};
+use om_parser::{Function, FunctionHead, Name, Parameter, Parameters, ResultType};
 use om_seq::Seq;
-use std::alloc::Global;
+use std::alloc::{AllocError, Global};
 
-/// Declares a function and resolves its body.
-#[tactic(auto, unfolding(crate::specs::Breaches::definition_breaches, crate::specs::Resolution::resolved_function))]
-fn define_main(
-    alloc: Global,
-    symbols: &mut Symbols,
-    function: &Function,
-) -> Result<ResolvedFunction, SourceFault>
-    ensures resolves { Resolves view_resolved_function result (definition_breaches symbols.old (view_function function.now)) (resolved_function symbols.old (view_function function.now)) }
-    ensures in_scope { OnOk result (symbols.new ≡ with_function symbols.old (view_function function.now).head.name.text) }
+/// How many functions a source may define.
+pub const FUNCTION_LIMIT: usize = 256;
+
+/// How many parameters a function may have.
+pub const PARAMETER_LIMIT: usize = 16;
+
+/// Whether a function returns an `int`.
+fn returns_value(kind: &ResultType) -> bool
+    ensures { result ≡ returns_value kind.now }
 {
-    check_new(symbols, &function.head.name)?;
-    let name = copy_of(alloc, &function.head.name)?;
-    symbols.declare_function(alloc, name.as_slice())?;
-    let statements = resolve_statements(alloc, symbols, function.body.items.as_slice())?;
-    Ok(ResolvedFunction {
-        name,
-        name_at: function.head.name.span.start,
-        statements: Seq::of(statements),
-        closing_line: function.body.close_brace.line,
-    })
+    match kind {
+        ResultType::Int(_) => true,
+        ResultType::Void(_) => false,
+    }
 }
 
-/// Declares `main` and resolves its body; another function is not taken.
-pub fn define_function(
+/// How many parameters there are.
+fn parameter_count(parameters: &Parameters) -> usize
+    ensures { result ≡ length (parameters_of (view_parameters parameters.now)) }
+{
+    match parameters {
+        Parameters::Nothing => 0,
+        Parameters::Void(_) => 0,
+        Parameters::Listed(_, rest) => rest.len() + 1,
+    }
+}
+
+/// What calls of a function need and give.
+fn signature_of(head: &FunctionHead) -> Signature
+    ensures { result ≡ signature_of (view_head head.now) }
+{
+    Signature {
+        returns: returns_value(&head.result),
+        parameters: parameter_count(&head.parameters),
+    }
+}
+
+/// Whether two functions are called alike.
+fn are_alike(one: Signature, other: Signature) -> bool
+    ensures { result ≡ signature_eq one other }
+{
+    (if one.returns {
+        other.returns
+    } else {
+        !other.returns
+    }) && one.parameters == other.parameters
+}
+
+/// Whether a function of this signature was declared before as something else.
+fn is_redeclared(signature: Signature, earlier: Option<Meaning>) -> bool
+    ensures { result ≡ is_redeclared signature earlier }
+{
+    match earlier {
+        None => false,
+        Some(Meaning::Function(earlier)) => !are_alike(earlier, signature),
+        Some(Meaning::Variable(..)) => true,
+        Some(Meaning::Printf) => true,
+    }
+}
+
+/// Whether it is `main`, but not `int main(void)`.
+fn is_other_main(name: &[u8], signature: Signature) -> bool
+    ensures { result ≡ is_other_main name.now signature }
+{
+    let asks = Signature {
+        returns: true,
+        parameters: 0,
+    };
+    name == b"main".as_slice() && !are_alike(signature, asks)
+}
+
+/// The name and the signature of a function: S8, S9.
+#[tactic(auto, using(crate::proofs::Firsts::first_of_left))]
+fn check_head(symbols: &Symbols, head: &FunctionHead) -> Result<(), SourceFault>
+    ensures { ChecksExactly result (head_breaches symbols.now (view_head head.now)) }
+{
+    let signature = signature_of(head);
+    let name = head.name.text.as_slice();
+    let redeclared = is_redeclared(signature, symbols.meaning_here(name));
+    refuse_if(redeclared, FaultCode::Redeclared, head.name.span.start)?;
+    let other = is_other_main(name, signature);
+    refuse_if(other, FaultCode::Misuse, head.name.span.start)
+}
+
+/// Declares a function, unless an earlier declaration did.
+fn declare_head(alloc: Global, symbols: &mut Symbols, head: &FunctionHead) -> Result<(), AllocError>
+    ensures { OnOk result (symbols.new ≡ after_prototype symbols.old (view_head head.now)) }
+{
+    let name = head.name.text.as_slice();
+    if symbols.is_declared(name) {
+        return Ok(());
+    }
+    symbols.declare_function(alloc, name, signature_of(head))
+}
+
+/// Declares the name of a parameter: S8.
+fn declare_parameter_name(
+    alloc: Global,
+    symbols: &mut Symbols,
+    parameters: &mut Vec<LocalVariable>,
+    name: &Option<Name>,
+) -> Result<(), SourceFault>
+    ensures checked { Checks result (parameter_name_breaches symbols.old name.now) }
+    ensures in_scope { OnOk result (symbols.new ≡ after_parameter_name symbols.old name.now) }
+    ensures resolved { OnOk result (parameters.new.items ≡ parameters.old.items ++ named_parameter name.now) }
+{
+    match name {
+        None => Ok(()),
+        Some(name) => {
+            check_new(symbols, name)?;
+            symbols.declare_local(alloc, name, Shape::Scalar)?;
+            parameters.push(local_of(alloc, name)?)?;
+            Ok(())
+        }
+    }
+}
+
+/// Declares a parameter behind so many others: S8, S11.
+#[tactic(auto, using(crate::proofs::Firsts::first_of_left))]
+fn declare_parameter(
+    alloc: Global,
+    symbols: &mut Symbols,
+    parameters: &mut Vec<LocalVariable>,
+    before: usize,
+    parameter: &Parameter,
+) -> Result<(), SourceFault>
+    ensures checked { Checks result (parameter_breaches (before, symbols.old) parameter.now) }
+    ensures in_scope { OnOk result (symbols.new ≡ after_parameter symbols.old parameter.now) }
+    ensures resolved { OnOk result (parameters.new.items ≡ parameters.old.items ++ parameter_variable parameter.now) }
+    ensures few { OnOk result (before < PARAMETER_LIMIT) }
+{
+    refuse_if(
+        PARAMETER_LIMIT <= before,
+        FaultCode::TooMany,
+        parameter.int.start,
+    )?;
+    declare_parameter_name(alloc, symbols, parameters, &parameter.name)
+}
+
+/// Declares the parameters behind the first.
+fn declare_further_parameters(
+    alloc: Global,
+    symbols: &mut Symbols,
+    parameters: &mut Vec<LocalVariable>,
+    rest: &[(Span, Parameter)],
+) -> Result<(), SourceFault>
+    ensures checked { Checks result (breaches_along parameter_breaches next_parameter (1, symbols.old) (map (λ further. further.1) rest.now)) }
+    ensures in_scope { OnOk result (symbols.new ≡ after_parameters symbols.old (map (λ further. further.1) rest.now)) }
+    ensures resolved { OnOk result (parameters.new.items ≡ parameters.old.items ++ flat_map parameter_variable (map (λ further. further.1) rest.now)) }
+{
+    let mut before = 1;
+    for further in rest {
+        declare_parameter(alloc, symbols, parameters, before, &further.1)?;
+        before += 1;
+    }
+    Ok(())
+}
+
+/// Declares the parameters of a function.
+#[tactic(auto, using(crate::proofs::Firsts::first_of_left))]
+fn declare_parameters(
+    alloc: Global,
+    symbols: &mut Symbols,
+    parameters: &Parameters,
+) -> Result<Vec<LocalVariable>, SourceFault>
+    ensures checked { Checks result (parameters_breaches symbols.old (parameters_of (view_parameters parameters.now))) }
+    ensures in_scope { OnOk result (symbols.new ≡ after_parameters symbols.old (parameters_of (view_parameters parameters.now))) }
+    ensures resolved { IfOk result (λ found. found.items ≡ flat_map parameter_variable (parameters_of (view_parameters parameters.now))) }
+{
+    let mut found = Vec::new(alloc);
+    match parameters {
+        Parameters::Nothing => Ok(found),
+        Parameters::Void(_) => Ok(found),
+        Parameters::Listed(first, rest) => {
+            declare_parameter(alloc, symbols, &mut found, 0, first)?;
+            declare_further_parameters(alloc, symbols, &mut found, rest.as_slice())?;
+            Ok(found)
+        }
+    }
+}
+
+/// A function that is declared and not defined.
+#[tactic(auto, using(crate::proofs::Firsts::first_of_left))]
+pub fn check_prototype(
+    alloc: Global,
+    symbols: &mut Symbols,
+    head: &FunctionHead,
+) -> Result<(), SourceFault>
+    ensures checked { Checks result (prototype_breaches symbols.old (view_head head.now)) }
+    ensures in_scope { OnOk result (symbols.new ≡ after_prototype symbols.old (view_head head.now)) }
+{
+    check_head(symbols, head)?;
+    declare_head(alloc, symbols, head)?;
+    symbols.enter(alloc)?;
+    declare_parameters(alloc, symbols, &head.parameters)?;
+    symbols.leave();
+    Ok(())
+}
+
+/// That a definition is not one too many, that of no function before, and keeps the rules of its name.
+#[tactic(auto, using(crate::proofs::Firsts::first_of_left))]
+fn check_definition(symbols: &Symbols, head: &FunctionHead) -> Result<(), SourceFault>
+    ensures { ChecksExactly result (definition_breaches symbols.now (view_head head.now)) }
+{
+    let full = symbols.defined_count() >= FUNCTION_LIMIT + 3;
+    refuse_if(full, FaultCode::TooMany, head_first(head).start)?;
+    let defined = symbols.is_defined(head.name.text.as_slice());
+    refuse_if(defined, FaultCode::Redeclared, head.name.span.start)?;
+    check_head(symbols, head)
+}
+
+/// What a function's statements may do.
+fn flow_of(head: &FunctionHead) -> Flow
+    ensures { result ≡ flow_of (view_head head.now) }
+{
+    Flow {
+        may_break: false,
+        may_continue: false,
+        returns: returns_value(&head.result),
+        in_construct: false,
+        is_closed: false,
+        parallel: None,
+    }
+}
+
+/// The parameters and the statements of a function, in a scope of their own.
+#[tactic(auto, using(crate::proofs::Firsts::first_of_left))]
+fn resolve_inside(
+    alloc: Global,
+    symbols: &mut Symbols,
+    function: &Function,
+) -> Result<(Vec<LocalVariable>, Vec<ResolvedStatement>), SourceFault>
+    ensures checked { Checks result (body_breaches symbols.old (view_function function.now)) }
+    ensures in_scope { OnOk result (symbols.new ≡ symbols.old) }
+    ensures parameters { IfOk result (λ found. found.0.items ≡ flat_map parameter_variable (parameters_of (view_function function.now).head.parameters)) }
+    ensures resolved { IfOk result (λ found. resolved_inside symbols.old (view_function function.now) ≡ Some (resolved.statements (map view_resolved_statement found.1.items))) }
+{
+    symbols.enter(alloc)?;
+    let parameters = declare_parameters(alloc, symbols, &function.head.parameters)?;
+    let flow = flow_of(&function.head);
+    let body = resolve_statements(alloc, symbols, flow, function.body.items.as_slice())?;
+    symbols.leave();
+    Ok((parameters, body))
+}
+
+/// The definition of a function.
+#[tactic(auto, using(crate::proofs::Firsts::first_of_left), unfolding(crate::specs::UnitResolution::resolved_function))]
+pub fn resolve_function(
     alloc: Global,
     symbols: &mut Symbols,
     function: &Function,
 ) -> Result<ResolvedFunction, SourceFault>
-    ensures resolves { Resolves view_resolved_function result (function_breaches symbols.old (view_function function.now)) (resolved_function symbols.old (view_function function.now)) }
-    ensures in_scope { OnOk result (symbols.new ≡ with_function symbols.old (view_function function.now).head.name.text) }
+    ensures checked { Checks result (function_breaches symbols.old (view_function function.now)) }
+    ensures in_scope { OnOk result (symbols.new ≡ after_function symbols.old (view_function function.now).head) }
+    ensures resolved { IfOk result (λ found. resolved_function symbols.old (view_function function.now) ≡ Some (view_resolved_function found)) }
 {
-    if !is_taken_head(&function.head) {
-        return Err(untaken(head_start(&function.head)));
-    }
-    define_main(alloc, symbols, function)
+    check_definition(symbols, &function.head)?;
+    declare_head(alloc, symbols, &function.head)?;
+    symbols.define(alloc, function.head.name.text.as_slice())?;
+    let (parameters, body) = resolve_inside(alloc, symbols, function)?;
+    Ok(ResolvedFunction {
+        name: copy_of(alloc, &function.head.name)?,
+        name_at: function.head.name.span.start,
+        first: head_first(&function.head),
+        parameters: Seq::of(parameters),
+        body,
+        closing_line: function.body.close_brace.line,
+    })
 }

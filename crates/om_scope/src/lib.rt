@@ -1,23 +1,36 @@
 //! Resolving: a tree to the tree in which every use has its variable (C17 6.2.1).
 #![tactic(auto)]
 
+mod assembly;
+mod bounds;
+mod canonical;
+mod captures;
+mod constant;
+mod construct;
 mod declaration;
+mod directive;
 mod expression;
+mod fault;
+mod flow;
+mod found;
 mod function;
+mod globals;
 pub mod laws;
+mod listed;
+mod names;
+mod nesting;
+mod place;
+mod print;
 mod resolved;
-mod rules;
+mod sightings;
 mod statement;
 mod symbols;
-mod taken;
 mod unit;
 
-pub use declaration::GLOBAL_CELL_LIMIT;
+pub use globals::GLOBAL_CELL_LIMIT;
 pub use resolved::{
-    GlobalVariable, Resolved, ResolvedExpression, ResolvedFunction, ResolvedOperator,
-    ResolvedStatement, Variable,
+    Capture, ConstructKind, CopyKind, GlobalVariable, LocalVariable, Resolved, ResolvedClause,
+    ResolvedDeclarator, ResolvedExpression, ResolvedFunction, ResolvedLoop, ResolvedSchedule,
+    ResolvedStart, ResolvedStatement, StandAlone, Taking, UnaryOperator, Variable,
 };
 pub use unit::resolve;
-
-#[cfg(test)]
-mod tests;

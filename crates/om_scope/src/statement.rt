@@ -1,143 +1,722 @@
-//! Statements.
+//! Statements: their rules, and the variables of their names.
 
-ghost use Rattle.std.specs.Prelude.{[], ◌∷◌, ◌++◌, map};
-ghost use Rattle.om_parser.specs.View.{view_expression, view_statement};
-ghost use Rattle.om_scope.specs.Breaches.{assignment_breaches, run_breaches, statement_breaches, statements_breaches};
-ghost use Rattle.om_scope.specs.Outcomes.{Resolves};
-ghost use Rattle.om_scope.specs.Resolution.{resolved_assignment, resolved_run, resolved_statement, resolved_statements};
-ghost use Rattle.om_scope.specs.ResolvedView.{view_resolved_statement};
-ghost use Rattle.om_scope.specs.Scopes.{body_scopes};
+ghost use Rattle.std.specs.Prelude.{◌≡◌, ◌++◌, ◌<◌, OnOk, IfOk, Some, map, option_map};
+ghost use Rattle.om_parser.specs.Tree.{statements};
+ghost use Rattle.om_parser.specs.View.{view_expression, view_for_head, view_directive, view_for_start, view_statement};
+ghost use Rattle.om_scope.specs.Checks.{Checks, ChecksExactly};
+ghost use Rattle.om_scope.specs.DirectiveRules.{directive_breaches, flush_breaches, in_construct, in_kind};
+ghost use Rattle.om_scope.specs.Faults.{with_breach};
+ghost use Rattle.om_scope.specs.LoopViews.{view_loop};
+ghost use Rattle.om_scope.specs.Loops.{loop_in};
+ghost use Rattle.om_scope.specs.Outcomes.{Refuses};
+ghost use Rattle.om_scope.specs.Places.{statement_start};
+ghost use Rattle.om_scope.specs.ResolvedTree as resolved;
+ghost use Rattle.om_scope.specs.ResolvedView.{view_resolved_clause, view_resolved_expression, view_resolved_loop, view_resolved_start, view_resolved_statement};
+ghost use Rattle.om_scope.specs.Scopes.{inside};
+ghost use Rattle.om_scope.specs.StatementResolution.{resolved_alone, resolved_part, resolved_clauses, resolved_construct, resolved_for, resolved_loop, resolved_loop_construct, resolved_parts, resolved_perhaps, resolved_plain_construct, resolved_repeated, resolved_sections, resolved_start, resolved_statement, resolved_statements, schedule_of};
+ghost use Rattle.om_scope.specs.StatementRules.{after_for_start, after_statement, for_start_breaches, for_turn_breaches, after_statements, for_breaches, looping, body_breaches, continuing, found_breaches, in_loop, loop_construct_breaches, jump_breaches, construct_breaches, plain_construct_breaches, part_breaches, begins_part, has_section, parts_behind, sections_breaches, sections_construct_breaches, stand_alone_breaches, perhaps_breaches, return_breaches, statement_breaches, statements_breaches};
 
-use crate::expression::{resolve_expression, variable_named};
-use crate::resolved::ResolvedStatement;
-use crate::symbols::Symbols;
-use crate::taken::{expression_start, statement_start, untaken};
-use om_lexer::SourceFault;
-use om_parser::{AssignOperator, Expression, Statement};
-use std::alloc::Global;
+use crate::assembly::{
+    construct_of, loop_construct_of, part_of, schedule_of, sections_construct_of,
+};
+use crate::bounds::{enter_loop, resolve_loop};
+use crate::canonical::{Loop, loop_in};
+use crate::construct::{constructing, traits_of};
+use crate::declaration::resolve_locals;
+use crate::directive::{resolve_directive, resolve_flush};
+use crate::expression::{misplaced, resolve_expression};
+use crate::fault::{loop_fault, refuse_if};
+use crate::flow::Flow;
+use crate::listed::Listed;
+use crate::place::{expression_first, statement_first, statement_start};
+use crate::resolved::{
+    ResolvedClause, ResolvedExpression, ResolvedLoop, ResolvedSchedule, ResolvedStart,
+    ResolvedStatement, StandAlone,
+};
+use crate::symbols::{RegionKind, Symbols, is_parallel};
+use om_lexer::{FaultCode, SourceFault};
+use om_parser::{Expression, ForHead, ForStart, Statement};
+use om_pragma::{Directive, DirectiveName};
+use std::alloc::{AllocError, Global};
 
-/// Resolves the assignment of a value to a name.
-#[tactic(auto, using(crate::proofs::Firsts::first_of_left), unfolding(crate::specs::Breaches::assignment_breaches, crate::specs::Resolution::resolved_assignment))]
-fn resolve_assignment(
-    alloc: Global,
-    symbols: &Symbols,
-    target: &Expression,
-    value: &Expression,
-) -> Result<ResolvedStatement, SourceFault>
-    ensures { let scopes = body_scopes symbols.now in
-        let assigned = view_expression target.now in
-        let computed = view_expression value.now in
-        Resolves (λ statement. view_resolved_statement statement ∷ []) result
-        (assignment_breaches scopes assigned computed)
-        (resolved_assignment scopes assigned computed) }
+/// How many parts a `sections` may have.
+pub const SECTION_LIMIT: usize = 256;
+
+/// The same place in a loop.
+fn looping(flow: Flow) -> Flow
+    ensures { result ≡ looping flow }
 {
-    match target {
-        Expression::Name(name) => {
-            let variable = variable_named(symbols, name)?;
-            let value = resolve_expression(alloc, symbols, value)?;
-            Ok(ResolvedStatement::Assign {
-                line: name.span.line,
-                variable,
-                value,
-            })
-        }
-        Expression::Constant(_) => Err(untaken(expression_start(target))),
-        Expression::Text(_) => Err(untaken(expression_start(target))),
-        Expression::Paren(_, _, _) => Err(untaken(expression_start(target))),
-        Expression::Index(_, _, _, _) => Err(untaken(expression_start(target))),
-        Expression::Call(_, _, _, _) => Err(untaken(expression_start(target))),
-        Expression::Prefix(_, _, _) => Err(untaken(expression_start(target))),
-        Expression::Postfix(_, _, _) => Err(untaken(expression_start(target))),
-        Expression::Binary(_, _, _, _) => Err(untaken(expression_start(target))),
-        Expression::Conditional(_, _, _, _, _) => Err(untaken(expression_start(target))),
-        Expression::Assign(_, _, _, _) => Err(untaken(expression_start(target))),
+    Flow {
+        may_break: true,
+        may_continue: true,
+        returns: flow.returns,
+        in_construct: flow.in_construct,
+        is_closed: flow.is_closed,
+        parallel: flow.parallel,
     }
 }
 
-/// Resolves an expression that stands alone: an assignment.
-#[tactic(auto, unfolding(crate::specs::Breaches::run_breaches, crate::specs::Resolution::resolved_run))]
-fn resolve_run(
+/// A jump: S14.
+fn check_jump(allowed: bool, at: u32) -> Result<(), SourceFault>
+    ensures { ChecksExactly result (jump_breaches allowed at) }
+{
+    refuse_if(!allowed, FaultCode::LeavesConstruct, at)
+}
+
+/// What a function returns: S9.
+fn resolve_return(
     alloc: Global,
     symbols: &Symbols,
-    expression: &Expression,
-) -> Result<ResolvedStatement, SourceFault>
-    ensures { let scopes = body_scopes symbols.now in
-        let tree = view_expression expression.now in
-        Resolves (λ statement. view_resolved_statement statement ∷ []) result (run_breaches scopes tree) (resolved_run scopes tree) }
+    flow: Flow,
+    value: &Option<Expression>,
+) -> Result<Option<ResolvedExpression>, SourceFault>
+    ensures checked { Checks result (return_breaches symbols.now flow (option_map view_expression value.now)) }
+    ensures resolved { IfOk result (λ found. resolved_perhaps symbols.now (option_map view_expression value.now) ≡ Some (option_map view_resolved_expression found)) }
+{
+    match value {
+        None => Ok(None),
+        Some(value) => {
+            if flow.returns {
+                let value = resolve_expression(alloc, symbols, true, value)?;
+                Ok(Some(value))
+            } else {
+                Err(misplaced(symbols, value))
+            }
+        }
+    }
+}
+
+/// An expression that may be left out.
+fn resolve_perhaps(
+    alloc: Global,
+    symbols: &Symbols,
+    for_value: bool,
+    expression: &Option<Expression>,
+) -> Result<Option<ResolvedExpression>, SourceFault>
+    ensures checked { Checks result (perhaps_breaches symbols.now for_value (option_map view_expression expression.now)) }
+    ensures resolved { IfOk result (λ found. resolved_perhaps symbols.now (option_map view_expression expression.now) ≡ Some (option_map view_resolved_expression found)) }
 {
     match expression {
-        Expression::Assign(target, AssignOperator::Set, _, value) => {
-            resolve_assignment(alloc, symbols, target, value)
+        None => Ok(None),
+        Some(expression) => {
+            let expression = resolve_expression(alloc, symbols, for_value, expression)?;
+            Ok(Some(expression))
         }
-        Expression::Assign(_, _, _, _) => Err(untaken(expression_start(expression))),
-        Expression::Name(_) => Err(untaken(expression_start(expression))),
-        Expression::Constant(_) => Err(untaken(expression_start(expression))),
-        Expression::Text(_) => Err(untaken(expression_start(expression))),
-        Expression::Paren(_, _, _) => Err(untaken(expression_start(expression))),
-        Expression::Index(_, _, _, _) => Err(untaken(expression_start(expression))),
-        Expression::Call(_, _, _, _) => Err(untaken(expression_start(expression))),
-        Expression::Prefix(_, _, _) => Err(untaken(expression_start(expression))),
-        Expression::Postfix(_, _, _) => Err(untaken(expression_start(expression))),
-        Expression::Binary(_, _, _, _) => Err(untaken(expression_start(expression))),
-        Expression::Conditional(_, _, _, _, _) => Err(untaken(expression_start(expression))),
     }
 }
 
-/// Resolves a statement in a function's body.
-#[tactic(auto, using(crate::proofs::Firsts::first_of_left), unfolding(crate::specs::Breaches::statement_breaches, crate::specs::Resolution::resolved_statement))]
+/// What a `for` begins with.
+#[tactic(auto, unfolding(crate::specs::StatementResolution::resolved_start))]
+fn resolve_for_start(
+    alloc: Global,
+    symbols: &mut Symbols,
+    start: &ForStart,
+) -> Result<ResolvedStart, SourceFault>
+    ensures checked { Checks result (for_start_breaches symbols.old (view_for_start start.now)) }
+    ensures in_scope { OnOk result (symbols.new ≡ after_for_start symbols.old (view_for_start start.now)) }
+    ensures resolved { IfOk result (λ found. resolved_start symbols.old (view_for_start start.now) ≡ Some (view_resolved_start found)) }
+{
+    match start {
+        ForStart::Nothing(_) => Ok(ResolvedStart::Nothing),
+        ForStart::Expression(expression, _) => {
+            let expression = resolve_expression(alloc, symbols, false, expression)?;
+            Ok(ResolvedStart::Expression(expression))
+        }
+        ForStart::Declaration(declaration) => {
+            let declared = resolve_locals(alloc, symbols, declaration)?;
+            Ok(ResolvedStart::Declaration(declared))
+        }
+    }
+}
+
+/// The condition and the step of a `for`.
+#[tactic(auto, using(crate::proofs::Firsts::first_of_left))]
+fn resolve_for_turn(
+    alloc: Global,
+    symbols: &Symbols,
+    head: &ForHead,
+) -> Result<(Option<ResolvedExpression>, Option<ResolvedExpression>), SourceFault>
+    ensures checked { Checks result (for_turn_breaches symbols.now (view_for_head head.now)) }
+    ensures condition { IfOk result (λ found. resolved_perhaps symbols.now (view_for_head head.now).condition ≡ Some (option_map view_resolved_expression found.0)) }
+    ensures step { IfOk result (λ found. resolved_perhaps symbols.now (view_for_head head.now).step ≡ Some (option_map view_resolved_expression found.1)) }
+{
+    let condition = resolve_perhaps(alloc, symbols, true, &head.condition)?;
+    let step = resolve_perhaps(alloc, symbols, false, &head.step)?;
+    Ok((condition, step))
+}
+
+/// A directive that stands alone, by its name.
+fn resolve_alone(
+    alloc: Global,
+    symbols: &Symbols,
+    directive: &Directive<Expression>,
+) -> Result<ResolvedStatement, SourceFault>
+    ensures checked { Checks result (flush_breaches symbols.now directive.now.name) }
+    ensures resolved { let tree = view_directive directive.now in
+        IfOk result (λ found. resolved_alone symbols.now tree tree.name ≡ Some (view_resolved_statement found)) }
+{
+    let at = directive.hash;
+    match &directive.name {
+        DirectiveName::Barrier(_) => Ok(ResolvedStatement::StandAlone(at, StandAlone::Barrier)),
+        DirectiveName::Taskwait(_) => Ok(ResolvedStatement::StandAlone(at, StandAlone::Taskwait)),
+        DirectiveName::Taskyield(_) => Ok(ResolvedStatement::StandAlone(at, StandAlone::Taskyield)),
+        DirectiveName::Flush(_, list) => {
+            let flushed = StandAlone::Flush(resolve_flush(alloc, symbols, list)?);
+            Ok(ResolvedStatement::StandAlone(at, flushed))
+        }
+        DirectiveName::Parallel(_) => Ok(ResolvedStatement::Empty(at)),
+        DirectiveName::For(_) => Ok(ResolvedStatement::Empty(at)),
+        DirectiveName::Sections(_) => Ok(ResolvedStatement::Empty(at)),
+        DirectiveName::Section(_) => Ok(ResolvedStatement::Empty(at)),
+        DirectiveName::Single(_) => Ok(ResolvedStatement::Empty(at)),
+        DirectiveName::ParallelFor(_, _) => Ok(ResolvedStatement::Empty(at)),
+        DirectiveName::ParallelSections(_, _) => Ok(ResolvedStatement::Empty(at)),
+        DirectiveName::Masked(_) => Ok(ResolvedStatement::Empty(at)),
+        DirectiveName::Master(_) => Ok(ResolvedStatement::Empty(at)),
+        DirectiveName::Critical(_, _) => Ok(ResolvedStatement::Empty(at)),
+        DirectiveName::Atomic(_) => Ok(ResolvedStatement::Empty(at)),
+        DirectiveName::Task(_) => Ok(ResolvedStatement::Empty(at)),
+    }
+}
+
+/// A directive that stands alone.
+#[tactic(auto, using(crate::proofs::Firsts::first_of_left))]
+fn resolve_stand_alone(
+    alloc: Global,
+    symbols: &Symbols,
+    flow: Flow,
+    directive: &Directive<Expression>,
+) -> Result<ResolvedStatement, SourceFault>
+    ensures checked { Checks result (stand_alone_breaches symbols.now flow (view_directive directive.now)) }
+    ensures resolved { let tree = view_directive directive.now in
+        IfOk result (λ found. resolved_alone symbols.now tree tree.name ≡ Some (view_resolved_statement found)) }
+{
+    resolve_directive(alloc, symbols, flow, directive)?;
+    resolve_alone(alloc, symbols, directive)
+}
+
+/// The same place, where a `continue` goes on with the next iteration.
+fn continuing(flow: Flow) -> Flow
+    ensures { result ≡ continuing flow }
+{
+    Flow {
+        may_continue: true,
+        ..flow
+    }
+}
+
+/// Enters a construct of a kind whose clauses say this.
+fn enter_listed(symbols: &mut Symbols, kind: RegionKind, listed: Listed) -> Result<(), AllocError>
+    ensures { OnOk result (symbols.new ≡ in_kind kind listed symbols.old) }
+{
+    let (copies, region) = listed.into_region(kind);
+    symbols.enter_region(copies, region)
+}
+
+/// Enters a construct, after its clauses.
+fn enter_construct(
+    alloc: Global,
+    symbols: &mut Symbols,
+    flow: Flow,
+    directive: &Directive<Expression>,
+) -> Result<Vec<ResolvedClause>, SourceFault>
+    ensures checked { Checks result (directive_breaches symbols.old flow (view_directive directive.now)) }
+    ensures in_scope { OnOk result (symbols.new ≡ in_construct (view_directive directive.now) symbols.old) }
+    ensures resolved { IfOk result (λ clauses. resolved_clauses symbols.old (view_directive directive.now).clauses ≡ Some (map view_resolved_clause clauses.items)) }
+{
+    let (listed, clauses) = resolve_directive(alloc, symbols, flow, directive)?;
+    enter_listed(symbols, traits_of(&directive.name).region, listed)?;
+    Ok(clauses)
+}
+
+/// A statement, or a declaration in a block.
+#[tactic(auto, using(crate::proofs::Firsts::first_of_left), unfolding(crate::specs::StatementRules::statement_breaches, crate::specs::StatementResolution::resolved_statement))]
+#[cycle(statement)]
 fn resolve_statement(
     alloc: Global,
-    symbols: &Symbols,
+    symbols: &mut Symbols,
+    flow: Flow,
     statement: &Statement,
 ) -> Result<ResolvedStatement, SourceFault>
-    ensures { let scopes = body_scopes symbols.now in
-        let tree = view_statement statement.now in
-        Resolves (λ statement. view_resolved_statement statement ∷ []) result
-        (statement_breaches scopes tree)
-        (resolved_statement scopes tree) }
+    ensures checked { Checks result (statement_breaches symbols.old flow (view_statement statement.now)) }
+    ensures in_scope { OnOk result (symbols.new ≡ after_statement symbols.old (view_statement statement.now)) }
+    ensures resolved { IfOk result (λ found. resolved_statement symbols.old flow.parallel (view_statement statement.now) ≡ Some (view_resolved_statement found)) }
 {
     match statement {
-        Statement::Expression(expression, _) => resolve_run(alloc, symbols, expression),
-        Statement::Return(at, Some(value), _) => {
-            let value = resolve_expression(alloc, symbols, value)?;
-            Ok(ResolvedStatement::Return {
-                line: at.line,
-                value,
-            })
+        Statement::Declaration(declaration) => {
+            let declared = resolve_locals(alloc, symbols, declaration)?;
+            Ok(ResolvedStatement::Declaration(declaration.int, declared))
         }
-        Statement::Return(at, None, _) => Err(untaken(at.start)),
-        Statement::Declaration(_) => Err(untaken(statement_start(statement))),
-        Statement::Block(_, _, _) => Err(untaken(statement_start(statement))),
-        Statement::Empty(_) => Err(untaken(statement_start(statement))),
-        Statement::If(_, _, _) => Err(untaken(statement_start(statement))),
-        Statement::IfElse(_, _, _, _, _) => Err(untaken(statement_start(statement))),
-        Statement::While(_, _, _) => Err(untaken(statement_start(statement))),
-        Statement::Do(_, _, _, _, _) => Err(untaken(statement_start(statement))),
-        Statement::For(_, _) => Err(untaken(statement_start(statement))),
-        Statement::Break(_, _) => Err(untaken(statement_start(statement))),
-        Statement::Continue(_, _) => Err(untaken(statement_start(statement))),
-        Statement::Construct(_, _) => Err(untaken(statement_start(statement))),
-        Statement::StandAlone(_) => Err(untaken(statement_start(statement))),
-        Statement::Sections(_, _, _, _) => Err(untaken(statement_start(statement))),
-        Statement::Section(_, _) => Err(untaken(statement_start(statement))),
+        Statement::Block(left, items, _) => {
+            let items = resolve_block(alloc, symbols, flow, items.as_slice())?;
+            Ok(ResolvedStatement::Block(*left, items))
+        }
+        Statement::Empty(semicolon) => Ok(ResolvedStatement::Empty(*semicolon)),
+        Statement::Expression(expression, _) => {
+            let at = expression_first(expression);
+            let expression = resolve_expression(alloc, symbols, false, expression)?;
+            Ok(ResolvedStatement::Expression(at, expression))
+        }
+        Statement::If(at, condition, then) => {
+            let condition = resolve_expression(alloc, symbols, true, &condition.value)?;
+            let then = resolve_body(alloc, symbols, flow, then)?;
+            Ok(ResolvedStatement::If(*at, condition, then))
+        }
+        Statement::IfElse(at, condition, then, _, other) => {
+            let condition = resolve_expression(alloc, symbols, true, &condition.value)?;
+            let then = resolve_body(alloc, symbols, flow, then)?;
+            let other = resolve_body(alloc, symbols, flow, other)?;
+            Ok(ResolvedStatement::IfElse(*at, condition, then, other))
+        }
+        Statement::While(at, condition, body) => {
+            let condition = resolve_expression(alloc, symbols, true, &condition.value)?;
+            let body = resolve_body(alloc, symbols, looping(flow), body)?;
+            Ok(ResolvedStatement::While(*at, condition, body))
+        }
+        Statement::Do(at, body, _, condition, _) => {
+            let body = resolve_body(alloc, symbols, looping(flow), body)?;
+            let condition = resolve_expression(alloc, symbols, true, &condition.value)?;
+            Ok(ResolvedStatement::Do(*at, body, condition))
+        }
+        Statement::For(head, body) => resolve_for(alloc, symbols, flow, head, body),
+        Statement::Return(at, value, _) => {
+            check_jump(!flow.in_construct, at.start)?;
+            let value = resolve_return(alloc, symbols, flow, value)?;
+            Ok(ResolvedStatement::Return(*at, value))
+        }
+        Statement::Break(at, _) => {
+            check_jump(flow.may_break, at.start)?;
+            Ok(ResolvedStatement::Break(*at))
+        }
+        Statement::Continue(at, _) => {
+            check_jump(flow.may_continue, at.start)?;
+            Ok(ResolvedStatement::Continue(*at))
+        }
+        Statement::Construct(directive, body) => {
+            resolve_construct(alloc, symbols, flow, directive, body)
+        }
+        Statement::StandAlone(directive) => resolve_stand_alone(alloc, symbols, flow, directive),
+        Statement::Sections(directive, _, parts, _) => {
+            resolve_sections(alloc, symbols, flow, directive, parts.as_slice())
+        }
+        Statement::Section(_, first) => resolve_inside(alloc, symbols, flow, first),
     }
 }
 
-/// Resolves the statements of a function's body.
+/// A construct and its statement.
+#[cycle(statement)]
+fn resolve_construct(
+    alloc: Global,
+    symbols: &mut Symbols,
+    flow: Flow,
+    directive: &Directive<Expression>,
+    body: &Statement,
+) -> Result<ResolvedStatement, SourceFault>
+    ensures checked { Checks result (construct_breaches symbols.old flow (view_directive directive.now) (view_statement body.now)) }
+    ensures in_scope { OnOk result (symbols.new ≡ symbols.old) }
+    ensures resolved { IfOk result (λ found. resolved_construct symbols.old flow.parallel (view_directive directive.now) (view_statement body.now) ≡ Some (view_resolved_statement found)) }
+{
+    if !traits_of(&directive.name).takes_loop {
+        resolve_plain_construct(alloc, symbols, flow, directive, body)
+    } else {
+        resolve_loop_construct(alloc, symbols, flow, directive, body)
+    }
+}
+
+/// A construct that is for any statement.
+#[tactic(auto, using(crate::proofs::Firsts::first_of_left))]
+#[cycle(statement)]
+fn resolve_plain_construct(
+    alloc: Global,
+    symbols: &mut Symbols,
+    flow: Flow,
+    directive: &Directive<Expression>,
+    body: &Statement,
+) -> Result<ResolvedStatement, SourceFault>
+    ensures checked { Checks result (plain_construct_breaches symbols.old flow (view_directive directive.now) (view_statement body.now)) }
+    ensures in_scope { OnOk result (symbols.new ≡ symbols.old) }
+    ensures resolved { IfOk result (λ found. resolved_plain_construct symbols.old flow.parallel (view_directive directive.now) (view_statement body.now) ≡ Some (view_resolved_statement found)) }
+{
+    let inside = constructing(directive, flow);
+    let clauses = enter_construct(alloc, symbols, flow, directive)?;
+    let body = resolve_statement(alloc, symbols, inside, body)?;
+    symbols.leave();
+    Ok(construct_of(alloc, flow.parallel, directive, clauses, body)?)
+}
+
+/// A construct that is for a loop: S12.
+#[tactic(auto, using(crate::proofs::Firsts::first_of_left))]
+#[cycle(statement)]
+fn resolve_loop_construct(
+    alloc: Global,
+    symbols: &mut Symbols,
+    flow: Flow,
+    directive: &Directive<Expression>,
+    body: &Statement,
+) -> Result<ResolvedStatement, SourceFault>
+    ensures checked { Checks result (loop_construct_breaches symbols.old flow (view_directive directive.now) (loop_in (view_statement body.now)) (view_statement body.now)) }
+    ensures in_scope { OnOk result (symbols.new ≡ symbols.old) }
+    ensures resolved { IfOk result (λ found. resolved_loop_construct symbols.old flow.parallel (view_directive directive.now) (loop_in (view_statement body.now)) (view_statement body.now) ≡ Some (view_resolved_statement found)) }
+{
+    let (listed, clauses) = resolve_directive(alloc, symbols, flow, directive)?;
+    let inside = constructing(directive, flow);
+    let kind = traits_of(&directive.name).region;
+    match loop_in(body) {
+        None => Err(refuse_loop(alloc, symbols, inside, kind, listed, body)),
+        Some(found) => {
+            let schedule = schedule_of(directive.clauses.as_slice());
+            let (repeated, body) = if is_parallel(kind) {
+                resolve_parallel_loop(alloc, symbols, inside, kind, listed, schedule, &found, body)?
+            } else {
+                resolve_shared_loop(alloc, symbols, inside, kind, listed, schedule, &found, body)?
+            };
+            Ok(loop_construct_of(alloc, directive, clauses, repeated, body)?)
+        }
+    }
+}
+
+/// Why a statement is refused where a canonical loop must stand: S12, or what goes before it.
+#[cycle(statement)]
+fn refuse_loop(
+    alloc: Global,
+    symbols: &mut Symbols,
+    inside: Flow,
+    kind: RegionKind,
+    listed: Listed,
+    body: &Statement,
+) -> SourceFault
+    ensures { let tree = view_statement body.now in
+        let breaches = statement_breaches (in_kind kind listed symbols.old) inside tree in
+        Refuses (with_breach (record { code = FaultCode.LoopForm; at = statement_start tree }) breaches) result }
+{
+    let checked = resolve_listed_statement(alloc, symbols, inside, kind, listed, body);
+    loop_fault(checked, statement_start(body))
+}
+
+/// A statement in a construct.
+#[cycle(statement)]
+fn resolve_listed_statement(
+    alloc: Global,
+    symbols: &mut Symbols,
+    inside: Flow,
+    kind: RegionKind,
+    listed: Listed,
+    body: &Statement,
+) -> Result<ResolvedStatement, SourceFault>
+    ensures { Checks result (statement_breaches (in_kind kind listed symbols.old) inside (view_statement body.now)) }
+{
+    enter_listed(symbols, kind, listed)?;
+    resolve_statement(alloc, symbols, inside, body)
+}
+
+/// The loop of a `parallel for`, whose bounds use the copies.
+#[tactic(auto, using(crate::proofs::Firsts::first_of_left))]
+#[cycle(statement)]
+fn resolve_parallel_loop(
+    alloc: Global,
+    symbols: &mut Symbols,
+    inside: Flow,
+    kind: RegionKind,
+    listed: Listed,
+    schedule: ResolvedSchedule,
+    found: &Loop<'_>,
+    body: &Statement,
+) -> Result<(ResolvedLoop, ResolvedStatement), SourceFault>
+    ensures checked { let scopes = in_kind kind listed symbols.old in
+        Checks result (found_breaches scopes (view_loop found.now) ++ body_breaches scopes inside (Some (view_loop found.now)) (view_statement body.now)) }
+    ensures in_scope { OnOk result (symbols.new ≡ symbols.old) }
+    ensures repeated { let scopes = in_kind kind listed symbols.old in
+        IfOk result (λ made. resolved_loop scopes schedule (view_loop found.now) ≡ Some (view_resolved_loop made.0)) }
+    ensures body { let scopes = in_kind kind listed symbols.old in
+        IfOk result (λ made. resolved_repeated scopes inside.parallel (view_loop found.now) (view_statement body.now) ≡ Some (view_resolved_statement made.1)) }
+{
+    enter_listed(symbols, kind, listed)?;
+    let repeated = resolve_loop(alloc, symbols, schedule, found)?;
+    let body = resolve_loop_body(alloc, symbols, inside, found, body)?;
+    symbols.leave();
+    Ok((repeated, body))
+}
+
+/// The loop of a `for`, whose bounds use the originals.
+#[tactic(auto, using(crate::proofs::Firsts::first_of_left))]
+#[cycle(statement)]
+fn resolve_shared_loop(
+    alloc: Global,
+    symbols: &mut Symbols,
+    inside: Flow,
+    kind: RegionKind,
+    listed: Listed,
+    schedule: ResolvedSchedule,
+    found: &Loop<'_>,
+    body: &Statement,
+) -> Result<(ResolvedLoop, ResolvedStatement), SourceFault>
+    ensures checked { let scopes = in_kind kind listed symbols.old in
+        Checks result (found_breaches symbols.old (view_loop found.now) ++ body_breaches scopes inside (Some (view_loop found.now)) (view_statement body.now)) }
+    ensures in_scope { OnOk result (symbols.new ≡ symbols.old) }
+    ensures repeated { IfOk result (λ made. resolved_loop symbols.old schedule (view_loop found.now) ≡ Some (view_resolved_loop made.0)) }
+    ensures body { let scopes = in_kind kind listed symbols.old in
+        IfOk result (λ made. resolved_repeated scopes inside.parallel (view_loop found.now) (view_statement body.now) ≡ Some (view_resolved_statement made.1)) }
+{
+    let repeated = resolve_loop(alloc, symbols, schedule, found)?;
+    enter_listed(symbols, kind, listed)?;
+    let body = resolve_loop_body(alloc, symbols, inside, found, body)?;
+    symbols.leave();
+    Ok((repeated, body))
+}
+
+/// The body of a canonical loop.
+#[tactic(auto, unfolding(crate::specs::StatementRules::body_breaches, crate::specs::StatementResolution::resolved_repeated))]
+#[cycle(statement)]
+fn resolve_loop_body(
+    alloc: Global,
+    symbols: &mut Symbols,
+    inside: Flow,
+    found: &Loop<'_>,
+    body: &Statement,
+) -> Result<ResolvedStatement, SourceFault>
+    ensures checked { Checks result (body_breaches symbols.old inside (Some (view_loop found.now)) (view_statement body.now)) }
+    ensures in_scope { OnOk result (symbols.new ≡ symbols.old) }
+    ensures resolved { IfOk result (λ made. resolved_repeated symbols.old inside.parallel (view_loop found.now) (view_statement body.now) ≡ Some (view_resolved_statement made)) }
+{
+    match body {
+        Statement::For(_, repeated) => resolve_repeated(alloc, symbols, inside, found, repeated),
+        Statement::Declaration(_) => Ok(ResolvedStatement::Empty(statement_first(body))),
+        Statement::Block(_, _, _) => Ok(ResolvedStatement::Empty(statement_first(body))),
+        Statement::Empty(_) => Ok(ResolvedStatement::Empty(statement_first(body))),
+        Statement::Expression(_, _) => Ok(ResolvedStatement::Empty(statement_first(body))),
+        Statement::If(_, _, _) => Ok(ResolvedStatement::Empty(statement_first(body))),
+        Statement::IfElse(_, _, _, _, _) => Ok(ResolvedStatement::Empty(statement_first(body))),
+        Statement::While(_, _, _) => Ok(ResolvedStatement::Empty(statement_first(body))),
+        Statement::Do(_, _, _, _, _) => Ok(ResolvedStatement::Empty(statement_first(body))),
+        Statement::Return(_, _, _) => Ok(ResolvedStatement::Empty(statement_first(body))),
+        Statement::Break(_, _) => Ok(ResolvedStatement::Empty(statement_first(body))),
+        Statement::Continue(_, _) => Ok(ResolvedStatement::Empty(statement_first(body))),
+        Statement::Construct(_, _) => Ok(ResolvedStatement::Empty(statement_first(body))),
+        Statement::StandAlone(_) => Ok(ResolvedStatement::Empty(statement_first(body))),
+        Statement::Sections(_, _, _, _) => Ok(ResolvedStatement::Empty(statement_first(body))),
+        Statement::Section(_, _) => Ok(ResolvedStatement::Empty(statement_first(body))),
+    }
+}
+
+/// What a canonical loop repeats.
+#[cycle(statement)]
+fn resolve_repeated(
+    alloc: Global,
+    symbols: &mut Symbols,
+    inside: Flow,
+    found: &Loop<'_>,
+    repeated: &Statement,
+) -> Result<ResolvedStatement, SourceFault>
+    ensures checked { Checks result (statement_breaches (in_loop symbols.old (Some (view_loop found.now))) (continuing inside) (view_statement repeated.now)) }
+    ensures in_scope { OnOk result (symbols.new ≡ symbols.old) }
+    ensures resolved { IfOk result (λ made. resolved_statement (in_loop symbols.old (Some (view_loop found.now))) inside.parallel (view_statement repeated.now) ≡ Some (view_resolved_statement made)) }
+{
+    enter_loop(alloc, symbols, found)?;
+    let repeated = resolve_inside(alloc, symbols, continuing(inside), repeated)?;
+    symbols.leave();
+    Ok(repeated)
+}
+
+/// A construct of parts.
+#[tactic(auto, using(crate::proofs::Firsts::first_of_left))]
+#[cycle(statement)]
+fn resolve_sections(
+    alloc: Global,
+    symbols: &mut Symbols,
+    flow: Flow,
+    directive: &Directive<Expression>,
+    parts: &[Statement],
+) -> Result<ResolvedStatement, SourceFault>
+    ensures checked { Checks result (sections_construct_breaches symbols.old flow (view_directive directive.now) (statements (map view_statement parts.now))) }
+    ensures in_scope { OnOk result (symbols.new ≡ symbols.old) }
+    ensures resolved { IfOk result (λ found. resolved_sections symbols.old flow.parallel (view_directive directive.now) (statements (map view_statement parts.now)) ≡ Some (view_resolved_statement found)) }
+{
+    let inside = constructing(directive, flow);
+    let clauses = enter_construct(alloc, symbols, flow, directive)?;
+    let items = resolve_parts(alloc, symbols, inside, parts)?;
+    symbols.leave();
+    Ok(sections_construct_of(alloc, directive, clauses, items)?)
+}
+
+/// Whether an item of `sections`, behind so many parts, begins a part.
+fn begins_part(before: usize, item: &Statement) -> bool
+    ensures { result ≡ begins_part before (view_statement item.now) }
+{
+    before == 0 || has_section(item)
+}
+
+/// Whether `section` stands before an item.
+fn has_section(item: &Statement) -> bool
+    ensures { result ≡ has_section (view_statement item.now) }
+{
+    match item {
+        Statement::Declaration(_) => false,
+        Statement::Block(..) => false,
+        Statement::Empty(_) => false,
+        Statement::Expression(..) => false,
+        Statement::If(..) => false,
+        Statement::IfElse(..) => false,
+        Statement::While(..) => false,
+        Statement::Do(..) => false,
+        Statement::For(..) => false,
+        Statement::Return(..) => false,
+        Statement::Break(..) => false,
+        Statement::Continue(..) => false,
+        Statement::Construct(..) => false,
+        Statement::StandAlone(_) => false,
+        Statement::Sections(..) => false,
+        Statement::Section(..) => true,
+    }
+}
+
+/// How many parts have begun behind an item.
+fn parts_behind(before: usize, item: &Statement) -> usize
+    requires { before < 18446744073709551615 }
+    ensures { result ≡ parts_behind before (view_statement item.now) }
+{
+    if begins_part(before, item) {
+        before + 1
+    } else {
+        before
+    }
+}
+
+/// The items of `sections`.
+#[tactic(auto, unfolding(crate::specs::StatementRules::sections_breaches, crate::specs::StatementResolution::resolved_parts))]
+#[cycle(statement)]
+fn resolve_parts(
+    alloc: Global,
+    symbols: &mut Symbols,
+    flow: Flow,
+    parts: &[Statement],
+) -> Result<Vec<ResolvedStatement>, SourceFault>
+    ensures checked { Checks result (sections_breaches symbols.old flow 0 (statements (map view_statement parts.now))) }
+    ensures in_scope { OnOk result (symbols.new ≡ symbols.old) }
+    ensures resolved { IfOk result (λ found. resolved_parts symbols.old flow.parallel 0 (statements (map view_statement parts.now)) ≡ Some (resolved.statements (map view_resolved_statement found.items))) }
+{
+    let mut before = 0;
+    let mut items = Vec::new(alloc);
+    for part in parts {
+        items.push(resolve_part(alloc, symbols, flow, before, part)?)?;
+        before = parts_behind(before, part);
+    }
+    Ok(items)
+}
+
+/// An item of `sections` behind so many parts: S11 where it begins one too many.
+#[tactic(auto, using(crate::proofs::Firsts::first_of_left))]
+#[cycle(statement)]
+fn resolve_part(
+    alloc: Global,
+    symbols: &mut Symbols,
+    flow: Flow,
+    before: usize,
+    part: &Statement,
+) -> Result<ResolvedStatement, SourceFault>
+    ensures checked { Checks result (part_breaches symbols.old flow before (view_statement part.now)) }
+    ensures in_scope { OnOk result (symbols.new ≡ symbols.old) }
+    ensures resolved { let tree = view_statement part.now in
+        IfOk result (λ found. resolved_part symbols.old flow.parallel before tree ≡ Some (view_resolved_statement found)) }
+{
+    refuse_if(
+        begins_part(before, part) && SECTION_LIMIT <= before,
+        FaultCode::TooMany,
+        statement_start(part),
+    )?;
+    let item = resolve_inside(alloc, symbols, flow, part)?;
+    Ok(part_of(alloc, begins_part(before, part), item)?)
+}
+
+/// The items of a block, in a scope of their own.
+#[cycle(statement)]
+fn resolve_block(
+    alloc: Global,
+    symbols: &mut Symbols,
+    flow: Flow,
+    items: &[Statement],
+) -> Result<Vec<ResolvedStatement>, SourceFault>
+    ensures checked { Checks result (statements_breaches (inside symbols.old) flow (statements (map view_statement items.now))) }
+    ensures in_scope { OnOk result (symbols.new ≡ symbols.old) }
+    ensures resolved { IfOk result (λ found. resolved_statements (inside symbols.old) flow.parallel (statements (map view_statement items.now)) ≡ Some (resolved.statements (map view_resolved_statement found.items))) }
+{
+    symbols.enter(alloc)?;
+    let items = resolve_statements(alloc, symbols, flow, items)?;
+    symbols.leave();
+    Ok(items)
+}
+
+/// A `for`, in a scope of its own.
+#[tactic(auto, using(crate::proofs::Firsts::first_of_left))]
+#[cycle(statement)]
+fn resolve_for(
+    alloc: Global,
+    symbols: &mut Symbols,
+    flow: Flow,
+    head: &ForHead,
+    body: &Statement,
+) -> Result<ResolvedStatement, SourceFault>
+    ensures checked { Checks result (for_breaches symbols.old flow (view_for_head head.now) (view_statement body.now)) }
+    ensures in_scope { OnOk result (symbols.new ≡ symbols.old) }
+    ensures resolved { IfOk result (λ found. resolved_for symbols.old flow.parallel (view_for_head head.now) (view_statement body.now) ≡ Some (view_resolved_statement found)) }
+{
+    symbols.enter(alloc)?;
+    let start = resolve_for_start(alloc, symbols, &head.start)?;
+    let (condition, step) = resolve_for_turn(alloc, symbols, head)?;
+    let body = resolve_body(alloc, symbols, looping(flow), body)?;
+    symbols.leave();
+    Ok(ResolvedStatement::For(head.word, start, condition, step, body))
+}
+
+/// A statement that is part of another one, which is a block of its own (C17 6.8.4p3, 6.8.5p5).
+#[cycle(statement)]
+fn resolve_inside(
+    alloc: Global,
+    symbols: &mut Symbols,
+    flow: Flow,
+    body: &Statement,
+) -> Result<ResolvedStatement, SourceFault>
+    ensures checked { Checks result (statement_breaches (inside symbols.old) flow (view_statement body.now)) }
+    ensures in_scope { OnOk result (symbols.new ≡ symbols.old) }
+    ensures resolved { IfOk result (λ found. resolved_statement (inside symbols.old) flow.parallel (view_statement body.now) ≡ Some (view_resolved_statement found)) }
+{
+    symbols.enter(alloc)?;
+    let found = resolve_statement(alloc, symbols, flow, body)?;
+    symbols.leave();
+    Ok(found)
+}
+
+/// The same, where it lies in a box.
+#[cycle(statement)]
+fn resolve_body(
+    alloc: Global,
+    symbols: &mut Symbols,
+    flow: Flow,
+    body: &Statement,
+) -> Result<Box<ResolvedStatement>, SourceFault>
+    ensures checked { Checks result (statement_breaches (inside symbols.old) flow (view_statement body.now)) }
+    ensures in_scope { OnOk result (symbols.new ≡ symbols.old) }
+    ensures resolved { IfOk result (λ found. resolved_statement (inside symbols.old) flow.parallel (view_statement body.now) ≡ Some (view_resolved_statement found.value)) }
+{
+    let found = resolve_inside(alloc, symbols, flow, body)?;
+    Ok(Box::new(alloc, found)?)
+}
+
+/// The items of a block.
+#[tactic(auto, unfolding(crate::specs::StatementRules::statements_breaches, crate::specs::StatementResolution::resolved_statements))]
+#[cycle(statement)]
 pub fn resolve_statements(
     alloc: Global,
-    symbols: &Symbols,
-    statements: &[Statement],
+    symbols: &mut Symbols,
+    flow: Flow,
+    items: &[Statement],
 ) -> Result<Vec<ResolvedStatement>, SourceFault>
-    ensures { let scopes = body_scopes symbols.now in
-        let trees = map view_statement statements.now in
-        Resolves (λ resolved. map view_resolved_statement resolved.items) result
-        (statements_breaches scopes trees)
-        (resolved_statements scopes trees) }
+    ensures checked { Checks result (statements_breaches symbols.old flow (statements (map view_statement items.now))) }
+    ensures in_scope { OnOk result (symbols.new ≡ after_statements symbols.old (map view_statement items.now)) }
+    ensures resolved { IfOk result (λ found. resolved_statements symbols.old flow.parallel (statements (map view_statement items.now)) ≡ Some (resolved.statements (map view_resolved_statement found.items))) }
 {
     let mut resolved = Vec::new(alloc);
-    for statement in statements {
-        resolved.push(resolve_statement(alloc, symbols, statement)?)?;
+    for item in items {
+        resolved.push(resolve_statement(alloc, symbols, flow, item)?)?;
     }
     Ok(resolved)
 }

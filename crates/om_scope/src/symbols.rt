@@ -1,110 +1,384 @@
 //! The names that are in scope at a place, and what they are declared as.
 
-ghost use Rattle.std.specs.Prelude.{◌≡◌, ◌+◌, ◌<◌, ◌^◌, ◌++◌, [], ◌∷◌, false, IfOk, OnOk, OnErr};
-ghost use Rattle.om_scope.specs.Scopes.{scope_of, file_scope, meaning_of, is_declared, globals_in, with_global, with_function};
+ghost use Rattle.std.specs.Prelude.{◌≡◌, ◌+◌, ◌<◌, ◌^◌, ◌++◌, [], ◌∷◌, false, IfOk, OnOk, is_some, length, position, vec_len, vec_capacity};
+ghost use Rattle.std.specs.List.{list_any};
+ghost use Rattle.std.specs.Map.{lookup};
+ghost use Rattle.std.specs.Str.{bytes_eq};
+ghost use Rattle.om_scope.specs.Sharing.{declares, is_copied, is_parallel, is_unlisted};
+ghost use Rattle.om_scope.specs.Scopes.{scope_of, predeclared, file_scope, inside, within, outside, meaning_of, meaning_here, is_declared, with_bindings, with_local, with_global, with_function, with_defined};
 
+use crate::names::Names;
+use crate::nesting::{Construct, holder_since, is_copy, is_unlisted_since, leave_construct};
 use crate::resolved::Variable;
+use crate::sightings::{Sighting, Sightings, depth_of};
 use indexmap::IndexMap;
+use om_parser::Name;
+use om_pragma::Sharing;
 use std::alloc::{AllocError, Global};
 use std::marker::Model;
+use std::mem;
+
+/// Whether a variable is one `int` or several.
+#[derive(Clone, Copy, Debug)]
+pub enum Shape {
+    Scalar,
+    Array,
+}
+
+/// What a call of a function needs and gives.
+#[derive(Clone, Copy, Debug)]
+pub struct Signature {
+    /// Whether it returns an `int`; else nothing.
+    pub returns: bool,
+    /// How many parameters it has, each an `int`.
+    pub parameters: usize,
+}
 
 /// What a name is declared as.
 #[derive(Clone, Copy, Debug)]
 pub enum Meaning {
-    Variable(Variable),
-    Function,
+    /// A global, a parameter or a variable of a function.
+    Variable(Variable, Shape),
+    Function(Signature),
+    /// The function `printf`, whose calls have rules of their own.
+    Printf,
+}
+
+/// How a construct shares the variables round it.
+#[derive(Clone, Copy, Debug, PartialEq, Eq)]
+pub enum RegionKind {
+    /// `parallel`.
+    Parallel,
+    /// `task`.
+    Task,
+    /// No construct, or one that shares all but its copies.
+    Plain,
+}
+
+/// What a construct says of the variables round it.
+#[derive(Drop)]
+pub struct Region {
+    pub kind: RegionKind,
+    /// What its `default` says of those that no clause lists.
+    pub default: Option<Sharing>,
+    /// Those that it lists as shared.
+    pub shared: Names,
 }
 
 /// The names in scope at a place. Contracts see the scopes round that place.
 #[derive(Drop)]
 pub struct Symbols {
-    /// The names of the file scope, in the order of their declarations.
-    names: IndexMap<Vec<u8>, Meaning>,
-    /// How many of them are globals.
+    /// The names of the innermost scope, in the order of their declarations.
+    inner: IndexMap<Vec<u8>, Meaning>,
+    /// Those of the scopes round it, the file scope first.
+    outer: Vec<IndexMap<Vec<u8>, Meaning>>,
+    /// The constructs that stand in the outer scopes, the innermost last.
+    constructs: Vec<Construct>,
+    /// The declarations of each name in all of these scopes.
+    sightings: Sightings,
+    /// How many globals there are.
     globals: u32,
+    /// How many cells they have: each has one or more.
+    cells: u32,
+    /// The functions that the whole source defines.
+    definitions: Names,
+    /// Those that it defines before this place.
+    defined: Names,
 }
 
 impl Model for Symbols {
-    ghost use Rattle.std.specs.Prelude.{◌≡◌, [], ◌∷◌};
-    ghost use Rattle.om_scope.specs.Scopes.{Scopes, scope_of, globals_in};
+    ghost use Rattle.std.specs.Prelude.{◌≤◌, ◌∷◌, length, reverse};
+    ghost use Rattle.om_scope.specs.Scopes.{Scopes, scope_of};
+    ghost use Rattle.om_scope.specs.Nesting.{AreNested, enclosing_of};
+    ghost use Rattle.om_scope.specs.Sightings.{Shows, scopes_of};
 
     ghost Value = { Scopes };
 
-    ghost view = { λ s. scope_of s.names.entries ∷ [] };
+    ghost view = { λ s. record {
+      inner = scope_of s.inner.entries;
+      outer = enclosing_of (scopes_of s.outer.items) (reverse s.constructs.items);
+      globals = s.globals;
+      cells = s.cells;
+      definitions = s.definitions;
+      defined = s.defined;
+    } };
 
-    ghost invariant = { λ s. s.globals ≡ globals_in (scope_of s.names.entries ∷ []) };
+    ghost invariant = { λ s. (s.globals ≤ s.cells) × AreNested (reverse s.constructs.items) (length s.outer.items) × Shows s.sightings (scope_of s.inner.entries ∷ scopes_of s.outer.items) };
+}
+
+/// The functions that are declared before any source.
+pub fn predeclared(alloc: Global) -> Result<Names, AllocError>
+    ensures { IfOk result (λ names. names ≡ predeclared) }
+{
+    let mut names = Names::new(alloc);
+    names.add(alloc, b"printf")?;
+    names.add(alloc, b"omp_get_thread_num")?;
+    names.add(alloc, b"omp_get_num_threads")?;
+    Ok(names)
 }
 
 /// Puts a new name into a table, as the last. Without memory the table stays.
-fn put(
+pub fn put(
     names: &mut IndexMap<Vec<u8>, Meaning>,
     alloc: Global,
     name: &[u8],
     meaning: Meaning,
 ) -> Result<(), AllocError>
-    requires is_new { is_declared (scope_of names.old.entries ∷ []) name.now ≡ false }
-    ensures put { OnOk result (scope_of names.new.entries ≡ scope_of names.old.entries ++ (name.now, meaning) ∷ []) }
-    ensures unchanged_on_error { OnErr result (names.new.entries ≡ names.old.entries) }
+    requires is_new { is_some (lookup (bytes_eq name.now) (scope_of names.old.entries)) ≡ false }
+    ensures { OnOk result (scope_of names.new.entries ≡ scope_of names.old.entries ++ (name.now, meaning) ∷ []) }
 {
     names.insert(Vec::from_slice(alloc, name)?, meaning)?;
     Ok(())
 }
 
+/// What a table declares a name as.
+fn found_in(table: &IndexMap<Vec<u8>, Meaning>, name: &[u8]) -> Option<Meaning>
+    ensures { result ≡ lookup (bytes_eq name.now) (scope_of table.now.entries) }
+{
+    table.get(name).copied()
+}
+
+/// Whether a table declares a name.
+pub fn declares(table: &IndexMap<Vec<u8>, Meaning>, name: &[u8]) -> bool
+    ensures { result ≡ declares (scope_of table.now.entries) name.now }
+{
+    found_in(table, name).is_some()
+}
+
+/// Whether it is a `parallel`.
+pub fn is_parallel(kind: RegionKind) -> bool
+    ensures { result ≡ is_parallel kind }
+{
+    match kind {
+        RegionKind::Parallel => true,
+        RegionKind::Task => false,
+        RegionKind::Plain => false,
+    }
+}
+
+/// Enters a scope, in which nothing is declared yet.
+fn enter_scope(
+    alloc: Global,
+    inner: &mut IndexMap<Vec<u8>, Meaning>,
+    outer: &mut Vec<IndexMap<Vec<u8>, Meaning>>,
+)
+    requires has_room { vec_len outer.old < vec_capacity outer.old }
+    ensures entered { inner.new.entries ≡ [] }
+    ensures outer { outer.new.items ≡ outer.old.items ++ inner.old ∷ [] }
+{
+    let names = mem::replace(inner, IndexMap::new(alloc));
+    match outer.push(names) {
+        Ok(()) => {}
+        Err(_) => unreachable!(),
+    }
+}
+
 impl Symbols {
-    /// The names that are declared before any source.
-    pub fn new(alloc: Global) -> Result<Symbols, AllocError>
-        ensures predeclared { IfOk result (λ symbols. symbols ≡ file_scope) }
+    /// The names that are declared before any source, which defines these functions besides.
+    pub fn new(alloc: Global, definitions: Names) -> Result<Symbols, AllocError>
+        ensures { IfOk result (λ symbols. symbols ≡ file_scope definitions) }
     {
+        let asks = Meaning::Function(Signature {
+            returns: true,
+            parameters: 0,
+        });
         let mut symbols = Symbols {
-            names: IndexMap::new(alloc),
+            inner: IndexMap::new(alloc),
+            outer: Vec::new(alloc),
+            constructs: Vec::new(alloc),
+            sightings: Sightings::new(alloc),
             globals: 0,
+            cells: 0,
+            definitions,
+            defined: predeclared(alloc)?,
         };
-        symbols.declare_function(alloc, b"printf")?;
-        symbols.declare_function(alloc, b"omp_get_thread_num")?;
-        symbols.declare_function(alloc, b"omp_get_num_threads")?;
+        symbols.declare(alloc, b"printf", Meaning::Printf)?;
+        symbols.declare(alloc, b"omp_get_thread_num", asks)?;
+        symbols.declare(alloc, b"omp_get_num_threads", asks)?;
         Ok(symbols)
+    }
+
+    /// Declares a name. Without memory nothing changes.
+    fn declare(&mut self, alloc: Global, name: &[u8], meaning: Meaning) -> Result<(), AllocError>
+        requires is_new { is_declared self.old name.now ≡ false }
+        ensures { OnOk result (self.new ≡ with_bindings self.old ((name.now, meaning) ∷ [])) }
+    {
+        let key = Vec::from_slice(alloc, name)?;
+        self.inner.reserve(1)?;
+        let depth = self.outer.len();
+        self.sightings
+            .note(alloc, name, Sighting { depth, meaning })?;
+        match self.inner.insert(key, meaning) {
+            Ok(_) => Ok(()),
+            Err(_) => unreachable!(),
+        }
     }
 
     /// What a name means here: its innermost declaration.
     pub fn meaning_of(&self, name: &[u8]) -> Option<Meaning>
         ensures { result ≡ meaning_of self.now name.now }
     {
-        self.names.get(name).copied()
+        let sighting = self.sightings.innermost(name)?;
+        Some(sighting.meaning)
+    }
+
+    /// What the innermost scope declares a name as.
+    pub fn meaning_here(&self, name: &[u8]) -> Option<Meaning>
+        ensures { result ≡ meaning_here self.now name.now }
+    {
+        found_in(&self.inner, name)
     }
 
     /// Whether a name is declared in the innermost scope.
     pub fn is_declared(&self, name: &[u8]) -> bool
         ensures { result ≡ is_declared self.now name.now }
     {
-        self.names.contains_key(name)
+        found_in(&self.inner, name).is_some()
     }
 
-    /// How many globals there are.
-    pub fn globals(&self) -> u32
-        ensures { result ≡ globals_in self.now }
+    /// The place of a function among those that the source defines anywhere and those that are
+    /// there before it; nothing where none has this name.
+    pub fn definition_of(&self, name: &[u8]) -> Option<usize>
+        ensures { result ≡ position (bytes_eq name.now) self.now.definitions }
     {
-        self.globals
+        self.definitions.position(name)
     }
 
-    /// Declares a name as the next global. Without memory nothing changes.
-    pub fn declare_global(&mut self, alloc: Global, name: &[u8]) -> Result<(), AllocError>
-        requires is_new { is_declared self.old name.now ≡ false }
-        requires has_number { globals_in self.old + 1 < 2 ^ 32 }
-        ensures declared { OnOk result (self.new ≡ with_global self.old name.now) }
-        ensures unchanged_on_error { OnErr result (self.new ≡ self.old) }
+    /// Whether a function of this name is defined before this place.
+    pub fn is_defined(&self, name: &[u8]) -> bool
+        ensures { result ≡ list_any (bytes_eq name.now) self.now.defined }
     {
-        let variable = Variable::Global(self.globals);
-        put(&mut self.names, alloc, name, Meaning::Variable(variable))?;
-        self.globals += 1;
+        self.defined.contains(name)
+    }
+
+    /// How many functions are defined before this place, those before any source among them.
+    pub fn defined_count(&self) -> usize
+        ensures { result ≡ length self.now.defined }
+    {
+        self.defined.len()
+    }
+
+    /// How many cells the globals have.
+    pub fn cells(&self) -> u32
+        ensures { result ≡ self.now.cells }
+    {
+        self.cells
+    }
+
+    /// Whether a construct round this place asks for a clause that lists a name, and has none.
+    pub fn is_unlisted(&self, name: &[u8]) -> bool
+        ensures { result ≡ is_unlisted self.now name.now }
+    {
+        let depth = depth_of(self.sightings.innermost(name));
+        is_unlisted_since(self.constructs.as_slice(), depth, name)
+    }
+
+    /// Whether a `task` round this place makes a copy of a name's variable.
+    pub fn is_copied(&self, name: &[u8]) -> bool
+        ensures { result ≡ is_copied self.now name.now }
+    {
+        let depth = depth_of(self.sightings.innermost(name));
+        0 < depth && is_copy(holder_since(self.constructs.as_slice(), depth, name))
+    }
+
+    /// Enters a block, in which nothing is declared yet.
+    pub fn enter(&mut self, alloc: Global) -> Result<(), AllocError>
+        ensures { OnOk result (self.new ≡ inside self.old) }
+    {
+        self.outer.reserve(1)?;
+        enter_scope(alloc, &mut self.inner, &mut self.outer);
         Ok(())
     }
 
-    /// Declares a name as a function. Without memory nothing changes.
-    pub fn declare_function(&mut self, alloc: Global, name: &[u8]) -> Result<(), AllocError>
-        requires is_new { is_declared self.old name.now ≡ false }
-        ensures declared { OnOk result (self.new ≡ with_function self.old name.now) }
-        ensures unchanged_on_error { OnErr result (self.new ≡ self.old) }
+    /// Enters a construct, in which nothing is declared yet.
+    fn begin(&mut self, alloc: Global, region: Region) -> Result<(), AllocError>
+        ensures { OnOk result (self.new ≡ within [] region self.old) }
     {
-        put(&mut self.names, alloc, name, Meaning::Function)
+        let depth = self.outer.len();
+        self.outer.reserve(1)?;
+        self.constructs.push(Construct { depth, region })?;
+        enter_scope(alloc, &mut self.inner, &mut self.outer);
+        Ok(())
+    }
+
+    /// Enters a construct in which these names are declared.
+    pub fn enter_region(
+        &mut self,
+        copies: IndexMap<Vec<u8>, Meaning>,
+        region: Region,
+    ) -> Result<(), AllocError>
+        ensures { OnOk result (self.new ≡ within (scope_of copies.entries) region self.old) }
+    {
+        let alloc = *copies.allocator();
+        self.begin(alloc, region)?;
+        for (name, meaning) in copies.iter() {
+            self.declare(alloc, name.as_slice(), *meaning)?;
+        }
+        Ok(())
+    }
+
+    /// Leaves a block: what it declares is forgotten.
+    pub fn leave(&mut self)
+        ensures { self.new ≡ outside self.old }
+    {
+        if let Some(outer) = self.outer.pop() {
+            self.sightings
+                .forget_scope(mem::replace(&mut self.inner, outer));
+            leave_construct(&mut self.constructs, self.outer.len());
+        }
+    }
+
+    /// Declares a name as a variable of a function.
+    pub fn declare_local(
+        &mut self,
+        alloc: Global,
+        name: &Name,
+        shape: Shape,
+    ) -> Result<(), AllocError>
+        requires is_new { is_declared self.old name.now.text ≡ false }
+        ensures { OnOk result (self.new ≡ with_local self.old name.now shape) }
+    {
+        let meaning = Meaning::Variable(Variable::Local(name.span.start), shape);
+        self.declare(alloc, name.text.as_slice(), meaning)
+    }
+
+    /// Declares a name as a function.
+    pub fn declare_function(
+        &mut self,
+        alloc: Global,
+        name: &[u8],
+        signature: Signature,
+    ) -> Result<(), AllocError>
+        requires is_new { is_declared self.old name.now ≡ false }
+        ensures { OnOk result (self.new ≡ with_function self.old name.now signature) }
+    {
+        self.declare(alloc, name, Meaning::Function(signature))
+    }
+
+    /// Declares a name as the next global, of so many cells.
+    pub fn declare_global(
+        &mut self,
+        alloc: Global,
+        name: &[u8],
+        shape: Shape,
+        cells: u32,
+    ) -> Result<(), AllocError>
+        requires is_new { is_declared self.old name.now ≡ false }
+        requires has_cells { 0 < cells }
+        requires has_room { self.old.cells + cells < 2 ^ 32 }
+        ensures { OnOk result (self.new ≡ with_global self.old name.now shape cells) }
+    {
+        let meaning = Meaning::Variable(Variable::Global(self.globals), shape);
+        self.declare(alloc, name, meaning)?;
+        self.globals += 1;
+        self.cells += cells;
+        Ok(())
+    }
+
+    /// Notes that a function is defined.
+    pub fn define(&mut self, alloc: Global, name: &[u8]) -> Result<(), AllocError>
+        ensures { OnOk result (self.new ≡ with_defined self.old name.now) }
+    {
+        self.defined.add(alloc, name)
     }
 }

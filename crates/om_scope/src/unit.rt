@@ -1,30 +1,52 @@
 //! A whole source.
 
-ghost use Rattle.std.specs.Prelude.{◌≡◌, ◌≢◌, ◌++◌, [], Some, OnOk, IfOk, IfErr, map, option_map};
+ghost use Rattle.std.specs.Prelude.{◌≡◌, ◌≢◌, ◌++◌, [], OnOk, IfOk, IfErr, Some, map, option_map};
 ghost use Rattle.std.specs.List.{list_any};
 ghost use Rattle.om_lexer.specs.Faults.{no_memory};
 ghost use Rattle.om_parser.specs.View.{view_item, view_unit};
-ghost use Rattle.om_scope.specs.Breaches.{breaches_of, first_of, is_main, item_breaches, items_breaches, main_breaches, rule_breaches};
+ghost use Rattle.om_scope.specs.Breaches.{breaches_of, is_main, main_breaches};
 ghost use Rattle.om_scope.specs.Checks.{Checks, ChecksExactly};
-ghost use Rattle.om_scope.specs.Outcomes.{Refuses, Resolves};
-ghost use Rattle.om_scope.specs.Resolution.{globals_of, item_functions, items_resolution, resolution_of};
+ghost use Rattle.om_scope.specs.Faults.{first_of};
 ghost use Rattle.om_scope.specs.ResolvedView.{view_resolved, view_resolved_function};
-ghost use Rattle.om_scope.specs.Scopes.{after_item, file_scope};
+ghost use Rattle.om_scope.specs.Scopes.{after_definition, after_item, definitions_of, file_scope};
+ghost use Rattle.om_scope.specs.UnitResolution.{globals_of, item_functions, items_resolution, resolution_of};
+ghost use Rattle.om_scope.specs.UnitRules.{item_breaches, items_breaches};
 ghost use Rattle.om_scope.specs.Uses.{IsResolved};
 
-use crate::declaration::declare_globals;
-use crate::function::define_function;
+use crate::function::{check_prototype, resolve_function};
+use crate::globals::declare_globals;
+use crate::names::Names;
 use crate::resolved::{GlobalVariable, Resolved, ResolvedFunction};
-use crate::rules::check_items;
-use crate::symbols::Symbols;
-use crate::taken::{head_start, untaken};
+use crate::symbols::{Symbols, predeclared};
 use om_lexer::{FaultCode, SourceFault};
 use om_parser::{Item, Unit};
 use om_seq::Seq;
-use std::alloc::Global;
+use std::alloc::{AllocError, Global};
+
+/// The functions that a source defines, and those that are there before it.
+fn definitions_of(alloc: Global, items: &[Item]) -> Result<Names, AllocError>
+    ensures { IfOk result (λ names. names ≡ definitions_of (map view_item items.now)) }
+{
+    let mut names = predeclared(alloc)?;
+    for item in items {
+        add_definition(alloc, &mut names, item)?;
+    }
+    Ok(names)
+}
+
+/// Adds the function that an item defines.
+fn add_definition(alloc: Global, names: &mut Names, item: &Item) -> Result<(), AllocError>
+    ensures { OnOk result (names.new ≡ after_definition names.old (view_item item.now)) }
+{
+    match item {
+        Item::Declaration(_) => Ok(()),
+        Item::Prototype(_, _) => Ok(()),
+        Item::Function(function) => names.add(alloc, function.head.name.text.as_slice()),
+    }
+}
 
 /// Resolves an item in the scopes behind those before it.
-#[tactic(auto, unfolding(crate::specs::Breaches::item_breaches, crate::specs::Resolution::item_functions))]
+#[tactic(auto, unfolding(crate::specs::UnitResolution::item_functions))]
 fn resolve_item(
     alloc: Global,
     symbols: &mut Symbols,
@@ -32,31 +54,31 @@ fn resolve_item(
     functions: &mut Vec<ResolvedFunction>,
     item: &Item,
 ) -> Result<(), SourceFault>
-    ensures no_breach { OnOk result (item_breaches symbols.old (view_item item.now) ≡ []) }
+    ensures checked { Checks result (item_breaches symbols.old (view_item item.now)) }
     ensures in_scope { OnOk result (symbols.new ≡ after_item symbols.old (view_item item.now)) }
     ensures declared { OnOk result (globals.new.items ≡ globals.old.items ++ globals_of (view_item item.now)) }
     ensures defined { let before = map view_resolved_function functions.old.items in
         let after = map view_resolved_function functions.new.items in
         OnOk result (option_map (λ own. before ++ own) (item_functions symbols.old (view_item item.now)) ≡ Some after) }
-    ensures refused { IfErr result (Refuses (item_breaches symbols.old (view_item item.now))) }
 {
     match item {
         Item::Declaration(declaration) => declare_globals(alloc, symbols, globals, declaration),
-        Item::Prototype(head, _) => Err(untaken(head_start(head))),
+        Item::Prototype(head, _) => check_prototype(alloc, symbols, head),
         Item::Function(function) => {
-            let function = define_function(alloc, symbols, function)?;
-            functions.push(function)?;
+            functions.push(resolve_function(alloc, symbols, function)?)?;
             Ok(())
         }
     }
 }
 
-/// Resolves the items of a source.
+/// Resolves the items of a source, in their order.
 fn resolve_items(alloc: Global, items: &[Item]) -> Result<Resolved, SourceFault>
-    ensures { let trees = map view_item items.now in
-        Resolves view_resolved result (items_breaches file_scope trees) (items_resolution trees) }
+    ensures checked { let trees = map view_item items.now in
+        Checks result (items_breaches (file_scope (definitions_of trees)) trees) }
+    ensures resolved { IfOk result (λ found. items_resolution (map view_item items.now) ≡ Some (view_resolved found)) }
 {
-    let mut symbols = Symbols::new(alloc)?;
+    let definitions = definitions_of(alloc, items)?;
+    let mut symbols = Symbols::new(alloc, definitions)?;
     let mut globals = Vec::new(alloc);
     let mut functions = Vec::new(alloc);
     for item in items {
@@ -64,7 +86,7 @@ fn resolve_items(alloc: Global, items: &[Item]) -> Result<Resolved, SourceFault>
     }
     Ok(Resolved {
         globals: Seq::of(globals),
-        functions: Seq::of(functions),
+        functions,
     })
 }
 
@@ -86,22 +108,6 @@ fn has_main(items: &[Item]) -> bool
     items.iter().any(|item| is_main(item))
 }
 
-/// The rules at file scope and in functions.
-fn check_rules(alloc: Global, unit: &Unit) -> Result<(), SourceFault>
-    ensures { Checks result (rule_breaches (view_unit unit.now)) }
-{
-    check_items(alloc, unit.items.as_slice())
-}
-
-/// Resolves the items of a source.
-#[tactic(auto, unfolding(crate::specs::Resolution::resolution_of))]
-fn resolve_unit(alloc: Global, unit: &Unit) -> Result<Resolved, SourceFault>
-    ensures { let tree = view_unit unit.now in
-        Resolves view_resolved result (items_breaches file_scope tree.items) (resolution_of tree) }
-{
-    resolve_items(alloc, unit.items.as_slice())
-}
-
 /// That one of the items is a function named `main`: S15.
 fn check_main(unit: &Unit) -> Result<(), SourceFault>
     ensures { ChecksExactly result (main_breaches (view_unit unit.now)) }
@@ -118,10 +124,10 @@ fn check_main(unit: &Unit) -> Result<(), SourceFault>
 /// The unit, resolved: each use of a name has the variable of its innermost declaration (C17 6.2.1).
 ///
 /// The first breach of a rule in the unit's text is answered, at one place that of the lowest
-/// number, and where no rule is broken the first form that is not taken; nothing is kept then.
+/// number; nothing is kept then.
 /// Refusals:
 /// - S0 at byte 0: no memory.
-/// - S3 at the first token of a form that is not taken yet.
+/// - S3 at the first token of a global's initializer that is no constant.
 /// - S7 at a name that no declaration before it declares, or of a function that is never defined.
 /// - S8 at a name that is declared again as something else, or a function that is defined again.
 ///   `printf`, `omp_get_thread_num` and `omp_get_num_threads` count as defined before the source.
@@ -134,14 +140,14 @@ fn check_main(unit: &Unit) -> Result<(), SourceFault>
 /// - S14 at a jump out of a construct or outside of a loop, or at the word of a directive where no
 ///   worksharing construct and no barrier may stand.
 /// - S15 at the end of the source: no function is named `main`.
-#[tactic(auto, using(crate::proofs::Firsts::first_of_left), unfolding(crate::specs::Breaches::breaches_of))]
+#[tactic(auto, using(crate::proofs::Firsts::first_of_left), unfolding(crate::specs::Breaches::breaches_of, crate::specs::UnitResolution::resolution_of))]
 pub fn resolve(alloc: Global, unit: Unit) -> Result<Resolved, SourceFault>
     ensures no_breach { OnOk result (breaches_of (view_unit unit) ≡ []) }
     ensures resolved { IfOk result (λ resolved. resolution_of (view_unit unit) ≡ Some (view_resolved resolved)) }
-    ensures every_use_has_its_variable { IfOk result (λ resolved. IsResolved (view_resolved resolved)) }
+    ensures is_resolved { IfOk result (λ resolved. IsResolved (view_resolved resolved)) }
     ensures first_breach { IfErr result (λ fault. fault ≢ no_memory → first_of (breaches_of (view_unit unit)) ≡ Some fault) }
 {
-    check_rules(alloc, &unit)?;
+    let resolved = resolve_items(alloc, unit.items.as_slice())?;
     check_main(&unit)?;
-    resolve_unit(alloc, &unit)
+    Ok(resolved)
 }

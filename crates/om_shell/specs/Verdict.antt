@@ -10,11 +10,12 @@ use Rattle.om_parser.specs.LineFaults.{IsRefusedLine}
 use Rattle.om_parser.specs.Sizes.{IsWithinLimits}
 use Rattle.om_parser.specs.Parsing.{IsTreeOf, IsLimitPassed}
 use Rattle.om_parser.specs.Tree.{UnitTree}
-use Rattle.om_scope.specs.Breaches.{breaches_of, first_of}
-use Rattle.om_scope.specs.Resolution.{resolution_of}
+use Rattle.om_scope.specs.Breaches.{breaches_of}
+use Rattle.om_scope.specs.Faults.{first_of}
 use Rattle.om_scope.specs.ResolvedTree.{ResolvedTree}
+use Rattle.om_scope.specs.UnitResolution.{resolution_of}
+use Rattle.om_lower.specs.Breaches.{code_breaches}
 use Rattle.om_lower.specs.Code.{IsCodeOf}
-use Rattle.om_lower.specs.Limits.{limit_breaches}
 
 -- the source has tokens, and they a tree within the limits
 pub record IsTreeOfSource (source : List ℕ) (tree : UnitTree) : Type 0 where
@@ -30,11 +31,11 @@ pub record IsResolutionOfSource (source : List ℕ) (resolved : ResolvedTree) : 
   pub no_breach : breaches_of tree ≡ []
   pub resolves : resolution_of tree ≡ Some resolved
 
--- and the resolution has its code, within the limits of code
+-- and the resolution has its code: all its forms are taken, within the limits of code
 pub record IsProgramOf (source : List ℕ) (program : Raw) : Type 0 where
   pub resolved : ResolvedTree
   pub has_resolution : IsResolutionOfSource source resolved
-  pub no_breach : limit_breaches resolved ≡ []
+  pub no_breach : code_breaches resolved ≡ []
   pub code : IsCodeOf resolved program
 
 -- no tree has these tokens, a limit is passed at this place, or a directive is refused there
@@ -49,7 +50,7 @@ pub data IsRefused (source : List ℕ) (fault : SourceFault) : Type 0 where
   by_lexer : IsFault source fault.code fault.at → IsRefused source fault
   by_parser : (tokens : List Token) → IsTokens source tokens → IsSyntaxFault tokens fault → IsRefused source fault
   by_names : (tree : UnitTree) → IsTreeOfSource source tree → first_of (breaches_of tree) ≡ Some fault → IsRefused source fault
-  by_code : (resolved : ResolvedTree) → IsResolutionOfSource source resolved → first_of (limit_breaches resolved) ≡ Some fault → IsRefused source fault
+  by_code : (resolved : ResolvedTree) → IsResolutionOfSource source resolved → first_of (code_breaches resolved) ≡ Some fault → IsRefused source fault
 
 -- what a source comes to
 abbrev pub IsVerdict : List ℕ → Result Raw SourceFault → Type 0

@@ -25,7 +25,7 @@ fn tree_of(alloc: Global, source: &[u8]) -> Result<Unit, SourceFault>
 // The tree of a source, with its names resolved.
 fn resolution_of(alloc: Global, source: &[u8]) -> Result<Resolved, SourceFault>
     ensures resolution { IfOk result (λ resolved. IsResolutionOfSource source.now (view_resolved resolved)) }
-    ensures every_use_has_its_variable { IfOk result (λ resolved. IsResolved (view_resolved resolved)) }
+    ensures is_resolved { IfOk result (λ resolved. IsResolved (view_resolved resolved)) }
     ensures refused { IfErr result (λ fault. fault ≢ no_memory → IsRefused source.now fault) }
 {
     let unit = tree_of(alloc, source)?;

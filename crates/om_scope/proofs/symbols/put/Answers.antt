@@ -3,11 +3,11 @@ use Rattle.std.specs.Str.{bytes_eq}
 use Rattle.std.specs.Map.{lookup}
 use Rattle.indexmap.proofs.CallerLemmas.{insert_entry-new}
 use Rattle.om_scope.specs.Scopes.{scope_of}
-use Rattle.om_scope.proofs.Names.{lookup-scope_of, none-is_some, scope_of-push}
+use Rattle.om_scope.proofs.Tables.{lookup-scope_of, none-is_some, scope_of-push}
 use Rattle.om_scope.proofs.symbols.put.Goals as goal
 
-pub returns-clause-put : goal.returns-clause-put
-returns-clause-put c =
+pub returns : goal.returns
+returns c =
     let entries = c.args.names.now.entries in
     let key = c.in_ok-from_slice.field-0 in
     let same = c.in_ok-from_slice.ensures.items in

@@ -1,4 +1,4 @@
-use Rattle.std.proofs.Common.{refl, ◌∙◌, sym, ap}
+use Rattle.std.proofs.Common.{refl}
 use Rattle.om_parser.specs.View.{view_item}
 use Rattle.om_scope.specs.Breaches.{is_main}
 use Rattle.om_scope.proofs.Items.{list_any-map}

@@ -1,5 +1,14 @@
-use Rattle.om_scope.proofs.Uses.{is_resolved_if_ok}
+use Rattle.std.proofs.Common.{refl}
+use Rattle.om_parser.specs.View.{view_unit}
+use Rattle.om_scope.specs.Breaches.{breaches_of}
+use Rattle.om_scope.specs.ResolvedView.{view_resolved}
+use Rattle.om_scope.specs.UnitResolution.{resolution_of}
+use Rattle.om_scope.proofs.Uses.{is_resolved}
 use Rattle.om_scope.proofs.unit.resolve.Goals as goal
 
-pub returns-clause-every_use_has_its_variable : goal.returns-clause-every_use_has_its_variable
-returns-clause-every_use_has_its_variable c = is_resolved_if_ok c.args.unit c.resolve_unit.result c.in_ok-check_rules.ensures c.in_ok-check_main.ensures c.resolve_unit.ensures
+pub returns-clause-is_resolved : goal.returns-clause-is_resolved
+unfolding breaches_of resolution_of
+returns-clause-is_resolved c =
+    let rules = rw c.as_slice.ensures.value at c.in_ok-resolved.ensures.checked in
+    let made = rw c.as_slice.ensures.value at c.in_ok-resolved.ensures.resolved in
+    is_resolved (view_unit c.args.unit) (view_resolved c.in_ok-resolved.resolved) (rw (rules, c.in_ok-check_main.ensures) refl) made

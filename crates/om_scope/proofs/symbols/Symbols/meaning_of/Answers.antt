@@ -1,12 +1,22 @@
-use Rattle.std.proofs.Common.{sym, ap, ◌∙◌}
-use Rattle.std.specs.Str.{bytes_eq}
+use Rattle.std.proofs.Common.{reverse, sym, ap, ◌∙◌}
 use Rattle.om_scope.specs.Scopes.{meaning_of, scope_of}
-use Rattle.om_scope.proofs.Names.{lookup-scope_of, option_or-none}
-use Rattle.std.specs.Map.{lookup}
+use Rattle.om_scope.specs.Sightings.{innermost_of, meaning_of_sighting, scopes_of}
+use Rattle.om_scope.proofs.Lookups.{meaning-here}
 use Rattle.om_scope.proofs.symbols.Symbols.meaning_of.Goals as goal
+
+pub returns-in_err-sighting : goal.returns-in_err-sighting
+returns-in_err-sighting c =
+    let fields = c.self.inside in
+    let found = c.innermost.ensures ∙ ap innermost_of (c.self.invariant.2 c.args.name.now) in
+    c.from_residual.ensures
+    ∙ ap meaning_of_sighting (sym c.in_err-sighting.was ∙ found)
+    ∙ sym (meaning-here (scope_of fields.inner.entries) (scopes_of fields.outer.items) (reverse fields.constructs.items) c.args.name.now)
+    ∙ ap (λ scopes. meaning_of scopes c.args.name.now) c.self.view_is
 
 pub returns : goal.returns
 returns c =
-    let test = bytes_eq c.args.name.now in
-    let entries = c.self.inside.names.entries in
-    c.copied.ensures ∙ c.get.ensures.value ∙ sym (lookup-scope_of test entries) ∙ sym (option_or-none (lookup test (scope_of entries))) ∙ ap (λ scopes. meaning_of scopes c.args.name.now) c.self.view_is
+    let fields = c.self.inside in
+    let found = c.innermost.ensures ∙ ap innermost_of (c.self.invariant.2 c.args.name.now) in
+    ap meaning_of_sighting (sym c.in_ok-sighting.was ∙ found)
+    ∙ sym (meaning-here (scope_of fields.inner.entries) (scopes_of fields.outer.items) (reverse fields.constructs.items) c.args.name.now)
+    ∙ ap (λ scopes. meaning_of scopes c.args.name.now) c.self.view_is

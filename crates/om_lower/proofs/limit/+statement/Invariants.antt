@@ -1,0 +1,10 @@
+use Rattle.std.proofs.Common.{◌≡◌, drop, map}
+use Rattle.om_lower.specs.Limits.{have_large_region}
+use Rattle.om_scope.specs.ResolvedTree as trees
+use Rattle.om_scope.specs.ResolvedView.{view_resolved_statement}
+use Rattle.om_lower.proofs.limit.+statement.Given as goal
+
+-- the answer for the statements that are left is the answer for all
+abbrev pub invariant-have_large_region-loop-item : goal.invariant-have_large_region-loop-item
+invariant-have_large_region-loop-item l =
+    have_large_region (trees.statements (map view_resolved_statement (drop l.item-index l.items))) ≡ have_large_region (trees.statements (map view_resolved_statement l.items))

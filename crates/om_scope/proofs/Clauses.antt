@@ -1,0 +1,21 @@
+-- The clauses of a directive, as its tree shows them.
+use Rattle.std.proofs.Common.{◌≡◌, List, [], ◌∷◌, map, refl}
+use Rattle.std.specs.List.{list_any}
+use Rattle.om_parser.specs.declared.tree.Expression.{Expression}
+use Rattle.om_parser.specs.View.{view_directive, view_expression}
+use Rattle.om_pragma.specs.declared.clause.ClauseItem.{ClauseItem}
+use Rattle.om_pragma.specs.declared.clause.ClauseKind.{ClauseKind}
+use Rattle.om_pragma.specs.declared.tree.Directive.{Directive}
+use Rattle.om_pragma.specs.Expressions.{map_item}
+use Rattle.om_pragma.specs.Questions.{has_clause}
+use Rattle.om_pragma.specs.Spelling.{kind_of}
+use Rattle.om_pragma.specs.Table.{same_clause}
+use Rattle.om_pragma.proofs.SameKinds.{same_kind_of}
+
+same_kinds : (k : ClauseKind) (items : List (ClauseItem Expression))
+    → list_any (λ i. same_clause (kind_of i.clause) k) (map (map_item view_expression) items) ≡ list_any (λ i. same_clause (kind_of i.clause) k) items
+same_kinds k [] = refl
+same_kinds k (i ∷ items) = rw (same_kind_of view_expression i.clause, same_kinds k items) refl
+
+pub has_clause_viewed : (k : ClauseKind) (d : Directive Expression) → has_clause k (view_directive d) ≡ has_clause k d
+has_clause_viewed k d = same_kinds k d.clauses

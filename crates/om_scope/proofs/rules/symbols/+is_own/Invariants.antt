@@ -1,5 +1,0 @@
-use Rattle.std.proofs.Common.{length}
-use Rattle.om_scope.proofs.rules.symbols.+is_own.Given as goal
-
-abbrev pub decreases-is_own : goal.decreases-is_own
-decreases-is_own l = length l.scopes.now

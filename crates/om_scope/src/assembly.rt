@@ -1,0 +1,252 @@
+//! Constructs, put together of their clauses and their statement.
+
+ghost use Rattle.std.specs.Prelude.{◌≡◌, IfOk, map, option_map};
+ghost use Rattle.om_parser.specs.View.{view_directive, view_expression};
+ghost use Rattle.om_pragma.specs.Expressions.{map_clause, map_item};
+ghost use Rattle.om_pragma.specs.Questions.{atomic_kind};
+ghost use Rattle.om_scope.specs.ResolvedTree as resolved;
+ghost use Rattle.om_scope.specs.ResolvedTree.{statements};
+ghost use Rattle.om_scope.specs.ResolvedView.{view_resolved_clause, view_resolved_loop, view_resolved_statement};
+ghost use Rattle.om_scope.specs.StatementResolution.{clause_schedule, construct_of, critical_name, has_default, has_nowait, loop_construct_of, parallel_of, part_of, plain_schedule, schedule_in, schedule_of, sections_construct_of, task_of};
+
+use crate::captures::{captures_of_parallel, captures_of_task};
+use crate::construct::traits_of;
+use crate::declaration::copy_of;
+use crate::resolved::{
+    ConstructKind, ResolvedClause, ResolvedLoop, ResolvedSchedule, ResolvedStatement,
+};
+use crate::symbols::is_parallel;
+use om_lexer::Span;
+use om_parser::{Expression, Name};
+use om_pragma::{
+    AtomicKind, Clause, ClauseItem, ClauseKind, Directive, DirectiveName, Schedule, ScheduleKind,
+};
+use om_seq::Seq;
+use std::alloc::{AllocError, Global};
+
+/// Whether a directive is `nowait`.
+#[tactic(auto, using(crate::proofs::Clauses::has_clause_viewed))]
+fn has_nowait(directive: &Directive<Expression>) -> bool
+    ensures { result ≡ has_nowait (view_directive directive.now) }
+{
+    directive.has(ClauseKind::Nowait)
+}
+
+/// Whether a directive has a `default`.
+#[tactic(auto, using(crate::proofs::Clauses::has_clause_viewed))]
+fn has_default(directive: &Directive<Expression>) -> bool
+    ensures { result ≡ has_default (view_directive directive.now) }
+{
+    directive.has(ClauseKind::Default)
+}
+
+/// What an `atomic` does with its variable.
+#[tactic(auto, using(crate::proofs::Clauses::has_clause_viewed))]
+fn atomic_kind(directive: &Directive<Expression>) -> AtomicKind
+    ensures { result ≡ atomic_kind (view_directive directive.now) }
+{
+    directive.atomic_kind()
+}
+
+/// A `parallel` round a statement.
+fn parallel_of(
+    alloc: Global,
+    directive: &Directive<Expression>,
+    clauses: Vec<ResolvedClause>,
+    body: ResolvedStatement,
+) -> Result<ResolvedStatement, AllocError>
+    ensures { IfOk result (λ found. view_resolved_statement found ≡ parallel_of (view_directive directive.now) (map view_resolved_clause clauses.items) (view_resolved_statement body)) }
+{
+    let start = directive.hash.start;
+    let captures = captures_of_parallel(alloc, start, clauses.as_slice(), &body)?;
+    let body = Box::new(alloc, body)?;
+    Ok(ResolvedStatement::Parallel(directive.hash, clauses, captures, body))
+}
+
+/// A `task` round a statement, in the `parallel` that begins there.
+fn task_of(
+    alloc: Global,
+    parallel: Option<u32>,
+    directive: &Directive<Expression>,
+    clauses: Vec<ResolvedClause>,
+    body: ResolvedStatement,
+) -> Result<ResolvedStatement, AllocError>
+    ensures { IfOk result (λ found. view_resolved_statement found ≡ task_of parallel (view_directive directive.now) (map view_resolved_clause clauses.items) (view_resolved_statement body)) }
+{
+    let captures = captures_of_task(
+        alloc,
+        has_default(directive),
+        parallel,
+        directive.hash.start,
+        clauses.as_slice(),
+        &body,
+    )?;
+    let body = Box::new(alloc, body)?;
+    Ok(ResolvedStatement::Task(directive.hash, clauses, captures, body))
+}
+
+/// The name of a `critical`, if it has one.
+fn critical_name(
+    alloc: Global,
+    name: &Option<(Span, Name, Span)>,
+) -> Result<Option<Seq<u8>>, AllocError>
+    ensures { IfOk result (λ found. found ≡ critical_name name.now) }
+{
+    match name {
+        None => Ok(None),
+        Some((_, name, _)) => Ok(Some(copy_of(alloc, name)?)),
+    }
+}
+
+/// A construct of a kind round a statement.
+fn other_construct(
+    alloc: Global,
+    at: Span,
+    kind: ConstructKind,
+    clauses: Vec<ResolvedClause>,
+    body: ResolvedStatement,
+) -> Result<ResolvedStatement, AllocError>
+    ensures { IfOk result (λ found. view_resolved_statement found ≡ resolved.Construct at kind (map view_resolved_clause clauses.items) (view_resolved_statement body)) }
+{
+    let body = Box::new(alloc, body)?;
+    Ok(ResolvedStatement::Construct(at, kind, clauses, body))
+}
+
+/// A construct round a statement, in the `parallel` that begins there.
+#[tactic(auto, unfolding(crate::specs::StatementResolution::construct_of))]
+pub fn construct_of(
+    alloc: Global,
+    parallel: Option<u32>,
+    directive: &Directive<Expression>,
+    clauses: Vec<ResolvedClause>,
+    body: ResolvedStatement,
+) -> Result<ResolvedStatement, AllocError>
+    ensures { let tree = view_directive directive.now in
+        IfOk result (λ found. view_resolved_statement found ≡ construct_of parallel tree tree.name (map view_resolved_clause clauses.items) (view_resolved_statement body)) }
+{
+    let at = directive.hash;
+    match &directive.name {
+        DirectiveName::Parallel(_) => parallel_of(alloc, directive, clauses, body),
+        DirectiveName::Task(_) => task_of(alloc, parallel, directive, clauses, body),
+        DirectiveName::Single(_) => {
+            let kind = ConstructKind::Single(has_nowait(directive));
+            other_construct(alloc, at, kind, clauses, body)
+        }
+        DirectiveName::Masked(_) => {
+            other_construct(alloc, at, ConstructKind::Masked, clauses, body)
+        }
+        DirectiveName::Master(_) => {
+            other_construct(alloc, at, ConstructKind::Masked, clauses, body)
+        }
+        DirectiveName::Critical(_, name) => {
+            let kind = ConstructKind::Critical(critical_name(alloc, name)?);
+            other_construct(alloc, at, kind, clauses, body)
+        }
+        DirectiveName::Atomic(_) => {
+            let kind = ConstructKind::Atomic(atomic_kind(directive));
+            other_construct(alloc, at, kind, clauses, body)
+        }
+        DirectiveName::For(_) => Ok(body),
+        DirectiveName::Sections(_) => Ok(body),
+        DirectiveName::Section(_) => Ok(body),
+        DirectiveName::ParallelFor(_, _) => Ok(body),
+        DirectiveName::ParallelSections(_, _) => Ok(body),
+        DirectiveName::Barrier(_) => Ok(body),
+        DirectiveName::Taskwait(_) => Ok(body),
+        DirectiveName::Taskyield(_) => Ok(body),
+        DirectiveName::Flush(_, _) => Ok(body),
+    }
+}
+
+/// A construct that is for a loop, and what the loop repeats.
+pub fn loop_construct_of(
+    alloc: Global,
+    directive: &Directive<Expression>,
+    clauses: Vec<ResolvedClause>,
+    repeated: ResolvedLoop,
+    body: ResolvedStatement,
+) -> Result<ResolvedStatement, AllocError>
+    ensures { IfOk result (λ found. view_resolved_statement found ≡ loop_construct_of (view_directive directive.now) (map view_resolved_clause clauses.items) (view_resolved_loop repeated) (view_resolved_statement body)) }
+{
+    let at = directive.hash;
+    let body = Box::new(alloc, body)?;
+    if is_parallel(traits_of(&directive.name).region) {
+        let inner = ResolvedStatement::Loop(at, Vec::new(alloc), true, repeated, body);
+        return parallel_of(alloc, directive, clauses, inner);
+    }
+    let nowait = has_nowait(directive);
+    Ok(ResolvedStatement::Loop(at, clauses, nowait, repeated, body))
+}
+
+/// A construct of parts, with their items.
+pub fn sections_construct_of(
+    alloc: Global,
+    directive: &Directive<Expression>,
+    clauses: Vec<ResolvedClause>,
+    items: Vec<ResolvedStatement>,
+) -> Result<ResolvedStatement, AllocError>
+    ensures { IfOk result (λ found. view_resolved_statement found ≡ sections_construct_of (view_directive directive.now) (map view_resolved_clause clauses.items) (statements (map view_resolved_statement items.items))) }
+{
+    let at = directive.hash;
+    if is_parallel(traits_of(&directive.name).region) {
+        let inner = ResolvedStatement::Sections(at, Vec::new(alloc), true, items);
+        return parallel_of(alloc, directive, clauses, inner);
+    }
+    let nowait = has_nowait(directive);
+    Ok(ResolvedStatement::Sections(at, clauses, nowait, items))
+}
+
+/// An item of `sections`, which begins a part or not.
+pub fn part_of(
+    alloc: Global,
+    begins: bool,
+    item: ResolvedStatement,
+) -> Result<ResolvedStatement, AllocError>
+    ensures { IfOk result (λ found. view_resolved_statement found ≡ part_of begins (view_resolved_statement item)) }
+{
+    if begins {
+        Ok(ResolvedStatement::Section(Box::new(alloc, item)?))
+    } else {
+        Ok(item)
+    }
+}
+
+/// What a clause `schedule` asks for.
+fn schedule_in(schedule: &Schedule) -> ResolvedSchedule
+    ensures { result ≡ schedule_in schedule.now }
+{
+    ResolvedSchedule {
+        kind: schedule.kind,
+        chunk: match schedule.chunk {
+            None => None,
+            Some((_, number)) => Some(number.value),
+        },
+    }
+}
+
+/// What a clause asks for, where it is a `schedule`.
+fn clause_schedule(otherwise: ResolvedSchedule, clause: &Clause<Expression>) -> ResolvedSchedule
+    ensures { result ≡ clause_schedule otherwise (map_clause view_expression clause.now) }
+{
+    match clause {
+        Clause::Schedule(_, schedule) => schedule_in(schedule),
+        Clause::Value(_, _, _) => otherwise,
+        Clause::Default(_, _) => otherwise,
+        Clause::Data(_, _, _) => otherwise,
+        Clause::Reduction(_, _) => otherwise,
+        Clause::Plain(_, _) => otherwise,
+    }
+}
+
+/// The schedule that clauses ask for: static where none does.
+pub fn schedule_of(items: &[ClauseItem<Expression>]) -> ResolvedSchedule
+    ensures { result ≡ schedule_of (map (map_item view_expression) items.now) }
+{
+    match items {
+        [] => ResolvedSchedule {
+            kind: ScheduleKind::Static,
+            chunk: None,
+        },
+        [item, rest @ ..] => clause_schedule(schedule_of(rest), &item.clause),
+    }
+}

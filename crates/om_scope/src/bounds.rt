@@ -1,0 +1,103 @@
+//! The bounds of a canonical loop.
+
+ghost use Rattle.std.specs.Prelude.{◌≡◌, ◌++◌, false, OnOk, IfOk, Some};
+ghost use Rattle.om_scope.specs.Checks.{Checks, ChecksExactly};
+ghost use Rattle.om_scope.specs.ExpressionRules.{expression_breaches};
+ghost use Rattle.om_scope.specs.Scopes.{is_declared};
+ghost use Rattle.om_scope.specs.LoopViews.{view_loop};
+ghost use Rattle.om_scope.specs.Resolution.{resolved_expression};
+ghost use Rattle.om_scope.specs.ResolvedView.{view_resolved_expression, view_resolved_loop};
+ghost use Rattle.om_scope.specs.StatementResolution.{bounds_scopes, resolved_loop};
+ghost use Rattle.om_scope.specs.StatementRules.{found_breaches, values_breaches, variable_breaches, with_iteration};
+
+use crate::canonical::Loop;
+use crate::declaration::local_of;
+use crate::expression::{check_declared, is_scalar, resolve_expression};
+use crate::fault::refuse_if;
+use crate::resolved::{ResolvedExpression, ResolvedLoop, ResolvedSchedule};
+use crate::symbols::{Shape, Symbols};
+use om_lexer::{FaultCode, SourceFault};
+use om_parser::Name;
+use std::alloc::{AllocError, Global};
+
+/// The variable of a loop that does not declare it: S7, S9.
+#[tactic(auto, using(crate::proofs::Firsts::first_of_left))]
+fn check_variable(symbols: &Symbols, name: &Name) -> Result<(), SourceFault>
+    ensures { ChecksExactly result (variable_breaches symbols.now name.now) }
+{
+    check_declared(symbols, name)?;
+    let broken = !is_scalar(symbols.meaning_of(name.text.as_slice()));
+    refuse_if(broken, FaultCode::Misuse, name.span.start)
+}
+
+/// The first value and the bound of a loop's variable.
+#[tactic(auto, using(crate::proofs::Firsts::first_of_left))]
+fn resolve_values(
+    alloc: Global,
+    symbols: &Symbols,
+    found: &Loop<'_>,
+) -> Result<(ResolvedExpression, ResolvedExpression), SourceFault>
+    ensures checked { Checks result (values_breaches symbols.now (view_loop found.now)) }
+    ensures from { IfOk result (λ made. resolved_expression symbols.now (view_loop found.now).start.from ≡ Some (view_resolved_expression made.0)) }
+    ensures to { IfOk result (λ made. resolved_expression symbols.now (view_loop found.now).to ≡ Some (view_resolved_expression made.1)) }
+{
+    let from = resolve_expression(alloc, symbols, true, found.start.from)?;
+    let to = resolve_expression(alloc, symbols, true, found.to)?;
+    Ok((from, to))
+}
+
+/// Enters the scope in which a loop's variable is one of its own.
+pub fn enter_loop(alloc: Global, symbols: &mut Symbols, found: &Loop<'_>) -> Result<(), AllocError>
+    ensures { OnOk result (symbols.new ≡ with_iteration symbols.old (view_loop found.now)) }
+{
+    symbols.enter(alloc)?;
+    symbols.declare_local(alloc, found.start.variable, Shape::Scalar)
+}
+
+/// The bounds of a loop: S7, S9, S13.
+#[tactic(auto, using(crate::proofs::Firsts::first_of_left))]
+fn resolve_bounds(
+    alloc: Global,
+    symbols: &mut Symbols,
+    found: &Loop<'_>,
+) -> Result<(ResolvedExpression, ResolvedExpression), SourceFault>
+    ensures checked { Checks result (found_breaches symbols.old (view_loop found.now)) }
+    ensures in_scope { OnOk result (symbols.new ≡ symbols.old) }
+    ensures from { let scopes = bounds_scopes symbols.old (view_loop found.now) in
+        IfOk result (λ made. resolved_expression scopes (view_loop found.now).start.from ≡ Some (view_resolved_expression made.0)) }
+    ensures to { let scopes = bounds_scopes symbols.old (view_loop found.now) in
+        IfOk result (λ made. resolved_expression scopes (view_loop found.now).to ≡ Some (view_resolved_expression made.1)) }
+{
+    if !found.start.is_declared {
+        check_variable(symbols, found.start.variable)?;
+        return resolve_values(alloc, symbols, found);
+    }
+    enter_loop(alloc, symbols, found)?;
+    let bounds = resolve_values(alloc, symbols, found)?;
+    symbols.leave();
+    Ok(bounds)
+}
+
+/// A loop in canonical form, with its bounds: S7, S9, S13.
+#[tactic(auto, unfolding(crate::specs::StatementResolution::resolved_loop))]
+pub fn resolve_loop(
+    alloc: Global,
+    symbols: &mut Symbols,
+    schedule: ResolvedSchedule,
+    found: &Loop<'_>,
+) -> Result<ResolvedLoop, SourceFault>
+    ensures checked { Checks result (found_breaches symbols.old (view_loop found.now)) }
+    ensures in_scope { OnOk result (symbols.new ≡ symbols.old) }
+    ensures resolved { IfOk result (λ made. resolved_loop symbols.old schedule (view_loop found.now) ≡ Some (view_resolved_loop made)) }
+{
+    let (from, to) = resolve_bounds(alloc, symbols, found)?;
+    Ok(ResolvedLoop {
+        at: found.at,
+        variable: local_of(alloc, found.start.variable)?,
+        from,
+        comparison: found.comparison,
+        to,
+        step: found.step,
+        schedule,
+    })
+}
