@@ -1,13 +1,12 @@
 #!/usr/bin/env python3
-"""depth.py PROGRAM [KIBIBYTES]: whether PROGRAM takes the deepest sources with that much stack, 8,192 KiB if not given.
+"""depth.py PROGRAM: whether PROGRAM takes the deepest sources.
 
 Each source is at the limits of statements, brackets and tokens, in one kind of nesting or in several together, and is
-neither refused for its depth nor for its syntax. PROGRAM gets it as its input, and has to end with status 0 or 1. The
-least stack with which it does is printed for each, and what it printed. The status is 1 where one needs more.
+neither refused for its depth nor for its syntax. PROGRAM gets it as its input, and has to end with status 0 or 1; what it
+printed is printed. The status of this script is 1 where one ended otherwise.
 """
-import os, resource, subprocess, sys
+import os, subprocess, sys
 
-MOST = 1 << 20  # KiB
 BRACKETS, TOKENS, STATEMENTS = 127, 4096 - 2 * 127, 1022
 
 
@@ -49,33 +48,15 @@ def cases():
         yield f"{name} in if", nested(STATEMENTS, "if(1)", f"{inner};")
 
 
-def run(program, text, stack):
-    limit = lambda: resource.setrlimit(resource.RLIMIT_STACK, (stack * 1024, stack * 1024))
-    return subprocess.run([program], input=text, capture_output=True, preexec_fn=limit)
-
-
-def least_stack(program, text):
-    """The least stack, to a 50th, with which a program ends by itself, in KiB."""
-    low, high = 8, MOST
-    while high - low > max(8, high // 50):
-        middle = (low + high) // 2
-        if run(program, text, middle).returncode in (0, 1):
-            high = middle
-        else:
-            low = middle
-    return high
-
-
 def main():
-    if len(sys.argv) not in (2, 3):
+    if len(sys.argv) != 2:
         sys.exit(__doc__)
-    program, stack = os.path.abspath(sys.argv[1]), int(sys.argv[2]) if len(sys.argv) == 3 else 8192
-    wrong = 0
+    program, wrong = os.path.abspath(sys.argv[1]), 0
     for name, body in cases():
         text = ("int a; int main(void){" + body + "}\n").encode()
-        least, said = least_stack(program, text), run(program, text, MOST).stdout.decode().strip()
-        wrong += least > stack
-        print(f"{name}: {least} KiB; {said or 'accepted'}", flush=True)
+        done = subprocess.run([program], input=text, capture_output=True)
+        wrong += done.returncode not in (0, 1)
+        print(f"{name}: {done.stdout.decode().strip() or 'accepted'}", flush=True)
     sys.exit(1 if wrong else 0)
 
 

@@ -3,13 +3,13 @@
 
 It makes sources of that many bytes (1,048,576 if not given, the most that a source may have), each of one kind of part
 repeated behind a `)`: so the lexer reads all of it, and the parser refuses it at its first token. For each kind it prints the
-seconds (the best of three on one core), those of a source of half the size, and the least address space with which the program
+seconds (the best of three on one core), those of a source of half the size, and the least room for data with which the program
 still gives its answer, beyond what it needs for one byte, in bytes for each byte of the source. At last comes a source of twice
 the size, one half a comment and one half code, which is too long. Nothing here is a test: nothing fails but a wrong answer.
 """
 import resource, subprocess
 
-from timing import filled, seconds, words
+from timing import compared, filled, seconds, words
 
 MIXED = '''int alpha_7 = 0x1f; /* c */ void f(int a, int b) {
   if (a <= 10 && b != 017) alpha_7 += a * (b - 3); // line
@@ -45,14 +45,14 @@ def source(kind, size):
 
 
 def has_room(program, text, space):
-    """Whether the program gives its answer with that much address space."""
-    limit = lambda: resource.setrlimit(resource.RLIMIT_AS, (space, space))
+    """Whether the program gives its answer with that much room for data: stacks, and what is written of its memory."""
+    limit = lambda: resource.setrlimit(resource.RLIMIT_DATA, (space, space))
     done = subprocess.run([program], input=text, stdout=subprocess.PIPE, stderr=subprocess.DEVNULL, preexec_fn=limit)
     return done.stdout == ANSWER
 
 
 def least_space(program, text):
-    """The least address space, to 64 KiB, in which the program gives its answer."""
+    """The least room for data, to 64 KiB, in which the program gives its answer."""
     low, high = 0, ENOUGH
     while high - low > 1 << 16:
         middle = (low + high) // 2
@@ -70,7 +70,7 @@ def main():
         text = source(kind, size)
         whole, half = seconds(program, text, ANSWER), seconds(program, source(kind, size // 2), ANSWER)
         space = (least_space(program, text) - base) / size
-        print(f"{kind}: {whole:.3f} s; half of it: {half:.3f} s; ratio {whole / half:.2f}; {space:.0f} bytes a byte")
+        print(f"{kind}: {compared(whole, half)}; {space:.0f} bytes a byte")
     text = b")/*" + b"x" * (size - 5) + b"*/" + source("mixed tokens", size)
     if size == 1048576:
         print(f"twice as much, a comment and code: {seconds(program, text, TOO_LONG):.3f} s")

@@ -6,7 +6,7 @@ repeated, and each without its last brace: so the lexer and the parser read all 
 before any later pass. It prints the seconds of each, the best of three on one core, and those of a source of half the size.
 Nothing here is a test: nothing fails but a source that is not refused at its end.
 """
-from timing import filled, seconds, words
+from timing import compared, filled, seconds_to_end, words
 
 # what stands in front, what is repeated, and what stands behind
 KINDS = {
@@ -22,16 +22,14 @@ KINDS = {
 
 
 def time_of(program, kind, size):
-    text = filled(*KINDS[kind], size)
-    line, column = text.count(b"\n") + 1, len(text) - text.rfind(b"\n")
-    return seconds(program, text, f"refused S3 line {line} column {column}\n".encode())
+    return seconds_to_end(program, filled(*KINDS[kind], size), "S3")
 
 
 def main():
     program, size = words(__doc__, 1048576)
     for kind in KINDS:
         whole, half = time_of(program, kind, size), time_of(program, kind, size // 2)
-        print(f"{kind}: {whole:.3f} s; half of it: {half:.3f} s; ratio {whole / half:.2f}")
+        print(f"{kind}: {compared(whole, half)}")
 
 
 main()

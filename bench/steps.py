@@ -5,7 +5,7 @@ It runs one source of that many assignments (16,000 if not given, 32,000 at most
 command, with every step, and with every step and then every undo. The differences give steps a second and undos a
 second; a source of half as many assignments gives the ratio of the whole times. Nothing here is a test: nothing fails.
 """
-from timing import seconds, words
+from timing import compared, seconds, words
 
 STEPS_OF_ASSIGNMENT = 2
 
@@ -32,7 +32,7 @@ def main():
     print(f"reading the program: {idle:.3f} s")
     print(f"steps a second: {steps / max(forwards - idle, 1e-9):,.0f}")
     print(f"undos a second: {steps / max(both - forwards, 1e-9):,.0f}")
-    print(f"whole run: {both:.3f} s; of half the program: {half:.3f} s; ratio {both / half:.2f}")
+    print(f"whole run: {compared(both, half)}")
 
 
 main()

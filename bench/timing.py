@@ -30,3 +30,14 @@ def seconds(program, text, wanted=None, times=3):
             sys.exit(f"{program} answered {done.stdout!r}, not {wanted!r}")
         best = taken if best is None else min(best, taken)
     return best
+
+
+def seconds_to_end(program, text, code):
+    """The same of a text that is refused by this code, `S3` for one, behind its last byte."""
+    line, column = text.count(b"\n") + 1, len(text) - text.rfind(b"\n")
+    return seconds(program, text, f"refused {code} line {line} column {column}\n".encode())
+
+
+def compared(whole, half):
+    """The seconds for a text and for one of half its size, in words."""
+    return f"{whole:.3f} s; half of it: {half:.3f} s; ratio {whole / half:.2f}"

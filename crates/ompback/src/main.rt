@@ -19,6 +19,11 @@ use std::alloc::{AllocError, Global};
 use std::io;
 use std::process::ExitCode;
 use std::rt::Files;
+use std::thread::Builder;
+
+/// How many bytes of stack the front end has. The deepest sources that pass every limit of nesting want a quarter
+/// of it where the program is not optimised; what is not used takes no memory.
+const STACK_SIZE: usize = 256 << 20;
 
 // The source in a file, if one is named.
 fn source_in<R: Files>(
@@ -85,9 +90,12 @@ fn program(rt: &HostRuntime) -> Result<Outcome, AllocError> {
 }
 
 fn main(rt: HostRuntime) -> ExitCode {
-    let outcome = match program(&rt) {
-        Ok(outcome) => outcome,
-        Err(_) => Outcome::Fault(ShellFault::Memory),
+    let thread = Builder::new()
+        .stack_size(STACK_SIZE)
+        .spawn(&rt, move || program(&rt));
+    let outcome = match thread.map(|thread| thread.join(&rt)) {
+        Ok(Ok(outcome)) => outcome,
+        _ => Outcome::Fault(ShellFault::Memory),
     };
     if let Outcome::Fault(fault) = outcome {
         let _ = rt.eprintln(fault);

@@ -2,11 +2,13 @@
 
 ghost use Rattle.std.specs.Prelude.{◌<◌, ◌≤◌};
 
+use crate::STACK_SIZE;
 use om_shell::{Options, ShellFault, run};
-use std::alloc::Global;
+use std::alloc::{AllocError, Global};
 use std::io;
 use std::io::{ErrorKind, Read, Write};
 use std::test::Fail;
+use std::thread::Builder;
 
 // Gives its bytes at most `most` at a time, and fails at the read after `reads_left` of them.
 #[derive(Drop)]
@@ -112,7 +114,7 @@ fn answers_in_any_pieces(rt: HostRuntime) {
 }
 
 // Inputs, each with its status and its output.
-const SCRIPTS: [(&[u8], u8, &[u8]); 9] = [
+const SCRIPTS: [(&[u8], u8, &[u8]); 12] = [
     (b"", 1, b"refused S15 line 1 column 1\n"),
     (b"int x; /* a", 1, b"refused S2 line 1 column 8\n"),
     (
@@ -146,6 +148,21 @@ const SCRIPTS: [(&[u8], u8, &[u8]); 9] = [
         b"refused S7 line 1 column 17\n",
     ),
     (
+        b"int x; int main(void){ x = 1; x = x - 1; }\n%%\nstep 0\n",
+        1,
+        b"refused S3 line 1 column 31\n",
+    ),
+    (
+        b"int main(void){ if (1) ; y = 1; }",
+        1,
+        b"refused S7 line 1 column 26\n",
+    ),
+    (
+        b"int a[2]; int f(void){ return 1; } int main(void){ return f(); }",
+        1,
+        b"refused S3 line 1 column 5\n",
+    ),
+    (
         b"int x = 1;\r\nint main(void) { }\r\n%%\r\nstep 1\r\nprint x\r\nquit\r\nprint x\r\n",
         0,
         b"blocked B5\nx = 1\n",
@@ -160,6 +177,62 @@ fn writes_the_worked_scripts(rt: HostRuntime) {
         assert_eq!(rt; told.has_machine, status == 0);
         assert_eq!(rt; told.text.as_slice(), output);
     }
+}
+
+// What nests, what stands in the middle, what closes a nest, and how often: each as deep as it may.
+const NESTS: [(&str, &str, &str, usize); 10] = [
+    ("if (x) ", ";", "", 1022),
+    ("if (x) ", "x = 1;", " else ;", 1022),
+    ("for (x = 0; x < 9; x++) ", "x = 1;", "", 1022),
+    ("while (x) ", "break;", "", 1022),
+    ("{ int y; ", "y = x;", "}", 127),
+    ("#pragma omp parallel\n", "x = 1;", "", 1022),
+    ("#pragma omp task\n", "x = 1;", "", 1022),
+    ("!", "1;", "", 4095),
+    ("x = ", "- 1;", "", 2047),
+    ("x ? 1 : ", "1;", "", 1023),
+];
+
+// A program of one such nest, which begins its second line.
+fn nested(
+    alloc: Global,
+    front: &str,
+    middle: &str,
+    back: &str,
+    times: usize,
+) -> Result<Vec<u8>, AllocError> {
+    let mut source = b"int x; int main(void) {\n".to_vec(alloc)?;
+    for _ in 0..times {
+        source.extend_from_slice(front.as_bytes())?;
+    }
+    source.extend_from_slice(middle.as_bytes())?;
+    for _ in 0..times {
+        source.extend_from_slice(back.as_bytes())?;
+    }
+    source.push(b'}')?;
+    Ok(source)
+}
+
+// How many nests, from the first on, are refused by lowering alone, which does not take them yet.
+fn nests_resolved(alloc: Global) -> Result<usize, AllocError> {
+    let refused: &[u8] = b"refused S3 line 2 column 1\n";
+    for (index, (front, middle, back, times)) in NESTS.iter().enumerate() {
+        let source = nested(alloc, front, middle, back, *times)?;
+        if answered(alloc, source.as_slice(), 4096).text.as_slice() != refused {
+            return Ok(index);
+        }
+    }
+    Ok(NESTS.len())
+}
+
+#[test]
+fn takes_the_deepest_nests(rt: HostRuntime) -> Result<(), Fail> {
+    let alloc = rt.alloc();
+    let thread = Builder::new()
+        .stack_size(STACK_SIZE)
+        .spawn(&rt, move || nests_resolved(alloc))?;
+    assert_eq!(rt; thread.join(&rt)?, NESTS.len());
+    Ok(())
 }
 
 const SOURCE: &[u8] = b"int x = -3; int main(void) { }";
