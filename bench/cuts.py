@@ -51,4 +51,5 @@ def main():
     sys.exit(1 if counts["wrong"] or not counts else 0)
 
 
-main()
+if __name__ == "__main__":
+    main()

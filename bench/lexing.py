@@ -76,4 +76,5 @@ def main():
         print(f"twice as much, a comment and code: {seconds(program, text, TOO_LONG):.3f} s")
 
 
-main()
+if __name__ == "__main__":
+    main()

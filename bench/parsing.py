@@ -32,4 +32,5 @@ def main():
         print(f"{kind}: {compared(whole, half)}")
 
 
-main()
+if __name__ == "__main__":
+    main()

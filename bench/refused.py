@@ -7,7 +7,7 @@ loaded before the C library; it refuses the N-th call of one kind. Of each such 
 that it ends with status 3 and the right fault on standard error (or as the whole run does, where nothing was lost), and
 that what it wrote is a beginning of what the whole run writes.
 TESTS is what `rt test` leaves of a crate, as crates/om_pragma/out/om_pragma_tests, and NAME a test of it that passes, and
-gives back the refusals for want of memory that it meets. Of each run it is wanted that it ends with that refusal, at byte 0.
+gives back the refusals out of memory that it meets. Of each run it is wanted that it ends with that refusal, at byte 0.
 The last line counts the runs; the status is 1 where one of them is wrong.
 """
 import itertools, os, subprocess, sys, tempfile
@@ -106,7 +106,7 @@ def ends_well(kind, whole, got):
 
 
 def wants_memory(_kind, whole, got):
-    """Whether a test that passes otherwise ends with the refusal for want of memory."""
+    """Whether a test that passes otherwise ends with the refusal out of memory."""
     return whole[0] == 0 and got[0] == 101 and got[2].startswith(WANTS_MEMORY)
 
 
@@ -122,4 +122,5 @@ def main():
     sys.exit(count_runs([words[0]], text, FAULTS, ends_well))
 
 
-main()
+if __name__ == "__main__":
+    main()

@@ -45,4 +45,5 @@ def main():
         print(f"{kind}: {compared(time_of(program, kind, size), time_of(program, kind, size // 2))}")
 
 
-main()
+if __name__ == "__main__":
+    main()

@@ -35,4 +35,5 @@ def main():
     print(f"whole run: {compared(both, half)}")
 
 
-main()
+if __name__ == "__main__":
+    main()
