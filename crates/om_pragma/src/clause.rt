@@ -9,7 +9,7 @@ use om_lexer::Span;
 use om_seq::Seq;
 
 /// Which clause, whatever stands in its parentheses.
-#[derive(Clone, Copy, Debug, PartialEq, Eq)]
+#[derive(Clone, Copy, PartialEq, Eq)]
 pub enum ClauseKind {
     NumThreads,
     Filter,
@@ -28,14 +28,14 @@ pub enum ClauseKind {
 }
 
 /// A clause with an expression.
-#[derive(Clone, Copy, Debug, PartialEq, Eq)]
+#[derive(Clone, Copy)]
 pub enum ValueClause {
     NumThreads,
     Filter,
 }
 
 /// A clause that says how the variables of its list are shared.
-#[derive(Clone, Copy, Debug, PartialEq, Eq)]
+#[derive(Clone, Copy)]
 pub enum DataSharing {
     Shared,
     Private,
@@ -43,7 +43,7 @@ pub enum DataSharing {
 }
 
 /// A clause of one word.
-#[derive(Clone, Copy, Debug, PartialEq, Eq)]
+#[derive(Clone, Copy)]
 pub enum PlainClause {
     Nowait,
     Update,
@@ -54,14 +54,14 @@ pub enum PlainClause {
 }
 
 /// What `default` says of variables that no clause lists.
-#[derive(Clone, Copy, Debug, PartialEq, Eq)]
+#[derive(Clone, Copy)]
 pub enum Sharing {
     Shared,
     None,
 }
 
 /// How a reduction combines.
-#[derive(Clone, Copy, Debug, PartialEq, Eq)]
+#[derive(Clone, Copy, PartialEq, Eq)]
 pub enum ReductionOperator {
     /// `+`
     Add,
@@ -74,14 +74,14 @@ pub enum ReductionOperator {
 }
 
 /// How iterations are dealt out.
-#[derive(Clone, Copy, Debug, PartialEq, Eq)]
+#[derive(Clone, Copy)]
 pub enum ScheduleKind {
     Static,
     Dynamic,
 }
 
 /// An expression in parentheses.
-#[derive(Debug, Drop)]
+#[derive(Drop)]
 pub struct Value<E> {
     pub open_paren: Span,
     pub expression: E,
@@ -89,7 +89,7 @@ pub struct Value<E> {
 }
 
 /// `(shared)` or `(none)`.
-#[derive(Clone, Copy, Debug)]
+#[derive(Clone, Copy)]
 pub struct DefaultArgument {
     pub open_paren: Span,
     pub sharing: Sharing,
@@ -99,7 +99,7 @@ pub struct DefaultArgument {
 }
 
 /// `(operator: names)`.
-#[derive(Debug, Drop)]
+#[derive(Drop)]
 pub struct Reduction {
     pub open_paren: Span,
     pub operator: ReductionOperator,
@@ -113,7 +113,7 @@ pub struct Reduction {
 }
 
 /// `(kind)` or `(kind, chunk)`.
-#[derive(Clone, Copy, Debug)]
+#[derive(Clone, Copy)]
 pub struct Schedule {
     pub open_paren: Span,
     pub kind: ScheduleKind,
@@ -125,7 +125,7 @@ pub struct Schedule {
 }
 
 /// A clause, with the span of its word.
-#[derive(Debug, Drop)]
+#[derive(Drop)]
 pub enum Clause<E> {
     Value(ValueClause, Span, Value<E>),
     Default(Span, DefaultArgument),
@@ -136,7 +136,7 @@ pub enum Clause<E> {
 }
 
 /// A clause in its row.
-#[derive(Debug, Drop)]
+#[derive(Drop)]
 pub struct ClauseItem<E> {
     /// The comma between it and the clause before it, where one stands.
     pub comma: Option<Span>,

@@ -4,7 +4,7 @@ use om_lexer::Span;
 use om_seq::Seq;
 
 /// A name where it stands.
-#[derive(Debug, Drop)]
+#[derive(Drop)]
 pub struct Name {
     /// Its letters, digits and `_`.
     pub text: Seq<u8>,
@@ -12,7 +12,7 @@ pub struct Name {
 }
 
 /// A constant where it stands.
-#[derive(Clone, Copy, Debug)]
+#[derive(Clone, Copy)]
 pub struct Number {
     /// At most 2147483647.
     pub value: u32,
@@ -20,7 +20,7 @@ pub struct Number {
 }
 
 /// One or more names in parentheses, with commas between them.
-#[derive(Debug, Drop)]
+#[derive(Drop)]
 pub struct NameList {
     pub open_paren: Span,
     pub first: Name,

@@ -11,7 +11,7 @@ use om_lexer::Span;
 use om_seq::Seq;
 
 /// Which directive, with the span of each of its words.
-#[derive(Debug, Drop)]
+#[derive(Drop)]
 pub enum DirectiveName {
     Parallel(Span),
     For(Span),
@@ -33,7 +33,7 @@ pub enum DirectiveName {
 }
 
 /// A directive, with the span of each of its tokens. Its expressions are of the type `E`.
-#[derive(Debug, Drop)]
+#[derive(Drop)]
 pub struct Directive<E> {
     /// The span of the `#`.
     pub hash: Span,
@@ -46,7 +46,7 @@ pub struct Directive<E> {
 }
 
 /// What an `atomic` does with its variable (OpenMP API 5.2, 15.8.4).
-#[derive(Clone, Copy, Debug, PartialEq, Eq)]
+#[derive(Clone, Copy, PartialEq, Eq)]
 pub enum AtomicKind {
     /// With `update`, or with none of the three.
     Update,

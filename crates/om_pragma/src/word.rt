@@ -9,7 +9,7 @@ use crate::clause::{ClauseKind, ReductionOperator, ScheduleKind, Sharing};
 use om_lexer::{FaultCode, Keyword, Punctuator, SourceFault, Token, TokenKind};
 
 /// A word with which a directive begins. `parallel` can stand before `for` and `sections`.
-#[derive(Clone, Copy, Debug, PartialEq, Eq)]
+#[derive(Clone, Copy)]
 pub enum DirectiveWord {
     Parallel,
     For,
