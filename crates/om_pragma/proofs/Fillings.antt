@@ -1,5 +1,5 @@
 -- Putting an expression in place of a directive's own, and finding it, as loops do.
-use Rattle.std.proofs.Common.{◌≡◌, ◌+◌, ◌≤◌, List, [], ◌∷◌, ◌++◌, length, map, Option, Some, None, refl, sym, ap, subst, ◌∙◌, arith, append_assoc, length-append}
+use Rattle.std.proofs.Common.{◌≡◌, ◌+◌, ◌≤◌, ◌<◌, ℕ, List, [], ◌∷◌, ◌++◌, length, map, Option, Some, None, refl, sym, ap, subst, ◌∙◌, arith, append_assoc, length-append}
 use Rattle.std.proofs.lemmas.List.{append-nil}
 use Rattle.std.specs.Prelude.{option_to_list}
 use Rattle.std.specs.List.{flat_map}
@@ -39,6 +39,9 @@ module _ {E F : Type 0} (value left : Option F) (made : List (ClauseItem F)) (re
     where
       counted : (o : Option E) → length (option_to_list o ++ in_items more) ≡ length (option_to_list o) + length (in_items more) → length (option_to_list o ++ in_items more) ≤ length (option_to_list left) → length (option_to_list left) ≤ length (option_to_list o) + length (option_to_list remains) → length (in_items more) ≤ length (option_to_list remains)
       counted o sum before few = omega (arith, sum, before, few)
+
+pub one_less : (n m : ℕ) → n + 1 ≡ m → n < m
+one_less n m e = omega arith
 
 item_is : {E : Type 0} (items : List (ClauseItem E)) (i : ClauseItem E) (more : List (ClauseItem E)) → take_item items ≡ some (i, more) → items ≡ i ∷ more
 item_is [] i more e = absurd cc
