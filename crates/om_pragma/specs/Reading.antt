@@ -255,6 +255,11 @@ Outcome A = Result A SourceFault
 abbrev pub fault : FaultCode → ℕ → SourceFault
 fault code at = record { code = code; at = at }
 
+-- why a directive is not read
+abbrev pub stop_fault : Stop → SourceFault
+stop_fault stops.Memory = no_memory
+stop_fault (stops.Token at) = fault fault_codes.Syntax at
+
 -- no directive goes on with the token at this place
 abbrev pub stopped : {A : Type 0} → Result A ℕ → Outcome A
 stopped (Ok x) = Ok x

@@ -49,8 +49,7 @@ fn in_parentheses(tokens: &[Token]) -> Result<(&[Token], Span, &[Token]), Stop>
     ensures { GetsAlways (λ x. (x.0.now, x.1, x.2.now)) result (in_parentheses tokens.now) }
 {
     let (_, rest) = mark(tokens, Punctuator::OpenParen)?;
-    let (expression, close_paren, behind) = closing(rest)?;
-    Ok((expression, close_paren, behind))
+    closing(rest)
 }
 
 /// These tokens, if there are some, and the parenthesis behind them starts before the place.

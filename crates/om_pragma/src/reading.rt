@@ -6,7 +6,7 @@ ghost use Rattle.om_lexer.specs.declared.token.Token.{Token as Tokens};
 ghost use Rattle.om_lexer.specs.Faults.{no_memory};
 ghost use Rattle.om_pragma.specs.declared.tree.Directive.{Directive as DirectiveOf};
 ghost use Rattle.om_pragma.specs.Expressions.{expressions, map_clause, map_item, tokens_in, with_tokens};
-ghost use Rattle.om_pragma.specs.Reading.{take_kind, fault, stopped, in_clause, no_word, opening_at, critical_after, critical_at, flush_at, parallel_at, name_after, directive_name_at, comma_at, clause_at, item_at, until, syntax_at, take_end, clauses_at, directive_at, Gets, Reads};
+ghost use Rattle.om_pragma.specs.Reading.{take_kind, fault, stop_fault, stopped, in_clause, no_word, opening_at, critical_after, critical_at, flush_at, parallel_at, name_after, directive_name_at, comma_at, clause_at, item_at, until, syntax_at, take_end, clauses_at, directive_at, Gets, Reads};
 ghost use Rattle.om_pragma.specs.Refusals.{IsRefusal, IsFound, EndsOnce, StopsAt};
 ghost use Rattle.om_pragma.specs.Table.{IsDirectiveOf, kinds_of};
 
@@ -55,15 +55,17 @@ fn read(alloc: Global, tokens: &[Token]) -> Result<Directive<&[Token]>, SourceFa
 {
     let (hash, pragma, omp, rest) = opening(tokens)?;
     let (name, rest) = directive_name(alloc, rest)?;
-    let (clauses, end) = clauses(alloc, &name, rest)?;
-    Ok(Directive {
-        hash,
-        pragma,
-        omp,
-        name,
-        clauses,
-        end,
-    })
+    match clauses(alloc, &name, rest) {
+        Ok((clauses, end)) => Ok(Directive {
+            hash,
+            pragma,
+            omp,
+            name,
+            clauses,
+            end,
+        }),
+        Err(fault) => Err(fault),
+    }
 }
 
 /// The fault of a token that no directive has at this place.
@@ -73,6 +75,16 @@ fn syntax(at: u32) -> SourceFault
     SourceFault {
         code: FaultCode::Syntax,
         at,
+    }
+}
+
+/// The fault of a directive that is not read.
+fn no_directive(stop: Stop) -> SourceFault
+    ensures { result ≡ stop_fault stop }
+{
+    match stop {
+        Stop::Memory => no_memory(),
+        Stop::Token(at) => syntax(at),
     }
 }
 
@@ -173,8 +185,7 @@ fn critical(
     };
     match critical_after(alloc, open_paren, rest) {
         Ok((name, rest)) => Ok((DirectiveName::Critical(span, Some(name)), rest)),
-        Err(Stop::Memory) => Err(no_memory()),
-        Err(Stop::Token(at)) => Err(syntax(at)),
+        Err(stop) => Err(no_directive(stop)),
     }
 }
 
@@ -207,8 +218,7 @@ fn flush(
     };
     match list_after(alloc, open_paren, rest) {
         Ok((list, rest)) => Ok((DirectiveName::Flush(span, Some(list)), rest)),
-        Err(Stop::Memory) => Err(no_memory()),
-        Err(Stop::Token(at)) => Err(syntax(at)),
+        Err(stop) => Err(no_directive(stop)),
     }
 }
 

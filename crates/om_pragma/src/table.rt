@@ -77,19 +77,13 @@ fn clauses_of(name: &DirectiveName) -> &'static [ClauseKind]
         DirectiveName::Parallel(_) => &PARALLEL,
         DirectiveName::For(_) => &FOR,
         DirectiveName::Sections(_) => &SECTIONS,
-        DirectiveName::Section(_) => &NO_CLAUSES,
         DirectiveName::Single(_) => &SINGLE,
         DirectiveName::ParallelFor(_, _) => &PARALLEL_FOR,
         DirectiveName::ParallelSections(_, _) => &PARALLEL,
         DirectiveName::Masked(_) => &MASKED,
-        DirectiveName::Master(_) => &NO_CLAUSES,
-        DirectiveName::Critical(_, _) => &NO_CLAUSES,
         DirectiveName::Atomic(_) => &ATOMIC,
         DirectiveName::Task(_) => &TASK,
-        DirectiveName::Barrier(_) => &NO_CLAUSES,
-        DirectiveName::Taskwait(_) => &NO_CLAUSES,
-        DirectiveName::Taskyield(_) => &NO_CLAUSES,
-        DirectiveName::Flush(_, _) => &NO_CLAUSES,
+        _ => &NO_CLAUSES,
     }
 }
 

@@ -60,22 +60,11 @@ impl DirectiveName {
         ensures { result ≡ is_stand_alone self.now }
     {
         match self {
-            DirectiveName::Parallel(_) => false,
-            DirectiveName::For(_) => false,
-            DirectiveName::Sections(_) => false,
-            DirectiveName::Section(_) => false,
-            DirectiveName::Single(_) => false,
-            DirectiveName::ParallelFor(_, _) => false,
-            DirectiveName::ParallelSections(_, _) => false,
-            DirectiveName::Masked(_) => false,
-            DirectiveName::Master(_) => false,
-            DirectiveName::Critical(_, _) => false,
-            DirectiveName::Atomic(_) => false,
-            DirectiveName::Task(_) => false,
             DirectiveName::Barrier(_) => true,
             DirectiveName::Taskwait(_) => true,
             DirectiveName::Taskyield(_) => true,
             DirectiveName::Flush(_, _) => true,
+            _ => false,
         }
     }
 
@@ -83,24 +72,7 @@ impl DirectiveName {
     pub fn is_section(&self) -> bool
         ensures { result ≡ is_section self.now }
     {
-        match self {
-            DirectiveName::Parallel(_) => false,
-            DirectiveName::For(_) => false,
-            DirectiveName::Sections(_) => false,
-            DirectiveName::Section(_) => true,
-            DirectiveName::Single(_) => false,
-            DirectiveName::ParallelFor(_, _) => false,
-            DirectiveName::ParallelSections(_, _) => false,
-            DirectiveName::Masked(_) => false,
-            DirectiveName::Master(_) => false,
-            DirectiveName::Critical(_, _) => false,
-            DirectiveName::Atomic(_) => false,
-            DirectiveName::Task(_) => false,
-            DirectiveName::Barrier(_) => false,
-            DirectiveName::Taskwait(_) => false,
-            DirectiveName::Taskyield(_) => false,
-            DirectiveName::Flush(_, _) => false,
-        }
+        matches!(self, DirectiveName::Section(_))
     }
 
     /// Whether the directive is `sections` or `parallel sections`.
@@ -108,22 +80,9 @@ impl DirectiveName {
         ensures { result ≡ is_sections self.now }
     {
         match self {
-            DirectiveName::Parallel(_) => false,
-            DirectiveName::For(_) => false,
             DirectiveName::Sections(_) => true,
-            DirectiveName::Section(_) => false,
-            DirectiveName::Single(_) => false,
-            DirectiveName::ParallelFor(_, _) => false,
             DirectiveName::ParallelSections(_, _) => true,
-            DirectiveName::Masked(_) => false,
-            DirectiveName::Master(_) => false,
-            DirectiveName::Critical(_, _) => false,
-            DirectiveName::Atomic(_) => false,
-            DirectiveName::Task(_) => false,
-            DirectiveName::Barrier(_) => false,
-            DirectiveName::Taskwait(_) => false,
-            DirectiveName::Taskyield(_) => false,
-            DirectiveName::Flush(_, _) => false,
+            _ => false,
         }
     }
 
@@ -131,24 +90,7 @@ impl DirectiveName {
     pub fn is_atomic(&self) -> bool
         ensures { result ≡ is_atomic self.now }
     {
-        match self {
-            DirectiveName::Parallel(_) => false,
-            DirectiveName::For(_) => false,
-            DirectiveName::Sections(_) => false,
-            DirectiveName::Section(_) => false,
-            DirectiveName::Single(_) => false,
-            DirectiveName::ParallelFor(_, _) => false,
-            DirectiveName::ParallelSections(_, _) => false,
-            DirectiveName::Masked(_) => false,
-            DirectiveName::Master(_) => false,
-            DirectiveName::Critical(_, _) => false,
-            DirectiveName::Atomic(_) => true,
-            DirectiveName::Task(_) => false,
-            DirectiveName::Barrier(_) => false,
-            DirectiveName::Taskwait(_) => false,
-            DirectiveName::Taskyield(_) => false,
-            DirectiveName::Flush(_, _) => false,
-        }
+        matches!(self, DirectiveName::Atomic(_))
     }
 
     /// Where the first word of the directive stands.
