@@ -85,12 +85,7 @@ impl Macros {
         let number = match &kind {
             TokenKind::Name(name) => self.number(name.as_slice()),
             TokenKind::Keyword(keyword) => self.number(keyword_text(*keyword)),
-            TokenKind::Constant(_) => None,
-            TokenKind::Text(_) => None,
-            TokenKind::Punctuator(_) => None,
-            TokenKind::DirectiveBegin => None,
-            TokenKind::DirectiveEnd => None,
-            TokenKind::End => None,
+            _ => None,
         };
         match number {
             Some(number) => TokenKind::Constant(number),

@@ -4,14 +4,14 @@ use crate::token::TokenKind;
 use om_seq::Seq;
 
 /// A piece of the source: what it is, and the byte behind it.
-#[derive(Debug, Drop)]
+#[derive(Drop)]
 pub struct Piece {
     pub kind: PieceKind,
     pub end: usize,
 }
 
 /// What a piece is.
-#[derive(Debug, Drop)]
+#[derive(Drop)]
 pub enum PieceKind {
     /// A line end that no backslash and no comment takes.
     LineFeed,
@@ -24,7 +24,7 @@ pub enum PieceKind {
 }
 
 /// The beginning of a `#` line (C17 6.10).
-#[derive(Debug, Drop)]
+#[derive(Drop)]
 pub enum HashLine {
     /// All of an include.
     Include,

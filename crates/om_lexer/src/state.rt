@@ -7,7 +7,7 @@ use crate::token::Span;
 use om_seq::Seq;
 
 /// What a line is so far. A line feed in a comment or behind a backslash ends no line.
-#[derive(Debug, Drop)]
+#[derive(Drop)]
 pub enum LineState {
     /// White space.
     Fresh,
@@ -26,25 +26,13 @@ impl LineState {
     pub(crate) fn is_fresh(&self) -> bool
         ensures { result ≡ is_fresh self.now }
     {
-        match self {
-            LineState::Fresh => true,
-            LineState::Taken => false,
-            LineState::Defining(_) => false,
-            LineState::Ignored => false,
-            LineState::Directive(_) => false,
-        }
+        matches!(self, LineState::Fresh)
     }
 
     /// Whether the line is a pragma that is ignored.
     pub(crate) fn is_ignored(&self) -> bool
         ensures { result ≡ is_ignored self.now }
     {
-        match self {
-            LineState::Fresh => false,
-            LineState::Taken => false,
-            LineState::Defining(_) => false,
-            LineState::Ignored => true,
-            LineState::Directive(_) => false,
-        }
+        matches!(self, LineState::Ignored)
     }
 }
