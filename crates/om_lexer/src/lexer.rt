@@ -26,7 +26,7 @@ const SOURCE_LIMIT: usize = 1_048_576;
 /// and pragmas that are not OpenMP's. A name that is defined is the constant that it is defined as, with the name's place.
 /// A `#pragma omp` line is `DirectiveBegin`, its words and marks, and `DirectiveEnd`.
 ///
-/// A refusal is want of memory (S0), or the first fault of the source below byte 1,048,576: bytes that are no white space,
+/// A refusal is S0 where out of memory, or the first fault of the source below byte 1,048,576: bytes that are no white space,
 /// comment or token (S2), a `#` line that is no include, define or pragma of the accepted forms, or that defines a name as
 /// another number (S4, at its `#`), a constant above 2147483647 (S10), or the define of a name too many (S11, at its `#`).
 /// Where there is none, it is that the source has more than 1,048,576 bytes (S1, there).
@@ -36,11 +36,29 @@ pub fn lex(alloc: Global, source: &[u8]) -> Result<Vec<Token>, SourceFault>
 {
     let mut tokens = Vec::new(alloc);
     let mut macros = Macros::new(alloc);
+    match take_source(alloc, source, &mut tokens, &mut macros) {
+        Ok(()) => Ok(tokens),
+        Err(fault) => Err(fault),
+    }
+}
+
+/// Adds the tokens of a source, and notes what it defines. After a refusal both are of no use.
+fn take_source(
+    alloc: Global,
+    source: &[u8],
+    tokens: &mut Vec<Token>,
+    macros: &mut Macros,
+) -> Result<(), SourceFault>
+    requires tokens { tokens.old.items ≡ [] }
+    requires macros { macros.old ≡ [] }
+    ensures tokens { OnOk result (IsTokens source.now tokens.new.items) }
+    ensures refusal { IfErr result (IsRefusal source.now) }
+{
     let mut state = LineState::Fresh;
     let mut at = 0;
     let mut line = 1;
     while at < source.len() {
-        let piece = piece_at(alloc, source, at, &state, &macros)?;
+        let piece = piece_at(alloc, source, at, &state, macros)?;
         let end = piece.end;
         if source.len() > SOURCE_LIMIT && end >= SOURCE_LIMIT {
             return Err(SourceFault {
@@ -54,27 +72,28 @@ pub fn lex(alloc: Global, source: &[u8]) -> Result<Vec<Token>, SourceFault>
             line,
         };
         line = line_behind(source, span);
-        state = take_piece(
-            alloc,
-            source,
-            &mut tokens,
-            &mut macros,
-            state,
-            piece.kind,
-            span,
-        )?;
+        state = take_piece(alloc, source, tokens, macros, state, piece.kind, span)?;
         at = end;
     }
-    end_directive(&mut tokens, &state)?;
+    let end = Span {
+        start: at as u32,
+        end: at as u32,
+        line,
+    };
+    add_end(tokens, &state, end)?;
+    Ok(())
+}
+
+/// Adds the end of the source at its place, and before it that of the directive whose line ends here, if one does.
+fn add_end(tokens: &mut Vec<Token>, state: &LineState, span: Span) -> Result<(), AllocError>
+    ensures { OnOk result (tokens.new.items ≡ (tokens.old.items ++ directive_end state.now) ++ record { kind = TokenKind.End; span = span } ∷ []) }
+{
+    end_directive(tokens, state)?;
     tokens.push(Token {
         kind: TokenKind::End,
-        span: Span {
-            start: at as u32,
-            end: at as u32,
-            line,
-        },
+        span,
     })?;
-    Ok(tokens)
+    Ok(())
 }
 
 /// A source has one list of tokens or one fault, and not both.
@@ -121,7 +140,7 @@ fn take_piece(
             alloc,
             tokens,
             macros,
-            state,
+            &state,
             Token { kind, span },
             behind,
         ),
@@ -153,10 +172,7 @@ fn end_directive(tokens: &mut Vec<Token>, state: &LineState) -> Result<(), Alloc
             })?;
             Ok(())
         }
-        LineState::Fresh => Ok(()),
-        LineState::Taken => Ok(()),
-        LineState::Defining(_) => Ok(()),
-        LineState::Ignored => Ok(()),
+        _ => Ok(()),
     }
 }
 
@@ -165,34 +181,26 @@ fn take_token(
     alloc: Global,
     tokens: &mut Vec<Token>,
     macros: &mut Macros,
-    state: LineState,
+    state: &LineState,
     token: Token,
     behind: Span,
 ) -> Result<LineState, AllocError>
-    ensures tokens { OnOk result (tokens.new.items ≡ tokens.old.items ++ token_in state macros.old token.span token.kind) }
-    ensures macros { OnOk result (macros.new ≡ macros_behind_token state macros.old token.kind) }
-    ensures state { IfOk result (λ next. next ≡ state_behind_token state behind) }
+    ensures tokens { OnOk result (tokens.new.items ≡ tokens.old.items ++ token_in state.now macros.old token.span token.kind) }
+    ensures macros { OnOk result (macros.new ≡ macros_behind_token state.now macros.old token.kind) }
+    ensures state { IfOk result (λ next. next ≡ state_behind_token state.now behind) }
 {
     match state {
-        LineState::Fresh => {
-            add_token(tokens, macros, token)?;
-            Ok(LineState::Taken)
-        }
-        LineState::Taken => {
-            add_token(tokens, macros, token)?;
-            Ok(LineState::Taken)
-        }
         LineState::Defining(name) => {
             define(alloc, macros, name.as_slice(), &token.kind)?;
-            Ok(LineState::Taken)
-        }
-        LineState::Ignored => {
-            add_token(tokens, macros, token)?;
             Ok(LineState::Taken)
         }
         LineState::Directive(_) => {
             add_token(tokens, macros, token)?;
             Ok(LineState::Directive(behind))
+        }
+        _ => {
+            add_token(tokens, macros, token)?;
+            Ok(LineState::Taken)
         }
     }
 }
@@ -219,13 +227,7 @@ fn define(
 {
     match kind {
         TokenKind::Constant(number) => macros.define(alloc, name, *number),
-        TokenKind::Name(_) => Ok(()),
-        TokenKind::Keyword(_) => Ok(()),
-        TokenKind::Text(_) => Ok(()),
-        TokenKind::Punctuator(_) => Ok(()),
-        TokenKind::DirectiveBegin => Ok(()),
-        TokenKind::DirectiveEnd => Ok(()),
-        TokenKind::End => Ok(()),
+        _ => Ok(()),
     }
 }
 

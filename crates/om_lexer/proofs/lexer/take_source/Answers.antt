@@ -1,8 +1,8 @@
 use Rattle.std.proofs.Common.{arith, inr, refl}
 use Rattle.std.proofs.lemmas.Result.{err_from_is_err_and}
 use Rattle.om_lexer.proofs.Progress.{refused_there, too_long, read_more, below_limit}
-use Rattle.om_lexer.proofs.lexer.lex.Goals as goal
-use Rattle.om_lexer.proofs.lexer.lex.Goals.{else-source-gt-SOURCE_LIMIT-via-then-source-gt-SOURCE_LIMIT+else-end-ge-SOURCE_LIMIT, else-source-gt-SOURCE_LIMIT-via-else-source-gt-SOURCE_LIMIT}
+use Rattle.om_lexer.proofs.lexer.take_source.Goals as goal
+use Rattle.om_lexer.proofs.lexer.take_source.Goals.{else-source-gt-SOURCE_LIMIT-via-then-source-gt-SOURCE_LIMIT+else-end-ge-SOURCE_LIMIT, else-source-gt-SOURCE_LIMIT-via-else-source-gt-SOURCE_LIMIT}
 
 pub returns-in_err-piece-clause-refusal : goal.returns-in_err-piece-clause-refusal
 returns-in_err-piece-clause-refusal c =

@@ -1,7 +1,7 @@
 use Rattle.std.proofs.Common.{◌-◌, ◌<◌, ◌≤◌, length}
 use Rattle.om_lexer.specs.Sources.{source_limit}
 use Rattle.om_lexer.proofs.Progress.{IsReadTo}
-use Rattle.om_lexer.proofs.lexer.lex.Given as goal
+use Rattle.om_lexer.proofs.lexer.take_source.Given as goal
 
 abbrev pub invariant-loop-at : goal.invariant-loop-at
 invariant-loop-at l = record {
