@@ -205,11 +205,7 @@ impl<E> Clause<E> {
     {
         match self {
             Clause::Value(_, _, value) => Some(&value.expression),
-            Clause::Default(_, _) => None,
-            Clause::Data(_, _, _) => None,
-            Clause::Reduction(_, _) => None,
-            Clause::Schedule(_, _) => None,
-            Clause::Plain(_, _) => None,
+            _ => None,
         }
     }
 }

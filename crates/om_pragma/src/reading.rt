@@ -222,7 +222,7 @@ fn flush(
     }
 }
 
-/// The fault of want of memory.
+/// The fault of being out of memory.
 fn no_memory() -> SourceFault
     ensures { result ≡ no_memory }
 {

@@ -96,16 +96,7 @@ fn may_repeat(kind: ClauseKind) -> bool
         | ClauseKind::Private
         | ClauseKind::Firstprivate
         | ClauseKind::Reduction => true,
-        ClauseKind::NumThreads
-        | ClauseKind::Filter
-        | ClauseKind::Default
-        | ClauseKind::Schedule
-        | ClauseKind::Nowait
-        | ClauseKind::Update
-        | ClauseKind::Read
-        | ClauseKind::Write
-        | ClauseKind::SeqCst
-        | ClauseKind::Relaxed => false,
+        _ => false,
     }
 }
 
@@ -114,17 +105,9 @@ fn group_of(kind: ClauseKind) -> ClauseKind
     ensures { result ≡ group_of kind }
 {
     match kind {
-        ClauseKind::Update | ClauseKind::Read | ClauseKind::Write => ClauseKind::Update,
-        ClauseKind::SeqCst | ClauseKind::Relaxed => ClauseKind::SeqCst,
-        ClauseKind::NumThreads => ClauseKind::NumThreads,
-        ClauseKind::Filter => ClauseKind::Filter,
-        ClauseKind::Default => ClauseKind::Default,
-        ClauseKind::Shared => ClauseKind::Shared,
-        ClauseKind::Private => ClauseKind::Private,
-        ClauseKind::Firstprivate => ClauseKind::Firstprivate,
-        ClauseKind::Reduction => ClauseKind::Reduction,
-        ClauseKind::Schedule => ClauseKind::Schedule,
-        ClauseKind::Nowait => ClauseKind::Nowait,
+        ClauseKind::Read | ClauseKind::Write => ClauseKind::Update,
+        ClauseKind::Relaxed => ClauseKind::SeqCst,
+        other => other,
     }
 }
 
@@ -144,10 +127,11 @@ fn excludes(earlier: ClauseKind, later: ClauseKind) -> bool
 }
 
 /// Whether a directive has a clause.
+#[tactic(auto, unfolding(crate::specs::Table::same_clause))]
 fn has_clause(name: &DirectiveName, kind: ClauseKind) -> bool
     ensures { result ≡ list_any (λ k. same_clause k kind) (clauses_of name.now) }
 {
-    clauses_of(name).iter().any(|k| same_clause(*k, kind))
+    clauses_of(name).contains(&kind)
 }
 
 /// Whether one of these clauses leaves no room for another.
