@@ -12,7 +12,7 @@ use om_parser::{
 };
 
 /// Whether a loop's variable grows or shrinks.
-#[derive(Clone, Copy, Debug)]
+#[derive(Clone, Copy)]
 pub enum Direction {
     Up,
     Down,

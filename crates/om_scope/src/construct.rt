@@ -10,7 +10,7 @@ use om_parser::Expression;
 use om_pragma::{Directive, DirectiveName};
 
 /// Whether worksharing constructs and barriers may stand in a construct.
-#[derive(Clone, Copy, Debug)]
+#[derive(Clone, Copy)]
 pub enum Inside {
     /// They may.
     Opens,
@@ -21,7 +21,7 @@ pub enum Inside {
 }
 
 /// What a directive is as a construct.
-#[derive(Clone, Copy, Debug)]
+#[derive(Clone, Copy)]
 pub struct Traits {
     /// How it shares the variables round it.
     pub region: RegionKind,

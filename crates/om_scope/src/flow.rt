@@ -1,7 +1,7 @@
 //! What the statements at a place may do.
 
 /// The statements round a place, as jumps and constructs see them.
-#[derive(Clone, Copy, Debug)]
+#[derive(Clone, Copy)]
 pub struct Flow {
     /// Whether a `break` ends a loop of the same construct.
     pub may_break: bool,

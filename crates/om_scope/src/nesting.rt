@@ -17,7 +17,7 @@ pub struct Construct {
 }
 
 /// Whose a function's variable is, inside of constructs that stand where it is declared.
-#[derive(Clone, Copy, Debug)]
+#[derive(Clone, Copy)]
 pub enum Holder {
     /// The thread's that declares it: no construct changes that.
     Own,

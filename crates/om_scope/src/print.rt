@@ -10,7 +10,7 @@ use om_parser::Expression;
 pub const PRINTED_LIMIT: usize = 16;
 
 /// What of a format is still to be read.
-#[derive(Clone, Copy, Debug)]
+#[derive(Clone, Copy)]
 pub enum Reading {
     /// Text or a conversion, with so many values left.
     Text(usize),

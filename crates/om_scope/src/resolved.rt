@@ -6,7 +6,7 @@ use om_pragma::{AtomicKind, ReductionOperator, ScheduleKind, ValueClause};
 use om_seq::Seq;
 
 /// A variable of the program.
-#[derive(Clone, Copy, Debug, PartialEq, Eq)]
+#[derive(Clone, Copy, PartialEq, Eq)]
 pub enum Variable {
     /// The global of this number. Globals are numbered from 0 in the order of their declarations.
     Global(u32),
@@ -15,7 +15,7 @@ pub enum Variable {
 }
 
 /// A global variable (C17 6.9.2).
-#[derive(Debug, Drop)]
+#[derive(Drop)]
 pub struct GlobalVariable {
     /// Its letters, digits and `_`.
     pub name: Seq<u8>,
@@ -28,7 +28,7 @@ pub struct GlobalVariable {
 }
 
 /// A variable of a function: a parameter, a declared one, or a copy that a construct makes.
-#[derive(Debug, Drop)]
+#[derive(Drop)]
 pub struct LocalVariable {
     /// Its letters, digits and `_`.
     pub name: Seq<u8>,
@@ -37,7 +37,7 @@ pub struct LocalVariable {
 }
 
 /// An operator before its operand (C17 6.5.3.3).
-#[derive(Clone, Copy, Debug, PartialEq, Eq)]
+#[derive(Clone, Copy, PartialEq, Eq)]
 pub enum UnaryOperator {
     /// `+`, whose value is that of its operand.
     Plus,
@@ -48,7 +48,7 @@ pub enum UnaryOperator {
 }
 
 /// An expression (C17 6.5). Its parentheses are gone.
-#[derive(Debug, Drop)]
+#[derive(Drop)]
 pub enum ResolvedExpression {
     Constant(i32),
     /// The value of a variable.
@@ -78,7 +78,7 @@ pub enum ResolvedExpression {
 }
 
 /// A declared variable of a function (C17 6.7).
-#[derive(Debug, Drop)]
+#[derive(Drop)]
 pub struct ResolvedDeclarator {
     pub variable: LocalVariable,
     /// How many elements it has, where it is an array.
@@ -88,7 +88,7 @@ pub struct ResolvedDeclarator {
 }
 
 /// How the copy of a variable begins, and what becomes of it (OpenMP API 5.2, sections 5.4 and 5.5).
-#[derive(Clone, Copy, Debug, PartialEq, Eq)]
+#[derive(Clone, Copy, PartialEq, Eq)]
 pub enum CopyKind {
     /// It begins unset.
     Private,
@@ -99,7 +99,7 @@ pub enum CopyKind {
 }
 
 /// What a clause says, in the order of the text: one of these for each listed variable.
-#[derive(Debug, Drop)]
+#[derive(Drop)]
 pub enum ResolvedClause {
     /// The value of `num_threads` or `filter`.
     Value(ValueClause, ResolvedExpression),
@@ -110,7 +110,7 @@ pub enum ResolvedClause {
 }
 
 /// How a region takes a variable from outside that none of its clauses copies.
-#[derive(Clone, Copy, Debug, PartialEq, Eq)]
+#[derive(Clone, Copy, PartialEq, Eq)]
 pub enum Taking {
     /// Inside and outside it is one variable.
     Shared,
@@ -119,7 +119,7 @@ pub enum Taking {
 }
 
 /// A variable of the function that a region uses and that is declared outside of it.
-#[derive(Clone, Copy, Debug, PartialEq, Eq)]
+#[derive(Clone, Copy)]
 pub struct Capture {
     /// Where the variable is declared: see [`Variable::Local`].
     pub variable: u32,
@@ -127,7 +127,7 @@ pub struct Capture {
 }
 
 /// What gives the iterations of a loop to threads (OpenMP API 5.2, section 11.5.3).
-#[derive(Clone, Copy, Debug, PartialEq, Eq)]
+#[derive(Clone, Copy)]
 pub struct ResolvedSchedule {
     pub kind: ScheduleKind,
     /// How many iterations a chunk has, at least 1, where a clause says so.
@@ -135,7 +135,7 @@ pub struct ResolvedSchedule {
 }
 
 /// A loop in canonical form (OpenMP API 5.2, section 4.4.1).
-#[derive(Debug, Drop)]
+#[derive(Drop)]
 pub struct ResolvedLoop {
     /// The span of its `for`.
     pub at: Span,
@@ -153,7 +153,7 @@ pub struct ResolvedLoop {
 }
 
 /// What a `for` begins with (C17 6.8.5.3).
-#[derive(Debug, Drop)]
+#[derive(Drop)]
 pub enum ResolvedStart {
     Nothing,
     Expression(ResolvedExpression),
@@ -161,7 +161,7 @@ pub enum ResolvedStart {
 }
 
 /// A construct that makes no team and no task, and is for no loop.
-#[derive(Debug, Drop)]
+#[derive(Drop)]
 pub enum ConstructKind {
     /// `single`, and whether it is `nowait`.
     Single(bool),
@@ -174,7 +174,7 @@ pub enum ConstructKind {
 }
 
 /// A directive that stands alone.
-#[derive(Debug, Drop)]
+#[derive(Drop)]
 pub enum StandAlone {
     Barrier,
     Taskwait,
@@ -184,7 +184,7 @@ pub enum StandAlone {
 }
 
 /// A statement (C17 6.8), with the span of its first token.
-#[derive(Debug, Drop)]
+#[derive(Drop)]
 pub enum ResolvedStatement {
     Declaration(Span, Vec<ResolvedDeclarator>),
     Block(Span, Vec<ResolvedStatement>),
@@ -220,7 +220,7 @@ pub enum ResolvedStatement {
 }
 
 /// A function (C17 6.9.1).
-#[derive(Debug, Drop)]
+#[derive(Drop)]
 pub struct ResolvedFunction {
     pub name: Seq<u8>,
     /// The byte of the source where its name stands.
@@ -234,7 +234,7 @@ pub struct ResolvedFunction {
 }
 
 /// A whole source, resolved.
-#[derive(Debug, Drop)]
+#[derive(Drop)]
 pub struct Resolved {
     /// The globals, in the order of their numbers.
     pub globals: Seq<GlobalVariable>,

@@ -19,14 +19,14 @@ use std::marker::Model;
 use std::mem;
 
 /// Whether a variable is one `int` or several.
-#[derive(Clone, Copy, Debug)]
+#[derive(Clone, Copy)]
 pub enum Shape {
     Scalar,
     Array,
 }
 
 /// What a call of a function needs and gives.
-#[derive(Clone, Copy, Debug)]
+#[derive(Clone, Copy)]
 pub struct Signature {
     /// Whether it returns an `int`; else nothing.
     pub returns: bool,
@@ -35,7 +35,7 @@ pub struct Signature {
 }
 
 /// What a name is declared as.
-#[derive(Clone, Copy, Debug)]
+#[derive(Clone, Copy)]
 pub enum Meaning {
     /// A global, a parameter or a variable of a function.
     Variable(Variable, Shape),
@@ -45,7 +45,7 @@ pub enum Meaning {
 }
 
 /// How a construct shares the variables round it.
-#[derive(Clone, Copy, Debug, PartialEq, Eq)]
+#[derive(Clone, Copy)]
 pub enum RegionKind {
     /// `parallel`.
     Parallel,
