@@ -1,5 +1,5 @@
 -- Parts in a row, as a loop goes through them.
-use Rattle.std.proofs.Common.{◌≡◌, List, [], ◌∷◌, ◌++◌, append_assoc, append-nil, Option, None, Some, fold, option_map, refl, sym, ap, ◌∙◌}
+use Rattle.std.proofs.Common.{◌≡◌, List, [], ◌∷◌, ◌++◌, append_assoc, Option, None, Some, fold, option_map, refl, sym, ap, ◌∙◌}
 use Rattle.om_lexer.specs.declared.fault.SourceFault.{SourceFault}
 use Rattle.om_scope.specs.Faults.{breaches_along, first_of}
 use Rattle.om_scope.specs.Outcomes.{Refuses}
@@ -35,9 +35,6 @@ pub nothing_made : {Y : Type 0} (left : Option (List Y)) → made_and [] left �
 nothing_made None = refl
 nothing_made (Some left) = refl
 
-pub nothing_left : {Y : Type 0} (made : List Y) → made_and made (Some []) ≡ Some made
-nothing_left made = ap Some (append-nil made)
-
 -- one more
 one_made : {Y : Type 0} (made : List Y) (y : Y) (rest : Option (List Y))
     → made_and made (rest >>= λ ys. Some (y ∷ ys)) ≡ made_and (made ++ y ∷ []) rest
@@ -57,22 +54,18 @@ more_made made grown (Some front) rest e =
     let same : made ++ front ≡ grown = cc in
     front_made made front rest ∙ ap (λ done. made_and done rest) same
 
-module _ {S X Y : Type 0} (after : S → X → S) where
-  pub each_along-step : (f : S → X → Option Y) (state : S) (x : X) (left : List X) (made : List Y) (y : Y) → f state x ≡ Some y
-      → made_and made (each_along f after state (x ∷ left)) ≡ made_and (made ++ y ∷ []) (each_along f after (after state x) left)
-  each_along-step f state x left made y found =
-      ap (λ one. made_and made (one >>= λ y. each_along f after (after state x) left >>= λ ys. Some (y ∷ ys))) found
-      ∙ one_made made y (each_along f after (after state x) left)
+-- one more, where there is one
+next_made : {Y : Type 0} (made grown : List Y) (next : Option Y) (rest : Option (List Y)) → option_map (λ y. made ++ y ∷ []) next ≡ Some grown
+    → made_and made (next >>= λ y. rest >>= λ ys. Some (y ∷ ys)) ≡ made_and grown rest
+next_made made grown None rest e = cc
+next_made made grown (Some y) rest e =
+    let same : made ++ y ∷ [] ≡ grown = cc in
+    one_made made y rest ∙ ap (λ done. made_and done rest) same
 
-  -- the first, and what the others give behind it
-  pub each_along-first : (f : S → X → Option Y) (state behind : S) (x : X) (left : List X) (y : Y) (made all : List Y) → f state x ≡ Some y → behind ≡ after state x
-      → made ≡ y ∷ [] → made_and made (each_along f after behind left) ≡ Some all → each_along f after state (x ∷ left) ≡ Some all
-  each_along-first f state behind x left y made all found here one rest =
-      sym (nothing_made (each_along f after state (x ∷ left)))
-      ∙ each_along-step f state x left [] y found
-      ∙ ap (λ scopes. made_and (y ∷ []) (each_along f after scopes left)) (sym here)
-      ∙ ap (λ now. made_and now (each_along f after behind left)) (sym one)
-      ∙ rest
+module _ {S X Y : Type 0} (after : S → X → S) where
+  pub each_along-step : (f : S → X → Option Y) (state : S) (x : X) (left : List X) (made grown : List Y) → option_map (λ y. made ++ y ∷ []) (f state x) ≡ Some grown
+      → made_and made (each_along f after state (x ∷ left)) ≡ made_and grown (each_along f after (after state x) left)
+  each_along-step f state x left made grown found = next_made made grown (f state x) (each_along f after (after state x) left) found
 
   pub all_along-step : (f : S → X → Option (List Y)) (state : S) (x : X) (left : List X) (made grown : List Y) → made_and made (f state x) ≡ Some grown
       → made_and made (all_along f after state (x ∷ left)) ≡ made_and grown (all_along f after (after state x) left)

@@ -161,6 +161,10 @@ asks = record { returns = true; parameters = 0 }
 abbrev pub predeclared : List (List ℕ)
 predeclared = codes "printf" ∷ codes "omp_get_thread_num" ∷ codes "omp_get_num_threads" ∷ []
 
+-- no name is declared yet, in a source that defines these functions
+abbrev pub nothing_declared : List (List ℕ) → Scopes
+nothing_declared definitions = record { inner = []; outer = []; globals = 0; cells = 0; definitions = definitions; defined = [] }
+
 -- what is in scope where a source begins that defines these functions besides
 abbrev pub file_scope : List (List ℕ) → Scopes
 file_scope definitions = record {

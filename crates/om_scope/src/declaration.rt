@@ -1,6 +1,6 @@
 //! Declarations in functions: their rules, and the variables that they declare.
 
-ghost use Rattle.std.specs.Prelude.{◌≡◌, ◌++◌, false, OnOk, IfOk, Some, option_map, map};
+ghost use Rattle.std.specs.Prelude.{◌≡◌, ◌++◌, [], ◌∷◌, false, OnOk, IfOk, Some, option_map, map};
 ghost use Rattle.om_parser.specs.View.{view_declaration, view_declarator, view_further, view_initializer};
 ghost use Rattle.om_scope.specs.Checks.{Checks, ChecksExactly};
 ghost use Rattle.om_scope.specs.Scopes.{after_local, after_locals, behind_commas, cells_of, declarators_of, shape_of};
@@ -108,6 +108,24 @@ fn resolve_initializer(
     }
 }
 
+/// Declares the name of a local variable: S8, S9.
+#[tactic(auto, using(crate::proofs::Firsts::first_of_left))]
+fn declare_name(
+    alloc: Global,
+    symbols: &mut Symbols,
+    declarator: &Declarator,
+) -> Result<(), SourceFault>
+    ensures checked { let tree = view_declarator declarator.now in
+        Checks result (redeclared_breaches symbols.old tree.name ++ array_size_breaches tree) }
+    ensures in_scope { OnOk result (symbols.new ≡ after_local symbols.old (view_declarator declarator.now)) }
+{
+    check_new(symbols, &declarator.name)?;
+    check_size(declarator)?;
+    let shape = shape_of(&declarator.array);
+    symbols.declare_local(alloc, &declarator.name, shape)?;
+    Ok(())
+}
+
 /// Declares one local variable.
 #[tactic(auto, using(crate::proofs::Firsts::first_of_left), unfolding(crate::specs::StatementRules::local_breaches, crate::specs::StatementResolution::resolved_declarator))]
 fn resolve_declarator(
@@ -119,16 +137,31 @@ fn resolve_declarator(
     ensures in_scope { OnOk result (symbols.new ≡ after_local symbols.old (view_declarator declarator.now)) }
     ensures resolved { IfOk result (λ found. resolved_declarator symbols.old (view_declarator declarator.now) ≡ Some (view_resolved_declarator found)) }
 {
-    check_new(symbols, &declarator.name)?;
-    check_size(declarator)?;
-    let shape = shape_of(&declarator.array);
-    symbols.declare_local(alloc, &declarator.name, shape)?;
+    declare_name(alloc, symbols, declarator)?;
+    let variable = local_of(alloc, &declarator.name)?;
     let initial = resolve_initializer(alloc, symbols, &declarator.initializer)?;
     Ok(ResolvedDeclarator {
-        variable: local_of(alloc, &declarator.name)?,
+        variable,
         length: length_of(&declarator.array),
         initial,
     })
+}
+
+/// Declares one local variable behind those before it.
+fn add_local(
+    alloc: Global,
+    symbols: &mut Symbols,
+    declared: &mut Vec<ResolvedDeclarator>,
+    declarator: &Declarator,
+) -> Result<(), SourceFault>
+    ensures checked { Checks result (local_breaches symbols.old (view_declarator declarator.now)) }
+    ensures in_scope { OnOk result (symbols.new ≡ after_local symbols.old (view_declarator declarator.now)) }
+    ensures resolved { let before = map view_resolved_declarator declared.old.items in
+        let after = map view_resolved_declarator declared.new.items in
+        OnOk result (option_map (λ own. before ++ own ∷ []) (resolved_declarator symbols.old (view_declarator declarator.now)) ≡ Some after) }
+{
+    declared.push(resolve_declarator(alloc, symbols, declarator)?)?;
+    Ok(())
 }
 
 /// Declares the local variables behind the first of a declaration.
@@ -145,13 +178,30 @@ fn resolve_further_locals(
         OnOk result (option_map (λ own. before ++ own) (resolved_declarators symbols.old (behind_commas (map view_further rest.now))) ≡ Some after) }
 {
     for further in rest {
-        declared.push(resolve_declarator(alloc, symbols, &further.1)?)?;
+        add_local(alloc, symbols, declared, &further.1)?;
     }
     Ok(())
 }
 
 /// Declares the variables of a declaration in a function.
 #[tactic(auto, using(crate::proofs::Firsts::first_of_left))]
+fn add_locals(
+    alloc: Global,
+    symbols: &mut Symbols,
+    declared: &mut Vec<ResolvedDeclarator>,
+    declaration: &Declaration,
+) -> Result<(), SourceFault>
+    ensures checked { Checks result (locals_breaches symbols.old (declarators_of (view_declaration declaration.now))) }
+    ensures in_scope { OnOk result (symbols.new ≡ after_locals symbols.old (declarators_of (view_declaration declaration.now))) }
+    ensures resolved { let before = map view_resolved_declarator declared.old.items in
+        let after = map view_resolved_declarator declared.new.items in
+        OnOk result (option_map (λ own. before ++ own) (resolved_declarators symbols.old (declarators_of (view_declaration declaration.now))) ≡ Some after) }
+{
+    add_local(alloc, symbols, declared, &declaration.first)?;
+    resolve_further_locals(alloc, symbols, declared, declaration.rest.as_slice())
+}
+
+/// The variables of a declaration in a function, which it declares.
 pub fn resolve_locals(
     alloc: Global,
     symbols: &mut Symbols,
@@ -162,7 +212,6 @@ pub fn resolve_locals(
     ensures resolved { IfOk result (λ found. resolved_declarators symbols.old (declarators_of (view_declaration declaration.now)) ≡ Some (map view_resolved_declarator found.items)) }
 {
     let mut declared = Vec::new(alloc);
-    declared.push(resolve_declarator(alloc, symbols, &declaration.first)?)?;
-    resolve_further_locals(alloc, symbols, &mut declared, declaration.rest.as_slice())?;
+    add_locals(alloc, symbols, &mut declared, declaration)?;
     Ok(declared)
 }

@@ -187,20 +187,19 @@ fn declare_further_parameters(
 fn declare_parameters(
     alloc: Global,
     symbols: &mut Symbols,
+    found: &mut Vec<LocalVariable>,
     parameters: &Parameters,
-) -> Result<Vec<LocalVariable>, SourceFault>
+) -> Result<(), SourceFault>
     ensures checked { Checks result (parameters_breaches symbols.old (parameters_of (view_parameters parameters.now))) }
     ensures in_scope { OnOk result (symbols.new ≡ after_parameters symbols.old (parameters_of (view_parameters parameters.now))) }
-    ensures resolved { IfOk result (λ found. found.items ≡ flat_map parameter_variable (parameters_of (view_parameters parameters.now))) }
+    ensures resolved { OnOk result (found.new.items ≡ found.old.items ++ flat_map parameter_variable (parameters_of (view_parameters parameters.now))) }
 {
-    let mut found = Vec::new(alloc);
     match parameters {
-        Parameters::Nothing => Ok(found),
-        Parameters::Void(_) => Ok(found),
+        Parameters::Nothing => Ok(()),
+        Parameters::Void(_) => Ok(()),
         Parameters::Listed(first, rest) => {
-            declare_parameter(alloc, symbols, &mut found, 0, first)?;
-            declare_further_parameters(alloc, symbols, &mut found, rest.as_slice())?;
-            Ok(found)
+            declare_parameter(alloc, symbols, found, 0, first)?;
+            declare_further_parameters(alloc, symbols, found, rest.as_slice())
         }
     }
 }
@@ -218,7 +217,7 @@ pub fn check_prototype(
     check_head(symbols, head)?;
     declare_head(alloc, symbols, head)?;
     symbols.enter(alloc)?;
-    declare_parameters(alloc, symbols, &head.parameters)?;
+    declare_parameters(alloc, symbols, &mut Vec::new(alloc), &head.parameters)?;
     symbols.leave();
     Ok(())
 }
@@ -249,24 +248,41 @@ fn flow_of(head: &FunctionHead) -> Flow
     }
 }
 
+/// Begins the definition of a function: its name is declared and defined.
+#[tactic(auto, using(crate::proofs::Firsts::first_of_left))]
+fn begin_definition(
+    alloc: Global,
+    symbols: &mut Symbols,
+    head: &FunctionHead,
+) -> Result<(), SourceFault>
+    ensures checked { Checks result (definition_breaches symbols.old (view_head head.now)) }
+    ensures in_scope { OnOk result (symbols.new ≡ after_function symbols.old (view_head head.now)) }
+{
+    check_definition(symbols, head)?;
+    declare_head(alloc, symbols, head)?;
+    symbols.define(alloc, head.name.text.as_slice())?;
+    Ok(())
+}
+
 /// The parameters and the statements of a function, in a scope of their own.
 #[tactic(auto, using(crate::proofs::Firsts::first_of_left))]
 fn resolve_inside(
     alloc: Global,
     symbols: &mut Symbols,
+    parameters: &mut Vec<LocalVariable>,
     function: &Function,
-) -> Result<(Vec<LocalVariable>, Vec<ResolvedStatement>), SourceFault>
+) -> Result<Vec<ResolvedStatement>, SourceFault>
     ensures checked { Checks result (body_breaches symbols.old (view_function function.now)) }
     ensures in_scope { OnOk result (symbols.new ≡ symbols.old) }
-    ensures parameters { IfOk result (λ found. found.0.items ≡ flat_map parameter_variable (parameters_of (view_function function.now).head.parameters)) }
-    ensures resolved { IfOk result (λ found. resolved_inside symbols.old (view_function function.now) ≡ Some (resolved.statements (map view_resolved_statement found.1.items))) }
+    ensures parameters { OnOk result (parameters.new.items ≡ parameters.old.items ++ flat_map parameter_variable (parameters_of (view_function function.now).head.parameters)) }
+    ensures resolved { IfOk result (λ body. resolved_inside symbols.old (view_function function.now) ≡ Some (resolved.statements (map view_resolved_statement body.items))) }
 {
     symbols.enter(alloc)?;
-    let parameters = declare_parameters(alloc, symbols, &function.head.parameters)?;
+    declare_parameters(alloc, symbols, parameters, &function.head.parameters)?;
     let flow = flow_of(&function.head);
     let body = resolve_statements(alloc, symbols, flow, function.body.items.as_slice())?;
     symbols.leave();
-    Ok((parameters, body))
+    Ok(body)
 }
 
 /// The definition of a function.
@@ -280,12 +296,12 @@ pub fn resolve_function(
     ensures in_scope { OnOk result (symbols.new ≡ after_function symbols.old (view_function function.now).head) }
     ensures resolved { IfOk result (λ found. resolved_function symbols.old (view_function function.now) ≡ Some (view_resolved_function found)) }
 {
-    check_definition(symbols, &function.head)?;
-    declare_head(alloc, symbols, &function.head)?;
-    symbols.define(alloc, function.head.name.text.as_slice())?;
-    let (parameters, body) = resolve_inside(alloc, symbols, function)?;
+    begin_definition(alloc, symbols, &function.head)?;
+    let name = copy_of(alloc, &function.head.name)?;
+    let mut parameters = Vec::new(alloc);
+    let body = resolve_inside(alloc, symbols, &mut parameters, function)?;
     Ok(ResolvedFunction {
-        name: copy_of(alloc, &function.head.name)?,
+        name,
         name_at: function.head.name.span.start,
         first: head_first(&function.head),
         parameters: Seq::of(parameters),

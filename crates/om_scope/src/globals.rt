@@ -5,6 +5,7 @@ ghost use Rattle.om_parser.specs.View.{view_declaration, view_declarator, view_f
 ghost use Rattle.om_scope.specs.Checks.{Checks, ChecksExactly};
 ghost use Rattle.om_scope.specs.Constants.{signed_value};
 ghost use Rattle.om_scope.specs.Scopes.{after_global, after_globals, behind_commas, cells_of, declarators_of, is_declared};
+ghost use Rattle.om_scope.specs.StatementResolution.{length_of};
 ghost use Rattle.om_scope.specs.UnitResolution.{global_of, initial_of};
 ghost use Rattle.om_scope.specs.UnitRules.{global_breaches, global_name_breaches, globals_breaches, initial_breaches, signed_breaches};
 
@@ -17,7 +18,7 @@ use crate::resolved::GlobalVariable;
 use crate::symbols::Symbols;
 use om_lexer::{FaultCode, SourceFault, Span};
 use om_parser::{Declaration, Declarator, Initializer, Number};
-use std::alloc::Global;
+use std::alloc::{AllocError, Global};
 
 /// How many cells the globals of a source may have. A scalar has one.
 pub const GLOBAL_CELL_LIMIT: u32 = 65_536;
@@ -68,6 +69,44 @@ fn check_global_name(symbols: &Symbols, declarator: &Declarator) -> Result<(), S
     refuse_if(u64::from(GLOBAL_CELL_LIMIT) < cells, FaultCode::TooMany, at)
 }
 
+/// Declares the name of a global: S8, S9, S11.
+#[tactic(auto, using(crate::proofs::Firsts::first_of_left))]
+fn declare_global_name(
+    alloc: Global,
+    symbols: &mut Symbols,
+    declarator: &Declarator,
+) -> Result<(), SourceFault>
+    ensures checked { Checks result (global_name_breaches symbols.old (view_declarator declarator.now)) }
+    ensures in_scope { OnOk result (symbols.new ≡ after_global symbols.old (view_declarator declarator.now)) }
+{
+    check_global_name(symbols, declarator)?;
+    let shape = shape_of(&declarator.array);
+    let cells = cells_of(&declarator.array);
+    symbols.declare_global(alloc, declarator.name.text.as_slice(), shape, cells)?;
+    Ok(())
+}
+
+/// Adds a global that begins as this.
+fn add_global(
+    alloc: Global,
+    globals: &mut Vec<GlobalVariable>,
+    declarator: &Declarator,
+    initial: i32,
+) -> Result<(), AllocError>
+    ensures { let tree = view_declarator declarator.now in
+        let global = record { name = tree.name.text; at = tree.name.span.start; length = length_of tree.array; initial = initial } in
+        OnOk result (globals.new.items ≡ globals.old.items ++ global ∷ []) }
+{
+    let name = copy_of(alloc, &declarator.name)?;
+    globals.push(GlobalVariable {
+        name,
+        at: declarator.name.span.start,
+        length: length_of(&declarator.array),
+        initial,
+    })?;
+    Ok(())
+}
+
 /// Declares one global.
 #[tactic(auto, using(crate::proofs::Firsts::first_of_left))]
 fn declare_global(
@@ -80,17 +119,9 @@ fn declare_global(
     ensures in_scope { OnOk result (symbols.new ≡ after_global symbols.old (view_declarator declarator.now)) }
     ensures declared { OnOk result (globals.new.items ≡ globals.old.items ++ global_of (view_declarator declarator.now) ∷ []) }
 {
-    check_global_name(symbols, declarator)?;
+    declare_global_name(alloc, symbols, declarator)?;
     let initial = initial_of(&declarator.initializer)?;
-    let shape = shape_of(&declarator.array);
-    let cells = cells_of(&declarator.array);
-    symbols.declare_global(alloc, declarator.name.text.as_slice(), shape, cells)?;
-    globals.push(GlobalVariable {
-        name: copy_of(alloc, &declarator.name)?,
-        at: declarator.name.span.start,
-        length: length_of(&declarator.array),
-        initial,
-    })?;
+    add_global(alloc, globals, declarator, initial)?;
     Ok(())
 }
 

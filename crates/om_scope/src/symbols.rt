@@ -5,7 +5,7 @@ ghost use Rattle.std.specs.List.{list_any};
 ghost use Rattle.std.specs.Map.{lookup};
 ghost use Rattle.std.specs.Str.{bytes_eq};
 ghost use Rattle.om_scope.specs.Sharing.{declares, is_copied, is_parallel, is_unlisted};
-ghost use Rattle.om_scope.specs.Scopes.{scope_of, predeclared, file_scope, inside, within, outside, meaning_of, meaning_here, is_declared, with_bindings, with_local, with_global, with_function, with_defined};
+ghost use Rattle.om_scope.specs.Scopes.{scope_of, predeclared, nothing_declared, file_scope, inside, within, outside, meaning_of, meaning_here, is_declared, with_bindings, with_local, with_global, with_function, with_defined};
 
 use crate::names::Names;
 use crate::nesting::{Construct, holder_since, is_copy, is_unlisted_since, leave_construct};
@@ -106,15 +106,14 @@ impl Model for Symbols {
     ghost invariant = { λ s. (s.globals ≤ s.cells) × AreNested (reverse s.constructs.items) (length s.outer.items) × Shows s.sightings (scope_of s.inner.entries ∷ scopes_of s.outer.items) };
 }
 
-/// The functions that are declared before any source.
-pub fn predeclared(alloc: Global) -> Result<Names, AllocError>
-    ensures { IfOk result (λ names. names ≡ predeclared) }
+/// Adds the functions that are declared before any source to no names.
+pub fn add_predeclared(alloc: Global, names: &mut Names) -> Result<(), AllocError>
+    requires is_empty { names.old ≡ [] }
+    ensures { OnOk result (names.new ≡ predeclared) }
 {
-    let mut names = Names::new(alloc);
     names.add(alloc, b"printf")?;
     names.add(alloc, b"omp_get_thread_num")?;
-    names.add(alloc, b"omp_get_num_threads")?;
-    Ok(names)
+    names.add(alloc, b"omp_get_num_threads")
 }
 
 /// Puts a new name into a table, as the last. Without memory the table stays.
@@ -178,10 +177,6 @@ impl Symbols {
     pub fn new(alloc: Global, definitions: Names) -> Result<Symbols, AllocError>
         ensures { IfOk result (λ symbols. symbols ≡ file_scope definitions) }
     {
-        let asks = Meaning::Function(Signature {
-            returns: true,
-            parameters: 0,
-        });
         let mut symbols = Symbols {
             inner: IndexMap::new(alloc),
             outer: Vec::new(alloc),
@@ -190,12 +185,25 @@ impl Symbols {
             globals: 0,
             cells: 0,
             definitions,
-            defined: predeclared(alloc)?,
+            defined: Names::new(alloc),
         };
-        symbols.declare(alloc, b"printf", Meaning::Printf)?;
-        symbols.declare(alloc, b"omp_get_thread_num", asks)?;
-        symbols.declare(alloc, b"omp_get_num_threads", asks)?;
+        symbols.begin_file(alloc)?;
         Ok(symbols)
+    }
+
+    /// Declares what is there before any source.
+    fn begin_file(&mut self, alloc: Global) -> Result<(), AllocError>
+        requires is_empty { self.old ≡ nothing_declared self.old.definitions }
+        ensures { OnOk result (self.new ≡ file_scope self.old.definitions) }
+    {
+        let asks = Meaning::Function(Signature {
+            returns: true,
+            parameters: 0,
+        });
+        add_predeclared(alloc, &mut self.defined)?;
+        self.declare(alloc, b"printf", Meaning::Printf)?;
+        self.declare(alloc, b"omp_get_thread_num", asks)?;
+        self.declare(alloc, b"omp_get_num_threads", asks)
     }
 
     /// Declares a name. Without memory nothing changes.

@@ -1,12 +1,13 @@
 //! A whole source.
 
 ghost use Rattle.std.specs.Prelude.{◌≡◌, ◌≢◌, ◌++◌, [], OnOk, IfOk, IfErr, Some, map, option_map};
-ghost use Rattle.std.specs.List.{list_any};
+ghost use Rattle.std.specs.List.{flat_map, list_any};
 ghost use Rattle.om_lexer.specs.Faults.{no_memory};
 ghost use Rattle.om_parser.specs.View.{view_item, view_unit};
 ghost use Rattle.om_scope.specs.Breaches.{breaches_of, is_main, main_breaches};
 ghost use Rattle.om_scope.specs.Checks.{Checks, ChecksExactly};
 ghost use Rattle.om_scope.specs.Faults.{first_of};
+ghost use Rattle.om_scope.specs.Perhaps.{all_along};
 ghost use Rattle.om_scope.specs.ResolvedView.{view_resolved, view_resolved_function};
 ghost use Rattle.om_scope.specs.Scopes.{after_definition, after_item, definitions_of, file_scope};
 ghost use Rattle.om_scope.specs.UnitResolution.{globals_of, item_functions, items_resolution, resolution_of};
@@ -17,22 +18,11 @@ use crate::function::{check_prototype, resolve_function};
 use crate::globals::declare_globals;
 use crate::names::Names;
 use crate::resolved::{GlobalVariable, Resolved, ResolvedFunction};
-use crate::symbols::{Symbols, predeclared};
+use crate::symbols::{Symbols, add_predeclared};
 use om_lexer::{FaultCode, SourceFault};
 use om_parser::{Item, Unit};
 use om_seq::Seq;
 use std::alloc::{AllocError, Global};
-
-/// The functions that a source defines, and those that are there before it.
-fn definitions_of(alloc: Global, items: &[Item]) -> Result<Names, AllocError>
-    ensures { IfOk result (λ names. names ≡ definitions_of (map view_item items.now)) }
-{
-    let mut names = predeclared(alloc)?;
-    for item in items {
-        add_definition(alloc, &mut names, item)?;
-    }
-    Ok(names)
-}
 
 /// Adds the function that an item defines.
 fn add_definition(alloc: Global, names: &mut Names, item: &Item) -> Result<(), AllocError>
@@ -43,6 +33,27 @@ fn add_definition(alloc: Global, names: &mut Names, item: &Item) -> Result<(), A
         Item::Prototype(_, _) => Ok(()),
         Item::Function(function) => names.add(alloc, function.head.name.text.as_slice()),
     }
+}
+
+/// Adds the functions that a source defines, and before them those that are there before it.
+fn add_definitions(alloc: Global, names: &mut Names, items: &[Item]) -> Result<(), AllocError>
+    requires is_empty { names.old ≡ [] }
+    ensures { OnOk result (names.new ≡ definitions_of (map view_item items.now)) }
+{
+    add_predeclared(alloc, names)?;
+    for item in items {
+        add_definition(alloc, names, item)?;
+    }
+    Ok(())
+}
+
+/// What is in scope where a source begins.
+fn start_of(alloc: Global, items: &[Item]) -> Result<Symbols, AllocError>
+    ensures { IfOk result (λ symbols. symbols ≡ file_scope (definitions_of (map view_item items.now))) }
+{
+    let mut definitions = Names::new(alloc);
+    add_definitions(alloc, &mut definitions, items)?;
+    Symbols::new(alloc, definitions)
 }
 
 /// Resolves an item in the scopes behind those before it.
@@ -71,23 +82,53 @@ fn resolve_item(
     }
 }
 
+/// Resolves items in the scopes behind those before them, in their order.
+fn resolve_each(
+    alloc: Global,
+    symbols: &mut Symbols,
+    globals: &mut Vec<GlobalVariable>,
+    functions: &mut Vec<ResolvedFunction>,
+    items: &[Item],
+) -> Result<(), SourceFault>
+    ensures checked { Checks result (items_breaches symbols.old (map view_item items.now)) }
+    ensures declared { OnOk result (globals.new.items ≡ globals.old.items ++ flat_map globals_of (map view_item items.now)) }
+    ensures defined { let before = map view_resolved_function functions.old.items in
+        let after = map view_resolved_function functions.new.items in
+        OnOk result (option_map (λ own. before ++ own) (all_along item_functions after_item symbols.old (map view_item items.now)) ≡ Some after) }
+{
+    for item in items {
+        resolve_item(alloc, symbols, globals, functions, item)?;
+    }
+    Ok(())
+}
+
+/// Resolves the items of a source in what is in scope where it begins.
+fn resolve_from(
+    alloc: Global,
+    symbols: &mut Symbols,
+    items: &[Item],
+) -> Result<Resolved, SourceFault>
+    requires begins { symbols.old ≡ file_scope (definitions_of (map view_item items.now)) }
+    ensures checked { Checks result (items_breaches symbols.old (map view_item items.now)) }
+    ensures resolved { IfOk result (λ found. items_resolution (map view_item items.now) ≡ Some (view_resolved found)) }
+{
+    let mut globals = Vec::new(alloc);
+    let mut functions = Vec::new(alloc);
+    resolve_each(alloc, symbols, &mut globals, &mut functions, items)?;
+    Ok(Resolved {
+        globals: Seq::of(globals),
+        functions,
+    })
+}
+
 /// Resolves the items of a source, in their order.
 fn resolve_items(alloc: Global, items: &[Item]) -> Result<Resolved, SourceFault>
     ensures checked { let trees = map view_item items.now in
         Checks result (items_breaches (file_scope (definitions_of trees)) trees) }
     ensures resolved { IfOk result (λ found. items_resolution (map view_item items.now) ≡ Some (view_resolved found)) }
 {
-    let definitions = definitions_of(alloc, items)?;
-    let mut symbols = Symbols::new(alloc, definitions)?;
-    let mut globals = Vec::new(alloc);
-    let mut functions = Vec::new(alloc);
-    for item in items {
-        resolve_item(alloc, &mut symbols, &mut globals, &mut functions, item)?;
-    }
-    Ok(Resolved {
-        globals: Seq::of(globals),
-        functions,
-    })
+    let mut symbols = start_of(alloc, items)?;
+    resolve_from(alloc, &mut symbols, items)
 }
 
 /// Whether an item is a function named `main`.

@@ -3,17 +3,20 @@ use Rattle.std.specs.List.{flat_map}
 use Rattle.om_parser.specs.View.{view_item}
 use Rattle.om_scope.specs.Perhaps.{all_along}
 use Rattle.om_scope.specs.ResolvedView.{view_resolved_function}
-use Rattle.om_scope.specs.Scopes.{after_item, definitions_of, file_scope}
+use Rattle.om_scope.specs.Scopes.{after_item}
 use Rattle.om_scope.specs.UnitResolution.{globals_of, item_functions}
 use Rattle.om_scope.specs.UnitRules.{item_breaches}
 use Rattle.om_scope.proofs.Along.{Unbroken, made_and}
-use Rattle.om_scope.proofs.unit.resolve_items.Given as goal
+use Rattle.om_scope.proofs.unit.resolve_each.Given as goal
 
 abbrev pub invariant-loop-item : goal.invariant-loop-item
 invariant-loop-item l =
     let all = map view_item l.items in
     let left = map view_item (drop l.item-index l.items) in
-    let start = file_scope (definitions_of all) in
-    Unbroken item_breaches after_item start all l.symbols left
-    × (all_along item_functions after_item start all ≡ made_and (map view_resolved_function l.functions.items) (all_along item_functions after_item l.symbols left))
-    × (l.globals.items ++ flat_map globals_of left ≡ flat_map globals_of all)
+    let before = map view_resolved_function l.fn.functions.items in
+    let now = map view_resolved_function l.functions.items in
+    record {
+      rules : Unbroken item_breaches after_item l.fn.symbols all l.symbols left;
+      functions : made_and before (all_along item_functions after_item l.fn.symbols all) ≡ made_and now (all_along item_functions after_item l.symbols left);
+      globals : l.globals.items ++ flat_map globals_of left ≡ l.fn.globals.items ++ flat_map globals_of all;
+    }
