@@ -8,7 +8,7 @@ use crate::front::syntax;
 use om_lexer::{Keyword, SourceFault, Token, TokenKind};
 
 /// What stands first, where a directive line may.
-#[derive(Clone, Copy, Debug, PartialEq, Eq)]
+#[derive(Clone, Copy)]
 pub enum LineStart {
     /// A directive with a statement behind it.
     Construct,

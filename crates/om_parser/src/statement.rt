@@ -26,7 +26,7 @@ use om_pragma::Directive;
 use std::alloc::{AllocError, Global};
 
 /// Which statement a token begins.
-#[derive(Clone, Copy, Debug, PartialEq, Eq)]
+#[derive(Clone, Copy)]
 pub enum Start {
     Block,
     Empty,
@@ -89,7 +89,7 @@ fn start_of_word(word: Keyword) -> Start
 }
 
 /// In which braces items stand.
-#[derive(Clone, Copy, Debug, PartialEq, Eq)]
+#[derive(Clone, Copy)]
 pub enum Inside {
     /// Those of a block.
     Block,
@@ -459,7 +459,7 @@ fn no_room(start: Start, tokens: &[Token], first: Span) -> SourceFault
 }
 
 /// What stands before the statement that is its body.
-#[derive(Debug, Drop)]
+#[derive(Drop)]
 enum Opening {
     If(Span, Box<Condition>),
     While(Span, Box<Condition>),

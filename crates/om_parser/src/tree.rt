@@ -5,7 +5,7 @@ use om_pragma::{Directive, Name, Number};
 use om_seq::Seq;
 
 /// A string literal where it stands.
-#[derive(Debug, Drop)]
+#[derive(Drop)]
 pub struct Text {
     /// The characters that it stands for.
     pub value: Seq<u8>,
@@ -13,7 +13,7 @@ pub struct Text {
 }
 
 /// An operator before its operand (C17 6.5.3).
-#[derive(Clone, Copy, Debug, PartialEq, Eq)]
+#[derive(Clone, Copy, PartialEq, Eq)]
 pub enum PrefixOperator {
     /// `+`
     Plus,
@@ -28,7 +28,7 @@ pub enum PrefixOperator {
 }
 
 /// An operator behind its operand (C17 6.5.2.4).
-#[derive(Clone, Copy, Debug, PartialEq, Eq)]
+#[derive(Clone, Copy, PartialEq, Eq)]
 pub enum PostfixOperator {
     /// `++`
     Increment,
@@ -37,7 +37,7 @@ pub enum PostfixOperator {
 }
 
 /// An operator between two operands (C17 6.5.5 to 6.5.14).
-#[derive(Clone, Copy, Debug, PartialEq, Eq)]
+#[derive(Clone, Copy, PartialEq, Eq)]
 pub enum BinaryOperator {
     /// `||`
     Or,
@@ -68,7 +68,7 @@ pub enum BinaryOperator {
 }
 
 /// An operator that assigns (C17 6.5.16).
-#[derive(Clone, Copy, Debug, PartialEq, Eq)]
+#[derive(Clone, Copy, PartialEq, Eq)]
 pub enum AssignOperator {
     /// `=`
     Set,
@@ -85,7 +85,7 @@ pub enum AssignOperator {
 }
 
 /// An expression (C17 6.5). The spans are those of the tokens between its parts.
-#[derive(Debug, Drop)]
+#[derive(Drop)]
 pub enum Expression {
     Name(Name),
     Constant(Number),
@@ -108,7 +108,7 @@ pub enum Expression {
 }
 
 /// The length of an array in its brackets.
-#[derive(Clone, Copy, Debug)]
+#[derive(Clone, Copy)]
 pub struct ArrayLength {
     pub open_bracket: Span,
     pub size: Number,
@@ -116,7 +116,7 @@ pub struct ArrayLength {
 }
 
 /// What a declared variable holds at the start (C17 6.7.9).
-#[derive(Debug, Drop)]
+#[derive(Drop)]
 pub struct Initializer {
     pub equal: Span,
     /// For a global a constant, perhaps with a minus.
@@ -124,7 +124,7 @@ pub struct Initializer {
 }
 
 /// A declared variable (C17 6.7.6): of an array its length, else perhaps an initializer.
-#[derive(Debug, Drop)]
+#[derive(Drop)]
 pub struct Declarator {
     pub name: Name,
     pub array: Option<ArrayLength>,
@@ -132,7 +132,7 @@ pub struct Declarator {
 }
 
 /// A declaration of `int` variables (C17 6.7), of a file, a block or a `for`.
-#[derive(Debug, Drop)]
+#[derive(Drop)]
 pub struct Declaration {
     /// The span of `int`.
     pub int: Span,
@@ -143,7 +143,7 @@ pub struct Declaration {
 }
 
 /// An expression in the parentheses behind `if` or `while`.
-#[derive(Debug, Drop)]
+#[derive(Drop)]
 pub struct Condition {
     pub open_paren: Span,
     pub value: Expression,
@@ -151,7 +151,7 @@ pub struct Condition {
 }
 
 /// What a `for` begins with, up to its first semicolon (C17 6.8.5.3).
-#[derive(Debug, Drop)]
+#[derive(Drop)]
 pub enum ForStart {
     /// Nothing but the semicolon.
     Nothing(Span),
@@ -160,7 +160,7 @@ pub enum ForStart {
 }
 
 /// A `for` up to its closing parenthesis (C17 6.8.5.3).
-#[derive(Debug, Drop)]
+#[derive(Drop)]
 pub struct ForHead {
     /// The span of `for`.
     pub word: Span,
@@ -173,7 +173,7 @@ pub struct ForHead {
 }
 
 /// A statement or another item of a block (C17 6.8), each word and mark by its span.
-#[derive(Debug, Drop)]
+#[derive(Drop)]
 pub enum Statement {
     /// A declaration, which stands only directly in a block.
     Declaration(Declaration),
@@ -207,7 +207,7 @@ pub enum Statement {
 }
 
 /// The block of a function (C17 6.8.2).
-#[derive(Debug, Drop)]
+#[derive(Drop)]
 pub struct Block {
     pub open_brace: Span,
     pub items: Vec<Statement>,
@@ -215,14 +215,14 @@ pub struct Block {
 }
 
 /// What a function returns.
-#[derive(Clone, Copy, Debug)]
+#[derive(Clone, Copy)]
 pub enum ResultType {
     Int(Span),
     Void(Span),
 }
 
 /// A parameter (C17 6.7.6.3), which has a name in a definition.
-#[derive(Debug, Drop)]
+#[derive(Drop)]
 pub struct Parameter {
     /// The span of `int`.
     pub int: Span,
@@ -230,7 +230,7 @@ pub struct Parameter {
 }
 
 /// What stands in the parentheses of a function's declaration.
-#[derive(Debug, Drop)]
+#[derive(Drop)]
 pub enum Parameters {
     Nothing,
     Void(Span),
@@ -239,7 +239,7 @@ pub enum Parameters {
 }
 
 /// A function's result, name and parameters (C17 6.7.6.3).
-#[derive(Debug, Drop)]
+#[derive(Drop)]
 pub struct FunctionHead {
     pub result: ResultType,
     pub name: Name,
@@ -249,14 +249,14 @@ pub struct FunctionHead {
 }
 
 /// The definition of a function (C17 6.9.1).
-#[derive(Debug, Drop)]
+#[derive(Drop)]
 pub struct Function {
     pub head: FunctionHead,
     pub body: Block,
 }
 
 /// What stands at file scope (C17 6.9).
-#[derive(Debug, Drop)]
+#[derive(Drop)]
 pub enum Item {
     Declaration(Declaration),
     /// A function that is declared, and the semicolon.
@@ -265,7 +265,7 @@ pub enum Item {
 }
 
 /// A translation unit (C17 6.9): the whole source.
-#[derive(Debug, Drop)]
+#[derive(Drop)]
 pub struct Unit {
     pub items: Vec<Item>,
     /// The span of the end of the source.
