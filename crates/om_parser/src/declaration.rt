@@ -9,7 +9,8 @@ ghost use Rattle.om_parser.specs.DeclarationReading.{constant_at, initial_at, ar
 ghost use Rattle.om_parser.specs.declared.declaration.Initial.TheVariants as initials;
 ghost use Rattle.om_parser.specs.View.{view_expression, view_declarator, view_declaration};
 
-use crate::expression::whole;
+use crate::boxed::boxed;
+use crate::expression::{whole, with_prefix};
 use crate::front::{mark, name, number, take_mark};
 use crate::tree::{ArrayLength, Declaration, Declarator, Expression, Initializer, PrefixOperator};
 use om_lexer::{Punctuator, SourceFault, Span, Token};
@@ -125,6 +126,7 @@ fn declarator_after(
     let array = None;
     if let Some((equal, rest)) = take_mark(tokens, Punctuator::Equal) {
         let (value, rest) = initial_value(alloc, initial, rest)?;
+        let value = Box::into_inner(value);
         let initializer = Some(Initializer { equal, value });
         return Ok((
             Declarator {
@@ -169,8 +171,8 @@ fn initial_value(
     alloc: Global,
     initial: Initial,
     tokens: &[Token],
-) -> Result<(Expression, &[Token]), SourceFault>
-    ensures { Reads (λ x. (view_expression x.0, x.1.now)) result (initial_at accepted initial tokens.now) }
+) -> Result<(Box<Expression>, &[Token]), SourceFault>
+    ensures { Reads (λ x. (view_expression x.0.value, x.1.now)) result (initial_at accepted initial tokens.now) }
 {
     match initial {
         Initial::Constant => constant(alloc, tokens),
@@ -180,17 +182,17 @@ fn initial_value(
 
 /// A constant, perhaps behind a minus, and the tokens behind it.
 #[tactic(auto, unfolding(crate::specs::DeclarationReading::constant_at))]
-fn constant(alloc: Global, tokens: &[Token]) -> Result<(Expression, &[Token]), SourceFault>
-    ensures { Reads (λ x. (view_expression x.0, x.1.now)) result (constant_at tokens.now) }
+fn constant(alloc: Global, tokens: &[Token]) -> Result<(Box<Expression>, &[Token]), SourceFault>
+    ensures { Reads (λ x. (view_expression x.0.value, x.1.now)) result (constant_at tokens.now) }
 {
     if let Some((minus, rest)) = take_mark(tokens, Punctuator::Minus) {
         let (number, rest) = number(rest)?;
-        let operand = Box::new(alloc, Expression::Constant(number))?;
+        let operand = boxed(alloc, Expression::Constant(number))?;
         return Ok((
-            Expression::Prefix(PrefixOperator::Minus, minus, operand),
+            with_prefix(alloc, PrefixOperator::Minus, minus, operand)?,
             rest,
         ));
     }
     let (number, rest) = number(tokens)?;
-    Ok((Expression::Constant(number), rest))
+    Ok((boxed(alloc, Expression::Constant(number))?, rest))
 }

@@ -8,6 +8,7 @@ ghost use Rattle.om_parser.specs.Reading.{Reads};
 ghost use Rattle.om_parser.specs.Tree.{Assign, Binary, Conditional, Postfix, Prefix};
 ghost use Rattle.om_parser.specs.View.{view_argument, view_expression};
 
+use crate::boxed::boxed;
 use crate::front::{mark, name, syntax, take_mark, take_number, too_deep};
 use crate::operator::{take_assign, take_looser, take_postfix, take_prefix, take_text};
 use crate::tree::{AssignOperator, BinaryOperator, Expression, PostfixOperator, PrefixOperator};
@@ -25,8 +26,8 @@ pub fn whole(
     alloc: Global,
     tokens: &[Token],
     room: usize,
-) -> Result<(Expression, &[Token]), SourceFault>
-    ensures { Reads (λ x. (view_expression x.0, x.1.now)) result (whole_at accepted room tokens.now) }
+) -> Result<(Box<Expression>, &[Token]), SourceFault>
+    ensures { Reads (λ x. (view_expression x.0.value, x.1.now)) result (whole_at accepted room tokens.now) }
 {
     let beyond = tokens.len().saturating_sub(TOKEN_LIMIT);
     expression(alloc, tokens, beyond, tokens.len(), true, room)
@@ -55,8 +56,8 @@ fn expression(
     turns: usize,
     may_assign: bool,
     room: usize,
-) -> Result<(Expression, &[Token]), SourceFault>
-    ensures { Reads (λ x. (view_expression x.0, x.1.now)) result (expression_at beyond turns may_assign room tokens.now) }
+) -> Result<(Box<Expression>, &[Token]), SourceFault>
+    ensures { Reads (λ x. (view_expression x.0.value, x.1.now)) result (expression_at beyond turns may_assign room tokens.now) }
 {
     let Some(turns) = turns.checked_sub(1) else {
         return Err(syntax(tokens));
@@ -71,14 +72,14 @@ fn expression(
 #[tactic(auto, unfolding(crate::specs::ExpressionReading::expression_after, crate::specs::ExpressionReading::within))]
 fn expression_after(
     alloc: Global,
-    left: Expression,
+    left: Box<Expression>,
     tokens: &[Token],
     beyond: usize,
     turns: usize,
     may_assign: bool,
     room: usize,
-) -> Result<(Expression, &[Token]), SourceFault>
-    ensures { Reads (λ x. (view_expression x.0, x.1.now)) result (expression_after beyond may_assign (expression_at beyond turns true room) (expression_at beyond turns false room) (view_expression left) tokens.now) }
+) -> Result<(Box<Expression>, &[Token]), SourceFault>
+    ensures { Reads (λ x. (view_expression x.0.value, x.1.now)) result (expression_after beyond may_assign (expression_at beyond turns true room) (expression_at beyond turns false room) (view_expression left.value) tokens.now) }
 {
     if let Some((question, rest)) = take_mark(tokens, Punctuator::Question) {
         within(rest, question, beyond)?;
@@ -97,14 +98,14 @@ fn expression_after(
 #[tactic(auto, unfolding(crate::specs::ExpressionReading::conditional_after, crate::specs::ExpressionReading::within))]
 fn conditional_after(
     alloc: Global,
-    condition: Expression,
+    condition: Box<Expression>,
     question: Span,
     tokens: &[Token],
     beyond: usize,
     turns: usize,
     room: usize,
-) -> Result<(Expression, &[Token]), SourceFault>
-    ensures { Reads (λ x. (view_expression x.0, x.1.now)) result (conditional_after beyond (expression_at beyond turns true room) (expression_at beyond turns false room) (view_expression condition) question tokens.now) }
+) -> Result<(Box<Expression>, &[Token]), SourceFault>
+    ensures { Reads (λ x. (view_expression x.0.value, x.1.now)) result (conditional_after beyond (expression_at beyond turns true room) (expression_at beyond turns false room) (view_expression condition.value) question tokens.now) }
 {
     let (value, rest) = expression(alloc, tokens, beyond, turns, true, room)?;
     let (colon, rest) = mark(rest, Punctuator::Colon)?;
@@ -126,8 +127,8 @@ fn binary(
     turns: usize,
     room: usize,
     levels: usize,
-) -> Result<(Expression, &[Token]), SourceFault>
-    ensures { Reads (λ x. (view_expression x.0, x.1.now)) result (binary_at beyond (operand_at beyond turns room) levels tokens.now) }
+) -> Result<(Box<Expression>, &[Token]), SourceFault>
+    ensures { Reads (λ x. (view_expression x.0.value, x.1.now)) result (binary_at beyond (operand_at beyond turns room) levels tokens.now) }
 {
     let (mut left, mut rest) = unary(alloc, tokens, beyond, turns, room)?;
     'levels: for tighter in 0..levels {
@@ -142,15 +143,15 @@ fn binary(
 #[cycle(expression)]
 fn operators(
     alloc: Global,
-    operand: Expression,
+    operand: Box<Expression>,
     tokens: &[Token],
     beyond: usize,
     turns: usize,
     room: usize,
     tighter: usize,
-) -> Result<(Expression, &[Token]), SourceFault>
+) -> Result<(Box<Expression>, &[Token]), SourceFault>
     ensures { let operands = binary_at beyond (operand_at beyond turns room) tighter in
-        Reads (λ x. (view_expression x.0, x.1.now)) result (chain_at (binary_more beyond (8 - tighter) operands) (length tokens.now) (view_expression operand) tokens.now) }
+        Reads (λ x. (view_expression x.0.value, x.1.now)) result (chain_at (binary_more beyond (8 - tighter) operands) (length tokens.now) (view_expression operand.value) tokens.now) }
 {
     let mut left = operand;
     let mut rest = tokens;
@@ -171,8 +172,8 @@ fn unary(
     beyond: usize,
     turns: usize,
     room: usize,
-) -> Result<(Expression, &[Token]), SourceFault>
-    ensures { Reads (λ x. (view_expression x.0, x.1.now)) result (operand_at beyond turns room tokens.now) }
+) -> Result<(Box<Expression>, &[Token]), SourceFault>
+    ensures { Reads (λ x. (view_expression x.0.value, x.1.now)) result (operand_at beyond turns room tokens.now) }
 {
     let (operators, turns, rest) = prefixes(alloc, tokens, beyond, turns)?;
     let (operand, rest) = postfix(alloc, rest, beyond, turns, room)?;
@@ -216,8 +217,8 @@ fn postfix(
     beyond: usize,
     turns: usize,
     room: usize,
-) -> Result<(Expression, &[Token]), SourceFault>
-    ensures { Reads (λ x. (view_expression x.0, x.1.now)) result (postfix_at beyond turns room tokens.now) }
+) -> Result<(Box<Expression>, &[Token]), SourceFault>
+    ensures { Reads (λ x. (view_expression x.0.value, x.1.now)) result (postfix_at beyond turns room tokens.now) }
 {
     let (operand, rest) = primary(alloc, tokens, beyond, turns, room)?;
     postfixes(alloc, operand, rest, beyond)
@@ -227,11 +228,11 @@ fn postfix(
 #[inline(never)]
 fn postfixes(
     alloc: Global,
-    operand: Expression,
+    operand: Box<Expression>,
     tokens: &[Token],
     beyond: usize,
-) -> Result<(Expression, &[Token]), SourceFault>
-    ensures { Reads (λ x. (view_expression x.0, x.1.now)) result (chain_at (postfix_more beyond) (length tokens.now) (view_expression operand) tokens.now) }
+) -> Result<(Box<Expression>, &[Token]), SourceFault>
+    ensures { Reads (λ x. (view_expression x.0.value, x.1.now)) result (chain_at (postfix_more beyond) (length tokens.now) (view_expression operand.value) tokens.now) }
 {
     let mut left = operand;
     let mut rest = tokens;
@@ -253,12 +254,12 @@ fn primary(
     beyond: usize,
     turns: usize,
     room: usize,
-) -> Result<(Expression, &[Token]), SourceFault>
-    ensures { Reads (λ x. (view_expression x.0, x.1.now)) result (primary_step beyond (deeper (expression_at beyond turns true) room) tokens.now) }
+) -> Result<(Box<Expression>, &[Token]), SourceFault>
+    ensures { Reads (λ x. (view_expression x.0.value, x.1.now)) result (primary_step beyond (deeper (expression_at beyond turns true) room) tokens.now) }
 {
     if let Some((number, rest)) = take_number(tokens) {
         within(rest, number.span, beyond)?;
-        return Ok((Expression::Constant(number), rest));
+        return Ok((boxed(alloc, Expression::Constant(number))?, rest));
     }
     if let Some((left, rest)) = take_mark(tokens, Punctuator::OpenParen) {
         within(rest, left, beyond)?;
@@ -273,10 +274,8 @@ fn primary(
             turns,
             room,
         )?;
-        return Ok((
-            Expression::Paren(left, Box::new(alloc, inner)?, right),
-            rest,
-        ));
+        let paren = boxed(alloc, Expression::Paren(left, inner, right))?;
+        return Ok((paren, rest));
     }
     let (name, rest) = name(alloc, tokens)?;
     within(rest, name.span, beyond)?;
@@ -293,8 +292,8 @@ fn closed(
     beyond: usize,
     turns: usize,
     room: usize,
-) -> Result<(Expression, Span, &[Token]), SourceFault>
-    ensures { Reads (λ x. ((view_expression x.0, x.1), x.2.now)) result (closed_by beyond close (expression_at beyond turns true room) tokens.now) }
+) -> Result<(Box<Expression>, Span, &[Token]), SourceFault>
+    ensures { Reads (λ x. ((view_expression x.0.value, x.1), x.2.now)) result (closed_by beyond close (expression_at beyond turns true room) tokens.now) }
 {
     let (inner, rest) = expression(alloc, tokens, beyond, turns, true, room)?;
     let (right, rest) = mark(rest, close)?;
@@ -312,8 +311,8 @@ fn named_after(
     beyond: usize,
     turns: usize,
     room: usize,
-) -> Result<(Expression, &[Token]), SourceFault>
-    ensures { Reads (λ x. (view_expression x.0, x.1.now)) result (named_after beyond (deeper (expression_at beyond turns true) room) name tokens.now) }
+) -> Result<(Box<Expression>, &[Token]), SourceFault>
+    ensures { Reads (λ x. (view_expression x.0.value, x.1.now)) result (named_after beyond (deeper (expression_at beyond turns true) room) name tokens.now) }
 {
     if let Some((left, rest)) = take_mark(tokens, Punctuator::OpenBracket) {
         within(rest, left, beyond)?;
@@ -328,8 +327,8 @@ fn named_after(
             turns,
             room,
         )?;
-        let index = Box::new(alloc, index)?;
-        return Ok((Expression::Index(name, left, index, right), rest));
+        let element = boxed(alloc, Expression::Index(name, left, index, right))?;
+        return Ok((element, rest));
     }
     if let Some((left, rest)) = take_mark(tokens, Punctuator::OpenParen) {
         within(rest, left, beyond)?;
@@ -338,7 +337,7 @@ fn named_after(
         };
         return call_after(alloc, name, left, rest, beyond, turns, room);
     }
-    Ok((Expression::Name(name), tokens))
+    Ok((boxed(alloc, Expression::Name(name))?, tokens))
 }
 
 /// The rest of a call, of which the left parenthesis is taken.
@@ -352,17 +351,19 @@ fn call_after(
     beyond: usize,
     turns: usize,
     room: usize,
-) -> Result<(Expression, &[Token]), SourceFault>
-    ensures { Reads (λ x. (view_expression x.0, x.1.now)) result (call_after beyond (expression_at beyond turns true room) name left tokens.now) }
+) -> Result<(Box<Expression>, &[Token]), SourceFault>
+    ensures { Reads (λ x. (view_expression x.0.value, x.1.now)) result (call_after beyond (expression_at beyond turns true room) name left tokens.now) }
 {
     if let Some((right, rest)) = take_mark(tokens, Punctuator::CloseParen) {
         within(rest, right, beyond)?;
-        return Ok((Expression::Call(name, left, Vec::new(alloc), right), rest));
+        let call = boxed(alloc, Expression::Call(name, left, Vec::new(alloc), right))?;
+        return Ok((call, rest));
     }
     let (first, rest) = first_argument(alloc, &name, tokens, beyond, turns, room)?;
     let (arguments, right, rest) = arguments(alloc, first, rest, beyond, turns, room)?;
     within(rest, right, beyond)?;
-    Ok((Expression::Call(name, left, arguments, right), rest))
+    let call = boxed(alloc, Expression::Call(name, left, arguments, right))?;
+    Ok((call, rest))
 }
 
 /// The first argument of a call of this function, and the tokens behind it.
@@ -375,12 +376,12 @@ fn first_argument<'a>(
     beyond: usize,
     turns: usize,
     room: usize,
-) -> Result<(Expression, &'a [Token]), SourceFault>
-    ensures { Reads (λ x. (view_expression x.0, x.1.now)) result (first_at beyond (expression_at beyond turns true room) function.now tokens.now) }
+) -> Result<(Box<Expression>, &'a [Token]), SourceFault>
+    ensures { Reads (λ x. (view_expression x.0.value, x.1.now)) result (first_at beyond (expression_at beyond turns true room) function.now tokens.now) }
 {
     if let Some((text, rest)) = take_text(alloc, function, tokens)? {
         within(rest, text.span, beyond)?;
-        return Ok((Expression::Text(text), rest));
+        return Ok((boxed(alloc, Expression::Text(text))?, rest));
     }
     expression(alloc, tokens, beyond, turns, true, room)
 }
@@ -390,23 +391,23 @@ fn first_argument<'a>(
 #[cycle(expression)]
 fn arguments(
     alloc: Global,
-    first: Expression,
+    first: Box<Expression>,
     tokens: &[Token],
     beyond: usize,
     turns: usize,
     room: usize,
 ) -> Result<(Vec<(Option<Span>, Expression)>, Span, &[Token]), SourceFault>
-    ensures { Reads (λ x. (map view_argument x.0.items, x.1, x.2.now)) result (arguments_at beyond (expression_at beyond turns true room) (view_expression first) tokens.now) }
+    ensures { Reads (λ x. (map view_argument x.0.items, x.1, x.2.now)) result (arguments_at beyond (expression_at beyond turns true room) (view_expression first.value) tokens.now) }
 {
     let mut arguments = Vec::new(alloc);
-    arguments.push((None, first))?;
+    arguments.push((None, Box::into_inner(first)))?;
     let mut rest = tokens;
     'further: loop {
         if let Some((right, after)) = take_mark(rest, Punctuator::CloseParen) {
             return Ok((arguments, right, after));
         }
         let (comma, next, after) = argument(alloc, rest, beyond, turns, room)?;
-        arguments.push((Some(comma), next))?;
+        arguments.push((Some(comma), Box::into_inner(next)))?;
         rest = after;
     }
 }
@@ -420,8 +421,8 @@ fn argument(
     beyond: usize,
     turns: usize,
     room: usize,
-) -> Result<(Span, Expression, &[Token]), SourceFault>
-    ensures { Reads (λ x. ((Some x.0, view_expression x.1), x.2.now)) result (argument_at beyond (expression_at beyond turns true room) tokens.now) }
+) -> Result<(Span, Box<Expression>, &[Token]), SourceFault>
+    ensures { Reads (λ x. ((Some x.0, view_expression x.1.value), x.2.now)) result (argument_at beyond (expression_at beyond turns true room) tokens.now) }
 {
     let (comma, rest) = mark(tokens, Punctuator::Comma)?;
     within(rest, comma, beyond)?;
@@ -434,9 +435,9 @@ fn argument(
 fn prefixed(
     alloc: Global,
     operators: Vec<(PrefixOperator, Span)>,
-    operand: Expression,
-) -> Result<Expression, AllocError>
-    ensures { IfOk result (λ made. view_expression made ≡ prefixed operators.items (view_expression operand)) }
+    operand: Box<Expression>,
+) -> Result<Box<Expression>, AllocError>
+    ensures { IfOk result (λ made. view_expression made.value ≡ prefixed operators.items (view_expression operand.value)) }
 {
     let mut outer = operators;
     let mut made = operand;
@@ -448,80 +449,74 @@ fn prefixed(
 
 /// An operator and its operand.
 #[inline(never)]
-fn with_prefix(
+pub fn with_prefix(
     alloc: Global,
     operator: PrefixOperator,
     at: Span,
-    operand: Expression,
-) -> Result<Expression, AllocError>
-    ensures { IfOk result (λ made. view_expression made ≡ Prefix operator at (view_expression operand)) }
+    operand: Box<Expression>,
+) -> Result<Box<Expression>, AllocError>
+    ensures { IfOk result (λ made. view_expression made.value ≡ Prefix operator at (view_expression operand.value)) }
 {
-    let operand = Box::new(alloc, operand)?;
-    Ok(Expression::Prefix(operator, at, operand))
+    boxed(alloc, Expression::Prefix(operator, at, operand))
 }
 
 /// An operand and the operator behind it.
 #[inline(never)]
 fn postfixed(
     alloc: Global,
-    operand: Expression,
+    operand: Box<Expression>,
     operator: PostfixOperator,
     at: Span,
-) -> Result<Expression, AllocError>
-    ensures { IfOk result (λ made. view_expression made ≡ Postfix (view_expression operand) operator at) }
+) -> Result<Box<Expression>, AllocError>
+    ensures { IfOk result (λ made. view_expression made.value ≡ Postfix (view_expression operand.value) operator at) }
 {
-    let operand = Box::new(alloc, operand)?;
-    Ok(Expression::Postfix(operand, operator, at))
+    boxed(alloc, Expression::Postfix(operand, operator, at))
 }
 
 /// Two operands and the operator between them.
 #[inline(never)]
 fn joined(
     alloc: Global,
-    left: Expression,
+    left: Box<Expression>,
     operator: BinaryOperator,
     at: Span,
-    right: Expression,
-) -> Result<Expression, AllocError>
-    ensures { IfOk result (λ made. view_expression made ≡ Binary (view_expression left) operator at (view_expression right)) }
+    right: Box<Expression>,
+) -> Result<Box<Expression>, AllocError>
+    ensures { IfOk result (λ made. view_expression made.value ≡ Binary (view_expression left.value) operator at (view_expression right.value)) }
 {
-    let left = Box::new(alloc, left)?;
-    let right = Box::new(alloc, right)?;
-    Ok(Expression::Binary(left, operator, at, right))
+    boxed(alloc, Expression::Binary(left, operator, at, right))
 }
 
 /// A conditional expression.
 #[inline(never)]
 fn conditional(
     alloc: Global,
-    condition: Expression,
+    condition: Box<Expression>,
     question: Span,
-    value: Expression,
+    value: Box<Expression>,
     colon: Span,
-    other: Expression,
-) -> Result<Expression, AllocError>
-    ensures { IfOk result (λ made. view_expression made ≡ Conditional (view_expression condition) question (view_expression value) colon (view_expression other)) }
+    other: Box<Expression>,
+) -> Result<Box<Expression>, AllocError>
+    ensures { IfOk result (λ made. view_expression made.value ≡ Conditional (view_expression condition.value) question (view_expression value.value) colon (view_expression other.value)) }
 {
-    let condition = Box::new(alloc, condition)?;
-    let value = Box::new(alloc, value)?;
-    let other = Box::new(alloc, other)?;
-    Ok(Expression::Conditional(condition, question, value, colon, other))
+    boxed(
+        alloc,
+        Expression::Conditional(condition, question, value, colon, other),
+    )
 }
 
 /// An assignment.
 #[inline(never)]
 fn assignment(
     alloc: Global,
-    target: Expression,
+    target: Box<Expression>,
     operator: AssignOperator,
     at: Span,
-    value: Expression,
-) -> Result<Expression, AllocError>
-    ensures { IfOk result (λ made. view_expression made ≡ Assign (view_expression target) operator at (view_expression value)) }
+    value: Box<Expression>,
+) -> Result<Box<Expression>, AllocError>
+    ensures { IfOk result (λ made. view_expression made.value ≡ Assign (view_expression target.value) operator at (view_expression value.value)) }
 {
-    let target = Box::new(alloc, target)?;
-    let value = Box::new(alloc, value)?;
-    Ok(Expression::Assign(target, operator, at, value))
+    boxed(alloc, Expression::Assign(target, operator, at, value))
 }
 
 #[cfg(test)]

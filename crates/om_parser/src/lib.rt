@@ -2,6 +2,7 @@
 #![tactic(auto)]
 
 mod atomic;
+mod boxed;
 mod construct;
 mod declaration;
 mod expression;

@@ -79,13 +79,17 @@ fn with_value(
         return Ok(directive.with_expression(alloc, None)?);
     };
     let value = clause_value(alloc, run, tokens)?;
-    Ok(directive.with_expression(alloc, Some(value))?)
+    Ok(directive.with_expression(alloc, Some(Box::into_inner(value)))?)
 }
 
 /// All tokens between the parentheses of a clause of a run, as one expression.
 #[tactic(auto, unfolding(crate::specs::LineReading::clause_value, crate::specs::PartReading::parts))]
-fn clause_value(alloc: Global, run: &[Token], tokens: &[Token]) -> Result<Expression, SourceFault>
-    ensures { Reads view_expression result (clause_value accepted run.now tokens.now) }
+fn clause_value(
+    alloc: Global,
+    run: &[Token],
+    tokens: &[Token],
+) -> Result<Box<Expression>, SourceFault>
+    ensures { Reads (λ x. view_expression x.value) result (clause_value accepted run.now tokens.now) }
 {
     match enclosed(alloc, tokens) {
         Ok((value, rest)) => alone(value, rest),
@@ -94,8 +98,8 @@ fn clause_value(alloc: Global, run: &[Token], tokens: &[Token]) -> Result<Expres
 }
 
 /// The expression, where no tokens are left behind it.
-fn alone(value: Expression, rest: &[Token]) -> Result<Expression, SourceFault>
-    ensures { ReadsAlways view_expression result (alone (view_expression value) rest.now) }
+fn alone(value: Box<Expression>, rest: &[Token]) -> Result<Box<Expression>, SourceFault>
+    ensures { ReadsAlways (λ x. view_expression x.value) result (alone (view_expression value.value) rest.now) }
 {
     match rest {
         [] => Ok(value),

@@ -14,16 +14,19 @@ use std::alloc::Global;
 
 /// A whole expression, and the tokens behind it.
 #[tactic(auto, unfolding(crate::specs::PartReading::parts))]
-pub fn expression(alloc: Global, tokens: &[Token]) -> Result<(Expression, &[Token]), SourceFault>
-    ensures { Reads (λ x. (view_expression x.0, x.1.now)) result ((parts accepted).expression tokens.now) }
+pub fn expression(
+    alloc: Global,
+    tokens: &[Token],
+) -> Result<(Box<Expression>, &[Token]), SourceFault>
+    ensures { Reads (λ x. (view_expression x.0.value, x.1.now)) result ((parts accepted).expression tokens.now) }
 {
     whole(alloc, tokens, NESTING_LIMIT)
 }
 
 /// A whole expression in the parentheses of a statement, and the tokens behind it.
 #[tactic(auto, unfolding(crate::specs::PartReading::parts))]
-pub fn enclosed(alloc: Global, tokens: &[Token]) -> Result<(Expression, &[Token]), SourceFault>
-    ensures { Reads (λ x. (view_expression x.0, x.1.now)) result ((parts accepted).enclosed tokens.now) }
+pub fn enclosed(alloc: Global, tokens: &[Token]) -> Result<(Box<Expression>, &[Token]), SourceFault>
+    ensures { Reads (λ x. (view_expression x.0.value, x.1.now)) result ((parts accepted).enclosed tokens.now) }
 {
     whole(alloc, tokens, NESTING_LIMIT - 1)
 }

@@ -7,7 +7,7 @@ ghost use Rattle.om_parser.specs.AtomicForms.{has_atomic_form};
 ghost use Rattle.om_parser.specs.ConstructReading.{atomic_after, atomic_of, construct_at, constructed_after, line_of, line_start, part_item_at, section_at, section_item_at, sections_after, stand_alone_at, unknown_line};
 ghost use Rattle.om_parser.specs.Limits.{accepted};
 ghost use Rattle.om_parser.specs.PartReading.{block_at, parts};
-ghost use Rattle.om_parser.specs.Reading.{take_mark, Reads, ReadsAlways};
+ghost use Rattle.om_parser.specs.Reading.{choose, take_mark, Reads, ReadsAlways};
 ghost use Rattle.om_parser.specs.Repetition.{until};
 ghost use Rattle.om_parser.specs.StatementReading.{start_of, start_of_mark, start_of_word, condition_at, optional_before, for_start_at, for_head_after, opening_of, headed_of, behind_body, else_after, body_after, simple_of, return_after, jump_after, expression_statement_at, do_end, do_after, block_after, local_item_after, block_item_at, block_items_after, item_at, items_at, section_items_after, no_room, statement_at, parts_at, block_with};
 ghost use Rattle.om_parser.specs.Tree as trees;
@@ -15,6 +15,7 @@ ghost use Rattle.om_parser.specs.StatementView.{view_opening};
 ghost use Rattle.om_parser.specs.View.{view_condition, view_expression, view_for_start, view_for_head, view_directive, view_statement, view_block};
 
 use crate::atomic::has_atomic_form;
+use crate::boxed::boxed;
 use crate::construct::{LineStart, line_start, misplaced};
 use crate::front::{mark, syntax, take_mark, take_word, too_deep, word};
 use crate::line::line;
@@ -479,7 +480,7 @@ fn block_of(
 ) -> Result<Box<Statement>, AllocError>
     ensures { IfOk result (λ s. view_statement s.value ≡ trees.Block open_brace (trees.statements (map view_statement items.items)) close_brace) }
 {
-    Ok(Box::new(alloc, Statement::Block(open_brace, items, close_brace))?)
+    boxed(alloc, Statement::Block(open_brace, items, close_brace))
 }
 
 /// An `if` of these parts, without `else`.
@@ -492,7 +493,7 @@ fn if_of(
 ) -> Result<Box<Statement>, AllocError>
     ensures { IfOk result (λ s. view_statement s.value ≡ trees.If at (view_condition condition.value) (view_statement body.value)) }
 {
-    Ok(Box::new(alloc, Statement::If(at, Box::into_inner(condition), body))?)
+    boxed(alloc, Statement::If(at, Box::into_inner(condition), body))
 }
 
 /// An `if` of these parts, with `else`.
@@ -508,7 +509,7 @@ fn if_else_of(
     ensures { IfOk result (λ s. view_statement s.value ≡ trees.IfElse at (view_condition condition.value) (view_statement body.value) other (view_statement second.value)) }
 {
     let condition = Box::into_inner(condition);
-    Ok(Box::new(alloc, Statement::IfElse(at, condition, body, other, second))?)
+    boxed(alloc, Statement::IfElse(at, condition, body, other, second))
 }
 
 /// A `while` of these parts.
@@ -521,10 +522,10 @@ fn while_of(
 ) -> Result<Box<Statement>, AllocError>
     ensures { IfOk result (λ s. view_statement s.value ≡ trees.While at (view_condition condition.value) (view_statement body.value)) }
 {
-    Ok(Box::new(
+    boxed(
         alloc,
         Statement::While(at, Box::into_inner(condition), body),
-    )?)
+    )
 }
 
 /// A `for` of these parts.
@@ -536,7 +537,7 @@ fn for_of(
 ) -> Result<Box<Statement>, AllocError>
     ensures { IfOk result (λ s. view_statement s.value ≡ trees.For (view_for_head head.value) (view_statement body.value)) }
 {
-    Ok(Box::new(alloc, Statement::For(Box::into_inner(head), body))?)
+    boxed(alloc, Statement::For(Box::into_inner(head), body))
 }
 
 /// A construct of these parts.
@@ -549,7 +550,7 @@ fn construct_of(
     ensures { IfOk result (λ s. view_statement s.value ≡ trees.Construct (view_directive directive.value) (view_statement body.value)) }
 {
     let directive = Box::into_inner(directive);
-    Ok(Box::new(alloc, Statement::Construct(directive, body))?)
+    boxed(alloc, Statement::Construct(directive, body))
 }
 
 /// A `sections` of these parts.
@@ -564,10 +565,10 @@ fn sections_of(
     ensures { IfOk result (λ s. view_statement s.value ≡ trees.Sections (view_directive directive.value) open_brace (trees.statements (map view_statement items.items)) close_brace) }
 {
     let directive = Box::into_inner(directive);
-    Ok(Box::new(
+    boxed(
         alloc,
         Statement::Sections(directive, open_brace, items, close_brace),
-    )?)
+    )
 }
 
 /// A `section` and the first item of its part.
@@ -580,7 +581,7 @@ fn section_of(
     ensures { IfOk result (λ s. view_statement s.value ≡ trees.Section (view_directive directive.value) (view_statement first.value)) }
 {
     let directive = Box::into_inner(directive);
-    Ok(Box::new(alloc, Statement::Section(directive, first))?)
+    boxed(alloc, Statement::Section(directive, first))
 }
 
 /// A directive line, and the tokens behind it.
@@ -593,7 +594,7 @@ fn boxed_line(
     ensures { Reads (λ x. (view_directive x.0.value, x.1.now)) result ((parts accepted).line tokens.now) }
 {
     let (directive, rest) = line(alloc, tokens)?;
-    let directive = Box::new(alloc, directive)?;
+    let directive = boxed(alloc, directive)?;
     Ok((directive, rest))
 }
 
@@ -604,7 +605,7 @@ fn stand_alone(alloc: Global, tokens: &[Token]) -> Result<(Box<Statement>, &[Tok
     ensures { Reads (λ x. (view_statement x.0.value, x.1.now)) result (stand_alone_at (parts accepted).line tokens.now) }
 {
     let (directive, rest) = line(alloc, tokens)?;
-    let statement = Box::new(alloc, Statement::StandAlone(directive))?;
+    let statement = boxed(alloc, Statement::StandAlone(directive))?;
     Ok((statement, rest))
 }
 
@@ -658,7 +659,7 @@ fn declaration_item(
     ensures { Reads (λ x. (view_statement x.0.value, x.1.now)) result (local_item_after (parts accepted) int tokens.now) }
 {
     let (declaration, rest) = declaration(alloc, int, tokens)?;
-    let statement = Box::new(alloc, Statement::Declaration(declaration))?;
+    let statement = boxed(alloc, Statement::Declaration(declaration))?;
     Ok((statement, rest))
 }
 
@@ -675,7 +676,7 @@ fn simple_boxed<'a>(
     ensures { Reads (λ x. (view_statement x.0.value, x.1.now)) result (simple_of (parts accepted) start at behind.now whole.now) }
 {
     let (statement, rest) = simple(alloc, start, at, behind, whole)?;
-    let statement = Box::new(alloc, statement)?;
+    let statement = boxed(alloc, statement)?;
     Ok((statement, rest))
 }
 
@@ -749,15 +750,15 @@ fn opening_after(
     match start {
         Start::If => {
             let (condition, rest) = condition(alloc, tokens)?;
-            Ok((Opening::If(at, Box::new(alloc, condition)?), rest))
+            Ok((Opening::If(at, condition), rest))
         }
         Start::While => {
             let (condition, rest) = condition(alloc, tokens)?;
-            Ok((Opening::While(at, Box::new(alloc, condition)?), rest))
+            Ok((Opening::While(at, condition), rest))
         }
         Start::For => {
             let (head, rest) = for_head(alloc, at, tokens)?;
-            Ok((Opening::For(Box::new(alloc, head)?), rest))
+            Ok((Opening::For(head), rest))
         }
         _ => Err(syntax(tokens)),
     }
@@ -765,58 +766,83 @@ fn opening_after(
 
 /// An expression in parentheses, and the tokens behind it.
 #[tactic(auto, unfolding(crate::specs::StatementReading::condition_at))]
-fn condition(alloc: Global, tokens: &[Token]) -> Result<(Condition, &[Token]), SourceFault>
-    ensures { Reads (λ x. (view_condition x.0, x.1.now)) result (condition_at (parts accepted) tokens.now) }
+fn condition(alloc: Global, tokens: &[Token]) -> Result<(Box<Condition>, &[Token]), SourceFault>
+    ensures { Reads (λ x. (view_condition x.0.value, x.1.now)) result (condition_at (parts accepted) tokens.now) }
 {
     let (open_paren, rest) = mark(tokens, Punctuator::OpenParen)?;
     let (value, rest) = enclosed(alloc, rest)?;
     let (close_paren, rest) = mark(rest, Punctuator::CloseParen)?;
-    Ok((
+    let value = Box::into_inner(value);
+    let condition = boxed(
+        alloc,
         Condition {
             open_paren,
             value,
             close_paren,
         },
-        rest,
-    ))
+    )?;
+    Ok((condition, rest))
 }
 
 /// The head of a `for`, of which the word is taken, and the tokens behind it.
 #[tactic(auto, unfolding(crate::specs::StatementReading::for_head_after))]
-fn for_head(alloc: Global, word: Span, tokens: &[Token]) -> Result<(ForHead, &[Token]), SourceFault>
-    ensures { Reads (λ x. (view_for_head x.0, x.1.now)) result (for_head_after (parts accepted) word tokens.now) }
+fn for_head(
+    alloc: Global,
+    word: Span,
+    tokens: &[Token],
+) -> Result<(Box<ForHead>, &[Token]), SourceFault>
+    ensures { Reads (λ x. (view_for_head x.0.value, x.1.now)) result (for_head_after (parts accepted) word tokens.now) }
 {
     let (open_paren, rest) = mark(tokens, Punctuator::OpenParen)?;
     let (start, rest) = for_start(alloc, rest)?;
     let (condition, semicolon, rest) = enclosed_before(alloc, rest, Punctuator::Semicolon)?;
     let (step, close_paren, rest) = enclosed_before(alloc, rest, Punctuator::CloseParen)?;
-    Ok((
+    let head = boxed(
+        alloc,
         ForHead {
             word,
             open_paren,
-            start,
-            condition,
+            start: Box::into_inner(start),
+            condition: unboxed(condition),
             semicolon,
-            step,
+            step: unboxed(step),
             close_paren,
         },
-        rest,
-    ))
+    )?;
+    Ok((head, rest))
 }
 
 /// What a `for` begins with, and the tokens behind it.
 #[tactic(auto, unfolding(crate::specs::StatementReading::for_start_at))]
-fn for_start(alloc: Global, tokens: &[Token]) -> Result<(ForStart, &[Token]), SourceFault>
-    ensures { Reads (λ x. (view_for_start x.0, x.1.now)) result (for_start_at (parts accepted) tokens.now) }
+fn for_start(alloc: Global, tokens: &[Token]) -> Result<(Box<ForStart>, &[Token]), SourceFault>
+    ensures { Reads (λ x. (view_for_start x.0.value, x.1.now)) result (for_start_at (parts accepted) tokens.now) }
 {
     if let Some((int, rest)) = take_word(tokens, Keyword::Int) {
         let (declaration, rest) = enclosed_declaration(alloc, int, rest)?;
-        return Ok((ForStart::Declaration(declaration), rest));
+        let start = boxed(alloc, ForStart::Declaration(declaration))?;
+        return Ok((start, rest));
     }
     let (first, semicolon, rest) = enclosed_before(alloc, tokens, Punctuator::Semicolon)?;
+    Ok((boxed(alloc, start_with(first, semicolon))?, rest))
+}
+
+/// What a `for` begins with that declares nothing: perhaps an expression, and the semicolon.
+fn start_with(first: Option<Box<Expression>>, semicolon: Span) -> ForStart
+    ensures { view_for_start result ≡ choose (option_map (λ b. view_expression b.value) first) (λ e. trees.StartExpression e semicolon) (trees.Nothing semicolon) }
+{
     match first {
-        Some(first) => Ok((ForStart::Expression(first, semicolon), rest)),
-        None => Ok((ForStart::Nothing(semicolon), rest)),
+        Some(first) => ForStart::Expression(Box::into_inner(first), semicolon),
+        None => ForStart::Nothing(semicolon),
+    }
+}
+
+/// An expression out of its box, if there is one.
+fn unboxed(value: Option<Box<Expression>>) -> Option<Expression>
+    ensures { result ≡ option_map (λ b. b.value) value }
+{
+    match value {
+        Some(value) => Some(Box::into_inner(value)),
+        None => None,
     }
 }
 
@@ -827,8 +853,8 @@ fn enclosed_before(
     alloc: Global,
     tokens: &[Token],
     end: Punctuator,
-) -> Result<(Option<Expression>, Span, &[Token]), SourceFault>
-    ensures { Reads (λ x. ((option_map view_expression x.0, x.1), x.2.now)) result (optional_before end (parts accepted).enclosed tokens.now) }
+) -> Result<(Option<Box<Expression>>, Span, &[Token]), SourceFault>
+    ensures { Reads (λ x. ((option_map (λ b. view_expression b.value) x.0, x.1), x.2.now)) result (optional_before end (parts accepted).enclosed tokens.now) }
 {
     if let Some((span, rest)) = take_mark(tokens, end) {
         return Ok((None, span, rest));
@@ -852,7 +878,8 @@ fn do_end(
     let (again, rest) = word(tokens, Keyword::While)?;
     let (condition, rest) = condition(alloc, rest)?;
     let (semicolon, rest) = mark(rest, Punctuator::Semicolon)?;
-    let statement = Box::new(alloc, Statement::Do(at, body, again, condition, semicolon))?;
+    let condition = Box::into_inner(condition);
+    let statement = boxed(alloc, Statement::Do(at, body, again, condition, semicolon))?;
     Ok((statement, rest))
 }
 
@@ -910,7 +937,8 @@ fn return_after(
     }
     let (value, rest) = expression(alloc, tokens)?;
     let (semicolon, rest) = mark(rest, Punctuator::Semicolon)?;
-    Ok((Statement::Return(at, Some(value), semicolon), rest))
+    let value = Some(Box::into_inner(value));
+    Ok((Statement::Return(at, value, semicolon), rest))
 }
 
 /// An expression and its semicolon, and the tokens behind them.
@@ -923,7 +951,10 @@ fn expression_statement(
 {
     let (value, rest) = expression(alloc, tokens)?;
     let (semicolon, rest) = mark(rest, Punctuator::Semicolon)?;
-    Ok((Statement::Expression(value, semicolon), rest))
+    Ok((
+        Statement::Expression(Box::into_inner(value), semicolon),
+        rest,
+    ))
 }
 
 #[cfg(test)]

@@ -52,19 +52,19 @@ decreases-closed l = 40 * l.turns + 2
 
 -- the operand and what goes on with it in the tighter levels are read
 abbrev pub invariant-binary-levels : goal.invariant-binary-levels
-invariant-binary-levels l = binary_at l.beyond (operand_at l.beyond l.turns l.room) l.tighter l.tokens ≡ Ok (view_expression l.left, l.rest)
+invariant-binary-levels l = binary_at l.beyond (operand_at l.beyond l.turns l.room) l.tighter l.tokens ≡ Ok (view_expression l.left.value, l.rest)
 
 -- what is still to be read makes the whole
 abbrev pub invariant-operators-loop-operator : goal.invariant-operators-loop-operator
 invariant-operators-loop-operator l =
     let more = binary_more l.beyond (8 - l.tighter) (binary_at l.beyond (operand_at l.beyond l.turns l.room) l.tighter) in
-    GoesOn more (view_expression l.left) l.rest (chain_at more (length l.tokens) (view_expression l.fn.operand) l.tokens)
+    GoesOn more (view_expression l.left.value) l.rest (chain_at more (length l.tokens) (view_expression l.fn.operand.value) l.tokens)
 
 abbrev pub decreases-operators-loop-operator : goal.decreases-operators-loop-operator
 decreases-operators-loop-operator l = length l.rest
 
 abbrev pub invariant-arguments-further : goal.invariant-arguments-further
-invariant-arguments-further l = loops.GoesOn (take_mark CloseParen) (argument_at l.beyond (expression_at l.beyond l.turns true l.room)) (map view_argument l.arguments.items) l.rest (arguments_at l.beyond (expression_at l.beyond l.turns true l.room) (view_expression l.fn.first) l.tokens)
+invariant-arguments-further l = loops.GoesOn (take_mark CloseParen) (argument_at l.beyond (expression_at l.beyond l.turns true l.room)) (map view_argument l.arguments.items) l.rest (arguments_at l.beyond (expression_at l.beyond l.turns true l.room) (view_expression l.fn.first.value) l.tokens)
 
 abbrev pub decreases-arguments-further : goal.decreases-arguments-further
 decreases-arguments-further l = length l.rest

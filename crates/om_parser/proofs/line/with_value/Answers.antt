@@ -1,4 +1,4 @@
-use Rattle.std.proofs.Common.{sym}
+use Rattle.std.proofs.Common.{◌≡◌, sym, rules}
 use Rattle.std.proofs.lemmas.Result.{err_from_is_err_and}
 use Rattle.om_parser.specs.Limits.{accepted}
 use Rattle.om_parser.proofs.LineViews.{none_left, none_filled, some_filled, value_fails}
@@ -16,4 +16,6 @@ returns-in_err-value c =
     rw (p.1, p.2) (value_fails c.args.directive accepted c.args.run.now c.in-Some.tokens.now c.in_err-value.field-0.0 (sym c.in-Some.ensures) c.in_err-value.ensures)
 
 pub returns : goal.returns
-returns c = some_filled c.args.directive accepted c.args.run.now c.in_ok-with_expression-2.field-0 c.in-Some.tokens.now c.in_ok-value.value (sym c.in-Some.ensures) c.in_ok-value.ensures c.in_ok-with_expression-2.ensures
+returns c =
+    let inner : c.into_inner.result ≡ c.in_ok-value.value.value = search rules in
+    some_filled c.args.directive accepted c.args.run.now c.in_ok-with_expression-2.field-0 c.in-Some.tokens.now c.into_inner.result (sym c.in-Some.ensures) (rw inner c.in_ok-value.ensures) c.in_ok-with_expression-2.ensures
