@@ -10,7 +10,7 @@ ghost use Rattle.om_parser.specs.declared.declaration.Initial.TheVariants as ini
 ghost use Rattle.om_parser.specs.View.{view_expression, view_declarator, view_declaration};
 
 use crate::boxed::boxed;
-use crate::expression::{whole, with_prefix};
+use crate::expression::{before, whole};
 use crate::front::{mark, name, number, take_mark};
 use crate::tree::{ArrayLength, Declaration, Declarator, Expression, Initializer, PrefixOperator};
 use om_lexer::{Punctuator, SourceFault, Span, Token};
@@ -188,11 +188,9 @@ fn constant(alloc: Global, tokens: &[Token]) -> Result<(Box<Expression>, &[Token
     if let Some((minus, rest)) = take_mark(tokens, Punctuator::Minus) {
         let (number, rest) = number(rest)?;
         let operand = boxed(alloc, Expression::Constant(number))?;
-        return Ok((
-            with_prefix(alloc, PrefixOperator::Minus, minus, operand)?,
-            rest,
-        ));
+        let negated = Expression::Prefix(PrefixOperator::Minus, minus, operand);
+        return before(alloc, negated, rest);
     }
     let (number, rest) = number(tokens)?;
-    Ok((boxed(alloc, Expression::Constant(number))?, rest))
+    before(alloc, Expression::Constant(number), rest)
 }

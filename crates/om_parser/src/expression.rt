@@ -1,17 +1,18 @@
 //! Expressions (C17 6.5).
 
-ghost use Rattle.std.specs.Prelude.{◌≡◌, ℕ, ◌-◌, ◌≤◌, ◌⊎◌, true, false, Some, Err, length, map, IfOk, IfErr};
+ghost use Rattle.std.specs.Prelude.{◌≡◌, ℕ, ◌-◌, ◌≤◌, ◌⊎◌, true, false, List, Some, Ok, Err, length, map, IfOk, IfErr};
+ghost use Rattle.om_lexer.specs.declared.token.Token as lexed;
 ghost use Rattle.om_lexer.specs.Faults.{no_memory};
 ghost use Rattle.om_parser.specs.ExpressionReading.{argument_at, arguments_at, behind, binary_at, binary_more, call_after, chain_at, closed_by, conditional_after, deeper, expression_after, expression_at, first_at, named_after, operand_at, postfix_at, postfix_more, postfix_step, prefixed, primary_step, whole_at, IsTakenWithin};
 ghost use Rattle.om_parser.specs.Limits.{accepted};
 ghost use Rattle.om_parser.specs.Reading.{Reads};
-ghost use Rattle.om_parser.specs.Tree.{Assign, Binary, Conditional, Postfix, Prefix};
+ghost use Rattle.om_parser.specs.Tree.{ExpressionTree, Binary, Postfix, Prefix};
 ghost use Rattle.om_parser.specs.View.{view_argument, view_expression};
 
 use crate::boxed::boxed;
 use crate::front::{mark, name, syntax, take_mark, take_number, too_deep};
 use crate::operator::{take_assign, take_looser, take_postfix, take_prefix, take_text};
-use crate::tree::{AssignOperator, BinaryOperator, Expression, PostfixOperator, PrefixOperator};
+use crate::tree::{BinaryOperator, Expression, PostfixOperator, PrefixOperator};
 use crate::unit::TOKEN_LIMIT;
 use om_lexer::{Punctuator, SourceFault, Span, Token};
 use om_pragma::Name;
@@ -88,7 +89,8 @@ fn expression_after(
     if let Some((operator, at, rest)) = take_assign(may_assign, &left, tokens) {
         within(rest, at, beyond)?;
         let (value, rest) = expression(alloc, rest, beyond, turns, true, room)?;
-        return Ok((assignment(alloc, left, operator, at, value)?, rest));
+        let assignment = Expression::Assign(left, operator, at, value);
+        return before(alloc, assignment, rest);
     }
     Ok((left, tokens))
 }
@@ -111,10 +113,8 @@ fn conditional_after(
     let (colon, rest) = mark(rest, Punctuator::Colon)?;
     within(rest, colon, beyond)?;
     let (other, rest) = expression(alloc, rest, beyond, turns, false, room)?;
-    Ok((
-        conditional(alloc, condition, question, value, colon, other)?,
-        rest,
-    ))
+    let conditional = Expression::Conditional(condition, question, value, colon, other);
+    before(alloc, conditional, rest)
 }
 
 /// Operands and the operators between them, of the tightest `levels` levels, and the tokens
@@ -259,7 +259,7 @@ fn primary(
 {
     if let Some((number, rest)) = take_number(tokens) {
         within(rest, number.span, beyond)?;
-        return Ok((boxed(alloc, Expression::Constant(number))?, rest));
+        return before(alloc, Expression::Constant(number), rest);
     }
     if let Some((left, rest)) = take_mark(tokens, Punctuator::OpenParen) {
         within(rest, left, beyond)?;
@@ -274,8 +274,7 @@ fn primary(
             turns,
             room,
         )?;
-        let paren = boxed(alloc, Expression::Paren(left, inner, right))?;
-        return Ok((paren, rest));
+        return before(alloc, Expression::Paren(left, inner, right), rest);
     }
     let (name, rest) = name(alloc, tokens)?;
     within(rest, name.span, beyond)?;
@@ -327,8 +326,7 @@ fn named_after(
             turns,
             room,
         )?;
-        let element = boxed(alloc, Expression::Index(name, left, index, right))?;
-        return Ok((element, rest));
+        return before(alloc, Expression::Index(name, left, index, right), rest);
     }
     if let Some((left, rest)) = take_mark(tokens, Punctuator::OpenParen) {
         within(rest, left, beyond)?;
@@ -337,7 +335,7 @@ fn named_after(
         };
         return call_after(alloc, name, left, rest, beyond, turns, room);
     }
-    Ok((boxed(alloc, Expression::Name(name))?, tokens))
+    before(alloc, Expression::Name(name), tokens)
 }
 
 /// The rest of a call, of which the left parenthesis is taken.
@@ -356,14 +354,13 @@ fn call_after(
 {
     if let Some((right, rest)) = take_mark(tokens, Punctuator::CloseParen) {
         within(rest, right, beyond)?;
-        let call = boxed(alloc, Expression::Call(name, left, Vec::new(alloc), right))?;
-        return Ok((call, rest));
+        let call = Expression::Call(name, left, Vec::new(alloc), right);
+        return before(alloc, call, rest);
     }
     let (first, rest) = first_argument(alloc, &name, tokens, beyond, turns, room)?;
     let (arguments, right, rest) = arguments(alloc, first, rest, beyond, turns, room)?;
     within(rest, right, beyond)?;
-    let call = boxed(alloc, Expression::Call(name, left, arguments, right))?;
-    Ok((call, rest))
+    before(alloc, Expression::Call(name, left, arguments, right), rest)
 }
 
 /// The first argument of a call of this function, and the tokens behind it.
@@ -381,7 +378,7 @@ fn first_argument<'a>(
 {
     if let Some((text, rest)) = take_text(alloc, function, tokens)? {
         within(rest, text.span, beyond)?;
-        return Ok((boxed(alloc, Expression::Text(text))?, rest));
+        return before(alloc, Expression::Text(text), rest);
     }
     expression(alloc, tokens, beyond, turns, true, room)
 }
@@ -447,9 +444,21 @@ fn prefixed(
     Ok(made)
 }
 
+/// This expression in a box, and the tokens behind it.
+#[inline(never)]
+pub fn before<'a>(
+    alloc: Global,
+    expression: Expression,
+    rest: &'a [Token],
+) -> Result<(Box<Expression>, &'a [Token]), SourceFault>
+    ensures { Reads {Y = ExpressionTree × List lexed.Token} (λ x. (view_expression x.0.value, x.1.now)) result (Ok (view_expression expression, rest.now)) }
+{
+    Ok((boxed(alloc, expression)?, rest))
+}
+
 /// An operator and its operand.
 #[inline(never)]
-pub fn with_prefix(
+fn with_prefix(
     alloc: Global,
     operator: PrefixOperator,
     at: Span,
@@ -485,38 +494,6 @@ fn joined(
     ensures { IfOk result (λ made. view_expression made.value ≡ Binary (view_expression left.value) operator at (view_expression right.value)) }
 {
     boxed(alloc, Expression::Binary(left, operator, at, right))
-}
-
-/// A conditional expression.
-#[inline(never)]
-fn conditional(
-    alloc: Global,
-    condition: Box<Expression>,
-    question: Span,
-    value: Box<Expression>,
-    colon: Span,
-    other: Box<Expression>,
-) -> Result<Box<Expression>, AllocError>
-    ensures { IfOk result (λ made. view_expression made.value ≡ Conditional (view_expression condition.value) question (view_expression value.value) colon (view_expression other.value)) }
-{
-    boxed(
-        alloc,
-        Expression::Conditional(condition, question, value, colon, other),
-    )
-}
-
-/// An assignment.
-#[inline(never)]
-fn assignment(
-    alloc: Global,
-    target: Box<Expression>,
-    operator: AssignOperator,
-    at: Span,
-    value: Box<Expression>,
-) -> Result<Box<Expression>, AllocError>
-    ensures { IfOk result (λ made. view_expression made.value ≡ Assign (view_expression target.value) operator at (view_expression value.value)) }
-{
-    boxed(alloc, Expression::Assign(target, operator, at, value))
 }
 
 #[cfg(test)]
