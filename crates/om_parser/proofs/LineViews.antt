@@ -1,6 +1,6 @@
 -- What the code makes of a directive line is what the reader makes.
 use Rattle.std.proofs.Common.{◌≡◌, ℕ, ◌≤◌, List, [], ◌∷◌, length, None, Bool, true, false, cond, Result, Ok, Err, refl, sym, ap, ◌∙◌, arith, ◌⊎◌, inl, inr}
-use Rattle.std.specs.Prelude.{option_to_list, codes, ◌||◌}
+use Rattle.std.specs.Prelude.{option_to_list, codes, ◌||◌, IfOk, IfErr}
 use Rattle.std.proofs.lemmas.Bool.{le-leb}
 use denote.Ref.{Bor}
 use Rattle.om_lexer.specs.Faults.{no_memory}
@@ -19,6 +19,7 @@ use Rattle.om_parser.specs.declared.tree.Expression.TheOpen.{Expression-F}
 use Rattle.om_parser.specs.declared.tree.Expression.TheVariants as values
 use Rattle.om_parser.specs.Limits.{Limits}
 use Rattle.om_parser.specs.LineReading.{clause_value, no_value, with_value, sooner, line_of}
+use Rattle.om_parser.specs.Reading.{Reads}
 use Rattle.om_parser.specs.Tree.{ExpressionTree, Constant}
 use Rattle.om_parser.specs.View.{expression_layer, view_expression, view_directive}
 use Rattle.om_parser.proofs.Outcomes.{ok, some}
@@ -44,16 +45,26 @@ module _ (d : Directive (Bor (List Token))) where
   none_left few none = let is = ap length (first_is_only d.clauses few ∙ ap option_to_list none) in omega (arith, is)
 
   module _ (l : Limits) (run : List Token) where
-    pub none_filled : (made : Directive Expression) → first_expression d.clauses ≡ None → ((f : Bor (List Token) → Expression) → IsValue f None → made ≡ map_directive f d) → with_value l run (with_tokens d) ≡ Ok (view_directive made)
+    none_filled : (made : Directive Expression) → first_expression d.clauses ≡ None → ((f : Bor (List Token) → Expression) → IsValue f None → made ≡ map_directive f d) → with_value l run (with_tokens d) ≡ Ok (view_directive made)
     unfolding with_value number
     none_filled made none is =
         let v : Expression = values.Constant number in
         let same : view_directive made ≡ map_directive (λ (any : List Token). no_value) (with_tokens d) = filled_view made v (is (λ any. v) tt) ∙ ap (λ (e : ExpressionTree). map_directive (λ (any : List Token). e) (with_tokens d)) (view_constant number) in
         rw (first_mapped tokens_in d.clauses, none) (ap ok (sym same))
 
-    pub some_filled : (made : Directive Expression) (tokens : Bor (List Token)) (v : Expression) → first_expression d.clauses ≡ some tokens → clause_value l run tokens.now ≡ Ok (view_expression v) → ((f : Bor (List Token) → Expression) → IsValue f (some v) → made ≡ map_directive f d) → with_value l run (with_tokens d) ≡ Ok (view_directive made)
+    some_filled : (made : Directive Expression) (tokens : Bor (List Token)) (v : Expression) → first_expression d.clauses ≡ some tokens → clause_value l run tokens.now ≡ Ok (view_expression v) → ((f : Bor (List Token) → Expression) → IsValue f (some v) → made ≡ map_directive f d) → with_value l run (with_tokens d) ≡ Ok (view_directive made)
     unfolding with_value
     some_filled made tokens v first value is = rw (first_mapped tokens_in d.clauses, first, value) (ap ok (sym (filled_view made v (is (λ any. v) (λ any. refl)))))
+
+    -- what filling it gives, where it has none
+    pub none_read : (r : Result (Directive Expression) SourceFault) → first_expression d.clauses ≡ None → IfOk r (λ made. (f : Bor (List Token) → Expression) → IsValue f None → made ≡ map_directive f d) → IfErr r (λ e. e ≡ no_memory) → Reads view_directive r (with_value l run (with_tokens d))
+    none_read (Ok made) none is memory = none_filled made none is
+    none_read (Err e) none is memory = inl memory
+
+    -- the same where it has one
+    pub some_read : (r : Result (Directive Expression) SourceFault) (tokens : Bor (List Token)) (v : Expression) → first_expression d.clauses ≡ some tokens → clause_value l run tokens.now ≡ Ok (view_expression v) → IfOk r (λ made. (f : Bor (List Token) → Expression) → IsValue f (some v) → made ≡ map_directive f d) → IfErr r (λ e. e ≡ no_memory) → Reads view_directive r (with_value l run (with_tokens d))
+    some_read (Ok made) tokens v first value is memory = some_filled made tokens v first value is
+    some_read (Err e) tokens v first value is memory = inl memory
 
     pub value_fails : (tokens : Bor (List Token)) (f : SourceFault) → first_expression d.clauses ≡ some tokens → (f ≡ no_memory) ⊎ (clause_value l run tokens.now ≡ Err f) → (f ≡ no_memory) ⊎ (with_value l run (with_tokens d) ≡ Err f)
     unfolding with_value

@@ -1,8 +1,8 @@
 //! Directive lines, each with its expression (OpenMP API 5.2).
 
-ghost use Rattle.std.specs.Prelude.{◌≡◌, ◌≤◌, ◌⊎◌, Err, length, option_map};
+ghost use Rattle.std.specs.Prelude.{◌≡◌, ◌≤◌, ◌⊎◌, Err, IfErr, IfOk, length, option_map, option_to_list};
 ghost use Rattle.om_lexer.specs.Faults.{no_memory};
-ghost use Rattle.om_pragma.specs.Expressions.{expressions, with_tokens};
+ghost use Rattle.om_pragma.specs.Expressions.{expressions, map_directive, with_tokens, IsValue};
 ghost use Rattle.om_pragma.specs.Reading.{is_end, take_first, directive_at};
 ghost use Rattle.om_parser.specs.Limits.{accepted};
 ghost use Rattle.om_parser.specs.LineReading.{alone, clause_value, in_run, is_syntax, last_start, line_at, line_of, place_behind, run_of, sooner, with_value};
@@ -76,10 +76,25 @@ fn with_value(
     ensures { Reads view_directive result (with_value accepted run.now (with_tokens directive.entry)) }
 {
     let Some(tokens) = directive.expression() else {
-        return Ok(directive.with_expression(alloc, None)?);
+        return filled(alloc, directive, None);
     };
-    let value = clause_value(alloc, run, tokens)?;
-    Ok(directive.with_expression(alloc, Some(Box::into_inner(value)))?)
+    match clause_value(alloc, run, tokens) {
+        Ok(value) => filled(alloc, directive, Some(Box::into_inner(value))),
+        Err(fault) => Err(fault),
+    }
+}
+
+/// The directive with this expression in place of its own, if it has one.
+fn filled<E: Drop, F: Drop>(
+    alloc: Global,
+    directive: Directive<E>,
+    value: Option<F>,
+) -> Result<Directive<F>, SourceFault>
+    requires { length (expressions directive) ≤ length (option_to_list value) }
+    ensures made { IfOk result (λ d. (f : E → F) → IsValue f value → d ≡ map_directive f directive) }
+    ensures refused { IfErr result (λ fault. fault ≡ no_memory) }
+{
+    Ok(directive.with_expression(alloc, value)?)
 }
 
 /// All tokens between the parentheses of a clause of a run, as one expression.
