@@ -9,6 +9,7 @@ ghost use Rattle.om_parser.specs.LineReading.{alone, clause_value, in_run, is_sy
 ghost use Rattle.om_parser.specs.Reading.{Reads, ReadsAlways};
 ghost use Rattle.om_parser.specs.View.{view_directive, view_expression};
 
+use crate::boxed::boxed;
 use crate::front::syntax;
 use crate::part::enclosed;
 use crate::tree::Expression;
@@ -32,14 +33,14 @@ use std::alloc::Global;
 pub fn line(
     alloc: Global,
     tokens: &[Token],
-) -> Result<(Directive<Expression>, &[Token]), SourceFault>
-    ensures { Reads (λ x. (view_directive x.0, x.1.now)) result (line_at accepted tokens.now) }
+) -> Result<(Box<Directive<Expression>>, &[Token]), SourceFault>
+    ensures { Reads (λ x. (view_directive x.0.value, x.1.now)) result (line_at accepted tokens.now) }
 {
     let Some((run, rest)) = run(tokens) else {
         return Err(syntax(&[]));
     };
     let directive = line_of(alloc, run)?;
-    Ok((directive, rest))
+    Ok((boxed(alloc, directive)?, rest))
 }
 
 /// The directive of a run, with its expression.

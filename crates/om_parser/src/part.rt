@@ -3,13 +3,15 @@
 ghost use Rattle.om_parser.specs.Limits.{accepted};
 ghost use Rattle.om_parser.specs.PartReading.{parts};
 ghost use Rattle.om_parser.specs.Reading.{Reads};
-ghost use Rattle.om_parser.specs.View.{view_expression, view_declaration};
+ghost use Rattle.om_parser.specs.View.{view_expression, view_declaration, view_directive};
 
 use crate::declaration::local_declaration;
 use crate::expression::whole;
+use crate::line::line;
 use crate::tree::{Declaration, Expression};
 use crate::unit::NESTING_LIMIT;
 use om_lexer::{SourceFault, Span, Token};
+use om_pragma::Directive;
 use std::alloc::Global;
 
 /// A whole expression, and the tokens behind it.
@@ -53,4 +55,15 @@ pub fn enclosed_declaration(
     ensures { Reads (λ x. (view_declaration x.0, x.1.now)) result ((parts accepted).enclosed_declaration int tokens.now) }
 {
     local_declaration(alloc, NESTING_LIMIT - 1, int, tokens)
+}
+
+/// A directive line, and the tokens behind it.
+#[tactic(auto, unfolding(crate::specs::PartReading::parts))]
+pub fn directive_line(
+    alloc: Global,
+    tokens: &[Token],
+) -> Result<(Box<Directive<Expression>>, &[Token]), SourceFault>
+    ensures { Reads (λ x. (view_directive x.0.value, x.1.now)) result ((parts accepted).line tokens.now) }
+{
+    line(alloc, tokens)
 }

@@ -18,8 +18,7 @@ use crate::atomic::has_atomic_form;
 use crate::boxed::boxed;
 use crate::construct::{LineStart, line_start, misplaced};
 use crate::front::{mark, syntax, take_mark, take_word, too_deep, word};
-use crate::line::line;
-use crate::part::{declaration, enclosed, enclosed_declaration, expression};
+use crate::part::{declaration, directive_line, enclosed, enclosed_declaration, expression};
 use crate::tree::{Block, Condition, Expression, ForHead, ForStart, Statement};
 use crate::unit::{BLOCK_LIMIT, STATEMENT_LIMIT};
 use om_lexer::{FaultCode, Keyword, Punctuator, SourceFault, Span, Token, TokenKind};
@@ -275,7 +274,7 @@ fn section(
 ) -> Result<(Box<Statement>, &[Token]), SourceFault>
     ensures { Reads (λ x. (view_statement x.0.value, x.1.now)) result (section_at (parts accepted).line (statement_at (parts accepted) checked room blocks) tokens.now) }
 {
-    let (directive, rest) = boxed_line(alloc, tokens)?;
+    let (directive, rest) = directive_line(alloc, tokens)?;
     let (first, rest) = part_item(alloc, rest, checked, room, blocks)?;
     let statement = section_of(alloc, directive, first)?;
     Ok((statement, rest))
@@ -343,7 +342,7 @@ fn construct(
 ) -> Result<(Box<Statement>, &[Token]), SourceFault>
     ensures { Reads (λ x. (view_statement x.0.value, x.1.now)) result (construct_at (parts accepted).line checked (λ c. statement_at (parts accepted) c room blocks) (parts_at (parts accepted) checked room blocks) tokens.now) }
 {
-    let (directive, rest) = boxed_line(alloc, tokens)?;
+    let (directive, rest) = directive_line(alloc, tokens)?;
     if directive.name.is_sections() {
         sections(alloc, directive, rest, checked, room, blocks)
     } else if directive.name.is_atomic() {
@@ -584,38 +583,25 @@ fn section_of(
     boxed(alloc, Statement::Section(directive, first))
 }
 
-/// A directive line, and the tokens behind it.
-#[tactic(auto, unfolding(crate::specs::PartReading::parts))]
-#[inline(never)]
-fn boxed_line(
-    alloc: Global,
-    tokens: &[Token],
-) -> Result<(Box<Directive<Expression>>, &[Token]), SourceFault>
-    ensures { Reads (λ x. (view_directive x.0.value, x.1.now)) result ((parts accepted).line tokens.now) }
-{
-    let (directive, rest) = line(alloc, tokens)?;
-    let directive = boxed(alloc, directive)?;
-    Ok((directive, rest))
-}
-
 /// A directive that stands alone, and the tokens behind it.
-#[tactic(auto, unfolding(crate::specs::ConstructReading::stand_alone_at, crate::specs::PartReading::parts))]
+#[tactic(auto, unfolding(crate::specs::ConstructReading::stand_alone_at))]
 #[inline(never)]
 fn stand_alone(alloc: Global, tokens: &[Token]) -> Result<(Box<Statement>, &[Token]), SourceFault>
     ensures { Reads (λ x. (view_statement x.0.value, x.1.now)) result (stand_alone_at (parts accepted).line tokens.now) }
 {
-    let (directive, rest) = line(alloc, tokens)?;
+    let (directive, rest) = directive_line(alloc, tokens)?;
+    let directive = Box::into_inner(directive);
     let statement = boxed(alloc, Statement::StandAlone(directive))?;
     Ok((statement, rest))
 }
 
 /// Refuses a line whose word names no directive.
-#[tactic(auto, unfolding(crate::specs::ConstructReading::unknown_line, crate::specs::ConstructReading::misplaced, crate::specs::PartReading::parts))]
+#[tactic(auto, unfolding(crate::specs::ConstructReading::unknown_line, crate::specs::ConstructReading::misplaced))]
 #[inline(never)]
 fn unknown_line(alloc: Global, tokens: &[Token]) -> Result<(Box<Statement>, &[Token]), SourceFault>
     ensures { Reads (λ x. (view_statement x.0.value, x.1.now)) result (unknown_line (parts accepted).line tokens.now) }
 {
-    line(alloc, tokens)?;
+    directive_line(alloc, tokens)?;
     Err(misplaced(tokens))
 }
 
