@@ -189,11 +189,8 @@ fn is_updated(target: &Expression, operator: AssignOperator, value: &Expression)
 {
     match operator {
         AssignOperator::Set => is_operation_on(target, value),
-        AssignOperator::Add => !contains(value, target),
-        AssignOperator::Subtract => !contains(value, target),
-        AssignOperator::Multiply => !contains(value, target),
-        AssignOperator::Divide => !contains(value, target),
         AssignOperator::Remainder => false,
+        _ => !contains(value, target),
     }
 }
 

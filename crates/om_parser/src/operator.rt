@@ -83,17 +83,13 @@ fn binary_level(operator: BinaryOperator) -> usize
     match operator {
         BinaryOperator::Or => 3,
         BinaryOperator::And => 4,
-        BinaryOperator::Equal => 5,
-        BinaryOperator::NotEqual => 5,
-        BinaryOperator::Less => 6,
-        BinaryOperator::Greater => 6,
-        BinaryOperator::LessEqual => 6,
-        BinaryOperator::GreaterEqual => 6,
-        BinaryOperator::Add => 7,
-        BinaryOperator::Subtract => 7,
-        BinaryOperator::Multiply => 8,
-        BinaryOperator::Divide => 8,
-        BinaryOperator::Remainder => 8,
+        BinaryOperator::Equal | BinaryOperator::NotEqual => 5,
+        BinaryOperator::Less
+        | BinaryOperator::Greater
+        | BinaryOperator::LessEqual
+        | BinaryOperator::GreaterEqual => 6,
+        BinaryOperator::Add | BinaryOperator::Subtract => 7,
+        BinaryOperator::Multiply | BinaryOperator::Divide | BinaryOperator::Remainder => 8,
     }
 }
 
@@ -103,16 +99,8 @@ fn is_unary(expression: &Expression) -> bool
 {
     match expression {
         Expression::Binary(_, operator, _, _) => 9 <= binary_level(*operator),
-        Expression::Conditional(..) => false,
-        Expression::Assign(..) => false,
-        Expression::Name(_) => true,
-        Expression::Constant(_) => true,
-        Expression::Text(_) => true,
-        Expression::Paren(..) => true,
-        Expression::Index(..) => true,
-        Expression::Call(..) => true,
-        Expression::Prefix(..) => true,
-        Expression::Postfix(..) => true,
+        Expression::Conditional(..) | Expression::Assign(..) => false,
+        _ => true,
     }
 }
 
