@@ -107,9 +107,7 @@ fn contains(expression: &Expression, target: &Expression) -> bool
         return true;
     }
     match expression {
-        Expression::Name(_) => false,
-        Expression::Constant(_) => false,
-        Expression::Text(_) => false,
+        Expression::Name(_) | Expression::Constant(_) | Expression::Text(_) => false,
         Expression::Paren(_, inner, _) => contains(inner, target),
         Expression::Index(_, _, index, _) => contains(index, target),
         Expression::Call(_, _, values, _) => any_contains(values, target),
@@ -153,10 +151,10 @@ fn is_atomic_operator(operator: BinaryOperator) -> bool
     ensures { result ≡ is_atomic_operator operator }
 {
     match operator {
-        BinaryOperator::Add => true,
-        BinaryOperator::Subtract => true,
-        BinaryOperator::Multiply => true,
-        BinaryOperator::Divide => true,
+        BinaryOperator::Add
+        | BinaryOperator::Subtract
+        | BinaryOperator::Multiply
+        | BinaryOperator::Divide => true,
         _ => false,
     }
 }
@@ -199,8 +197,7 @@ fn is_step(operator: PrefixOperator) -> bool
     ensures { result ≡ is_step operator }
 {
     match operator {
-        PrefixOperator::Increment => true,
-        PrefixOperator::Decrement => true,
+        PrefixOperator::Increment | PrefixOperator::Decrement => true,
         _ => false,
     }
 }

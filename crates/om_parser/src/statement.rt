@@ -63,12 +63,12 @@ fn start_of_mark(mark: Punctuator) -> Start
     match mark {
         Punctuator::OpenBrace => Start::Block,
         Punctuator::Semicolon => Start::Empty,
-        Punctuator::OpenParen => Start::Expression,
-        Punctuator::Plus => Start::Expression,
-        Punctuator::Minus => Start::Expression,
-        Punctuator::Bang => Start::Expression,
-        Punctuator::PlusPlus => Start::Expression,
-        Punctuator::MinusMinus => Start::Expression,
+        Punctuator::OpenParen
+        | Punctuator::Plus
+        | Punctuator::Minus
+        | Punctuator::Bang
+        | Punctuator::PlusPlus
+        | Punctuator::MinusMinus => Start::Expression,
         _ => Start::Nothing,
     }
 }
@@ -235,8 +235,7 @@ fn part_item(
         LineStart::StandAlone => stand_alone(alloc, tokens),
         LineStart::Section => Err(misplaced(tokens)),
         LineStart::Unknown => unknown_line(alloc, tokens),
-        LineStart::Construct => statement(alloc, tokens, checked, room, blocks),
-        LineStart::Nothing => statement(alloc, tokens, checked, room, blocks),
+        _ => statement(alloc, tokens, checked, room, blocks),
     }
 }
 
@@ -255,10 +254,7 @@ fn section_item(
 {
     match line_start(tokens) {
         LineStart::Section => section(alloc, tokens, checked, room, blocks),
-        LineStart::StandAlone => part_item(alloc, tokens, checked, room, blocks),
-        LineStart::Unknown => part_item(alloc, tokens, checked, room, blocks),
-        LineStart::Construct => part_item(alloc, tokens, checked, room, blocks),
-        LineStart::Nothing => part_item(alloc, tokens, checked, room, blocks),
+        _ => part_item(alloc, tokens, checked, room, blocks),
     }
 }
 
