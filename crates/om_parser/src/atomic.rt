@@ -108,16 +108,17 @@ fn contains(expression: &Expression, target: &Expression) -> bool
     }
     match expression {
         Expression::Name(_) | Expression::Constant(_) | Expression::Text(_) => false,
-        Expression::Paren(_, inner, _) => contains(inner, target),
-        Expression::Index(_, _, index, _) => contains(index, target),
+        Expression::Paren(_, part, _)
+        | Expression::Index(_, _, part, _)
+        | Expression::Prefix(_, _, part)
+        | Expression::Postfix(part, _, _) => contains(part, target),
         Expression::Call(_, _, values, _) => any_contains(values, target),
-        Expression::Prefix(_, _, operand) => contains(operand, target),
-        Expression::Postfix(operand, _, _) => contains(operand, target),
-        Expression::Binary(left, _, _, right) => contains(left, target) || contains(right, target),
         Expression::Conditional(condition, _, value, _, other) => {
             contains(condition, target) || contains(value, target) || contains(other, target)
         }
-        Expression::Assign(left, _, _, right) => contains(left, target) || contains(right, target),
+        Expression::Binary(left, _, _, right) | Expression::Assign(left, _, _, right) => {
+            contains(left, target) || contains(right, target)
+        }
     }
 }
 

@@ -298,9 +298,9 @@ fn statement(
     };
     match start {
         Start::Block => block_after(alloc, first.span, rest, checked, room, blocks),
-        Start::If => headed(alloc, start, first.span, rest, checked, room, blocks),
-        Start::While => headed(alloc, start, first.span, rest, checked, room, blocks),
-        Start::For => headed(alloc, start, first.span, rest, checked, room, blocks),
+        Start::If | Start::While | Start::For => {
+            headed(alloc, start, first.span, rest, checked, room, blocks)
+        }
         Start::Do => do_after(alloc, first.span, rest, checked, room, blocks),
         Start::Directive => directive(alloc, tokens, checked, room, blocks),
         _ => simple_boxed(alloc, start, first.span, rest, tokens),
