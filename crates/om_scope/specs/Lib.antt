@@ -20,6 +20,7 @@ pub mod Resolution
 pub mod TargetViews
 pub mod Captures
 pub mod StatementResolution
+pub mod Parts
 pub mod UnitResolution
 pub mod Uses
 pub mod Laws

@@ -4,7 +4,7 @@ ghost use Rattle.std.specs.Prelude.{◌≡◌, IfOk, map, option_map};
 ghost use Rattle.om_parser.specs.View.{view_directive, view_expression};
 ghost use Rattle.om_pragma.specs.Expressions.{map_clause, map_item};
 ghost use Rattle.om_pragma.specs.Questions.{atomic_kind};
-ghost use Rattle.om_scope.specs.ResolvedTree as resolved;
+ghost use Rattle.om_scope.specs.Parts.{with_around};
 ghost use Rattle.om_scope.specs.ResolvedTree.{statements};
 ghost use Rattle.om_scope.specs.ResolvedView.{view_resolved_clause, view_resolved_loop, view_resolved_statement};
 ghost use Rattle.om_scope.specs.StatementResolution.{clause_schedule, construct_of, critical_name, has_default, has_nowait, loop_construct_of, parallel_of, part_of, plain_schedule, schedule_in, schedule_of, sections_construct_of, task_of};
@@ -13,7 +13,7 @@ use crate::captures::{captures_of_parallel, captures_of_task};
 use crate::construct::traits_of;
 use crate::declaration::copy_of;
 use crate::resolved::{
-    ConstructKind, ResolvedClause, ResolvedLoop, ResolvedSchedule, ResolvedStatement,
+    Capture, ConstructKind, ResolvedClause, ResolvedLoop, ResolvedSchedule, ResolvedStatement,
 };
 use crate::symbols::is_parallel;
 use om_lexer::Span;
@@ -57,32 +57,10 @@ fn parallel_of(
 ) -> Result<ResolvedStatement, AllocError>
     ensures { IfOk result (λ found. view_resolved_statement found ≡ parallel_of (view_directive directive.now) (map view_resolved_clause clauses.items) (view_resolved_statement body)) }
 {
-    let start = directive.hash.start;
-    let captures = captures_of_parallel(alloc, start, clauses.as_slice(), &body)?;
     let body = Box::new(alloc, body)?;
-    Ok(ResolvedStatement::Parallel(directive.hash, clauses, captures, body))
-}
-
-/// A `task` round a statement, in the `parallel` that begins there.
-fn task_of(
-    alloc: Global,
-    parallel: Option<u32>,
-    directive: &Directive<Expression>,
-    clauses: Vec<ResolvedClause>,
-    body: ResolvedStatement,
-) -> Result<ResolvedStatement, AllocError>
-    ensures { IfOk result (λ found. view_resolved_statement found ≡ task_of parallel (view_directive directive.now) (map view_resolved_clause clauses.items) (view_resolved_statement body)) }
-{
-    let captures = captures_of_task(
-        alloc,
-        has_default(directive),
-        parallel,
-        directive.hash.start,
-        clauses.as_slice(),
-        &body,
-    )?;
-    let body = Box::new(alloc, body)?;
-    Ok(ResolvedStatement::Task(directive.hash, clauses, captures, body))
+    let at = directive.hash;
+    let captures = captures_of_parallel(alloc, at.start, clauses.as_slice(), &body)?;
+    Ok(ResolvedStatement::Parallel(at, clauses, captures, body))
 }
 
 /// The name of a `critical`, if it has one.
@@ -98,22 +76,122 @@ fn critical_name(
     }
 }
 
-/// A construct of a kind round a statement.
-fn other_construct(
+/// What a construct puts round its statement, beside its clauses.
+#[derive(Drop)]
+pub enum Around {
+    /// A `parallel`, with what it takes from outside.
+    Parallel(Seq<Capture>),
+    /// A `task`, with what it takes from outside.
+    Task(Seq<Capture>),
+    Construct(ConstructKind),
+    /// The statement stays as it is.
+    Nothing,
+}
+
+/// What a `task` in the `parallel` that begins there puts round a statement.
+fn around_task(
     alloc: Global,
-    at: Span,
-    kind: ConstructKind,
-    clauses: Vec<ResolvedClause>,
-    body: ResolvedStatement,
-) -> Result<ResolvedStatement, AllocError>
-    ensures { IfOk result (λ found. view_resolved_statement found ≡ resolved.Construct at kind (map view_resolved_clause clauses.items) (view_resolved_statement body)) }
+    parallel: Option<u32>,
+    directive: &Directive<Expression>,
+    clauses: &[ResolvedClause],
+    body: &ResolvedStatement,
+) -> Result<Around, AllocError>
+    ensures { let cs = map view_resolved_clause clauses.now in
+        let tree = view_resolved_statement body.now in
+        IfOk result (λ around. with_around around directive.now.hash cs tree ≡ task_of parallel (view_directive directive.now) cs tree) }
 {
-    let body = Box::new(alloc, body)?;
-    Ok(ResolvedStatement::Construct(at, kind, clauses, body))
+    let captures = captures_of_task(
+        alloc,
+        has_default(directive),
+        parallel,
+        directive.hash.start,
+        clauses,
+        body,
+    )?;
+    Ok(Around::Task(captures))
+}
+
+/// What a `parallel` puts round a statement.
+fn around_parallel(
+    alloc: Global,
+    directive: &Directive<Expression>,
+    clauses: &[ResolvedClause],
+    body: &ResolvedStatement,
+) -> Result<Around, AllocError>
+    ensures { let cs = map view_resolved_clause clauses.now in
+        let tree = view_resolved_statement body.now in
+        IfOk result (λ around. with_around around directive.now.hash cs tree ≡ parallel_of (view_directive directive.now) cs tree) }
+{
+    let captures = captures_of_parallel(alloc, directive.hash.start, clauses, body)?;
+    Ok(Around::Parallel(captures))
+}
+
+/// What a `critical` of this name puts round a statement.
+fn around_critical(alloc: Global, name: &Option<(Span, Name, Span)>) -> Result<Around, AllocError>
+    ensures { IfOk result (λ around. around ≡ Around.Construct (ConstructKind.Critical (critical_name name.now))) }
+{
+    let name = critical_name(alloc, name)?;
+    Ok(Around::Construct(ConstructKind::Critical(name)))
+}
+
+/// What a construct puts round its statement, in the `parallel` that begins there.
+#[tactic(auto, unfolding(crate::specs::StatementResolution::construct_of))]
+fn around_of(
+    alloc: Global,
+    parallel: Option<u32>,
+    directive: &Directive<Expression>,
+    clauses: &[ResolvedClause],
+    body: &ResolvedStatement,
+) -> Result<Around, AllocError>
+    ensures { let tree = view_directive directive.now in
+        let cs = map view_resolved_clause clauses.now in
+        let inner = view_resolved_statement body.now in
+        IfOk result (λ around. with_around around tree.hash cs inner ≡ construct_of parallel tree tree.name cs inner) }
+{
+    match &directive.name {
+        DirectiveName::Parallel(_) => around_parallel(alloc, directive, clauses, body),
+        DirectiveName::Task(_) => around_task(alloc, parallel, directive, clauses, body),
+        DirectiveName::Single(_) => {
+            let kind = ConstructKind::Single(has_nowait(directive));
+            Ok(Around::Construct(kind))
+        }
+        DirectiveName::Masked(_) => Ok(Around::Construct(ConstructKind::Masked)),
+        DirectiveName::Master(_) => Ok(Around::Construct(ConstructKind::Masked)),
+        DirectiveName::Critical(_, name) => around_critical(alloc, name),
+        DirectiveName::Atomic(_) => {
+            let kind = ConstructKind::Atomic(atomic_kind(directive));
+            Ok(Around::Construct(kind))
+        }
+        DirectiveName::For(_) => Ok(Around::Nothing),
+        DirectiveName::Sections(_) => Ok(Around::Nothing),
+        DirectiveName::Section(_) => Ok(Around::Nothing),
+        DirectiveName::ParallelFor(_, _) => Ok(Around::Nothing),
+        DirectiveName::ParallelSections(_, _) => Ok(Around::Nothing),
+        DirectiveName::Barrier(_) => Ok(Around::Nothing),
+        DirectiveName::Taskwait(_) => Ok(Around::Nothing),
+        DirectiveName::Taskyield(_) => Ok(Around::Nothing),
+        DirectiveName::Flush(_, _) => Ok(Around::Nothing),
+    }
+}
+
+/// A statement with what is put round it.
+fn with_around(
+    around: Around,
+    at: Span,
+    clauses: Vec<ResolvedClause>,
+    body: Box<ResolvedStatement>,
+) -> ResolvedStatement
+    ensures { view_resolved_statement result ≡ with_around around at (map view_resolved_clause clauses.items) (view_resolved_statement body.value) }
+{
+    match around {
+        Around::Parallel(captures) => ResolvedStatement::Parallel(at, clauses, captures, body),
+        Around::Task(captures) => ResolvedStatement::Task(at, clauses, captures, body),
+        Around::Construct(kind) => ResolvedStatement::Construct(at, kind, clauses, body),
+        Around::Nothing => Box::into_inner(body),
+    }
 }
 
 /// A construct round a statement, in the `parallel` that begins there.
-#[tactic(auto, unfolding(crate::specs::StatementResolution::construct_of))]
 pub fn construct_of(
     alloc: Global,
     parallel: Option<u32>,
@@ -124,38 +202,9 @@ pub fn construct_of(
     ensures { let tree = view_directive directive.now in
         IfOk result (λ found. view_resolved_statement found ≡ construct_of parallel tree tree.name (map view_resolved_clause clauses.items) (view_resolved_statement body)) }
 {
-    let at = directive.hash;
-    match &directive.name {
-        DirectiveName::Parallel(_) => parallel_of(alloc, directive, clauses, body),
-        DirectiveName::Task(_) => task_of(alloc, parallel, directive, clauses, body),
-        DirectiveName::Single(_) => {
-            let kind = ConstructKind::Single(has_nowait(directive));
-            other_construct(alloc, at, kind, clauses, body)
-        }
-        DirectiveName::Masked(_) => {
-            other_construct(alloc, at, ConstructKind::Masked, clauses, body)
-        }
-        DirectiveName::Master(_) => {
-            other_construct(alloc, at, ConstructKind::Masked, clauses, body)
-        }
-        DirectiveName::Critical(_, name) => {
-            let kind = ConstructKind::Critical(critical_name(alloc, name)?);
-            other_construct(alloc, at, kind, clauses, body)
-        }
-        DirectiveName::Atomic(_) => {
-            let kind = ConstructKind::Atomic(atomic_kind(directive));
-            other_construct(alloc, at, kind, clauses, body)
-        }
-        DirectiveName::For(_) => Ok(body),
-        DirectiveName::Sections(_) => Ok(body),
-        DirectiveName::Section(_) => Ok(body),
-        DirectiveName::ParallelFor(_, _) => Ok(body),
-        DirectiveName::ParallelSections(_, _) => Ok(body),
-        DirectiveName::Barrier(_) => Ok(body),
-        DirectiveName::Taskwait(_) => Ok(body),
-        DirectiveName::Taskyield(_) => Ok(body),
-        DirectiveName::Flush(_, _) => Ok(body),
-    }
+    let body = Box::new(alloc, body)?;
+    let around = around_of(alloc, parallel, directive, clauses.as_slice(), &body)?;
+    Ok(with_around(around, directive.hash, clauses, body))
 }
 
 /// A construct that is for a loop, and what the loop repeats.
@@ -164,12 +213,11 @@ pub fn loop_construct_of(
     directive: &Directive<Expression>,
     clauses: Vec<ResolvedClause>,
     repeated: ResolvedLoop,
-    body: ResolvedStatement,
+    body: Box<ResolvedStatement>,
 ) -> Result<ResolvedStatement, AllocError>
-    ensures { IfOk result (λ found. view_resolved_statement found ≡ loop_construct_of (view_directive directive.now) (map view_resolved_clause clauses.items) (view_resolved_loop repeated) (view_resolved_statement body)) }
+    ensures { IfOk result (λ found. view_resolved_statement found ≡ loop_construct_of (view_directive directive.now) (map view_resolved_clause clauses.items) (view_resolved_loop repeated) (view_resolved_statement body.value)) }
 {
     let at = directive.hash;
-    let body = Box::new(alloc, body)?;
     if is_parallel(traits_of(&directive.name).region) {
         let inner = ResolvedStatement::Loop(at, Vec::new(alloc), true, repeated, body);
         return parallel_of(alloc, directive, clauses, inner);

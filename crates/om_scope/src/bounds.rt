@@ -90,10 +90,11 @@ pub fn resolve_loop(
     ensures in_scope { OnOk result (symbols.new ≡ symbols.old) }
     ensures resolved { IfOk result (λ made. resolved_loop symbols.old schedule (view_loop found.now) ≡ Some (view_resolved_loop made)) }
 {
+    let variable = local_of(alloc, found.start.variable)?;
     let (from, to) = resolve_bounds(alloc, symbols, found)?;
     Ok(ResolvedLoop {
         at: found.at,
-        variable: local_of(alloc, found.start.variable)?,
+        variable,
         from,
         comparison: found.comparison,
         to,

@@ -3,9 +3,10 @@
 ghost use Rattle.std.specs.Prelude.{◌≡◌, ◌<◌, ◌++◌, pos, true, Option, Some, IfOk, map, length, option_map};
 ghost use Rattle.om_parser.specs.Tree.{arguments};
 ghost use Rattle.om_parser.specs.View.{view_expression};
-ghost use Rattle.om_scope.specs.ExpressionRules.{undeclared_breaches, is_undeclared, is_scalar, is_array, is_printf, is_copied_array, is_miscalled, scalar_breaches, unlisted_breaches, array_breaches, call_breaches, constant_breaches, leading_breaches, misplaced_breaches, expression_breaches, called_breaches, own_call_breaches, argument_count, arguments_breaches, target_breaches, argument_breaches, element_breaches, is_print, is_target, prefix_breaches, print_breaches, printed_breaches, misused_array_breaches, misused_scalar_breaches};
+ghost use Rattle.om_scope.specs.ExpressionRules.{undeclared_breaches, is_undeclared, is_scalar, is_array, is_printf, is_copied_array, is_miscalled, scalar_breaches, unlisted_breaches, array_breaches, call_breaches, constant_breaches, leading_breaches, misplaced_breaches, expression_breaches, called_breaches, own_call_breaches, argument_count, arguments_breaches, target_breaches, argument_breaches, element_breaches, is_print, is_target, misprint_breaches, prefix_breaches, print_breaches, printed_breaches, misused_array_breaches, misused_scalar_breaches};
 ghost use Rattle.om_scope.specs.Checks.{Checks, ChecksExactly};
 ghost use Rattle.om_scope.specs.Faults.{first_of};
+ghost use Rattle.om_scope.specs.Parts.{step_of, unary_of};
 ghost use Rattle.om_scope.specs.Resolution.{assigned, call_of, callee_named, format_in, own_call_of, prefixed, print_of, resolved_expression, resolved_printed, resolved_target, resolved_values, resolved_call, stepped, text_in, variable_named, variable_of};
 ghost use Rattle.om_scope.specs.ResolvedTree as trees;
 ghost use Rattle.om_scope.specs.ResolvedView.{view_resolved_expression};
@@ -273,19 +274,17 @@ pub enum Target {
 
 /// An assignment of a value to a target.
 fn assigned(
-    alloc: Global,
     target: Target,
     operator: AssignOperator,
-    value: ResolvedExpression,
-) -> Result<ResolvedExpression, AllocError>
-    ensures { IfOk result (λ found. view_resolved_expression found ≡ assigned (view_target target) operator (view_resolved_expression value)) }
+    value: Box<ResolvedExpression>,
+) -> ResolvedExpression
+    ensures { view_resolved_expression result ≡ assigned (view_target target) operator (view_resolved_expression value.value) }
 {
-    let value = Box::new(alloc, value)?;
     match target {
-        Target::Variable(variable) => Ok(ResolvedExpression::Assign(variable, operator, value)),
-        Target::Element(array, index) => Ok(ResolvedExpression::AssignElement(
-            array, index, operator, value,
-        )),
+        Target::Variable(variable) => ResolvedExpression::Assign(variable, operator, value),
+        Target::Element(array, index) => {
+            ResolvedExpression::AssignElement(array, index, operator, value)
+        }
     }
 }
 
@@ -343,8 +342,8 @@ pub fn resolve_expression(
         }
         Expression::Assign(target, operator, _, value) => {
             let target = resolve_target(alloc, symbols, target)?;
-            let value = resolve_expression(alloc, symbols, true, value)?;
-            Ok(assigned(alloc, target, *operator, value)?)
+            let value = resolve_operand(alloc, symbols, value)?;
+            Ok(assigned(target, *operator, value))
         }
     }
 }
@@ -376,29 +375,45 @@ fn resolve_prefix(
         IfOk result (λ found. prefixed operator (resolved_target symbols.now tree) (resolved_expression symbols.now tree) ≡ Some (view_resolved_expression found)) }
 {
     match operator {
-        PrefixOperator::Increment => {
-            let target = resolve_target(alloc, symbols, operand)?;
-            let one = ResolvedExpression::Constant(1);
-            Ok(assigned(alloc, target, AssignOperator::Add, one)?)
-        }
+        PrefixOperator::Increment => resolve_step(alloc, symbols, AssignOperator::Add, operand),
         PrefixOperator::Decrement => {
-            let target = resolve_target(alloc, symbols, operand)?;
-            let one = ResolvedExpression::Constant(1);
-            Ok(assigned(alloc, target, AssignOperator::Subtract, one)?)
+            resolve_step(alloc, symbols, AssignOperator::Subtract, operand)
         }
-        PrefixOperator::Plus => {
-            let operand = resolve_operand(alloc, symbols, operand)?;
-            Ok(ResolvedExpression::Unary(UnaryOperator::Plus, operand))
-        }
-        PrefixOperator::Minus => {
-            let operand = resolve_operand(alloc, symbols, operand)?;
-            Ok(ResolvedExpression::Unary(UnaryOperator::Negate, operand))
-        }
-        PrefixOperator::Not => {
-            let operand = resolve_operand(alloc, symbols, operand)?;
-            Ok(ResolvedExpression::Unary(UnaryOperator::Not, operand))
-        }
+        PrefixOperator::Plus => resolve_unary(alloc, symbols, UnaryOperator::Plus, operand),
+        PrefixOperator::Minus => resolve_unary(alloc, symbols, UnaryOperator::Negate, operand),
+        PrefixOperator::Not => resolve_unary(alloc, symbols, UnaryOperator::Not, operand),
     }
+}
+
+/// `++x` is `x += 1`, and `--x` is `x -= 1`.
+#[cycle(expression)]
+fn resolve_step(
+    alloc: Global,
+    symbols: &Symbols,
+    operator: AssignOperator,
+    operand: &Expression,
+) -> Result<ResolvedExpression, SourceFault>
+    ensures checked { Checks result (target_breaches symbols.now (view_expression operand.now)) }
+    ensures resolved { IfOk result (λ found. step_of operator (resolved_target symbols.now (view_expression operand.now)) ≡ Some (view_resolved_expression found)) }
+{
+    let target = resolve_target(alloc, symbols, operand)?;
+    let one = Box::new(alloc, ResolvedExpression::Constant(1))?;
+    Ok(assigned(target, operator, one))
+}
+
+/// An operator before an operand whose value it uses.
+#[cycle(expression)]
+fn resolve_unary(
+    alloc: Global,
+    symbols: &Symbols,
+    operator: UnaryOperator,
+    operand: &Expression,
+) -> Result<ResolvedExpression, SourceFault>
+    ensures checked { Checks result (expression_breaches symbols.now true (view_expression operand.now)) }
+    ensures resolved { IfOk result (λ found. unary_of operator (resolved_expression symbols.now (view_expression operand.now)) ≡ Some (view_resolved_expression found)) }
+{
+    let operand = resolve_operand(alloc, symbols, operand)?;
+    Ok(ResolvedExpression::Unary(operator, operand))
 }
 
 /// What is assigned to.
@@ -518,6 +533,25 @@ fn format_in(values: &[(Option<Span>, Expression)]) -> Option<&Seq<u8>>
     }
 }
 
+/// The format of a `printf`: S9.
+#[tactic(auto, using(crate::proofs::Firsts::first_of_left))]
+fn resolve_format(
+    alloc: Global,
+    for_value: bool,
+    name: &Name,
+    values: &[(Option<Span>, Expression)],
+) -> Result<Seq<u8>, SourceFault>
+    ensures checked { Checks result (misprint_breaches for_value name.now (arguments (map view_argument values.now))) }
+    ensures resolved { IfOk result (λ format. format_in (arguments (map view_argument values.now)) ≡ Some format) }
+{
+    let broken = for_value || !is_print(values);
+    refuse_if(broken, FaultCode::Misuse, name.span.start)?;
+    match format_in(values) {
+        Some(format) => Ok(Seq::of(Vec::from_slice(alloc, format.as_slice())?)),
+        None => unreachable!(),
+    }
+}
+
 /// A call of `printf`: S9, S11.
 #[tactic(auto, using(crate::proofs::Firsts::first_of_left))]
 #[cycle(expression)]
@@ -532,16 +566,9 @@ fn resolve_print(
     ensures resolved { let given = arguments (map view_argument values.now) in
         IfOk result (λ found. print_of (format_in given) (resolved_printed symbols.now given) ≡ Some (view_resolved_expression found)) }
 {
-    let broken = for_value || !is_print(values);
-    refuse_if(broken, FaultCode::Misuse, name.span.start)?;
+    let format = resolve_format(alloc, for_value, name, values)?;
     let printed = resolve_printed(alloc, symbols, values)?;
-    match format_in(values) {
-        Some(format) => {
-            let format = Seq::of(Vec::from_slice(alloc, format.as_slice())?);
-            Ok(ResolvedExpression::Print(format, printed))
-        }
-        None => unreachable!(),
-    }
+    Ok(ResolvedExpression::Print(format, printed))
 }
 
 /// The arguments of a `printf`, of which the first is its format: the values behind it.

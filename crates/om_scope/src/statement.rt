@@ -1,20 +1,20 @@
 //! Statements: their rules, and the variables of their names.
 
-ghost use Rattle.std.specs.Prelude.{◌≡◌, ◌++◌, ◌<◌, OnOk, IfOk, Some, map, option_map};
+ghost use Rattle.std.specs.Prelude.{◌≡◌, ◌++◌, ◌<◌, [], false, not, OnOk, IfOk, Some, map, option_map};
 ghost use Rattle.om_parser.specs.Tree.{statements};
-ghost use Rattle.om_parser.specs.View.{view_expression, view_for_head, view_directive, view_for_start, view_statement};
+ghost use Rattle.om_parser.specs.View.{view_declaration, view_expression, view_for_head, view_directive, view_for_start, view_statement};
 ghost use Rattle.om_scope.specs.Checks.{Checks, ChecksExactly};
 ghost use Rattle.om_scope.specs.DirectiveRules.{directive_breaches, flush_breaches, in_construct, in_kind};
-ghost use Rattle.om_scope.specs.Faults.{with_breach};
+ghost use Rattle.om_scope.specs.ExpressionRules.{expression_breaches};
 ghost use Rattle.om_scope.specs.LoopViews.{view_loop};
 ghost use Rattle.om_scope.specs.Loops.{loop_in};
-ghost use Rattle.om_scope.specs.Outcomes.{Refuses};
-ghost use Rattle.om_scope.specs.Places.{statement_start};
+ghost use Rattle.om_scope.specs.Parts.{resolved_declaration, resolved_effect, resolved_return, round_listed};
+ghost use Rattle.om_scope.specs.Places.{statement_first};
 ghost use Rattle.om_scope.specs.ResolvedTree as resolved;
 ghost use Rattle.om_scope.specs.ResolvedView.{view_resolved_clause, view_resolved_expression, view_resolved_loop, view_resolved_start, view_resolved_statement};
-ghost use Rattle.om_scope.specs.Scopes.{inside};
+ghost use Rattle.om_scope.specs.Scopes.{after_locals, declarators_of, inside};
 ghost use Rattle.om_scope.specs.StatementResolution.{resolved_alone, resolved_part, resolved_clauses, resolved_construct, resolved_for, resolved_loop, resolved_loop_construct, resolved_parts, resolved_perhaps, resolved_plain_construct, resolved_repeated, resolved_sections, resolved_start, resolved_statement, resolved_statements, schedule_of};
-ghost use Rattle.om_scope.specs.StatementRules.{after_for_start, after_statement, for_start_breaches, for_turn_breaches, after_statements, for_breaches, looping, body_breaches, continuing, found_breaches, in_loop, loop_construct_breaches, jump_breaches, construct_breaches, plain_construct_breaches, part_breaches, begins_part, has_section, parts_behind, sections_breaches, sections_construct_breaches, stand_alone_breaches, perhaps_breaches, return_breaches, statement_breaches, statements_breaches};
+ghost use Rattle.om_scope.specs.StatementRules.{after_for_start, after_statement, for_start_breaches, for_turn_breaches, after_statements, for_breaches, looping, body_breaches, continuing, found_breaches, in_loop, loop_construct_breaches, jump_breaches, construct_breaches, plain_construct_breaches, part_breaches, begins_part, has_section, parts_behind, sections_breaches, sections_construct_breaches, locals_breaches, round_bounds, stand_alone_breaches, perhaps_breaches, return_breaches, statement_breaches, statements_breaches};
 
 use crate::assembly::{
     construct_of, loop_construct_of, part_of, schedule_of, sections_construct_of,
@@ -34,8 +34,8 @@ use crate::resolved::{
     ResolvedStatement, StandAlone,
 };
 use crate::symbols::{RegionKind, Symbols, is_parallel};
-use om_lexer::{FaultCode, SourceFault};
-use om_parser::{Expression, ForHead, ForStart, Statement};
+use om_lexer::{FaultCode, SourceFault, Span};
+use om_parser::{Declaration, Expression, ForHead, ForStart, Statement};
 use om_pragma::{Directive, DirectiveName};
 use std::alloc::{AllocError, Global};
 
@@ -64,7 +64,7 @@ fn check_jump(allowed: bool, at: u32) -> Result<(), SourceFault>
 }
 
 /// What a function returns: S9.
-fn resolve_return(
+fn resolve_returned(
     alloc: Global,
     symbols: &Symbols,
     flow: Flow,
@@ -84,6 +84,51 @@ fn resolve_return(
             }
         }
     }
+}
+
+/// A `return`: S9, S14.
+#[tactic(auto, using(crate::proofs::Firsts::first_of_left))]
+fn resolve_return(
+    alloc: Global,
+    symbols: &Symbols,
+    flow: Flow,
+    at: Span,
+    value: &Option<Expression>,
+) -> Result<ResolvedStatement, SourceFault>
+    ensures checked { Checks result (jump_breaches (not flow.in_construct) at.start ++ return_breaches symbols.now flow (option_map view_expression value.now)) }
+    ensures resolved { IfOk result (λ found. resolved_return symbols.now at (option_map view_expression value.now) ≡ Some (view_resolved_statement found)) }
+{
+    check_jump(!flow.in_construct, at.start)?;
+    let value = resolve_returned(alloc, symbols, flow, value)?;
+    Ok(ResolvedStatement::Return(at, value))
+}
+
+/// A declaration in a block.
+fn resolve_declaration(
+    alloc: Global,
+    symbols: &mut Symbols,
+    declaration: &Declaration,
+) -> Result<ResolvedStatement, SourceFault>
+    ensures checked { Checks result (locals_breaches symbols.old (declarators_of (view_declaration declaration.now))) }
+    ensures in_scope { OnOk result (symbols.new ≡ after_locals symbols.old (declarators_of (view_declaration declaration.now))) }
+    ensures resolved { IfOk result (λ found. resolved_declaration symbols.old (view_declaration declaration.now) ≡ Some (view_resolved_statement found)) }
+{
+    let declared = resolve_locals(alloc, symbols, declaration)?;
+    Ok(ResolvedStatement::Declaration(declaration.int, declared))
+}
+
+/// An expression whose value is not used, as a statement.
+fn resolve_effect(
+    alloc: Global,
+    symbols: &Symbols,
+    expression: &Expression,
+) -> Result<ResolvedStatement, SourceFault>
+    ensures checked { Checks result (expression_breaches symbols.now false (view_expression expression.now)) }
+    ensures resolved { IfOk result (λ found. resolved_effect symbols.now (view_expression expression.now) ≡ Some (view_resolved_statement found)) }
+{
+    let at = expression_first(expression);
+    let expression = resolve_expression(alloc, symbols, false, expression)?;
+    Ok(ResolvedStatement::Expression(at, expression))
 }
 
 /// An expression that may be left out.
@@ -143,6 +188,51 @@ fn resolve_for_turn(
     let condition = resolve_perhaps(alloc, symbols, true, &head.condition)?;
     let step = resolve_perhaps(alloc, symbols, false, &head.step)?;
     Ok((condition, step))
+}
+
+/// What a `for` has before its body.
+#[derive(Drop)]
+struct ResolvedHead {
+    start: ResolvedStart,
+    condition: Option<ResolvedExpression>,
+    step: Option<ResolvedExpression>,
+}
+
+/// What a `for` has before its body: what it begins with, its condition and its step.
+#[tactic(auto, using(crate::proofs::Firsts::first_of_left))]
+fn resolve_for_head(
+    alloc: Global,
+    symbols: &mut Symbols,
+    head: &ForHead,
+) -> Result<ResolvedHead, SourceFault>
+    ensures checked { let tree = view_for_head head.now in
+        Checks result (for_start_breaches symbols.old tree.start ++ for_turn_breaches (after_for_start symbols.old tree.start) tree) }
+    ensures in_scope { OnOk result (symbols.new ≡ after_for_start symbols.old (view_for_head head.now).start) }
+    ensures start { IfOk result (λ found. resolved_start symbols.old (view_for_head head.now).start ≡ Some (view_resolved_start found.start)) }
+    ensures condition { let tree = view_for_head head.now in
+        IfOk result (λ found. resolved_perhaps (after_for_start symbols.old tree.start) tree.condition ≡ Some (option_map view_resolved_expression found.condition)) }
+    ensures step { let tree = view_for_head head.now in
+        IfOk result (λ found. resolved_perhaps (after_for_start symbols.old tree.start) tree.step ≡ Some (option_map view_resolved_expression found.step)) }
+{
+    let start = resolve_for_start(alloc, symbols, &head.start)?;
+    let (condition, step) = resolve_for_turn(alloc, symbols, head)?;
+    Ok(ResolvedHead {
+        start,
+        condition,
+        step,
+    })
+}
+
+/// A `for` with its body.
+fn for_of(at: Span, head: ResolvedHead, body: Box<ResolvedStatement>) -> ResolvedStatement
+    ensures { view_resolved_statement result ≡ resolved.For at (view_resolved_start head.start) (option_map view_resolved_expression head.condition) (option_map view_resolved_expression head.step) (view_resolved_statement body.value) }
+{
+    let ResolvedHead {
+        start,
+        condition,
+        step,
+    } = head;
+    ResolvedStatement::For(at, start, condition, step, body)
 }
 
 /// A directive that stands alone, by its name.
@@ -229,6 +319,63 @@ fn enter_construct(
     Ok(clauses)
 }
 
+/// Enters a construct whose clauses say this, with the bounds of its loop. Those of a `parallel for` use
+/// its copies, and those of a `for` the originals.
+fn enter_bounds(
+    alloc: Global,
+    symbols: &mut Symbols,
+    kind: RegionKind,
+    listed: Listed,
+    schedule: ResolvedSchedule,
+    found: &Loop<'_>,
+) -> Result<ResolvedLoop, SourceFault>
+    ensures checked { Checks result (found_breaches (round_listed kind listed symbols.old) (view_loop found.now)) }
+    ensures in_scope { OnOk result (symbols.new ≡ in_kind kind listed symbols.old) }
+    ensures resolved { IfOk result (λ repeated. resolved_loop (round_listed kind listed symbols.old) schedule (view_loop found.now) ≡ Some (view_resolved_loop repeated)) }
+{
+    if is_parallel(kind) {
+        enter_listed(symbols, kind, listed)?;
+        return resolve_loop(alloc, symbols, schedule, found);
+    }
+    let repeated = resolve_loop(alloc, symbols, schedule, found)?;
+    enter_listed(symbols, kind, listed)?;
+    Ok(repeated)
+}
+
+/// Enters a construct that is for a loop, after its clauses and the loop's bounds.
+#[tactic(auto, using(crate::proofs::Firsts::first_of_left))]
+fn enter_loop_construct(
+    alloc: Global,
+    symbols: &mut Symbols,
+    flow: Flow,
+    directive: &Directive<Expression>,
+    found: &Loop<'_>,
+) -> Result<(Vec<ResolvedClause>, ResolvedLoop), SourceFault>
+    ensures checked { let tree = view_directive directive.now in
+        Checks result (directive_breaches symbols.old flow tree ++ found_breaches (round_bounds tree symbols.old) (view_loop found.now)) }
+    ensures listed { OnOk result (directive_breaches symbols.old flow (view_directive directive.now) ≡ []) }
+    ensures bounded { OnOk result (found_breaches (round_bounds (view_directive directive.now) symbols.old) (view_loop found.now) ≡ []) }
+    ensures in_scope { OnOk result (symbols.new ≡ in_construct (view_directive directive.now) symbols.old) }
+    ensures clauses { IfOk result (λ made. resolved_clauses symbols.old (view_directive directive.now).clauses ≡ Some (map view_resolved_clause made.0.items)) }
+    ensures repeated { let tree = view_directive directive.now in
+        IfOk result (λ made. resolved_loop (round_bounds tree symbols.old) (schedule_of tree.clauses) (view_loop found.now) ≡ Some (view_resolved_loop made.1)) }
+{
+    let (listed, clauses) = resolve_directive(alloc, symbols, flow, directive)?;
+    let kind = traits_of(&directive.name).region;
+    let schedule = schedule_of(directive.clauses.as_slice());
+    let repeated = enter_bounds(alloc, symbols, kind, listed, schedule, found)?;
+    Ok((clauses, repeated))
+}
+
+/// The empty statement in the place of a body that is no loop.
+fn no_loop(alloc: Global, body: &Statement) -> Result<Box<ResolvedStatement>, SourceFault>
+    ensures checked { Checks result [] }
+    ensures made { IfOk result (λ made. view_resolved_statement made.value ≡ resolved.Empty (statement_first (view_statement body.now))) }
+{
+    let at = statement_first(body);
+    Ok(Box::new(alloc, ResolvedStatement::Empty(at))?)
+}
+
 /// A statement, or a declaration in a block.
 #[tactic(auto, using(crate::proofs::Firsts::first_of_left), unfolding(crate::specs::StatementRules::statement_breaches, crate::specs::StatementResolution::resolved_statement))]
 #[cycle(statement)]
@@ -243,20 +390,13 @@ fn resolve_statement(
     ensures resolved { IfOk result (λ found. resolved_statement symbols.old flow.parallel (view_statement statement.now) ≡ Some (view_resolved_statement found)) }
 {
     match statement {
-        Statement::Declaration(declaration) => {
-            let declared = resolve_locals(alloc, symbols, declaration)?;
-            Ok(ResolvedStatement::Declaration(declaration.int, declared))
-        }
+        Statement::Declaration(declaration) => resolve_declaration(alloc, symbols, declaration),
         Statement::Block(left, items, _) => {
             let items = resolve_block(alloc, symbols, flow, items.as_slice())?;
             Ok(ResolvedStatement::Block(*left, items))
         }
         Statement::Empty(semicolon) => Ok(ResolvedStatement::Empty(*semicolon)),
-        Statement::Expression(expression, _) => {
-            let at = expression_first(expression);
-            let expression = resolve_expression(alloc, symbols, false, expression)?;
-            Ok(ResolvedStatement::Expression(at, expression))
-        }
+        Statement::Expression(expression, _) => resolve_effect(alloc, symbols, expression),
         Statement::If(at, condition, then) => {
             let condition = resolve_expression(alloc, symbols, true, &condition.value)?;
             let then = resolve_body(alloc, symbols, flow, then)?;
@@ -279,11 +419,7 @@ fn resolve_statement(
             Ok(ResolvedStatement::Do(*at, body, condition))
         }
         Statement::For(head, body) => resolve_for(alloc, symbols, flow, head, body),
-        Statement::Return(at, value, _) => {
-            check_jump(!flow.in_construct, at.start)?;
-            let value = resolve_return(alloc, symbols, flow, value)?;
-            Ok(ResolvedStatement::Return(*at, value))
-        }
+        Statement::Return(at, value, _) => resolve_return(alloc, symbols, flow, *at, value),
         Statement::Break(at, _) => {
             check_jump(flow.may_break, at.start)?;
             Ok(ResolvedStatement::Break(*at))
@@ -358,110 +494,22 @@ fn resolve_loop_construct(
     ensures in_scope { OnOk result (symbols.new ≡ symbols.old) }
     ensures resolved { IfOk result (λ found. resolved_loop_construct symbols.old flow.parallel (view_directive directive.now) (loop_in (view_statement body.now)) (view_statement body.now) ≡ Some (view_resolved_statement found)) }
 {
-    let (listed, clauses) = resolve_directive(alloc, symbols, flow, directive)?;
     let inside = constructing(directive, flow);
-    let kind = traits_of(&directive.name).region;
     match loop_in(body) {
-        None => Err(refuse_loop(alloc, symbols, inside, kind, listed, body)),
+        None => {
+            enter_construct(alloc, symbols, flow, directive)?;
+            let checked = resolve_statement(alloc, symbols, inside, body);
+            Err(loop_fault(checked, statement_start(body)))
+        }
         Some(found) => {
-            let schedule = schedule_of(directive.clauses.as_slice());
-            let (repeated, body) = if is_parallel(kind) {
-                resolve_parallel_loop(alloc, symbols, inside, kind, listed, schedule, &found, body)?
-            } else {
-                resolve_shared_loop(alloc, symbols, inside, kind, listed, schedule, &found, body)?
-            };
+            let (clauses, repeated) = enter_loop_construct(
+                alloc, symbols, flow, directive, &found,
+            )?;
+            let body = resolve_loop_body(alloc, symbols, inside, &found, body)?;
+            symbols.leave();
             Ok(loop_construct_of(alloc, directive, clauses, repeated, body)?)
         }
     }
-}
-
-/// Why a statement is refused where a canonical loop must stand: S12, or what goes before it.
-#[cycle(statement)]
-fn refuse_loop(
-    alloc: Global,
-    symbols: &mut Symbols,
-    inside: Flow,
-    kind: RegionKind,
-    listed: Listed,
-    body: &Statement,
-) -> SourceFault
-    ensures { let tree = view_statement body.now in
-        let breaches = statement_breaches (in_kind kind listed symbols.old) inside tree in
-        Refuses (with_breach (record { code = FaultCode.LoopForm; at = statement_start tree }) breaches) result }
-{
-    let checked = resolve_listed_statement(alloc, symbols, inside, kind, listed, body);
-    loop_fault(checked, statement_start(body))
-}
-
-/// A statement in a construct.
-#[cycle(statement)]
-fn resolve_listed_statement(
-    alloc: Global,
-    symbols: &mut Symbols,
-    inside: Flow,
-    kind: RegionKind,
-    listed: Listed,
-    body: &Statement,
-) -> Result<ResolvedStatement, SourceFault>
-    ensures { Checks result (statement_breaches (in_kind kind listed symbols.old) inside (view_statement body.now)) }
-{
-    enter_listed(symbols, kind, listed)?;
-    resolve_statement(alloc, symbols, inside, body)
-}
-
-/// The loop of a `parallel for`, whose bounds use the copies.
-#[tactic(auto, using(crate::proofs::Firsts::first_of_left))]
-#[cycle(statement)]
-fn resolve_parallel_loop(
-    alloc: Global,
-    symbols: &mut Symbols,
-    inside: Flow,
-    kind: RegionKind,
-    listed: Listed,
-    schedule: ResolvedSchedule,
-    found: &Loop<'_>,
-    body: &Statement,
-) -> Result<(ResolvedLoop, ResolvedStatement), SourceFault>
-    ensures checked { let scopes = in_kind kind listed symbols.old in
-        Checks result (found_breaches scopes (view_loop found.now) ++ body_breaches scopes inside (Some (view_loop found.now)) (view_statement body.now)) }
-    ensures in_scope { OnOk result (symbols.new ≡ symbols.old) }
-    ensures repeated { let scopes = in_kind kind listed symbols.old in
-        IfOk result (λ made. resolved_loop scopes schedule (view_loop found.now) ≡ Some (view_resolved_loop made.0)) }
-    ensures body { let scopes = in_kind kind listed symbols.old in
-        IfOk result (λ made. resolved_repeated scopes inside.parallel (view_loop found.now) (view_statement body.now) ≡ Some (view_resolved_statement made.1)) }
-{
-    enter_listed(symbols, kind, listed)?;
-    let repeated = resolve_loop(alloc, symbols, schedule, found)?;
-    let body = resolve_loop_body(alloc, symbols, inside, found, body)?;
-    symbols.leave();
-    Ok((repeated, body))
-}
-
-/// The loop of a `for`, whose bounds use the originals.
-#[tactic(auto, using(crate::proofs::Firsts::first_of_left))]
-#[cycle(statement)]
-fn resolve_shared_loop(
-    alloc: Global,
-    symbols: &mut Symbols,
-    inside: Flow,
-    kind: RegionKind,
-    listed: Listed,
-    schedule: ResolvedSchedule,
-    found: &Loop<'_>,
-    body: &Statement,
-) -> Result<(ResolvedLoop, ResolvedStatement), SourceFault>
-    ensures checked { let scopes = in_kind kind listed symbols.old in
-        Checks result (found_breaches symbols.old (view_loop found.now) ++ body_breaches scopes inside (Some (view_loop found.now)) (view_statement body.now)) }
-    ensures in_scope { OnOk result (symbols.new ≡ symbols.old) }
-    ensures repeated { IfOk result (λ made. resolved_loop symbols.old schedule (view_loop found.now) ≡ Some (view_resolved_loop made.0)) }
-    ensures body { let scopes = in_kind kind listed symbols.old in
-        IfOk result (λ made. resolved_repeated scopes inside.parallel (view_loop found.now) (view_statement body.now) ≡ Some (view_resolved_statement made.1)) }
-{
-    let repeated = resolve_loop(alloc, symbols, schedule, found)?;
-    enter_listed(symbols, kind, listed)?;
-    let body = resolve_loop_body(alloc, symbols, inside, found, body)?;
-    symbols.leave();
-    Ok((repeated, body))
 }
 
 /// The body of a canonical loop.
@@ -473,28 +521,28 @@ fn resolve_loop_body(
     inside: Flow,
     found: &Loop<'_>,
     body: &Statement,
-) -> Result<ResolvedStatement, SourceFault>
+) -> Result<Box<ResolvedStatement>, SourceFault>
     ensures checked { Checks result (body_breaches symbols.old inside (Some (view_loop found.now)) (view_statement body.now)) }
     ensures in_scope { OnOk result (symbols.new ≡ symbols.old) }
-    ensures resolved { IfOk result (λ made. resolved_repeated symbols.old inside.parallel (view_loop found.now) (view_statement body.now) ≡ Some (view_resolved_statement made)) }
+    ensures resolved { IfOk result (λ made. resolved_repeated symbols.old inside.parallel (view_loop found.now) (view_statement body.now) ≡ Some (view_resolved_statement made.value)) }
 {
     match body {
         Statement::For(_, repeated) => resolve_repeated(alloc, symbols, inside, found, repeated),
-        Statement::Declaration(_) => Ok(ResolvedStatement::Empty(statement_first(body))),
-        Statement::Block(_, _, _) => Ok(ResolvedStatement::Empty(statement_first(body))),
-        Statement::Empty(_) => Ok(ResolvedStatement::Empty(statement_first(body))),
-        Statement::Expression(_, _) => Ok(ResolvedStatement::Empty(statement_first(body))),
-        Statement::If(_, _, _) => Ok(ResolvedStatement::Empty(statement_first(body))),
-        Statement::IfElse(_, _, _, _, _) => Ok(ResolvedStatement::Empty(statement_first(body))),
-        Statement::While(_, _, _) => Ok(ResolvedStatement::Empty(statement_first(body))),
-        Statement::Do(_, _, _, _, _) => Ok(ResolvedStatement::Empty(statement_first(body))),
-        Statement::Return(_, _, _) => Ok(ResolvedStatement::Empty(statement_first(body))),
-        Statement::Break(_, _) => Ok(ResolvedStatement::Empty(statement_first(body))),
-        Statement::Continue(_, _) => Ok(ResolvedStatement::Empty(statement_first(body))),
-        Statement::Construct(_, _) => Ok(ResolvedStatement::Empty(statement_first(body))),
-        Statement::StandAlone(_) => Ok(ResolvedStatement::Empty(statement_first(body))),
-        Statement::Sections(_, _, _, _) => Ok(ResolvedStatement::Empty(statement_first(body))),
-        Statement::Section(_, _) => Ok(ResolvedStatement::Empty(statement_first(body))),
+        Statement::Declaration(_) => no_loop(alloc, body),
+        Statement::Block(_, _, _) => no_loop(alloc, body),
+        Statement::Empty(_) => no_loop(alloc, body),
+        Statement::Expression(_, _) => no_loop(alloc, body),
+        Statement::If(_, _, _) => no_loop(alloc, body),
+        Statement::IfElse(_, _, _, _, _) => no_loop(alloc, body),
+        Statement::While(_, _, _) => no_loop(alloc, body),
+        Statement::Do(_, _, _, _, _) => no_loop(alloc, body),
+        Statement::Return(_, _, _) => no_loop(alloc, body),
+        Statement::Break(_, _) => no_loop(alloc, body),
+        Statement::Continue(_, _) => no_loop(alloc, body),
+        Statement::Construct(_, _) => no_loop(alloc, body),
+        Statement::StandAlone(_) => no_loop(alloc, body),
+        Statement::Sections(_, _, _, _) => no_loop(alloc, body),
+        Statement::Section(_, _) => no_loop(alloc, body),
     }
 }
 
@@ -506,13 +554,13 @@ fn resolve_repeated(
     inside: Flow,
     found: &Loop<'_>,
     repeated: &Statement,
-) -> Result<ResolvedStatement, SourceFault>
+) -> Result<Box<ResolvedStatement>, SourceFault>
     ensures checked { Checks result (statement_breaches (in_loop symbols.old (Some (view_loop found.now))) (continuing inside) (view_statement repeated.now)) }
     ensures in_scope { OnOk result (symbols.new ≡ symbols.old) }
-    ensures resolved { IfOk result (λ made. resolved_statement (in_loop symbols.old (Some (view_loop found.now))) inside.parallel (view_statement repeated.now) ≡ Some (view_resolved_statement made)) }
+    ensures resolved { IfOk result (λ made. resolved_statement (in_loop symbols.old (Some (view_loop found.now))) inside.parallel (view_statement repeated.now) ≡ Some (view_resolved_statement made.value)) }
 {
     enter_loop(alloc, symbols, found)?;
-    let repeated = resolve_inside(alloc, symbols, continuing(inside), repeated)?;
+    let repeated = resolve_body(alloc, symbols, continuing(inside), repeated)?;
     symbols.leave();
     Ok(repeated)
 }
@@ -660,11 +708,10 @@ fn resolve_for(
     ensures resolved { IfOk result (λ found. resolved_for symbols.old flow.parallel (view_for_head head.now) (view_statement body.now) ≡ Some (view_resolved_statement found)) }
 {
     symbols.enter(alloc)?;
-    let start = resolve_for_start(alloc, symbols, &head.start)?;
-    let (condition, step) = resolve_for_turn(alloc, symbols, head)?;
+    let turn = resolve_for_head(alloc, symbols, head)?;
     let body = resolve_body(alloc, symbols, looping(flow), body)?;
     symbols.leave();
-    Ok(ResolvedStatement::For(head.word, start, condition, step, body))
+    Ok(for_of(head.word, turn, body))
 }
 
 /// A statement that is part of another one, which is a block of its own (C17 6.8.4p3, 6.8.5p5).

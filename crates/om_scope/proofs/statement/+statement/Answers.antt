@@ -1,13 +1,16 @@
-use Rattle.std.proofs.Common.{map, ap, ◌∙◌}
+use Rattle.std.proofs.Common.{◌≡◌, Some, map, option_map, ap, sym, ◌∙◌}
 use Rattle.std.proofs.lemmas.List.{drop_all}
 use Rattle.std.proofs.lemmas.Result.{err_from_is_err_and}
-use Rattle.om_parser.specs.View.{view_for_start, view_statement}
+use Rattle.om_parser.specs.View.{view_directive, view_for_start, view_statement}
+use Rattle.om_scope.specs.LoopViews.{view_loop}
+use Rattle.om_scope.specs.Loops.{loop_in}
 use Rattle.om_scope.specs.ResolvedView.{view_resolved_statement}
 use Rattle.om_scope.specs.Scopes.{outside}
 use Rattle.om_scope.specs.StatementResolution.{resolved_statement}
 use Rattle.om_scope.specs.StatementRules.{after_for_start, after_statement, after_statements}
 use Rattle.om_scope.proofs.Blocks.{block_outside, body_outside, construct_outside, for_outside, parts_behind_le, parts_made, parts_refuse, parts_step, parts_whole, statements_made, statements_refuse, statements_step, statements_whole}
 use Rattle.om_scope.proofs.Constructs.{view_construct}
+use Rattle.om_scope.proofs.Fronts.{bounds_refuse}
 use Rattle.om_scope.proofs.Items.{drop-item, map-push}
 use Rattle.om_scope.proofs.statement.+statement.Goals as goal
 
@@ -45,7 +48,7 @@ pub resolve_for-returns-clause-in_scope : goal.resolve_for-returns-clause-in_sco
 resolve_for-returns-clause-in_scope t c =
     let start = view_for_start c.args.head.now.start in
     c.leave.ensures
-    ∙ ap outside (c.in_ok-body.ensures.in_scope ∙ c.in_ok-start.ensures.in_scope ∙ ap (λ scopes. after_for_start scopes start) c.in_ok-enter.ensures)
+    ∙ ap outside (c.in_ok-body.ensures.in_scope ∙ c.in_ok-turn.ensures.in_scope ∙ ap (λ scopes. after_for_start scopes start) c.in_ok-enter.ensures)
     ∙ for_outside c.args.symbols.now start
 
 pub resolve_plain_construct-returns-clause-in_scope : goal.resolve_plain_construct-returns-clause-in_scope
@@ -53,6 +56,12 @@ resolve_plain_construct-returns-clause-in_scope t c =
     c.leave.ensures
     ∙ ap outside (c.in_ok-body.ensures.in_scope ∙ ap (λ scopes. after_statement scopes (view_statement c.args.body.now)) c.in_ok-clauses.ensures.in_scope)
     ∙ construct_outside _ _ c.args.symbols.now (view_statement c.args.body.now)
+
+pub resolve_loop_construct-returns-in_err-clauses-in-Some-clause-checked : goal.resolve_loop_construct-returns-in_err-clauses-in-Some-clause-checked
+resolve_loop_construct-returns-in_err-clauses-in-Some-clause-checked t c =
+    let p = err_from_is_err_and c.from_residual-in_err-clauses-in-Some.result c.from_residual-in_err-clauses-in-Some.ensures.1 in
+    let same : loop_in (view_statement c.args.body.now) ≡ Some (view_loop c.in-Some.found) = sym c.loop_in.ensures ∙ ap (option_map view_loop) c.in-Some.is in
+    rw (p.1, p.2, same) (bounds_refuse c.args.symbols.now c.args.flow (view_directive c.args.directive.now) (view_loop c.in-Some.found) (view_statement c.args.body.now) _ c.in_err-clauses-in-Some.ensures.checked)
 
 pub resolve_parts-returns-in_err-resolve_part-clause-checked : goal.resolve_parts-returns-in_err-resolve_part-clause-checked
 resolve_parts-returns-in_err-resolve_part-clause-checked t c =

@@ -1,0 +1,48 @@
+-- Parts of statements and expressions that have a function of their own.
+use Rattle.std.specs.Prelude.{ℕ, pos, List, Option, Some, if◌then◌else◌}
+use Rattle.om_lexer.specs.declared.token.Span.{Span}
+use Rattle.om_parser.specs.declared.tree.AssignOperator.{AssignOperator}
+use Rattle.om_parser.specs.Tree.{ExpressionTree, DeclarationTree}
+use Rattle.om_scope.specs.declared.assembly.Around.{Around}
+use Rattle.om_scope.specs.declared.assembly.Around.TheVariants as arounds
+use Rattle.om_scope.specs.declared.resolved.UnaryOperator.{UnaryOperator}
+use Rattle.om_scope.specs.declared.symbols.RegionKind.{RegionKind}
+use Rattle.om_scope.specs.DirectiveRules.{Listed, in_kind}
+use Rattle.om_scope.specs.Perhaps.{◌>>=◌}
+use Rattle.om_scope.specs.Places.{expression_first}
+use Rattle.om_scope.specs.Resolution.{TargetTree, assigned, resolved_expression}
+use Rattle.om_scope.specs.ResolvedTree as resolved
+use Rattle.om_scope.specs.ResolvedTree.{ResolvedClauseTree, ResolvedExpressionTree, ResolvedStatementTree}
+use Rattle.om_scope.specs.Scopes.{Scopes, declarators_of}
+use Rattle.om_scope.specs.Sharing.{is_parallel}
+use Rattle.om_scope.specs.StatementResolution.{resolved_declarators, resolved_perhaps}
+
+-- `++` or `--` before a target, as an assignment of 1
+abbrev pub step_of : AssignOperator → Option TargetTree → Option ResolvedExpressionTree
+step_of operator target = target >>= λ t. Some (assigned t operator (resolved.Constant (pos 1)))
+
+abbrev pub unary_of : UnaryOperator → Option ResolvedExpressionTree → Option ResolvedExpressionTree
+unary_of operator operand = operand >>= λ e. Some (resolved.Unary operator e)
+
+-- of a declaration in a block
+abbrev pub resolved_declaration : Scopes → DeclarationTree → Option ResolvedStatementTree
+resolved_declaration scopes d = resolved_declarators scopes (declarators_of d) >>= λ ds. Some (resolved.Declaration d.int ds)
+
+-- of an expression whose value is not used
+abbrev pub resolved_effect : Scopes → ExpressionTree → Option ResolvedStatementTree
+resolved_effect scopes e = resolved_expression scopes e >>= λ x. Some (resolved.Expression (expression_first e) x)
+
+-- of a `return`
+abbrev pub resolved_return : Scopes → Span → Option ExpressionTree → Option ResolvedStatementTree
+resolved_return scopes at value = resolved_perhaps scopes value >>= λ x. Some (resolved.Return at x)
+
+-- a statement with what a construct puts round it
+abbrev pub with_around : Around → Span → List ResolvedClauseTree → ResolvedStatementTree → ResolvedStatementTree
+with_around (arounds.Parallel captures) at cs body = resolved.Parallel at cs captures body
+with_around (arounds.Task captures) at cs body = resolved.Task at cs captures body
+with_around (arounds.Construct kind) at cs body = resolved.Construct at kind cs body
+with_around arounds.Nothing at cs body = body
+
+-- the scopes of the bounds of a loop whose construct is of this kind, and whose clauses say this
+abbrev pub round_listed : RegionKind → Listed → Scopes → Scopes
+round_listed kind listed scopes = if is_parallel kind then in_kind kind listed scopes else scopes
