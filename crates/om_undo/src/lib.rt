@@ -6,8 +6,6 @@ pub mod machine;
 mod records;
 pub mod reply;
 mod start;
-#[cfg(test)]
-mod tests;
 mod updates;
 
 pub use machine::Machine;

@@ -99,7 +99,7 @@ fn next_line(program: &Program, store: &Store, worker: u8) -> u32
 }
 
 impl Machine {
-    /// A machine at the start of a program, with 1 to 8 workers. Its only error is want of memory.
+    /// A machine at the start of a program, with 1 to 8 workers. Its only error is out of memory.
     pub fn new(alloc: Global, program: Program, workers: u8) -> Result<Machine, AllocError>
         requires at_least_one { 0 < workers }
         requires at_most_eight { workers ≤ 8 }
@@ -162,7 +162,7 @@ impl Machine {
         }
     }
 
-    /// What `step` would answer now. Nothing changes; the only error is want of memory.
+    /// What `step` would answer now. Nothing changes; the only error is out of memory.
     pub fn peek(&self, alloc: Global, worker: u8, choice: Choice) -> Result<StepReply, AllocError>
         requires { worker < self.now.workers }
         ensures { IfOk result (λ r. r ≡ reply_to_step (rules_of self.now.program) self.now.history (record { worker = worker; choice = choice })) }
@@ -195,14 +195,14 @@ impl Machine {
     }
 
     /// A copy of what an object holds: its value at the replay of the entries. Its only error is
-    /// want of memory.
+    /// out of memory.
     pub fn look(&self, alloc: Global, object: &Obj) -> Result<Val, AllocError>
         ensures { IfOk result (λ v. v ≡ state_of_entries (rules_of self.now.program) self.now.history.entries object.now) }
     {
         self.store.copy_at(alloc, object)
     }
 
-    /// A copy of the entries that stand, in their order. Its only error is want of memory.
+    /// A copy of the entries that stand, in their order. Its only error is out of memory.
     pub fn history(&self, alloc: Global) -> Result<Vec<Entry>, AllocError>
         ensures { IfOk result (λ v. v.items ≡ self.now.history.entries) }
     {

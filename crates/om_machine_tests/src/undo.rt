@@ -2,64 +2,15 @@
 
 ghost use Rattle.std.specs.Prelude.{◌≡◌, ◌<◌, ◌≤◌, ◌+◌, IfOk, OnOk};
 
-use crate::{Machine, StepReply, UndoReply, laws};
+use crate::start::{STORE_X, X, X_CELL, program_of};
 use om_cells::{Blocked, Choice, Fault};
-use om_code::instruction::{BinaryOperator, Instr, Place};
-use om_code::program::Program;
-use om_code::raw::{Body, GlobalVariable, Raw};
-use om_code::validate::validate;
-use om_foot::Obj;
-use om_seq::Seq;
+use om_code::instruction::{BinaryOperator, Instr};
+use om_undo::{Machine, StepReply, UndoReply, laws};
 use std::alloc::{AllocError, Global};
 use std::test::Fail;
 
-const X: Place = Place::Global(0);
-
-const STORE_X: Instr = Instr::Store {
-    place: X,
-    keeps: false,
-};
-
-/// The lines of the instructions, one after the other.
-const LINES: [u32; 8] = [1, 2, 3, 4, 5, 6, 7, 8];
-
-const NAME: &[u8] = b"x";
-
-/// The global `x`.
-fn globals_of(alloc: Global, initial: i32) -> Result<Seq<GlobalVariable>, AllocError> {
-    let name = Seq::of(NAME.to_vec(alloc)?);
-    let mut globals = Seq::new(alloc);
-    globals.push(GlobalVariable { name, initial })?;
-    Ok(globals)
-}
-
-/// One body, of at most 8 instructions.
-fn bodies_of(alloc: Global, code: &[Instr]) -> Result<Seq<Body>, AllocError> {
-    let instructions = Seq::of(code.to_vec(alloc)?);
-    let lines = Seq::of(LINES[..code.len().min(8)].to_vec(alloc)?);
-    let mut bodies = Seq::new(alloc);
-    bodies.push(Body {
-        instructions,
-        lines,
-        slots: 0,
-    })?;
-    Ok(bodies)
-}
-
-/// A program of one body, of at most 8 instructions, and one global `x`.
-fn program_of(alloc: Global, initial: i32, code: &[Instr]) -> Result<Program, Fail> {
-    let globals = globals_of(alloc, initial)?;
-    let bodies = bodies_of(alloc, code)?;
-    let raw = Raw {
-        globals,
-        bodies,
-        main: 0,
-    };
-    Ok(validate(alloc, raw)?)
-}
-
 /// A machine of two workers.
-fn machine_of(alloc: Global, initial: i32, code: &[Instr]) -> Result<Machine, Fail>
+fn machine_of(alloc: Global, initial: i32, code: &[(u32, Instr)]) -> Result<Machine, Fail>
     ensures workers { IfOk result (λ m. m.workers ≡ 2) }
     ensures made { IfOk result (λ m. m.history.made ≡ 0) }
 {
@@ -90,7 +41,7 @@ fn undo(machine: &mut Machine, worker: u8) -> UndoReply
 
 /// What `x` holds.
 fn x_of(alloc: Global, machine: &Machine) -> Result<Option<i32>, AllocError> {
-    Ok(machine.look(alloc, &Obj::Global(0, 0))?.int())
+    Ok(machine.look(alloc, &X_CELL)?.int())
 }
 
 /// The serials of the entries.
@@ -102,33 +53,19 @@ fn serials(alloc: Global, machine: &Machine) -> Result<Vec<u64>, AllocError> {
     Ok(serials)
 }
 
-/// The reply of a step that ended with no fault.
-fn done(serial: u64, line: u32) -> StepReply {
+/// The reply of a step that was made.
+fn done(serial: u64, line: u32, fault: Option<Fault>) -> StepReply {
     StepReply::Done {
         serial,
         line,
-        fault: None,
+        fault,
     }
 }
 
-/// The reply of a step that ended with an overflow.
-fn faulted(serial: u64, line: u32) -> StepReply {
-    StepReply::Done {
-        serial,
-        line,
-        fault: Some(Fault::Overflow),
-    }
-}
-
-/// The reply of an undo that was done.
-fn undone(serial: u64, line: u32) -> UndoReply {
-    UndoReply::Undone { serial, line }
-}
-
-const SET_X: [Instr; 3] = [
-    Instr::Constant(1),
-    STORE_X,
-    Instr::Finish { has_value: false },
+const SET_X: [(u32, Instr); 3] = [
+    (1, Instr::Constant(1)),
+    (2, STORE_X),
+    (3, Instr::Finish { has_value: false }),
 ];
 
 #[test]
@@ -137,16 +74,16 @@ fn a_step_is_what_peek_foretold(rt: HostRuntime) -> Result<(), Fail> {
     let mut machine = machine_of(alloc, 8, &SET_X)?;
     let peeked = machine.peek(alloc, 0, Choice::Next)?;
     assert!(rt; step(&mut machine, alloc, 0)? == peeked);
-    assert!(rt; peeked == done(1, 1));
+    assert!(rt; peeked == done(1, 1, None));
     Ok(())
 }
 
-/// A machine that has made `x`, which was 8, 1 by two steps of worker 0.
-fn after_two_steps(alloc: Global) -> Result<Machine, Fail>
+/// A machine that has made two steps of worker 0.
+fn after_two_steps(alloc: Global, initial: i32, code: &[(u32, Instr)]) -> Result<Machine, Fail>
     ensures workers { IfOk result (λ m. m.workers ≡ 2) }
     ensures made { IfOk result (λ m. m.history.made ≤ 2) }
 {
-    let mut machine = machine_of(alloc, 8, &SET_X)?;
+    let mut machine = machine_of(alloc, initial, code)?;
     let _first = step(&mut machine, alloc, 0)?;
     let _second = step(&mut machine, alloc, 0)?;
     Ok(machine)
@@ -155,9 +92,9 @@ fn after_two_steps(alloc: Global) -> Result<Machine, Fail>
 #[test]
 fn an_undo_takes_a_step_back(rt: HostRuntime) -> Result<(), Fail> {
     let alloc = rt.alloc();
-    let mut machine = after_two_steps(alloc)?;
+    let mut machine = after_two_steps(alloc, 8, &SET_X)?;
     assert!(rt; x_of(alloc, &machine)? == Some(1));
-    assert!(rt; undo(&mut machine, 0) == undone(2, 2));
+    assert!(rt; undo(&mut machine, 0) == UndoReply::Undone { serial: 2, line: 2 });
     assert!(rt; x_of(alloc, &machine)? == Some(8));
     Ok(())
 }
@@ -165,36 +102,36 @@ fn an_undo_takes_a_step_back(rt: HostRuntime) -> Result<(), Fail> {
 #[test]
 fn a_serial_is_never_given_again(rt: HostRuntime) -> Result<(), Fail> {
     let alloc = rt.alloc();
-    let mut machine = after_two_steps(alloc)?;
+    let mut machine = after_two_steps(alloc, 8, &SET_X)?;
     let _undone = undo(&mut machine, 0);
-    assert!(rt; step(&mut machine, alloc, 0)? == done(3, 2));
+    assert!(rt; step(&mut machine, alloc, 0)? == done(3, 2, None));
     assert!(rt; serials(alloc, &machine)?.as_slice() == [1, 3].as_slice());
     Ok(())
 }
 
-const DOUBLE_X: [Instr; 4] = [
-    Instr::Load(X),
-    Instr::Load(X),
-    Instr::Binary(BinaryOperator::Add),
-    Instr::Finish { has_value: true },
+const DOUBLE_X: [(u32, Instr); 4] = [
+    (1, Instr::Load(X)),
+    (2, Instr::Load(X)),
+    (3, Instr::Binary(BinaryOperator::Add)),
+    (4, Instr::Finish { has_value: true }),
 ];
 
 #[test]
 fn a_fault_is_a_step(rt: HostRuntime) -> Result<(), Fail> {
     let alloc = rt.alloc();
-    let mut machine = machine_of(alloc, 2147483647, &DOUBLE_X)?;
-    let _first = step(&mut machine, alloc, 0)?;
-    let _second = step(&mut machine, alloc, 0)?;
-    assert!(rt; step(&mut machine, alloc, 0)? == faulted(3, 3));
+    let mut machine = after_two_steps(alloc, 2147483647, &DOUBLE_X)?;
+    assert!(rt; step(&mut machine, alloc, 0)? == done(3, 3, Some(Fault::Overflow)));
     assert!(rt; machine.line(0) == 3);
     assert!(rt; step(&mut machine, alloc, 0)? == StepReply::Ended);
     Ok(())
 }
 
+const RETURN: [(u32, Instr); 1] = [(1, Instr::Finish { has_value: false })];
+
 #[test]
 fn an_idle_worker_is_blocked(rt: HostRuntime) -> Result<(), Fail> {
     let alloc = rt.alloc();
-    let mut machine = machine_of(alloc, 0, &[Instr::Finish { has_value: false }])?;
+    let mut machine = machine_of(alloc, 0, &RETURN)?;
     assert!(rt; machine.workers() == 2);
     assert!(rt; machine.program().main() == 0);
     assert!(rt; step(&mut machine, alloc, 1)? == StepReply::Blocked(Blocked::Idle));

@@ -1,0 +1,101 @@
+//! Conflicts of footprints; names, with their texts, their order and their ancestors.
+
+use om_foot::{Access, Mode, Name, Obj, conflict, is_descendant};
+use std::alloc::{AllocError, Global};
+use std::cmp::Ordering;
+use std::test::Fail;
+
+const X: Obj = Obj::Global(1, 0);
+
+const CONTROL: Access = Access {
+    object: Obj::Control(0),
+    mode: Mode::Write,
+};
+
+const READ: Access = Access {
+    object: X,
+    mode: Mode::Read,
+};
+
+const WRITE: Access = Access {
+    object: X,
+    mode: Mode::Write,
+};
+
+const COUNT: Access = Access {
+    object: Obj::Global(2, 0),
+    mode: Mode::Add,
+};
+
+/// Two footprints, and the object that is named.
+const CONFLICTS: [(&[Access], &[Access], Option<Obj>); 3] = [
+    (&[READ, COUNT], &[COUNT, READ], None),
+    (&[CONTROL, READ], &[WRITE], Some(X)),
+    (&[READ, CONTROL], &[CONTROL, WRITE], Some(X)),
+];
+
+#[test]
+fn the_first_object_of_the_first_footprint_is_named(rt: HostRuntime) {
+    for (first, others, wanted) in CONFLICTS {
+        assert!(rt; conflict(first, others) == wanted);
+    }
+}
+
+/// The text of the name of these numbers.
+fn text(alloc: Global, numbers: &[u64]) -> Result<Vec<u8>, AllocError> {
+    let mut out = Vec::new(alloc);
+    if let Some(name) = Name::of(numbers) {
+        name.text(&mut out)?;
+    }
+    Ok(out)
+}
+
+/// Numbers, and the text of their name.
+const TEXTS: [(&[u64], &[u8]); 2] = [
+    (&[], b"-"),
+    (&[0, 1, 18446744073709551615], b"0.1.18446744073709551615"),
+];
+
+#[test]
+fn names_have_texts(rt: HostRuntime) -> Result<(), Fail> {
+    for (numbers, wanted) in TEXTS {
+        assert!(rt; text(rt.alloc(), numbers)?.as_slice() == wanted);
+    }
+    Ok(())
+}
+
+/// How the names of these numbers are ordered, and whether the first is a descendant of the second.
+fn compared(first: &[u64], second: &[u64]) -> Option<(Ordering, bool)> {
+    let first = Name::of(first)?;
+    let second = Name::of(second)?;
+    Some((first.cmp(&second), is_descendant(&first, &second)))
+}
+
+/// Two names, how they are ordered, and whether the first is a descendant of the second.
+const PAIRS: [(&[u64], &[u64], Ordering, bool); 4] = [
+    (&[0, 1], &[0, 1, 0], Ordering::Less, false),
+    (&[0, 1, 0], &[0, 2], Ordering::Less, false),
+    (&[0, 1, 0], &[0, 1], Ordering::Greater, true),
+    (&[0, 1], &[0, 1], Ordering::Equal, false),
+];
+
+#[test]
+fn names_are_ordered_by_births(rt: HostRuntime) {
+    for (first, second, order, is_below) in PAIRS {
+        assert!(rt; compared(first, second) == Some((order, is_below)));
+    }
+}
+
+#[test]
+fn a_parent_has_one_number_less(rt: HostRuntime) {
+    let parent = Name::of(&[0, 1, 0]).and_then(|task| task.parent());
+    assert!(rt; parent == Name::of(&[0, 1]));
+    assert!(rt; parent.is_some());
+    assert!(rt; Name::empty().parent().is_none());
+}
+
+#[test]
+fn a_name_has_64_numbers_at_most(rt: HostRuntime) {
+    assert!(rt; Name::of(&[7; 64]).is_some());
+    assert!(rt; Name::of(&[7; 65]).is_none());
+}
