@@ -3,6 +3,7 @@
 use crate::start::{NEXT, STORE_X, X, X_CELL, program_of, running_at};
 use om_cells::{Control, Outcome, Step, Store, Update, Val};
 use om_code::instruction::{BinaryOperator, Instr};
+use om_code::program::Program;
 use om_foot::Obj;
 use om_task::plan;
 use std::alloc::{AllocError, Global};
@@ -28,10 +29,10 @@ fn first_store(alloc: Global) -> Result<Store, AllocError> {
     Ok(store)
 }
 
-/// Makes the updates of a step, which puts values alone.
-fn make(alloc: Global, store: &mut Store, step: &Step) -> Result<(), AllocError> {
+/// Makes the updates of a step, which puts values alone, and answers whether there are any.
+fn make(alloc: Global, store: &mut Store, step: &Step) -> Result<bool, AllocError> {
     let Outcome::Updates(updates) = &step.outcome else {
-        return Ok(());
+        return Ok(false);
     };
     let accesses = step.footprint.as_slice();
     for (i, update) in updates.as_slice().iter().enumerate() {
@@ -39,7 +40,14 @@ fn make(alloc: Global, store: &mut Store, step: &Step) -> Result<(), AllocError>
             store.create(&access.object, value.copy(alloc)?)?;
         }
     }
-    Ok(())
+    Ok(true)
+}
+
+/// Plans worker 0's step and makes it, and answers its line and whether it was made.
+fn take(alloc: Global, program: &Program, store: &mut Store) -> Result<(u32, bool), AllocError> {
+    let step = plan(alloc, program, store, NEXT)?;
+    let is_made = make(alloc, store, &step)?;
+    Ok((step.line, is_made))
 }
 
 /// The value with which worker 0 has ended.
@@ -56,15 +64,10 @@ fn a_program_runs_by_its_plans(rt: HostRuntime) -> Result<(), Fail> {
     let program = &program_of(alloc, 0, &CODE)?;
     let mut store = first_store(alloc)?;
     for (line, _) in CODE {
-        let step = plan(alloc, program, &store, NEXT)?;
-        assert_eq!(rt; step.line, line);
-        assert!(rt; matches!(step.outcome, Outcome::Updates(_)));
-        make(alloc, &mut store, &step)?;
+        assert!(rt; take(alloc, program, &mut store)? == (line, true));
     }
-    assert_eq!(rt; store.int(&X_CELL), Some(3));
-    assert_eq!(rt; value_of(&store), Some(3));
-    let over = plan(alloc, program, &store, NEXT)?;
-    assert!(rt; matches!(over.outcome, Outcome::Ended));
-    assert_eq!(rt; over.line, 0);
+    assert!(rt; take(alloc, program, &mut store)? == (0, false));
+    assert!(rt; store.int(&X_CELL) == Some(3));
+    assert!(rt; value_of(&store) == Some(3));
     Ok(())
 }
