@@ -1,4 +1,5 @@
 use Rattle.std.proofs.Common.{◌≡◌, ◌∙◌, sym, ap, ℕ, zero, suc, ◌<◌, List, [], ◌∷◌, ◌++◌, length, take, get_or, add-one, arith}
+use Rattle.std.proofs.lemmas.List.{take_all}
 use Rattle.om_undo.specs.declared.records.UndoRecord.{UndoRecord}
 use Rattle.om_undo.specs.Records.{entries_of}
 use Rattle.om_undo.proofs.records.entries.Goals as goal
@@ -15,3 +16,6 @@ loop-made-preserved c =
     ∙ ap (λ es. es ++ c.made-item.result.entry ∷ []) c.loop-made.invariant
     ∙ entries-more c.args.records.now n c.made-item.result c.loop-made-test.true c.made-item.is
     ∙ ap (λ m. entries_of (take m c.args.records.now)) (sym (add-one n))
+
+pub returns : goal.returns
+returns c = c.loop-made.invariant ∙ ap entries_of (take_all c.loop-made.made-index c.args.records.now (omega arith))
