@@ -78,6 +78,20 @@ fn taken_variables(
     Ok(found)
 }
 
+/// Variables as a `parallel` takes them from outside.
+fn captured_by_parallel(alloc: Global, variables: &[u32]) -> Result<Seq<Capture>, AllocError>
+    ensures { IfOk result (λ captures. captures ≡ captured taken_by_parallel variables.now) }
+{
+    let mut captures = Vec::new(alloc);
+    for variable in variables {
+        captures.push(Capture {
+            variable: *variable,
+            taking: Taking::Shared,
+        })?;
+    }
+    Ok(Seq::of(captures))
+}
+
 /// What a `parallel` that begins there takes from outside.
 pub fn captures_of_parallel(
     alloc: Global,
@@ -88,15 +102,7 @@ pub fn captures_of_parallel(
     ensures { IfOk result (λ captures. captures ≡ captures_of taken_by_parallel start (map view_resolved_clause clauses.now) (view_resolved_statement body.now)) }
 {
     let found = taken_variables(alloc, start, clauses, body)?;
-    let variables = found.variables();
-    let mut captures = Vec::new(alloc);
-    for variable in variables {
-        captures.push(Capture {
-            variable: *variable,
-            taking: Taking::Shared,
-        })?;
-    }
-    Ok(Seq::of(captures))
+    captured_by_parallel(alloc, found.variables())
 }
 
 /// Whether a variable is declared before the innermost `parallel` begins.

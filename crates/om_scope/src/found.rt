@@ -1,14 +1,14 @@
 //! The variables of its function that a part of a resolved tree uses.
 
-ghost use Rattle.std.specs.Prelude.{◌≡◌, [], OnOk, fold, map, nat_eq, option_map};
+ghost use Rattle.std.specs.Prelude.{◌≡◌, ◌++◌, [], OnOk, fold, map, nat_eq, option_map};
 ghost use Rattle.std.specs.List.{flat_map, list_any};
 ghost use Rattle.om_scope.specs.Captures.{captured_variable, clause_uses, copy_uses, declarator_uses, expression_uses, perhaps_uses, stand_alone_uses, start_uses, statement_uses, statements_uses, values_uses, variable_uses, with_use};
 ghost use Rattle.om_scope.specs.ResolvedTree as trees;
 ghost use Rattle.om_scope.specs.ResolvedView.{view_resolved_clause, view_resolved_declarator, view_resolved_expression, view_resolved_start, view_resolved_statement};
 
 use crate::resolved::{
-    Capture, CopyKind, ResolvedClause, ResolvedDeclarator, ResolvedExpression, ResolvedStart,
-    ResolvedStatement, StandAlone, Variable,
+    Capture, CopyKind, ResolvedClause, ResolvedDeclarator, ResolvedExpression, ResolvedLoop,
+    ResolvedStart, ResolvedStatement, StandAlone, Variable,
 };
 use indexmap::IndexSet;
 use std::alloc::{AllocError, Global};
@@ -248,6 +248,48 @@ fn take_stand_alone(found: &mut Found, start: u32, directive: &StandAlone) -> Re
     }
 }
 
+/// Notes what a team or a task uses: what its clauses do, and what it takes from outside.
+fn take_region(
+    found: &mut Found,
+    start: u32,
+    clauses: &[ResolvedClause],
+    captures: &[Capture],
+) -> Result<(), AllocError>
+    ensures { OnOk result (found.new ≡ fold (with_use start) found.old (flat_map clause_uses (map view_resolved_clause clauses.now) ++ map captured_variable captures.now)) }
+{
+    take_clauses(found, start, clauses)?;
+    take_captures(found, start, captures)
+}
+
+/// Notes what the head of a `for` uses.
+fn take_head(
+    found: &mut Found,
+    start: u32,
+    begin: &ResolvedStart,
+    condition: &Option<ResolvedExpression>,
+    step: &Option<ResolvedExpression>,
+) -> Result<(), AllocError>
+    ensures { OnOk result (found.new ≡ fold (with_use start) found.old (start_uses (view_resolved_start begin.now) ++ (perhaps_uses (option_map view_resolved_expression condition.now) ++ perhaps_uses (option_map view_resolved_expression step.now)))) }
+{
+    take_start(found, start, begin)?;
+    take_perhaps(found, start, condition)?;
+    take_perhaps(found, start, step)
+}
+
+/// Notes what the clauses and the bounds of a canonical loop use.
+fn take_bounds(
+    found: &mut Found,
+    start: u32,
+    clauses: &[ResolvedClause],
+    repeated: &ResolvedLoop,
+) -> Result<(), AllocError>
+    ensures { OnOk result (found.new ≡ fold (with_use start) found.old (flat_map clause_uses (map view_resolved_clause clauses.now) ++ (expression_uses (view_resolved_expression repeated.now.from) ++ expression_uses (view_resolved_expression repeated.now.to)))) }
+{
+    take_clauses(found, start, clauses)?;
+    take_expression(found, start, &repeated.from)?;
+    take_expression(found, start, &repeated.to)
+}
+
 /// Notes what a statement uses.
 #[tactic(auto, unfolding(crate::specs::Captures::statement_uses))]
 #[cycle(statement)]
@@ -283,26 +325,20 @@ pub fn take_statement(
             take_expression(found, start, condition)
         }
         ResolvedStatement::For(_, begin, condition, step, body) => {
-            take_start(found, start, begin)?;
-            take_perhaps(found, start, condition)?;
-            take_perhaps(found, start, step)?;
+            take_head(found, start, begin, condition, step)?;
             take_statement(found, start, body)
         }
         ResolvedStatement::Return(_, value) => take_perhaps(found, start, value),
         ResolvedStatement::Break(_) => Ok(()),
         ResolvedStatement::Continue(_) => Ok(()),
         ResolvedStatement::Parallel(_, clauses, captures, _) => {
-            take_clauses(found, start, clauses.as_slice())?;
-            take_captures(found, start, captures.as_slice())
+            take_region(found, start, clauses.as_slice(), captures.as_slice())
         }
         ResolvedStatement::Task(_, clauses, captures, _) => {
-            take_clauses(found, start, clauses.as_slice())?;
-            take_captures(found, start, captures.as_slice())
+            take_region(found, start, clauses.as_slice(), captures.as_slice())
         }
         ResolvedStatement::Loop(_, clauses, _, repeated, body) => {
-            take_clauses(found, start, clauses.as_slice())?;
-            take_expression(found, start, &repeated.from)?;
-            take_expression(found, start, &repeated.to)?;
+            take_bounds(found, start, clauses.as_slice(), repeated)?;
             take_statement(found, start, body)
         }
         ResolvedStatement::Sections(_, clauses, _, items) => {

@@ -5,7 +5,6 @@ ghost use Rattle.om_parser.specs.View.{view_declaration, view_declarator, view_f
 ghost use Rattle.om_scope.specs.Checks.{Checks, ChecksExactly};
 ghost use Rattle.om_scope.specs.Constants.{signed_value};
 ghost use Rattle.om_scope.specs.Scopes.{after_global, after_globals, behind_commas, cells_of, declarators_of, is_declared};
-ghost use Rattle.om_scope.specs.StatementResolution.{length_of};
 ghost use Rattle.om_scope.specs.UnitResolution.{global_of, initial_of};
 ghost use Rattle.om_scope.specs.UnitRules.{global_breaches, global_name_breaches, globals_breaches, initial_breaches, signed_breaches};
 
@@ -18,7 +17,7 @@ use crate::resolved::GlobalVariable;
 use crate::symbols::Symbols;
 use om_lexer::{FaultCode, SourceFault, Span};
 use om_parser::{Declaration, Declarator, Initializer, Number};
-use std::alloc::{AllocError, Global};
+use std::alloc::Global;
 
 /// How many cells the globals of a source may have. A scalar has one.
 pub const GLOBAL_CELL_LIMIT: u32 = 65_536;
@@ -86,20 +85,18 @@ fn declare_global_name(
     Ok(())
 }
 
-/// Adds a global that begins as this.
+/// Adds a global behind those before it: S3, S10.
 fn add_global(
     alloc: Global,
     globals: &mut Vec<GlobalVariable>,
     declarator: &Declarator,
-    initial: i32,
-) -> Result<(), AllocError>
-    ensures { let tree = view_declarator declarator.now in
-        let global = record { name = tree.name.text; at = tree.name.span.start; length = length_of tree.array; initial = initial } in
-        OnOk result (globals.new.items ≡ globals.old.items ++ global ∷ []) }
+) -> Result<(), SourceFault>
+    ensures checked { Checks result (initial_breaches (view_declarator declarator.now).initializer) }
+    ensures declared { OnOk result (globals.new.items ≡ globals.old.items ++ global_of (view_declarator declarator.now) ∷ []) }
 {
-    let name = copy_of(alloc, &declarator.name)?;
+    let initial = initial_of(&declarator.initializer)?;
     globals.push(GlobalVariable {
-        name,
+        name: copy_of(alloc, &declarator.name)?,
         at: declarator.name.span.start,
         length: length_of(&declarator.array),
         initial,
@@ -120,9 +117,7 @@ fn declare_global(
     ensures declared { OnOk result (globals.new.items ≡ globals.old.items ++ global_of (view_declarator declarator.now) ∷ []) }
 {
     declare_global_name(alloc, symbols, declarator)?;
-    let initial = initial_of(&declarator.initializer)?;
-    add_global(alloc, globals, declarator, initial)?;
-    Ok(())
+    add_global(alloc, globals, declarator)
 }
 
 /// Declares the globals behind the first of a declaration.

@@ -173,11 +173,11 @@ fn enter_scope(
 }
 
 impl Symbols {
-    /// The names that are declared before any source, which defines these functions besides.
-    pub fn new(alloc: Global, definitions: Names) -> Result<Symbols, AllocError>
-        ensures { IfOk result (λ symbols. symbols ≡ file_scope definitions) }
+    /// No name is declared yet, in a source that defines these functions.
+    pub fn new(alloc: Global, definitions: Names) -> Symbols
+        ensures { result ≡ nothing_declared definitions }
     {
-        let mut symbols = Symbols {
+        Symbols {
             inner: IndexMap::new(alloc),
             outer: Vec::new(alloc),
             constructs: Vec::new(alloc),
@@ -186,13 +186,11 @@ impl Symbols {
             cells: 0,
             definitions,
             defined: Names::new(alloc),
-        };
-        symbols.begin_file(alloc)?;
-        Ok(symbols)
+        }
     }
 
     /// Declares what is there before any source.
-    fn begin_file(&mut self, alloc: Global) -> Result<(), AllocError>
+    pub fn begin_file(&mut self, alloc: Global) -> Result<(), AllocError>
         requires is_empty { self.old ≡ nothing_declared self.old.definitions }
         ensures { OnOk result (self.new ≡ file_scope self.old.definitions) }
     {

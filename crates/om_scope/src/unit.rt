@@ -9,7 +9,7 @@ ghost use Rattle.om_scope.specs.Checks.{Checks, ChecksExactly};
 ghost use Rattle.om_scope.specs.Faults.{first_of};
 ghost use Rattle.om_scope.specs.Perhaps.{all_along};
 ghost use Rattle.om_scope.specs.ResolvedView.{view_resolved, view_resolved_function};
-ghost use Rattle.om_scope.specs.Scopes.{after_definition, after_item, definitions_of, file_scope};
+ghost use Rattle.om_scope.specs.Scopes.{after_definition, after_item, definitions_of, file_scope, nothing_declared};
 ghost use Rattle.om_scope.specs.UnitResolution.{globals_of, item_functions, items_resolution, resolution_of};
 ghost use Rattle.om_scope.specs.UnitRules.{item_breaches, items_breaches};
 ghost use Rattle.om_scope.specs.Uses.{IsResolved};
@@ -47,13 +47,13 @@ fn add_definitions(alloc: Global, names: &mut Names, items: &[Item]) -> Result<(
     Ok(())
 }
 
-/// What is in scope where a source begins.
-fn start_of(alloc: Global, items: &[Item]) -> Result<Symbols, AllocError>
-    ensures { IfOk result (λ symbols. symbols ≡ file_scope (definitions_of (map view_item items.now))) }
+/// The functions that a source defines, and those that are there before it.
+fn definitions_of(alloc: Global, items: &[Item]) -> Result<Names, AllocError>
+    ensures { IfOk result (λ names. names ≡ definitions_of (map view_item items.now)) }
 {
-    let mut definitions = Names::new(alloc);
-    add_definitions(alloc, &mut definitions, items)?;
-    Symbols::new(alloc, definitions)
+    let mut names = Names::new(alloc);
+    add_definitions(alloc, &mut names, items)?;
+    Ok(names)
 }
 
 /// Resolves an item in the scopes behind those before it.
@@ -102,16 +102,18 @@ fn resolve_each(
     Ok(())
 }
 
-/// Resolves the items of a source in what is in scope where it begins.
+/// Resolves the items of a source that defines these functions.
 fn resolve_from(
     alloc: Global,
     symbols: &mut Symbols,
     items: &[Item],
 ) -> Result<Resolved, SourceFault>
-    requires begins { symbols.old ≡ file_scope (definitions_of (map view_item items.now)) }
-    ensures checked { Checks result (items_breaches symbols.old (map view_item items.now)) }
+    requires is_empty { symbols.old ≡ nothing_declared (definitions_of (map view_item items.now)) }
+    ensures checked { let trees = map view_item items.now in
+        Checks result (items_breaches (file_scope (definitions_of trees)) trees) }
     ensures resolved { IfOk result (λ found. items_resolution (map view_item items.now) ≡ Some (view_resolved found)) }
 {
+    symbols.begin_file(alloc)?;
     let mut globals = Vec::new(alloc);
     let mut functions = Vec::new(alloc);
     resolve_each(alloc, symbols, &mut globals, &mut functions, items)?;
@@ -127,7 +129,8 @@ fn resolve_items(alloc: Global, items: &[Item]) -> Result<Resolved, SourceFault>
         Checks result (items_breaches (file_scope (definitions_of trees)) trees) }
     ensures resolved { IfOk result (λ found. items_resolution (map view_item items.now) ≡ Some (view_resolved found)) }
 {
-    let mut symbols = start_of(alloc, items)?;
+    let definitions = definitions_of(alloc, items)?;
+    let mut symbols = Symbols::new(alloc, definitions);
     resolve_from(alloc, &mut symbols, items)
 }
 

@@ -2,7 +2,7 @@ use Rattle.std.proofs.lemmas.Result.{err_from_is_err_and}
 use Rattle.om_scope.proofs.Firsts.{first_of_left}
 use Rattle.om_scope.proofs.function.resolve_function.Goals as goal
 
-pub returns-in_err-check_definition-clause-checked : goal.returns-in_err-check_definition-clause-checked
-returns-in_err-check_definition-clause-checked c =
+pub returns-in_err-begin_definition-clause-checked : goal.returns-in_err-begin_definition-clause-checked
+returns-in_err-begin_definition-clause-checked c =
     let p = err_from_is_err_and c.from_residual.result c.from_residual.ensures.1 in
-    rw (p.1, p.2) (λ other. first_of_left _ _ _ c.in_err-check_definition.ensures)
+    rw (p.1, p.2) (λ other. first_of_left _ _ _ (c.in_err-begin_definition.ensures.checked other))

@@ -1,11 +1,13 @@
-use Rattle.std.proofs.Common.{map, ap}
+use Rattle.std.proofs.Common.{map, ap, ◌∙◌}
 use Rattle.om_parser.specs.View.{view_item}
 use Rattle.om_scope.specs.ResolvedView.{view_resolved_function}
+use Rattle.om_scope.specs.Scopes.{file_scope}
 use Rattle.om_scope.proofs.Wholes.{whole_made}
 use Rattle.om_scope.proofs.unit.resolve_from.Goals as goal
 
 pub returns-clause-resolved : goal.returns-clause-resolved
 returns-clause-resolved c =
     let found = c.in_ok-resolve_each.ensures in
+    let begins = c.in_ok-begin_file.ensures ∙ ap (λ scopes. file_scope scopes.definitions) c.requires.is_empty in
     rw c.of.ensures
-    (whole_made (map view_item c.args.items.now) c.args.symbols.now _ _ _ _ c.requires.begins c.new-globals.ensures.items (ap (map view_resolved_function) c.new-functions.ensures.items) found.declared found.defined)
+    (whole_made (map view_item c.args.items.now) _ _ _ _ _ begins c.new-globals.ensures.items (ap (map view_resolved_function) c.new-functions.ensures.items) found.declared found.defined)
