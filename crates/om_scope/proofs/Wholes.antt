@@ -18,8 +18,8 @@ pub whole_made : (items : List ItemTree) (scopes : Scopes) (none globals : List 
     → items_resolution items ≡ Some (record { globals = globals; functions = made })
 whole_made items scopes none globals before made begins no_globals no_functions declared functions =
     ap (λ found. found >>= whole (flat_map globals_of items))
-        (ap (λ start. all_along item_functions after_item start items) (sym begins)
-        ∙ sym (nothing_made (all_along item_functions after_item scopes items))
-        ∙ ap (λ own. made_and own (all_along item_functions after_item scopes items)) (sym no_functions)
-        ∙ functions)
+    (ap (λ start. all_along item_functions after_item start items) (sym begins)
+    ∙ sym (nothing_made (all_along item_functions after_item scopes items))
+    ∙ ap (λ own. made_and own (all_along item_functions after_item scopes items)) (sym no_functions)
+    ∙ functions)
     ∙ ap (λ all. whole all made) (sym (declared ∙ ap (λ own. own ++ flat_map globals_of items) no_globals))
