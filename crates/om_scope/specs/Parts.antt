@@ -1,5 +1,5 @@
 -- Parts of statements and expressions that have a function of their own.
-use Rattle.std.specs.Prelude.{ℕ, pos, List, Option, Some, if◌then◌else◌}
+use Rattle.std.specs.Prelude.{pos, List, Option, Some, if◌then◌else◌}
 use Rattle.om_lexer.specs.declared.token.Span.{Span}
 use Rattle.om_parser.specs.declared.tree.AssignOperator.{AssignOperator}
 use Rattle.om_parser.specs.Tree.{ExpressionTree, DeclarationTree}

@@ -319,8 +319,8 @@ fn enter_construct(
     Ok(clauses)
 }
 
-/// Enters a construct whose clauses say this, with the bounds of its loop. Those of a `parallel for` use
-/// its copies, and those of a `for` the originals.
+/// Enters a construct whose clauses say this, with the bounds of its loop. Those of a `parallel for`
+/// use its copies, and those of a `for` the originals.
 fn enter_bounds(
     alloc: Global,
     symbols: &mut Symbols,
