@@ -136,10 +136,7 @@ fn a_body_has_at_most_65536_instructions(rt: HostRuntime) -> Result<(), Fail> {
         alloc,
         repeated(alloc, ASSIGNMENTS, b"x=1;", b"}", 32_767)?.as_slice(),
     )?;
-    assert_eq!(rt;
-        most.instruction(0, 65_534),
-        Some(Instr::Finish { has_value: false })
-    );
+    assert!(rt; most.instruction(0, 65_534) == Some(Instr::Finish { has_value: false }));
     let more = repeated(alloc, ASSIGNMENTS, b"x=1;", b"}", 32_768)?;
     assert!(rt; refusal_of(alloc, more.as_slice()) == (11, 10));
     Ok(())
