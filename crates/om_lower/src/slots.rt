@@ -15,7 +15,7 @@ use om_scope::{
 
 /// What is left of the limits on slots and cells, one more than may still come: 0 where a limit is
 /// passed.
-#[derive(Clone, Copy, Debug)]
+#[derive(Clone, Copy)]
 struct Room {
     slots: u32,
     cells: u32,

@@ -9,7 +9,7 @@ use std::alloc::{AllocError, Global};
 use thiserror::Error;
 
 /// A command, with its arguments.
-#[derive(Clone, Copy, Debug, PartialEq, Eq)]
+#[derive(Clone, Copy, PartialEq, Eq)]
 pub enum Command {
     /// `step W`: worker W takes its next step.
     Step(u8),
@@ -33,7 +33,7 @@ pub enum CommandFault {
 }
 
 /// What a line asks for.
-#[derive(Clone, Copy, Debug, PartialEq, Eq)]
+#[derive(Clone, Copy, PartialEq, Eq)]
 pub enum Request {
     /// The line has no word.
     Nothing,

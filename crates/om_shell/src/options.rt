@@ -1,7 +1,7 @@
 //! What a run is told besides its input.
 
 /// What a run is told besides its input.
-#[derive(Clone, Copy, Debug)]
+#[derive(Clone, Copy)]
 pub struct Options<'a> {
     /// How many workers there are, 1 to 8.
     pub workers: u8,

@@ -5,7 +5,7 @@ ghost use Rattle.ompback.specs.Outcomes.{status_of};
 use om_shell::ShellFault;
 
 /// How the program ends.
-#[derive(Clone, Copy, Debug, PartialEq, Eq)]
+#[derive(Clone, Copy)]
 pub enum Outcome {
     /// The run came to its end, with this status: 0, or 1 where the source was refused.
     Ran(u8),

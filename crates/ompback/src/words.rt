@@ -5,7 +5,7 @@ use clap::{Arg, ArgAction, Command, Error};
 use std::alloc::Global;
 
 /// What the words ask for.
-#[derive(Clone, Copy, Debug)]
+#[derive(Clone, Copy)]
 pub struct Words<'a> {
     /// How many workers there are, 1 to 8.
     pub workers: u8,
