@@ -24,6 +24,6 @@ number_of codes.LeavesConstruct = 14
 number_of codes.NoMain = 15
 number_of codes.TooDeep = 16
 
--- want of memory, which stands at byte 0
+-- out of memory, which stands at byte 0
 abbrev pub no_memory : SourceFault
 no_memory = record { code = codes.Memory; at = 0 }

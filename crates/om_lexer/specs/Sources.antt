@@ -51,7 +51,7 @@ IsWrong source context at codes.TooMany = BeginsHashLine source context at × Is
 IsWrong source context at codes.ConstantTooLarge = (is_ignored context.state ≡ false) × IsTooLarge source at
 IsWrong source context at _ = ⊥
 
--- a refusal at a byte: want of memory, or what is wrong there
+-- a refusal at a byte: out of memory, or what is wrong there
 abbrev pub IsWrongAt : List ℕ → Context → ℕ → SourceFault → Type 0
 IsWrongAt source context at fault = (fault ≡ no_memory) ⊎ ((fault.at ≡ at) × IsWrong source context at fault.code)
 
@@ -74,6 +74,6 @@ abbrev pub IsFault : List ℕ → FaultCode → ℕ → Type 0
 IsFault source codes.SourceTooLong at = (at ≡ source_limit) × IsTooLong source
 IsFault source code at = (at < source_limit) × GoesWrong source code at
 
--- a refusal is want of memory, or the source's fault
+-- a refusal is out of memory, or the source's fault
 abbrev pub IsRefusal : List ℕ → SourceFault → Type 0
 IsRefusal source fault = (fault ≡ no_memory) ⊎ IsFault source fault.code fault.at

@@ -57,7 +57,7 @@ impl FaultCode {
 /// A refusal: its reason, and the byte of the source where it stands.
 ///
 /// The place is below the source's length, or the length itself at its end.
-/// Want of memory stands at byte 0.
+/// Out of memory stands at byte 0.
 #[derive(Clone, Copy, Debug, Drop, Error)]
 #[error("S{} at byte {at}", .code.number())]
 pub struct SourceFault {

@@ -106,7 +106,7 @@ pub fn one_reading()
 {}
 
 /// Adds the tokens of a piece at its place, notes what it defines, and gives its line behind it.
-/// Without memory all three are lost to the caller.
+/// When out of memory, all three are lost to the caller.
 fn take_piece(
     alloc: Global,
     source: &[u8],

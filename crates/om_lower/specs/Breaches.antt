@@ -5,6 +5,6 @@ use Rattle.om_lower.specs.Limits.{limit_breaches, length_breaches}
 use Rattle.om_lower.specs.Untaken.{untaken_breaches}
 use Rattle.om_scope.specs.ResolvedTree.{ResolvedTree}
 
--- bodies that are too large, then forms that are not taken, then code that is too long
+-- bodies that are too large, then unsupported forms, then code that is too long
 abbrev pub code_breaches : ResolvedTree → List SourceFault
 code_breaches tree = limit_breaches tree ++ (untaken_breaches tree ++ length_breaches tree)

@@ -70,7 +70,7 @@ statement_first (Section s) = statement_first s
 statement_first (Construct at kind clauses s) = at
 statement_first (StandAlone at directive) = at
 
--- S3 at a statement that is not taken; its parts are not looked at
+-- S3 at an unsupported statement; its parts are not looked at
 abbrev pub statement_untaken : ResolvedStatementTree → List SourceFault
 statement_untaken s = breach_if (not (takes_statement s)) faults.Syntax (statement_first s).start
 
@@ -82,6 +82,6 @@ function_untaken f = if is_main_function f then flat_map statement_untaken (stat
 abbrev pub with_global : List SourceFault → GlobalVariable → List SourceFault
 with_global breaches global = perhaps_with (is_some global.length) faults.Syntax global.at breaches
 
--- the forms that are not taken, in the order of the text
+-- the unsupported forms, in the order of the text
 abbrev pub untaken_breaches : ResolvedTree → List SourceFault
 untaken_breaches tree = fold with_global (flat_map function_untaken tree.functions) tree.globals

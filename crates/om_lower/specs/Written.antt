@@ -1,4 +1,4 @@
--- The code of a resolved tree as lists, which is what the emitter writes. A form that is not taken has the empty list.
+-- The code of a resolved tree as lists, which is what the emitter writes. An unsupported form has the empty list.
 use Rattle.std.specs.Prelude.{ℕ, List, [], ◌∷◌, ◌++◌, Option, None, Some, true, false, length, map, replicate}
 use Rattle.std.specs.List.{flat_map}
 use Rattle.om_code.specs.declared.instruction.BinaryOperator.TheVariants as operators

@@ -1,4 +1,4 @@
-//! Writes the code of expressions, statements and functions. A form that is not taken has none.
+//! Writes the code of expressions, statements and functions. An unsupported form has none.
 
 ghost use Rattle.std.specs.Prelude.{◌≡◌, ◌≤◌, ◌-◌, ◌++◌, ◌∷◌, [], IfOk, OnOk, length, option_map, replicate};
 ghost use Rattle.om_lower.specs.Written.{load_code, store_code, operator_code, expression_code, effect_code, return_code, statement_code, statement_lines, body_of};

@@ -23,12 +23,12 @@ use std::alloc::{AllocError, Global};
 
 /// The program whose bodies are the code of the tree's functions and whose `main` is the body of `main`.
 ///
-/// Bodies that are too large are refused first, then forms that are not taken, and then code that is too long.
+/// Bodies that are too large are refused first, then unsupported forms, and then code that is too long.
 /// Refusals:
 /// - S0 at byte 0: no memory.
 /// - S11 at a function's name: its body, or that of a `parallel` or a `task` in it, would have more than 256 slots, more
 ///   than 4,096 cells of its own, or more than 256 operands at once. Of several such functions the first is named.
-/// - S3 at the first token of a function other than `main`, or of a statement of it that is not taken, and at the
+/// - S3 at the first token of a function other than `main`, or of an unsupported statement of it, and at the
 ///   name of an array among the globals. Of several the first in the text is named.
 /// - S11 at a function's name: it would have more than 65,536 instructions. Of several the first is named.
 #[tactic(auto, using(crate::proofs::Firsts::first_front))]

@@ -32,7 +32,7 @@ answered_among (Some fault) b = if goes_first fault b then fault else b
 abbrev pub perhaps_with : Bool → FaultCode → ℕ → List SourceFault → List SourceFault
 perhaps_with broken code at breaches = if broken then with_breach (record { code = code; at = at }) breaches else breaches
 
--- S3 at the first token of a form that is not taken; nothing else of it is looked at
+-- S3 at the first token of an unsupported form; nothing else of it is looked at
 abbrev pub untaken_breaches : ℕ → List SourceFault
 untaken_breaches at = breach_if true faults.Syntax at
 

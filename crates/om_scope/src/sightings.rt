@@ -65,7 +65,7 @@ impl Sightings {
         Some(*sighting)
     }
 
-    /// Notes a declaration of a name, as its innermost. Without memory nothing changes.
+    /// Notes a declaration of a name, as its innermost. When out of memory, nothing changes.
     pub fn note(&mut self, alloc: Global, name: &[u8], sighting: Sighting) -> Result<(), AllocError>
         ensures noted { OnOk result ((other : List ℕ) → seen_in self.new other ≡ (if bytes_eq other name.now then seen_in self.old other ++ sighting ∷ [] else seen_in self.old other)) }
         ensures unchanged_on_error { OnErr result ((other : List ℕ) → seen_in self.new other ≡ seen_in self.old other) }

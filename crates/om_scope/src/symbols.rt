@@ -116,7 +116,7 @@ pub fn add_predeclared(alloc: Global, names: &mut Names) -> Result<(), AllocErro
     names.add(alloc, b"omp_get_num_threads")
 }
 
-/// Puts a new name into a table, as the last. Without memory the table stays.
+/// Puts a new name into a table, as the last. When out of memory, the table stays.
 pub fn put(
     names: &mut IndexMap<Vec<u8>, Meaning>,
     alloc: Global,
@@ -204,7 +204,7 @@ impl Symbols {
         self.declare(alloc, b"omp_get_num_threads", asks)
     }
 
-    /// Declares a name. Without memory nothing changes.
+    /// Declares a name. When out of memory, nothing changes.
     fn declare(&mut self, alloc: Global, name: &[u8], meaning: Meaning) -> Result<(), AllocError>
         requires is_new { is_declared self.old name.now ≡ false }
         ensures { OnOk result (self.new ≡ with_bindings self.old ((name.now, meaning) ∷ [])) }

@@ -34,7 +34,7 @@ fn resolution_of(alloc: Global, source: &[u8]) -> Result<Resolved, SourceFault>
 
 /// The program of a source.
 ///
-/// The passes run in turn, and the first that refuses answers; nothing is kept then. Want of memory is S0 in any of
+/// The passes run in turn, and the first that refuses answers; nothing is kept then. Out of memory is S0 in any of
 /// them.
 pub(crate) fn program_of(alloc: Global, source: &[u8]) -> Result<Program, SourceFault>
     ensures program { IfOk result (λ program. IsProgramOf source.now program) }

@@ -61,7 +61,7 @@ fn answer_commands<R: Read, W: Write>(
 
 /// Serves a source and the commands behind it.
 ///
-/// Without memory for its program nothing is read or written.
+/// When out of memory for its program, nothing is read or written.
 pub(crate) fn serve<R: Read, W: Write>(
     alloc: Global,
     workers: u8,

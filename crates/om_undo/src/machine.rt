@@ -118,7 +118,7 @@ impl Machine {
     /// Takes a worker's step, or says why it can't be taken: the reply of the definition of a run.
     ///
     /// Only `Done` changes anything: an entry is added, whose serial is one above the number of
-    /// steps ever made. Without memory nothing changes.
+    /// steps ever made. When out of memory, nothing changes.
     pub fn step(
         &mut self,
         alloc: Global,

@@ -14,7 +14,7 @@ const CHUNK: usize = 4096;
 
 /// All that a reader has.
 ///
-/// Errors: H3 where a read fails, or the end isn't reached within 2^32 reads; H5 without memory.
+/// Errors: H3 where a read fails, or the end isn't reached within 2^32 reads; H5 when out of memory.
 pub fn read_all<R: Read>(alloc: Global, reader: &mut R) -> Result<Vec<u8>, ShellFault>
     ensures { IfOk result (λ bytes. ReadsAll (R.remaining reader.old) (R.remaining reader.new) bytes.items) }
 {

@@ -29,7 +29,7 @@ Exit status:
   2  wrong words, or help
   3  a fault, told on standard error: H3 a read failed, H4 a write failed, H5 no memory";
 
-/// What the words ask for. An error is wrong words, a call for help, or want of memory.
+/// What the words ask for. An error is wrong words, a call for help, or out of memory.
 pub fn words_in<'a>(alloc: Global, words: &'a [&'a str]) -> Result<Words<'a>, Error>
     ensures least { IfOk result (λ words. 0 < words.workers) }
     ensures most { IfOk result (λ words. words.workers ≤ 8) }
