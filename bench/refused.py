@@ -6,7 +6,7 @@ INPUT is the standard input (the stored run, crates/ompback/stdin, if not given)
 loaded before the C library; it refuses the N-th call of one kind. Of each such run three things are wanted: that it ends,
 that it ends with status 3 and the right fault on standard error (or as the whole run does, where nothing was lost), and
 that what it wrote is a beginning of what the whole run writes.
-TESTS is what `rt test` leaves of a crate, as crates/om_pragma/out/om_pragma_tests, and NAME a test of it that passes, and
+TESTS is what `rt test` leaves of a crate, as crates/om_front_tests/out/om_front_tests_tests, and NAME a test of it that passes, and
 gives back the refusals out of memory that it meets. Of each run it is wanted that it ends with that refusal, at byte 0.
 The last line counts the runs; the status is 1 where one of them is wrong.
 """

@@ -13,8 +13,6 @@ mod piece;
 mod scan;
 mod spelling;
 mod state;
-#[cfg(test)]
-mod tests;
 mod text;
 mod token;
 mod white_space;

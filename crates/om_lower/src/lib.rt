@@ -9,7 +9,5 @@ pub mod look;
 pub mod lower;
 mod same;
 mod slots;
-#[cfg(test)]
-mod tests;
 mod untaken;
 mod update;

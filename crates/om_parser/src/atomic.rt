@@ -256,6 +256,3 @@ pub fn has_atomic_form(kind: AtomicKind, statement: &Statement) -> bool
         AtomicKind::Write => is_write(expression),
     }
 }
-
-#[cfg(test)]
-mod tests;

@@ -495,6 +495,3 @@ fn joined(
 {
     boxed(alloc, Expression::Binary(left, operator, at, right))
 }
-
-#[cfg(test)]
-mod tests;

@@ -22,6 +22,3 @@ pub use tree::{
     Parameters, PostfixOperator, PrefixOperator, ResultType, Statement, Text, Unit,
 };
 pub use unit::{BLOCK_LIMIT, NESTING_LIMIT, STATEMENT_LIMIT, TOKEN_LIMIT, one_tree, parse};
-
-#[cfg(test)]
-mod tests;

@@ -204,6 +204,3 @@ fn take_first(tokens: &[Token]) -> Option<(&Token, &[Token])>
         [] => None,
     }
 }
-
-#[cfg(test)]
-mod tests;

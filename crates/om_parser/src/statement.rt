@@ -938,6 +938,3 @@ fn expression_statement(
         rest,
     ))
 }
-
-#[cfg(test)]
-mod tests;

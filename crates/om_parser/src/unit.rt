@@ -186,6 +186,3 @@ fn function_after(
     let (body, rest) = block(alloc, tokens)?;
     Ok((Item::Function(Function { head, body }), rest))
 }
-
-#[cfg(test)]
-mod tests;

@@ -23,6 +23,3 @@ pub use laws::{one_directive, one_fault};
 pub use name::{Name, NameList, Number};
 pub use reading::directive;
 pub use tree::{AtomicKind, Directive, DirectiveName};
-
-#[cfg(test)]
-mod tests;

@@ -1,6 +1,6 @@
 //! Sources cut after each byte.
 
-use crate::lex;
+use om_lexer::lex;
 use std::test::Fail;
 
 /// Wherever a source is cut, there are tokens or a numbered refusal at one of its bytes.

@@ -1,17 +1,15 @@
 //! Directive lines of programs that are accepted.
 
-use super::shown;
+use super::answer;
+use crate::table::{WHOLE, check};
 use std::test::Fail;
 
 #[test]
 fn lines_of_accepted_programs(rt: HostRuntime) -> Result<(), Fail> {
-    for line in LINES.lines() {
-        assert_eq!(rt; shown(rt.alloc(), line)?.as_str(), "ok", "at {line}");
-    }
-    Ok(())
+    check(&rt, rt.alloc(), WHOLE, "ok", LINES, answer)
 }
 
-const LINES: &str = "\
+const LINES: &str = r"
 #pragma omp atomic
 #pragma omp atomic read
 #pragma omp atomic read relaxed

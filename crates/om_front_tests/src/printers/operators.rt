@@ -1,0 +1,49 @@
+//! Operators as in C.
+
+use om_parser::{AssignOperator, BinaryOperator, PostfixOperator, PrefixOperator};
+
+pub fn binary_mark(operator: BinaryOperator) -> &'static str {
+    match operator {
+        BinaryOperator::Or => "||",
+        BinaryOperator::And => "&&",
+        BinaryOperator::Equal => "==",
+        BinaryOperator::NotEqual => "!=",
+        BinaryOperator::Less => "<",
+        BinaryOperator::Greater => ">",
+        BinaryOperator::LessEqual => "<=",
+        BinaryOperator::GreaterEqual => ">=",
+        BinaryOperator::Add => "+",
+        BinaryOperator::Subtract => "-",
+        BinaryOperator::Multiply => "*",
+        BinaryOperator::Divide => "/",
+        BinaryOperator::Remainder => "%",
+    }
+}
+
+pub fn assign_mark(operator: AssignOperator) -> &'static str {
+    match operator {
+        AssignOperator::Set => "=",
+        AssignOperator::Add => "+=",
+        AssignOperator::Subtract => "-=",
+        AssignOperator::Multiply => "*=",
+        AssignOperator::Divide => "/=",
+        AssignOperator::Remainder => "%=",
+    }
+}
+
+pub fn prefix_mark(operator: PrefixOperator) -> &'static str {
+    match operator {
+        PrefixOperator::Plus => "+",
+        PrefixOperator::Minus => "-",
+        PrefixOperator::Not => "!",
+        PrefixOperator::Increment => "++",
+        PrefixOperator::Decrement => "--",
+    }
+}
+
+pub fn postfix_mark(operator: PostfixOperator) -> &'static str {
+    match operator {
+        PostfixOperator::Increment => "++",
+        PostfixOperator::Decrement => "--",
+    }
+}
