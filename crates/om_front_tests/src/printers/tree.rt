@@ -280,17 +280,14 @@ fn add_arguments(
     Ok(())
 }
 
-/// Two operands in brackets, with an operator between them.
+/// An operator, its right operand, and the bracket behind it.
 #[cycle(expression)]
-fn add_operation(
+fn add_right(
     alloc: Global,
     text: &mut String,
-    left: &Expression,
     mark: &str,
     right: &Expression,
 ) -> Result<(), AllocError> {
-    text.push_str("[")?;
-    add_expression(alloc, text, left)?;
     write!(text, " {mark} ")?;
     add_expression(alloc, text, right)?;
     text.push_str("]")
@@ -343,10 +340,14 @@ fn add_expression(
             write!(text, " {mark}]")
         }
         Expression::Binary(left, operator, _, right) => {
-            add_operation(alloc, text, left, binary_mark(*operator), right)
+            text.push_str("[")?;
+            add_expression(alloc, text, left)?;
+            add_right(alloc, text, binary_mark(*operator), right)
         }
         Expression::Assign(left, operator, _, right) => {
-            add_operation(alloc, text, left, assign_mark(*operator), right)
+            text.push_str("[")?;
+            add_expression(alloc, text, left)?;
+            add_right(alloc, text, assign_mark(*operator), right)
         }
         Expression::Conditional(condition, _, value, _, other) => {
             text.push_str("[")?;
