@@ -77,7 +77,7 @@ ends_before_nothing : (r : Result (List Token × Span × List Token) ℕ) → en
 ends_before_nothing (Ok c) = rw (le-leb 0 c.1.start (omega arith)) refl
 ends_before_nothing (Err at) = refl
 
--- no expression ends before the first byte, where want of memory stands
+-- no expression ends before the first byte, where out of memory stands
 before_nothing : (ts : List Token) → expression_before 0 ts ≡ None
 unfolding expression_before expression_at
 before_nothing [] = refl

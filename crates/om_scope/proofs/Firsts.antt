@@ -18,7 +18,7 @@ first_of_left (x ∷ xs) ys fault e = e
 pub no_breach : {broken : Bool} (code : FaultCode) (at : ℕ) → broken ≡ false → breach_if broken code at ≡ []
 no_breach code at e = rw e refl
 
--- want of memory goes before all
+-- out of memory goes before all
 memory_first : (code : FaultCode) (at : ℕ) → goes_first no_memory (record { code = code; at = at }) ≡ true
 memory_first code zero =
     let before : nat_le 0 (number_of code) ≡ true = grind (arith, nat_tests) in
