@@ -142,9 +142,10 @@ fn is_excluded(before: &[ClauseItem<&[Token]>], kind: ClauseKind) -> bool
 }
 
 /// Whether a directive can have a clause behind those before it.
-#[tactic(auto, using(crate::proofs::SameKinds::excluded), unfolding(crate::specs::Table::may_stand))]
+// A clause that can repeat is excluded by none, so a long line of such clauses takes linear time.
+#[tactic(auto, using(crate::proofs::SameKinds::excluded, crate::proofs::SameKinds::none_excluded), unfolding(crate::specs::Table::may_stand))]
 pub fn may_stand(name: &DirectiveName, before: &[ClauseItem<&[Token]>], kind: ClauseKind) -> bool
     ensures { result ≡ may_stand name.now (kinds_of (map (map_item tokens_in) before.now)) kind }
 {
-    has_clause(name, kind) && !is_excluded(before, kind)
+    has_clause(name, kind) && (may_repeat(kind) || !is_excluded(before, kind))
 }
