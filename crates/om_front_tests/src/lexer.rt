@@ -5,7 +5,7 @@ mod cuts;
 use crate::nest::nested;
 use crate::printers::tokens::tokens_of;
 use crate::table::{Frame, WHOLE, check};
-use om_lexer::{lex, one_reading};
+use om_lexer::{lex, one_reading, tokens_apart, tokens_in_order};
 use std::alloc::{AllocError, Global};
 use std::test::Fail;
 
@@ -381,6 +381,8 @@ int alpha; int beta = 1; /* */ alpha = beta + N;
 #[test]
 fn out_of_memory(rt: HostRuntime) -> Result<(), Fail> {
     one_reading();
+    tokens_in_order();
+    tokens_apart();
     assert_eq!(rt; lex(rt.alloc(), MEMORY.as_bytes())?.len(), 21);
     Ok(())
 }

@@ -176,7 +176,7 @@ word_bound source from to text w =
     let inside = w.longest.inside in
     (omega (arith, lengths, long, inside, w.word.some), inside)
 
-hash_word_bound : (source : List ℕ) (from word to : ℕ) (text : List ℕ) → IsHashWord source from word to text → (from < word) × (to ≡ word + length text) × (to ≤ length source)
+pub hash_word_bound : (source : List ℕ) (from word to : ℕ) (text : List ℕ) → IsHashWord source from word to text → (from < word) × (to ≡ word + length text) × (to ≤ length source)
 hash_word_bound source from word to text h =
     let rises = gap_rises source (from + 1) word h.gap in
     let bound = word_bound source word to text h.is_word in

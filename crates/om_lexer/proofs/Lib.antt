@@ -11,3 +11,4 @@ pub mod OnePiece
 pub mod Wrong
 pub mod Progress
 pub mod OneReading
+pub mod Order

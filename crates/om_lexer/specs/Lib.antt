@@ -10,3 +10,4 @@ pub mod HashLines
 pub mod Pieces
 pub mod Folding
 pub mod Sources
+pub mod Order

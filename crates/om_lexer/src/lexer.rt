@@ -1,12 +1,10 @@
 //! The tokens of a source.
 
 ghost use Rattle.std.specs.Prelude.{◌≡◌, ◌==◌, ◌++◌, ◌+◌, ◌<◌, ◌≤◌, ◌^◌, ℕ, List, [], ◌∷◌, length, count_by, IfOk, IfErr, OnOk};
-ghost use Rattle.om_lexer.specs.declared.fault.FaultCode.{FaultCode};
-ghost use Rattle.om_lexer.specs.declared.token.Token.{Token};
 ghost use Rattle.om_lexer.specs.Macros.{replaced};
 ghost use Rattle.om_lexer.specs.Pieces.{context_of, span_of, line_at, state_behind, state_behind_token, state_of_line, macros_behind, macros_behind_token, macros_defined};
 ghost use Rattle.om_lexer.specs.Folding.{tokens_in, token_in, tokens_of_line, directive_begin, directive_end, HasWords, HasWordsInside};
-ghost use Rattle.om_lexer.specs.Sources.{IsTokens, IsFault, IsRefusal};
+ghost use Rattle.om_lexer.specs.Sources.{IsTokens, IsRefusal};
 
 use crate::fault::{FaultCode, SourceFault};
 use crate::macros::Macros;
@@ -95,15 +93,6 @@ fn add_end(tokens: &mut Vec<Token>, state: &LineState, span: Span) -> Result<(),
     })?;
     Ok(())
 }
-
-/// A source has one list of tokens or one fault, and not both.
-pub fn one_reading()
-    ensures one_token_list { (source : List ℕ) (ts us : List Token) → IsTokens source ts → IsTokens source us → ts ≡ us }
-    ensures tokens_or_fault { (source : List ℕ) (ts : List Token) (code : FaultCode) (at : ℕ) →
-        IsTokens source ts → IsFault source code at → ⊥ }
-    ensures one_fault { (source : List ℕ) (c d : FaultCode) (a b : ℕ) →
-        IsFault source c a → IsFault source d b → (c ≡ d) × (a ≡ b) }
-{}
 
 /// Adds the tokens of a piece at its place, notes what it defines, and gives its line behind it.
 /// When out of memory, all three are lost to the caller.

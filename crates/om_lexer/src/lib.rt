@@ -6,6 +6,7 @@ mod constant;
 mod define;
 mod fault;
 mod hash_line;
+mod laws;
 mod lexeme;
 mod lexer;
 mod macros;
@@ -19,5 +20,6 @@ mod white_space;
 mod word;
 
 pub use fault::{FaultCode, SourceFault};
-pub use lexer::{lex, one_reading};
+pub use laws::{one_reading, tokens_apart, tokens_in_order};
+pub use lexer::lex;
 pub use token::{Keyword, Punctuator, Span, Token, TokenKind};
