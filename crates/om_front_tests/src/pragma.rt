@@ -5,7 +5,10 @@ mod accepted;
 use crate::front_end::{number, refusal, verdict};
 use crate::table::{Frame, WHOLE, check, note};
 use om_lexer::{SourceFault, Token, lex};
-use om_pragma::{AtomicKind, Directive, directive, expression_before, one_directive, one_fault};
+use om_pragma::{
+    AtomicKind, Directive, DirectiveKind, begun_by, directive, expression_before, one_directive,
+    one_fault,
+};
 use std::alloc::{AllocError, Global};
 use std::test::Fail;
 
@@ -314,10 +317,10 @@ fn an_expression_before_a_fault(rt: HostRuntime) -> Result<(), Fail> {
 fn questions(found: &Directive<&[Token]>) -> [bool; 5] {
     [
         matches!(found.atomic_kind(), AtomicKind::Write),
-        found.name.is_atomic(),
-        found.name.is_stand_alone(),
-        found.name.is_section(),
-        found.name.is_sections(),
+        found.name.kind().is_atomic(),
+        found.name.kind().stands_alone(),
+        found.name.kind().begins_part(),
+        found.name.kind().has_parts(),
     ]
 }
 
@@ -328,6 +331,8 @@ fn what_a_parser_asks(rt: HostRuntime) -> Result<(), Fail> {
     let found = directive(alloc, run_of(&tokens))?;
     assert!(rt; questions(&found) == [true, true, false, false, false]);
     assert_eq!(rt; found.name.span().start, 12);
+    let word = run_of(&tokens).get(3);
+    assert!(rt; matches!(word, Some(word) if matches!(begun_by(&word.kind), Some(DirectiveKind::Atomic))));
     Ok(())
 }
 

@@ -12,7 +12,7 @@ use Rattle.om_lexer.specs.declared.token.TokenKind.{TokenKind}
 use Rattle.om_lexer.specs.declared.token.TokenKind.TheVariants as kinds
 use Rattle.om_pragma.specs.declared.tree.Directive.{Directive}
 use Rattle.om_pragma.specs.declared.tree.DirectiveName.TheVariants as directives
-use Rattle.om_pragma.specs.declared.word.DirectiveWord.TheVariants as words
+use Rattle.om_pragma.specs.declared.kind.DirectiveKind.TheVariants as words
 use Rattle.om_pragma.specs.Spelling.{opening_spelling as line_opening, name_spelling, directive_spelling}
 use Rattle.om_pragma.specs.Table.{EachBehind, IsDirective}
 use Rattle.om_pragma.specs.Words.{directive_word}

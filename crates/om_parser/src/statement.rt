@@ -339,9 +339,9 @@ fn construct(
     ensures { Reads (λ x. (view_statement x.0.value, x.1.now)) result (construct_at (parts accepted).line checked (λ c. statement_at (parts accepted) c room blocks) (parts_at (parts accepted) checked room blocks) tokens.now) }
 {
     let (directive, rest) = directive_line(alloc, tokens)?;
-    if directive.name.is_sections() {
+    if directive.name.kind().has_parts() {
         sections(alloc, directive, rest, checked, room, blocks)
-    } else if directive.name.is_atomic() {
+    } else if directive.name.kind().is_atomic() {
         atomic(alloc, directive, rest, checked, room, blocks)
     } else {
         constructed(alloc, directive, rest, checked, room, blocks)

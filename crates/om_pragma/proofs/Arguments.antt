@@ -28,10 +28,10 @@ use Rattle.om_pragma.specs.declared.name.Name as names
 use Rattle.om_pragma.specs.declared.name.NameList as lists
 use Rattle.om_pragma.specs.declared.name.Number.{Number}
 use Rattle.om_pragma.specs.Expressions.{open_behind, Closes, IsClosed}
-use Rattle.om_pragma.specs.Reading.{◌>>=◌, choose, place, known, among, take_kind, take_word, take_chunk, number_of, mark_at, name_at, until, further_at, names_at, list_after, list_at, closing, value_in, value_after, default_words, default_after, data_after, reduction_operators, reduction_after, chunk_at, schedule_kinds, schedule_after, clause_after}
+use Rattle.om_pragma.specs.Reading.{◌>>=◌, choose, place, known, take_kind, take_word, take_chunk, number_of, mark_at, name_at, until, further_at, names_at, list_after, list_at, closing, value_in, value_after, default_words, default_after, data_after, reduction_operators, reduction_after, chunk_at, schedule_kinds, schedule_after, clause_after}
 use Rattle.om_pragma.specs.Spelling.{token, mark, name, number, further_spelling, names_spelling, list_spelling, chunk_spelling, argument_spelling, value_kind, data_kind, plain_kind, kind_of, span_of}
 use Rattle.om_pragma.specs.Table.{EachBehind, IsChunk, IsClause}
-use Rattle.om_pragma.specs.Words.{same_kind, same_mark, same_keyword, sharing_word, operator_word, schedule_word}
+use Rattle.om_pragma.specs.Words.{same_kind, same_mark, same_keyword, sharing_word, operator_word, schedule_word, among}
 use Rattle.om_pragma.proofs.Outcomes.{ok, ok_is, ok_err, some, some_is, none_some, bind_ok, choose_cases, known_ok, cond_some, after_front}
 use Rattle.om_pragma.proofs.Passing.{until_ends, until_passes, so_many}
 use Rattle.om_pragma.proofs.Taken.{same_kind_is, take_kind_is, take_word_is, mark_at_is, name_at_is, take_mark_again, mark_again, name_again, word_again}

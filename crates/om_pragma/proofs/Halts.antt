@@ -17,14 +17,14 @@ use Rattle.om_pragma.specs.declared.name.Name as names
 use Rattle.om_pragma.specs.declared.tree.Directive.{Directive}
 use Rattle.om_pragma.specs.declared.tree.DirectiveName.{DirectiveName}
 use Rattle.om_pragma.specs.declared.tree.DirectiveName.TheVariants as directives
-use Rattle.om_pragma.specs.declared.word.DirectiveWord.{DirectiveWord}
-use Rattle.om_pragma.specs.declared.word.DirectiveWord.TheVariants as words
+use Rattle.om_pragma.specs.declared.kind.DirectiveKind.{DirectiveKind}
+use Rattle.om_pragma.specs.declared.kind.DirectiveKind.TheVariants as words
 use Rattle.om_pragma.specs.Expressions.{IsClosed}
-use Rattle.om_pragma.specs.Reading.{choose, place, fault, stopped, in_clause, no_word, among, all_clauses, directive_words, take_kind, take_word, take_end, is_end, opening_at, critical_after, critical_at, list_after, names_at, flush_at, name_after, directive_name_at, clause_after, clause_at, comma_at, item_at, syntax_at, until, clauses_at, directive_at}
+use Rattle.om_pragma.specs.Reading.{choose, place, fault, stopped, in_clause, no_word, all_clauses, take_kind, take_word, take_end, is_end, opening_at, critical_after, critical_at, list_after, names_at, flush_at, name_after, directive_name_at, clause_after, clause_at, comma_at, item_at, syntax_at, until, clauses_at, directive_at}
 use Rattle.om_pragma.specs.Refusals.{IsWhole, IsWrittenItem, BeginsDirective, StopsAt, EndsOnce}
 use Rattle.om_pragma.specs.Spelling.{token, mark, list_spelling, critical_spelling, flush_spelling, opening_spelling, name_spelling, comma_spelling, argument_spelling, clause_spelling, item_spelling, directive_spelling, kind_of, span_of}
 use Rattle.om_pragma.specs.Table.{may_stand, kinds_of, EachBehind, IsBetween, IsClause, IsItem}
-use Rattle.om_pragma.specs.Words.{directive_word, clause_word}
+use Rattle.om_pragma.specs.Words.{directive_word, clause_word, among, directive_words}
 use Rattle.om_pragma.proofs.Arguments.{clause_again}
 use Rattle.om_pragma.proofs.Directives.{Items, spelling, clauses_end, clauses_pass, directive_parts, each_written, whole_written, ends_at, end_is}
 use Rattle.om_pragma.proofs.Items.{clause_known, clause_is_word, comma_is, comma_again, take_no_end, some_item}
@@ -231,7 +231,7 @@ flush_at_halts hash pragma omp s ts f e = elim (choose_cases (take_kind (kinds.P
   | inr o ↦ absurd cc
 ]
 
-name_after_halts : (hash pragma omp : Span) (w : DirectiveWord) (s : Span) (ts : List Token) (f : SourceFault) → name_after w s ts ≡ err f → NameHalts hash pragma omp (token (directive_word w) s ∷ ts) f
+name_after_halts : (hash pragma omp : Span) (w : DirectiveKind) (s : Span) (ts : List Token) (f : SourceFault) → name_after w s ts ≡ err f → NameHalts hash pragma omp (token (directive_word w) s ∷ ts) f
 unfolding name_after
 name_after_halts hash pragma omp words.Critical s ts f e = critical_at_halts hash pragma omp s ts f e
 name_after_halts hash pragma omp words.Flush s ts f e = flush_at_halts hash pragma omp s ts f e

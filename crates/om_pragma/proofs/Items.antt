@@ -13,10 +13,10 @@ use Rattle.om_pragma.specs.declared.clause.ClauseKind.{ClauseKind}
 use Rattle.om_pragma.specs.declared.clause.ClauseKind.TheVariants as clause_kinds
 use Rattle.om_pragma.specs.declared.tree.DirectiveName.{DirectiveName}
 use Rattle.om_pragma.specs.Expressions.{IsClosed}
-use Rattle.om_pragma.specs.Reading.{choose, fault, among, all_clauses, take_kind, take_word, take_end, is_end, in_clause, clause_after, clause_at, comma_at, item_at}
+use Rattle.om_pragma.specs.Reading.{choose, fault, all_clauses, take_kind, take_word, take_end, is_end, in_clause, clause_after, clause_at, comma_at, item_at}
 use Rattle.om_pragma.specs.Spelling.{token, argument_spelling, clause_spelling, comma_spelling, item_spelling, kind_of, span_of}
 use Rattle.om_pragma.specs.Table.{may_stand, kinds_of, IsBetween, IsClause, IsItem}
-use Rattle.om_pragma.specs.Words.{same_kind, same_keyword, is_word, clause_word}
+use Rattle.om_pragma.specs.Words.{same_kind, same_keyword, is_word, clause_word, among}
 use Rattle.om_pragma.proofs.Arguments.{clause_after_is, clause_again}
 use Rattle.om_pragma.proofs.Outcomes.{ok, ok_is, some, bind_ok, choose_cases, after_front}
 use Rattle.om_pragma.proofs.Taken.{take_kind_is, take_word_is, take_mark_again, word_again}

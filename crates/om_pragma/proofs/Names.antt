@@ -10,23 +10,31 @@ use Rattle.om_lexer.specs.declared.token.TokenKind.TheVariants as kinds
 use Rattle.om_pragma.specs.declared.name.Name as names
 use Rattle.om_pragma.specs.declared.tree.DirectiveName.{DirectiveName}
 use Rattle.om_pragma.specs.declared.tree.DirectiveName.TheVariants as directives
-use Rattle.om_pragma.specs.declared.word.DirectiveWord.{DirectiveWord}
-use Rattle.om_pragma.specs.declared.word.DirectiveWord.TheVariants as words
-use Rattle.om_pragma.specs.Reading.{Outcome, stopped, known, among, directive_words, take_kind, take_word, mark_at, name_at, list_after, critical_after, critical_at, flush_at, parallel_at, name_after, directive_name_at, opening_at}
+use Rattle.om_pragma.specs.declared.kind.DirectiveKind.{DirectiveKind}
+use Rattle.om_pragma.specs.declared.kind.DirectiveKind.TheVariants as words
+use Rattle.om_pragma.specs.Reading.{Outcome, stopped, known, take_kind, take_word, mark_at, name_at, list_after, critical_after, critical_at, flush_at, parallel_at, name_after, directive_name_at, opening_at}
 use Rattle.om_pragma.specs.Refusals.{IsWhole}
 use Rattle.om_pragma.specs.Spelling.{token, mark, name, list_spelling, names_spelling, critical_spelling, flush_spelling, name_spelling, opening_spelling}
-use Rattle.om_pragma.specs.Words.{same_kind, same_mark, same_keyword, directive_word}
+use Rattle.om_pragma.specs.Words.{same_kind, same_mark, same_keyword, directive_word, among, directive_words}
 use Rattle.om_pragma.proofs.Arguments.{list_after_is, list_after_again}
 use Rattle.om_pragma.proofs.Outcomes.{ok, ok_is, some, bind_ok, choose_cases, known_ok}
-use Rattle.om_pragma.proofs.Taken.{same_kind_is, take_kind_is, take_word_is, mark_at_is, name_at_is, take_mark_again, mark_again, name_again, word_again}
+use Rattle.om_pragma.proofs.Taken.{same_kind_is, take_kind_is, take_word_is, mark_at_is, name_at_is, take_mark_again, mark_again, name_again, word_known}
 
-pub directive_known : (w : DirectiveWord) → among directive_word directive_words (directive_word w) ≡ some w
+-- the directive that its first word is alone
+abbrev pub alone : DirectiveKind → DirectiveKind
+alone words.ParallelFor = words.Parallel
+alone words.ParallelSections = words.Parallel
+alone k = k
+
+pub directive_known : (w : DirectiveKind) → among directive_word directive_words (directive_word w) ≡ some (alone w)
 unfolding same_keyword
 directive_known words.Parallel = refl
 directive_known words.For = refl
 directive_known words.Sections = refl
 directive_known words.Section = refl
 directive_known words.Single = refl
+directive_known words.ParallelFor = refl
+directive_known words.ParallelSections = refl
 directive_known words.Masked = refl
 directive_known words.Master = refl
 directive_known words.Critical = refl
@@ -36,6 +44,12 @@ directive_known words.Barrier = refl
 directive_known words.Taskwait = refl
 directive_known words.Taskyield = refl
 directive_known words.Flush = refl
+
+after_alone : (w : DirectiveKind) (s : Span) (ts : List Token) → name_after (alone w) s ts ≡ name_after w s ts
+unfolding name_after
+after_alone words.ParallelFor s ts = refl
+after_alone words.ParallelSections s ts = refl
+after_alone _ s ts = refl
 
 -- no token of this kind stands first
 abbrev pub IsNotFirst : TokenKind → List Token → Type 0
@@ -128,12 +142,14 @@ parallel_is s ts x h = elim (choose_cases (take_kind (directive_word words.For) 
   ]
 ]
 
-one_word : (w : DirectiveWord) (n : DirectiveName) (s : Span) (ts : List Token) (x : DirectiveName × List Token) → name_spelling n ≡ token (directive_word w) s ∷ [] → IsWhole n ts → ok {X = SourceFault} (n, ts) ≡ ok x → IsNameRead (token (directive_word w) s ∷ ts) x
+one_word : (w : DirectiveKind) (n : DirectiveName) (s : Span) (ts : List Token) (x : DirectiveName × List Token) → name_spelling n ≡ token (directive_word w) s ∷ [] → IsWhole n ts → ok {X = SourceFault} (n, ts) ≡ ok x → IsNameRead (token (directive_word w) s ∷ ts) x
 one_word w n s ts x spelled whole h = subst (IsNameRead (token (directive_word w) s ∷ ts)) (ok_is (n, ts) x h) (record { parts = ap (λ (v : List Token). v ++ ts) (sym spelled); whole = whole })
 
-pub name_after_is : (w : DirectiveWord) (s : Span) (ts : List Token) (x : DirectiveName × List Token) → name_after w s ts ≡ ok x → IsNameRead (token (directive_word w) s ∷ ts) x
+pub name_after_is : (w : DirectiveKind) (s : Span) (ts : List Token) (x : DirectiveName × List Token) → name_after w s ts ≡ ok x → IsNameRead (token (directive_word w) s ∷ ts) x
 unfolding name_after name_spelling
 name_after_is words.Parallel s ts x h = parallel_is s ts x (ok_is (parallel_at s ts) x h)
+name_after_is words.ParallelFor s ts x h = parallel_is s ts x (ok_is (parallel_at s ts) x h)
+name_after_is words.ParallelSections s ts x h = parallel_is s ts x (ok_is (parallel_at s ts) x h)
 name_after_is words.For s ts x h = one_word words.For (directives.For s) s ts x refl (λ t more e g. g) h
 name_after_is words.Sections s ts x h = one_word words.Sections (directives.Sections s) s ts x refl (λ t more e g. g) h
 name_after_is words.Section s ts x h = one_word words.Section (directives.Section s) s ts x refl (λ t more e g. g) h
@@ -172,9 +188,9 @@ pub opening_again : (hash pragma omp : Span) (us : List Token) → opening_at (o
 unfolding opening_at opening_spelling take_kind
 opening_again hash pragma omp us = refl
 
-pub name_after_again : (w : DirectiveWord) (s : Span) (us : List Token) (y : Outcome (DirectiveName × List Token)) → name_after w s us ≡ y → directive_name_at (token (directive_word w) s ∷ us) ≡ y
+pub name_after_again : (w : DirectiveKind) (s : Span) (us : List Token) (y : Outcome (DirectiveName × List Token)) → name_after w s us ≡ y → directive_name_at (token (directive_word w) s ∷ us) ≡ y
 unfolding directive_name_at
-name_after_again w s us y e = rw (word_again directive_word directive_words w (directive_known w) s us) e
+name_after_again w s us y e = rw (word_known directive_word directive_words (directive_word w) (alone w) (directive_known w) s us) (after_alone w s us ∙ e)
 
 parallel_again : (s : Span) (us : List Token) → IsWhole (directives.Parallel s) us → parallel_at s us ≡ (directives.Parallel s, us)
 unfolding parallel_at

@@ -13,6 +13,7 @@ use Rattle.om_pragma.specs.declared.tree.Directive.{Directive}
 use Rattle.om_pragma.specs.declared.tree.DirectiveName.{DirectiveName}
 use Rattle.om_pragma.specs.declared.tree.DirectiveName.TheVariants as directives
 use Rattle.om_pragma.specs.Expressions.{clause_expressions, expressions}
+use Rattle.om_pragma.specs.Kinds.{directive_kind}
 use Rattle.om_pragma.specs.Spelling.{kind_of, value_kind}
 use Rattle.om_pragma.specs.Table.{clauses_of, same_clause, excludes, may_stand, kinds_of, EachBehind, IsItem, IsDirective}
 
@@ -49,7 +50,7 @@ and_second : (a b : Bool) → (a && b) ≡ true → b ≡ true
 and_second true b e = e
 and_second false b e = absurd cc
 
-only_value : (n : DirectiveName) (k : ValueClause) → list_any (λ j. same_clause j (value_kind k)) (clauses_of n) ≡ true → value_kind k ≡ value_of_name n
+only_value : (n : DirectiveName) (k : ValueClause) → list_any (λ j. same_clause j (value_kind k)) (clauses_of (directive_kind n)) ≡ true → value_kind k ≡ value_of_name n
 unfolding value_of_name same_clause
 only_value (directives.Masked s) value_kinds.NumThreads e = absurd cc
 only_value (directives.Masked s) value_kinds.Filter e = refl
@@ -73,9 +74,9 @@ not_both false b e f = absurd cc
 no_value : {E : Type 0} (n : DirectiveName) (before : List (ClauseItem E)) (k : ValueClause) → may_stand n (kinds_of before) (value_kind k) ≡ true → IsTaken n before → ⊥
 unfolding may_stand IsTaken
 no_value n before k can taken =
-    let has = and_first (list_any (λ j. same_clause j (value_kind k)) (clauses_of n)) _ can in
+    let has = and_first (list_any (λ j. same_clause j (value_kind k)) (clauses_of (directive_kind n))) _ can in
     let same = only_value n k has in
-    not_both (list_any (λ j. same_clause j (value_kind k)) (clauses_of n)) (list_any (λ j. excludes j (value_kind k)) (kinds_of before)) can
+    not_both (list_any (λ j. same_clause j (value_kind k)) (clauses_of (directive_kind n))) (list_any (λ j. excludes j (value_kind k)) (kinds_of before)) can
     (any_kind (λ j. excludes j (value_kind k)) before ∙ rw same taken)
 
 none_left : {E : Type 0} (P : E → Type 0) (n : DirectiveName) (before items : List (ClauseItem E)) → EachBehind (IsItem P n) before items → IsTaken n before → length (flat_map (λ (i : ClauseItem E). clause_expressions i.clause) items) ≡ 0
@@ -99,7 +100,7 @@ at_most_one {E} P n before (i ∷ items) each = go i.clause refl (at_most_one P 
     go : (c : Clause E) → i.clause ≡ c → length (flat_map (λ (j : ClauseItem E). clause_expressions j.clause) items) ≤ 1 → (IsTaken n (before ++ i ∷ []) → length (flat_map (λ (j : ClauseItem E). clause_expressions j.clause) items) ≡ 0) → length (clause_expressions c ++ flat_map (λ (j : ClauseItem E). clause_expressions j.clause) items) ≤ 1
     go (clauses.Value k s v) is later none =
         let can : may_stand n (kinds_of before) (value_kind k) ≡ true = rw is at each.0.can_stand in
-        let same = only_value n k (and_first (list_any (λ j. same_clause j (value_kind k)) (clauses_of n)) _ can) in
+        let same = only_value n k (and_first (list_any (λ j. same_clause j (value_kind k)) (clauses_of (directive_kind n))) _ can) in
         let itself : excludes (kind_of i.clause) (value_of_name n) ≡ true = rw (is, sym same) (excludes_itself k) in
         omega (arith, none (any_last (λ (j : ClauseItem E). excludes (kind_of j.clause) (value_of_name n)) before i itself))
     go (clauses.Default s a) is later none = later

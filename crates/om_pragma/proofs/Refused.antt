@@ -12,28 +12,28 @@ use Rattle.om_pragma.specs.declared.clause.Clause.{Clause}
 use Rattle.om_pragma.specs.declared.clause.ClauseKind.{ClauseKind}
 use Rattle.om_pragma.specs.declared.tree.Directive.{Directive}
 use Rattle.om_pragma.specs.declared.tree.DirectiveName.{DirectiveName}
-use Rattle.om_pragma.specs.declared.word.DirectiveWord.{DirectiveWord}
-use Rattle.om_pragma.specs.declared.word.DirectiveWord.TheVariants as words
+use Rattle.om_pragma.specs.declared.kind.DirectiveKind.{DirectiveKind}
+use Rattle.om_pragma.specs.declared.kind.DirectiveKind.TheVariants as words
 use Rattle.om_pragma.specs.Expressions.{IsClosed}
-use Rattle.om_pragma.specs.Reading.{fault, stopped, in_clause, no_word, among, all_clauses, directive_words, take_kind, take_word, take_end, opening_at, critical_after, critical_at, list_after, flush_at, name_after, directive_name_at, clause_after, clause_at, comma_at, item_at, syntax_at, until, clauses_at, directive_at}
+use Rattle.om_pragma.specs.Reading.{fault, stopped, in_clause, no_word, all_clauses, take_kind, take_word, take_end, opening_at, critical_after, critical_at, list_after, flush_at, name_after, directive_name_at, clause_after, clause_at, comma_at, item_at, syntax_at, until, clauses_at, directive_at}
 use Rattle.om_pragma.specs.Refusals.{StandsClause, IsUnknownDirective, IsUnknownClause, IsBadClause, IsWordFault, IsRefusal}
 use Rattle.om_pragma.specs.Spelling.{token, opening_spelling, comma_spelling, argument_spelling, clause_spelling, kind_of, span_of}
 use Rattle.om_pragma.specs.Table.{may_stand, kinds_of, EachBehind, IsClause, IsItem, IsDirectiveOf}
-use Rattle.om_pragma.specs.Words.{same_kind, is_word, directive_word, clause_word}
+use Rattle.om_pragma.specs.Words.{same_kind, is_word, directive_word, clause_word, among, directive_words}
 use Rattle.om_pragma.proofs.Arguments.{clause_after_is, clause_again}
 use Rattle.om_pragma.proofs.Directives.{Items, spelling, clauses_end, clauses_pass, directive_parts, read_again}
 use Rattle.om_pragma.proofs.Items.{clause_known, clause_is_word, comma_is, comma_again, take_no_end}
-use Rattle.om_pragma.proofs.Names.{stopped_ok, directive_known, directive_name_is, opening_is, opening_again}
+use Rattle.om_pragma.proofs.Names.{stopped_ok, alone, directive_known, directive_name_is, opening_is, opening_again}
 use Rattle.om_pragma.proofs.Outcomes.{ok, err, err_is, ok_err, some, some_is, bind_err, choose_cases}
 use Rattle.om_pragma.proofs.Taken.{same_kind_is, take_word_is, word_again}
 
 -- ---- words that are not known
 
-unknown_word : {K : Type 0} (word : K → TokenKind) (ks : List K) → ((k : K) → among word ks (word k) ≡ some k) → (t : Token) (us : List Token) → take_word word ks (t ∷ us) ≡ None → (k : K) → t.kind ≢ word k
+unknown_word : {K : Type 0} (word : K → TokenKind) (ks : List K) (alone : K → K) → ((k : K) → among word ks (word k) ≡ some (alone k)) → (t : Token) (us : List Token) → take_word word ks (t ∷ us) ≡ None → (k : K) → t.kind ≢ word k
 unfolding take_word
-unknown_word {K} word ks known t us none k e =
-    let found : among word ks t.kind ≡ some k = rw e (known k) in
-    let taken : take_word word ks (t ∷ us) ≡ some ((k, t.span), us) = rw found refl in
+unknown_word {K} word ks alone known t us none k e =
+    let found : among word ks t.kind ≡ some (alone k) = rw e (known k) in
+    let taken : take_word word ks (t ∷ us) ≡ some ((alone k, t.span), us) = rw found refl in
     absurd cc
 
 none_among : {K : Type 0} (word : K → TokenKind) (ks : List K) (kind : TokenKind) → ((k : K) → kind ≢ word k) → among word ks kind ≡ None
@@ -60,12 +60,12 @@ record IsUnknown {K : Type 0} (word : K → TokenKind) (ts : List Token) (f : So
   code : f.code ≡ codes.UnknownDirective
   place : first.span.start ≡ f.at
 
-no_word_is : {K : Type 0} (word : K → TokenKind) (ks : List K) → ((k : K) → among word ks (word k) ≡ some k) → (ts : List Token) (f : SourceFault) → take_word word ks ts ≡ None → no_word ts ≡ f → (f.code ≡ codes.Syntax) ⊎ IsUnknown word ts f
-no_word_is word ks known [] f none e = inl (ap (λ (g : SourceFault). g.code) (sym e))
-no_word_is {K} word ks known (t ∷ ts) f none e = go (is_word t.kind) refl e
+no_word_is : {K : Type 0} (word : K → TokenKind) (ks : List K) (alone : K → K) → ((k : K) → among word ks (word k) ≡ some (alone k)) → (ts : List Token) (f : SourceFault) → take_word word ks ts ≡ None → no_word ts ≡ f → (f.code ≡ codes.Syntax) ⊎ IsUnknown word ts f
+no_word_is word ks alone known [] f none e = inl (ap (λ (g : SourceFault). g.code) (sym e))
+no_word_is {K} word ks alone known (t ∷ ts) f none e = go (is_word t.kind) refl e
   where
     go : (b : Bool) → is_word t.kind ≡ b → fault (cond b codes.UnknownDirective codes.Syntax) t.span.start ≡ f → (f.code ≡ codes.Syntax) ⊎ IsUnknown word (t ∷ ts) f
-    go true is e = inr (record { first = t; rest = ts; parts = refl; some_word = is; unknown = unknown_word word ks known t ts none; code = ap (λ (g : SourceFault). g.code) (sym e); place = ap (λ (g : SourceFault). g.at) e })
+    go true is e = inr (record { first = t; rest = ts; parts = refl; some_word = is; unknown = unknown_word word ks alone known t ts none; code = ap (λ (g : SourceFault). g.code) (sym e); place = ap (λ (g : SourceFault). g.at) e })
     go false is e = inl (ap (λ (g : SourceFault). g.code) (sym e))
 
 stopped_err : {A : Type 0} (r : Result A ℕ) (f : SourceFault) → stopped r ≡ err f → f.code ≡ codes.Syntax
@@ -86,7 +86,7 @@ flush_err s ts f h = elim (choose_cases (take_kind (kinds.Punctuator punctuators
   | inr o ↦ absurd cc
 ]
 
-name_after_err : (w : DirectiveWord) (s : Span) (ts : List Token) (f : SourceFault) → name_after w s ts ≡ err f → f.code ≡ codes.Syntax
+name_after_err : (w : DirectiveKind) (s : Span) (ts : List Token) (f : SourceFault) → name_after w s ts ≡ err f → f.code ≡ codes.Syntax
 unfolding name_after
 name_after_err words.Critical s ts f h = critical_err s ts f h
 name_after_err words.Flush s ts f h = flush_err s ts f h
@@ -96,7 +96,7 @@ name_err : (ts : List Token) (f : SourceFault) → directive_name_at ts ≡ err 
 unfolding directive_name_at
 name_err ts f h = elim (choose_cases (take_word directive_word directive_words ts) _ _ (err f) h) [
   | inl w ↦ inl (name_after_err w.0.0.0 w.0.0.1 w.0.1 f w.2)
-  | inr w ↦ no_word_is directive_word directive_words directive_known ts f w.0 (err_is (no_word ts) f w.1)
+  | inr w ↦ no_word_is directive_word directive_words alone directive_known ts f w.0 (err_is (no_word ts) f w.1)
 ]
 
 -- a clause is wrong
@@ -126,7 +126,7 @@ clause_err : (name : DirectiveName) (before : List ClauseKind) (ts : List Token)
 unfolding clause_at
 clause_err name before ts f h = elim (choose_cases (take_word clause_word all_clauses ts) _ _ (err f) h) [
   | inl w ↦ go w.0 (take_word_is clause_word all_clauses ts w.0 w.1) (may_stand name before w.0.0.0) refl w.2
-  | inr w ↦ elim (no_word_is clause_word all_clauses clause_known ts f w.0 (err_is (no_word ts) f w.1)) [ inl e ↦ inl e | inr e ↦ inr (inl e) ]
+  | inr w ↦ elim (no_word_is clause_word all_clauses (λ k. k) clause_known ts f w.0 (err_is (no_word ts) f w.1)) [ inl e ↦ inl e | inr e ↦ inr (inl e) ]
 ]
   where
     go : (w : (ClauseKind × Span) × List Token) → ts ≡ token (clause_word w.0.0) w.0.1 ∷ w.1 → (b : Bool) → may_stand name before w.0.0 ≡ b → cond b (in_clause w.0.1 (clause_after w.0.0 w.0.1 w.1)) (Err (fault codes.BadClause w.0.1.start)) ≡ err f → (f.code ≡ codes.Syntax) ⊎ (IsUnknown clause_word ts f ⊎ IsBad name before ts f)

@@ -10,9 +10,9 @@ use Rattle.om_lexer.specs.declared.token.Token.{Token}
 use Rattle.om_lexer.specs.declared.token.TokenKind.{TokenKind}
 use Rattle.om_lexer.specs.declared.token.TokenKind.TheVariants as kinds
 use Rattle.om_pragma.specs.declared.name.Name as names
-use Rattle.om_pragma.specs.Reading.{among, take_kind, take_word, take_name, name_of, mark_at, name_at}
+use Rattle.om_pragma.specs.Reading.{take_kind, take_word, take_name, name_of, mark_at, name_at}
 use Rattle.om_pragma.specs.Spelling.{token, mark, name}
-use Rattle.om_pragma.specs.Words.{same_kind, same_mark, same_keyword}
+use Rattle.om_pragma.specs.Words.{same_kind, same_mark, same_keyword, among}
 use Rattle.om_pragma.proofs.Outcomes.{ok, some, some_is, none_some, choose_cases, known_ok, cond_some}
 
 pub same_kind_is : (k w : TokenKind) → same_kind k w ≡ true → k ≡ w
@@ -80,6 +80,9 @@ pub name_again : (n : names.Name) (ts : List Token) → name_at (name n ∷ ts) 
 unfolding name_at take_name
 name_again n ts = refl
 
-pub word_again : {K : Type 0} (word : K → TokenKind) (ks : List K) (k : K) → among word ks (word k) ≡ some k → (s : Span) (ts : List Token) → take_word word ks (token (word k) s ∷ ts) ≡ some ((k, s), ts)
+pub word_known : {K : Type 0} (word : K → TokenKind) (ks : List K) (kind : TokenKind) (k : K) → among word ks kind ≡ some k → (s : Span) (ts : List Token) → take_word word ks (token kind s ∷ ts) ≡ some ((k, s), ts)
 unfolding take_word
-word_again word ks k e s ts = rw e refl
+word_known word ks kind k e s ts = rw e refl
+
+pub word_again : {K : Type 0} (word : K → TokenKind) (ks : List K) (k : K) → among word ks (word k) ≡ some k → (s : Span) (ts : List Token) → take_word word ks (token (word k) s ∷ ts) ≡ some ((k, s), ts)
+word_again word ks k e s ts = word_known word ks (word k) k e s ts

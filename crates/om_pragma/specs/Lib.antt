@@ -1,4 +1,5 @@
 pub mod Words
+pub mod Kinds
 pub mod Spelling
 pub mod Expressions
 pub mod Table

@@ -1,5 +1,5 @@
 -- What a parser asks of a directive.
-use Rattle.std.specs.Prelude.{Bool, true, false, if◌then◌else◌}
+use Rattle.std.specs.Prelude.{Bool, if◌then◌else◌}
 use Rattle.std.specs.List.{list_any}
 use Rattle.om_lexer.specs.declared.token.Span.{Span}
 use Rattle.om_pragma.specs.declared.clause.ClauseKind.{ClauseKind}
@@ -9,31 +9,24 @@ use Rattle.om_pragma.specs.declared.tree.AtomicKind.TheVariants as atomics
 use Rattle.om_pragma.specs.declared.tree.Directive.{Directive}
 use Rattle.om_pragma.specs.declared.tree.DirectiveName.{DirectiveName}
 use Rattle.om_pragma.specs.declared.tree.DirectiveName.TheVariants as directives
+use Rattle.om_pragma.specs.Kinds.{directive_kind, stands_alone, begins_part, has_parts, is_of_atomic}
 use Rattle.om_pragma.specs.Spelling.{kind_of}
 use Rattle.om_pragma.specs.Table.{same_clause}
 
 -- a directive with no statement behind it, and none before which it must stand
 abbrev pub is_stand_alone : DirectiveName → Bool
-is_stand_alone (directives.Barrier s) = true
-is_stand_alone (directives.Taskwait s) = true
-is_stand_alone (directives.Taskyield s) = true
-is_stand_alone (directives.Flush s l) = true
-is_stand_alone _ = false
+is_stand_alone name = stands_alone (directive_kind name)
 
 -- the beginning of a part of `sections`
 abbrev pub is_section : DirectiveName → Bool
-is_section (directives.Section s) = true
-is_section _ = false
+is_section name = begins_part (directive_kind name)
 
 -- a directive whose block consists of parts
 abbrev pub is_sections : DirectiveName → Bool
-is_sections (directives.Sections s) = true
-is_sections (directives.ParallelSections s t) = true
-is_sections _ = false
+is_sections name = has_parts (directive_kind name)
 
 abbrev pub is_atomic : DirectiveName → Bool
-is_atomic (directives.Atomic s) = true
-is_atomic _ = false
+is_atomic name = is_of_atomic (directive_kind name)
 
 -- where the first word stands
 abbrev pub word_span : DirectiveName → Span

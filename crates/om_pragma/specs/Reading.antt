@@ -34,11 +34,11 @@ use Rattle.om_pragma.specs.declared.stop.Stop.TheVariants as stops
 use Rattle.om_pragma.specs.declared.tree.Directive.{Directive}
 use Rattle.om_pragma.specs.declared.tree.DirectiveName.{DirectiveName}
 use Rattle.om_pragma.specs.declared.tree.DirectiveName.TheVariants as directives
-use Rattle.om_pragma.specs.declared.word.DirectiveWord.{DirectiveWord}
-use Rattle.om_pragma.specs.declared.word.DirectiveWord.TheVariants as words
+use Rattle.om_pragma.specs.declared.kind.DirectiveKind.{DirectiveKind}
+use Rattle.om_pragma.specs.declared.kind.DirectiveKind.TheVariants as words
 use Rattle.om_pragma.specs.Expressions.{open_behind, or_else}
 use Rattle.om_pragma.specs.Table.{may_stand, kinds_of}
-use Rattle.om_pragma.specs.Words.{same_kind, is_word, directive_word, clause_word, sharing_word, operator_word, schedule_word}
+use Rattle.om_pragma.specs.Words.{same_kind, is_word, among, directive_word, directive_words, clause_word, sharing_word, operator_word, schedule_word}
 
 -- the next step, where this one gives a value
 infixl 10 ◌>>=◌
@@ -66,11 +66,6 @@ known ts (Some x) = Ok x
 known ts None = Err (place ts)
 
 -- ---- tokens
-
--- which of some words a token is
-abbrev pub among : {K : Type 0} → (K → TokenKind) → List K → TokenKind → Option K
-among word [] kind = None
-among word (k ∷ ks) kind = if same_kind kind (word k) then Some k else among word ks kind
 
 -- the first token, and those behind it
 abbrev pub take_first : List Token → Option (Token × List Token)
@@ -322,8 +317,10 @@ parallel_at s ts = choose (take_kind (directive_word words.For) ts)
     (directives.Parallel s, ts))
 
 -- a directive's words, behind the first
-unfoldable pub name_after : DirectiveWord → Span → List Token → Outcome (DirectiveName × List Token)
+unfoldable pub name_after : DirectiveKind → Span → List Token → Outcome (DirectiveName × List Token)
 name_after words.Parallel s ts = Ok (parallel_at s ts)
+name_after words.ParallelFor s ts = Ok (parallel_at s ts)
+name_after words.ParallelSections s ts = Ok (parallel_at s ts)
 name_after words.For s ts = Ok (directives.For s, ts)
 name_after words.Sections s ts = Ok (directives.Sections s, ts)
 name_after words.Section s ts = Ok (directives.Section s, ts)
@@ -337,10 +334,6 @@ name_after words.Barrier s ts = Ok (directives.Barrier s, ts)
 name_after words.Taskwait s ts = Ok (directives.Taskwait s, ts)
 name_after words.Taskyield s ts = Ok (directives.Taskyield s, ts)
 name_after words.Flush s ts = flush_at s ts
-
--- all first words of directives
-abbrev pub directive_words : List DirectiveWord
-directive_words = words.Parallel ∷ words.For ∷ words.Sections ∷ words.Section ∷ words.Single ∷ words.Masked ∷ words.Master ∷ words.Critical ∷ words.Atomic ∷ words.Task ∷ words.Barrier ∷ words.Taskwait ∷ words.Taskyield ∷ words.Flush ∷ []
 
 -- the words of a directive
 unfoldable pub directive_name_at : List Token → Outcome (DirectiveName × List Token)

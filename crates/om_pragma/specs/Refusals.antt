@@ -17,8 +17,8 @@ use Rattle.om_pragma.specs.declared.clause.ClauseKind.{ClauseKind}
 use Rattle.om_pragma.specs.declared.tree.Directive.{Directive}
 use Rattle.om_pragma.specs.declared.tree.DirectiveName.{DirectiveName}
 use Rattle.om_pragma.specs.declared.tree.DirectiveName.TheVariants as directives
-use Rattle.om_pragma.specs.declared.word.DirectiveWord.{DirectiveWord}
-use Rattle.om_pragma.specs.declared.word.DirectiveWord.TheVariants as words
+use Rattle.om_pragma.specs.declared.kind.DirectiveKind.{DirectiveKind}
+use Rattle.om_pragma.specs.declared.kind.DirectiveKind.TheVariants as words
 use Rattle.om_pragma.specs.Expressions.{IsClosed, with_tokens}
 use Rattle.om_pragma.specs.Reading.{place}
 use Rattle.om_pragma.specs.Spelling.{token, name_spelling, opening_spelling, item_spelling, comma_spelling, clause_spelling, directive_spelling}
@@ -58,7 +58,7 @@ pub record IsUnknownDirective (tokens : List Token) (at : ℕ) : Type 0 where
   pub rest : List Token
   pub parts : tokens ≡ opening_spelling hash pragma omp ++ word ∷ rest
   pub some_word : is_word word.kind ≡ true
-  pub unknown : (w : DirectiveWord) → word.kind ≢ directive_word w
+  pub unknown : (w : DirectiveKind) → word.kind ≢ directive_word w
   pub place : word.span.start ≡ at
 
 -- S5: where a clause is expected, a word stands that the table does not have as one.

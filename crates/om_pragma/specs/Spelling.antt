@@ -24,7 +24,7 @@ use Rattle.om_pragma.specs.declared.name.Number.{Number}
 use Rattle.om_pragma.specs.declared.tree.Directive.{Directive}
 use Rattle.om_pragma.specs.declared.tree.DirectiveName.{DirectiveName}
 use Rattle.om_pragma.specs.declared.tree.DirectiveName.TheVariants as directives
-use Rattle.om_pragma.specs.declared.word.DirectiveWord.TheVariants as words
+use Rattle.om_pragma.specs.declared.kind.DirectiveKind.TheVariants as words
 use Rattle.om_pragma.specs.Words.{directive_word, clause_word, sharing_word, operator_word, schedule_word}
 
 -- a token of a kind, where it stands

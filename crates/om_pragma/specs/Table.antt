@@ -10,31 +10,33 @@ use Rattle.om_pragma.specs.declared.clause.Clause.TheVariants as clause
 use Rattle.om_pragma.specs.declared.clause.ClauseItem.{ClauseItem}
 use Rattle.om_pragma.specs.declared.clause.ClauseKind.{ClauseKind}
 use Rattle.om_pragma.specs.declared.clause.ClauseKind.TheVariants as clauses
+use Rattle.om_pragma.specs.declared.kind.DirectiveKind.{DirectiveKind}
+use Rattle.om_pragma.specs.declared.kind.DirectiveKind.TheVariants as directives
 use Rattle.om_pragma.specs.declared.name.Number.{Number}
 use Rattle.om_pragma.specs.declared.tree.Directive.{Directive}
 use Rattle.om_pragma.specs.declared.tree.DirectiveName.{DirectiveName}
-use Rattle.om_pragma.specs.declared.tree.DirectiveName.TheVariants as directives
 use Rattle.om_pragma.specs.Expressions.{IsClosed}
+use Rattle.om_pragma.specs.Kinds.{directive_kind}
 use Rattle.om_pragma.specs.Spelling.{kind_of, directive_spelling}
 
 -- the clauses that a directive can have; a combined one has those of both, but no `nowait`
-abbrev pub clauses_of : DirectiveName → List ClauseKind
-clauses_of (directives.Parallel s) = clauses.NumThreads ∷ clauses.Default ∷ clauses.Shared ∷ clauses.Private ∷ clauses.Firstprivate ∷ clauses.Reduction ∷ []
-clauses_of (directives.For s) = clauses.Schedule ∷ clauses.Private ∷ clauses.Firstprivate ∷ clauses.Reduction ∷ clauses.Nowait ∷ []
-clauses_of (directives.Sections s) = clauses.Private ∷ clauses.Firstprivate ∷ clauses.Reduction ∷ clauses.Nowait ∷ []
-clauses_of (directives.Section s) = []
-clauses_of (directives.Single s) = clauses.Private ∷ clauses.Firstprivate ∷ clauses.Nowait ∷ []
-clauses_of (directives.ParallelFor s t) = clauses.NumThreads ∷ clauses.Default ∷ clauses.Shared ∷ clauses.Private ∷ clauses.Firstprivate ∷ clauses.Reduction ∷ clauses.Schedule ∷ []
-clauses_of (directives.ParallelSections s t) = clauses.NumThreads ∷ clauses.Default ∷ clauses.Shared ∷ clauses.Private ∷ clauses.Firstprivate ∷ clauses.Reduction ∷ []
-clauses_of (directives.Masked s) = clauses.Filter ∷ []
-clauses_of (directives.Master s) = []
-clauses_of (directives.Critical s n) = []
-clauses_of (directives.Atomic s) = clauses.Update ∷ clauses.Read ∷ clauses.Write ∷ clauses.SeqCst ∷ clauses.Relaxed ∷ []
-clauses_of (directives.Task s) = clauses.Default ∷ clauses.Shared ∷ clauses.Private ∷ clauses.Firstprivate ∷ []
-clauses_of (directives.Barrier s) = []
-clauses_of (directives.Taskwait s) = []
-clauses_of (directives.Taskyield s) = []
-clauses_of (directives.Flush s l) = []
+abbrev pub clauses_of : DirectiveKind → List ClauseKind
+clauses_of directives.Parallel = clauses.NumThreads ∷ clauses.Default ∷ clauses.Shared ∷ clauses.Private ∷ clauses.Firstprivate ∷ clauses.Reduction ∷ []
+clauses_of directives.For = clauses.Schedule ∷ clauses.Private ∷ clauses.Firstprivate ∷ clauses.Reduction ∷ clauses.Nowait ∷ []
+clauses_of directives.Sections = clauses.Private ∷ clauses.Firstprivate ∷ clauses.Reduction ∷ clauses.Nowait ∷ []
+clauses_of directives.Section = []
+clauses_of directives.Single = clauses.Private ∷ clauses.Firstprivate ∷ clauses.Nowait ∷ []
+clauses_of directives.ParallelFor = clauses.NumThreads ∷ clauses.Default ∷ clauses.Shared ∷ clauses.Private ∷ clauses.Firstprivate ∷ clauses.Reduction ∷ clauses.Schedule ∷ []
+clauses_of directives.ParallelSections = clauses.NumThreads ∷ clauses.Default ∷ clauses.Shared ∷ clauses.Private ∷ clauses.Firstprivate ∷ clauses.Reduction ∷ []
+clauses_of directives.Masked = clauses.Filter ∷ []
+clauses_of directives.Master = []
+clauses_of directives.Critical = []
+clauses_of directives.Atomic = clauses.Update ∷ clauses.Read ∷ clauses.Write ∷ clauses.SeqCst ∷ clauses.Relaxed ∷ []
+clauses_of directives.Task = clauses.Default ∷ clauses.Shared ∷ clauses.Private ∷ clauses.Firstprivate ∷ []
+clauses_of directives.Barrier = []
+clauses_of directives.Taskwait = []
+clauses_of directives.Taskyield = []
+clauses_of directives.Flush = []
 
 -- whether two clauses are of one kind
 unfoldable pub same_clause : ClauseKind → ClauseKind → Bool
@@ -61,7 +63,7 @@ excludes earlier later = not (may_repeat later) && same_clause (group_of earlier
 
 -- whether a directive can have a clause behind those before it
 unfoldable pub may_stand : DirectiveName → List ClauseKind → ClauseKind → Bool
-may_stand name before k = list_any (λ j. same_clause j k) (clauses_of name) && not (list_any (λ j. excludes j k) before)
+may_stand name before k = list_any (λ j. same_clause j k) (clauses_of (directive_kind name)) && not (list_any (λ j. excludes j k) before)
 
 -- a comma stands between two clauses, not before the first
 abbrev pub IsBetween : {A : Type 0} → List A → Option Span → Type 0

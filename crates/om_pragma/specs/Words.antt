@@ -1,5 +1,5 @@
 -- How the words of directive lines are spelled.
-use Rattle.std.specs.Prelude.{Bool, true, false, bytes_eq, codes}
+use Rattle.std.specs.Prelude.{Bool, true, false, List, [], ◌∷◌, Option, Some, None, bytes_eq, codes, if◌then◌else◌}
 use denote.Enum.Bare.{sameb}
 use Rattle.om_lexer.specs.contracts.token.Keyword.{the_type as the_keywords}
 use Rattle.om_lexer.specs.contracts.token.Punctuator.{the_type as the_punctuators}
@@ -17,8 +17,8 @@ use Rattle.om_pragma.specs.declared.clause.ScheduleKind.{ScheduleKind}
 use Rattle.om_pragma.specs.declared.clause.ScheduleKind.TheVariants as schedules
 use Rattle.om_pragma.specs.declared.clause.Sharing.{Sharing}
 use Rattle.om_pragma.specs.declared.clause.Sharing.TheVariants as sharings
-use Rattle.om_pragma.specs.declared.word.DirectiveWord.{DirectiveWord}
-use Rattle.om_pragma.specs.declared.word.DirectiveWord.TheVariants as directives
+use Rattle.om_pragma.specs.declared.kind.DirectiveKind.{DirectiveKind}
+use Rattle.om_pragma.specs.declared.kind.DirectiveKind.TheVariants as directives
 
 -- whether two punctuators are one
 unfoldable pub same_mark : Punctuator → Punctuator → Bool
@@ -42,13 +42,15 @@ is_word (kinds.Name text) = true
 is_word (kinds.Keyword k) = true
 is_word _ = false
 
--- the first word of a directive (OpenMP API 5.2)
-abbrev pub directive_word : DirectiveWord → TokenKind
+-- the first word of a directive (OpenMP API 5.2); a combined one begins with that of its first part
+abbrev pub directive_word : DirectiveKind → TokenKind
 directive_word directives.Parallel = kinds.Name (codes "parallel")
 directive_word directives.For = kinds.Keyword keywords.For
 directive_word directives.Sections = kinds.Name (codes "sections")
 directive_word directives.Section = kinds.Name (codes "section")
 directive_word directives.Single = kinds.Name (codes "single")
+directive_word directives.ParallelFor = kinds.Name (codes "parallel")
+directive_word directives.ParallelSections = kinds.Name (codes "parallel")
 directive_word directives.Masked = kinds.Name (codes "masked")
 directive_word directives.Master = kinds.Name (codes "master")
 directive_word directives.Critical = kinds.Name (codes "critical")
@@ -58,6 +60,20 @@ directive_word directives.Barrier = kinds.Name (codes "barrier")
 directive_word directives.Taskwait = kinds.Name (codes "taskwait")
 directive_word directives.Taskyield = kinds.Name (codes "taskyield")
 directive_word directives.Flush = kinds.Name (codes "flush")
+
+-- which of some words a token is
+abbrev pub among : {K : Type 0} → (K → TokenKind) → List K → TokenKind → Option K
+among word [] kind = None
+among word (k ∷ ks) kind = if same_kind kind (word k) then Some k else among word ks kind
+
+-- the directives of one word
+abbrev pub directive_words : List DirectiveKind
+directive_words = directives.Parallel ∷ directives.For ∷ directives.Sections ∷ directives.Section ∷ directives.Single ∷ directives.Masked ∷ directives.Master
+    ∷ directives.Critical ∷ directives.Atomic ∷ directives.Task ∷ directives.Barrier ∷ directives.Taskwait ∷ directives.Taskyield ∷ directives.Flush ∷ []
+
+-- the directive that a word is alone, as the first of its line; a combined one may go on behind it
+abbrev pub begun_by : TokenKind → Option DirectiveKind
+begun_by = among directive_word directive_words
 
 -- the word of a clause
 abbrev pub clause_word : ClauseKind → TokenKind

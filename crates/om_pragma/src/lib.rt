@@ -5,6 +5,7 @@ mod argument;
 mod before;
 mod clause;
 mod filling;
+mod kind;
 mod laws;
 mod name;
 mod reading;
@@ -19,7 +20,9 @@ pub use clause::{
     Clause, ClauseItem, ClauseKind, DataSharing, DefaultArgument, PlainClause, Reduction,
     ReductionOperator, Schedule, ScheduleKind, Sharing, Value, ValueClause,
 };
+pub use kind::DirectiveKind;
 pub use laws::{one_directive, one_fault};
 pub use name::{Name, NameList, Number};
 pub use reading::directive;
 pub use tree::{AtomicKind, Directive, DirectiveName};
+pub use word::begun_by;

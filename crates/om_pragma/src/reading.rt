@@ -12,12 +12,13 @@ ghost use Rattle.om_pragma.specs.Table.{IsDirectiveOf, kinds_of};
 
 use crate::argument::{clause_after, list_after};
 use crate::clause::{Clause, ClauseItem};
+use crate::kind::DirectiveKind;
 use crate::name::Name;
 use crate::stop::Stop;
 use crate::table::may_stand;
 use crate::token::{mark, name, place, take_begin, take_end, take_keyword, take_mark, take_named};
 use crate::tree::{Directive, DirectiveName};
-use crate::word::{DirectiveWord, clause_word, directive_word, no_word};
+use crate::word::{begun_by, clause_word, no_word};
 use om_lexer::{FaultCode, Keyword, Punctuator, SourceFault, Span, Token};
 use om_seq::Seq;
 use std::alloc::Global;
@@ -123,8 +124,8 @@ fn directive_name(alloc: Global, tokens: &[Token]) -> Result<(DirectiveName, &[T
     let [first, rest @ ..] = tokens else {
         return Err(no_word(tokens));
     };
-    match directive_word(&first.kind) {
-        Some(word) => name_after(alloc, word, first.span, rest),
+    match begun_by(&first.kind) {
+        Some(kind) => name_after(alloc, kind, first.span, rest),
         None => Err(no_word(tokens)),
     }
 }
@@ -133,27 +134,29 @@ fn directive_name(alloc: Global, tokens: &[Token]) -> Result<(DirectiveName, &[T
 #[tactic(auto, unfolding(crate::specs::Reading::name_after))]
 fn name_after(
     alloc: Global,
-    word: DirectiveWord,
+    kind: DirectiveKind,
     span: Span,
     tokens: &[Token],
 ) -> Result<(DirectiveName, &[Token]), SourceFault>
-    ensures { Reads (λ x. (x.0, x.1.now)) result (name_after word span tokens.now) }
+    ensures { Reads (λ x. (x.0, x.1.now)) result (name_after kind span tokens.now) }
 {
-    match word {
-        DirectiveWord::Parallel => Ok(parallel(span, tokens)),
-        DirectiveWord::For => Ok((DirectiveName::For(span), tokens)),
-        DirectiveWord::Sections => Ok((DirectiveName::Sections(span), tokens)),
-        DirectiveWord::Section => Ok((DirectiveName::Section(span), tokens)),
-        DirectiveWord::Single => Ok((DirectiveName::Single(span), tokens)),
-        DirectiveWord::Masked => Ok((DirectiveName::Masked(span), tokens)),
-        DirectiveWord::Master => Ok((DirectiveName::Master(span), tokens)),
-        DirectiveWord::Critical => critical(alloc, span, tokens),
-        DirectiveWord::Atomic => Ok((DirectiveName::Atomic(span), tokens)),
-        DirectiveWord::Task => Ok((DirectiveName::Task(span), tokens)),
-        DirectiveWord::Barrier => Ok((DirectiveName::Barrier(span), tokens)),
-        DirectiveWord::Taskwait => Ok((DirectiveName::Taskwait(span), tokens)),
-        DirectiveWord::Taskyield => Ok((DirectiveName::Taskyield(span), tokens)),
-        DirectiveWord::Flush => flush(alloc, span, tokens),
+    match kind {
+        DirectiveKind::Parallel => Ok(parallel(span, tokens)),
+        DirectiveKind::ParallelFor => Ok(parallel(span, tokens)),
+        DirectiveKind::ParallelSections => Ok(parallel(span, tokens)),
+        DirectiveKind::For => Ok((DirectiveName::For(span), tokens)),
+        DirectiveKind::Sections => Ok((DirectiveName::Sections(span), tokens)),
+        DirectiveKind::Section => Ok((DirectiveName::Section(span), tokens)),
+        DirectiveKind::Single => Ok((DirectiveName::Single(span), tokens)),
+        DirectiveKind::Masked => Ok((DirectiveName::Masked(span), tokens)),
+        DirectiveKind::Master => Ok((DirectiveName::Master(span), tokens)),
+        DirectiveKind::Critical => critical(alloc, span, tokens),
+        DirectiveKind::Atomic => Ok((DirectiveName::Atomic(span), tokens)),
+        DirectiveKind::Task => Ok((DirectiveName::Task(span), tokens)),
+        DirectiveKind::Barrier => Ok((DirectiveName::Barrier(span), tokens)),
+        DirectiveKind::Taskwait => Ok((DirectiveName::Taskwait(span), tokens)),
+        DirectiveKind::Taskyield => Ok((DirectiveName::Taskyield(span), tokens)),
+        DirectiveKind::Flush => flush(alloc, span, tokens),
     }
 }
 

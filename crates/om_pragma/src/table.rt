@@ -3,10 +3,12 @@
 ghost use Rattle.std.specs.Prelude.{◌≡◌, map};
 ghost use Rattle.std.specs.List.{list_any};
 ghost use Rattle.om_pragma.specs.Expressions.{map_item, tokens_in};
+ghost use Rattle.om_pragma.specs.Kinds.{directive_kind};
 ghost use Rattle.om_pragma.specs.Spelling.{kind_of};
 ghost use Rattle.om_pragma.specs.Table.{clauses_of, may_repeat, group_of, same_clause, excludes, may_stand, kinds_of};
 
 use crate::clause::{ClauseItem, ClauseKind};
+use crate::kind::DirectiveKind;
 use crate::tree::DirectiveName;
 use om_lexer::Token;
 
@@ -70,19 +72,19 @@ const TASK: [ClauseKind; 4] = [
 ];
 
 /// The clauses that a directive can have.
-fn clauses_of(name: &DirectiveName) -> &'static [ClauseKind]
-    ensures { result.now ≡ clauses_of name.now }
+fn clauses_of(kind: DirectiveKind) -> &'static [ClauseKind]
+    ensures { result.now ≡ clauses_of kind }
 {
-    match name {
-        DirectiveName::Parallel(_) => &PARALLEL,
-        DirectiveName::For(_) => &FOR,
-        DirectiveName::Sections(_) => &SECTIONS,
-        DirectiveName::Single(_) => &SINGLE,
-        DirectiveName::ParallelFor(_, _) => &PARALLEL_FOR,
-        DirectiveName::ParallelSections(_, _) => &PARALLEL,
-        DirectiveName::Masked(_) => &MASKED,
-        DirectiveName::Atomic(_) => &ATOMIC,
-        DirectiveName::Task(_) => &TASK,
+    match kind {
+        DirectiveKind::Parallel => &PARALLEL,
+        DirectiveKind::For => &FOR,
+        DirectiveKind::Sections => &SECTIONS,
+        DirectiveKind::Single => &SINGLE,
+        DirectiveKind::ParallelFor => &PARALLEL_FOR,
+        DirectiveKind::ParallelSections => &PARALLEL,
+        DirectiveKind::Masked => &MASKED,
+        DirectiveKind::Atomic => &ATOMIC,
+        DirectiveKind::Task => &TASK,
         _ => &NO_CLAUSES,
     }
 }
@@ -129,9 +131,9 @@ fn excludes(earlier: ClauseKind, later: ClauseKind) -> bool
 /// Whether a directive has a clause.
 #[tactic(auto, unfolding(crate::specs::Table::same_clause))]
 fn has_clause(name: &DirectiveName, kind: ClauseKind) -> bool
-    ensures { result ≡ list_any (λ k. same_clause k kind) (clauses_of name.now) }
+    ensures { result ≡ list_any (λ k. same_clause k kind) (clauses_of (directive_kind name.now)) }
 {
-    clauses_of(name).contains(&kind)
+    clauses_of(name.kind()).contains(&kind)
 }
 
 /// Whether one of these clauses leaves no room for another.

@@ -2,9 +2,11 @@
 
 ghost use Rattle.std.specs.Prelude.{◌≡◌, option_map, option_copied};
 ghost use Rattle.om_pragma.specs.Expressions.{first_expression, take_item};
-ghost use Rattle.om_pragma.specs.Questions.{is_stand_alone, is_section, is_sections, is_atomic, word_span, has_clause, atomic_kind};
+ghost use Rattle.om_pragma.specs.Kinds.{directive_kind};
+ghost use Rattle.om_pragma.specs.Questions.{word_span, has_clause, atomic_kind};
 
 use crate::clause::{ClauseItem, ClauseKind};
+use crate::kind::DirectiveKind;
 use crate::name::{Name, NameList};
 use crate::table::same_clause;
 use om_lexer::Span;
@@ -55,42 +57,28 @@ pub enum AtomicKind {
 }
 
 impl DirectiveName {
-    /// Whether the directive stands alone: `barrier`, `taskwait`, `taskyield` or `flush`.
-    pub fn is_stand_alone(&self) -> bool
-        ensures { result ≡ is_stand_alone self.now }
+    /// Which directive it is.
+    pub fn kind(&self) -> DirectiveKind
+        ensures { result ≡ directive_kind self.now }
     {
         match self {
-            DirectiveName::Barrier(_) => true,
-            DirectiveName::Taskwait(_) => true,
-            DirectiveName::Taskyield(_) => true,
-            DirectiveName::Flush(_, _) => true,
-            _ => false,
+            DirectiveName::Parallel(_) => DirectiveKind::Parallel,
+            DirectiveName::For(_) => DirectiveKind::For,
+            DirectiveName::Sections(_) => DirectiveKind::Sections,
+            DirectiveName::Section(_) => DirectiveKind::Section,
+            DirectiveName::Single(_) => DirectiveKind::Single,
+            DirectiveName::ParallelFor(_, _) => DirectiveKind::ParallelFor,
+            DirectiveName::ParallelSections(_, _) => DirectiveKind::ParallelSections,
+            DirectiveName::Masked(_) => DirectiveKind::Masked,
+            DirectiveName::Master(_) => DirectiveKind::Master,
+            DirectiveName::Critical(_, _) => DirectiveKind::Critical,
+            DirectiveName::Atomic(_) => DirectiveKind::Atomic,
+            DirectiveName::Task(_) => DirectiveKind::Task,
+            DirectiveName::Barrier(_) => DirectiveKind::Barrier,
+            DirectiveName::Taskwait(_) => DirectiveKind::Taskwait,
+            DirectiveName::Taskyield(_) => DirectiveKind::Taskyield,
+            DirectiveName::Flush(_, _) => DirectiveKind::Flush,
         }
-    }
-
-    /// Whether the directive is `section`.
-    pub fn is_section(&self) -> bool
-        ensures { result ≡ is_section self.now }
-    {
-        matches!(self, DirectiveName::Section(_))
-    }
-
-    /// Whether the directive is `sections` or `parallel sections`.
-    pub fn is_sections(&self) -> bool
-        ensures { result ≡ is_sections self.now }
-    {
-        match self {
-            DirectiveName::Sections(_) => true,
-            DirectiveName::ParallelSections(_, _) => true,
-            _ => false,
-        }
-    }
-
-    /// Whether the directive is `atomic`.
-    pub fn is_atomic(&self) -> bool
-        ensures { result ≡ is_atomic self.now }
-    {
-        matches!(self, DirectiveName::Atomic(_))
     }
 
     /// Where the first word of the directive stands.

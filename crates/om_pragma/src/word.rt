@@ -2,63 +2,46 @@
 
 ghost use Rattle.std.specs.Prelude.{◌≡◌};
 ghost use Rattle.om_lexer.specs.declared.token.TokenKind.TheVariants as kinds;
-ghost use Rattle.om_pragma.specs.Reading.{among, all_clauses, directive_words, reduction_operators, schedule_kinds, default_words, no_word};
-ghost use Rattle.om_pragma.specs.Words.{same_kind, clause_word, directive_word, operator_word, schedule_word, sharing_word};
+ghost use Rattle.om_pragma.specs.Reading.{all_clauses, reduction_operators, schedule_kinds, default_words, no_word};
+ghost use Rattle.om_pragma.specs.Words.{same_kind, among, begun_by, clause_word, operator_word, schedule_word, sharing_word};
 
 use crate::clause::{ClauseKind, ReductionOperator, ScheduleKind, Sharing};
+use crate::kind::DirectiveKind;
 use om_lexer::{FaultCode, Keyword, Punctuator, SourceFault, Token, TokenKind};
 
-/// A word with which a directive begins. `parallel` can stand before `for` and `sections`.
-#[derive(Clone, Copy)]
-pub enum DirectiveWord {
-    Parallel,
-    For,
-    Sections,
-    Section,
-    Single,
-    Masked,
-    Master,
-    Critical,
-    Atomic,
-    Task,
-    Barrier,
-    Taskwait,
-    Taskyield,
-    Flush,
-}
-
-/// The first word of a directive that a token is.
-pub fn directive_word(kind: &TokenKind) -> Option<DirectiveWord>
-    ensures { result ≡ among directive_word directive_words kind.now }
+/// The directive that a token is alone, as the first word of its line. A combined directive may go
+/// on behind it.
+pub fn begun_by(kind: &TokenKind) -> Option<DirectiveKind>
+    ensures { result ≡ begun_by kind.now }
 {
     if is_named(kind, b"parallel") {
-        Some(DirectiveWord::Parallel)
+        Some(DirectiveKind::Parallel)
     } else if is_keyword(kind, Keyword::For) {
-        Some(DirectiveWord::For)
+        Some(DirectiveKind::For)
     } else if is_named(kind, b"sections") {
-        Some(DirectiveWord::Sections)
+        Some(DirectiveKind::Sections)
     } else if is_named(kind, b"section") {
-        Some(DirectiveWord::Section)
+        Some(DirectiveKind::Section)
     } else if is_named(kind, b"single") {
-        Some(DirectiveWord::Single)
+        Some(DirectiveKind::Single)
     } else if is_named(kind, b"masked") {
-        Some(DirectiveWord::Masked)
+        Some(DirectiveKind::Masked)
     } else if is_named(kind, b"master") {
-        Some(DirectiveWord::Master)
+        Some(DirectiveKind::Master)
     } else if is_named(kind, b"critical") {
-        Some(DirectiveWord::Critical)
+        Some(DirectiveKind::Critical)
     } else if is_named(kind, b"atomic") {
-        Some(DirectiveWord::Atomic)
+        Some(DirectiveKind::Atomic)
     } else if is_named(kind, b"task") {
-        Some(DirectiveWord::Task)
+        Some(DirectiveKind::Task)
     } else if is_named(kind, b"barrier") {
-        Some(DirectiveWord::Barrier)
+        Some(DirectiveKind::Barrier)
     } else if is_named(kind, b"taskwait") {
-        Some(DirectiveWord::Taskwait)
+        Some(DirectiveKind::Taskwait)
     } else if is_named(kind, b"taskyield") {
-        Some(DirectiveWord::Taskyield)
+        Some(DirectiveKind::Taskyield)
     } else if is_named(kind, b"flush") {
-        Some(DirectiveWord::Flush)
+        Some(DirectiveKind::Flush)
     } else {
         None
     }
