@@ -11,6 +11,7 @@ pub mod Directives
 pub mod Refused
 pub mod Stops
 pub mod Halts
+pub mod OneAnswer
 pub mod Mapping
 pub mod OneExpression
 pub mod Fillings

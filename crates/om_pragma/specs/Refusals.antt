@@ -129,3 +129,8 @@ pub record StopsAt (tokens : List Token) (at : ℕ) : Type 0 where
 -- the end of the run stands last, if it stands there
 abbrev pub EndsOnce : List Token → Type 0
 EndsOnce tokens = (front : List Token) (t : Token) (after : List Token) → tokens ≡ front ++ t ∷ after → t.kind ≡ kinds.DirectiveEnd → after ≡ []
+
+-- What tokens are: a directive, or none for this reason; S3 stands at the first token that no directive has there.
+abbrev pub IsAnswer : List Token → Result (Directive (List Token)) SourceFault → Type 0
+IsAnswer tokens (Ok d) = IsDirectiveOf tokens d
+IsAnswer tokens (Err fault) = IsRefusal tokens fault × (fault.code ≡ codes.Syntax → StopsAt tokens fault.at)

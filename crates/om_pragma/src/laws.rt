@@ -1,11 +1,13 @@
 //! Laws of directives and of their refusals, over the definitions alone.
 
-ghost use Rattle.std.specs.Prelude.{◌≡◌, ℕ, List};
+ghost use Rattle.std.specs.Prelude.{◌≡◌, ℕ, List, Result};
 ghost use Rattle.om_lexer.specs.declared.fault.FaultCode.{FaultCode};
+ghost use Rattle.om_lexer.specs.declared.fault.SourceFault.{SourceFault};
 ghost use Rattle.om_lexer.specs.declared.token.Token.{Token};
 ghost use Rattle.om_pragma.specs.declared.tree.Directive.{Directive};
 ghost use Rattle.om_pragma.specs.Expressions.{IsClosed};
-ghost use Rattle.om_pragma.specs.Refusals.{IsWordFault};
+ghost use Rattle.om_pragma.specs.Reading.{directive_at};
+ghost use Rattle.om_pragma.specs.Refusals.{EndsOnce, IsAnswer, IsWordFault};
 ghost use Rattle.om_pragma.specs.Spelling.{directive_spelling};
 ghost use Rattle.om_pragma.specs.Table.{IsDirective, IsDirectiveOf};
 
@@ -18,4 +20,12 @@ pub fn one_directive()
 pub fn one_fault()
     ensures only { (tokens : List Token) (code other : FaultCode) (at place : ℕ) → IsWordFault tokens code at → IsWordFault tokens other place → (code ≡ other) × (at ≡ place) }
     ensures in_no_directive { (tokens : List Token) (code : FaultCode) (at : ℕ) (d : Directive (List Token)) → IsWordFault tokens code at → ¬ IsDirectiveOf tokens d }
+{}
+
+/// Tokens are a directive or none, and that for one reason at one place. Where a line's end stands
+/// last, reading from the left gives it: so a reader of whole sources may read lines in this way.
+pub fn one_answer()
+    ensures only { (tokens : List Token) (answer other : Result (Directive (List Token)) SourceFault) →
+        IsAnswer tokens answer → IsAnswer tokens other → answer ≡ other }
+    ensures is_read { (tokens : List Token) → EndsOnce tokens → IsAnswer tokens (directive_at tokens) }
 {}
