@@ -12,6 +12,7 @@ pub mod Refused
 pub mod Stops
 pub mod Halts
 pub mod OneAnswer
+pub mod Values
 pub mod Mapping
 pub mod OneExpression
 pub mod Fillings

@@ -2,6 +2,7 @@ pub mod Words
 pub mod Kinds
 pub mod Spelling
 pub mod Expressions
+pub mod Values
 pub mod Table
 pub mod Refusals
 pub mod Reading

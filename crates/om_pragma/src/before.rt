@@ -1,7 +1,9 @@
 //! An expression in a run that is refused.
 
-ghost use Rattle.std.specs.Prelude.{◌≡◌, option_map, nat_le, if◌then◌else◌};
+ghost use Rattle.std.specs.Prelude.{◌≡◌, List, IfSome, option_map, nat_le, if◌then◌else◌};
+ghost use Rattle.om_lexer.specs.declared.token.Token.{Token as Tokens};
 ghost use Rattle.om_pragma.specs.Reading.{in_parentheses, some_tokens, expression_at, expression_before, GetsAlways};
+ghost use Rattle.om_pragma.specs.Values.{StandsAsValue, IsFirstValue};
 
 use crate::argument::closing;
 use crate::stop::Stop;
@@ -9,11 +11,14 @@ use crate::token::{mark, take_first};
 use crate::word::is_named;
 use om_lexer::{Punctuator, Span, Token};
 
-/// The tokens of the expression that a clause of a refused run has, where that clause ends before
-/// the place of the fault: one or more tokens, whose parentheses are paired. So a caller can find
-/// a fault inside that expression, which is the lower one.
+/// The tokens of the first expression that stands in the parentheses of a clause, whatever run
+/// these tokens are, where the right parenthesis is before the place: one or more tokens, whose
+/// parentheses are paired. So a caller can find a fault in the expression of a refused run, which
+/// is the lower one.
 pub fn expression_before(tokens: &[Token], place: u32) -> Option<&[Token]>
-    ensures { option_map (λ e. e.now) result ≡ expression_before place tokens.now }
+    ensures found { IfSome result (λ e. IsFirstValue tokens.now place e.now) }
+    ensures absent { result ≡ None → (e : List Tokens) → StandsAsValue tokens.now place e → ⊥ }
+    ensures reads { option_map (λ e. e.now) result ≡ expression_before place tokens.now }
 {
     let mut rest = tokens;
     'tokens: loop {

@@ -1,15 +1,16 @@
 //! Laws of directives and of their refusals, over the definitions alone.
 
-ghost use Rattle.std.specs.Prelude.{◌≡◌, ℕ, List, Result};
+ghost use Rattle.std.specs.Prelude.{◌≡◌, ℕ, List, None, Result, Some};
 ghost use Rattle.om_lexer.specs.declared.fault.FaultCode.{FaultCode};
 ghost use Rattle.om_lexer.specs.declared.fault.SourceFault.{SourceFault};
 ghost use Rattle.om_lexer.specs.declared.token.Token.{Token};
 ghost use Rattle.om_pragma.specs.declared.tree.Directive.{Directive};
 ghost use Rattle.om_pragma.specs.Expressions.{IsClosed};
-ghost use Rattle.om_pragma.specs.Reading.{directive_at};
+ghost use Rattle.om_pragma.specs.Reading.{directive_at, expression_before};
 ghost use Rattle.om_pragma.specs.Refusals.{EndsOnce, IsAnswer, IsWordFault};
 ghost use Rattle.om_pragma.specs.Spelling.{directive_spelling};
 ghost use Rattle.om_pragma.specs.Table.{IsDirective, IsDirectiveOf};
+ghost use Rattle.om_pragma.specs.Values.{StandsAsValue, IsFirstValue};
 
 /// Two directives that have the same tokens are one.
 pub fn one_directive()
@@ -28,4 +29,11 @@ pub fn one_answer()
     ensures only { (tokens : List Token) (answer other : Result (Directive (List Token)) SourceFault) →
         IsAnswer tokens answer → IsAnswer tokens other → answer ≡ other }
     ensures is_read { (tokens : List Token) → EndsOnce tokens → IsAnswer tokens (directive_at tokens) }
+{}
+
+/// Reading tokens from the left gives the first expression that stands in the parentheses of a
+/// clause and ends before a place, or none where none does.
+pub fn first_value()
+    ensures found { (tokens inside : List Token) (place : ℕ) → expression_before place tokens ≡ Some inside → IsFirstValue tokens place inside }
+    ensures absent { (tokens inside : List Token) (place : ℕ) → expression_before place tokens ≡ None → ¬ StandsAsValue tokens place inside }
 {}
