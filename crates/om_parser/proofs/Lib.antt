@@ -10,6 +10,7 @@ pub mod LineRuns
 pub mod LineTokens
 pub mod LineParts
 pub mod LineViews
+pub mod LineAnswers
 pub mod LineSound
 pub mod LineComplete
 pub mod LineStands

@@ -1,9 +1,10 @@
 //! Directive lines, each with its expression (OpenMP API 5.2).
 
-ghost use Rattle.std.specs.Prelude.{◌≡◌, ◌≤◌, ◌⊎◌, Err, IfErr, IfOk, length, option_map, option_to_list};
+ghost use Rattle.std.specs.Prelude.{◌≡◌, ◌≤◌, ◌⊎◌, Err, IfErr, IfOk, IfSome, length, option_map, option_to_list};
 ghost use Rattle.om_lexer.specs.Faults.{no_memory};
 ghost use Rattle.om_pragma.specs.Expressions.{expressions, map_directive, with_tokens, IsValue};
-ghost use Rattle.om_pragma.specs.Reading.{is_end, take_first, directive_at};
+ghost use Rattle.om_pragma.specs.Reading.{is_end, take_first, directive_at, expression_before};
+ghost use Rattle.om_pragma.specs.Refusals.{EndsOnce};
 ghost use Rattle.om_parser.specs.Limits.{accepted};
 ghost use Rattle.om_parser.specs.LineReading.{alone, clause_value, in_run, is_syntax, last_start, line_at, line_of, place_behind, run_of, sooner, with_value};
 ghost use Rattle.om_parser.specs.Reading.{Reads, ReadsAlways};
@@ -14,7 +15,7 @@ use crate::front::syntax;
 use crate::part::enclosed;
 use crate::tree::Expression;
 use om_lexer::{FaultCode, SourceFault, Token, TokenKind};
-use om_pragma::{Directive, directive, expression_before};
+use om_pragma::{Directive, directive, expression_before, first_value, one_answer};
 use std::alloc::Global;
 
 /// The directive line that stands first, with its expression, and the tokens behind it.
@@ -45,12 +46,23 @@ pub fn line(
 
 /// The directive of a run, with its expression.
 fn line_of(alloc: Global, run: &[Token]) -> Result<Directive<Expression>, SourceFault>
+    requires { EndsOnce run.now }
     ensures { Reads view_directive result (line_of accepted run.now (directive_at run.now)) }
 {
-    match directive(alloc, run) {
+    match directive_of(alloc, run) {
         Ok(found) => with_value(alloc, run, found),
         Err(fault) => Err(sooner(alloc, run, fault)),
     }
+}
+
+/// The directive of a run, its expression not read.
+fn directive_of(alloc: Global, run: &[Token]) -> Result<Directive<&[Token]>, SourceFault>
+    requires { EndsOnce run.now }
+    ensures reads { Reads with_tokens result (directive_at run.now) }
+    ensures one_expression_at_most { IfOk result (λ d. length (expressions d) ≤ 1) }
+{
+    one_answer();
+    directive(alloc, run)
 }
 
 /// The fault of a run, or that of an expression before it, which is the lower one.
@@ -58,13 +70,21 @@ fn line_of(alloc: Global, run: &[Token]) -> Result<Directive<Expression>, Source
 fn sooner(alloc: Global, run: &[Token], fault: SourceFault) -> SourceFault
     ensures { (result ≡ no_memory) ⊎ (sooner accepted run.now fault ≡ Err result) }
 {
-    let Some(tokens) = expression_before(run, fault.at) else {
+    let Some(tokens) = value_before(run, fault.at) else {
         return fault;
     };
     match clause_value(alloc, run, tokens) {
         Ok(_) => fault,
         Err(inner) => inner,
     }
+}
+
+/// The first expression of a run that ends before a place.
+fn value_before(run: &[Token], place: u32) -> Option<&[Token]>
+    ensures { option_map (λ e. e.now) result ≡ expression_before place run.now }
+{
+    first_value();
+    expression_before(run, place)
 }
 
 /// A directive of a run with its expression read.
@@ -172,7 +192,8 @@ fn place_behind(at: u32, tokens: &[Token]) -> u32
 
 /// The tokens up to the first end of a directive line, with it, and those behind it.
 fn run(tokens: &[Token]) -> Option<(&[Token], &[Token])>
-    ensures { option_map (λ x. (x.0.now, x.1.now)) result ≡ run_of tokens.now }
+    ensures ends_once { IfSome result (λ x. EndsOnce x.0.now) }
+    ensures taken { option_map (λ x. (x.0.now, x.1.now)) result ≡ run_of tokens.now }
 {
     let mut taken = 0;
     let mut rest = tokens;

@@ -1,5 +1,5 @@
 -- What is found as the first expression before a place is the first that stands there.
-use Rattle.std.proofs.Common.{◌≡◌, ◌≢◌, ℕ, suc, ◌<◌, ◌≤◌, List, [], ◌∷◌, ◌++◌, length, Option, Some, None, Bool, true, false, cond, Result, Ok, Err, refl, sym, ap, subst, ◌∙◌, arith, codes}
+use Rattle.std.proofs.Common.{◌≡◌, ◌≢◌, ℕ, suc, ◌<◌, List, [], ◌∷◌, ◌++◌, length, Option, Some, None, Bool, true, false, cond, Result, Ok, Err, refl, sym, ap, subst, ◌∙◌, arith, codes}
 use Rattle.std.specs.Prelude.{nat_le, ◌||◌}
 use Rattle.std.proofs.lemmas.Bool.{leb-false, lt-leb}
 use Rattle.om_lexer.specs.declared.token.Punctuator.TheVariants as punctuators
@@ -14,7 +14,7 @@ use Rattle.om_pragma.specs.Spelling.{token, mark, value_kind}
 use Rattle.om_pragma.specs.Values.{StandsAsValue, IsFirstValue}
 use Rattle.om_pragma.specs.Words.{same_kind, clause_word}
 use Rattle.om_pragma.proofs.Arguments.{closing_is, closing_again}
-use Rattle.om_pragma.proofs.Outcomes.{ok, some, some_is, bind_ok}
+use Rattle.om_pragma.proofs.Outcomes.{ok_is, some, some_is, bind_ok}
 use Rattle.om_pragma.proofs.Taken.{same_kind_is, mark_at_is, mark_again}
 
 -- ---- at one token
@@ -133,3 +133,26 @@ is_absent place (t ∷ ts) e es s = go (λ h. is_absent place ts h es) (expressi
     go : (expression_before place ts ≡ None → StandsAsValue ts place es → ⊥) → (o : Option (List Token)) → expression_at place t ts ≡ o → or_else o (expression_before place ts) ≡ None → ⊥
     go later (Some x) is e = absurd cc
     go later None is e = later e (further place t ts es is s).0
+
+-- ---- one is the first
+
+same_rest : (front rest other left : List Token) → front ++ rest ≡ other ++ left → length front ≡ length other → rest ≡ left
+same_rest [] rest [] left e long = e
+same_rest [] rest (t ∷ other) left e long = absurd cc
+same_rest (t ∷ front) rest [] left e long = absurd cc
+same_rest (t ∷ front) rest (u ∷ other) left e long = same_rest front rest other left (let tail : front ++ rest ≡ other ++ left = cc in tail) (omega (arith, long))
+
+first_one : (place : ℕ) (ts xs es : List Token) → IsFirstValue ts place xs → IsFirstValue ts place es → xs ≡ es
+first_one place ts xs es x y =
+    let long : length x.stands.before ≡ length y.stands.before = omega (arith, x.first es y.stands, y.first xs x.stands) in
+    let rest = same_rest x.stands.before _ y.stands.before _ (sym x.stands.parts ∙ y.stands.parts) long in
+    let inside : xs ++ mark punctuators.CloseParen x.stands.right ∷ x.stands.behind ≡ es ++ mark punctuators.CloseParen y.stands.right ∷ y.stands.behind = cc in
+    let same = sym (closing_again 0 xs x.stands.right x.stands.behind x.stands.closed.1) ∙ ap (closing 0) inside ∙ closing_again 0 es y.stands.right y.stands.behind y.stands.closed.1 in
+    ap (λ (c : List Token × Span × List Token). c.0) (ok_is (xs, x.stands.right, x.stands.behind) (es, y.stands.right, y.stands.behind) same)
+
+pub is_found : (place : ℕ) (ts es : List Token) → IsFirstValue ts place es → expression_before place ts ≡ some es
+is_found place ts es h = go (expression_before place ts) refl
+  where
+    go : (o : Option (List Token)) → expression_before place ts ≡ o → o ≡ some es
+    go None e = absurd (is_absent place ts e es h.stands)
+    go (Some x) e = ap some (first_one place ts x es (is_first place ts x e) h)

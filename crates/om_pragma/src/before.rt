@@ -2,7 +2,7 @@
 
 ghost use Rattle.std.specs.Prelude.{◌≡◌, List, IfSome, option_map, nat_le, if◌then◌else◌};
 ghost use Rattle.om_lexer.specs.declared.token.Token.{Token as Tokens};
-ghost use Rattle.om_pragma.specs.Reading.{in_parentheses, some_tokens, expression_at, expression_before, GetsAlways};
+ghost use Rattle.om_pragma.specs.Reading.{in_parentheses, some_tokens, expression_at, GetsAlways};
 ghost use Rattle.om_pragma.specs.Values.{StandsAsValue, IsFirstValue};
 
 use crate::argument::closing;
@@ -18,7 +18,6 @@ use om_lexer::{Punctuator, Span, Token};
 pub fn expression_before(tokens: &[Token], place: u32) -> Option<&[Token]>
     ensures found { IfSome result (λ e. IsFirstValue tokens.now place e.now) }
     ensures absent { result ≡ None → (e : List Tokens) → StandsAsValue tokens.now place e → ⊥ }
-    ensures reads { option_map (λ e. e.now) result ≡ expression_before place tokens.now }
 {
     let mut rest = tokens;
     'tokens: loop {

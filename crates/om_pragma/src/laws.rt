@@ -34,6 +34,7 @@ pub fn one_answer()
 /// Reading tokens from the left gives the first expression that stands in the parentheses of a
 /// clause and ends before a place, or none where none does.
 pub fn first_value()
-    ensures found { (tokens inside : List Token) (place : ℕ) → expression_before place tokens ≡ Some inside → IsFirstValue tokens place inside }
+    ensures only { (tokens inside : List Token) (place : ℕ) → expression_before place tokens ≡ Some inside → IsFirstValue tokens place inside }
+    ensures found { (tokens inside : List Token) (place : ℕ) → IsFirstValue tokens place inside → expression_before place tokens ≡ Some inside }
     ensures absent { (tokens inside : List Token) (place : ℕ) → expression_before place tokens ≡ None → ¬ StandsAsValue tokens place inside }
 {}

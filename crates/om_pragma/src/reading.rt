@@ -43,8 +43,6 @@ pub fn directive(alloc: Global, tokens: &[Token]) -> Result<Directive<&[Token]>,
     ensures refused { IfErr result (λ fault. (fault ≡ no_memory) ⊎ IsRefusal tokens.now fault) }
     // S3 stands at the first token that no directive has there, where the run's end stands last.
     ensures stops_at_the_first { IfErr result (λ fault. fault.code ≡ Syntax → EndsOnce tokens.now → StopsAt tokens.now fault.at) }
-
-    ensures reads { Reads with_tokens result (directive_at tokens.now) }
 {
     read(alloc, tokens)
 }
