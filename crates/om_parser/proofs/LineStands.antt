@@ -92,12 +92,13 @@ stands_in_parentheses place k t ts es word h = go (in_parentheses ts) refl h
 
 stands_at : (place : ℕ) (t : Token) (ts es : List Token) → expression_at place t ts ≡ some es → StandsIn (t ∷ ts) es
 unfolding expression_at
-stands_at place t ts es h = go (same_kind t.kind (kinds.Name (codes "num_threads"))) (same_kind t.kind (kinds.Name (codes "filter"))) refl refl h
+stands_at place t ts es h = go (nat_le place t.span.start) (same_kind t.kind (kinds.Name (codes "num_threads"))) (same_kind t.kind (kinds.Name (codes "filter"))) refl refl h
   where
-    go : (b c : Bool) → same_kind t.kind (kinds.Name (codes "num_threads")) ≡ b → same_kind t.kind (kinds.Name (codes "filter")) ≡ c → cond (b || c) (ends_before place (in_parentheses ts)) None ≡ some es → StandsIn (t ∷ ts) es
-    go true c is other e = stands_in_parentheses place value_kinds.NumThreads t ts es (ap (λ k. token k t.span) (same_kind_is t.kind (kinds.Name (codes "num_threads")) is)) e
-    go false true is other e = stands_in_parentheses place value_kinds.Filter t ts es (ap (λ k. token k t.span) (same_kind_is t.kind (kinds.Name (codes "filter")) other)) e
-    go false false is other e = absurd cc
+    go : (a b c : Bool) → same_kind t.kind (kinds.Name (codes "num_threads")) ≡ b → same_kind t.kind (kinds.Name (codes "filter")) ≡ c → cond a None (cond (b || c) (ends_before place (in_parentheses ts)) None) ≡ some es → StandsIn (t ∷ ts) es
+    go true b c is other e = absurd cc
+    go false true c is other e = stands_in_parentheses place value_kinds.NumThreads t ts es (ap (λ k. token k t.span) (same_kind_is t.kind (kinds.Name (codes "num_threads")) is)) e
+    go false false true is other e = stands_in_parentheses place value_kinds.Filter t ts es (ap (λ k. token k t.span) (same_kind_is t.kind (kinds.Name (codes "filter")) other)) e
+    go false false false is other e = absurd cc
 
 pub stands_before_place : (place : ℕ) (ts es : List Token) → expression_before place ts ≡ some es → StandsIn ts es
 unfolding expression_before

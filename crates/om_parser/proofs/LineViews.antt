@@ -73,19 +73,11 @@ module _ (d : Directive (Bor (List Token))) where
 
 -- ---- a refused run
 
-ends_before_nothing : (r : Result (List Token × Span × List Token) ℕ) → ends_before 0 r ≡ None
-ends_before_nothing (Ok c) = rw (le-leb 0 c.1.start (omega arith)) refl
-ends_before_nothing (Err at) = refl
-
 -- no expression ends before the first byte, where out of memory stands
 before_nothing : (ts : List Token) → expression_before 0 ts ≡ None
 unfolding expression_before expression_at
 before_nothing [] = refl
-before_nothing (t ∷ ts) = go (same_kind t.kind (kinds.Name (codes "num_threads")) || same_kind t.kind (kinds.Name (codes "filter"))) (before_nothing ts)
-  where
-    go : (b : Bool) → expression_before 0 ts ≡ None → or_else (cond b (ends_before 0 (in_parentheses ts)) None) (expression_before 0 ts) ≡ None
-    go true later = rw (ends_before_nothing (in_parentheses ts), later) refl
-    go false later = later
+before_nothing (t ∷ ts) = rw (le-leb 0 t.span.start (omega arith), before_nothing ts) refl
 
 pub refused_line : (l : Limits) (run : List Token) (f e : SourceFault) → (f ≡ no_memory) ⊎ (directive_at run ≡ Err f) → (e ≡ no_memory) ⊎ (sooner l run f ≡ Err e) → (e ≡ no_memory) ⊎ (line_of l run (directive_at run) ≡ Err e)
 unfolding sooner

@@ -28,15 +28,16 @@ record IsValueAt (place : ℕ) (t : Token) (ts inside : List Token) : Type 0 whe
   word_is : t.kind ≡ clause_word (value_kind word)
   parts : ts ≡ mark punctuators.OpenParen left ∷ (inside ++ mark punctuators.CloseParen right ∷ behind)
   closed : IsClosed inside
+  starts : t.span.start < place
   ends : right.start < place
 
 some_inside : (xs es : List Token) → some_tokens xs ≡ some es → (xs ≡ es) × (es ≢ [])
 some_inside [] es e = absurd cc
 some_inside (x ∷ xs) es e = (some_is (x ∷ xs) es e, λ none. let is : some (x ∷ xs) ≡ some [] = e ∙ ap some none in absurd cc)
 
-in_parentheses_is : (place : ℕ) (k : ValueClause) (t : Token) (ts es : List Token) → t.kind ≡ clause_word (value_kind k) → ends_before place (in_parentheses ts) ≡ some es → IsValueAt place t ts es
+in_parentheses_is : (place : ℕ) (k : ValueClause) (t : Token) (ts es : List Token) → t.kind ≡ clause_word (value_kind k) → t.span.start < place → ends_before place (in_parentheses ts) ≡ some es → IsValueAt place t ts es
 unfolding in_parentheses
-in_parentheses_is place k t ts es word h = go (in_parentheses ts) refl h
+in_parentheses_is place k t ts es word starts h = go (in_parentheses ts) refl h
   where
     inside : (c : List Token × Span × List Token) → in_parentheses ts ≡ Ok c → c.1.start < place → (c.0 ≡ es) × (es ≢ []) → IsValueAt place t ts es
     inside c is before same =
@@ -50,6 +51,7 @@ in_parentheses_is place k t ts es word h = go (in_parentheses ts) refl h
           word_is = word;
           parts = mark_at_is punctuators.OpenParen ts o.0 o.1 ∙ ap (λ (w : List Token). mark punctuators.OpenParen o.0.0 ∷ w) (rest.0 ∙ ap (λ (w : List Token). w ++ mark punctuators.CloseParen c.1 ∷ c.2) same.0);
           closed = (same.1, subst (Closes 0) same.0 rest.1);
+          starts = starts;
           ends = before;
         }
 
@@ -63,12 +65,14 @@ in_parentheses_is place k t ts es word h = go (in_parentheses ts) refl h
 
 value_at_is : (place : ℕ) (t : Token) (ts es : List Token) → expression_at place t ts ≡ some es → IsValueAt place t ts es
 unfolding expression_at
-value_at_is place t ts es h = go (same_kind t.kind (kinds.Name (codes "num_threads"))) (same_kind t.kind (kinds.Name (codes "filter"))) refl refl h
+value_at_is place t ts es h = go (nat_le place t.span.start) (same_kind t.kind (kinds.Name (codes "num_threads"))) (same_kind t.kind (kinds.Name (codes "filter"))) refl refl refl h
   where
-    go : (b c : Bool) → same_kind t.kind (kinds.Name (codes "num_threads")) ≡ b → same_kind t.kind (kinds.Name (codes "filter")) ≡ c → cond (b || c) (ends_before place (in_parentheses ts)) None ≡ some es → IsValueAt place t ts es
-    go true c is other e = in_parentheses_is place value_kinds.NumThreads t ts es (same_kind_is t.kind (kinds.Name (codes "num_threads")) is) e
-    go false true is other e = in_parentheses_is place value_kinds.Filter t ts es (same_kind_is t.kind (kinds.Name (codes "filter")) other) e
-    go false false is other e = absurd cc
+    go : (a b c : Bool) → nat_le place t.span.start ≡ a → same_kind t.kind (kinds.Name (codes "num_threads")) ≡ b → same_kind t.kind (kinds.Name (codes "filter")) ≡ c
+        → cond a None (cond (b || c) (ends_before place (in_parentheses ts)) None) ≡ some es → IsValueAt place t ts es
+    go true b c past is other e = absurd cc
+    go false true c past is other e = in_parentheses_is place value_kinds.NumThreads t ts es (same_kind_is t.kind (kinds.Name (codes "num_threads")) is) (leb-false place t.span.start past) e
+    go false false true past is other e = in_parentheses_is place value_kinds.Filter t ts es (same_kind_is t.kind (kinds.Name (codes "filter")) other) (leb-false place t.span.start past) e
+    go false false false past is other e = absurd cc
 
 some_again : (es : List Token) → es ≢ [] → some_tokens es ≡ some es
 some_again [] none = absurd (none refl)
@@ -76,7 +80,7 @@ some_again (e ∷ es) none = refl
 
 value_at_again : (place : ℕ) (t : Token) (ts es : List Token) → IsValueAt place t ts es → expression_at place t ts ≡ some es
 unfolding expression_at in_parentheses
-value_at_again place t ts es v = rw v.word_is (go v.word)
+value_at_again place t ts es v = rw (v.word_is, lt-leb place t.span.start v.starts) (go v.word)
   where
     inside : ends_before place (in_parentheses ts) ≡ some es
     inside = rw (v.parts, mark_again punctuators.OpenParen v.left (es ++ mark punctuators.CloseParen v.right ∷ v.behind), closing_again 0 es v.right v.behind v.closed.1, lt-leb place v.right.start v.ends) (some_again es v.closed.0)
@@ -88,10 +92,10 @@ value_at_again place t ts es v = rw v.word_is (go v.word)
 -- ---- among the tokens
 
 abbrev stands_first : (place : ℕ) (t : Token) (ts es : List Token) → IsValueAt place t ts es → StandsAsValue (t ∷ ts) place es
-stands_first place t ts es v = record { before = []; word = v.word; at = t.span; left = v.left; right = v.right; behind = v.behind; parts = ap (λ (w : List Token). t ∷ w) v.parts ∙ ap (λ k. token k t.span ∷ mark punctuators.OpenParen v.left ∷ (es ++ mark punctuators.CloseParen v.right ∷ v.behind)) v.word_is; closed = v.closed; ends = v.ends }
+stands_first place t ts es v = record { before = []; word = v.word; at = t.span; left = v.left; right = v.right; behind = v.behind; parts = ap (λ (w : List Token). t ∷ w) v.parts ∙ ap (λ k. token k t.span ∷ mark punctuators.OpenParen v.left ∷ (es ++ mark punctuators.CloseParen v.right ∷ v.behind)) v.word_is; closed = v.closed; starts = v.starts; ends = v.ends }
 
 abbrev stands_later : (place : ℕ) (t : Token) (ts es : List Token) → StandsAsValue ts place es → StandsAsValue (t ∷ ts) place es
-stands_later place t ts es s = record { before = t ∷ s.before; word = s.word; at = s.at; left = s.left; right = s.right; behind = s.behind; parts = ap (λ (w : List Token). t ∷ w) s.parts; closed = s.closed; ends = s.ends }
+stands_later place t ts es s = record { before = t ∷ s.before; word = s.word; at = s.at; left = s.left; right = s.right; behind = s.behind; parts = ap (λ (w : List Token). t ∷ w) s.parts; closed = s.closed; starts = s.starts; ends = s.ends }
 
 -- one that stands among tokens of which the first begins none
 further : (place : ℕ) (t : Token) (ts es : List Token) → expression_at place t ts ≡ None → (o : StandsAsValue (t ∷ ts) place es) → (s : StandsAsValue ts place es) × (length o.before ≡ suc (length s.before))
@@ -99,13 +103,15 @@ further place t ts es absent o = go o.before refl o.parts
   where
     go : (before : List Token) → o.before ≡ before → t ∷ ts ≡ before ++ token (clause_word (value_kind o.word)) o.at ∷ mark punctuators.OpenParen o.left ∷ (es ++ mark punctuators.CloseParen o.right ∷ o.behind) → (s : StandsAsValue ts place es) × (length o.before ≡ suc (length s.before))
     go [] is parts =
-        let word : t.kind ≡ clause_word (value_kind o.word) = ap (λ (u : Token). u.kind) (let first : t ≡ token (clause_word (value_kind o.word)) o.at = cc in first) in
+        let first : t ≡ token (clause_word (value_kind o.word)) o.at = cc in
+        let word : t.kind ≡ clause_word (value_kind o.word) = ap (λ (u : Token). u.kind) first in
+        let starts : t.span.start < place = subst (λ (u : Token). u.span.start < place) (sym first) o.starts in
         let rest : ts ≡ mark punctuators.OpenParen o.left ∷ (es ++ mark punctuators.CloseParen o.right ∷ o.behind) = cc in
-        let found = value_at_again place t ts es (record { word = o.word; left = o.left; right = o.right; behind = o.behind; word_is = word; parts = rest; closed = o.closed; ends = o.ends }) in
+        let found = value_at_again place t ts es (record { word = o.word; left = o.left; right = o.right; behind = o.behind; word_is = word; parts = rest; closed = o.closed; starts = starts; ends = o.ends }) in
         absurd cc
     go (u ∷ before) is parts =
         let rest : ts ≡ before ++ token (clause_word (value_kind o.word)) o.at ∷ mark punctuators.OpenParen o.left ∷ (es ++ mark punctuators.CloseParen o.right ∷ o.behind) = cc in
-        (record { before = before; word = o.word; at = o.at; left = o.left; right = o.right; behind = o.behind; parts = rest; closed = o.closed; ends = o.ends }, ap length is)
+        (record { before = before; word = o.word; at = o.at; left = o.left; right = o.right; behind = o.behind; parts = rest; closed = o.closed; starts = o.starts; ends = o.ends }, ap length is)
 
 nothing_stands : (place : ℕ) (es : List Token) → StandsAsValue [] place es → ⊥
 nothing_stands place es s = go s.before s.parts

@@ -378,10 +378,11 @@ ends_before place (Err e) = None
 unfoldable pub in_parentheses : List Token → Result (List Token × Span × List Token) ℕ
 in_parentheses ts = mark_at punctuators.OpenParen ts >>= λ o. closing 0 o.1
 
--- the expression of a clause whose word stands there, where the clause ends before a place
+-- the expression of a clause whose word stands there before a place, where the clause ends before it too
 unfoldable pub expression_at : ℕ → Token → List Token → Option (List Token)
 expression_at place word ts =
-    if same_kind word.kind (kinds.Name (codes "num_threads")) || same_kind word.kind (kinds.Name (codes "filter"))
+    if nat_le place word.span.start then None
+    else if same_kind word.kind (kinds.Name (codes "num_threads")) || same_kind word.kind (kinds.Name (codes "filter"))
     then ends_before place (in_parentheses ts)
     else None
 

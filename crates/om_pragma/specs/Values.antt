@@ -8,7 +8,7 @@ use Rattle.om_pragma.specs.Expressions.{IsClosed}
 use Rattle.om_pragma.specs.Spelling.{token, mark, value_kind}
 use Rattle.om_pragma.specs.Words.{clause_word}
 
--- behind the word of a clause with an expression these tokens stand in parentheses, of which the right one is before that place
+-- behind the word of a clause with an expression these tokens stand in parentheses, all of it before that place
 pub record StandsAsValue (tokens : List Token) (place : ℕ) (inside : List Token) : Type 0 where
   pub before : List Token
   pub word : ValueClause
@@ -18,6 +18,7 @@ pub record StandsAsValue (tokens : List Token) (place : ℕ) (inside : List Toke
   pub behind : List Token
   pub parts : tokens ≡ before ++ token (clause_word (value_kind word)) at ∷ mark punctuators.OpenParen left ∷ (inside ++ mark punctuators.CloseParen right ∷ behind)
   pub closed : IsClosed inside
+  pub starts : at.start < place
   pub ends : right.start < place
 
 -- and none stands further to the left

@@ -32,11 +32,14 @@ pub fn expression_before(tokens: &[Token], place: u32) -> Option<&[Token]>
 }
 
 /// The expression of a clause whose word stands there, where the clause ends before the place.
+// Behind the place no clause is looked through, so a long run of open parentheses takes linear time.
 #[tactic(auto, unfolding(crate::specs::Reading::expression_at))]
 fn expression_at<'a>(word: &Token, tokens: &'a [Token], place: u32) -> Option<&'a [Token]>
     ensures { option_map (λ e. e.now) result ≡ expression_at place word.now tokens.now }
 {
-    if is_named(&word.kind, b"num_threads") || is_named(&word.kind, b"filter") {
+    if place <= word.span.start {
+        None
+    } else if is_named(&word.kind, b"num_threads") || is_named(&word.kind, b"filter") {
         match in_parentheses(tokens) {
             Ok((expression, close_paren, _)) => ends_before(expression, close_paren, place),
             Err(_) => None,
