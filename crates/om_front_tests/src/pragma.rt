@@ -332,7 +332,9 @@ fn what_a_parser_asks(rt: HostRuntime) -> Result<(), Fail> {
     assert!(rt; questions(&found) == [true, true, false, false, false]);
     assert_eq!(rt; found.name.span().start, 12);
     let word = run_of(&tokens).get(3);
-    assert!(rt; matches!(word, Some(word) if matches!(begun_by(&word.kind), Some(DirectiveKind::Atomic))));
+    assert!(rt;
+        matches!(word, Some(word) if matches!(begun_by(&word.kind), Some(DirectiveKind::Atomic)))
+    );
     Ok(())
 }
 

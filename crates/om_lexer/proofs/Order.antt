@@ -73,13 +73,15 @@ plain_goes inside kinds.End last rest plain x = absurd cc
 plain_goes inside _ last rest plain x = x
 
 -- a plain token and those behind it
-plain_first : (source : List ℕ) (inside : Bool) (at from to : ℕ) (k : TokenKind) (ts : List Token) → at ≤ from → from < to → Plain source from to k → Follow source inside to ts → Follow source inside at (record { kind = k; span = span_of source from to } ∷ ts)
+plain_first : (source : List ℕ) (inside : Bool) (at from to : ℕ) (k : TokenKind) (ts : List Token) → at ≤ from → from < to → Plain source from to k
+    → Follow source inside to ts → Follow source inside at (record { kind = k; span = span_of source from to } ∷ ts)
 unfolding Follow AreInOrder AreWhole Plain
 plain_first source inside at from to k ts low wide plain rest =
     ((low, record { stands = plain.1; width = plain_width k from to plain.0 wide; line = refl }, rest.0), plain_goes inside k (ts ≡ []) (λ b. AreWhole b ts) plain.0 rest.1)
 
 -- the end of a directive and the tokens behind it
-end_first : (source : List ℕ) (at end : ℕ) (last : Span) (ts : List Token) → last ≡ span_of source end end → at ≤ end → Follow source false end ts → Follow source true at (record { kind = kinds.DirectiveEnd; span = last } ∷ ts)
+end_first : (source : List ℕ) (at end : ℕ) (last : Span) (ts : List Token) → last ≡ span_of source end end → at ≤ end
+    → Follow source false end ts → Follow source true at (record { kind = kinds.DirectiveEnd; span = last } ∷ ts)
 unfolding Follow AreInOrder AreWhole
 end_first source at end last ts is low rest =
     subst (λ (s : Span). Follow source true at (record { kind = kinds.DirectiveEnd; span = s } ∷ ts)) (sym is)
@@ -91,7 +93,8 @@ unfolding Follow AreInOrder AreWhole
 end_last source at low = ((low, record { stands = refl; width = refl; line = refl }, omega arith), (refl, refl))
 
 -- the beginning of a directive and the tokens behind it
-begin_first : (source : List ℕ) (at from pragma omp to : ℕ) (ts : List Token) → at ≤ from → IsDirective source from pragma omp to → Follow source true to ts → Follow source false at (directive_begin source from pragma omp ++ ts)
+begin_first : (source : List ℕ) (at from pragma omp to : ℕ) (ts : List Token) → at ≤ from → IsDirective source from pragma omp to
+    → Follow source true to ts → Follow source false at (directive_begin source from pragma omp ++ ts)
 unfolding Follow AreInOrder AreWhole Plain
 begin_first source at from pragma omp to ts low x rest =
     let places = directive_words source from pragma omp to x in
@@ -100,7 +103,8 @@ begin_first source at from pragma omp to ts low x rest =
     let omp_is : codes "omp" ≡ slice_range source omp (omp + 3) = x.is_omp.text_is ∙ ap (slice_range source omp) places.2 in
     let behind : Follow source true (omp + 3) ts = subst (λ n. Follow source true n ts) places.2 rest in
     let omp_first = plain_first source true (pragma + 6) omp (omp + 3) (kinds.Name (codes "omp")) ts places.1 (omega arith) (refl, omp_is) behind in
-    let words = plain_first source true (from + 1) pragma (pragma + 6) (kinds.Name (codes "pragma")) (record { kind = kinds.Name (codes "omp"); span = span_of source omp (omp + 3) } ∷ ts) (omega (arith, places.0)) (omega arith) (refl, pragma_is) omp_first in
+    let omp_token : Token = record { kind = kinds.Name (codes "omp"); span = span_of source omp (omp + 3) } in
+    let words = plain_first source true (from + 1) pragma (pragma + 6) (kinds.Name (codes "pragma")) (omp_token ∷ ts) (omega (arith, places.0)) (omega arith) (refl, pragma_is) omp_first in
     ((low, record { stands = (x.begins.hash, refl); width = omega arith; line = refl }, words.0), (refl, words.1))
 
 -- ---- pieces
@@ -141,11 +145,15 @@ module _ (source : List ℕ) (macros : MacroList) (at from to : ℕ) (ts : List 
   feed_follows (states.Defining name) is_open s rest = rest at (omega (arith, is_open))
   feed_follows states.Ignored is_open s rest = rest at (omega (arith, is_open))
 
+  here_first : (inside : Bool) (kind : TokenKind) → IsToken source from to kind → at ≤ from → Follow source inside to ts
+      → Follow source inside at (record { kind = replaced macros kind; span = span_of source from to } ∷ ts)
+  here_first inside kind s low rest = plain_first source inside at from to (replaced macros kind) ts low wide (token_plain source from to macros kind s) rest
+
   token_follows : (state : LineState) (kind : TokenKind) → Stays state (pieces.Token kind)
   unfolding Stays Rest
-  token_follows (states.Directive last) kind is_open s rest = plain_first source true at from to (replaced macros kind) ts (omega (arith, is_open.2, is_open.3)) wide (token_plain source from to macros kind s.1) (rest to (to, refl, omega arith, omega arith))
-  token_follows states.Fresh kind is_open s rest = plain_first source false at from to (replaced macros kind) ts is_open wide (token_plain source from to macros kind s.1) (rest to (omega arith))
-  token_follows states.Taken kind is_open s rest = plain_first source false at from to (replaced macros kind) ts is_open wide (token_plain source from to macros kind s.1) (rest to (omega arith))
+  token_follows (states.Directive last) kind is_open s rest = here_first true kind s.1 (omega (arith, is_open.2, is_open.3)) (rest to (to, refl, omega arith, omega arith))
+  token_follows states.Fresh kind is_open s rest = here_first false kind s.1 is_open (rest to (omega arith))
+  token_follows states.Taken kind is_open s rest = here_first false kind s.1 is_open (rest to (omega arith))
   token_follows (states.Defining name) kind is_open s rest = rest at (omega (arith, is_open))
   token_follows states.Ignored kind is_open s rest = absurd cc
 

@@ -20,16 +20,28 @@ record GoesFurther (front rest further : List Token) : Type 0 where
   rest_is : rest ≡ next ∷ after
   further_is : further ≡ (front ++ next ∷ []) ++ more
 
+one_more : (t u : Token) (front further rest : List Token) → t ≡ u → GoesFurther front rest further → GoesFurther (t ∷ front) rest (u ∷ further)
+one_more t u front further rest head g = record {
+  next = g.next;
+  after = g.after;
+  more = g.more;
+  rest_is = g.rest_is;
+  further_is = ap (λ (w : List Token). u ∷ w) g.further_is ∙ ap (λ x. x ∷ ((front ++ g.next ∷ []) ++ g.more)) (sym head);
+}
+
 -- two cuts of the same tokens
 compare : (front rest other left : List Token) → front ++ rest ≡ other ++ left → (rest ≡ left) ⊎ (GoesFurther front rest other ⊎ GoesFurther other left front)
 compare [] rest [] left e = inl e
 compare [] rest (t ∷ other) left e = inr (inl (record { next = t; after = other ++ left; more = other; rest_is = e; further_is = refl }))
 compare (t ∷ front) rest [] left e = inr (inr (record { next = t; after = front ++ rest; more = front; rest_is = sym e; further_is = refl }))
-compare (t ∷ front) rest (u ∷ other) left e = elim (compare front rest other left (let tail : front ++ rest ≡ other ++ left = cc in tail)) [
-  | inl same ↦ inl same
-  | inr (inl g) ↦ inr (inl (record { next = g.next; after = g.after; more = g.more; rest_is = g.rest_is; further_is = let head : u ≡ t = cc in ap (λ (w : List Token). u ∷ w) g.further_is ∙ ap (λ x. x ∷ ((front ++ g.next ∷ []) ++ g.more)) head }))
-  | inr (inr g) ↦ inr (inr (record { next = g.next; after = g.after; more = g.more; rest_is = g.rest_is; further_is = let head : t ≡ u = cc in ap (λ (w : List Token). t ∷ w) g.further_is ∙ ap (λ x. x ∷ ((other ++ g.next ∷ []) ++ g.more)) head }))
-]
+compare (t ∷ front) rest (u ∷ other) left e =
+    let head : t ≡ u = cc in
+    let tail : front ++ rest ≡ other ++ left = cc in
+    elim (compare front rest other left tail) [
+      | inl same ↦ inl same
+      | inr (inl g) ↦ inr (inl (one_more t u front other rest head g))
+      | inr (inr g) ↦ inr (inr (one_more u t other front left (sym head) g))
+    ]
 
 begins_less : (front more : List Token) → BeginsDirective (front ++ more) → BeginsDirective front
 begins_less front more b = record { directive = b.directive; more = more ++ b.more; written = b.written; parts = b.parts ∙ append_assoc front more b.more }

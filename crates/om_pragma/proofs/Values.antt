@@ -19,6 +19,10 @@ use Rattle.om_pragma.proofs.Taken.{same_kind_is, mark_at_is, mark_again}
 
 -- ---- at one token
 
+-- what stands behind the word of a clause: these tokens in parentheses, and others
+abbrev inside : List Token → (left right : Span) → List Token → List Token
+inside es left right behind = mark punctuators.OpenParen left ∷ (es ++ mark punctuators.CloseParen right ∷ behind)
+
 -- this token is the word of a clause, and its expression stands behind it
 record IsValueAt (place : ℕ) (t : Token) (ts inside : List Token) : Type 0 where
   word : ValueClause
@@ -92,26 +96,73 @@ value_at_again place t ts es v = rw (v.word_is, lt-leb place t.span.start v.star
 -- ---- among the tokens
 
 abbrev stands_first : (place : ℕ) (t : Token) (ts es : List Token) → IsValueAt place t ts es → StandsAsValue (t ∷ ts) place es
-stands_first place t ts es v = record { before = []; word = v.word; at = t.span; left = v.left; right = v.right; behind = v.behind; parts = ap (λ (w : List Token). t ∷ w) v.parts ∙ ap (λ k. token k t.span ∷ mark punctuators.OpenParen v.left ∷ (es ++ mark punctuators.CloseParen v.right ∷ v.behind)) v.word_is; closed = v.closed; starts = v.starts; ends = v.ends }
+stands_first place t ts es v = record {
+  before = [];
+  word = v.word;
+  at = t.span;
+  left = v.left;
+  right = v.right;
+  behind = v.behind;
+  parts = ap (λ (w : List Token). t ∷ w) v.parts ∙ ap (λ k. token k t.span ∷ inside es v.left v.right v.behind) v.word_is;
+  closed = v.closed;
+  starts = v.starts;
+  ends = v.ends;
+}
 
 abbrev stands_later : (place : ℕ) (t : Token) (ts es : List Token) → StandsAsValue ts place es → StandsAsValue (t ∷ ts) place es
-stands_later place t ts es s = record { before = t ∷ s.before; word = s.word; at = s.at; left = s.left; right = s.right; behind = s.behind; parts = ap (λ (w : List Token). t ∷ w) s.parts; closed = s.closed; starts = s.starts; ends = s.ends }
+stands_later place t ts es s = record {
+  before = t ∷ s.before;
+  word = s.word;
+  at = s.at;
+  left = s.left;
+  right = s.right;
+  behind = s.behind;
+  parts = ap (λ (w : List Token). t ∷ w) s.parts;
+  closed = s.closed;
+  starts = s.starts;
+  ends = s.ends;
+}
 
 -- one that stands among tokens of which the first begins none
-further : (place : ℕ) (t : Token) (ts es : List Token) → expression_at place t ts ≡ None → (o : StandsAsValue (t ∷ ts) place es) → (s : StandsAsValue ts place es) × (length o.before ≡ suc (length s.before))
+further : (place : ℕ) (t : Token) (ts es : List Token) → expression_at place t ts ≡ None
+    → (o : StandsAsValue (t ∷ ts) place es) → (s : StandsAsValue ts place es) × (length o.before ≡ suc (length s.before))
 further place t ts es absent o = go o.before refl o.parts
   where
-    go : (before : List Token) → o.before ≡ before → t ∷ ts ≡ before ++ token (clause_word (value_kind o.word)) o.at ∷ mark punctuators.OpenParen o.left ∷ (es ++ mark punctuators.CloseParen o.right ∷ o.behind) → (s : StandsAsValue ts place es) × (length o.before ≡ suc (length s.before))
+    word : Token
+    word = token (clause_word (value_kind o.word)) o.at
+
+    go : (before : List Token) → o.before ≡ before → t ∷ ts ≡ before ++ word ∷ inside es o.left o.right o.behind
+        → (s : StandsAsValue ts place es) × (length o.before ≡ suc (length s.before))
     go [] is parts =
-        let first : t ≡ token (clause_word (value_kind o.word)) o.at = cc in
-        let word : t.kind ≡ clause_word (value_kind o.word) = ap (λ (u : Token). u.kind) first in
-        let starts : t.span.start < place = subst (λ (u : Token). u.span.start < place) (sym first) o.starts in
-        let rest : ts ≡ mark punctuators.OpenParen o.left ∷ (es ++ mark punctuators.CloseParen o.right ∷ o.behind) = cc in
-        let found = value_at_again place t ts es (record { word = o.word; left = o.left; right = o.right; behind = o.behind; word_is = word; parts = rest; closed = o.closed; starts = starts; ends = o.ends }) in
+        let first : t ≡ word = cc in
+        let rest : ts ≡ inside es o.left o.right o.behind = cc in
+        let found = value_at_again place t ts es (record {
+          word = o.word;
+          left = o.left;
+          right = o.right;
+          behind = o.behind;
+          word_is = ap (λ (u : Token). u.kind) first;
+          parts = rest;
+          closed = o.closed;
+          starts = subst (λ (u : Token). u.span.start < place) (sym first) o.starts;
+          ends = o.ends;
+        }) in
         absurd cc
     go (u ∷ before) is parts =
-        let rest : ts ≡ before ++ token (clause_word (value_kind o.word)) o.at ∷ mark punctuators.OpenParen o.left ∷ (es ++ mark punctuators.CloseParen o.right ∷ o.behind) = cc in
-        (record { before = before; word = o.word; at = o.at; left = o.left; right = o.right; behind = o.behind; parts = rest; closed = o.closed; starts = o.starts; ends = o.ends }, ap length is)
+        let rest : ts ≡ before ++ word ∷ inside es o.left o.right o.behind = cc in
+        let later : StandsAsValue ts place es = record {
+          before = before;
+          word = o.word;
+          at = o.at;
+          left = o.left;
+          right = o.right;
+          behind = o.behind;
+          parts = rest;
+          closed = o.closed;
+          starts = o.starts;
+          ends = o.ends;
+        } in
+        (later, ap length is)
 
 nothing_stands : (place : ℕ) (es : List Token) → StandsAsValue [] place es → ⊥
 nothing_stands place es s = go s.before s.parts
