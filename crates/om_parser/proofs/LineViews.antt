@@ -1,18 +1,15 @@
 -- What the code makes of a directive line is what the reader makes.
-use Rattle.std.proofs.Common.{◌≡◌, ℕ, ◌≤◌, List, [], ◌∷◌, length, None, Bool, true, false, cond, Result, Ok, Err, refl, sym, ap, ◌∙◌, arith, ◌⊎◌, inl, inr}
-use Rattle.std.specs.Prelude.{option_to_list, codes, ◌||◌, IfOk, IfErr}
+use Rattle.std.proofs.Common.{◌≡◌, ◌≤◌, List, [], ◌∷◌, length, None, Result, Ok, Err, refl, sym, ap, ◌∙◌, arith, ◌⊎◌, inl, inr}
+use Rattle.std.specs.Prelude.{option_to_list, IfOk, IfErr}
 use Rattle.std.proofs.lemmas.Bool.{le-leb}
 use denote.Ref.{Bor}
 use Rattle.om_lexer.specs.Faults.{no_memory}
 use Rattle.om_lexer.specs.declared.fault.SourceFault.{SourceFault}
-use Rattle.om_lexer.specs.declared.token.Span.{Span}
 use Rattle.om_lexer.specs.declared.token.Token.{Token}
-use Rattle.om_lexer.specs.declared.token.TokenKind.TheVariants as kinds
 use Rattle.om_pragma.specs.declared.name.Number.{Number}
 use Rattle.om_pragma.specs.declared.tree.Directive.{Directive}
-use Rattle.om_pragma.specs.Expressions.{expressions, first_expression, or_else, map_directive, tokens_in, with_tokens, IsValue}
-use Rattle.om_pragma.specs.Reading.{directive_at, ends_before, in_parentheses, expression_at, expression_before}
-use Rattle.om_pragma.specs.Words.{same_kind}
+use Rattle.om_pragma.specs.Expressions.{expressions, first_expression, map_directive, tokens_in, with_tokens, IsValue}
+use Rattle.om_pragma.specs.Reading.{directive_at, expression_at, expression_before}
 use Rattle.om_pragma.proofs.Fillings.{first_is_only}
 use Rattle.om_parser.specs.declared.tree.Expression.{Expression, fold-roll-Expression}
 use Rattle.om_parser.specs.declared.tree.Expression.TheOpen.{Expression-F}
