@@ -1,0 +1,85 @@
+//! What a member of a team reads at a barrier.
+
+ghost use Rattle.std.specs.Prelude.{◌≡◌, ◌++◌, ◌+◌, OnOk, replicate};
+ghost use Rattle.om_values.specs.Stores.{state_of};
+ghost use Rattle.om_values.specs.Values.{count_in};
+ghost use Rattle.om_fork.specs.Barriers.{arrivals, barrier, is_zero, open_in};
+
+use om_values::{Store, Team, Update};
+use om_objects::{Access, Mode, Name, Obj};
+use om_row::names::name;
+use om_seq::Seq;
+use std::alloc::{AllocError, Global};
+
+/// Appends how far each member of a team of this size came, as what is read.
+fn name_arrivals(names: &mut Seq<Access>, team: &Name, size: u8) -> Result<(), AllocError>
+    ensures { OnOk result (names.new ≡ names.old ++ arrivals team.now 0 size) }
+{
+    for number in 0..size {
+        let reached = Obj::Arrived {
+            team: *team,
+            number,
+        };
+        name(names, reached, Mode::Read)?;
+    }
+    Ok(())
+}
+
+/// Appends what a member reads that goes on from the barrier of a phase.
+pub(crate) fn name_barrier(
+    names: &mut Seq<Access>,
+    team: &Team,
+    phase: u64,
+) -> Result<(), AllocError>
+    ensures { OnOk result (names.new ≡ names.old ++ barrier team.now phase) }
+{
+    name_arrivals(names, &team.name, team.size)?;
+    let pending = Obj::Pending {
+        team: team.name,
+        phase,
+    };
+    name(names, pending, Mode::Read)
+}
+
+/// Whether the count at an object is 0; one that holds no count has 0.
+#[tactic(auto, using(crate::proofs::Counting::count_read))]
+pub fn is_zero_at(alloc: Global, store: &Store, object: &Obj) -> bool
+    ensures { result ≡ is_zero (count_in (state_of store.now object.now)) }
+{
+    match store.count(alloc, object) {
+        Some(count) => count == 0,
+        None => true,
+    }
+}
+
+/// Whether all members have reached the barrier of a phase, and no task of it is unfinished.
+#[tactic(auto, using(crate::proofs::Counting::open_in_next))]
+pub(crate) fn is_open(alloc: Global, store: &Store, team: &Team, phase: u64) -> bool
+    ensures { result ≡ open_in (state_of store.now) team.now.name phase 0 team.now.size }
+{
+    for number in 0..team.size {
+        let reached = &Obj::Arrived {
+            team: team.name,
+            number,
+        };
+        if store.number(alloc, reached) <= phase {
+            return false;
+        }
+    }
+    let pending = &Obj::Pending {
+        team: team.name,
+        phase,
+    };
+    is_zero_at(alloc, store, pending)
+}
+
+/// Appends that what a member of a team of this size reads at a barrier stays.
+#[tactic(auto, using(crate::proofs::Counting::replicate_past))]
+pub(crate) fn put_kept(updates: &mut Seq<Update>, size: u8) -> Result<(), AllocError>
+    ensures { OnOk result (updates.new ≡ updates.old ++ replicate (size + 1) Update.Keep) }
+{
+    for _number in 0..size {
+        updates.push(Update::Keep)?;
+    }
+    updates.push(Update::Keep)
+}

@@ -1,0 +1,365 @@
+//! BEGIN, ARRIVE, DEPART and LEAVE: a member's way through its region.
+
+ghost use Rattle.std.specs.Prelude.{◌≡◌, ◌++◌, ◌∷◌, [], ◌≤◌, ◌<◌, ◌+◌, ◌^◌, IfOk, OnOk, length, None};
+ghost use Rattle.om_values.specs.State.{State};
+ghost use Rattle.om_values.specs.Stores.{state_of};
+ghost use Rattle.om_row.specs.Rows.{answered, goes};
+ghost use Rattle.om_row.specs.Objects.{deaths, event, events, own_cells, write};
+ghost use Rattle.om_objects.specs.declared.object.Obj.TheVariants as obj;
+ghost use Rattle.om_values.specs.declared.value.Val.TheVariants as value;
+ghost use Rattle.om_fork.specs.Barriers.{barrier};
+ghost use Rattle.om_fork.specs.Rows.{sync_of, team_at_end, begin_row, reached_row, is_misplaced_barrier, arrive_row, kept, departed, depart_row, region_end, left_records, left, left_row, leave_row};
+
+use crate::barrier::{is_open, name_barrier, put_kept};
+use om_values::{Blocked, Context, Edit, Kind, Stack, Store, Tail, Team, Update, Val};
+use om_program::frame::Fault;
+use om_program::instruction::Barrier;
+use om_program::raw::Slot;
+use om_events::Record;
+use om_events::kind::{Endpoint, Sync, TaskFlag};
+use om_objects::{Access, Mode, Name, Obj};
+use om_row::names::{is_misplaced, name, name_events, own_cells};
+use om_row::updates::{put_deaths, put_event};
+use om_row::{Answer, Row};
+use om_seq::{Pile, Seq};
+use std::alloc::{AllocError, Global};
+
+/// A worker that carries out an instruction, and the place in the body at which it goes on.
+#[derive(Clone, Copy)]
+pub struct Going {
+    /// The worker, from 0.
+    pub worker: u8,
+    /// The place.
+    pub to: u32,
+}
+
+/// The row that goes on with one event record.
+fn recorded(alloc: Global, to: u32, entry: Record) -> Result<Row, AllocError>
+    ensures { IfOk result (λ row. row ≡ goes to 0 None (event entry ∷ [])) }
+{
+    let mut updates = Seq::new(alloc);
+    put_event(alloc, &mut updates, entry)?;
+    Row::goes(alloc, to, 0, None, updates)
+}
+
+/// BEGIN: the begin of a member's task is recorded. The only error is out of memory.
+pub fn begin(alloc: Global, going: Going, context: &Context) -> Result<Answer, AllocError>
+    ensures { IfOk result (λ answer. answer ≡ record { names = (begin_row going.worker going.to context.now).names; row = (begin_row going.worker going.to context.now).row [] }) }
+{
+    let mut names = Seq::new(alloc);
+    name_events(&mut names, going.worker)?;
+    let begun = Record::ImplicitTask {
+        endpoint: Endpoint::Begin,
+        team: context.team.name,
+        task: context.task,
+        size: context.team.size,
+        number: context.team.number,
+        flag: TaskFlag::Implicit,
+    };
+    let row = recorded(alloc, going.to, begun)?;
+    Ok(Answer { names, row })
+}
+
+/// The kind of synchronization that a barrier is.
+fn sync_of(barrier: Barrier) -> Sync
+    ensures { result ≡ sync_of barrier }
+{
+    match barrier {
+        Barrier::Explicit => Sync::BarrierExplicit,
+        Barrier::Worksharing => Sync::BarrierWorksharing,
+        Barrier::Parallel => Sync::BarrierParallel,
+    }
+}
+
+/// The team that a barrier's end names; at the end of a parallel region it is no more.
+fn team_at_end(barrier: Barrier, team: &Name) -> Name
+    ensures { result ≡ team_at_end barrier team.now }
+{
+    match barrier {
+        Barrier::Explicit => *team,
+        Barrier::Worksharing => *team,
+        Barrier::Parallel => Name::empty(),
+    }
+}
+
+/// Whether a barrier may not be met in a context.
+fn is_misplaced_barrier(barrier: Barrier, context: &Context) -> bool
+    ensures { result ≡ is_misplaced_barrier barrier context.now }
+{
+    match barrier {
+        Barrier::Explicit => is_misplaced(context),
+        Barrier::Worksharing | Barrier::Parallel => false,
+    }
+}
+
+/// The names of a member that reaches a barrier.
+fn reached_names(alloc: Global, worker: u8, team: &Team) -> Result<Seq<Access>, AllocError>
+    ensures { IfOk result (λ names. names ≡ write (obj.Arrived team.now.name team.now.number) ∷ events worker ∷ []) }
+{
+    let reached = Obj::Arrived {
+        team: team.name,
+        number: team.number,
+    };
+    let mut names = Seq::new(alloc);
+    name(&mut names, reached, Mode::Write)?;
+    name_events(&mut names, worker)?;
+    Ok(names)
+}
+
+/// The row of a member that reaches a barrier.
+fn reached_turn(
+    alloc: Global,
+    to: u32,
+    barrier: Barrier,
+    context: &Context,
+) -> Result<Row, AllocError>
+    requires { context.now.phase + 1 < 2 ^ 64 }
+    ensures { IfOk result (λ row. row ≡ goes to 0 None (Update.Put (value.Number (context.now.phase + 1)) ∷ event (Record.SyncRegion (sync_of barrier) Endpoint.Begin context.now.team.name context.now.task) ∷ [])) }
+{
+    let mut updates = Seq::one(alloc, Update::Put(Val::Number(context.phase + 1)))?;
+    let begun = Record::SyncRegion {
+        sync: sync_of(barrier),
+        endpoint: Endpoint::Begin,
+        team: context.team.name,
+        task: context.task,
+    };
+    put_event(alloc, &mut updates, begun)?;
+    Row::goes(alloc, to, 0, None, updates)
+}
+
+/// The answer of a member that reaches a barrier.
+fn reached(
+    alloc: Global,
+    going: Going,
+    barrier: Barrier,
+    context: &Context,
+) -> Result<Answer, AllocError>
+    requires { context.now.phase + 1 < 2 ^ 64 }
+    ensures { (s : State) → IfOk result (λ answer. answer ≡ answered (reached_row going.worker going.to barrier context.now) s) }
+{
+    let names = reached_names(alloc, going.worker, &context.team)?;
+    let row = reached_turn(alloc, going.to, barrier, context)?;
+    Ok(Answer { names, row })
+}
+
+/// ARRIVE: a member reaches a barrier. The row faults where the directive `barrier` may not stand.
+/// The only error is out of memory.
+pub fn arrive(
+    alloc: Global,
+    going: Going,
+    barrier: Barrier,
+    context: &Context,
+) -> Result<Answer, AllocError>
+    requires { context.now.phase + 1 < 2 ^ 64 }
+    ensures { (s : State) → IfOk result (λ answer. answer ≡ answered (arrive_row going.worker going.to barrier context.now) s) }
+{
+    if is_misplaced_barrier(barrier, context) {
+        return Ok(Answer::decided(alloc, Row::Faults(Fault::Nesting)));
+    }
+    reached(alloc, going, barrier, context)
+}
+
+/// The names of a member at a barrier, with these cells of its own.
+#[tactic(auto, using(crate::proofs::Counting::regrouped))]
+fn barrier_names(
+    alloc: Global,
+    worker: u8,
+    context: &Context,
+    own: &[Access],
+) -> Result<Seq<Access>, AllocError>
+    ensures { IfOk result (λ names. names ≡ barrier context.now.team context.now.phase ++ (own.now ++ events worker ∷ [])) }
+{
+    let mut names = Seq::new(alloc);
+    name_barrier(&mut names, &context.team, context.phase)?;
+    names.append(Seq::of(Vec::from_slice(alloc, own)?))?;
+    name_events(&mut names, worker)?;
+    Ok(names)
+}
+
+/// The updates of a member that goes on from a barrier.
+fn departed_updates(
+    alloc: Global,
+    barrier: Barrier,
+    context: &Context,
+) -> Result<Seq<Update>, AllocError>
+    ensures { IfOk result (λ updates. updates ≡ kept context.now.team.size ++ event (Record.SyncRegion (sync_of barrier) Endpoint.End (team_at_end barrier context.now.team.name) context.now.task) ∷ []) }
+{
+    let mut updates = Seq::new(alloc);
+    put_kept(&mut updates, context.team.size)?;
+    let ended = Record::SyncRegion {
+        sync: sync_of(barrier),
+        endpoint: Endpoint::End,
+        team: team_at_end(barrier, &context.team.name),
+        task: context.task,
+    };
+    put_event(alloc, &mut updates, ended)?;
+    Ok(updates)
+}
+
+/// The row of a member at a barrier that is open or not.
+fn departed(
+    alloc: Global,
+    to: u32,
+    barrier: Barrier,
+    context: &Context,
+    opens: bool,
+) -> Result<Row, AllocError>
+    ensures { IfOk result (λ row. row ≡ departed to barrier context.now opens) }
+{
+    if !opens {
+        return Ok(Row::Blocked(Blocked::Barrier));
+    }
+    let go = Edit::Go {
+        to,
+        takes: 0,
+        pushed: None,
+    };
+    let mut edits = Seq::one(alloc, go)?;
+    edits.push(Edit::CountPhase)?;
+    let updates = departed_updates(alloc, barrier, context)?;
+    Ok(Row::Goes { edits, updates })
+}
+
+/// DEPART: a member goes on from a barrier. The row is blocked until all members have reached it and
+/// the tasks of its phase have ended. The only error is out of memory.
+#[tactic(auto, using(crate::proofs::Counting::barrier_read))]
+pub fn depart(
+    alloc: Global,
+    store: &Store,
+    going: Going,
+    barrier: Barrier,
+    context: &Context,
+) -> Result<Answer, AllocError>
+    ensures { IfOk result (λ answer. answer ≡ answered (depart_row going.worker going.to barrier context.now) (state_of store.now)) }
+{
+    let names = barrier_names(alloc, going.worker, context, &[])?;
+    let opens = is_open(alloc, store, &context.team, context.phase);
+    let row = departed(alloc, going.to, barrier, context, opens)?;
+    Ok(Answer { names, row })
+}
+
+/// Appends the end of a region, where a member of number 0 leaves it.
+fn put_region_end(
+    records: &mut Seq<Record>,
+    team: &Team,
+    below: &Pile<Context>,
+) -> Result<(), AllocError>
+    ensures { OnOk result (records.new ≡ records.old ++ region_end team.now.name team.now.number below.now) }
+{
+    if team.number > 0 {
+        return Ok(());
+    }
+    let Some(maker) = below.top() else {
+        return Ok(());
+    };
+    records.push(Record::ParallelEnd {
+        team: team.name,
+        task: maker.task,
+    })
+}
+
+/// What a member's end records.
+fn left_records(
+    alloc: Global,
+    context: &Context,
+    below: &Pile<Context>,
+) -> Result<Seq<Record>, AllocError>
+    ensures { IfOk result (λ records. records ≡ left_records context.now below.now) }
+{
+    let barrier_end = Record::SyncRegion {
+        sync: Sync::BarrierParallel,
+        endpoint: Endpoint::End,
+        team: Name::empty(),
+        task: context.task,
+    };
+    let mut records = Seq::one(alloc, barrier_end)?;
+    records.push(Record::ImplicitTask {
+        endpoint: Endpoint::End,
+        team: Name::empty(),
+        task: context.task,
+        size: 0,
+        number: context.team.number,
+        flag: TaskFlag::Implicit,
+    })?;
+    put_region_end(&mut records, &context.team, below)?;
+    Ok(records)
+}
+
+/// The updates of a member whose task ends.
+fn left_updates(
+    alloc: Global,
+    context: &Context,
+    below: &Pile<Context>,
+    own: &[Access],
+) -> Result<Seq<Update>, AllocError>
+    ensures { IfOk result (λ updates. updates ≡ kept context.now.team.size ++ (deaths own.now ++ Update.Append (Tail.Events (left_records context.now below.now)) ∷ [])) }
+{
+    let mut updates = Seq::new(alloc);
+    put_kept(&mut updates, context.team.size)?;
+    put_deaths(&mut updates, own)?;
+    let records = left_records(alloc, context, below)?;
+    updates.push(Update::Append(Tail::Events(records)))?;
+    Ok(updates)
+}
+
+/// The row of a member at the end of its region, whose barrier is open or not.
+fn left(
+    alloc: Global,
+    context: &Context,
+    below: &Pile<Context>,
+    own: &[Access],
+    opens: bool,
+) -> Result<Row, AllocError>
+    ensures { IfOk result (λ row. row ≡ left context.now below.now own.now opens) }
+{
+    if !opens {
+        return Ok(Row::Blocked(Blocked::Barrier));
+    }
+    let edits = Seq::one(alloc, Edit::EndContext)?;
+    let updates = left_updates(alloc, context, below, own)?;
+    Ok(Row::Goes { edits, updates })
+}
+
+/// The answer of a member whose task can end.
+#[tactic(auto, using(crate::proofs::Counting::barrier_read))]
+fn left_answer(
+    alloc: Global,
+    store: &Store,
+    worker: u8,
+    stack: &Stack,
+    own: &[Access],
+) -> Result<Answer, AllocError>
+    ensures { IfOk result (λ answer. answer ≡ answered (left_row worker stack.now.top stack.now.below own.now) (state_of store.now)) }
+{
+    let context = &stack.top;
+    let names = barrier_names(alloc, worker, context, own)?;
+    let opens = is_open(alloc, store, &context.team, context.phase);
+    let row = left(alloc, context, &stack.below, own, opens)?;
+    Ok(Answer { names, row })
+}
+
+/// LEAVE: a member goes on from the barrier of its region, and its task ends.
+///
+/// The slots are those of the body that runs. The row is blocked as at DEPART, and lacks what it
+/// needs where no implicit task runs, or number 0 has no context to go back to. The only error is
+/// out of memory.
+pub fn leave(
+    alloc: Global,
+    store: &Store,
+    worker: u8,
+    stack: &Stack,
+    slots: &[Slot],
+) -> Result<Answer, AllocError>
+    requires { length slots.now ≤ 2 ^ 32 }
+    ensures { IfOk result (λ answer. answer ≡ answered (leave_row worker stack.now.top stack.now.below slots.now stack.now.top.kind stack.now.top.team.number) (state_of store.now)) }
+{
+    match stack.top.kind {
+        Kind::Initial | Kind::Explicit => return Ok(Answer::decided(alloc, Row::Lacks)),
+        Kind::Implicit => {}
+    }
+    if stack.below.is_empty() && stack.top.team.number == 0 {
+        return Ok(Answer::decided(alloc, Row::Lacks));
+    }
+    let own = own_cells(alloc, &stack.top, slots)?;
+    left_answer(alloc, store, worker, stack, own.as_slice())
+}

@@ -1,0 +1,3 @@
+mod Partition
+mod Tables
+mod Values

@@ -1,0 +1,117 @@
+//! Critical regions and their locks.
+
+ghost use Rattle.std.specs.Prelude.{◌≡◌, IfOk};
+ghost use Rattle.om_values.specs.State.{State};
+ghost use Rattle.om_values.specs.Stores.{state_of};
+ghost use Rattle.om_row.specs.Objects.{innermost};
+ghost use Rattle.om_row.specs.Rows.{answered};
+ghost use Rattle.om_share.specs.Rows.{ask_critical_row, lock_row, enter_critical_row, is_critical, unlock_row, leave_critical_row};
+
+use crate::parts::{At, edits, recorded, update_and_event, written_and_events};
+use om_values::{Blocked, Construct, Context, Edit, Store, Update, Val};
+use om_events::Record;
+use om_objects::Obj;
+use om_row::names::innermost;
+use om_row::{Answer, Row};
+use om_seq::Seq;
+use std::alloc::{AllocError, Global};
+
+/// The name of a lock, for a record.
+fn copied(alloc: Global, name: &[u8]) -> Result<Seq<u8>, AllocError>
+    ensures { IfOk result (λ copy. copy ≡ name.now) }
+{
+    Ok(Seq::of(Vec::from_slice(alloc, name)?))
+}
+
+/// CRACQ: asks for a lock.
+pub fn ask_critical(alloc: Global, at: At, name: &[u8]) -> Result<Answer, AllocError>
+    ensures { (s : State) → IfOk result (λ answer. answer ≡ answered (ask_critical_row at.worker at.to name.now) s) }
+{
+    let lock = copied(alloc, name)?;
+    let go = Edit::Go {
+        to: at.to,
+        takes: 0,
+        pushed: None,
+    };
+    let edits = Seq::one(alloc, go)?;
+    recorded(alloc, at.worker, edits, Record::MutexAcquire { lock })
+}
+
+/// The row of a thread that takes a lock, unless a worker holds it.
+fn lock(
+    alloc: Global,
+    at: At,
+    number: u32,
+    name: &[u8],
+    holder: Option<u8>,
+) -> Result<Row, AllocError>
+    ensures { IfOk result (λ row. row ≡ lock_row at.worker at.to number name.now holder) }
+{
+    if let Some(holder) = holder {
+        return Ok(Row::Blocked(Blocked::Critical(holder)));
+    }
+    let lock = copied(alloc, name)?;
+    let put = Update::Put(Val::Lock(Some(at.worker)));
+    let updates = update_and_event(alloc, put, Record::MutexAcquired { lock })?;
+    let region = Edit::Open(Construct::Critical(number));
+    let edits = edits(alloc, at.to, 0, region)?;
+    Ok(Row::Goes { edits, updates })
+}
+
+/// CRIN: takes a lock, where no worker holds it.
+pub fn enter_critical(
+    alloc: Global,
+    store: &Store,
+    at: At,
+    number: u32,
+    name: &[u8],
+) -> Result<Answer, AllocError>
+    ensures { IfOk result (λ answer. answer ≡ answered (enter_critical_row at.worker at.to number name.now) (state_of store.now)) }
+{
+    let names = written_and_events(alloc, &Obj::Lock(number), at.worker)?;
+    let row = lock(alloc, at, number, name, store.holder(number))?;
+    Ok(Answer { names, row })
+}
+
+/// Whether the innermost region is critical with this lock.
+fn is_critical(context: &Context, number: u32) -> bool
+    ensures { result ≡ is_critical number (innermost context.now.constructs) }
+{
+    let Some(region) = innermost(context) else {
+        return false;
+    };
+    match &region {
+        Construct::Critical(held) => *held == number,
+        Construct::Share(_) | Construct::Single { .. } => false,
+        Construct::Masked | Construct::Group(_) => false,
+    }
+}
+
+/// The row of a thread that gives a lock back.
+fn unlock(alloc: Global, to: u32, name: &[u8]) -> Result<Row, AllocError>
+    ensures { IfOk result (λ row. row ≡ unlock_row to name.now) }
+{
+    let lock = copied(alloc, name)?;
+    let put = Update::Put(Val::Lock(None));
+    let updates = update_and_event(alloc, put, Record::MutexReleased { lock })?;
+    let edits = edits(alloc, to, 0, Edit::Close)?;
+    Ok(Row::Goes { edits, updates })
+}
+
+/// CROUT: gives a lock back.
+pub fn leave_critical(
+    alloc: Global,
+    context: &Context,
+    at: At,
+    number: u32,
+    name: &[u8],
+) -> Result<Answer, AllocError>
+    ensures { (s : State) → IfOk result (λ answer. answer ≡ answered (leave_critical_row at.worker at.to number name.now (innermost context.now.constructs)) s) }
+{
+    if !is_critical(context, number) {
+        return Ok(Answer::decided(alloc, Row::Lacks));
+    }
+    let names = written_and_events(alloc, &Obj::Lock(number), at.worker)?;
+    let row = unlock(alloc, at.to, name)?;
+    Ok(Answer { names, row })
+}

@@ -1,0 +1,20 @@
+//! The rows of worksharing, masked and critical regions, and how iterations are shared out.
+//!
+//! A row is a function that answers what an instruction names and what comes of it. Its only error is
+//! out of memory, and it changes nothing.
+#![tactic(auto)]
+
+mod chunk;
+mod critical;
+pub mod laws;
+mod masking;
+mod parts;
+mod shares;
+mod singles;
+
+pub use chunk::Chunk;
+pub use critical::{ask_critical, enter_critical, leave_critical};
+pub use masking::{end_masked, masked};
+pub use parts::{At, Branch};
+pub use shares::{Bounds, grab, iterate, open_loop, open_sections, pick};
+pub use singles::{end_worksharing, single};

@@ -1,0 +1,96 @@
+//! Masked regions.
+
+ghost use Rattle.std.specs.Prelude.{◌≡◌, pos, IfOk};
+ghost use Rattle.std.specs.Ordering.{int_eq};
+ghost use Rattle.om_values.specs.State.{State};
+ghost use Rattle.om_row.specs.Objects.{innermost};
+ghost use Rattle.om_row.specs.Rows.{answered};
+ghost use Rattle.om_share.specs.Rows.{filtered_row, masked_row, is_masked, end_masked_row};
+
+use crate::parts::{At, Branch, edits, jump, own_events, recorded};
+use om_values::{Construct, Context, Edit};
+use om_events::{Endpoint, Record};
+use om_row::names::innermost;
+use om_row::{Answer, Row};
+use std::alloc::{AllocError, Global};
+
+/// The record that a masked region begins or ends.
+fn masked_record(context: &Context, endpoint: Endpoint) -> Record
+    ensures { result ≡ Record.Masked endpoint context.now.team.name context.now.task }
+{
+    Record::Masked {
+        endpoint,
+        team: context.team.name,
+        task: context.task,
+    }
+}
+
+/// The row of a thread that comes to a masked region, of the filter or not.
+fn filter(
+    alloc: Global,
+    context: &Context,
+    worker: u8,
+    branch: Branch,
+    runs: bool,
+) -> Result<Answer, AllocError>
+    ensures { (s : State) → IfOk result (λ answer. answer ≡ answered (filtered_row worker branch.to branch.otherwise context.now runs) s) }
+{
+    if runs {
+        let edits = edits(alloc, branch.to, 1, Edit::Open(Construct::Masked))?;
+        let entry = masked_record(context, Endpoint::Begin);
+        return recorded(alloc, worker, edits, entry);
+    }
+    let names = own_events(alloc, worker)?;
+    let row = jump(alloc, branch.otherwise, 1)?;
+    Ok(Answer { names, row })
+}
+
+/// Whether a number is the number of a thread.
+fn is_thread(number: i32, thread: u8) -> bool
+    ensures { result ≡ int_eq number (pos thread) }
+{
+    number == i32::from(thread)
+}
+
+/// MASKED: takes a thread number, and opens the region for that thread; the others go to the target.
+pub fn masked(
+    alloc: Global,
+    context: &Context,
+    worker: u8,
+    branch: Branch,
+    number: Option<i32>,
+) -> Result<Answer, AllocError>
+    ensures { (s : State) → IfOk result (λ answer. answer ≡ answered (masked_row worker branch.to branch.otherwise context.now number) s) }
+{
+    let Some(number) = number else {
+        return Ok(Answer::decided(alloc, Row::Lacks));
+    };
+    let runs = is_thread(number, context.team.number);
+    filter(alloc, context, worker, branch, runs)
+}
+
+/// Whether the innermost region is masked.
+fn is_masked(context: &Context) -> bool
+    ensures { result ≡ is_masked (innermost context.now.constructs) }
+{
+    let Some(region) = innermost(context) else {
+        return false;
+    };
+    match &region {
+        Construct::Masked => true,
+        Construct::Share(_) | Construct::Single { .. } => false,
+        Construct::Critical(_) | Construct::Group(_) => false,
+    }
+}
+
+/// ENDM: closes a masked region.
+pub fn end_masked(alloc: Global, context: &Context, at: At) -> Result<Answer, AllocError>
+    ensures { (s : State) → IfOk result (λ answer. answer ≡ answered (end_masked_row at.worker at.to context.now (innermost context.now.constructs)) s) }
+{
+    if !is_masked(context) {
+        return Ok(Answer::decided(alloc, Row::Lacks));
+    }
+    let edits = edits(alloc, at.to, 0, Edit::Close)?;
+    let entry = masked_record(context, Endpoint::End);
+    recorded(alloc, at.worker, edits, entry)
+}

@@ -1,0 +1,124 @@
+//! Single regions, and the end of each worksharing region.
+
+ghost use Rattle.std.specs.Prelude.{◌≡◌, ◌<◌, ◌+◌, ◌^◌, true, false, IfOk};
+ghost use Rattle.om_values.specs.State.{State};
+ghost use Rattle.om_values.specs.Stores.{state_of};
+ghost use Rattle.om_row.specs.Objects.{innermost};
+ghost use Rattle.om_row.specs.Rows.{answered};
+ghost use Rattle.om_share.specs.Rows.{single_work, chosen_row, single_row, closed_row, end_worksharing_row};
+
+use crate::parts::{
+    At, Branch, begun, edits, recorded, update_and_event, work_record, written_and_events,
+};
+use crate::shares::work_of;
+use om_values::{Construct, Context, Edit, Store, Update, Val};
+use om_program::frame::Fault;
+use om_events::{Endpoint, Work};
+use om_objects::Obj;
+use om_row::names::{innermost, is_misplaced};
+use om_row::{Answer, Row};
+use std::alloc::{AllocError, Global};
+
+/// The kind of a single region in its records, for the thread that runs it and for any other.
+fn single_work(runs: bool) -> Work
+    ensures { result ≡ single_work runs }
+{
+    if runs {
+        Work::SingleExecutor
+    } else {
+        Work::SingleOther
+    }
+}
+
+/// The row of the thread that runs a single region.
+fn run(alloc: Global, context: &Context, to: u32) -> Result<Row, AllocError>
+    ensures { IfOk result (λ row. row ≡ chosen_row to to context.now true) }
+{
+    let region = &Construct::Single { runs: true };
+    let edits = begun(alloc, to, 0, region)?;
+    let entry = work_record(context, single_work(true), Endpoint::Begin, 1);
+    let updates = update_and_event(alloc, Update::Put(Val::Number(1)), entry)?;
+    Ok(Row::Goes { edits, updates })
+}
+
+/// The row of any other thread.
+fn pass(alloc: Global, context: &Context, otherwise: u32) -> Result<Row, AllocError>
+    ensures { IfOk result (λ row. row ≡ chosen_row otherwise otherwise context.now false) }
+{
+    let region = &Construct::Single { runs: false };
+    let edits = begun(alloc, otherwise, 0, region)?;
+    let entry = work_record(context, single_work(false), Endpoint::Begin, 1);
+    let updates = update_and_event(alloc, Update::Keep, entry)?;
+    Ok(Row::Goes { edits, updates })
+}
+
+/// The row of a thread that comes to a single region, first or not.
+fn choose(
+    alloc: Global,
+    context: &Context,
+    branch: Branch,
+    is_first: bool,
+) -> Result<Row, AllocError>
+    ensures { IfOk result (λ row. row ≡ chosen_row branch.to branch.otherwise context.now is_first) }
+{
+    if is_first {
+        run(alloc, context, branch.to)
+    } else {
+        pass(alloc, context, branch.otherwise)
+    }
+}
+
+/// SINGLE: opens the region; the first thread runs it, and the others go to the target.
+pub fn single(
+    alloc: Global,
+    store: &Store,
+    context: &Context,
+    worker: u8,
+    branch: Branch,
+) -> Result<Answer, AllocError>
+    requires { context.now.regions + 1 < 2 ^ 64 }
+    ensures { IfOk result (λ answer. answer ≡ answered (single_row worker branch.to branch.otherwise context.now) (state_of store.now)) }
+{
+    if is_misplaced(context) {
+        return Ok(Answer::decided(alloc, Row::Faults(Fault::Nesting)));
+    }
+    let work = &Obj::Work {
+        team: context.team.name,
+        region: context.regions + 1,
+    };
+    let is_first = store.number(alloc, work) == 0;
+    let names = written_and_events(alloc, work, worker)?;
+    let row = choose(alloc, context, branch, is_first)?;
+    Ok(Answer { names, row })
+}
+
+/// Closes a worksharing region of this kind and so many iterations.
+fn close(
+    alloc: Global,
+    context: &Context,
+    at: At,
+    work: Work,
+    count: u64,
+) -> Result<Answer, AllocError>
+    ensures { (s : State) → IfOk result (λ answer. answer ≡ answered (closed_row at.worker at.to context.now work count) s) }
+{
+    let edits = edits(alloc, at.to, 0, Edit::Close)?;
+    let entry = work_record(context, work, Endpoint::End, count);
+    recorded(alloc, at.worker, edits, entry)
+}
+
+/// ENDW: closes a worksharing region.
+pub fn end_worksharing(alloc: Global, context: &Context, at: At) -> Result<Answer, AllocError>
+    ensures { (s : State) → IfOk result (λ answer. answer ≡ answered (end_worksharing_row at.worker at.to context.now (innermost context.now.constructs)) s) }
+{
+    let Some(region) = innermost(context) else {
+        return Ok(Answer::decided(alloc, Row::Lacks));
+    };
+    match &region {
+        Construct::Share(share) => close(alloc, context, at, work_of(share.sharing), share.count),
+        Construct::Single { runs } => close(alloc, context, at, single_work(*runs), 1),
+        Construct::Masked | Construct::Critical(_) | Construct::Group(_) => {
+            Ok(Answer::decided(alloc, Row::Lacks))
+        }
+    }
+}

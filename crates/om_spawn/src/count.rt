@@ -1,0 +1,74 @@
+//! The counts of unfinished tasks.
+
+ghost use Rattle.std.specs.Prelude.{◌≡◌, ◌++◌, ◌∷◌, [], OnOk};
+ghost use Rattle.om_objects.specs.declared.object.Obj.TheVariants as obj;
+ghost use Rattle.om_values.specs.Values.{count_in};
+ghost use Rattle.om_values.specs.Stores.{state_of};
+ghost use Rattle.om_row.specs.Objects.{add};
+ghost use Rattle.om_spawn.specs.Tasks.{is_zero, group_count, counts, additions};
+
+use om_values::{Context, Store, Update};
+use om_objects::{Access, Mode, Name, Obj};
+use om_row::names::name;
+use om_seq::Seq;
+use std::alloc::{AllocError, Global};
+
+/// The count that an object holds, or 0.
+#[tactic(auto, using(crate::proofs::Counts::count_is))]
+fn count_at(alloc: Global, store: &Store, object: &Obj) -> i128
+    ensures { result ≡ count_in (state_of store.now object.now) }
+{
+    store.count(alloc, object).unwrap_or(0)
+}
+
+/// Whether the count that an object holds is 0.
+pub(crate) fn is_zero(alloc: Global, store: &Store, object: &Obj) -> bool
+    ensures { result ≡ is_zero (count_in (state_of store.now object.now)) }
+{
+    count_at(alloc, store, object) == 0
+}
+
+/// Appends the count of a task group, where there is a group.
+fn name_group(names: &mut Seq<Access>, group: &Option<Name>) -> Result<(), AllocError>
+    ensures { OnOk result (names.new ≡ names.old ++ group_count group.now) }
+{
+    match group {
+        Some(group) => name(names, Obj::Group(*group), Mode::Add),
+        None => Ok(()),
+    }
+}
+
+/// Appends the counts in which a context's phase has a task of this parent and group, as what is
+/// added to.
+pub(crate) fn name_counts(
+    names: &mut Seq<Access>,
+    parent: &Name,
+    context: &Context,
+    group: &Option<Name>,
+) -> Result<(), AllocError>
+    ensures { OnOk result (names.new ≡ names.old ++ counts parent.now context.now group.now) }
+{
+    let pending = Obj::Pending {
+        team: context.team.name,
+        phase: context.phase,
+    };
+    name(names, Obj::Kids(*parent), Mode::Add)?;
+    name(names, pending, Mode::Add)?;
+    name_group(names, group)
+}
+
+/// Appends the additions to the counts in which a task of this group stands.
+pub(crate) fn add_to_counts(
+    updates: &mut Seq<Update>,
+    number: i128,
+    group: &Option<Name>,
+) -> Result<(), AllocError>
+    ensures { OnOk result (updates.new ≡ updates.old ++ additions number group.now) }
+{
+    updates.push(Update::Add(number))?;
+    updates.push(Update::Add(number))?;
+    match group {
+        Some(_) => updates.push(Update::Add(number)),
+        None => Ok(()),
+    }
+}

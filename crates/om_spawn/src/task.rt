@@ -1,0 +1,232 @@
+//! The rows that make and end explicit tasks.
+
+ghost use Rattle.std.specs.Prelude.{◌≡◌, ◌∷◌, [], ◌+◌, ◌<◌, ◌≤◌, ◌^◌, ◌++◌, IfOk, OnOk, length};
+ghost use Rattle.om_values.specs.State.{State};
+ghost use Rattle.om_values.specs.declared.value.Task.TheVariants as task;
+ghost use Rattle.om_values.specs.declared.value.Val.TheVariants as value;
+ghost use Rattle.om_row.specs.Rows.{answered};
+ghost use Rattle.om_spawn.specs.Tasks.{born, ready_of};
+ghost use Rattle.om_spawn.specs.Rows.{made_names, values_given, made_row, spawn_row, ended_names, ended_updates, task_end_row, task_yield_row};
+
+use crate::count::{add_to_counts, name_counts};
+use crate::part::{go_and, name_one};
+use om_values::{Context, Edit, Kind, Ready, Stack, Task, Update, Val};
+use om_program::frame::Fault;
+use om_program::print::ints_on;
+use om_program::raw::{Body, Slot};
+use om_events::{Record, TaskStatus};
+use om_objects::{Access, Mode, Name, Obj};
+use om_row::names::{group_of, homes_in, name_events, name_given, own_cells};
+use om_row::updates::{put_deaths, put_event, put_ints};
+use om_row::{Answer, Launch, Row};
+use om_seq::Seq;
+use std::alloc::{AllocError, Global};
+
+/// How a task is made.
+#[derive(Clone, Copy)]
+pub struct Making {
+    /// The worker that makes it, from 0.
+    pub worker: u8,
+    /// The line of its directive, from 1.
+    pub line: u32,
+    /// Its body, and how the worker goes on.
+    pub launch: Launch,
+}
+
+/// What the making of a task names.
+fn made_names(
+    alloc: Global,
+    worker: u8,
+    body: &Body,
+    context: &Context,
+    new: &Name,
+) -> Result<Seq<Access>, AllocError>
+    ensures { IfOk result (λ names. names ≡ made_names worker body.now context.now new.now) }
+{
+    let mut names = name_one(alloc, &Obj::Task(*new), Mode::Write)?;
+    name_given(&mut names, new, 0, body.given.as_slice())?;
+    name_counts(&mut names, &context.task, context, &group_of(context))?;
+    name_events(&mut names, worker)?;
+    Ok(names)
+}
+
+/// What a task that is made waits with.
+fn ready_of(
+    alloc: Global,
+    making: &Making,
+    body: &Body,
+    context: &Context,
+) -> Result<Ready, AllocError>
+    ensures { IfOk result (λ ready. ready ≡ ready_of making.now body.now context.now) }
+{
+    let homes = homes_in(alloc, context, body.slots.as_slice())?;
+    Ok(Ready {
+        body: making.launch.body,
+        line: making.line,
+        homes,
+        team: context.team.name,
+        phase: context.phase,
+        group: group_of(context),
+    })
+}
+
+/// Appends that the values of a task go to its cells, that its counts have one more, and its event.
+fn give_values(
+    alloc: Global,
+    updates: &mut Seq<Update>,
+    context: &Context,
+    new: &Name,
+    values: &[i32],
+) -> Result<(), AllocError>
+    ensures { OnOk result (updates.new ≡ updates.old ++ values_given context.now new.now values.now) }
+{
+    let entry = Record::TaskCreate {
+        task: context.task,
+        new: *new,
+    };
+    put_ints(updates, values)?;
+    add_to_counts(updates, 1, &group_of(context))?;
+    put_event(alloc, updates, entry)
+}
+
+/// A task that is ready, as what is put.
+fn put_ready(
+    alloc: Global,
+    making: &Making,
+    body: &Body,
+    context: &Context,
+) -> Result<Seq<Update>, AllocError>
+    ensures { IfOk result (λ updates. updates ≡ Update.Put (value.Task (task.Ready (ready_of making.now body.now context.now))) ∷ []) }
+{
+    let ready = ready_of(alloc, making, body, context)?;
+    Seq::one(alloc, Update::Put(Val::Task(Task::Ready(ready))))
+}
+
+/// The answer where a task is made with these values.
+fn made(
+    alloc: Global,
+    making: &Making,
+    body: &Body,
+    context: &Context,
+    values: &[i32],
+) -> Result<Answer, AllocError>
+    requires { context.now.births + 1 < 2 ^ 64 }
+    ensures { IfOk result (λ answer. (s : State) → answer ≡ answered (made_row making.now body.now context.now values.now (born context.now)) s) }
+{
+    let Some(new) = &context.task.child(context.births + 1) else {
+        return Ok(Answer::decided(alloc, Row::Faults(Fault::Name)));
+    };
+    let names = made_names(alloc, making.worker, body, context, new)?;
+    let mut updates = put_ready(alloc, making, body, context)?;
+    give_values(alloc, &mut updates, context, new, values)?;
+    let edits = go_and(
+        alloc,
+        making.launch.to,
+        making.launch.takes,
+        Edit::CountBirth,
+    )?;
+    let row = Row::Goes { edits, updates };
+    Ok(Answer { names, row })
+}
+
+/// SPAWN: a task is made of a body, which is that of the launch, with firstprivate values.
+///
+/// These are the operands that the launch takes. The only error is out of memory.
+pub fn spawn(
+    alloc: Global,
+    making: &Making,
+    body: &Body,
+    context: &Context,
+) -> Result<Answer, AllocError>
+    requires { context.now.births + 1 < 2 ^ 64 }
+    ensures { IfOk result (λ answer. (s : State) → answer ≡ answered (spawn_row making.now body.now context.now) s) }
+{
+    let operands = &context.frame.operands;
+    match ints_on(alloc, making.launch.takes as usize, operands)? {
+        Some(values) => made(alloc, making, body, context, values.as_slice()),
+        None => Ok(Answer::decided(alloc, Row::Lacks)),
+    }
+}
+
+/// What the end of a task of this parent names, its frame's own cells among them.
+fn ended_names(
+    alloc: Global,
+    worker: u8,
+    context: &Context,
+    own: Seq<Access>,
+    parent: &Name,
+) -> Result<Seq<Access>, AllocError>
+    ensures { IfOk result (λ names. names ≡ ended_names worker context.now own parent.now) }
+{
+    let mut names = name_one(alloc, &Obj::Task(context.task), Mode::Write)?;
+    names.append(own)?;
+    name_counts(&mut names, parent, context, &context.group)?;
+    name_events(&mut names, worker)?;
+    Ok(names)
+}
+
+/// What the end of a task puts and adds.
+fn ended_updates(
+    alloc: Global,
+    context: &Context,
+    own: &[Access],
+    next: &Name,
+) -> Result<Seq<Update>, AllocError>
+    ensures { IfOk result (λ updates. updates ≡ ended_updates context.now own.now next.now) }
+{
+    let entry = Record::TaskSchedule {
+        prior: context.task,
+        status: TaskStatus::Complete,
+        next: *next,
+    };
+    let mut updates = Seq::one(alloc, Update::Put(Val::Task(Task::Done)))?;
+    put_deaths(&mut updates, own)?;
+    add_to_counts(&mut updates, -1, &context.group)?;
+    put_event(alloc, &mut updates, entry)?;
+    Ok(updates)
+}
+
+/// The row of the end of a task.
+fn ended(alloc: Global, context: &Context, own: &[Access], next: &Name) -> Result<Row, AllocError>
+    ensures { IfOk result (λ row. row ≡ Row.Goes (Edit.EndContext ∷ []) (ended_updates context.now own.now next.now)) }
+{
+    let updates = ended_updates(alloc, context, own, next)?;
+    let edits = Seq::one(alloc, Edit::EndContext)?;
+    Ok(Row::Goes { edits, updates })
+}
+
+/// TEND: an explicit task ends, its frame's own cells with it, and the context below runs on.
+///
+/// The slots are those of the frame's body. The only error is out of memory.
+pub fn task_end(
+    alloc: Global,
+    worker: u8,
+    stack: &Stack,
+    slots: &[Slot],
+) -> Result<Answer, AllocError>
+    requires { length slots.now ≤ 2 ^ 32 }
+    ensures { IfOk result (λ answer. (s : State) → answer ≡ answered (task_end_row worker stack.now slots.now) s) }
+{
+    let context = &stack.top;
+    let (Kind::Explicit, Some(parent), Some(next)) = (
+        context.kind,
+        &context.task.parent(),
+        stack.below.top(),
+    ) else {
+        return Ok(Answer::decided(alloc, Row::Lacks));
+    };
+    let own = own_cells(alloc, context, slots)?;
+    let row = ended(alloc, context, own.as_slice(), &next.task)?;
+    let names = ended_names(alloc, worker, context, own, parent)?;
+    Ok(Answer { names, row })
+}
+
+/// YIELD: a task goes on to a place, and might have started another task.
+///
+/// The only error is out of memory.
+pub fn task_yield(alloc: Global, to: u32) -> Result<Answer, AllocError>
+    ensures { IfOk result (λ answer. (s : State) → answer ≡ answered (task_yield_row to) s) }
+{
+    let row = Row::goes(alloc, to, 0, None, Seq::new(alloc))?;
+    Ok(Answer::decided(alloc, row))
+}

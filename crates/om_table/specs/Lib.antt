@@ -1,0 +1,4 @@
+pub mod Sites
+pub mod Table
+pub mod Rules
+pub mod Ready
