@@ -174,17 +174,18 @@ fn prototype_after(
 #[tactic(auto, unfolding(crate::specs::UnitReading::function_after))]
 fn function_after(
     alloc: Global,
-    head: FunctionHead,
+    head: Box<FunctionHead>,
     tokens: &[Token],
 ) -> Result<(Item, &[Token]), SourceFault>
-    ensures { Reads (λ x. (view_item x.0, x.1.now)) result (function_after accepted (view_head head) tokens.now) }
+    ensures { Reads (λ x. (view_item x.0, x.1.now)) result (function_after accepted (view_head head.value) tokens.now) }
 {
     if let Some((semicolon, rest)) = take_mark(tokens, Punctuator::Semicolon) {
-        return Ok((Item::Prototype(head, semicolon), rest));
+        return Ok((Item::Prototype(Box::into_inner(head), semicolon), rest));
     }
     if !are_named(&head.parameters) {
         return Err(syntax(tokens));
     }
     let (body, rest) = block(alloc, tokens)?;
+    let head = Box::into_inner(head);
     Ok((Item::Function(Function { head, body }), rest))
 }
