@@ -1,14 +1,21 @@
 -- Where a directive or the statement behind it is refused by another code than that of syntax.
 use Rattle.std.proofs.Common.{◌≡◌, ℕ, suc, List, [], ◌∷◌, ◌++◌, Bool, true, false, not, ◌||◌, cond, Err, refl, sym, ap, ◌∙◌, inl, inr}
+use Rattle.std.specs.Prelude.{codes}
 use Rattle.std.proofs.lemmas.List.{append-nil}
 use Rattle.om_lexer.specs.declared.fault.SourceFault.{SourceFault}
 use Rattle.om_lexer.specs.declared.token.Punctuator.TheVariants as punctuators
 use Rattle.om_lexer.specs.declared.token.Span.{Span}
 use Rattle.om_lexer.specs.declared.token.Token.{Token}
+use Rattle.om_lexer.specs.declared.token.TokenKind.{TokenKind}
+use Rattle.om_lexer.specs.declared.token.TokenKind.TheVariants as kinds
 use Rattle.om_pragma.specs.declared.tree.Directive.{Directive}
 use Rattle.om_pragma.specs.declared.tree.DirectiveName.{DirectiveName}
+use Rattle.om_pragma.specs.declared.tree.DirectiveName.TheVariants as directives
+use Rattle.om_pragma.specs.declared.kind.DirectiveKind.TheVariants as words
 use Rattle.om_pragma.specs.Questions.{is_stand_alone, is_section, is_sections, is_atomic, atomic_kind}
-use Rattle.om_pragma.specs.Spelling.{directive_spelling}
+use Rattle.om_pragma.specs.Spelling.{opening_spelling, name_spelling, directive_spelling}
+use Rattle.om_pragma.specs.Table.{EachBehind, IsDirective}
+use Rattle.om_pragma.specs.Words.{directive_word}
 use Rattle.om_parser.specs.declared.construct.LineStart.{LineStart}
 use Rattle.om_parser.specs.declared.construct.LineStart.TheVariants as lines
 use Rattle.om_parser.specs.AtomicForms.{has_atomic_form}
@@ -16,15 +23,15 @@ use Rattle.om_parser.specs.ConstructReading.{LineReader, PartsReader, line_start
 use Rattle.om_parser.specs.Faults.{IsStopped}
 use Rattle.om_parser.specs.Formed.{IsLine, IsConstruct, IsStatement, IsBody, IsSectionItem, AreSome, AreSectionItems}
 use Rattle.om_parser.specs.Limits.{Limits}
-use Rattle.om_parser.specs.LineFaults.{IsLineFault}
 use Rattle.om_parser.specs.Places.{Place, Behind, Either, AtDepth, AtBrace, IsOverInside, IsOverInItems, IsOverInStatement}
 use Rattle.om_parser.specs.Reading.{Reader}
-use Rattle.om_parser.specs.Spelling.{mark, expression_spelling, statement_spelling}
-use Rattle.om_parser.specs.Tree.{ExpressionTree, StatementTree, StatementsTree, Construct, Sections, Section}
+use Rattle.om_parser.specs.Spelling.{token, mark, expression_spelling, statement_spelling}
+use Rattle.om_parser.specs.Tree.{ExpressionTree, StatementTree, StatementsTree, Empty, Construct, Sections, Section}
 use Rattle.om_parser.proofs.Outcomes.{ok, bind_err, after_front}
 use Rattle.om_parser.proofs.LineStarts.{start_of_directive, line_start_is}
 use Rattle.om_parser.proofs.ExpressionCut.{err_is}
 use Rattle.om_parser.proofs.ItemsSound.{IsSound}
+use Rattle.om_parser.proofs.LineCut.{IsFirstLineFault}
 use Rattle.om_parser.proofs.LineSound.{IsWholeLine}
 use Rattle.om_parser.proofs.StatementSound.{IsStatementSound, body_is_part, braces_spelling}
 use Rattle.om_parser.proofs.Stopped.{Stops, syntax_plain, within_larger}
@@ -33,9 +40,9 @@ use Rattle.om_parser.proofs.Stopped.{Stops, syntax_plain, within_larger}
 abbrev pub IsPart : StatementTree → Type 0
 IsPart s = IsStatement s × IsBody s
 
--- the reader of lines stops so
+-- the reader of lines stops so at a line
 abbrev pub IsLineCut : Limits → LineReader → Type 0
-IsLineCut l r = (ts : List Token) (f : SourceFault) → r ts ≡ Err f → Stops f → IsLineFault l ts f
+IsLineCut l r = (hash : Span) (us : List Token) (f : SourceFault) → r (token kinds.DirectiveBegin hash ∷ us) ≡ Err f → Stops f → IsFirstLineFault l (token kinds.DirectiveBegin hash ∷ us) f
 
 -- a statement stops so, where so many statements and blocks stand round it
 abbrev pub IsStatementStopped : Limits → (depth nested : ℕ) → List Token → SourceFault → Type 0
@@ -82,35 +89,95 @@ no_form false has x bad f e = absurd cc
 no_form true true x bad f e = absurd cc
 no_form true false x bad f e = (refl, err_is bad f e)
 
+-- ---- a line that stands first
+
+-- a line that is surely well-formed
+abbrev pub any_line : Span → Directive ExpressionTree
+any_line at = record { hash = at; pragma = at; omp = at; name = directives.Parallel at; clauses = []; end = at }
+
+pub any_line_formed : (at : Span) → IsLine (any_line at)
+unfolding IsDirective EachBehind
+any_line_formed at = tt
+
+abbrev pub any_line_rest : Span → List Token
+any_line_rest at = token (kinds.Name (codes "pragma")) at ∷ token (kinds.Name (codes "omp")) at ∷ token (directive_word words.Parallel) at ∷ token kinds.DirectiveEnd at ∷ []
+
+pub any_line_spelled : (at : Span) → directive_spelling expression_spelling (any_line at) ≡ token kinds.DirectiveBegin at ∷ any_line_rest at
+unfolding directive_spelling opening_spelling name_spelling
+any_line_spelled at = refl
+
+-- a construct that is surely well-formed
+abbrev any_construct : Span → StatementTree
+any_construct at = Construct (any_line at) (Empty at)
+
+any_construct_part : (at : Span) → IsPart (any_construct at)
+unfolding IsStatement
+any_construct_part at = ((any_line_formed at, (refl, refl, refl), tt, tt), tt)
+
+any_construct_spelled : (at : Span) → statement_spelling (any_construct at) ≡ token kinds.DirectiveBegin at ∷ (any_line_rest at ++ mark punctuators.Semicolon at ∷ [])
+unfolding statement_spelling
+any_construct_spelled at = ap (λ (w : List Token). w ++ mark punctuators.Semicolon at ∷ []) (any_line_spelled at)
+
+-- a line with a word behind its `#`, or none, begins with the `#`
+line_begins : (ts : List Token) → (line_start ts ≡ lines.Nothing → ⊥) → (hash : Span) × (us : List Token) × (ts ≡ token kinds.DirectiveBegin hash ∷ us)
+line_begins [] some = absurd (some refl)
+line_begins (t ∷ ts) some = go t.kind some
+  where
+    go : (k : TokenKind) → (line_start (token k t.span ∷ ts) ≡ lines.Nothing → ⊥) → (hash : Span) × (us : List Token) × (token k t.span ∷ ts ≡ token kinds.DirectiveBegin hash ∷ us)
+    go kinds.DirectiveBegin some = (t.span, ts, refl)
+    go _ some = absurd (some refl)
+
+-- a line that stands first is refused where a part may stand
+line_stopped : (IsFormed : StatementTree → Type 0) (over : StatementTree → Place) → ((at : Span) → IsFormed (any_construct at)) → (l : Limits) (r : LineReader) → IsLineCut l r
+    → (ts : List Token) (f : SourceFault) → (line_start ts ≡ lines.Nothing → ⊥) → r ts ≡ Err f → Stops f → IsStopped statement_spelling IsFormed over l ts f
+line_stopped IsFormed over formed l r cut ts f some h stops =
+    let b = line_begins ts some in
+    let c = cut b.0 b.1 f (ap r (sym b.2) ∙ h) stops in
+    inr (inl (record {
+      line = c.line;
+      wrong = c.wrong;
+      has_line = record {
+        before = [];
+        after = c.after;
+        stands = b.2 ∙ c.parts;
+        one_line = c.one_line;
+        part = any_construct b.0;
+        formed = formed b.0;
+        hash = b.0;
+        rest_of_part = any_line_rest b.0 ++ mark punctuators.Semicolon b.0 ∷ [];
+        in_part = any_construct_spelled b.0;
+      };
+    }))
+
 module _ (l : Limits) (line : LineReader) (sound : IsSound (directive_spelling expression_spelling) (IsWholeLine l) line) (cut : IsLineCut l line) where
   started : (ts : List Token) (d : Directive ExpressionTree × List Token) (start : LineStart) → line ts ≡ ok d → line_start ts ≡ start → start_of_directive d.0.name ≡ start
   started ts d start reads is = sym (line_start_is d.0 d.1) ∙ sym (ap line_start (sound ts d reads).parts) ∙ is
 
   -- ---- items
 
-  item_of_cut : (depth nested : ℕ) (statement : Reader StatementTree) → IsStatementCut l depth nested statement → (start : LineStart) (ts : List Token) (f : SourceFault) → item_of line statement start ts ≡ Err f → Stops f → IsStatementStopped l depth nested ts f
+  item_of_cut : (depth nested : ℕ) (statement : Reader StatementTree) → IsStatementCut l depth nested statement → (start : LineStart) (ts : List Token) (f : SourceFault) → line_start ts ≡ start → item_of line statement start ts ≡ Err f → Stops f → IsStatementStopped l depth nested ts f
   unfolding item_of stand_alone_at unknown_line misplaced
-  item_of_cut depth nested statement inner lines.StandAlone ts f h stops = elim (bind_err (line ts) _ f h) [
-    | inl fails ↦ inr (inl (cut ts f fails stops))
+  item_of_cut depth nested statement inner lines.StandAlone ts f is h stops = elim (bind_err (line ts) _ f h) [
+    | inl fails ↦ line_stopped IsPart (IsOverInStatement l depth nested) any_construct_part l line cut ts f (λ none. absurd cc) fails stops
     | inr (d, reads, no_err) ↦ absurd cc
   ]
-  item_of_cut depth nested statement inner lines.Section ts f h stops = absurd (syntax_plain (from_word ts) f h stops)
-  item_of_cut depth nested statement inner lines.Unknown ts f h stops = elim (bind_err (line ts) _ f h) [
-    | inl fails ↦ inr (inl (cut ts f fails stops))
+  item_of_cut depth nested statement inner lines.Section ts f is h stops = absurd (syntax_plain (from_word ts) f h stops)
+  item_of_cut depth nested statement inner lines.Unknown ts f is h stops = elim (bind_err (line ts) _ f h) [
+    | inl fails ↦ line_stopped IsPart (IsOverInStatement l depth nested) any_construct_part l line cut ts f (λ none. absurd cc) fails stops
     | inr (d, reads, g) ↦ absurd (syntax_plain (from_word ts) f g stops)
   ]
-  item_of_cut depth nested statement inner lines.Construct ts f h stops = inner ts f h stops
-  item_of_cut depth nested statement inner lines.Nothing ts f h stops = inner ts f h stops
+  item_of_cut depth nested statement inner lines.Construct ts f is h stops = inner ts f h stops
+  item_of_cut depth nested statement inner lines.Nothing ts f is h stops = inner ts f h stops
 
   pub part_item_cut : (depth nested : ℕ) (statement : Reader StatementTree) → IsStatementCut l depth nested statement → IsStatementCut l depth nested (part_item_at line statement)
   unfolding part_item_at
-  part_item_cut depth nested statement inner ts f h stops = item_of_cut depth nested statement inner (line_start ts) ts f h stops
+  part_item_cut depth nested statement inner ts f h stops = item_of_cut depth nested statement inner (line_start ts) ts f refl h stops
 
   pub section_cut : (depth nested : ℕ) (statement : Reader StatementTree) → IsStatementCut l depth nested statement → (ts : List Token) (f : SourceFault) → line_start ts ≡ lines.Section → section_at line statement ts ≡ Err f → Stops f
       → IsStopped statement_spelling (λ s. IsStatement s × IsSectionItem s) (IsOverInStatement l depth nested) l ts f
   unfolding section_at statement_spelling IsStatement IsOverInside
   section_cut depth nested statement inner ts f is h stops = elim (bind_err (line ts) _ f h) [
-    | inl fails ↦ inr (inl (cut ts f fails stops))
+    | inl fails ↦ line_stopped (λ s. IsStatement s × IsSectionItem s) (IsOverInStatement l depth nested) (λ at. ((any_construct_part at).0, tt)) l line cut ts f (λ none. absurd cc) fails stops
     | inr (d, reads, g) ↦ elim (bind_err (part_item_at line statement d.1) _ f g) [
       | inr (s, read, no_err) ↦ absurd cc
       | inl fails ↦
@@ -191,7 +258,7 @@ module _ (l : Limits) (line : LineReader) (sound : IsSound (directive_spelling e
       → (ts : List Token) (f : SourceFault) → line_start ts ≡ lines.Construct → construct_at line checked statement parts ts ≡ Err f → Stops f → IsInsideStopped l depth nested ts f
   unfolding construct_at construct_after
   construct_cut depth nested checked room blocks_left statement good inner parts braces ts f is h stops = elim (bind_err (line ts) _ f h) [
-    | inl fails ↦ inr (inl (cut ts f fails stops))
+    | inl fails ↦ line_stopped IsPart (IsOverInside l depth nested) any_construct_part l line cut ts f (λ none. absurd cc) fails stops
     | inr (d, reads, g) ↦
         let r = sound ts d reads in
         after_cut depth nested checked room blocks_left statement good inner parts braces d.0 r.formed.formed (construct_name d.0.name (started ts d lines.Construct reads is)) d.1 ts f r.parts (is_sections d.0.name) (is_atomic d.0.name) refl refl g stops
@@ -203,7 +270,7 @@ module _ (l : Limits) (line : LineReader) (sound : IsSound (directive_spelling e
   unfolding line_of unknown_line misplaced
   line_of_cut depth nested checked room blocks_left statement good inner parts braces lines.Construct ts f is h stops = construct_cut depth nested checked room blocks_left statement good inner parts braces ts f is h stops
   line_of_cut depth nested checked room blocks_left statement good inner parts braces lines.Unknown ts f is h stops = elim (bind_err (line ts) _ f h) [
-    | inl fails ↦ inr (inl (cut ts f fails stops))
+    | inl fails ↦ line_stopped IsPart (IsOverInside l depth nested) any_construct_part l line cut ts f (λ none. absurd cc) fails stops
     | inr (d, reads, g) ↦ absurd (syntax_plain (from_word ts) f g stops)
   ]
   line_of_cut depth nested checked room blocks_left statement good inner parts braces lines.StandAlone ts f is h stops = absurd (syntax_plain (from_word ts) f h stops)

@@ -1,28 +1,30 @@
 -- Where a directive line is refused with another code than that of syntax, a limit is passed in its expression, or S5 or S6 stands there.
-use Rattle.std.proofs.Common.{◌≡◌, ◌-◌, ◌≤◌, List, [], ◌∷◌, ◌++◌, Bool, true, false, cond, Ok, Err, refl, sym, ap, subst, ◌∙◌, append_assoc, inl, inr}
+use Rattle.std.proofs.Common.{◌≡◌, ◌-◌, ◌≤◌, List, [], ◌∷◌, ◌++◌, Bool, true, false, cond, Ok, Err, refl, sym, ap, subst, ◌∙◌, append_assoc, ◌⊎◌, inl, inr}
 use Rattle.std.specs.Prelude.{◌&&◌, nat_eq}
 use Rattle.om_lexer.specs.declared.fault.FaultCode.TheVariants as codes
 use Rattle.om_lexer.specs.declared.fault.SourceFault.{SourceFault}
 use Rattle.om_lexer.specs.declared.token.Punctuator.TheVariants as punctuators
+use Rattle.om_lexer.specs.declared.token.Span.{Span}
 use Rattle.om_lexer.specs.declared.token.Token.{Token}
+use Rattle.om_lexer.specs.declared.token.TokenKind.TheVariants as kinds
 use Rattle.om_pragma.specs.declared.tree.Directive.{Directive}
 use Rattle.om_pragma.specs.Expressions.{first_expression}
 use Rattle.om_pragma.specs.Reading.{directive_at, expression_before}
-use Rattle.om_pragma.proofs.Directives.{directive_is}
+use Rattle.om_pragma.proofs.Directives.{directive_is, read_again}
 use Rattle.om_pragma.proofs.Refused.{refused_fault}
 use Rattle.om_parser.specs.ExpressionReading.{whole_at}
 use Rattle.om_parser.specs.Limits.{Limits}
-use Rattle.om_parser.specs.LineFaults.{clause_token, IsPassedInClause, IsLineFault}
+use Rattle.om_parser.specs.LineFaults.{IsOneLine, clause_token, ExpectsClause, IsNoDirective, IsPassedInClause, IsWrongLine}
 use Rattle.om_parser.specs.LineReading.{run_of, is_syntax, in_run, place_behind, last_start, all_of, clause_value, with_value, sooner, line_of, line_at}
 use Rattle.om_parser.specs.Places.{in_parentheses}
 use Rattle.om_parser.specs.Reading.{Outcome, syntax}
-use Rattle.om_parser.specs.Spelling.{mark}
+use Rattle.om_parser.specs.Spelling.{token, mark}
 use Rattle.om_parser.specs.Tree.{ExpressionTree}
 use Rattle.om_parser.proofs.Outcomes.{ok, bind_err, choose_cases}
 use Rattle.om_parser.proofs.ExpressionCut.{err_is, too_much_at, whole_cut}
 use Rattle.om_parser.proofs.ExpressionRefusals.{whole_refuses}
-use Rattle.om_parser.proofs.LineRuns.{run_is}
-use Rattle.om_parser.proofs.LineStands.{StandsIn, stands_before, stands_in_directive, stands_before_place}
+use Rattle.om_parser.proofs.LineRuns.{run_is, run_is_line}
+use Rattle.om_parser.proofs.LineStands.{StandsInClause, stands_in_directive, stands_before_fault}
 
 abbrev NoSyntax : SourceFault → Type 0
 NoSyntax f = f.code ≡ codes.Syntax → ⊥
@@ -49,67 +51,87 @@ value_err l run es f h not = go (whole_at l (l.nested - 1) es) refl h
     go (Err d) is h = is ∙ ap (λ (c : SourceFault). Err c) (kept run es d f (err_is (in_run run es d) f h) not)
 
 -- where a limit is passed in the tokens of a clause
-passed : (l : Limits) (tokens es : List Token) (f : SourceFault) → StandsIn tokens es → whole_at l (l.nested - 1) es ≡ Err f → f.code ≡ codes.TooDeep → IsPassedInClause l tokens f.at
-passed l tokens es f s h deep =
+passed : (l : Limits) (line es : List Token) (f : SourceFault) → StandsInClause line es → whole_at l (l.nested - 1) es ≡ Err f → f.code ≡ codes.TooDeep → IsPassedInClause l line f.at
+passed l line es f s h deep =
     let c = whole_cut l (l.nested - 1) es f h deep in
+    let after : List Token = c.after ++ s.place.after in
+    let inside : es ++ s.place.after ≡ c.begun ++ c.token ∷ after = ap (λ (w : List Token). w ++ s.place.after) c.stands ∙ simp append_assoc in
     record {
-      before = s.before;
-      word = s.word;
-      at = s.at;
-      left = s.left;
+      before = s.place.before;
+      word = s.place.word;
+      at = s.place.at;
+      left = s.place.left;
       expression = c.tree;
       formed = c.formed;
       begun = c.begun;
       token = c.token;
-      after = c.after ++ s.after;
+      after = after;
       rest_of_expression = c.more;
-      stands = s.stands ∙ ap (λ (w : List Token). s.before ++ clause_token s.word s.at ∷ mark punctuators.OpenParen s.left ∷ (w ++ s.after)) c.stands ∙ simp append_assoc;
+      stands = s.place.stands ∙ ap (λ (w : List Token). s.place.before ++ in_place s w) inside;
+      in_clause = subst (λ (w : List Token). ExpectsClause line (in_place s w) ⊎ IsNoDirective line) inside s.in_clause;
       in_expression = c.spelled;
       at_place = c.at_place;
       too_much = too_much_at (in_parentheses l) es c.begun c.token c.after c.stands c.too_much;
     }
+  where
+    in_place : StandsInClause line es → List Token → List Token
+    in_place s w = clause_token s.place.word s.place.at ∷ mark punctuators.OpenParen s.place.left ∷ w
 
-value_fault : (l : Limits) (run tokens es : List Token) (f : SourceFault) → StandsIn tokens es → clause_value l run es ≡ Err f → NoSyntax f → IsLineFault l tokens f
-value_fault l run tokens es f s h not =
+value_fault : (l : Limits) (run es : List Token) (f : SourceFault) → StandsInClause run es → clause_value l run es ≡ Err f → NoSyntax f → IsWrongLine l run f
+value_fault l run es f s h not =
     let whole = value_err l run es f h not in
     elim (whole_refuses l (l.nested - 1) es f whole) [
       | inl syntax ↦ absurd (not syntax)
-      | inr deep ↦ inl (deep, passed l tokens es f s whole deep)
+      | inr deep ↦ inl (deep, passed l run es f s whole deep)
     ]
 
-line_fault : (l : Limits) (run rest : List Token) (o : Outcome (Directive (List Token))) (f : SourceFault) → directive_at run ≡ o → line_of l run o ≡ Err f → NoSyntax f → IsLineFault l (run ++ rest) f
+line_fault : (l : Limits) (run : List Token) (o : Outcome (Directive (List Token))) (f : SourceFault) → directive_at run ≡ o → line_of l run o ≡ Err f → NoSyntax f → IsWrongLine l run f
 unfolding with_value sooner
-line_fault l run rest (Ok d) f is h not = elim (choose_cases (first_expression d.clauses) _ _ (Err f) h) [
+line_fault l run (Ok d) f is h not = elim (choose_cases (first_expression d.clauses) _ _ (Err f) h) [
   | inl (es, first, e) ↦ elim (bind_err (clause_value l run es) _ f e) [
     | inl fails ↦
-        let s = subst (λ (ts : List Token). StandsIn ts es) (directive_is run d is).spelled (stands_in_directive d es first) in
-        value_fault l run (run ++ rest) es f (stands_before run rest es s) fails not
+        let read = directive_is run d is in
+        let s = subst (λ (ts : List Token). StandsInClause ts es) read.spelled (stands_in_directive d es read.formed first) in
+        value_fault l run es f s fails not
     | inr done ↦ absurd cc
   ]
   | inr (none, e) ↦ absurd cc
 ]
-line_fault l run rest (Err d) f is h not = elim (choose_cases (expression_before d.at run) _ _ (Err f) h) [
+line_fault l run (Err d) f is h not = elim (choose_cases (expression_before d.at run) _ _ (Err f) h) [
   | inl (es, first, e) ↦ elim (bind_err (clause_value l run es) _ f e) [
-    | inl fails ↦ value_fault l run (run ++ rest) es f (stands_before run rest es (stands_before_place d.at run es first)) fails not
+    | inl fails ↦ value_fault l run es f (stands_before_fault d.at run es no_directive first) fails not
     | inr done ↦ refused (err_is d f done.2)
   ]
   | inr (none, e) ↦ refused (err_is d f e)
 ]
   where
-    refused : d ≡ f → IsLineFault l (run ++ rest) f
+    no_directive : IsNoDirective run
+    no_directive x formed = let both : Err d ≡ ok x = sym is ∙ read_again run x formed in absurd cc
+
+    refused : d ≡ f → IsWrongLine l run f
     refused same =
         let at_run : directive_at run ≡ Err f = is ∙ ap (λ (c : SourceFault). Err c) same in
         elim (refused_fault run f at_run) [
           | inl syntax ↦ absurd (not syntax)
-          | inr word ↦ inr (record { before = []; run = run; after = rest; stands = refl; refused = word })
+          | inr word ↦ inr word
         ]
 
-pub line_cut : (l : Limits) → 1 ≤ l.nested → (ts : List Token) (f : SourceFault) → line_at l ts ≡ Err f → (f.code ≡ codes.Syntax → ⊥) → IsLineFault l ts f
+-- the line that stands first is refused
+pub record IsFirstLineFault (l : Limits) (tokens : List Token) (f : SourceFault) : Type 0 where
+  pub line : List Token
+  pub after : List Token
+  pub parts : tokens ≡ line ++ after
+  pub one_line : IsOneLine line
+  pub wrong : IsWrongLine l line f
+
+pub line_cut : (l : Limits) → 1 ≤ l.nested → (hash : Span) (us : List Token) (f : SourceFault) → line_at l (token kinds.DirectiveBegin hash ∷ us) ≡ Err f → NoSyntax f → IsFirstLineFault l (token kinds.DirectiveBegin hash ∷ us) f
 unfolding line_at
-line_cut l one ts f h not = elim (choose_cases (run_of ts) _ _ (Err f) h) [
-  | inl (r, is, e) ↦ elim (bind_err (line_of l r.0 (directive_at r.0)) _ f e) [
-    | inl fails ↦ subst (λ (us : List Token). IsLineFault l us f) (sym (run_is ts r is)) (line_fault l r.0 r.1 (directive_at r.0) f refl fails not)
-    | inr done ↦ absurd cc
-  ]
-  | inr (none, e) ↦ absurd (not (ap (λ (g : SourceFault). g.code) (sym (err_is (syntax []) f e))))
-]
+line_cut l one hash us f h not =
+    let ts : List Token = token kinds.DirectiveBegin hash ∷ us in
+    elim (choose_cases (run_of ts) _ _ (Err f) h) [
+      | inl (r, is, e) ↦ elim (bind_err (line_of l r.0 (directive_at r.0)) _ f e) [
+        | inl fails ↦ record { line = r.0; after = r.1; parts = run_is ts r is; one_line = run_is_line hash us r is; wrong = line_fault l r.0 (directive_at r.0) f refl fails not }
+        | inr done ↦ absurd cc
+      ]
+      | inr (none, e) ↦ absurd (not (ap (λ (g : SourceFault). g.code) (sym (err_is (syntax []) f e))))
+    ]

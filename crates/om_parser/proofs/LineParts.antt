@@ -24,7 +24,7 @@ Each P (x ∷ xs) = P x × Each P xs
 -- ---- clauses in a row
 
 -- a clause behind its comma
-abbrev item : {E : Type 0} → Option Span → Clause E → ClauseItem E
+abbrev pub item : {E : Type 0} → Option Span → Clause E → ClauseItem E
 item comma c = record { comma = comma; clause = c }
 
 -- they are one where each expression becomes one

@@ -1,7 +1,9 @@
 -- Where the expression of a clause stands among the tokens of a line.
-use Rattle.std.proofs.Common.{◌≡◌, ℕ, List, [], ◌∷◌, ◌++◌, Option, Some, None, Bool, true, false, cond, Result, Ok, Err, refl, sym, ap, subst, ◌∙◌, append_assoc}
+use Rattle.std.proofs.Common.{◌≡◌, ℕ, List, [], ◌∷◌, ◌++◌, Option, Some, None, Bool, true, false, cond, Result, Ok, Err, refl, sym, ap, subst, ◌∙◌, append_assoc, ◌⊎◌, inl, inr}
 use Rattle.std.specs.Prelude.{nat_le, codes, ◌||◌}
 use Rattle.std.specs.List.{flat_map}
+use Rattle.std.proofs.lemmas.List.{append-nil}
+use Rattle.std.proofs.lemmas.List.Concat.{flat_map-append}
 use Rattle.om_lexer.specs.declared.token.Punctuator.TheVariants as punctuators
 use Rattle.om_lexer.specs.declared.token.Span.{Span}
 use Rattle.om_lexer.specs.declared.token.Token.{Token}
@@ -12,56 +14,121 @@ use Rattle.om_pragma.specs.declared.clause.ClauseItem.{ClauseItem}
 use Rattle.om_pragma.specs.declared.clause.ValueClause.{ValueClause}
 use Rattle.om_pragma.specs.declared.clause.ValueClause.TheVariants as value_kinds
 use Rattle.om_pragma.specs.declared.tree.Directive.{Directive}
-use Rattle.om_pragma.specs.Expressions.{clause_expression, first_expression, or_else}
+use Rattle.om_pragma.specs.declared.tree.DirectiveName.{DirectiveName}
+use Rattle.om_pragma.specs.Expressions.{clause_expression, first_expression, or_else, IsClosed}
 use Rattle.om_pragma.specs.Reading.{some_tokens, ends_before, in_parentheses, mark_at, expression_at, expression_before}
 use Rattle.om_pragma.specs.Spelling.{token, comma_spelling, argument_spelling, clause_spelling, item_spelling, opening_spelling, name_spelling, directive_spelling}
+use Rattle.om_pragma.specs.Table.{EachBehind, IsBetween, IsItem, IsDirective}
 use Rattle.om_pragma.specs.Words.{same_kind}
 use Rattle.om_pragma.proofs.Arguments.{closing_is}
+use Rattle.om_pragma.proofs.Directives.{whole_written, each_written}
 use Rattle.om_pragma.proofs.Outcomes.{bind_ok}
 use Rattle.om_pragma.proofs.Taken.{same_kind_is, mark_at_is}
-use Rattle.om_parser.specs.LineFaults.{clause_token}
+use Rattle.om_parser.specs.LineFaults.{clause_token, ExpectsClause, IsNoDirective}
 use Rattle.om_parser.specs.Spelling.{mark}
+use Rattle.om_parser.proofs.LineParts.{item}
 use Rattle.om_parser.proofs.Outcomes.{some, some_is}
 
+abbrev Items : Type 0
+Items = List (ClauseItem (List Token))
+
+abbrev spelling : Items → List Token
+spelling = flat_map (item_spelling (λ e. e))
+
+-- the word of a clause, its parenthesis and these tokens, with others behind them
+abbrev pub clause_tokens : ValueClause → (at left : Span) → (es after : List Token) → List Token
+clause_tokens word at left es after = clause_token word at ∷ mark punctuators.OpenParen left ∷ (es ++ after)
+
 -- behind the word of a clause and its parenthesis these tokens stand
-pub record StandsIn (tokens es : List Token) : Type 0 where
+pub record StandsIn (line es : List Token) : Type 0 where
   pub before : List Token
   pub word : ValueClause
   pub at : Span
   pub left : Span
   pub after : List Token
-  pub stands : tokens ≡ before ++ clause_token word at ∷ mark punctuators.OpenParen left ∷ (es ++ after)
+  pub stands : line ≡ before ++ clause_tokens word at left es after
 
-pub stands_behind : (front tokens es : List Token) → StandsIn tokens es → StandsIn (front ++ tokens) es
-stands_behind front tokens es s = record { before = front ++ s.before; word = s.word; at = s.at; left = s.left; after = s.after; stands = ap (λ (w : List Token). front ++ w) s.stands ∙ simp append_assoc }
+stands_behind : (front line es : List Token) → StandsIn line es → StandsIn (front ++ line) es
+stands_behind front line es s = record { before = front ++ s.before; word = s.word; at = s.at; left = s.left; after = s.after; stands = ap (λ (w : List Token). front ++ w) s.stands ∙ simp append_assoc }
 
-pub stands_before : (tokens back es : List Token) → StandsIn tokens es → StandsIn (tokens ++ back) es
-stands_before tokens back es s = record { before = s.before; word = s.word; at = s.at; left = s.left; after = s.after ++ back; stands = ap (λ (w : List Token). w ++ back) s.stands ∙ simp append_assoc }
+-- and the line expects a clause there, or is no directive
+pub record StandsInClause (line es : List Token) : Type 0 where
+  pub place : StandsIn line es
+  pub in_clause : ExpectsClause line (clause_tokens place.word place.at place.left es place.after) ⊎ IsNoDirective line
 
 -- ---- in a directive
 
-stands_in_items : (items : List (ClauseItem (List Token))) (es : List Token) → first_expression items ≡ some es → StandsIn (flat_map (item_spelling (λ e. e)) items) es
-unfolding first_expression item_spelling clause_spelling argument_spelling
-stands_in_items [] es is = absurd cc
-stands_in_items (i ∷ items) es is = go i.clause (λ h. stands_in_items items es h) is
+-- the first clause with an expression, and those round it
+record FirstClause (items : Items) (es : List Token) : Type 0 where
+  front : Items
+  comma : Option Span
+  word : ValueClause
+  at : Span
+  left : Span
+  right : Span
+  rest : Items
+  split : items ≡ front ++ item comma (clauses.Value word at (record { open_paren = left; expression = es; close_paren = right })) ∷ rest
+
+first_clause : (items : Items) (es : List Token) → first_expression items ≡ some es → FirstClause items es
+unfolding first_expression
+first_clause [] es is = absurd cc
+first_clause (i ∷ items) es is = go i.clause (λ h. first_clause items es h) is
   where
-    first : (k : ValueClause) (s left right : Span) → StandsIn ((comma_spelling i.comma ++ clause_token k s ∷ mark punctuators.OpenParen left ∷ (es ++ mark punctuators.CloseParen right ∷ [])) ++ flat_map (item_spelling (λ e. e)) items) es
-    first k s left right = record { before = comma_spelling i.comma; word = k; at = s; left = left; after = mark punctuators.CloseParen right ∷ flat_map (item_spelling (λ e. e)) items; stands = simp append_assoc }
+    further : (c : Clause (List Token)) → FirstClause items es → FirstClause (item i.comma c ∷ items) es
+    further c s = record { front = item i.comma c ∷ s.front; comma = s.comma; word = s.word; at = s.at; left = s.left; right = s.right; rest = s.rest; split = ap (λ (w : Items). item i.comma c ∷ w) s.split }
 
-    further : (c : Clause (List Token)) → StandsIn (flat_map (item_spelling (λ e. e)) items) es → StandsIn ((comma_spelling i.comma ++ clause_spelling (λ e. e) c) ++ flat_map (item_spelling (λ e. e)) items) es
-    further c s = stands_behind (comma_spelling i.comma ++ clause_spelling (λ e. e) c) (flat_map (item_spelling (λ e. e)) items) es s
-
-    go : (c : Clause (List Token)) → (first_expression items ≡ some es → StandsIn (flat_map (item_spelling (λ e. e)) items) es) → or_else (clause_expression c) (first_expression items) ≡ some es → StandsIn ((comma_spelling i.comma ++ clause_spelling (λ e. e) c) ++ flat_map (item_spelling (λ e. e)) items) es
-    go (clauses.Value k s v) later is = subst (λ (w : List Token). StandsIn ((comma_spelling i.comma ++ clause_token k s ∷ mark punctuators.OpenParen v.open_paren ∷ (w ++ mark punctuators.CloseParen v.close_paren ∷ [])) ++ flat_map (item_spelling (λ e. e)) items) es) (sym (some_is v.expression es is)) (first k s v.open_paren v.close_paren)
+    go : (c : Clause (List Token)) → (first_expression items ≡ some es → FirstClause items es) → or_else (clause_expression c) (first_expression items) ≡ some es → FirstClause (item i.comma c ∷ items) es
+    go (clauses.Value k s v) later is = record { front = []; comma = i.comma; word = k; at = s; left = v.open_paren; right = v.close_paren; rest = items; split = ap (λ (e : List Token). item i.comma (clauses.Value k s (record { open_paren = v.open_paren; expression = e; close_paren = v.close_paren })) ∷ items) (some_is v.expression es is) }
     go (clauses.Default s a) later is = further (clauses.Default s a) (later is)
     go (clauses.Data k s l) later is = further (clauses.Data k s l) (later is)
     go (clauses.Reduction s r) later is = further (clauses.Reduction s r) (later is)
     go (clauses.Schedule s a) later is = further (clauses.Schedule s a) (later is)
     go (clauses.Plain k s) later is = further (clauses.Plain k s) (later is)
 
-pub stands_in_directive : (d : Directive (List Token)) (es : List Token) → first_expression d.clauses ≡ some es → StandsIn (directive_spelling (λ e. e) d) es
-unfolding directive_spelling
-stands_in_directive d es is = stands_behind (opening_spelling d.hash d.pragma d.omp) _ es (stands_behind (name_spelling d.name) _ es (stands_before (flat_map (item_spelling (λ e. e)) d.clauses) _ es (stands_in_items d.clauses es is)))
+-- the clauses before one are formed, and a comma stands only between two
+each_before : (name : DirectiveName) (before front rest : Items) (i : ClauseItem (List Token)) → EachBehind (IsItem IsClosed name) before (front ++ i ∷ rest) → EachBehind (IsItem IsClosed name) before front × IsBetween (before ++ front) i.comma
+unfolding EachBehind
+each_before name before [] rest i each = (tt, subst (λ (b : Items). IsBetween b i.comma) (sym (append-nil before)) each.0.between)
+each_before name before (j ∷ front) rest i each =
+    let later = each_before name (before ++ j ∷ []) front rest i each.1 in
+    ((each.0, later.0), subst (λ (b : Items). IsBetween b i.comma) (append_assoc before (j ∷ []) front) later.1)
+
+pub stands_in_directive : (d : Directive (List Token)) (es : List Token) → IsDirective IsClosed d → first_expression d.clauses ≡ some es → StandsInClause (directive_spelling (λ e. e) d) es
+unfolding directive_spelling item_spelling clause_spelling argument_spelling IsDirective
+stands_in_directive d es formed is =
+    let c = first_clause d.clauses es is in
+    let i : ClauseItem (List Token) = item c.comma (clauses.Value c.word c.at (record { open_paren = c.left; expression = es; close_paren = c.right })) in
+    let each = each_before d.name [] c.front c.rest i (subst (λ (w : Items). EachBehind (IsItem IsClosed d.name) [] w) c.split formed) in
+    let end : List Token = token kinds.DirectiveEnd d.end ∷ [] in
+    let after : List Token = mark punctuators.CloseParen c.right ∷ (spelling c.rest ++ end) in
+    let behind : spelling d.clauses ++ end ≡ spelling c.front ++ (comma_spelling c.comma ++ clause_tokens c.word c.at c.left es after) =
+    ap (λ (w : Items). spelling w ++ end) c.split ∙ ap (λ (w : List Token). w ++ end) (flat_map-append (item_spelling (λ e. e)) c.front (i ∷ c.rest)) ∙ simp append_assoc in
+    record {
+      place = record {
+        before = opening_spelling d.hash d.pragma d.omp ++ (name_spelling d.name ++ (spelling c.front ++ comma_spelling c.comma));
+        word = c.word;
+        at = c.at;
+        left = c.left;
+        after = after;
+        stands = ap (λ (w : List Token). opening_spelling d.hash d.pragma d.omp ++ (name_spelling d.name ++ w)) behind ∙ simp append_assoc;
+      };
+      in_clause = inl (record {
+        name = d.name;
+        before = c.front;
+        stands = record {
+          hash = d.hash;
+          pragma = d.pragma;
+          omp = d.omp;
+          comma = c.comma;
+          behind_name = spelling d.clauses ++ end;
+          parts = refl;
+          behind_parts = behind;
+          whole_name = whole_written d.name d.clauses d.end (each_written d.name [] d.clauses formed);
+          formed = each.0;
+          between = each.1;
+        };
+      });
+    }
 
 -- ---- before a fault
 
@@ -100,7 +167,7 @@ stands_at place t ts es h = go (nat_le place t.span.start) (same_kind t.kind (ki
     go false false true is other e = stands_in_parentheses place value_kinds.Filter t ts es (ap (λ k. token k t.span) (same_kind_is t.kind (kinds.Name (codes "filter")) other)) e
     go false false false is other e = absurd cc
 
-pub stands_before_place : (place : ℕ) (ts es : List Token) → expression_before place ts ≡ some es → StandsIn ts es
+stands_before_place : (place : ℕ) (ts es : List Token) → expression_before place ts ≡ some es → StandsIn ts es
 unfolding expression_before
 stands_before_place place [] es e = absurd cc
 stands_before_place place (t ∷ ts) es e = go (λ h. stands_before_place place ts es h) (expression_at place t ts) refl e
@@ -108,3 +175,7 @@ stands_before_place place (t ∷ ts) es e = go (λ h. stands_before_place place 
     go : (expression_before place ts ≡ some es → StandsIn ts es) → (o : Option (List Token)) → expression_at place t ts ≡ o → or_else o (expression_before place ts) ≡ some es → StandsIn (t ∷ ts) es
     go later (Some x) is e = stands_at place t ts es (is ∙ e)
     go later None is e = stands_behind (t ∷ []) ts es (later e)
+
+-- in a line that is no directive
+pub stands_before_fault : (place : ℕ) (line es : List Token) → IsNoDirective line → expression_before place line ≡ some es → StandsInClause line es
+stands_before_fault place line es none e = record { place = stands_before_place place line es e; in_clause = inr none }

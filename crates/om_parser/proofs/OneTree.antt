@@ -3,12 +3,12 @@ use Rattle.std.proofs.Common.{◌≡◌, ◌+◌, ◌≤◌, List, [], ◌∷◌
 use Rattle.std.proofs.lemmas.List.Elements.{All-nil, All-cons, All-weaker}
 use Rattle.om_parser.specs.Formed.{IsUnit}
 use Rattle.om_parser.specs.Limits.{Limits}
-use Rattle.om_parser.specs.Sizes.{longest_of, brackets_of, blocks_of, height_of, HaveForms, IsItemWithin}
+use Rattle.om_parser.specs.Sizes.{longest_of, brackets_of, blocks_of, height_of, HaveForms}
 use Rattle.om_parser.specs.Spelling.{unit_spelling}
 use Rattle.om_parser.specs.Tree.{ItemTree, Declaration, Prototype, Function, UnitTree, statements}
 use Rattle.om_parser.specs.UnitReading.{unit_at}
 use Rattle.om_parser.proofs.Outcomes.{ok, ok_is}
-use Rattle.om_parser.proofs.Forms.{no_forms_of}
+use Rattle.om_parser.proofs.Forms.{IsKeptItem, no_forms_of}
 use Rattle.om_parser.proofs.UnitComplete.{unit_again}
 
 -- limits that both keep, where no `atomic` is checked
@@ -36,19 +36,21 @@ record IsWider (l m : Limits) : Type 0 where
   statements : l.statements ≤ m.statements
   checked : m.checked ≡ false
 
-item_wider : (l m : Limits) → IsWider l m → (i : ItemTree) → IsItemWithin l i → IsItemWithin m i
-item_wider l m w (Declaration d) g = tt
-item_wider l m w (Prototype h semicolon) g = tt
-item_wider l m w (Function f) g = record {
-  high = omega (arith, g.high, w.statements);
-  deep = omega (arith, g.deep, w.blocks);
-  nested = omega (arith, g.nested, w.nested);
-  long = omega (arith, g.long, w.tokens);
-  forms = subst (λ c. HaveForms c (statements f.body.items)) (sym w.checked) (no_forms_of (statements f.body.items));
-}
+item_wider : (l m : Limits) → IsWider l m → (i : ItemTree) → IsKeptItem l i → IsKeptItem m i
+item_wider l m w (Declaration d) g = (tt, tt)
+item_wider l m w (Prototype h semicolon) g = (tt, tt)
+item_wider l m w (Function f) g = (
+  record {
+    high = omega (arith, g.0.high, w.statements);
+    deep = omega (arith, g.0.deep, w.blocks);
+    nested = omega (arith, g.0.nested, w.nested);
+    long = omega (arith, g.0.long, w.tokens);
+  },
+  subst (λ c. HaveForms c (statements f.body.items)) (sym w.checked) (no_forms_of (statements f.body.items)),
+)
 
-wider : (l m : Limits) → IsWider l m → (items : List ItemTree) → All (IsItemWithin l) items → All (IsItemWithin m) items
-wider l m w items g = All-weaker (IsItemWithin l) (IsItemWithin m) (λ i h. item_wider l m w i h) items g
+wider : (l m : Limits) → IsWider l m → (items : List ItemTree) → All (IsKeptItem l) items → All (IsKeptItem m) items
+wider l m w items g = All-weaker (IsKeptItem l) (IsKeptItem m) (λ i h. item_wider l m w i h) items g
 
 first_wider : (l m : Limits) → IsWider l (both l m)
 first_wider l m = record { nested = omega arith; tokens = omega arith; blocks = omega arith; statements = omega arith; checked = refl }
@@ -56,22 +58,22 @@ first_wider l m = record { nested = omega arith; tokens = omega arith; blocks = 
 second_wider : (l m : Limits) → IsWider m (both l m)
 second_wider l m = record { nested = omega arith; tokens = omega arith; blocks = omega arith; statements = omega arith; checked = refl }
 
-own_limits : (i : ItemTree) → IsItemWithin (limits_of i) i
-own_limits (Declaration d) = tt
-own_limits (Prototype h semicolon) = tt
-own_limits (Function f) = record { high = omega arith; deep = omega arith; nested = omega arith; long = omega arith; forms = no_forms_of (statements f.body.items) }
+own_limits : (i : ItemTree) → IsKeptItem (limits_of i) i
+own_limits (Declaration d) = (tt, tt)
+own_limits (Prototype h semicolon) = (tt, tt)
+own_limits (Function f) = (record { high = omega arith; deep = omega arith; nested = omega arith; long = omega arith }, no_forms_of (statements f.body.items))
 
-large_enough : (items : List ItemTree) → All (IsItemWithin (large items)) items
-large_enough [] = All-nil (IsItemWithin (large []))
+large_enough : (items : List ItemTree) → All (IsKeptItem (large items)) items
+large_enough [] = All-nil (IsKeptItem (large []))
 large_enough (i ∷ items) =
-    All-cons (IsItemWithin (large (i ∷ items))) i items (item_wider (limits_of i) (large (i ∷ items)) (first_wider (limits_of i) (large items)) i (own_limits i))
+    All-cons (IsKeptItem (large (i ∷ items))) i items (item_wider (limits_of i) (large (i ∷ items)) (first_wider (limits_of i) (large items)) i (own_limits i))
     (wider (large items) (large (i ∷ items)) (second_wider (limits_of i) (large items)) items (large_enough items))
 
 some_nested : (items : List ItemTree) → 1 ≤ (large items).nested
 some_nested [] = omega arith
 some_nested (i ∷ items) = let le = some_nested items in omega (arith, le)
 
-read_whole : (l : Limits) → 1 ≤ l.nested → (u : UnitTree) → IsUnit u → All (IsItemWithin l) u.items → unit_at l (unit_spelling u) ≡ ok u
+read_whole : (l : Limits) → 1 ≤ l.nested → (u : UnitTree) → IsUnit u → All (IsKeptItem l) u.items → unit_at l (unit_spelling u) ≡ ok u
 read_whole l one u f w = elim (unit_again l one u f) [
   | inl e ↦ e
   | inr (stop, e, never) ↦ absurd (never w)

@@ -1,6 +1,7 @@
 -- What parsing promises, from what is read.
-use Rattle.std.proofs.Common.{◌≡◌, List, Result, Ok, Err, sym, ap, subst, ◌∙◌, arith, ◌⊎◌, inl, inr}
+use Rattle.std.proofs.Common.{◌≡◌, List, true, Result, Ok, Err, sym, ap, subst, ◌∙◌, arith, ◌⊎◌, inl, inr, All}
 use Rattle.std.specs.Prelude.{IfOk, IfErr}
+use Rattle.std.proofs.lemmas.List.Elements.{All-weaker}
 use Rattle.om_lexer.specs.Faults.{no_memory}
 use Rattle.om_lexer.specs.declared.fault.FaultCode.TheVariants as codes
 use Rattle.om_lexer.specs.declared.fault.SourceFault.{SourceFault}
@@ -9,7 +10,7 @@ use Rattle.om_parser.specs.declared.tree.Unit as units
 use Rattle.om_parser.specs.Faults.{IsBadAtomic}
 use Rattle.om_parser.specs.Limits.{accepted}
 use Rattle.om_parser.specs.LineFaults.{IsRefusedLine}
-use Rattle.om_parser.specs.Sizes.{IsWithinLimits}
+use Rattle.om_parser.specs.Sizes.{IsItemWithin, IsWithinLimits, HasItemForms, AtomicsHaveForms}
 use Rattle.om_parser.specs.Parsing.{IsTreeOf, IsTreeOrMemory, IsLimitPassed}
 use Rattle.om_parser.specs.Reading.{Reads}
 use Rattle.om_parser.specs.Tree.{UnitTree}
@@ -18,6 +19,7 @@ use Rattle.om_parser.specs.View.{view_unit}
 use Rattle.om_parser.proofs.Outcomes.{ok, ok_is}
 use Rattle.om_parser.proofs.Again.{IsAnswer}
 use Rattle.om_parser.proofs.ExpressionCut.{err_is}
+use Rattle.om_parser.proofs.Forms.{IsKeptItem}
 use Rattle.om_parser.proofs.UnitSound.{unit_sound}
 use Rattle.om_parser.proofs.UnitComplete.{unit_again}
 use Rattle.om_parser.proofs.UnitRefusals.{unit_refuses, too_deep_unit, unknown_in_unit, bad_in_unit}
@@ -32,23 +34,31 @@ module _ (ts : List Token) where
 
   pub is_within : (r : Result units.Unit SourceFault) → Reads view_unit r (unit_at accepted ts) → IfOk r (λ unit. IsWithinLimits (view_unit unit))
   unfolding IsWithinLimits
-  is_within (Ok u) h = (unit_sound accepted (omega arith) ts (view_unit u) h).2
+  is_within (Ok u) h = All-weaker (IsKeptItem accepted) (IsItemWithin accepted) (λ i k. k.0) (view_unit u).items (unit_sound accepted (omega arith) ts (view_unit u) h).2
   is_within (Err f) h = tt
 
-  -- a tree with these tokens is read again
-  again : (u : UnitTree) → IsTreeOf ts u → IsAnswer (IsWithinLimits u) (unit_at accepted ts) u
-  unfolding IsWithinLimits
-  again u t = subst (λ us. IsAnswer (IsWithinLimits u) (unit_at accepted us) u) t.spelled (unit_again accepted (omega arith) u t.formed)
+  pub has_forms : (r : Result units.Unit SourceFault) → Reads view_unit r (unit_at accepted ts) → IfOk r (λ unit. AtomicsHaveForms (view_unit unit))
+  unfolding AtomicsHaveForms
+  has_forms (Ok u) h = All-weaker (IsKeptItem accepted) (HasItemForms true) (λ i k. k.1) (view_unit u).items (unit_sound accepted (omega arith) ts (view_unit u) h).2
+  has_forms (Err f) h = tt
 
-  pub is_only : (r : Result units.Unit SourceFault) → Reads view_unit r (unit_at accepted ts) → (u : UnitTree) → IsTreeOf ts u → IsWithinLimits u → IsTreeOrMemory u r
-  is_only (Ok found) h u t w = elim (again u t) [
+  -- a tree with these tokens is read again
+  again : (u : UnitTree) → IsTreeOf ts u → IsAnswer (All (IsKeptItem accepted) u.items) (unit_at accepted ts) u
+  again u t = subst (λ us. IsAnswer (All (IsKeptItem accepted) u.items) (unit_at accepted us) u) t.spelled (unit_again accepted (omega arith) u t.formed)
+
+  keeps : (u : UnitTree) → IsWithinLimits u → AtomicsHaveForms u → All (IsKeptItem accepted) u.items
+  unfolding IsWithinLimits AtomicsHaveForms
+  keeps u within forms k d lt = (within k d lt, forms k d lt)
+
+  pub is_only : (r : Result units.Unit SourceFault) → Reads view_unit r (unit_at accepted ts) → (u : UnitTree) → IsTreeOf ts u → IsWithinLimits u → AtomicsHaveForms u → IsTreeOrMemory u r
+  is_only (Ok found) h u t w forms = elim (again u t) [
     | inl e ↦ ok_is (view_unit found) u (sym h ∙ e)
-    | inr (s, e, never) ↦ absurd (never w)
+    | inr (s, e, never) ↦ absurd (never (keeps u w forms))
   ]
-  is_only (Err f) (inl memory) u t w = memory
-  is_only (Err f) (inr e) u t w = elim (again u t) [
+  is_only (Err f) (inl memory) u t w forms = memory
+  is_only (Err f) (inr e) u t w forms = elim (again u t) [
     | inl read ↦ let both : ok u ≡ Err f = sym read ∙ e in absurd cc
-    | inr (s, e, never) ↦ absurd (never w)
+    | inr (s, e, never) ↦ absurd (never (keeps u w forms))
   ]
 
   pub is_syntax : (r : Result units.Unit SourceFault) → Reads view_unit r (unit_at accepted ts) → IfErr r (λ f. f.code ≡ codes.Syntax → (u : UnitTree) → IsTreeOf ts u → ⊥)

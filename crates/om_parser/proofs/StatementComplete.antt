@@ -28,7 +28,7 @@ use Rattle.om_parser.specs.Reading.{◌>>=◌, Reader, take, same_mark, same_wor
 use Rattle.om_parser.specs.Spelling.{token, mark, word, perhaps, expression_spelling, declarator_spelling, further_spelling, declaration_spelling, condition_spelling, for_start_spelling, for_head_spelling, statement_spelling, statements_spelling, block_spelling}
 use Rattle.om_parser.specs.Formed.{IsOptional, IsForStart, IsForHead, ends_open, IsBody, IsPartItem, IsLine, IsConstruct, AreSome, IsStatement, AreStatements, AreSectionItems, IsExpression, IsLocalDeclaration}
 use Rattle.om_parser.specs.Limits.{Limits, nesting}
-use Rattle.om_parser.specs.Sizes.{Where, HasForms, HasRoom, HaveRoom, HasBlockRoom, extent, optional_extent, optional_nesting, for_start_extent, for_start_nesting, declaration_nesting, declaration_longest}
+use Rattle.om_parser.specs.Sizes.{Where, HasForms, HaveForms, HasRoom, HaveRoom, HasBlockRoom, extent, optional_extent, optional_nesting, for_start_extent, for_start_nesting, declaration_nesting, declaration_longest}
 use Rattle.om_parser.specs.StatementReading.{Parts, start_of, condition_at, optional_before, for_start_at, for_head_after, OpeningTree, OpensIf, OpensWhile, OpensFor, opening_of, return_after, jump_after, expression_statement_at, else_after, behind_body, body_after, headed_of, do_end, do_after, block_item_at, item_at, items_at, block_items_after, block_after, section_items_after, parts_after, simple_of, statement_of, no_room, statement_at, parts_at, block_with}
 use Rattle.om_parser.specs.Tree.{ExpressionTree, DeclarationTree, ConditionTree, ForStartTree, Nothing, StartExpression, StartDeclaration, ForHeadTree, StatementTree, StatementsTree, LocalDeclaration, Block, Empty, Expression, If, IfElse, While, Do, For, Return, Break, Continue, Construct, StandAlone, Sections, Section, NoStatements, Statement, statements, BlockTree}
 use Rattle.om_parser.proofs.LineComplete.{KeepsLine}
@@ -731,7 +731,11 @@ module _ (p : Parts) (l : Limits) (again : ArePartsAgain p l) where
   statements_back [] = refl
   statements_back (s ∷ rest) = ap (λ w. s ∷ w) (statements_back rest)
 
-  pub function_block_again : (room blocks_left : ℕ) (b : BlockTree) (rest : List Token) → AreStatements (statements b.items) → IsAnswer (HasBlockRoom l room blocks_left b) (block_with p l.checked room blocks_left (block_spelling b ++ rest)) (b, rest)
+  -- a block of a function that keeps the limits, and whose `atomic`s have their forms
+  abbrev pub IsKeptBlock : (room blocks_left : ℕ) → BlockTree → Type 0
+  IsKeptBlock room blocks_left b = HasBlockRoom l room blocks_left b × HaveForms l.checked (statements b.items)
+
+  pub function_block_again : (room blocks_left : ℕ) (b : BlockTree) (rest : List Token) → AreStatements (statements b.items) → IsAnswer (IsKeptBlock room blocks_left b) (block_with p l.checked room blocks_left (block_spelling b ++ rest)) (b, rest)
   unfolding block_with block_spelling
   function_block_again room blocks_left b rest f =
       let last : List Token = mark punctuators.CloseBrace b.close_brace ∷ [] in
@@ -739,7 +743,7 @@ module _ (p : Parts) (l : Limits) (again : ArePartsAgain p l) where
       let flat : List Token = (flat_map statement_spelling b.items ++ last) ++ rest in
       let whole : BlockTree × List Token = (b, rest) in
       let spelled : us ≡ flat = ap (λ w. (w ++ last) ++ rest) (statements_flat b.items) in
-      rw (mark_again punctuators.OpenBrace b.open_brace flat) (subst (λ (ts : List Token). IsAnswer {A = BlockTree × List Token} (HasBlockRoom l room blocks_left b) (block_items_after p (statement_at p l.checked room) blocks_left b.open_brace ts >>= λ x. ok (record { open_brace = b.open_brace; items = x.0; close_brace = x.1 }, x.2)) whole) spelled
+      rw (mark_again punctuators.OpenBrace b.open_brace flat) (subst (λ (ts : List Token). IsAnswer {A = BlockTree × List Token} (IsKeptBlock room blocks_left b) (block_items_after p (statement_at p l.checked room) blocks_left b.open_brace ts >>= λ x. ok (record { open_brace = b.open_brace; items = x.0; close_brace = x.1 }, x.2)) whole) spelled
       (bind_answer (block_items_after p (statement_at p l.checked room) blocks_left b.open_brace us) _ (list_of (statements b.items), b.close_brace, rest) whole (λ w. w)
-      (block_items_again l.checked room (statement_at p l.checked room) (statements b.items) (statements_again (statements b.items) f l.checked room) blocks_left b.open_brace b.close_brace rest (HasBlockRoom l room blocks_left b) (λ w. omega (arith, w.deep)) (λ fewer is w. record { high = w.high; deep = omega (arith, w.deep, is); nested = w.nested; long = w.long; forms = w.forms }))
+      (block_items_again l.checked room (statement_at p l.checked room) (statements b.items) (statements_again (statements b.items) f l.checked room) blocks_left b.open_brace b.close_brace rest (IsKeptBlock room blocks_left b) (λ w. omega (arith, w.0.deep)) (λ fewer is w. record { high = w.0.high; deep = omega (arith, w.0.deep, is); nested = w.0.nested; long = w.0.long; forms = w.1 }))
       (inl (ap (λ items. ok (record { open_brace = b.open_brace; items = items; close_brace = b.close_brace }, rest)) (statements_back b.items)))))

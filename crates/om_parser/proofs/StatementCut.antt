@@ -1,6 +1,5 @@
 -- Where a statement is refused by another code than that of syntax: at a limit its tokens up to there begin a well-formed one.
 use Rattle.std.proofs.Common.{◌≡◌, ℕ, zero, suc, ◌+◌, ◌≤◌, Bool, true, false, List, [], ◌∷◌, ◌++◌, length, Option, Some, None, Err, refl, sym, ap, subst, ◌∙◌, arith, append_assoc, ◌⊎◌, inl, inr}
-use Rattle.std.specs.Prelude.{codes}
 use Rattle.std.proofs.lemmas.List.{append-nil}
 use Rattle.om_lexer.specs.declared.fault.SourceFault.{SourceFault}
 use Rattle.om_lexer.specs.declared.token.Keyword.TheVariants as keywords
@@ -9,13 +8,6 @@ use Rattle.om_lexer.specs.declared.token.Punctuator.TheVariants as punctuators
 use Rattle.om_lexer.specs.declared.token.Span.{Span}
 use Rattle.om_lexer.specs.declared.token.Token.{Token}
 use Rattle.om_lexer.specs.declared.token.TokenKind.{TokenKind}
-use Rattle.om_lexer.specs.declared.token.TokenKind.TheVariants as kinds
-use Rattle.om_pragma.specs.declared.tree.Directive.{Directive}
-use Rattle.om_pragma.specs.declared.tree.DirectiveName.TheVariants as directives
-use Rattle.om_pragma.specs.declared.kind.DirectiveKind.TheVariants as words
-use Rattle.om_pragma.specs.Spelling.{opening_spelling as line_opening, name_spelling, directive_spelling}
-use Rattle.om_pragma.specs.Table.{EachBehind, IsDirective}
-use Rattle.om_pragma.specs.Words.{directive_word}
 use Rattle.om_parser.specs.declared.construct.LineStart.{LineStart}
 use Rattle.om_parser.specs.declared.construct.LineStart.TheVariants as lines
 use Rattle.om_parser.specs.declared.statement.Inside.{Inside}
@@ -27,7 +19,7 @@ use Rattle.om_parser.specs.Faults.{IsStopped}
 use Rattle.om_parser.specs.Reading.{Reader, choose, too_deep, take_mark, take_word, mark_at, word_at}
 use Rattle.om_parser.specs.Repetition.{until}
 use Rattle.om_parser.specs.Spelling.{token, mark, word, perhaps, expression_spelling, declaration_spelling, condition_spelling, for_start_spelling, for_head_spelling, statement_spelling, statements_spelling, block_spelling}
-use Rattle.om_parser.specs.Formed.{IsOptional, IsForStart, IsForHead, ends_open, IsLine, IsStatement, AreStatements, AreSome, IsExpression, IsLocalDeclaration}
+use Rattle.om_parser.specs.Formed.{IsOptional, IsForStart, IsForHead, ends_open, IsStatement, AreStatements, AreSome, IsExpression, IsLocalDeclaration}
 use Rattle.om_parser.specs.Limits.{Limits}
 use Rattle.om_parser.specs.Places.{Place, in_parentheses, IsOverInExpression, IsOverInDeclaration, Behind, Either, InOptional, InCondition, InForStart, InForHead, AtDepth, AtBrace, IsOverInside, IsOverInItems, IsOverInStatement, IsOverInBlock}
 use Rattle.om_parser.specs.StatementReading.{Parts, start_of, condition_at, optional_before, for_start_at, for_head_after, OpeningTree, OpensIf, OpensWhile, OpensFor, with_body, opening_of, return_after, jump_after, expression_statement_at, else_after, behind_body, body_after, headed_of, do_end, do_after, block_item_at, item_at, block_items_after, block_after, section_items_after, parts_after, simple_of, statement_of, no_room, statement_at, parts_at, block_with}
@@ -39,7 +31,7 @@ use Rattle.om_parser.proofs.StatementSound.{ArePartsSound, IsOf, is_of_start, op
 use Rattle.om_parser.proofs.StatementSound as sounds
 use Rattle.om_parser.proofs.StatementComplete.{list_of, statements_of, list_flat}
 use Rattle.om_parser.proofs.Stopped.{Stops, IsTooDeep, IsPlain, syntax_plain, mark_plain, word_plain, last_mark_plain, within_larger}
-use Rattle.om_parser.proofs.ConstructCut.{IsPart, IsLineCut, IsStatementStopped, IsInsideStopped, IsStatementCut, AreParts, InBraces, AreBracesCut, part_item_cut, section_cut, line_of_cut}
+use Rattle.om_parser.proofs.ConstructCut.{IsPart, any_line, any_line_formed, any_line_rest, any_line_spelled, IsLineCut, IsStatementStopped, IsInsideStopped, IsStatementCut, AreParts, InBraces, AreBracesCut, part_item_cut, section_cut, line_of_cut}
 
 -- an expression that begins with this token
 pub record Begins (t : Token) : Type 0 where
@@ -105,21 +97,6 @@ any_condition at = condition_of at (Constant (record { value = 0; span = at }))
 any_formed : (at : Span) → IsExpression (any_condition at).value
 unfolding IsExpression
 any_formed at = tt
-
--- a line that is surely well-formed
-abbrev any_line : Span → Directive ExpressionTree
-any_line at = record { hash = at; pragma = at; omp = at; name = directives.Parallel at; clauses = []; end = at }
-
-any_line_formed : (at : Span) → IsLine (any_line at)
-unfolding IsDirective EachBehind
-any_line_formed at = tt
-
-abbrev any_line_rest : Span → List Token
-any_line_rest at = token (kinds.Name (codes "pragma")) at ∷ token (kinds.Name (codes "omp")) at ∷ token (directive_word words.Parallel) at ∷ token kinds.DirectiveEnd at ∷ []
-
-any_line_spelled : (at : Span) → directive_spelling expression_spelling (any_line at) ≡ token kinds.DirectiveBegin at ∷ any_line_rest at
-unfolding directive_spelling line_opening name_spelling
-any_line_spelled at = refl
 
 -- a well-formed item of such braces
 abbrev IsItemInside : Inside → StatementTree → Type 0

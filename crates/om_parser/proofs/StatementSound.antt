@@ -254,6 +254,7 @@ AreBracesSound l checked room blocks_left r = IsSound braces_spelling (AreGoodBr
 pub record IsGoodBlock (l : Limits) (room blocks_left : ℕ) (b : BlockTree) : Type 0 where
   pub formed : AreStatements (statements b.items)
   pub room_for : HasBlockRoom l room blocks_left b
+  pub forms : HaveForms l.checked (statements b.items)
 
 -- what begins with such a first token
 abbrev pub Whole : Start → Span → List Token → List Token
@@ -871,5 +872,5 @@ module _ (p : Parts) (l : Limits) (one : 1 ≤ l.nested) (sound : ArePartsSound 
       let items = block_items_sound l.checked room (statement_at p l.checked room) (statement_sound l.checked room) blocks_left o.0.0 o.0.1 r.0 r.1 in
       subst (IsRead block_spelling (IsGoodBlock l room blocks_left) ts) (ok_is _ x r.2) (record {
         parts = after_token (mark punctuators.OpenBrace o.0.0) ts o.0.1 (flat_map statement_spelling r.0.0 ++ mark punctuators.CloseBrace r.0.1 ∷ []) r.0.2 (mark_at_is punctuators.OpenBrace ts o.0 o.1) (items.parts ∙ ap (λ w. (w ++ mark punctuators.CloseBrace r.0.1 ∷ []) ++ r.0.2) (statements_flat r.0.0));
-        formed = record { formed = items.formed; room_for = record { high = items.high; deep = items.deep; nested = items.nested; long = items.long; forms = items.forms } };
+        formed = record { formed = items.formed; room_for = record { high = items.high; deep = items.deep; nested = items.nested; long = items.long }; forms = items.forms };
       })

@@ -8,7 +8,7 @@ use Rattle.om_lexer.specs.declared.token.Span.{Span}
 use Rattle.om_lexer.specs.declared.token.Token.{Token}
 use Rattle.om_parser.specs.Faults.{IsBadAtomic, IsStopped}
 use Rattle.om_parser.specs.Limits.{Limits}
-use Rattle.om_parser.specs.LineFaults.{IsPassedInClause, IsLineFault}
+use Rattle.om_parser.specs.LineFaults.{IsLineFault}
 use Rattle.om_parser.specs.Places.{Place, IsPassed}
 use Rattle.om_parser.specs.Reading.{◌>>=◌, Outcome, syntax, known, mark_at, word_at}
 use Rattle.om_parser.proofs.Outcomes.{ok}
@@ -63,28 +63,6 @@ last_mark_plain q ts g = bind_plain (mark_at q ts) _ (mark_plain q ts) (λ s f h
 
 -- ---- a fault of tokens is one of those with more before them
 
-clause_behind : (l : Limits) (front us : List Token) (place : ℕ) → IsPassedInClause l us place → IsPassedInClause l (front ++ us) place
-clause_behind l front us place c = record {
-  before = front ++ c.before;
-  word = c.word;
-  at = c.at;
-  left = c.left;
-  expression = c.expression;
-  formed = c.formed;
-  begun = c.begun;
-  token = c.token;
-  after = c.after;
-  rest_of_expression = c.rest_of_expression;
-  stands = ap (λ (w : List Token). front ++ w) c.stands ∙ simp append_assoc;
-  in_expression = c.in_expression;
-  at_place = c.at_place;
-  too_much = c.too_much;
-}
-
-line_behind : (l : Limits) (front us : List Token) (f : SourceFault) → IsLineFault l us f → IsLineFault l (front ++ us) f
-line_behind l front us f (inl (deep, c)) = inl (deep, clause_behind l front us f.at c)
-line_behind l front us f (inr r) = inr (record { before = front ++ r.before; run = r.run; after = r.after; stands = ap (λ (w : List Token). front ++ w) r.stands ∙ simp append_assoc; refused = r.refused })
-
 atomic_behind : (front us : List Token) (place : ℕ) → IsBadAtomic us place → IsBadAtomic (front ++ us) place
 atomic_behind front us place a = record {
   before = front ++ a.before;
@@ -99,6 +77,27 @@ atomic_behind front us place a = record {
   no_form = a.no_form;
   at_place = a.at_place;
 }
+
+-- a line in a part stands in a larger one
+line_larger : {A B : Type 0} {spell : A → List Token} {P : A → Type 0} (spell_whole : B → List Token) (Q : B → Type 0) (front back : List Token) (wrap : A → B) (l : Limits) (us : List Token) (f : SourceFault)
+    → ((a : A) → P a → Q (wrap a)) → ((a : A) → spell_whole (wrap a) ≡ front ++ (spell a ++ back)) → IsLineFault spell P l us f → IsLineFault spell_whole Q l (front ++ us) f
+line_larger spell_whole Q front back wrap l us f formed spelled c =
+    let h = c.has_line in
+    record {
+      line = c.line;
+      wrong = c.wrong;
+      has_line = record {
+        before = front ++ h.before;
+        after = h.after;
+        stands = ap (λ (w : List Token). front ++ w) h.stands ∙ simp append_assoc;
+        one_line = h.one_line;
+        part = wrap h.part;
+        formed = formed h.part h.formed;
+        hash = h.hash;
+        rest_of_part = h.rest_of_part ++ back;
+        in_part = spelled h.part ∙ ap (λ (w : List Token). front ++ (w ++ back)) h.in_part ∙ simp append_assoc;
+      };
+    }
 
 -- a part in which a limit is passed stands in a larger one
 passed_larger : {A B : Type 0} {spell : A → List Token} {P : A → Type 0} {over : A → Place} (spell_whole : B → List Token) (Q : B → Type 0) (over_whole : B → Place) (front back : List Token) (wrap : A → B) (us : List Token) (place : ℕ)
@@ -124,6 +123,6 @@ pub within_larger : {A B : Type 0} {spell : A → List Token} {P : A → Type 0}
 within_larger {A} {B} {spell} {P} {over} {l} spell_whole Q over_whole front back wrap ts us f formed spelled passed is stopped =
     subst (λ (vs : List Token). IsStopped spell_whole Q over_whole l vs f) (sym is) (elim stopped [
       | inl (deep, c) ↦ inl (deep, passed_larger spell_whole Q over_whole front back wrap us f.at formed spelled passed c)
-      | inr (inl fault) ↦ inr (inl (line_behind l front us f fault))
+      | inr (inl fault) ↦ inr (inl (line_larger spell_whole Q front back wrap l us f formed spelled fault))
       | inr (inr (bad, a)) ↦ inr (inr (bad, atomic_behind front us f.at a))
     ])

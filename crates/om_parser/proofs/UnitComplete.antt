@@ -14,7 +14,6 @@ use Rattle.om_parser.specs.Formed.{IsSignedConstant, IsGlobalDeclaration, IsFunc
 use Rattle.om_parser.specs.Limits.{Limits}
 use Rattle.om_parser.specs.Reading.{take, same_mark, take_mark}
 use Rattle.om_parser.specs.Repetition.{until}
-use Rattle.om_parser.specs.Sizes.{IsItemWithin}
 use Rattle.om_parser.specs.Spelling.{token, mark, name, expression_spelling, block_spelling, declarator_spelling, declaration_spelling, parameters_spelling, head_spelling, item_spelling, unit_spelling}
 use Rattle.om_parser.specs.PartReading.{parts, block_at}
 use Rattle.om_parser.specs.Tree.{ExpressionTree, DeclarationTree, HeadTree, FunctionTree, ItemTree, Declaration, Prototype, Function, UnitTree}
@@ -23,6 +22,7 @@ use Rattle.om_parser.proofs.Again.{take_mark_again, take_word_again, mark_again,
 use Rattle.om_parser.proofs.ItemsComplete.{AreAgain, until_again}
 use Rattle.om_parser.proofs.DeclarationSound.{IsAny}
 use Rattle.om_parser.proofs.DeclarationComplete.{EndsDeclarator, constant_again, declaration_rest, declaration_again, rest_is, all_any, no_parameters}
+use Rattle.om_parser.proofs.Forms.{IsKeptItem}
 use Rattle.om_parser.proofs.FunctionSound.{is_named}
 use Rattle.om_parser.proofs.FunctionComplete.{head_again, int_is_no_void}
 use Rattle.om_parser.proofs.StatementComplete.{function_block_again}
@@ -48,7 +48,7 @@ head_unended h rest = go h.result
 
 module _ (l : Limits) (one : 1 ≤ l.nested) where
   abbrev IsSmallItem : ItemTree → Type 0
-  IsSmallItem i = IsItemWithin l i
+  IsSmallItem i = IsKeptItem l i
 
   constant_answer : (e : ExpressionTree) (rest : List Token) → IsSignedConstant e → EndsDeclarator rest → IsAnswer (IsAny e) (initial_at l initials.Constant (expression_spelling e ++ rest)) (e, rest)
   unfolding initial_at
@@ -110,7 +110,7 @@ module _ (l : Limits) (one : 1 ≤ l.nested) where
       unended (Prototype h semicolon) rest f = head_unended h (mark punctuators.Semicolon semicolon ∷ [] ++ rest)
       unended (Function g) rest f = head_unended g.head (block_spelling g.body ++ rest)
 
-  pub unit_again : (u : UnitTree) → IsUnit u → IsAnswer (All (IsItemWithin l) u.items) ((unit_at l) (unit_spelling u)) u
+  pub unit_again : (u : UnitTree) → IsUnit u → IsAnswer (All (IsKeptItem l) u.items) ((unit_at l) (unit_spelling u)) u
   unfolding unit_at unit_spelling IsUnit take_end
   unit_again u f =
       let last : Token = token kinds.End u.end in

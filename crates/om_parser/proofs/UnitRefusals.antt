@@ -8,7 +8,7 @@ use Rattle.om_pragma.specs.Refusals.{IsWordFault}
 use Rattle.om_parser.specs.Faults.{IsBadAtomic}
 use Rattle.om_parser.specs.Formed.{IsUnit}
 use Rattle.om_parser.specs.Limits.{Limits}
-use Rattle.om_parser.specs.LineFaults.{IsPassedInClause, IsRefusedLine}
+use Rattle.om_parser.specs.LineFaults.{IsWrongLine, IsLineFault, IsPassedInLine, IsRefusedLine}
 use Rattle.om_parser.specs.Places.{IsOverInUnit, IsPassed}
 use Rattle.om_parser.specs.Spelling.{unit_spelling}
 use Rattle.om_parser.specs.UnitReading.{unit_at}
@@ -23,6 +23,10 @@ word_code run codes.UnknownDirective at w = inl refl
 word_code run codes.BadClause at w = inr refl
 word_code run _ at w = absurd w
 
+line_code : (l : Limits) (line : List Token) (f : SourceFault) → IsWrongLine l line f → IsUnitRefusal f
+line_code l line f (inl (deep, passed)) = inr (inl deep)
+line_code l line f (inr word) = inr (inr (word_code line f.code f.at word))
+
 syntax_or_not : (code : FaultCode) → (code ≡ codes.Syntax) ⊎ (code ≡ codes.Syntax → ⊥)
 syntax_or_not codes.Syntax = inl refl
 syntax_or_not _ = inr (λ e. absurd cc)
@@ -33,32 +37,38 @@ module _ (l : Limits) (one : 1 ≤ l.nested) (ts : List Token) (f : SourceFault)
     | inl wrong ↦ inl wrong
     | inr stops ↦ elim (unit_cut l one ts f fails stops) [
       | inl (deep, passed) ↦ inr (inl deep)
-      | inr (inl (inl (deep, passed))) ↦ inr (inl deep)
-      | inr (inl (inr line)) ↦ inr (inr (word_code line.run f.code f.at line.refused))
+      | inr (inl c) ↦ line_code l c.line f c.wrong
       | inr (inr (bad, atomic)) ↦ inr (inr (inr bad))
     ]
   ]
 
-  pub too_deep_unit : f.code ≡ codes.TooDeep → IsPassed unit_spelling IsUnit (IsOverInUnit l) ts f.at ⊎ IsPassedInClause l ts f.at
+  pub too_deep_unit : f.code ≡ codes.TooDeep → IsPassed unit_spelling IsUnit (IsOverInUnit l) ts f.at ⊎ IsPassedInLine l ts f.at
   too_deep_unit is = elim (unit_cut l one ts f fails (λ wrong. absurd cc)) [
     | inl (deep, passed) ↦ inl passed
-    | inr (inl (inl (deep, passed))) ↦ inr passed
-    | inr (inl (inr line)) ↦ absurd (subst (λ c. IsWordFault line.run c f.at) is line.refused)
+    | inr (inl c) ↦ elim c.wrong [
+      | inl (deep, passed) ↦ inr (record { line = c.line; has_line = c.has_line; passed = passed })
+      | inr word ↦ absurd (subst (λ e. IsWordFault c.line e f.at) is word)
+    ]
     | inr (inr (bad, atomic)) ↦ absurd cc
+  ]
+
+  -- a line is refused by a word, where by no limit
+  refused_line : (f.code ≡ codes.TooDeep → ⊥) → IsLineFault unit_spelling IsUnit l ts f → IsRefusedLine ts f
+  refused_line other c = elim c.wrong [
+    | inl (deep, passed) ↦ absurd (other deep)
+    | inr word ↦ record { line = c.line; has_line = c.has_line; refused = word }
   ]
 
   pub unknown_in_unit : f.code ≡ codes.UnknownDirective → IsRefusedLine ts f
   unknown_in_unit is = elim (unit_cut l one ts f fails (λ wrong. absurd cc)) [
     | inl (deep, passed) ↦ absurd cc
-    | inr (inl (inl (deep, passed))) ↦ absurd cc
-    | inr (inl (inr line)) ↦ line
+    | inr (inl c) ↦ refused_line (λ deep. absurd cc) c
     | inr (inr (bad, atomic)) ↦ absurd cc
   ]
 
   pub bad_in_unit : f.code ≡ codes.BadClause → IsRefusedLine ts f ⊎ IsBadAtomic ts f.at
   bad_in_unit is = elim (unit_cut l one ts f fails (λ wrong. absurd cc)) [
     | inl (deep, passed) ↦ absurd cc
-    | inr (inl (inl (deep, passed))) ↦ absurd cc
-    | inr (inl (inr line)) ↦ inl line
+    | inr (inl c) ↦ inl (refused_line (λ deep. absurd cc) c)
     | inr (inr (bad, atomic)) ↦ inr atomic
   ]

@@ -20,7 +20,6 @@ use Rattle.om_parser.specs.FunctionReading.{are_named, head_after}
 use Rattle.om_parser.specs.Limits.{Limits}
 use Rattle.om_parser.specs.Reading.{Reader, Outcome, take_mark, take_word, mark_at, word_at, name_at}
 use Rattle.om_parser.specs.Repetition.{until}
-use Rattle.om_parser.specs.Sizes.{IsItemWithin}
 use Rattle.om_parser.specs.Spelling.{token, mark, word, name, result_spelling, expression_spelling, block_spelling, declaration_spelling, head_spelling, item_spelling, unit_spelling}
 use Rattle.om_parser.specs.PartReading.{parts, block_at}
 use Rattle.om_parser.specs.Tree.{HeadTree, ItemTree, Declaration, Prototype, Function, UnitTree}
@@ -29,6 +28,7 @@ use Rattle.om_parser.proofs.Outcomes.{ok, ok_is, some, some_is, bind_ok, choose_
 use Rattle.om_parser.proofs.Taken.{take_mark_is, take_word_is, mark_at_is, word_at_is, name_at_is}
 use Rattle.om_parser.proofs.ItemsSound.{IsRead, IsSound, until_sound}
 use Rattle.om_parser.proofs.DeclarationSound.{constant_sound, declaration_after_sound}
+use Rattle.om_parser.proofs.Forms.{IsKeptItem}
 use Rattle.om_parser.proofs.FunctionSound.{head_sound, named_is}
 use Rattle.om_parser.proofs.StatementSound.{function_block_sound}
 use Rattle.om_parser.proofs.PartsSound.{parts_sound}
@@ -66,14 +66,14 @@ or_else false first other f h never = absurd (never h)
 
 module _ (l : Limits) (one : 1 ≤ l.nested) where
   abbrev pub IsGoodItem : ItemTree → Type 0
-  IsGoodItem i = IsItem i × IsItemWithin l i
+  IsGoodItem i = IsItem i × IsKeptItem l i
 
   function_sound : (h : HeadTree) (ts : List Token) (x : ItemTree × List Token) → function_after l h ts ≡ ok x → IsRead item_spelling IsGoodItem (head_spelling h ++ ts) x
   unfolding function_after item_spelling IsItem IsFunction block_at
   function_sound h ts x e = elim (choose_cases (take_mark punctuators.Semicolon ts) _ _ (ok x) e) [
     | inl s ↦ subst (IsRead item_spelling IsGoodItem (head_spelling h ++ ts)) (ok_is (Prototype h s.0.0, s.0.1) x s.2) (record {
       parts = after_front (head_spelling h ++ ts) (head_spelling h) ts (mark punctuators.Semicolon s.0.0 ∷ []) s.0.1 refl (take_mark_is punctuators.Semicolon ts s.0.0 s.0.1 s.1);
-      formed = (tt, tt);
+      formed = (tt, (tt, tt));
     })
     | inr g ↦
         let named = only_if (are_named h.parameters) _ _ x g.1 (λ y d. absurd cc) in
@@ -81,7 +81,7 @@ module _ (l : Limits) (one : 1 ≤ l.nested) where
         let body = function_block_sound (parts l) l one (parts_sound l one) l.statements l.blocks ts b.0 b.1 in
         subst (IsRead item_spelling IsGoodItem (head_spelling h ++ ts)) (ok_is (Function (record { head = h; body = b.0.0 }), b.0.1) x b.2) (record {
           parts = after_front (head_spelling h ++ ts) (head_spelling h) ts (block_spelling b.0.0) b.0.1 refl body.parts;
-          formed = ((named_is h.parameters named.0, body.formed.formed), body.formed.room_for);
+          formed = ((named_is h.parameters named.0, body.formed.formed), (body.formed.room_for, body.formed.forms));
         })
   ]
 
@@ -112,7 +112,7 @@ module _ (l : Limits) (one : 1 ≤ l.nested) where
         | inr g ↦
             let d = bind_ok (declaration_after (initial_at l initials.Constant) int n.0.0 n.0.1) _ x g.1 in
             let r = declaration_after_sound IsSignedConstant (initial_at l initials.Constant) global_sound int n.0.0 n.0.1 d.0 d.1 in
-            subst (IsRead item_spelling IsGoodItem (word keywords.Int int ∷ name n.0.0 ∷ n.0.1)) (ok_is (Declaration d.0.0, d.0.1) x d.2) (record { parts = r.parts; formed = (r.formed, tt) })
+            subst (IsRead item_spelling IsGoodItem (word keywords.Int int ∷ name n.0.0 ∷ n.0.1)) (ok_is (Declaration d.0.0, d.0.1) x d.2) (record { parts = r.parts; formed = (r.formed, (tt, tt)) })
       ])
 
   pub item_sound : IsSound item_spelling IsGoodItem (item_at l)
@@ -125,13 +125,13 @@ module _ (l : Limits) (one : 1 ≤ l.nested) where
   ]
 
   -- every unit that is read
-  pub unit_sound : (ts : List Token) (u : UnitTree) → (unit_at l) ts ≡ ok u → IsUnit u × (unit_spelling u ≡ ts) × All (IsItemWithin l) u.items
+  pub unit_sound : (ts : List Token) (u : UnitTree) → (unit_at l) ts ≡ ok u → IsUnit u × (unit_spelling u ≡ ts) × All (IsKeptItem l) u.items
   unfolding unit_at unit_spelling IsUnit
   unit_sound ts u h =
       let x = bind_ok (until take_end (item_at l) (length ts) ts) _ u h in
       let r = until_sound item_spelling IsGoodItem (token kinds.End) take_end (item_at l) (λ ts s us e. (take_end_is ts s us e).0) item_sound (length ts) ts x.0 x.1 in
       let whole : flat_map item_spelling x.0.0 ++ token kinds.End x.0.1 ∷ [] ≡ ts = sym (r.parts ∙ ap (λ w. (flat_map item_spelling x.0.0 ++ token kinds.End x.0.1 ∷ []) ++ w) (until_end (item_at l) (length ts) ts x.0 x.1) ∙ append-nil _) in
-      subst (λ v. IsUnit v × (unit_spelling v ≡ ts) × All (IsItemWithin l) v.items) (ok_is _ u x.2) (All-weaker IsGoodItem IsItem (λ i g. g.0) x.0.0 r.formed, whole, All-weaker IsGoodItem (IsItemWithin l) (λ i g. g.1) x.0.0 r.formed)
+      subst (λ v. IsUnit v × (unit_spelling v ≡ ts) × All (IsKeptItem l) v.items) (ok_is _ u x.2) (All-weaker IsGoodItem IsItem (λ i g. g.0) x.0.0 r.formed, whole, All-weaker IsGoodItem (IsKeptItem l) (λ i g. g.1) x.0.0 r.formed)
 
 -- ---- what is read takes a token at least
 

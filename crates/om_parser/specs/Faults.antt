@@ -30,5 +30,5 @@ pub record IsBadAtomic (tokens : List Token) (place : ℕ) : Type 0 where
 -- why tokens that begin with such parts are refused by another code than that of syntax
 abbrev pub IsStopped : {A : Type 0} → (A → List Token) → (A → Type 0) → (A → Place) → Limits → List Token → SourceFault → Type 0
 IsStopped spelling IsFormed over l tokens f = ((f.code ≡ codes.TooDeep) × IsPassed spelling IsFormed over tokens f.at)
-    ⊎ IsLineFault l tokens f
+    ⊎ IsLineFault spelling IsFormed l tokens f
     ⊎ ((f.code ≡ codes.BadClause) × IsBadAtomic tokens f.at)

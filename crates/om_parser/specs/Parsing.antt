@@ -6,7 +6,7 @@ use Rattle.om_lexer.specs.declared.token.Token.{Token}
 use Rattle.om_parser.specs.declared.tree.Unit as units
 use Rattle.om_parser.specs.Formed.{IsUnit}
 use Rattle.om_parser.specs.Limits.{Limits, accepted, IsTooMuch}
-use Rattle.om_parser.specs.LineFaults.{IsPassedInClause}
+use Rattle.om_parser.specs.LineFaults.{IsPassedInLine}
 use Rattle.om_parser.specs.Places.{IsPassed, IsOverInUnit}
 use Rattle.om_parser.specs.Spelling.{expression_spelling, unit_spelling}
 use Rattle.om_parser.specs.Tree.{ExpressionTree, UnitTree}
@@ -39,7 +39,7 @@ pub record PassesLimit {A : Type 0} (spelling : A → List Token) (IsFormed : A 
 -- A limit is passed at this place: in a whole unit, where blocks or statements may nest too deep as well, or in the expression
 -- of a clause.
 abbrev pub IsLimitPassed : List Token → ℕ → Type 0
-IsLimitPassed tokens place = IsPassed unit_spelling IsUnit (IsOverInUnit accepted) tokens place ⊎ IsPassedInClause accepted tokens place
+IsLimitPassed tokens place = IsPassed unit_spelling IsUnit (IsOverInUnit accepted) tokens place ⊎ IsPassedInLine accepted tokens place
 
 -- the tree, unless memory ran out
 abbrev pub IsTreeOrMemory : UnitTree → Result units.Unit SourceFault → Type 0

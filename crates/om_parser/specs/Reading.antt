@@ -122,6 +122,10 @@ abbrev pub Reads : {X Y : Type 0} → (X → Y) → Result X SourceFault → Out
 Reads f (Ok x) read = read ≡ Ok (f x)
 Reads f (Err e) read = (e ≡ no_memory) ⊎ (read ≡ Err e)
 
+-- a part that a function makes, and the tokens behind it, unless memory ran out
+abbrev pub Makes : {X Y : Type 0} → (X → Y × List Token) → Result X SourceFault → Y → List Token → Type 0
+Makes f result made rest = Reads f result (Ok (made, rest))
+
 -- the same of a function that takes no memory
 abbrev pub ReadsAlways : {X Y : Type 0} → (X → Y) → Result X SourceFault → Outcome Y → Type 0
 ReadsAlways f (Ok x) read = read ≡ Ok (f x)

@@ -1,4 +1,4 @@
--- How large the statements of an accepted source are.
+-- How large the statements of an accepted source are, and which forms its `atomic`s have.
 use Rattle.std.specs.Prelude.{◌≡◌, ℕ, ◌+◌, ◌≤◌, max, List, [], ◌∷◌, length, Option, Some, None, All, Bool, true, false, not, ◌||◌}
 use Rattle.om_pragma.specs.declared.tree.Directive.{Directive}
 use Rattle.om_pragma.specs.Expressions.{expressions}
@@ -180,7 +180,6 @@ pub record HasBlockRoom (l : Limits) (room blocks_left : ℕ) (b : BlockTree) : 
   pub deep : blocks_of (statements b.items) + 1 ≤ blocks_left
   pub nested : brackets_of (statements b.items) ≤ l.nested
   pub long : longest_of (statements b.items) ≤ l.tokens
-  pub forms : HaveForms l.checked (statements b.items)
 
 -- a function keeps the limits
 abbrev pub IsItemWithin : Limits → ItemTree → Type 0
@@ -191,3 +190,13 @@ IsItemWithin l (Function f) = HasBlockRoom l l.statements l.blocks f.body
 -- each function of a source keeps the limits
 unfoldable pub IsWithinLimits : UnitTree → Type 0
 IsWithinLimits u = All (IsItemWithin accepted) u.items
+
+-- each outermost `atomic` of a function has one of its forms, if that is checked
+abbrev pub HasItemForms : (checked : Bool) → ItemTree → Type 0
+HasItemForms checked (Declaration d) = Unit {0}
+HasItemForms checked (Prototype h semicolon) = Unit {0}
+HasItemForms checked (Function f) = HaveForms checked (statements f.body.items)
+
+-- each outermost `atomic` of a source has one of its forms
+unfoldable pub AtomicsHaveForms : UnitTree → Type 0
+AtomicsHaveForms u = All (HasItemForms true) u.items

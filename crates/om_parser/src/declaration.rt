@@ -1,15 +1,15 @@
 //! Declarations of variables (C17 6.7).
 
-ghost use Rattle.std.specs.Prelude.{◌≡◌, length, map};
+ghost use Rattle.std.specs.Prelude.{◌≡◌, None, Some, length, map};
 ghost use Rattle.om_lexer.specs.declared.token.Punctuator.TheVariants.{Semicolon};
 ghost use Rattle.om_parser.specs.Limits.{accepted};
-ghost use Rattle.om_parser.specs.Reading.{take_mark, Reads, ReadsAlways};
+ghost use Rattle.om_parser.specs.Reading.{take_mark, Makes, Reads, ReadsAlways};
 ghost use Rattle.om_parser.specs.Repetition.{until};
 ghost use Rattle.om_parser.specs.DeclarationReading.{constant_at, initial_at, array_after, declarator_after, further_at, declaration_after, declared_at};
 ghost use Rattle.om_parser.specs.declared.declaration.Initial.TheVariants as initials;
 ghost use Rattle.om_parser.specs.View.{view_expression, view_declarator, view_declaration};
 
-use crate::boxed::boxed;
+use crate::boxed::{boxed, boxed_before};
 use crate::expression::{before, whole};
 use crate::front::{mark, name, number, take_mark};
 use crate::tree::{ArrayLength, Declaration, Declarator, Expression, Initializer, PrefixOperator};
@@ -39,6 +39,7 @@ pub fn declaration_after(
 {
     let (first, rest) = declarator_after(alloc, initial, name, tokens)?;
     let (others, semicolon, rest) = further_declarators(alloc, initial, rest)?;
+    let first = Box::into_inner(first);
     Ok((
         Declaration {
             int,
@@ -80,7 +81,7 @@ fn further_declarators(
             return Ok((declarators, semicolon, after));
         }
         let (comma, next, after) = further_declarator(alloc, initial, rest)?;
-        declarators.push((comma, next))?;
+        declarators.push((comma, Box::into_inner(next)))?;
         rest = after;
     }
 }
@@ -91,8 +92,8 @@ fn further_declarator(
     alloc: Global,
     initial: Initial,
     tokens: &[Token],
-) -> Result<(Span, Declarator, &[Token]), SourceFault>
-    ensures { Reads (λ x. ((x.0, view_declarator x.1), x.2.now)) result (further_at (initial_at accepted initial) tokens.now) }
+) -> Result<(Span, Box<Declarator>, &[Token]), SourceFault>
+    ensures { Reads (λ x. ((x.0, view_declarator x.1.value), x.2.now)) result (further_at (initial_at accepted initial) tokens.now) }
 {
     let (comma, rest) = mark(tokens, Punctuator::Comma)?;
     let (name, rest) = name(alloc, rest)?;
@@ -107,45 +108,54 @@ fn declarator_after(
     initial: Initial,
     name: Name,
     tokens: &[Token],
-) -> Result<(Declarator, &[Token]), SourceFault>
-    ensures { Reads (λ x. (view_declarator x.0, x.1.now)) result (declarator_after (initial_at accepted initial) name tokens.now) }
+) -> Result<(Box<Declarator>, &[Token]), SourceFault>
+    ensures { Reads (λ x. (view_declarator x.0.value, x.1.now)) result (declarator_after (initial_at accepted initial) name tokens.now) }
 {
     if let Some((left, rest)) = take_mark(tokens, Punctuator::OpenBracket) {
         let (array, rest) = array_after(left, rest)?;
-        let array = Some(array);
-        let initializer = None;
-        return Ok((
-            Declarator {
-                name,
-                array,
-                initializer,
-            },
-            rest,
-        ));
+        return uninitialized(alloc, name, Some(array), rest);
     }
-    let array = None;
     if let Some((equal, rest)) = take_mark(tokens, Punctuator::Equal) {
         let (value, rest) = initial_value(alloc, initial, rest)?;
-        let value = Box::into_inner(value);
-        let initializer = Some(Initializer { equal, value });
-        return Ok((
-            Declarator {
-                name,
-                array,
-                initializer,
-            },
-            rest,
-        ));
+        return initialized(alloc, name, equal, value, rest);
     }
-    let initializer = None;
-    Ok((
-        Declarator {
-            name,
-            array,
-            initializer,
-        },
-        tokens,
-    ))
+    uninitialized(alloc, name, None, tokens)
+}
+
+/// A declarator without an initializer.
+fn uninitialized<'a>(
+    alloc: Global,
+    name: Name,
+    array: Option<ArrayLength>,
+    rest: &'a [Token],
+) -> Result<(Box<Declarator>, &'a [Token]), SourceFault>
+    ensures { Makes (λ x. (view_declarator x.0.value, x.1.now)) result (record { name = name; array = array; initializer = None }) rest.now }
+{
+    let declarator = Declarator {
+        name,
+        array,
+        initializer: None,
+    };
+    boxed_before(alloc, declarator, rest)
+}
+
+/// A declarator with an initializer.
+fn initialized<'a>(
+    alloc: Global,
+    name: Name,
+    equal: Span,
+    value: Box<Expression>,
+    rest: &'a [Token],
+) -> Result<(Box<Declarator>, &'a [Token]), SourceFault>
+    ensures { Makes (λ x. (view_declarator x.0.value, x.1.now)) result (record { name = name; array = None; initializer = Some (record { equal = equal; value = view_expression value.value }) }) rest.now }
+{
+    let value = Box::into_inner(value);
+    let declarator = Declarator {
+        name,
+        array: None,
+        initializer: Some(Initializer { equal, value }),
+    };
+    boxed_before(alloc, declarator, rest)
 }
 
 /// The brackets and the size of an array, of which the left one is taken.

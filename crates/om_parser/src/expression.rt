@@ -21,6 +21,17 @@ use std::alloc::{AllocError, Global};
 /// The levels of precedence between operands: from `||` to `*`.
 const LEVELS: usize = 6;
 
+/// How much of an expression may still be read.
+#[derive(Clone, Copy)]
+pub struct Budget {
+    /// How many tokens must be left behind the last one, since it has too many else.
+    beyond: usize,
+    /// How often operators and brackets may nest.
+    turns: usize,
+    /// How many brackets may stand round a part.
+    room: usize,
+}
+
 /// A whole expression, with room for `room` brackets round a part of it, and the tokens behind it.
 #[tactic(auto, unfolding(crate::specs::ExpressionReading::whole_at))]
 pub fn whole(
@@ -31,7 +42,12 @@ pub fn whole(
     ensures { Reads (λ x. (view_expression x.0.value, x.1.now)) result (whole_at accepted room tokens.now) }
 {
     let beyond = tokens.len().saturating_sub(TOKEN_LIMIT);
-    expression(alloc, tokens, beyond, tokens.len(), true, room)
+    let budget = Budget {
+        beyond,
+        turns: tokens.len(),
+        room,
+    };
+    expression(alloc, tokens, budget, true)
 }
 
 /// Refuses the token before these, at its span, where fewer than `beyond` tokens are left
@@ -53,18 +69,21 @@ fn within(rest: &[Token], span: Span, beyond: usize) -> Result<(), SourceFault>
 fn expression(
     alloc: Global,
     tokens: &[Token],
-    beyond: usize,
-    turns: usize,
+    budget: Budget,
     may_assign: bool,
-    room: usize,
 ) -> Result<(Box<Expression>, &[Token]), SourceFault>
-    ensures { Reads (λ x. (view_expression x.0.value, x.1.now)) result (expression_at beyond turns may_assign room tokens.now) }
+    ensures { Reads (λ x. (view_expression x.0.value, x.1.now)) result (expression_at budget.beyond budget.turns may_assign budget.room tokens.now) }
 {
-    let Some(turns) = turns.checked_sub(1) else {
+    let Some(turns) = budget.turns.checked_sub(1) else {
         return Err(syntax(tokens));
     };
-    let (left, rest) = binary(alloc, tokens, beyond, turns, room, LEVELS)?;
-    expression_after(alloc, left, rest, beyond, turns, may_assign, room)
+    let budget = Budget {
+        beyond: budget.beyond,
+        turns,
+        room: budget.room,
+    };
+    let (left, rest) = binary(alloc, tokens, budget, LEVELS)?;
+    expression_after(alloc, left, rest, budget, may_assign)
 }
 
 /// An operand and what goes on with it: the rest of a conditional expression, of an assignment,
@@ -75,20 +94,18 @@ fn expression_after(
     alloc: Global,
     left: Box<Expression>,
     tokens: &[Token],
-    beyond: usize,
-    turns: usize,
+    budget: Budget,
     may_assign: bool,
-    room: usize,
 ) -> Result<(Box<Expression>, &[Token]), SourceFault>
-    ensures { Reads (λ x. (view_expression x.0.value, x.1.now)) result (expression_after beyond may_assign (expression_at beyond turns true room) (expression_at beyond turns false room) (view_expression left.value) tokens.now) }
+    ensures { Reads (λ x. (view_expression x.0.value, x.1.now)) result (expression_after budget.beyond may_assign (expression_at budget.beyond budget.turns true budget.room) (expression_at budget.beyond budget.turns false budget.room) (view_expression left.value) tokens.now) }
 {
     if let Some((question, rest)) = take_mark(tokens, Punctuator::Question) {
-        within(rest, question, beyond)?;
-        return conditional_after(alloc, left, question, rest, beyond, turns, room);
+        within(rest, question, budget.beyond)?;
+        return conditional_after(alloc, left, question, rest, budget);
     }
     if let Some((operator, at, rest)) = take_assign(may_assign, &left, tokens) {
-        within(rest, at, beyond)?;
-        let (value, rest) = expression(alloc, rest, beyond, turns, true, room)?;
+        within(rest, at, budget.beyond)?;
+        let (value, rest) = expression(alloc, rest, budget, true)?;
         let assignment = Expression::Assign(left, operator, at, value);
         return before(alloc, assignment, rest);
     }
@@ -103,16 +120,14 @@ fn conditional_after(
     condition: Box<Expression>,
     question: Span,
     tokens: &[Token],
-    beyond: usize,
-    turns: usize,
-    room: usize,
+    budget: Budget,
 ) -> Result<(Box<Expression>, &[Token]), SourceFault>
-    ensures { Reads (λ x. (view_expression x.0.value, x.1.now)) result (conditional_after beyond (expression_at beyond turns true room) (expression_at beyond turns false room) (view_expression condition.value) question tokens.now) }
+    ensures { Reads (λ x. (view_expression x.0.value, x.1.now)) result (conditional_after budget.beyond (expression_at budget.beyond budget.turns true budget.room) (expression_at budget.beyond budget.turns false budget.room) (view_expression condition.value) question tokens.now) }
 {
-    let (value, rest) = expression(alloc, tokens, beyond, turns, true, room)?;
+    let (value, rest) = expression(alloc, tokens, budget, true)?;
     let (colon, rest) = mark(rest, Punctuator::Colon)?;
-    within(rest, colon, beyond)?;
-    let (other, rest) = expression(alloc, rest, beyond, turns, false, room)?;
+    within(rest, colon, budget.beyond)?;
+    let (other, rest) = expression(alloc, rest, budget, false)?;
     let conditional = Expression::Conditional(condition, question, value, colon, other);
     before(alloc, conditional, rest)
 }
@@ -123,16 +138,14 @@ fn conditional_after(
 fn binary(
     alloc: Global,
     tokens: &[Token],
-    beyond: usize,
-    turns: usize,
-    room: usize,
+    budget: Budget,
     levels: usize,
 ) -> Result<(Box<Expression>, &[Token]), SourceFault>
-    ensures { Reads (λ x. (view_expression x.0.value, x.1.now)) result (binary_at beyond (operand_at beyond turns room) levels tokens.now) }
+    ensures { Reads (λ x. (view_expression x.0.value, x.1.now)) result (binary_at budget.beyond (operand_at budget.beyond budget.turns budget.room) levels tokens.now) }
 {
-    let (mut left, mut rest) = unary(alloc, tokens, beyond, turns, room)?;
+    let (mut left, mut rest) = unary(alloc, tokens, budget)?;
     'levels: for tighter in 0..levels {
-        let (joined, others) = operators(alloc, left, rest, beyond, turns, room, tighter)?;
+        let (joined, others) = operators(alloc, left, rest, budget, tighter)?;
         left = joined;
         rest = others;
     }
@@ -145,19 +158,17 @@ fn operators(
     alloc: Global,
     operand: Box<Expression>,
     tokens: &[Token],
-    beyond: usize,
-    turns: usize,
-    room: usize,
+    budget: Budget,
     tighter: usize,
 ) -> Result<(Box<Expression>, &[Token]), SourceFault>
-    ensures { let operands = binary_at beyond (operand_at beyond turns room) tighter in
-        Reads (λ x. (view_expression x.0.value, x.1.now)) result (chain_at (binary_more beyond (8 - tighter) operands) (length tokens.now) (view_expression operand.value) tokens.now) }
+    ensures { let operands = binary_at budget.beyond (operand_at budget.beyond budget.turns budget.room) tighter in
+        Reads (λ x. (view_expression x.0.value, x.1.now)) result (chain_at (binary_more budget.beyond (8 - tighter) operands) (length tokens.now) (view_expression operand.value) tokens.now) }
 {
     let mut left = operand;
     let mut rest = tokens;
     while let Some((operator, at, others)) = take_looser(rest, tighter) {
-        within(others, at, beyond)?;
-        let (right, others) = binary(alloc, others, beyond, turns, room, tighter)?;
+        within(others, at, budget.beyond)?;
+        let (right, others) = binary(alloc, others, budget, tighter)?;
         left = joined(alloc, left, operator, at, right)?;
         rest = others;
     }
@@ -169,14 +180,17 @@ fn operators(
 fn unary(
     alloc: Global,
     tokens: &[Token],
-    beyond: usize,
-    turns: usize,
-    room: usize,
+    budget: Budget,
 ) -> Result<(Box<Expression>, &[Token]), SourceFault>
-    ensures { Reads (λ x. (view_expression x.0.value, x.1.now)) result (operand_at beyond turns room tokens.now) }
+    ensures { Reads (λ x. (view_expression x.0.value, x.1.now)) result (operand_at budget.beyond budget.turns budget.room tokens.now) }
 {
-    let (operators, turns, rest) = prefixes(alloc, tokens, beyond, turns)?;
-    let (operand, rest) = postfix(alloc, rest, beyond, turns, room)?;
+    let (operators, turns, rest) = prefixes(alloc, tokens, budget.beyond, budget.turns)?;
+    let budget = Budget {
+        beyond: budget.beyond,
+        turns,
+        room: budget.room,
+    };
+    let (operand, rest) = postfix(alloc, rest, budget)?;
     Ok((prefixed(alloc, operators, operand)?, rest))
 }
 
@@ -214,14 +228,12 @@ fn prefixes(
 fn postfix(
     alloc: Global,
     tokens: &[Token],
-    beyond: usize,
-    turns: usize,
-    room: usize,
+    budget: Budget,
 ) -> Result<(Box<Expression>, &[Token]), SourceFault>
-    ensures { Reads (λ x. (view_expression x.0.value, x.1.now)) result (postfix_at beyond turns room tokens.now) }
+    ensures { Reads (λ x. (view_expression x.0.value, x.1.now)) result (postfix_at budget.beyond budget.turns budget.room tokens.now) }
 {
-    let (operand, rest) = primary(alloc, tokens, beyond, turns, room)?;
-    postfixes(alloc, operand, rest, beyond)
+    let (operand, rest) = primary(alloc, tokens, budget)?;
+    postfixes(alloc, operand, rest, budget.beyond)
 }
 
 /// An operand, the operators behind it, and the tokens behind them.
@@ -251,34 +263,30 @@ fn postfixes(
 fn primary(
     alloc: Global,
     tokens: &[Token],
-    beyond: usize,
-    turns: usize,
-    room: usize,
+    budget: Budget,
 ) -> Result<(Box<Expression>, &[Token]), SourceFault>
-    ensures { Reads (λ x. (view_expression x.0.value, x.1.now)) result (primary_step beyond (deeper (expression_at beyond turns true) room) tokens.now) }
+    ensures { Reads (λ x. (view_expression x.0.value, x.1.now)) result (primary_step budget.beyond (deeper (expression_at budget.beyond budget.turns true) budget.room) tokens.now) }
 {
     if let Some((number, rest)) = take_number(tokens) {
-        within(rest, number.span, beyond)?;
+        within(rest, number.span, budget.beyond)?;
         return before(alloc, Expression::Constant(number), rest);
     }
     if let Some((left, rest)) = take_mark(tokens, Punctuator::OpenParen) {
-        within(rest, left, beyond)?;
-        let Some(room) = room.checked_sub(1) else {
+        within(rest, left, budget.beyond)?;
+        let Some(room) = budget.room.checked_sub(1) else {
             return Err(too_deep(left));
         };
-        let (inner, right, rest) = closed(
-            alloc,
-            rest,
-            Punctuator::CloseParen,
-            beyond,
-            turns,
+        let budget = Budget {
+            beyond: budget.beyond,
+            turns: budget.turns,
             room,
-        )?;
+        };
+        let (inner, right, rest) = closed(alloc, rest, Punctuator::CloseParen, budget)?;
         return before(alloc, Expression::Paren(left, inner, right), rest);
     }
     let (name, rest) = name(alloc, tokens)?;
-    within(rest, name.span, beyond)?;
-    named_after(alloc, name, rest, beyond, turns, room)
+    within(rest, name.span, budget.beyond)?;
+    named_after(alloc, name, rest, budget)
 }
 
 /// An expression, the span of the mark that closes its bracket, and the tokens behind it.
@@ -288,15 +296,13 @@ fn closed(
     alloc: Global,
     tokens: &[Token],
     close: Punctuator,
-    beyond: usize,
-    turns: usize,
-    room: usize,
+    budget: Budget,
 ) -> Result<(Box<Expression>, Span, &[Token]), SourceFault>
-    ensures { Reads (λ x. ((view_expression x.0.value, x.1), x.2.now)) result (closed_by beyond close (expression_at beyond turns true room) tokens.now) }
+    ensures { Reads (λ x. ((view_expression x.0.value, x.1), x.2.now)) result (closed_by budget.beyond close (expression_at budget.beyond budget.turns true budget.room) tokens.now) }
 {
-    let (inner, rest) = expression(alloc, tokens, beyond, turns, true, room)?;
+    let (inner, rest) = expression(alloc, tokens, budget, true)?;
     let (right, rest) = mark(rest, close)?;
-    within(rest, right, beyond)?;
+    within(rest, right, budget.beyond)?;
     Ok((inner, right, rest))
 }
 
@@ -307,33 +313,34 @@ fn named_after(
     alloc: Global,
     name: Name,
     tokens: &[Token],
-    beyond: usize,
-    turns: usize,
-    room: usize,
+    budget: Budget,
 ) -> Result<(Box<Expression>, &[Token]), SourceFault>
-    ensures { Reads (λ x. (view_expression x.0.value, x.1.now)) result (named_after beyond (deeper (expression_at beyond turns true) room) name tokens.now) }
+    ensures { Reads (λ x. (view_expression x.0.value, x.1.now)) result (named_after budget.beyond (deeper (expression_at budget.beyond budget.turns true) budget.room) name tokens.now) }
 {
     if let Some((left, rest)) = take_mark(tokens, Punctuator::OpenBracket) {
-        within(rest, left, beyond)?;
-        let Some(room) = room.checked_sub(1) else {
+        within(rest, left, budget.beyond)?;
+        let Some(room) = budget.room.checked_sub(1) else {
             return Err(too_deep(left));
         };
-        let (index, right, rest) = closed(
-            alloc,
-            rest,
-            Punctuator::CloseBracket,
-            beyond,
-            turns,
+        let budget = Budget {
+            beyond: budget.beyond,
+            turns: budget.turns,
             room,
-        )?;
+        };
+        let (index, right, rest) = closed(alloc, rest, Punctuator::CloseBracket, budget)?;
         return before(alloc, Expression::Index(name, left, index, right), rest);
     }
     if let Some((left, rest)) = take_mark(tokens, Punctuator::OpenParen) {
-        within(rest, left, beyond)?;
-        let Some(room) = room.checked_sub(1) else {
+        within(rest, left, budget.beyond)?;
+        let Some(room) = budget.room.checked_sub(1) else {
             return Err(too_deep(left));
         };
-        return call_after(alloc, name, left, rest, beyond, turns, room);
+        let budget = Budget {
+            beyond: budget.beyond,
+            turns: budget.turns,
+            room,
+        };
+        return call_after(alloc, name, left, rest, budget);
     }
     before(alloc, Expression::Name(name), tokens)
 }
@@ -346,20 +353,18 @@ fn call_after(
     name: Name,
     left: Span,
     tokens: &[Token],
-    beyond: usize,
-    turns: usize,
-    room: usize,
+    budget: Budget,
 ) -> Result<(Box<Expression>, &[Token]), SourceFault>
-    ensures { Reads (λ x. (view_expression x.0.value, x.1.now)) result (call_after beyond (expression_at beyond turns true room) name left tokens.now) }
+    ensures { Reads (λ x. (view_expression x.0.value, x.1.now)) result (call_after budget.beyond (expression_at budget.beyond budget.turns true budget.room) name left tokens.now) }
 {
     if let Some((right, rest)) = take_mark(tokens, Punctuator::CloseParen) {
-        within(rest, right, beyond)?;
+        within(rest, right, budget.beyond)?;
         let call = Expression::Call(name, left, Vec::new(alloc), right);
         return before(alloc, call, rest);
     }
-    let (first, rest) = first_argument(alloc, &name, tokens, beyond, turns, room)?;
-    let (arguments, right, rest) = arguments(alloc, first, rest, beyond, turns, room)?;
-    within(rest, right, beyond)?;
+    let (first, rest) = first_argument(alloc, &name, tokens, budget)?;
+    let (arguments, right, rest) = arguments(alloc, first, rest, budget)?;
+    within(rest, right, budget.beyond)?;
     before(alloc, Expression::Call(name, left, arguments, right), rest)
 }
 
@@ -370,17 +375,15 @@ fn first_argument<'a>(
     alloc: Global,
     function: &Name,
     tokens: &'a [Token],
-    beyond: usize,
-    turns: usize,
-    room: usize,
+    budget: Budget,
 ) -> Result<(Box<Expression>, &'a [Token]), SourceFault>
-    ensures { Reads (λ x. (view_expression x.0.value, x.1.now)) result (first_at beyond (expression_at beyond turns true room) function.now tokens.now) }
+    ensures { Reads (λ x. (view_expression x.0.value, x.1.now)) result (first_at budget.beyond (expression_at budget.beyond budget.turns true budget.room) function.now tokens.now) }
 {
     if let Some((text, rest)) = take_text(alloc, function, tokens)? {
-        within(rest, text.span, beyond)?;
+        within(rest, text.span, budget.beyond)?;
         return before(alloc, Expression::Text(text), rest);
     }
-    expression(alloc, tokens, beyond, turns, true, room)
+    expression(alloc, tokens, budget, true)
 }
 
 /// The first argument and those behind commas, the span of the parenthesis behind them, and the
@@ -390,11 +393,9 @@ fn arguments(
     alloc: Global,
     first: Box<Expression>,
     tokens: &[Token],
-    beyond: usize,
-    turns: usize,
-    room: usize,
+    budget: Budget,
 ) -> Result<(Vec<(Option<Span>, Expression)>, Span, &[Token]), SourceFault>
-    ensures { Reads (λ x. (map view_argument x.0.items, x.1, x.2.now)) result (arguments_at beyond (expression_at beyond turns true room) (view_expression first.value) tokens.now) }
+    ensures { Reads (λ x. (map view_argument x.0.items, x.1, x.2.now)) result (arguments_at budget.beyond (expression_at budget.beyond budget.turns true budget.room) (view_expression first.value) tokens.now) }
 {
     let mut arguments = Vec::new(alloc);
     arguments.push((None, Box::into_inner(first)))?;
@@ -403,7 +404,7 @@ fn arguments(
         if let Some((right, after)) = take_mark(rest, Punctuator::CloseParen) {
             return Ok((arguments, right, after));
         }
-        let (comma, next, after) = argument(alloc, rest, beyond, turns, room)?;
+        let (comma, next, after) = argument(alloc, rest, budget)?;
         arguments.push((Some(comma), Box::into_inner(next)))?;
         rest = after;
     }
@@ -415,15 +416,13 @@ fn arguments(
 fn argument(
     alloc: Global,
     tokens: &[Token],
-    beyond: usize,
-    turns: usize,
-    room: usize,
+    budget: Budget,
 ) -> Result<(Span, Box<Expression>, &[Token]), SourceFault>
-    ensures { Reads (λ x. ((Some x.0, view_expression x.1.value), x.2.now)) result (argument_at beyond (expression_at beyond turns true room) tokens.now) }
+    ensures { Reads (λ x. ((Some x.0, view_expression x.1.value), x.2.now)) result (argument_at budget.beyond (expression_at budget.beyond budget.turns true budget.room) tokens.now) }
 {
     let (comma, rest) = mark(tokens, Punctuator::Comma)?;
-    within(rest, comma, beyond)?;
-    let (next, rest) = expression(alloc, rest, beyond, turns, true, room)?;
+    within(rest, comma, budget.beyond)?;
+    let (next, rest) = expression(alloc, rest, budget, true)?;
     Ok((comma, next, rest))
 }
 

@@ -8,6 +8,7 @@ ghost use Rattle.om_parser.specs.Reading.{take_mark, take_name, Reads};
 ghost use Rattle.om_parser.specs.Repetition.{optional, until};
 ghost use Rattle.om_parser.specs.View.{view_parameters, view_head};
 
+use crate::boxed::boxed_before;
 use crate::front::{mark, name, take_mark, take_word, word};
 use crate::tree::{FunctionHead, Parameter, Parameters, ResultType};
 use om_lexer::{Keyword, Punctuator, SourceFault, Span, Token, TokenKind};
@@ -22,20 +23,18 @@ pub fn head_after(
     name: Name,
     open_paren: Span,
     tokens: &[Token],
-) -> Result<(FunctionHead, &[Token]), SourceFault>
-    ensures { Reads (λ x. (view_head x.0, x.1.now)) result (head_after result_type name open_paren tokens.now) }
+) -> Result<(Box<FunctionHead>, &[Token]), SourceFault>
+    ensures { Reads (λ x. (view_head x.0.value, x.1.now)) result (head_after result_type name open_paren tokens.now) }
 {
     let (parameters, close_paren, rest) = parameters(alloc, tokens)?;
-    Ok((
-        FunctionHead {
-            result: result_type,
-            name,
-            open_paren,
-            parameters,
-            close_paren,
-        },
-        rest,
-    ))
+    let head = FunctionHead {
+        result: result_type,
+        name,
+        open_paren,
+        parameters,
+        close_paren,
+    };
+    boxed_before(alloc, head, rest)
 }
 
 /// Whether all parameters have names, as those of a definition do.

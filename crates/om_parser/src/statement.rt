@@ -2,12 +2,13 @@
 
 ghost use Rattle.std.specs.Prelude.{◌≡◌, IfOk, length, map, option_map, Err};
 ghost use Rattle.om_lexer.specs.declared.token.Punctuator.TheVariants.{CloseBrace};
+ghost use Rattle.om_lexer.specs.declared.token.Keyword.TheVariants.{Else};
 ghost use Rattle.om_pragma.specs.Questions.{atomic_kind};
 ghost use Rattle.om_parser.specs.AtomicForms.{has_atomic_form};
 ghost use Rattle.om_parser.specs.ConstructReading.{atomic_after, atomic_of, construct_at, constructed_after, line_of, line_start, part_item_at, section_at, section_item_at, sections_after, stand_alone_at, unknown_line};
 ghost use Rattle.om_parser.specs.Limits.{accepted};
 ghost use Rattle.om_parser.specs.PartReading.{block_at, parts};
-ghost use Rattle.om_parser.specs.Reading.{choose, take_mark, Reads, ReadsAlways};
+ghost use Rattle.om_parser.specs.Reading.{choose, take_mark, take_word, Makes, Reads};
 ghost use Rattle.om_parser.specs.Repetition.{until};
 ghost use Rattle.om_parser.specs.StatementReading.{start_of, start_of_mark, start_of_word, condition_at, optional_before, for_start_at, for_head_after, opening_of, headed_of, behind_body, else_after, body_after, simple_of, return_after, jump_after, expression_statement_at, do_end, do_after, block_after, local_item_after, block_item_at, block_items_after, item_at, items_at, section_items_after, no_room, statement_at, parts_at, block_with};
 ghost use Rattle.om_parser.specs.Tree as trees;
@@ -15,7 +16,7 @@ ghost use Rattle.om_parser.specs.StatementView.{view_opening};
 ghost use Rattle.om_parser.specs.View.{view_condition, view_expression, view_for_start, view_for_head, view_directive, view_statement, view_block};
 
 use crate::atomic::has_atomic_form;
-use crate::boxed::boxed;
+use crate::boxed::boxed_before;
 use crate::construct::{LineStart, line_start, misplaced};
 use crate::front::{mark, syntax, take_mark, take_word, too_deep, word};
 use crate::part::{declaration, directive_line, enclosed, enclosed_declaration, expression};
@@ -23,7 +24,7 @@ use crate::tree::{Block, Condition, Expression, ForHead, ForStart, Statement};
 use crate::unit::{BLOCK_LIMIT, STATEMENT_LIMIT};
 use om_lexer::{FaultCode, Keyword, Punctuator, SourceFault, Span, Token, TokenKind};
 use om_pragma::Directive;
-use std::alloc::{AllocError, Global};
+use std::alloc::Global;
 
 /// Which statement a token begins.
 #[derive(Clone, Copy)]
@@ -97,20 +98,29 @@ pub enum Inside {
     Sections,
 }
 
+/// What may still stand in one another.
+#[derive(Clone, Copy)]
+pub struct Room {
+    /// Whether each outermost `atomic` must have one of its forms.
+    checked: bool,
+    /// How many statements may stand in one another.
+    statements: usize,
+    /// How many blocks may stand in one another.
+    blocks: usize,
+}
+
 /// The block of a function, and the tokens behind it.
 #[tactic(auto, unfolding(crate::specs::PartReading::block_at, crate::specs::StatementReading::block_with, crate::specs::StatementReading::block_items_after))]
 pub fn block(alloc: Global, tokens: &[Token]) -> Result<(Block, &[Token]), SourceFault>
     ensures { Reads (λ x. (view_block x.0, x.1.now)) result (block_at accepted tokens.now) }
 {
     let (open_brace, rest) = mark(tokens, Punctuator::OpenBrace)?;
-    let (items, close_brace, rest) = items(
-        alloc,
-        Inside::Block,
-        rest,
-        true,
-        STATEMENT_LIMIT,
-        BLOCK_LIMIT - 1,
-    )?;
+    let room = Room {
+        checked: true,
+        statements: STATEMENT_LIMIT,
+        blocks: BLOCK_LIMIT - 1,
+    };
+    let (items, close_brace, rest) = items(alloc, Inside::Block, rest, room)?;
     Ok((
         Block {
             open_brace,
@@ -128,18 +138,20 @@ fn block_after(
     alloc: Global,
     open_brace: Span,
     tokens: &[Token],
-    checked: bool,
-    room: usize,
-    blocks: usize,
+    room: Room,
 ) -> Result<(Box<Statement>, &[Token]), SourceFault>
-    ensures { Reads (λ x. (view_statement x.0.value, x.1.now)) result (block_after (parts accepted) (statement_at (parts accepted) checked room) blocks open_brace tokens.now) }
+    ensures { Reads (λ x. (view_statement x.0.value, x.1.now)) result (block_after (parts accepted) (statement_at (parts accepted) room.checked room.statements) room.blocks open_brace tokens.now) }
 {
-    let Some(blocks) = blocks.checked_sub(1) else {
+    let Some(blocks) = room.blocks.checked_sub(1) else {
         return Err(too_deep(open_brace));
     };
-    let (items, close_brace, rest) = items(alloc, Inside::Block, tokens, checked, room, blocks)?;
-    let block = block_of(alloc, open_brace, items, close_brace)?;
-    Ok((block, rest))
+    let room = Room {
+        checked: room.checked,
+        statements: room.statements,
+        blocks,
+    };
+    let (items, close_brace, rest) = items(alloc, Inside::Block, tokens, room)?;
+    block_of(alloc, open_brace, items, close_brace, rest)
 }
 
 /// A `do`, of which the word is taken, and the tokens behind it.
@@ -149,13 +161,11 @@ fn do_after(
     alloc: Global,
     at: Span,
     tokens: &[Token],
-    checked: bool,
-    room: usize,
-    blocks: usize,
+    room: Room,
 ) -> Result<(Box<Statement>, &[Token]), SourceFault>
-    ensures { Reads (λ x. (view_statement x.0.value, x.1.now)) result (do_after (parts accepted) (statement_at (parts accepted) checked room blocks) at tokens.now) }
+    ensures { Reads (λ x. (view_statement x.0.value, x.1.now)) result (do_after (parts accepted) (statement_at (parts accepted) room.checked room.statements room.blocks) at tokens.now) }
 {
-    let (body, rest) = statement(alloc, tokens, checked, room, blocks)?;
+    let (body, rest) = statement(alloc, tokens, room)?;
     do_end(alloc, at, body, rest)
 }
 
@@ -165,11 +175,9 @@ fn items(
     alloc: Global,
     kind: Inside,
     tokens: &[Token],
-    checked: bool,
-    room: usize,
-    blocks: usize,
+    room: Room,
 ) -> Result<(Vec<Statement>, Span, &[Token]), SourceFault>
-    ensures { Reads (λ x. (map view_statement x.0.items, x.1, x.2.now)) result (items_at kind (parts accepted) (statement_at (parts accepted) checked room blocks) tokens.now) }
+    ensures { Reads (λ x. (map view_statement x.0.items, x.1, x.2.now)) result (items_at kind (parts accepted) (statement_at (parts accepted) room.checked room.statements room.blocks) tokens.now) }
 {
     let mut items = Vec::new(alloc);
     let mut rest = tokens;
@@ -177,7 +185,7 @@ fn items(
         if let Some((close_brace, after)) = take_mark(rest, Punctuator::CloseBrace) {
             return Ok((items, close_brace, after));
         }
-        let (next, after) = item(alloc, kind, rest, checked, room, blocks)?;
+        let (next, after) = item(alloc, kind, rest, room)?;
         items.push(Box::into_inner(next))?;
         rest = after;
     }
@@ -189,15 +197,13 @@ fn item(
     alloc: Global,
     kind: Inside,
     tokens: &[Token],
-    checked: bool,
-    room: usize,
-    blocks: usize,
+    room: Room,
 ) -> Result<(Box<Statement>, &[Token]), SourceFault>
-    ensures { Reads (λ x. (view_statement x.0.value, x.1.now)) result (item_at kind (parts accepted) (statement_at (parts accepted) checked room blocks) tokens.now) }
+    ensures { Reads (λ x. (view_statement x.0.value, x.1.now)) result (item_at kind (parts accepted) (statement_at (parts accepted) room.checked room.statements room.blocks) tokens.now) }
 {
     match kind {
-        Inside::Block => block_item(alloc, tokens, checked, room, blocks),
-        Inside::Sections => section_item(alloc, tokens, checked, room, blocks),
+        Inside::Block => block_item(alloc, tokens, room),
+        Inside::Sections => section_item(alloc, tokens, room),
     }
 }
 
@@ -207,15 +213,13 @@ fn item(
 fn block_item(
     alloc: Global,
     tokens: &[Token],
-    checked: bool,
-    room: usize,
-    blocks: usize,
+    room: Room,
 ) -> Result<(Box<Statement>, &[Token]), SourceFault>
-    ensures { Reads (λ x. (view_statement x.0.value, x.1.now)) result (block_item_at (parts accepted) (statement_at (parts accepted) checked room blocks) tokens.now) }
+    ensures { Reads (λ x. (view_statement x.0.value, x.1.now)) result (block_item_at (parts accepted) (statement_at (parts accepted) room.checked room.statements room.blocks) tokens.now) }
 {
     match take_word(tokens, Keyword::Int) {
         Some((int, rest)) => declaration_item(alloc, int, rest),
-        None => part_item(alloc, tokens, checked, room, blocks),
+        None => part_item(alloc, tokens, room),
     }
 }
 
@@ -225,17 +229,15 @@ fn block_item(
 fn part_item(
     alloc: Global,
     tokens: &[Token],
-    checked: bool,
-    room: usize,
-    blocks: usize,
+    room: Room,
 ) -> Result<(Box<Statement>, &[Token]), SourceFault>
-    ensures { Reads (λ x. (view_statement x.0.value, x.1.now)) result (part_item_at (parts accepted).line (statement_at (parts accepted) checked room blocks) tokens.now) }
+    ensures { Reads (λ x. (view_statement x.0.value, x.1.now)) result (part_item_at (parts accepted).line (statement_at (parts accepted) room.checked room.statements room.blocks) tokens.now) }
 {
     match line_start(tokens) {
         LineStart::StandAlone => stand_alone(alloc, tokens),
         LineStart::Section => Err(misplaced(tokens)),
         LineStart::Unknown => unknown_line(alloc, tokens),
-        _ => statement(alloc, tokens, checked, room, blocks),
+        _ => statement(alloc, tokens, room),
     }
 }
 
@@ -246,15 +248,13 @@ fn part_item(
 fn section_item(
     alloc: Global,
     tokens: &[Token],
-    checked: bool,
-    room: usize,
-    blocks: usize,
+    room: Room,
 ) -> Result<(Box<Statement>, &[Token]), SourceFault>
-    ensures { Reads (λ x. (view_statement x.0.value, x.1.now)) result (section_item_at (parts accepted).line (statement_at (parts accepted) checked room blocks) tokens.now) }
+    ensures { Reads (λ x. (view_statement x.0.value, x.1.now)) result (section_item_at (parts accepted).line (statement_at (parts accepted) room.checked room.statements room.blocks) tokens.now) }
 {
     match line_start(tokens) {
-        LineStart::Section => section(alloc, tokens, checked, room, blocks),
-        _ => part_item(alloc, tokens, checked, room, blocks),
+        LineStart::Section => section(alloc, tokens, room),
+        _ => part_item(alloc, tokens, room),
     }
 }
 
@@ -264,46 +264,43 @@ fn section_item(
 fn section(
     alloc: Global,
     tokens: &[Token],
-    checked: bool,
-    room: usize,
-    blocks: usize,
+    room: Room,
 ) -> Result<(Box<Statement>, &[Token]), SourceFault>
-    ensures { Reads (λ x. (view_statement x.0.value, x.1.now)) result (section_at (parts accepted).line (statement_at (parts accepted) checked room blocks) tokens.now) }
+    ensures { Reads (λ x. (view_statement x.0.value, x.1.now)) result (section_at (parts accepted).line (statement_at (parts accepted) room.checked room.statements room.blocks) tokens.now) }
 {
     let (directive, rest) = directive_line(alloc, tokens)?;
-    let (first, rest) = part_item(alloc, rest, checked, room, blocks)?;
-    let statement = section_of(alloc, directive, first)?;
-    Ok((statement, rest))
+    let (first, rest) = part_item(alloc, rest, room)?;
+    section_of(alloc, directive, first, rest)
 }
 
-/// A statement, and the tokens behind it. Each `atomic` in it must have one of its forms where
-/// it is `checked`.
+/// A statement, and the tokens behind it.
 #[cycle(statement)]
 #[tactic(auto, unfolding(crate::specs::StatementReading::statement_at, crate::specs::StatementReading::statement_of))]
 fn statement(
     alloc: Global,
     tokens: &[Token],
-    checked: bool,
-    room: usize,
-    blocks: usize,
+    room: Room,
 ) -> Result<(Box<Statement>, &[Token]), SourceFault>
-    ensures { Reads (λ x. (view_statement x.0.value, x.1.now)) result (statement_at (parts accepted) checked room blocks tokens.now) }
+    ensures { Reads (λ x. (view_statement x.0.value, x.1.now)) result (statement_at (parts accepted) room.checked room.statements room.blocks tokens.now) }
 {
     let [first, rest @ ..] = tokens else {
         return Err(syntax(tokens));
     };
     let start = start_of(&first.kind);
-    let Some(room) = room.checked_sub(1) else {
+    let Some(statements) = room.statements.checked_sub(1) else {
         return Err(no_room(start, tokens, first.span));
     };
+    let room = Room {
+        checked: room.checked,
+        statements,
+        blocks: room.blocks,
+    };
     match start {
-        Start::Block => block_after(alloc, first.span, rest, checked, room, blocks),
-        Start::If | Start::While | Start::For => {
-            headed(alloc, start, first.span, rest, checked, room, blocks)
-        }
-        Start::Do => do_after(alloc, first.span, rest, checked, room, blocks),
-        Start::Directive => directive(alloc, tokens, checked, room, blocks),
-        _ => simple_boxed(alloc, start, first.span, rest, tokens),
+        Start::Block => block_after(alloc, first.span, rest, room),
+        Start::If | Start::While | Start::For => { headed(alloc, start, first.span, rest, room) }
+        Start::Do => do_after(alloc, first.span, rest, room),
+        Start::Directive => directive(alloc, tokens, room),
+        _ => simple(alloc, start, first.span, rest, tokens),
     }
 }
 
@@ -313,14 +310,12 @@ fn statement(
 fn directive(
     alloc: Global,
     tokens: &[Token],
-    checked: bool,
-    room: usize,
-    blocks: usize,
+    room: Room,
 ) -> Result<(Box<Statement>, &[Token]), SourceFault>
-    ensures { Reads (λ x. (view_statement x.0.value, x.1.now)) result (line_of (parts accepted).line checked (λ c. statement_at (parts accepted) c room blocks) (parts_at (parts accepted) checked room blocks) (line_start tokens.now) tokens.now) }
+    ensures { Reads (λ x. (view_statement x.0.value, x.1.now)) result (line_of (parts accepted).line room.checked (λ c. statement_at (parts accepted) c room.statements room.blocks) (parts_at (parts accepted) room.checked room.statements room.blocks) (line_start tokens.now) tokens.now) }
 {
     match line_start(tokens) {
-        LineStart::Construct => construct(alloc, tokens, checked, room, blocks),
+        LineStart::Construct => construct(alloc, tokens, room),
         LineStart::Unknown => unknown_line(alloc, tokens),
         _ => Err(misplaced(tokens)),
     }
@@ -332,19 +327,17 @@ fn directive(
 fn construct(
     alloc: Global,
     tokens: &[Token],
-    checked: bool,
-    room: usize,
-    blocks: usize,
+    room: Room,
 ) -> Result<(Box<Statement>, &[Token]), SourceFault>
-    ensures { Reads (λ x. (view_statement x.0.value, x.1.now)) result (construct_at (parts accepted).line checked (λ c. statement_at (parts accepted) c room blocks) (parts_at (parts accepted) checked room blocks) tokens.now) }
+    ensures { Reads (λ x. (view_statement x.0.value, x.1.now)) result (construct_at (parts accepted).line room.checked (λ c. statement_at (parts accepted) c room.statements room.blocks) (parts_at (parts accepted) room.checked room.statements room.blocks) tokens.now) }
 {
     let (directive, rest) = directive_line(alloc, tokens)?;
     if directive.name.kind().has_parts() {
-        sections(alloc, directive, rest, checked, room, blocks)
+        sections(alloc, directive, rest, room)
     } else if directive.name.kind().is_atomic() {
-        atomic(alloc, directive, rest, checked, room, blocks)
+        atomic(alloc, directive, rest, room)
     } else {
-        constructed(alloc, directive, rest, checked, room, blocks)
+        constructed(alloc, directive, rest, room)
     }
 }
 
@@ -355,15 +348,12 @@ fn constructed(
     alloc: Global,
     directive: Box<Directive<Expression>>,
     tokens: &[Token],
-    checked: bool,
-    room: usize,
-    blocks: usize,
+    room: Room,
 ) -> Result<(Box<Statement>, &[Token]), SourceFault>
-    ensures { Reads (λ x. (view_statement x.0.value, x.1.now)) result (constructed_after (statement_at (parts accepted) checked room blocks) (view_directive directive.value) tokens.now) }
+    ensures { Reads (λ x. (view_statement x.0.value, x.1.now)) result (constructed_after (statement_at (parts accepted) room.checked room.statements room.blocks) (view_directive directive.value) tokens.now) }
 {
-    let (body, rest) = statement(alloc, tokens, checked, room, blocks)?;
-    let statement = construct_of(alloc, directive, body)?;
-    Ok((statement, rest))
+    let (body, rest) = statement(alloc, tokens, room)?;
+    construct_of(alloc, directive, body, rest)
 }
 
 /// An `atomic`, of which the line is taken, and the tokens behind it.
@@ -373,14 +363,17 @@ fn atomic(
     alloc: Global,
     directive: Box<Directive<Expression>>,
     tokens: &[Token],
-    checked: bool,
-    room: usize,
-    blocks: usize,
+    room: Room,
 ) -> Result<(Box<Statement>, &[Token]), SourceFault>
-    ensures { Reads (λ x. (view_statement x.0.value, x.1.now)) result (atomic_after checked (λ c. statement_at (parts accepted) c room blocks) (view_directive directive.value) tokens.now) }
+    ensures { Reads (λ x. (view_statement x.0.value, x.1.now)) result (atomic_after room.checked (λ c. statement_at (parts accepted) c room.statements room.blocks) (view_directive directive.value) tokens.now) }
 {
-    let (body, rest) = statement(alloc, tokens, false, room, blocks)?;
-    atomic_of(alloc, checked, directive, body, rest)
+    let unchecked = Room {
+        checked: false,
+        statements: room.statements,
+        blocks: room.blocks,
+    };
+    let (body, rest) = statement(alloc, tokens, unchecked)?;
+    atomic_of(alloc, room.checked, directive, body, rest)
 }
 
 /// A `sections`, of which the line is taken, and the tokens behind it.
@@ -390,15 +383,12 @@ fn sections(
     alloc: Global,
     directive: Box<Directive<Expression>>,
     tokens: &[Token],
-    checked: bool,
-    room: usize,
-    blocks: usize,
+    room: Room,
 ) -> Result<(Box<Statement>, &[Token]), SourceFault>
-    ensures { Reads (λ x. (view_statement x.0.value, x.1.now)) result (sections_after (parts_at (parts accepted) checked room blocks) (view_directive directive.value) tokens.now) }
+    ensures { Reads (λ x. (view_statement x.0.value, x.1.now)) result (sections_after (parts_at (parts accepted) room.checked room.statements room.blocks) (view_directive directive.value) tokens.now) }
 {
-    let (open_brace, items, close_brace, rest) = braces(alloc, tokens, checked, room, blocks)?;
-    let statement = sections_of(alloc, directive, open_brace, items, close_brace)?;
-    Ok((statement, rest))
+    let (open_brace, items, close_brace, rest) = braces(alloc, tokens, room)?;
+    sections_of(alloc, directive, open_brace, items, close_brace, rest)
 }
 
 /// The braces of `sections`, the items in them, and the tokens behind them.
@@ -407,20 +397,23 @@ fn sections(
 fn braces(
     alloc: Global,
     tokens: &[Token],
-    checked: bool,
-    room: usize,
-    blocks: usize,
+    room: Room,
 ) -> Result<(Span, Vec<Statement>, Span, &[Token]), SourceFault>
-    ensures { Reads (λ x. ((x.0, trees.statements (map view_statement x.1.items), x.2), x.3.now)) result (parts_at (parts accepted) checked room blocks tokens.now) }
+    ensures { Reads (λ x. ((x.0, trees.statements (map view_statement x.1.items), x.2), x.3.now)) result (parts_at (parts accepted) room.checked room.statements room.blocks tokens.now) }
 {
     let (open_brace, rest) = mark(tokens, Punctuator::OpenBrace)?;
-    let Some(room) = room.checked_sub(1) else {
+    let Some(statements) = room.statements.checked_sub(1) else {
         return Err(too_deep(open_brace));
     };
-    let Some(blocks) = blocks.checked_sub(1) else {
+    let Some(blocks) = room.blocks.checked_sub(1) else {
         return Err(too_deep(open_brace));
     };
-    let (items, close_brace, rest) = section_items(alloc, rest, checked, room, blocks)?;
+    let room = Room {
+        checked: room.checked,
+        statements,
+        blocks,
+    };
+    let (items, close_brace, rest) = section_items(alloc, rest, room)?;
     Ok((open_brace, items, close_brace, rest))
 }
 
@@ -431,16 +424,14 @@ fn braces(
 fn section_items(
     alloc: Global,
     tokens: &[Token],
-    checked: bool,
-    room: usize,
-    blocks: usize,
+    room: Room,
 ) -> Result<(Vec<Statement>, Span, &[Token]), SourceFault>
-    ensures { Reads (λ x. (map view_statement x.0.items, x.1, x.2.now)) result (section_items_after (parts accepted) (statement_at (parts accepted) checked room blocks) tokens.now) }
+    ensures { Reads (λ x. (map view_statement x.0.items, x.1, x.2.now)) result (section_items_after (parts accepted) (statement_at (parts accepted) room.checked room.statements room.blocks) tokens.now) }
 {
     if take_mark(tokens, Punctuator::CloseBrace).is_some() {
         return Err(syntax(tokens));
     }
-    items(alloc, Inside::Sections, tokens, checked, room, blocks)
+    items(alloc, Inside::Sections, tokens, room)
 }
 
 /// The fault of a statement, of this start, round which no statement may stand.
@@ -467,116 +458,138 @@ enum Opening {
 
 /// A block of these parts.
 #[inline(never)]
-fn block_of(
+fn block_of<'a>(
     alloc: Global,
     open_brace: Span,
     items: Vec<Statement>,
     close_brace: Span,
-) -> Result<Box<Statement>, AllocError>
-    ensures { IfOk result (λ s. view_statement s.value ≡ trees.Block open_brace (trees.statements (map view_statement items.items)) close_brace) }
+    rest: &'a [Token],
+) -> Result<(Box<Statement>, &'a [Token]), SourceFault>
+    ensures { Makes (λ x. (view_statement x.0.value, x.1.now)) result (trees.Block open_brace (trees.statements (map view_statement items.items)) close_brace) rest.now }
 {
-    boxed(alloc, Statement::Block(open_brace, items, close_brace))
+    boxed_before(
+        alloc,
+        Statement::Block(open_brace, items, close_brace),
+        rest,
+    )
 }
 
 /// An `if` of these parts, without `else`.
 #[inline(never)]
-fn if_of(
+fn if_of<'a>(
     alloc: Global,
     at: Span,
     condition: Box<Condition>,
     body: Box<Statement>,
-) -> Result<Box<Statement>, AllocError>
-    ensures { IfOk result (λ s. view_statement s.value ≡ trees.If at (view_condition condition.value) (view_statement body.value)) }
+    rest: &'a [Token],
+) -> Result<(Box<Statement>, &'a [Token]), SourceFault>
+    ensures { Makes (λ x. (view_statement x.0.value, x.1.now)) result (trees.If at (view_condition condition.value) (view_statement body.value)) rest.now }
 {
-    boxed(alloc, Statement::If(at, Box::into_inner(condition), body))
+    boxed_before(
+        alloc,
+        Statement::If(at, Box::into_inner(condition), body),
+        rest,
+    )
 }
 
 /// An `if` of these parts, with `else`.
 #[inline(never)]
-fn if_else_of(
+fn if_else_of<'a>(
     alloc: Global,
     at: Span,
     condition: Box<Condition>,
     body: Box<Statement>,
     other: Span,
     second: Box<Statement>,
-) -> Result<Box<Statement>, AllocError>
-    ensures { IfOk result (λ s. view_statement s.value ≡ trees.IfElse at (view_condition condition.value) (view_statement body.value) other (view_statement second.value)) }
+    rest: &'a [Token],
+) -> Result<(Box<Statement>, &'a [Token]), SourceFault>
+    ensures { Makes (λ x. (view_statement x.0.value, x.1.now)) result (trees.IfElse at (view_condition condition.value) (view_statement body.value) other (view_statement second.value)) rest.now }
 {
     let condition = Box::into_inner(condition);
-    boxed(alloc, Statement::IfElse(at, condition, body, other, second))
+    boxed_before(
+        alloc,
+        Statement::IfElse(at, condition, body, other, second),
+        rest,
+    )
 }
 
 /// A `while` of these parts.
 #[inline(never)]
-fn while_of(
+fn while_of<'a>(
     alloc: Global,
     at: Span,
     condition: Box<Condition>,
     body: Box<Statement>,
-) -> Result<Box<Statement>, AllocError>
-    ensures { IfOk result (λ s. view_statement s.value ≡ trees.While at (view_condition condition.value) (view_statement body.value)) }
+    rest: &'a [Token],
+) -> Result<(Box<Statement>, &'a [Token]), SourceFault>
+    ensures { Makes (λ x. (view_statement x.0.value, x.1.now)) result (trees.While at (view_condition condition.value) (view_statement body.value)) rest.now }
 {
-    boxed(
+    boxed_before(
         alloc,
         Statement::While(at, Box::into_inner(condition), body),
+        rest,
     )
 }
 
 /// A `for` of these parts.
 #[inline(never)]
-fn for_of(
+fn for_of<'a>(
     alloc: Global,
     head: Box<ForHead>,
     body: Box<Statement>,
-) -> Result<Box<Statement>, AllocError>
-    ensures { IfOk result (λ s. view_statement s.value ≡ trees.For (view_for_head head.value) (view_statement body.value)) }
+    rest: &'a [Token],
+) -> Result<(Box<Statement>, &'a [Token]), SourceFault>
+    ensures { Makes (λ x. (view_statement x.0.value, x.1.now)) result (trees.For (view_for_head head.value) (view_statement body.value)) rest.now }
 {
-    boxed(alloc, Statement::For(Box::into_inner(head), body))
+    boxed_before(alloc, Statement::For(Box::into_inner(head), body), rest)
 }
 
 /// A construct of these parts.
 #[inline(never)]
-fn construct_of(
+fn construct_of<'a>(
     alloc: Global,
     directive: Box<Directive<Expression>>,
     body: Box<Statement>,
-) -> Result<Box<Statement>, AllocError>
-    ensures { IfOk result (λ s. view_statement s.value ≡ trees.Construct (view_directive directive.value) (view_statement body.value)) }
+    rest: &'a [Token],
+) -> Result<(Box<Statement>, &'a [Token]), SourceFault>
+    ensures { Makes (λ x. (view_statement x.0.value, x.1.now)) result (trees.Construct (view_directive directive.value) (view_statement body.value)) rest.now }
 {
     let directive = Box::into_inner(directive);
-    boxed(alloc, Statement::Construct(directive, body))
+    boxed_before(alloc, Statement::Construct(directive, body), rest)
 }
 
 /// A `sections` of these parts.
 #[inline(never)]
-fn sections_of(
+fn sections_of<'a>(
     alloc: Global,
     directive: Box<Directive<Expression>>,
     open_brace: Span,
     items: Vec<Statement>,
     close_brace: Span,
-) -> Result<Box<Statement>, AllocError>
-    ensures { IfOk result (λ s. view_statement s.value ≡ trees.Sections (view_directive directive.value) open_brace (trees.statements (map view_statement items.items)) close_brace) }
+    rest: &'a [Token],
+) -> Result<(Box<Statement>, &'a [Token]), SourceFault>
+    ensures { Makes (λ x. (view_statement x.0.value, x.1.now)) result (trees.Sections (view_directive directive.value) open_brace (trees.statements (map view_statement items.items)) close_brace) rest.now }
 {
     let directive = Box::into_inner(directive);
-    boxed(
+    boxed_before(
         alloc,
         Statement::Sections(directive, open_brace, items, close_brace),
+        rest,
     )
 }
 
 /// A `section` and the first item of its part.
 #[inline(never)]
-fn section_of(
+fn section_of<'a>(
     alloc: Global,
     directive: Box<Directive<Expression>>,
     first: Box<Statement>,
-) -> Result<Box<Statement>, AllocError>
-    ensures { IfOk result (λ s. view_statement s.value ≡ trees.Section (view_directive directive.value) (view_statement first.value)) }
+    rest: &'a [Token],
+) -> Result<(Box<Statement>, &'a [Token]), SourceFault>
+    ensures { Makes (λ x. (view_statement x.0.value, x.1.now)) result (trees.Section (view_directive directive.value) (view_statement first.value)) rest.now }
 {
     let directive = Box::into_inner(directive);
-    boxed(alloc, Statement::Section(directive, first))
+    boxed_before(alloc, Statement::Section(directive, first), rest)
 }
 
 /// A directive that stands alone, and the tokens behind it.
@@ -587,8 +600,7 @@ fn stand_alone(alloc: Global, tokens: &[Token]) -> Result<(Box<Statement>, &[Tok
 {
     let (directive, rest) = directive_line(alloc, tokens)?;
     let directive = Box::into_inner(directive);
-    let statement = boxed(alloc, Statement::StandAlone(directive))?;
-    Ok((statement, rest))
+    boxed_before(alloc, Statement::StandAlone(directive), rest)
 }
 
 /// Refuses a line whose word names no directive.
@@ -614,8 +626,7 @@ fn atomic_of<'a>(
     ensures { Reads (λ x. (view_statement x.0.value, x.1.now)) result (atomic_of checked (view_directive directive.value) (view_statement body.value) tokens.now) }
 {
     if !checked || has_form(&directive, &body) {
-        let statement = construct_of(alloc, directive, body)?;
-        return Ok((statement, tokens));
+        return construct_of(alloc, directive, body, tokens);
     }
     Err(SourceFault {
         code: FaultCode::BadClause,
@@ -641,25 +652,7 @@ fn declaration_item(
     ensures { Reads (λ x. (view_statement x.0.value, x.1.now)) result (local_item_after (parts accepted) int tokens.now) }
 {
     let (declaration, rest) = declaration(alloc, int, tokens)?;
-    let statement = boxed(alloc, Statement::Declaration(declaration))?;
-    Ok((statement, rest))
-}
-
-/// A statement of this start that has no statement in it, of which the first token is taken, and
-/// the tokens behind it.
-#[inline(never)]
-fn simple_boxed<'a>(
-    alloc: Global,
-    start: Start,
-    at: Span,
-    behind: &'a [Token],
-    whole: &'a [Token],
-) -> Result<(Box<Statement>, &'a [Token]), SourceFault>
-    ensures { Reads (λ x. (view_statement x.0.value, x.1.now)) result (simple_of (parts accepted) start at behind.now whole.now) }
-{
-    let (statement, rest) = simple(alloc, start, at, behind, whole)?;
-    let statement = boxed(alloc, statement)?;
-    Ok((statement, rest))
+    boxed_before(alloc, Statement::Declaration(declaration), rest)
 }
 
 /// A statement that begins with an opening, and the tokens behind it.
@@ -670,15 +663,13 @@ fn headed(
     start: Start,
     at: Span,
     tokens: &[Token],
-    checked: bool,
-    room: usize,
-    blocks: usize,
+    room: Room,
 ) -> Result<(Box<Statement>, &[Token]), SourceFault>
-    ensures { Reads (λ x. (view_statement x.0.value, x.1.now)) result (headed_of (parts accepted) (statement_at (parts accepted) checked room blocks) start at tokens.now) }
+    ensures { Reads (λ x. (view_statement x.0.value, x.1.now)) result (headed_of (parts accepted) (statement_at (parts accepted) room.checked room.statements room.blocks) start at tokens.now) }
 {
     let (opening, rest) = opening_after(alloc, start, at, tokens)?;
-    let (body, rest) = statement(alloc, rest, checked, room, blocks)?;
-    behind_body(alloc, opening, body, rest, checked, room, blocks)
+    let (body, rest) = statement(alloc, rest, room)?;
+    behind_body(alloc, opening, body, rest, room)
 }
 
 /// What follows the body of a statement.
@@ -689,33 +680,28 @@ fn behind_body(
     opening: Opening,
     body: Box<Statement>,
     tokens: &[Token],
-    checked: bool,
-    room: usize,
-    blocks: usize,
+    room: Room,
 ) -> Result<(Box<Statement>, &[Token]), SourceFault>
-    ensures { Reads (λ x. (view_statement x.0.value, x.1.now)) result (behind_body (statement_at (parts accepted) checked room blocks) (view_opening opening) (view_statement body.value) tokens.now) }
+    ensures { Reads (λ x. (view_statement x.0.value, x.1.now)) result (behind_body (statement_at (parts accepted) room.checked room.statements room.blocks) (view_opening opening) (view_statement body.value) tokens.now) }
 {
     match opening {
-        Opening::If(at, condition) => match take_word(tokens, Keyword::Else) {
+        Opening::If(at, condition) => match take_else(tokens) {
             Some((other, rest)) => {
-                let (second, rest) = statement(alloc, rest, checked, room, blocks)?;
-                let statement = if_else_of(alloc, at, condition, body, other, second)?;
-                Ok((statement, rest))
+                let (second, rest) = statement(alloc, rest, room)?;
+                if_else_of(alloc, at, condition, body, other, second, rest)
             }
-            None => {
-                let statement = if_of(alloc, at, condition, body)?;
-                Ok((statement, tokens))
-            }
+            None => if_of(alloc, at, condition, body, tokens),
         },
-        Opening::While(at, condition) => {
-            let statement = while_of(alloc, at, condition, body)?;
-            Ok((statement, tokens))
-        }
-        Opening::For(head) => {
-            let statement = for_of(alloc, head, body)?;
-            Ok((statement, tokens))
-        }
+        Opening::While(at, condition) => while_of(alloc, at, condition, body, tokens),
+        Opening::For(head) => for_of(alloc, head, body, tokens),
     }
+}
+
+/// An `else`, if it stands first, and the tokens behind it.
+fn take_else(tokens: &[Token]) -> Option<(Span, &[Token])>
+    ensures { option_map (λ x. (x.0, x.1.now)) result ≡ take_word Else tokens.now }
+{
+    take_word(tokens, Keyword::Else)
 }
 
 /// The opening of a statement of this start, of which the word is taken.
@@ -755,15 +741,12 @@ fn condition(alloc: Global, tokens: &[Token]) -> Result<(Box<Condition>, &[Token
     let (value, rest) = enclosed(alloc, rest)?;
     let (close_paren, rest) = mark(rest, Punctuator::CloseParen)?;
     let value = Box::into_inner(value);
-    let condition = boxed(
-        alloc,
-        Condition {
-            open_paren,
-            value,
-            close_paren,
-        },
-    )?;
-    Ok((condition, rest))
+    let condition = Condition {
+        open_paren,
+        value,
+        close_paren,
+    };
+    boxed_before(alloc, condition, rest)
 }
 
 /// The head of a `for`, of which the word is taken, and the tokens behind it.
@@ -779,19 +762,16 @@ fn for_head(
     let (start, rest) = for_start(alloc, rest)?;
     let (condition, semicolon, rest) = enclosed_before(alloc, rest, Punctuator::Semicolon)?;
     let (step, close_paren, rest) = enclosed_before(alloc, rest, Punctuator::CloseParen)?;
-    let head = boxed(
-        alloc,
-        ForHead {
-            word,
-            open_paren,
-            start: Box::into_inner(start),
-            condition: unboxed(condition),
-            semicolon,
-            step: unboxed(step),
-            close_paren,
-        },
-    )?;
-    Ok((head, rest))
+    let head = ForHead {
+        word,
+        open_paren,
+        start: Box::into_inner(start),
+        condition: unboxed(condition),
+        semicolon,
+        step: unboxed(step),
+        close_paren,
+    };
+    boxed_before(alloc, head, rest)
 }
 
 /// What a `for` begins with, and the tokens behind it.
@@ -801,11 +781,10 @@ fn for_start(alloc: Global, tokens: &[Token]) -> Result<(Box<ForStart>, &[Token]
 {
     if let Some((int, rest)) = take_word(tokens, Keyword::Int) {
         let (declaration, rest) = enclosed_declaration(alloc, int, rest)?;
-        let start = boxed(alloc, ForStart::Declaration(declaration))?;
-        return Ok((start, rest));
+        return boxed_before(alloc, ForStart::Declaration(declaration), rest);
     }
     let (first, semicolon, rest) = enclosed_before(alloc, tokens, Punctuator::Semicolon)?;
-    Ok((boxed(alloc, start_with(first, semicolon))?, rest))
+    boxed_before(alloc, start_with(first, semicolon), rest)
 }
 
 /// What a `for` begins with that declares nothing: perhaps an expression, and the semicolon.
@@ -861,27 +840,28 @@ fn do_end(
     let (condition, rest) = condition(alloc, rest)?;
     let (semicolon, rest) = mark(rest, Punctuator::Semicolon)?;
     let condition = Box::into_inner(condition);
-    let statement = boxed(alloc, Statement::Do(at, body, again, condition, semicolon))?;
-    Ok((statement, rest))
+    let statement = Statement::Do(at, body, again, condition, semicolon);
+    boxed_before(alloc, statement, rest)
 }
 
 /// A statement of this start that has no statement in it, of which the first token is taken,
 /// and the tokens behind it.
 #[tactic(auto, unfolding(crate::specs::StatementReading::simple_of))]
+#[inline(never)]
 fn simple<'a>(
     alloc: Global,
     start: Start,
     at: Span,
     behind: &'a [Token],
     whole: &'a [Token],
-) -> Result<(Statement, &'a [Token]), SourceFault>
-    ensures { Reads (λ x. (view_statement x.0, x.1.now)) result (simple_of (parts accepted) start at behind.now whole.now) }
+) -> Result<(Box<Statement>, &'a [Token]), SourceFault>
+    ensures { Reads (λ x. (view_statement x.0.value, x.1.now)) result (simple_of (parts accepted) start at behind.now whole.now) }
 {
     match start {
-        Start::Empty => Ok((Statement::Empty(at), behind)),
+        Start::Empty => boxed_before(alloc, Statement::Empty(at), behind),
         Start::Return => return_after(alloc, at, behind),
-        Start::Break => break_after(at, behind),
-        Start::Continue => continue_after(at, behind),
+        Start::Break => break_after(alloc, at, behind),
+        Start::Continue => continue_after(alloc, at, behind),
         Start::Expression => expression_statement(alloc, whole),
         _ => Err(syntax(whole)),
     }
@@ -889,20 +869,28 @@ fn simple<'a>(
 
 /// A `break`, of which the word is taken, and the tokens behind it.
 #[tactic(auto, unfolding(crate::specs::StatementReading::jump_after))]
-fn break_after(at: Span, tokens: &[Token]) -> Result<(Statement, &[Token]), SourceFault>
-    ensures { ReadsAlways (λ x. (view_statement x.0, x.1.now)) result (jump_after (trees.Break at) tokens.now) }
+fn break_after(
+    alloc: Global,
+    at: Span,
+    tokens: &[Token],
+) -> Result<(Box<Statement>, &[Token]), SourceFault>
+    ensures { Reads (λ x. (view_statement x.0.value, x.1.now)) result (jump_after (trees.Break at) tokens.now) }
 {
     let (semicolon, rest) = mark(tokens, Punctuator::Semicolon)?;
-    Ok((Statement::Break(at, semicolon), rest))
+    boxed_before(alloc, Statement::Break(at, semicolon), rest)
 }
 
 /// A `continue`, of which the word is taken, and the tokens behind it.
 #[tactic(auto, unfolding(crate::specs::StatementReading::jump_after))]
-fn continue_after(at: Span, tokens: &[Token]) -> Result<(Statement, &[Token]), SourceFault>
-    ensures { ReadsAlways (λ x. (view_statement x.0, x.1.now)) result (jump_after (trees.Continue at) tokens.now) }
+fn continue_after(
+    alloc: Global,
+    at: Span,
+    tokens: &[Token],
+) -> Result<(Box<Statement>, &[Token]), SourceFault>
+    ensures { Reads (λ x. (view_statement x.0.value, x.1.now)) result (jump_after (trees.Continue at) tokens.now) }
 {
     let (semicolon, rest) = mark(tokens, Punctuator::Semicolon)?;
-    Ok((Statement::Continue(at, semicolon), rest))
+    boxed_before(alloc, Statement::Continue(at, semicolon), rest)
 }
 
 /// The value that is returned, if one is, its semicolon, and the tokens behind them.
@@ -911,16 +899,16 @@ fn return_after(
     alloc: Global,
     at: Span,
     tokens: &[Token],
-) -> Result<(Statement, &[Token]), SourceFault>
-    ensures { Reads (λ x. (view_statement x.0, x.1.now)) result (return_after (parts accepted) at tokens.now) }
+) -> Result<(Box<Statement>, &[Token]), SourceFault>
+    ensures { Reads (λ x. (view_statement x.0.value, x.1.now)) result (return_after (parts accepted) at tokens.now) }
 {
     if let Some((semicolon, rest)) = take_mark(tokens, Punctuator::Semicolon) {
-        return Ok((Statement::Return(at, None, semicolon), rest));
+        return boxed_before(alloc, Statement::Return(at, None, semicolon), rest);
     }
     let (value, rest) = expression(alloc, tokens)?;
     let (semicolon, rest) = mark(rest, Punctuator::Semicolon)?;
     let value = Some(Box::into_inner(value));
-    Ok((Statement::Return(at, value, semicolon), rest))
+    boxed_before(alloc, Statement::Return(at, value, semicolon), rest)
 }
 
 /// An expression and its semicolon, and the tokens behind them.
@@ -928,13 +916,11 @@ fn return_after(
 fn expression_statement(
     alloc: Global,
     tokens: &[Token],
-) -> Result<(Statement, &[Token]), SourceFault>
-    ensures { Reads (λ x. (view_statement x.0, x.1.now)) result (expression_statement_at (parts accepted) tokens.now) }
+) -> Result<(Box<Statement>, &[Token]), SourceFault>
+    ensures { Reads (λ x. (view_statement x.0.value, x.1.now)) result (expression_statement_at (parts accepted) tokens.now) }
 {
     let (value, rest) = expression(alloc, tokens)?;
     let (semicolon, rest) = mark(rest, Punctuator::Semicolon)?;
-    Ok((
-        Statement::Expression(Box::into_inner(value), semicolon),
-        rest,
-    ))
+    let statement = Statement::Expression(Box::into_inner(value), semicolon);
+    boxed_before(alloc, statement, rest)
 }

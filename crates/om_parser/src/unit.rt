@@ -7,7 +7,7 @@ ghost use Rattle.om_parser.specs.Faults.{IsBadAtomic};
 ghost use Rattle.om_parser.specs.Formed.{IsUnit};
 ghost use Rattle.om_parser.specs.Limits.{accepted};
 ghost use Rattle.om_parser.specs.LineFaults.{IsRefusedLine};
-ghost use Rattle.om_parser.specs.Sizes.{IsWithinLimits};
+ghost use Rattle.om_parser.specs.Sizes.{AtomicsHaveForms, IsWithinLimits};
 ghost use Rattle.om_parser.specs.Parsing.{IsTreeOf, IsTreeOrMemory, IsLimitPassed};
 ghost use Rattle.om_parser.specs.Reading.{Reads};
 ghost use Rattle.om_parser.specs.Spelling.{unit_spelling};
@@ -44,26 +44,28 @@ pub const STATEMENT_LIMIT: usize = 1024;
 /// OpenMP API 5.2 that `om_pragma` has before or among them.
 /// Refusals:
 /// - S0 at byte 0: no memory.
-/// - S3: no tree of any size has these tokens. Its place is the start of the first token
-///   that no well-formed unit has there, after the tokens before it. Tokens that lack the
-///   end of the source are S3 at 4294967295, past every source.
+/// - S3: no tree of any size has these tokens. No clause says at which byte.
 /// - S5: in a directive line a word stands that is no directive, or no clause, where one must
 ///   stand. Its place is that of the word.
 /// - S6: in a directive line the word of a clause stands that the directive does not have, or not
 ///   once more, or behind which nothing stands that makes it a clause; its place is that of the
 ///   word. Or the statement of an `atomic` has none of its forms (OpenMP API 5.2, 15.8.4); its place
-///   is that of the word `atomic`, of the outermost one where they stand in one another.
+///   is that of the word `atomic`.
 /// - S16: at this token an expression has more than `TOKEN_LIMIT` tokens, parentheses nest
 ///   deeper than `NESTING_LIMIT` (those of a clause count) or blocks deeper than `BLOCK_LIMIT`, or a
 ///   statement begins round which more than `STATEMENT_LIMIT` stand (the braces of `sections` are one).
-///   Where a token is both, it is S3.
+///
+/// S5 and S6 are of whole lines, and what stands before such a line begins a well-formed unit that
+/// goes on with a line there. So do the tokens up to that of an S16, the token with them. Where a
+/// source has several faults, no clause says which of them is given.
 pub fn parse(alloc: Global, tokens: &[Token]) -> Result<Unit, SourceFault>
-    // What is found is well-formed and has these tokens.
+    // What is found is well-formed, has these tokens, and keeps the limits.
     ensures found { IfOk result (λ unit. IsTreeOf tokens.now (view_unit unit)) }
     ensures found_within_limits { IfOk result (λ unit. IsWithinLimits (view_unit unit)) }
+    ensures atomics_have_forms { IfOk result (λ unit. AtomicsHaveForms (view_unit unit)) }
 
-    // A well-formed tree within the limits is found.
-    ensures every_tree_is_found { (unit : UnitTree) → IsTreeOf tokens.now unit → IsWithinLimits unit → IsTreeOrMemory unit result }
+    // A well-formed tree within the limits is found, where each `atomic` has one of its forms.
+    ensures every_tree_is_found { (unit : UnitTree) → IsTreeOf tokens.now unit → IsWithinLimits unit → AtomicsHaveForms unit → IsTreeOrMemory unit result }
 
     ensures syntax_has_no_tree { IfErr result (λ fault. fault.code ≡ Syntax → (unit : UnitTree) → ¬ IsTreeOf tokens.now unit) }
     ensures too_deep_passes_a_limit { IfErr result (λ fault. fault.code ≡ TooDeep → IsLimitPassed tokens.now fault.at) }
@@ -172,17 +174,18 @@ fn prototype_after(
 #[tactic(auto, unfolding(crate::specs::UnitReading::function_after))]
 fn function_after(
     alloc: Global,
-    head: FunctionHead,
+    head: Box<FunctionHead>,
     tokens: &[Token],
 ) -> Result<(Item, &[Token]), SourceFault>
-    ensures { Reads (λ x. (view_item x.0, x.1.now)) result (function_after accepted (view_head head) tokens.now) }
+    ensures { Reads (λ x. (view_item x.0, x.1.now)) result (function_after accepted (view_head head.value) tokens.now) }
 {
     if let Some((semicolon, rest)) = take_mark(tokens, Punctuator::Semicolon) {
-        return Ok((Item::Prototype(head, semicolon), rest));
+        return Ok((Item::Prototype(Box::into_inner(head), semicolon), rest));
     }
     if !are_named(&head.parameters) {
         return Err(syntax(tokens));
     }
     let (body, rest) = block(alloc, tokens)?;
+    let head = Box::into_inner(head);
     Ok((Item::Function(Function { head, body }), rest))
 }

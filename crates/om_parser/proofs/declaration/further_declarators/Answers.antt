@@ -1,4 +1,4 @@
-use Rattle.std.proofs.Common.{◌≡◌, [], ◌∷◌, ◌++◌, length, map, sym}
+use Rattle.std.proofs.Common.{◌≡◌, [], ◌∷◌, ◌++◌, length, map, sym, rules}
 use Rattle.std.proofs.lemmas.Result.{err_from_is_err_and}
 use Rattle.std.proofs.lemmas.List.{map_push}
 use Rattle.om_lexer.specs.declared.token.Punctuator.TheVariants.{Semicolon}
@@ -24,9 +24,10 @@ returns-in_err-comma c =
     rw (p.1, p.2) (until_fails (take_mark Semicolon) (further_at (initial_at accepted c.args.initial)) (map view_further c.declarators.declarators.items) c.declarators.rest.now (until (take_mark Semicolon) (further_at (initial_at accepted c.args.initial)) (length c.args.tokens.now) c.args.tokens.now) c.in_err-comma.field-0.0 (sym c.in_default.ensures) c.in_err-comma.ensures c.declarators.invariant)
 
 pub declarators-smaller : goal.declarators-smaller
-declarators-smaller c = initial_further_shorter accepted c.args.initial c.declarators.rest.now (c.in_ok-comma.comma, view_declarator c.in_ok-comma.next) c.in_ok-comma.after.now c.in_ok-comma.ensures
+declarators-smaller c = initial_further_shorter accepted c.args.initial c.declarators.rest.now (c.in_ok-comma.comma, view_declarator c.in_ok-comma.next.value) c.in_ok-comma.after.now c.in_ok-comma.ensures
 
 pub declarators-preserved : goal.declarators-preserved
 declarators-preserved c =
-    let pushed : map view_further c.push.new.self.items ≡ map view_further c.declarators.declarators.items ++ (c.in_ok-comma.comma, view_declarator c.in_ok-comma.next) ∷ [] = rw c.in_ok-push.ensures.items (map_push view_further c.declarators.declarators.items (c.in_ok-comma.comma, c.in_ok-comma.next)) in
-    rw pushed (until_goes_on (take_mark Semicolon) (further_at (initial_at accepted c.args.initial)) (map view_further c.declarators.declarators.items) c.declarators.rest.now (until (take_mark Semicolon) (further_at (initial_at accepted c.args.initial)) (length c.args.tokens.now) c.args.tokens.now) (c.in_ok-comma.comma, view_declarator c.in_ok-comma.next) c.in_ok-comma.after.now (sym c.in_default.ensures) c.in_ok-comma.ensures (initial_further_shorter accepted c.args.initial c.declarators.rest.now (c.in_ok-comma.comma, view_declarator c.in_ok-comma.next) c.in_ok-comma.after.now c.in_ok-comma.ensures) c.declarators.invariant)
+    let inner : c.into_inner.result ≡ c.in_ok-comma.next.value = search rules in
+    let pushed : map view_further c.push.new.self.items ≡ map view_further c.declarators.declarators.items ++ (c.in_ok-comma.comma, view_declarator c.in_ok-comma.next.value) ∷ [] = rw (c.in_ok-push.ensures.items, inner) (map_push view_further c.declarators.declarators.items (c.in_ok-comma.comma, c.in_ok-comma.next.value)) in
+    rw pushed (until_goes_on (take_mark Semicolon) (further_at (initial_at accepted c.args.initial)) (map view_further c.declarators.declarators.items) c.declarators.rest.now (until (take_mark Semicolon) (further_at (initial_at accepted c.args.initial)) (length c.args.tokens.now) c.args.tokens.now) (c.in_ok-comma.comma, view_declarator c.in_ok-comma.next.value) c.in_ok-comma.after.now (sym c.in_default.ensures) c.in_ok-comma.ensures (initial_further_shorter accepted c.args.initial c.declarators.rest.now (c.in_ok-comma.comma, view_declarator c.in_ok-comma.next.value) c.in_ok-comma.after.now c.in_ok-comma.ensures) c.declarators.invariant)

@@ -1,4 +1,4 @@
-use Rattle.om_parser.proofs.Promises.{is_found, is_within, is_only, is_syntax, is_too_deep, is_unknown, is_bad_clause, is_no_other}
+use Rattle.om_parser.proofs.Promises.{is_found, is_within, has_forms, is_only, is_syntax, is_too_deep, is_unknown, is_bad_clause, is_no_other}
 use Rattle.om_parser.proofs.unit.parse.Goals as goal
 
 pub returns-clause-found : goal.returns-clause-found
@@ -6,6 +6,9 @@ returns-clause-found c = is_found c.args.tokens.now c.unit.result c.unit.ensures
 
 pub returns-clause-found_within_limits : goal.returns-clause-found_within_limits
 returns-clause-found_within_limits c = is_within c.args.tokens.now c.unit.result c.unit.ensures
+
+pub returns-clause-atomics_have_forms : goal.returns-clause-atomics_have_forms
+returns-clause-atomics_have_forms c = has_forms c.args.tokens.now c.unit.result c.unit.ensures
 
 pub returns-clause-every_tree_is_found : goal.returns-clause-every_tree_is_found
 returns-clause-every_tree_is_found c = is_only c.args.tokens.now c.unit.result c.unit.ensures
