@@ -7,7 +7,7 @@ use Rattle.om_lexer.specs.declared.token.Token.{Token}
 use Rattle.om_lexer.specs.Sources.{IsTokens, IsFault}
 use Rattle.om_parser.specs.Faults.{IsBadAtomic}
 use Rattle.om_parser.specs.LineFaults.{IsRefusedLine}
-use Rattle.om_parser.specs.Sizes.{IsWithinLimits}
+use Rattle.om_parser.specs.Sizes.{IsWithinLimits, AtomicsHaveForms}
 use Rattle.om_parser.specs.Parsing.{IsTreeOf, IsLimitPassed}
 use Rattle.om_parser.specs.Tree.{UnitTree}
 use Rattle.om_scope.specs.Breaches.{breaches_of}
@@ -17,12 +17,13 @@ use Rattle.om_scope.specs.UnitResolution.{resolution_of}
 use Rattle.om_lower.specs.Breaches.{code_breaches}
 use Rattle.om_lower.specs.Code.{IsCodeOf}
 
--- the source has tokens, and they a tree within the limits
+-- the source has tokens, and they a tree within the limits whose `atomic` constructs have one of their forms
 pub record IsTreeOfSource (source : List ℕ) (tree : UnitTree) : Type 0 where
   pub tokens : List Token
   pub lexed : IsTokens source tokens
   pub parsed : IsTreeOf tokens tree
   pub within_limits : IsWithinLimits tree
+  pub forms : AtomicsHaveForms tree
 
 -- and the tree has a resolution, as it breaks no rule on names
 pub record IsResolutionOfSource (source : List ℕ) (resolved : ResolvedTree) : Type 0 where
