@@ -197,12 +197,11 @@ pub fn construct_of(
     parallel: Option<u32>,
     directive: &Directive<Expression>,
     clauses: Vec<ResolvedClause>,
-    body: ResolvedStatement,
+    body: Box<ResolvedStatement>,
 ) -> Result<ResolvedStatement, AllocError>
     ensures { let tree = view_directive directive.now in
-        IfOk result (λ found. view_resolved_statement found ≡ construct_of parallel tree tree.name (map view_resolved_clause clauses.items) (view_resolved_statement body)) }
+        IfOk result (λ found. view_resolved_statement found ≡ construct_of parallel tree tree.name (map view_resolved_clause clauses.items) (view_resolved_statement body.value)) }
 {
-    let body = Box::new(alloc, body)?;
     let around = around_of(alloc, parallel, directive, clauses.as_slice(), &body)?;
     Ok(with_around(around, directive.hash, clauses, body))
 }
@@ -212,12 +211,13 @@ pub fn loop_construct_of(
     alloc: Global,
     directive: &Directive<Expression>,
     clauses: Vec<ResolvedClause>,
-    repeated: ResolvedLoop,
+    repeated: Box<ResolvedLoop>,
     body: Box<ResolvedStatement>,
 ) -> Result<ResolvedStatement, AllocError>
-    ensures { IfOk result (λ found. view_resolved_statement found ≡ loop_construct_of (view_directive directive.now) (map view_resolved_clause clauses.items) (view_resolved_loop repeated) (view_resolved_statement body.value)) }
+    ensures { IfOk result (λ found. view_resolved_statement found ≡ loop_construct_of (view_directive directive.now) (map view_resolved_clause clauses.items) (view_resolved_loop repeated.value) (view_resolved_statement body.value)) }
 {
     let at = directive.hash;
+    let repeated = Box::into_inner(repeated);
     if is_parallel(traits_of(&directive.name).region) {
         let inner = ResolvedStatement::Loop(at, Vec::new(alloc), true, repeated, body);
         return parallel_of(alloc, directive, clauses, inner);
@@ -245,17 +245,13 @@ pub fn sections_construct_of(
 }
 
 /// An item of `sections`, which begins a part or not.
-pub fn part_of(
-    alloc: Global,
-    begins: bool,
-    item: ResolvedStatement,
-) -> Result<ResolvedStatement, AllocError>
-    ensures { IfOk result (λ found. view_resolved_statement found ≡ part_of begins (view_resolved_statement item)) }
+pub fn part_of(begins: bool, item: Box<ResolvedStatement>) -> ResolvedStatement
+    ensures { view_resolved_statement result ≡ part_of begins (view_resolved_statement item.value) }
 {
     if begins {
-        Ok(ResolvedStatement::Section(Box::new(alloc, item)?))
+        ResolvedStatement::Section(item)
     } else {
-        Ok(item)
+        Box::into_inner(item)
     }
 }
 

@@ -16,6 +16,7 @@ mod found;
 mod function;
 mod globals;
 pub mod laws;
+mod kept;
 mod listed;
 mod names;
 mod nesting;
