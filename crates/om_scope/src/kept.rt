@@ -8,10 +8,7 @@ use om_lexer::SourceFault;
 use std::alloc::Global;
 
 /// What was found, in a box.
-pub fn boxed<T: Drop>(
-    alloc: Global,
-    found: Result<T, SourceFault>,
-) -> Result<Box<T>, SourceFault>
+pub fn boxed<T: Drop>(alloc: Global, found: Result<T, SourceFault>) -> Result<Box<T>, SourceFault>
     ensures checked { (breaches : List SourceFault) → Checks found breaches → Checks result breaches }
     ensures kept { IfOk result (λ made. found ≡ Ok made.value) }
 {

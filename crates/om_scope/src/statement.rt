@@ -181,7 +181,13 @@ fn resolve_for_turn(
     alloc: Global,
     symbols: &Symbols,
     head: &ForHead,
-) -> Result<(Option<Box<ResolvedExpression>>, Option<Box<ResolvedExpression>>), SourceFault>
+) -> Result<
+    (
+        Option<Box<ResolvedExpression>>,
+        Option<Box<ResolvedExpression>>,
+    ),
+    SourceFault,
+>
     ensures checked { Checks result (for_turn_breaches symbols.now (view_for_head head.now)) }
     ensures condition { IfOk result (λ found. resolved_perhaps symbols.now (view_for_head head.now).condition ≡ Some (option_map (λ boxed. view_resolved_expression boxed.value) found.0)) }
     ensures step { IfOk result (λ found. resolved_perhaps symbols.now (view_for_head head.now).step ≡ Some (option_map (λ boxed. view_resolved_expression boxed.value) found.1)) }
@@ -413,12 +419,7 @@ fn resolve_statement(
             let condition = boxed_expression(alloc, symbols, true, &condition.value)?;
             let then = resolve_body(alloc, symbols, flow, then)?;
             let other = resolve_body(alloc, symbols, flow, other)?;
-            Ok(ResolvedStatement::IfElse(
-                *at,
-                Box::into_inner(condition),
-                then,
-                other,
-            ))
+            Ok(ResolvedStatement::IfElse(*at, Box::into_inner(condition), then, other))
         }
         Statement::While(at, condition, body) => {
             let condition = boxed_expression(alloc, symbols, true, &condition.value)?;
@@ -492,7 +493,7 @@ fn resolve_plain_construct(
     let clauses = enter_construct(alloc, symbols, flow, directive)?;
     let body = boxed_statement(alloc, symbols, inside, body)?;
     symbols.leave();
-    Ok(construct_of(alloc, flow.parallel, directive, clauses, body)?)
+    construct_of(alloc, flow.parallel, directive, clauses, body)
 }
 
 /// A construct that is for a loop: S12.
@@ -522,7 +523,7 @@ fn resolve_loop_construct(
             )?;
             let body = resolve_loop_body(alloc, symbols, inside, &found, body)?;
             symbols.leave();
-            Ok(loop_construct_of(alloc, directive, clauses, repeated, body)?)
+            loop_construct_of(alloc, directive, clauses, repeated, body)
         }
     }
 }
@@ -598,7 +599,7 @@ fn resolve_sections(
     let clauses = enter_construct(alloc, symbols, flow, directive)?;
     let items = resolve_parts(alloc, symbols, inside, parts)?;
     symbols.leave();
-    Ok(sections_construct_of(alloc, directive, clauses, items)?)
+    sections_construct_of(alloc, directive, clauses, items)
 }
 
 /// Whether an item of `sections`, behind so many parts, begins a part.
@@ -704,9 +705,9 @@ fn resolve_block(
     ensures resolved { IfOk result (λ found. resolved_statements (inside symbols.old) flow.parallel (statements (map view_statement items.now)) ≡ Some (resolved.statements (map view_resolved_statement found.items))) }
 {
     symbols.enter(alloc)?;
-    let items = resolve_statements(alloc, symbols, flow, items)?;
+    let items = resolve_statements(alloc, symbols, flow, items);
     symbols.leave();
-    Ok(items)
+    items
 }
 
 /// A `for`, in a scope of its own.
@@ -758,9 +759,9 @@ fn resolve_body(
     ensures resolved { IfOk result (λ found. resolved_statement (inside symbols.old) flow.parallel (view_statement body.now) ≡ Some (view_resolved_statement found.value)) }
 {
     symbols.enter(alloc)?;
-    let found = boxed_statement(alloc, symbols, flow, body)?;
+    let found = boxed_statement(alloc, symbols, flow, body);
     symbols.leave();
-    Ok(found)
+    found
 }
 
 /// The items of a block.

@@ -10,6 +10,7 @@ use Rattle.om_scope.specs.StatementResolution.{resolved_statement}
 use Rattle.om_scope.specs.StatementRules.{after_for_start, after_statement, after_statements}
 use Rattle.om_scope.proofs.Blocks.{block_outside, body_outside, construct_outside, for_outside, parts_behind_le, parts_made, parts_refuse, parts_step, parts_whole, statements_made, statements_refuse, statements_step, statements_whole}
 use Rattle.om_scope.proofs.Constructs.{view_construct}
+use Rattle.om_scope.proofs.Founds.{ok_anyway, ok_then}
 use Rattle.om_scope.proofs.Fronts.{bounds_refuse}
 use Rattle.om_scope.proofs.Items.{drop-item, map-push}
 use Rattle.om_scope.proofs.statement.+statement.Goals as goal
@@ -22,7 +23,8 @@ resolve_statement-returns-in-Construct-clause-resolved t c =
 
 pub resolve_body-returns-clause-in_scope : goal.resolve_body-returns-clause-in_scope
 resolve_body-returns-clause-in_scope t c =
-    c.leave.ensures ∙ ap outside (c.in_ok-found.ensures.in_scope ∙ ap (λ scopes. after_statement scopes (view_statement c.args.body.now)) c.in_ok-enter.ensures) ∙ body_outside c.args.symbols.now (view_statement c.args.body.now)
+    ok_then c.boxed_statement-found.result c.boxed_statement-found.ensures.in_scope
+    (λ behind. c.leave.ensures ∙ ap outside (behind ∙ ap (λ scopes. after_statement scopes (view_statement c.args.body.now)) c.in_ok-enter.ensures) ∙ body_outside c.args.symbols.now (view_statement c.args.body.now))
 
 pub resolve_statements-returns-in_err-add-clause-checked : goal.resolve_statements-returns-in_err-add-clause-checked
 resolve_statements-returns-in_err-add-clause-checked t c =
@@ -45,7 +47,8 @@ resolve_statements-loop-item-preserved t c =
 pub resolve_block-returns-clause-in_scope : goal.resolve_block-returns-clause-in_scope
 resolve_block-returns-clause-in_scope t c =
     let ss = map view_statement c.args.items.now in
-    c.leave.ensures ∙ ap outside (c.in_ok-items.ensures.in_scope ∙ ap (λ scopes. after_statements scopes ss) c.in_ok-enter.ensures) ∙ block_outside c.args.symbols.now ss
+    ok_then c.resolve_statements-items.result c.resolve_statements-items.ensures.in_scope
+    (λ behind. c.leave.ensures ∙ ap outside (behind ∙ ap (λ scopes. after_statements scopes ss) c.in_ok-enter.ensures) ∙ block_outside c.args.symbols.now ss)
 
 pub resolve_for-returns-clause-in_scope : goal.resolve_for-returns-clause-in_scope
 resolve_for-returns-clause-in_scope t c =
@@ -56,9 +59,10 @@ resolve_for-returns-clause-in_scope t c =
 
 pub resolve_plain_construct-returns-clause-in_scope : goal.resolve_plain_construct-returns-clause-in_scope
 resolve_plain_construct-returns-clause-in_scope t c =
-    c.leave.ensures
+    ok_anyway c.construct_of.result
+    (c.leave.ensures
     ∙ ap outside (c.in_ok-body.ensures.in_scope ∙ ap (λ scopes. after_statement scopes (view_statement c.args.body.now)) c.in_ok-clauses.ensures.in_scope)
-    ∙ construct_outside _ _ c.args.symbols.now (view_statement c.args.body.now)
+    ∙ construct_outside _ _ c.args.symbols.now (view_statement c.args.body.now))
 
 pub resolve_loop_construct-returns-in_err-clauses-in-Some-clause-checked : goal.resolve_loop_construct-returns-in_err-clauses-in-Some-clause-checked
 resolve_loop_construct-returns-in_err-clauses-in-Some-clause-checked t c =
