@@ -1,5 +1,6 @@
 -- The values of a call, as a loop goes through them.
 use Rattle.std.proofs.Common.{◌≡◌, ℕ, suc, ◌+◌, ◌<◌, List, [], ◌∷◌, ◌++◌, map, length, Some, None, Option, true, zero, refl, sym, ap, ◌∙◌, arith}
+use Rattle.om_lexer.specs.declared.fault.SourceFault.{SourceFault}
 use Rattle.om_lexer.specs.declared.token.Span.{Span}
 use Rattle.om_parser.specs.declared.tree.Expression.{Expression, fold-roll-Expression}
 use Rattle.om_parser.specs.declared.tree.Expression.TheOpen.{Expression-F}
@@ -7,11 +8,14 @@ use Rattle.om_parser.specs.declared.tree.Expression.TheVariants as expressions
 use Rattle.om_parser.specs.View.{expression_layer, view_expression}
 use Rattle.om_parser.specs.Tree.{ExpressionTree, Call, ArgumentsTree, NoArguments, Argument, arguments}
 use Rattle.om_scope.specs.ExpressionRules.{argument_breaches, argument_count, arguments_breaches, expression_breaches, printed_breaches}
+use Rattle.om_scope.specs.Faults.{first_of}
+use Rattle.om_scope.specs.Outcomes.{Refuses}
 use Rattle.om_scope.specs.Perhaps.{◌>>=◌}
 use Rattle.om_scope.specs.Resolution.{resolved_expression, resolved_printed, resolved_values}
 use Rattle.om_scope.specs.ResolvedTree.{ResolvedExpressionTree, ValuesTree, NoValues, Value, values}
 use Rattle.om_scope.specs.Scopes.{Scopes}
 use Rattle.om_scope.specs.Views.{view_argument}
+use Rattle.om_scope.proofs.Firsts.{first_of_left}
 
 pub argument_count_is : (values : List (Option Span × Expression)) → argument_count (arguments (map view_argument values)) ≡ length values
 argument_count_is [] = refl
@@ -22,6 +26,18 @@ pub arguments_step : (scopes : Scopes) (all : ArgumentsTree) (comma : Option Spa
     → arguments_breaches scopes all ≡ arguments_breaches scopes rest
 unfolding arguments_breaches
 arguments_step scopes all comma e rest left whole = left ∙ ap (λ here. here ++ arguments_breaches scopes rest) whole
+
+pub arguments_refuse : (scopes : Scopes) (all : ArgumentsTree) (comma : Option Span) (e : ExpressionTree) (rest : ArgumentsTree) (fault : SourceFault)
+    → arguments_breaches scopes all ≡ arguments_breaches scopes (Argument comma e rest) → Refuses (expression_breaches scopes true e) fault
+    → Refuses (arguments_breaches scopes all) fault
+unfolding arguments_breaches
+arguments_refuse scopes all comma e rest fault left refused other = ap first_of left ∙ first_of_left _ _ fault (refused other)
+
+pub printed_refuse : (scopes : Scopes) (place : ℕ) (all : ArgumentsTree) (comma : Option Span) (e : ExpressionTree) (rest : ArgumentsTree) (fault : SourceFault)
+    → printed_breaches scopes 0 all ≡ printed_breaches scopes place (Argument comma e rest) → Refuses (argument_breaches scopes place e) fault
+    → Refuses (printed_breaches scopes 0 all) fault
+unfolding printed_breaches
+printed_refuse scopes place all comma e rest fault left refused other = ap first_of left ∙ first_of_left _ _ fault (refused other)
 
 pub printed_step : (scopes : Scopes) (place : ℕ) (all : ArgumentsTree) (comma : Option Span) (e : ExpressionTree) (rest : ArgumentsTree)
     → printed_breaches scopes 0 all ≡ printed_breaches scopes place (Argument comma e rest) → argument_breaches scopes place e ≡ []

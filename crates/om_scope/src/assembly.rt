@@ -1,9 +1,10 @@
 //! Constructs, put together of their clauses and their statement.
 
-ghost use Rattle.std.specs.Prelude.{◌≡◌, IfOk, map, option_map};
+ghost use Rattle.std.specs.Prelude.{◌≡◌, [], IfOk, map, option_map};
 ghost use Rattle.om_parser.specs.View.{view_directive, view_expression};
 ghost use Rattle.om_pragma.specs.Expressions.{map_clause, map_item};
 ghost use Rattle.om_pragma.specs.Questions.{atomic_kind};
+ghost use Rattle.om_scope.specs.Checks.{Checks};
 ghost use Rattle.om_scope.specs.Parts.{with_around};
 ghost use Rattle.om_scope.specs.ResolvedTree.{statements};
 ghost use Rattle.om_scope.specs.ResolvedView.{view_resolved_clause, view_resolved_loop, view_resolved_statement};
@@ -16,7 +17,7 @@ use crate::resolved::{
     Capture, ConstructKind, ResolvedClause, ResolvedLoop, ResolvedSchedule, ResolvedStatement,
 };
 use crate::symbols::is_parallel;
-use om_lexer::Span;
+use om_lexer::{SourceFault, Span};
 use om_parser::{Expression, Name};
 use om_pragma::{
     AtomicKind, Clause, ClauseItem, ClauseKind, Directive, DirectiveName, Schedule, ScheduleKind,
@@ -197,12 +198,12 @@ pub fn construct_of(
     parallel: Option<u32>,
     directive: &Directive<Expression>,
     clauses: Vec<ResolvedClause>,
-    body: ResolvedStatement,
-) -> Result<ResolvedStatement, AllocError>
-    ensures { let tree = view_directive directive.now in
-        IfOk result (λ found. view_resolved_statement found ≡ construct_of parallel tree tree.name (map view_resolved_clause clauses.items) (view_resolved_statement body)) }
+    body: Box<ResolvedStatement>,
+) -> Result<ResolvedStatement, SourceFault>
+    ensures checked { Checks result [] }
+    ensures made { let tree = view_directive directive.now in
+        IfOk result (λ found. view_resolved_statement found ≡ construct_of parallel tree tree.name (map view_resolved_clause clauses.items) (view_resolved_statement body.value)) }
 {
-    let body = Box::new(alloc, body)?;
     let around = around_of(alloc, parallel, directive, clauses.as_slice(), &body)?;
     Ok(with_around(around, directive.hash, clauses, body))
 }
@@ -212,15 +213,17 @@ pub fn loop_construct_of(
     alloc: Global,
     directive: &Directive<Expression>,
     clauses: Vec<ResolvedClause>,
-    repeated: ResolvedLoop,
+    repeated: Box<ResolvedLoop>,
     body: Box<ResolvedStatement>,
-) -> Result<ResolvedStatement, AllocError>
-    ensures { IfOk result (λ found. view_resolved_statement found ≡ loop_construct_of (view_directive directive.now) (map view_resolved_clause clauses.items) (view_resolved_loop repeated) (view_resolved_statement body.value)) }
+) -> Result<ResolvedStatement, SourceFault>
+    ensures checked { Checks result [] }
+    ensures made { IfOk result (λ found. view_resolved_statement found ≡ loop_construct_of (view_directive directive.now) (map view_resolved_clause clauses.items) (view_resolved_loop repeated.value) (view_resolved_statement body.value)) }
 {
     let at = directive.hash;
+    let repeated = Box::into_inner(repeated);
     if is_parallel(traits_of(&directive.name).region) {
         let inner = ResolvedStatement::Loop(at, Vec::new(alloc), true, repeated, body);
-        return parallel_of(alloc, directive, clauses, inner);
+        return Ok(parallel_of(alloc, directive, clauses, inner)?);
     }
     let nowait = has_nowait(directive);
     Ok(ResolvedStatement::Loop(at, clauses, nowait, repeated, body))
@@ -232,30 +235,27 @@ pub fn sections_construct_of(
     directive: &Directive<Expression>,
     clauses: Vec<ResolvedClause>,
     items: Vec<ResolvedStatement>,
-) -> Result<ResolvedStatement, AllocError>
-    ensures { IfOk result (λ found. view_resolved_statement found ≡ sections_construct_of (view_directive directive.now) (map view_resolved_clause clauses.items) (statements (map view_resolved_statement items.items))) }
+) -> Result<ResolvedStatement, SourceFault>
+    ensures checked { Checks result [] }
+    ensures made { IfOk result (λ found. view_resolved_statement found ≡ sections_construct_of (view_directive directive.now) (map view_resolved_clause clauses.items) (statements (map view_resolved_statement items.items))) }
 {
     let at = directive.hash;
     if is_parallel(traits_of(&directive.name).region) {
         let inner = ResolvedStatement::Sections(at, Vec::new(alloc), true, items);
-        return parallel_of(alloc, directive, clauses, inner);
+        return Ok(parallel_of(alloc, directive, clauses, inner)?);
     }
     let nowait = has_nowait(directive);
     Ok(ResolvedStatement::Sections(at, clauses, nowait, items))
 }
 
 /// An item of `sections`, which begins a part or not.
-pub fn part_of(
-    alloc: Global,
-    begins: bool,
-    item: ResolvedStatement,
-) -> Result<ResolvedStatement, AllocError>
-    ensures { IfOk result (λ found. view_resolved_statement found ≡ part_of begins (view_resolved_statement item)) }
+pub fn part_of(begins: bool, item: Box<ResolvedStatement>) -> ResolvedStatement
+    ensures { view_resolved_statement result ≡ part_of begins (view_resolved_statement item.value) }
 {
     if begins {
-        Ok(ResolvedStatement::Section(Box::new(alloc, item)?))
+        ResolvedStatement::Section(item)
     } else {
-        Ok(item)
+        Box::into_inner(item)
     }
 }
 

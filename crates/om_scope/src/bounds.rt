@@ -12,7 +12,7 @@ ghost use Rattle.om_scope.specs.StatementRules.{found_breaches, values_breaches,
 
 use crate::canonical::Loop;
 use crate::declaration::local_of;
-use crate::expression::{check_declared, is_scalar, resolve_expression};
+use crate::expression::{boxed_expression, check_declared, is_scalar};
 use crate::fault::refuse_if;
 use crate::resolved::{ResolvedExpression, ResolvedLoop, ResolvedSchedule};
 use crate::symbols::{Shape, Symbols};
@@ -36,13 +36,13 @@ fn resolve_values(
     alloc: Global,
     symbols: &Symbols,
     found: &Loop<'_>,
-) -> Result<(ResolvedExpression, ResolvedExpression), SourceFault>
+) -> Result<(Box<ResolvedExpression>, Box<ResolvedExpression>), SourceFault>
     ensures checked { Checks result (values_breaches symbols.now (view_loop found.now)) }
-    ensures from { IfOk result (λ made. resolved_expression symbols.now (view_loop found.now).start.from ≡ Some (view_resolved_expression made.0)) }
-    ensures to { IfOk result (λ made. resolved_expression symbols.now (view_loop found.now).to ≡ Some (view_resolved_expression made.1)) }
+    ensures from { IfOk result (λ made. resolved_expression symbols.now (view_loop found.now).start.from ≡ Some (view_resolved_expression made.0.value)) }
+    ensures to { IfOk result (λ made. resolved_expression symbols.now (view_loop found.now).to ≡ Some (view_resolved_expression made.1.value)) }
 {
-    let from = resolve_expression(alloc, symbols, true, found.start.from)?;
-    let to = resolve_expression(alloc, symbols, true, found.to)?;
+    let from = boxed_expression(alloc, symbols, true, found.start.from)?;
+    let to = boxed_expression(alloc, symbols, true, found.to)?;
     Ok((from, to))
 }
 
@@ -60,13 +60,13 @@ fn resolve_bounds(
     alloc: Global,
     symbols: &mut Symbols,
     found: &Loop<'_>,
-) -> Result<(ResolvedExpression, ResolvedExpression), SourceFault>
+) -> Result<(Box<ResolvedExpression>, Box<ResolvedExpression>), SourceFault>
     ensures checked { Checks result (found_breaches symbols.old (view_loop found.now)) }
     ensures in_scope { OnOk result (symbols.new ≡ symbols.old) }
     ensures from { let scopes = bounds_scopes symbols.old (view_loop found.now) in
-        IfOk result (λ made. resolved_expression scopes (view_loop found.now).start.from ≡ Some (view_resolved_expression made.0)) }
+        IfOk result (λ made. resolved_expression scopes (view_loop found.now).start.from ≡ Some (view_resolved_expression made.0.value)) }
     ensures to { let scopes = bounds_scopes symbols.old (view_loop found.now) in
-        IfOk result (λ made. resolved_expression scopes (view_loop found.now).to ≡ Some (view_resolved_expression made.1)) }
+        IfOk result (λ made. resolved_expression scopes (view_loop found.now).to ≡ Some (view_resolved_expression made.1.value)) }
 {
     if !found.start.is_declared {
         check_variable(symbols, found.start.variable)?;
@@ -85,20 +85,21 @@ pub fn resolve_loop(
     symbols: &mut Symbols,
     schedule: ResolvedSchedule,
     found: &Loop<'_>,
-) -> Result<ResolvedLoop, SourceFault>
+) -> Result<Box<ResolvedLoop>, SourceFault>
     ensures checked { Checks result (found_breaches symbols.old (view_loop found.now)) }
     ensures in_scope { OnOk result (symbols.new ≡ symbols.old) }
-    ensures resolved { IfOk result (λ made. resolved_loop symbols.old schedule (view_loop found.now) ≡ Some (view_resolved_loop made)) }
+    ensures resolved { IfOk result (λ made. resolved_loop symbols.old schedule (view_loop found.now) ≡ Some (view_resolved_loop made.value)) }
 {
     let variable = local_of(alloc, found.start.variable)?;
     let (from, to) = resolve_bounds(alloc, symbols, found)?;
-    Ok(ResolvedLoop {
+    let resolved = ResolvedLoop {
         at: found.at,
         variable,
-        from,
+        from: Box::into_inner(from),
         comparison: found.comparison,
-        to,
+        to: Box::into_inner(to),
         step: found.step,
         schedule,
-    })
+    };
+    Ok(Box::new(alloc, resolved)?)
 }

@@ -8,7 +8,7 @@ ghost use Rattle.om_scope.specs.ResolvedView.{view_resolved_declarator, view_res
 ghost use Rattle.om_scope.specs.StatementResolution.{length_of, local_of, resolved_declarator, resolved_declarators, resolved_initial};
 ghost use Rattle.om_scope.specs.StatementRules.{array_size_breaches, initializer_breaches, is_empty_array, local_breaches, locals_breaches, redeclared_breaches};
 
-use crate::expression::resolve_expression;
+use crate::expression::{boxed_expression, unboxed};
 use crate::fault::refuse_if;
 use crate::resolved::{LocalVariable, ResolvedDeclarator, ResolvedExpression};
 use crate::symbols::{Shape, Symbols};
@@ -95,14 +95,14 @@ fn resolve_initializer(
     alloc: Global,
     symbols: &Symbols,
     initializer: &Option<Initializer>,
-) -> Result<Option<ResolvedExpression>, SourceFault>
+) -> Result<Option<Box<ResolvedExpression>>, SourceFault>
     ensures checked { Checks result (initializer_breaches symbols.now (option_map view_initializer initializer.now)) }
-    ensures resolved { IfOk result (λ found. resolved_initial symbols.now (option_map view_initializer initializer.now) ≡ Some (option_map view_resolved_expression found)) }
+    ensures resolved { IfOk result (λ found. resolved_initial symbols.now (option_map view_initializer initializer.now) ≡ Some (option_map (λ boxed. view_resolved_expression boxed.value) found)) }
 {
     match initializer {
         None => Ok(None),
         Some(initializer) => {
-            let value = resolve_expression(alloc, symbols, true, &initializer.value)?;
+            let value = boxed_expression(alloc, symbols, true, &initializer.value)?;
             Ok(Some(value))
         }
     }
@@ -143,7 +143,7 @@ fn resolve_declarator(
     Ok(ResolvedDeclarator {
         variable,
         length: length_of(&declarator.array),
-        initial,
+        initial: unboxed(initial),
     })
 }
 

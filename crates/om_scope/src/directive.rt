@@ -14,7 +14,7 @@ ghost use Rattle.om_scope.specs.StatementResolution.{clause_of, flushed, kind_of
 
 use crate::construct::traits_of;
 use crate::declaration::local_of;
-use crate::expression::{check_declared, is_copied_array, is_scalar, resolve_expression};
+use crate::expression::{boxed_expression, check_declared, is_copied_array, is_scalar};
 use crate::fault::refuse_if;
 use crate::flow::Flow;
 use crate::listed::Listed;
@@ -222,8 +222,8 @@ fn resolve_clause(
 {
     match clause {
         Clause::Value(kind, _, value) => {
-            let value = resolve_expression(alloc, symbols, true, &value.expression)?;
-            clauses.push(ResolvedClause::Value(*kind, value))?;
+            let value = boxed_expression(alloc, symbols, true, &value.expression)?;
+            clauses.push(ResolvedClause::Value(*kind, Box::into_inner(value)))?;
             Ok(())
         }
         Clause::Default(_, argument) => {

@@ -14,6 +14,7 @@ ghost use Rattle.om_scope.specs.TargetViews.{view_target};
 ghost use Rattle.om_scope.specs.Views.{view_argument};
 
 use crate::fault::{refuse_among, refuse_if};
+use crate::kept::{add, boxed};
 use crate::place::expression_start;
 use crate::print::{PRINTED_LIMIT, is_format};
 use crate::resolved::{ResolvedExpression, UnaryOperator, Variable};
@@ -330,36 +331,49 @@ pub fn resolve_expression(
             Ok(stepped(target, *operator))
         }
         Expression::Binary(left, operator, _, right) => {
-            let left = resolve_operand(alloc, symbols, left)?;
-            let right = resolve_operand(alloc, symbols, right)?;
+            let left = boxed_expression(alloc, symbols, true, left)?;
+            let right = boxed_expression(alloc, symbols, true, right)?;
             Ok(ResolvedExpression::Binary(left, *operator, right))
         }
         Expression::Conditional(condition, _, then, _, other) => {
-            let condition = resolve_operand(alloc, symbols, condition)?;
-            let then = resolve_operand(alloc, symbols, then)?;
-            let other = resolve_operand(alloc, symbols, other)?;
+            let condition = boxed_expression(alloc, symbols, true, condition)?;
+            let then = boxed_expression(alloc, symbols, true, then)?;
+            let other = boxed_expression(alloc, symbols, true, other)?;
             Ok(ResolvedExpression::Conditional(condition, then, other))
         }
         Expression::Assign(target, operator, _, value) => {
             let target = resolve_target(alloc, symbols, target)?;
-            let value = resolve_operand(alloc, symbols, value)?;
+            let value = boxed_expression(alloc, symbols, true, value)?;
             Ok(assigned(target, *operator, value))
         }
     }
 }
 
-/// An expression whose value an operator uses.
+/// The same, where it lies in a box.
 #[cycle(expression)]
-fn resolve_operand(
+pub fn boxed_expression(
     alloc: Global,
     symbols: &Symbols,
-    operand: &Expression,
+    for_value: bool,
+    expression: &Expression,
 ) -> Result<Box<ResolvedExpression>, SourceFault>
-    ensures checked { Checks result (expression_breaches symbols.now true (view_expression operand.now)) }
-    ensures resolved { IfOk result (λ found. resolved_expression symbols.now (view_expression operand.now) ≡ Some (view_resolved_expression found.value)) }
+    ensures checked { Checks result (expression_breaches symbols.now for_value (view_expression expression.now)) }
+    ensures resolved { IfOk result (λ found. resolved_expression symbols.now (view_expression expression.now) ≡ Some (view_resolved_expression found.value)) }
 {
-    let found = resolve_expression(alloc, symbols, true, operand)?;
-    Ok(Box::new(alloc, found)?)
+    boxed(
+        alloc,
+        resolve_expression(alloc, symbols, for_value, expression),
+    )
+}
+
+/// An expression that may be left out, out of its box.
+pub fn unboxed(expression: Option<Box<ResolvedExpression>>) -> Option<ResolvedExpression>
+    ensures { option_map view_resolved_expression result ≡ option_map (λ boxed. view_resolved_expression boxed.value) expression }
+{
+    match expression {
+        None => None,
+        Some(expression) => Some(Box::into_inner(expression)),
+    }
 }
 
 /// An operator before its operand.
@@ -412,7 +426,7 @@ fn resolve_unary(
     ensures checked { Checks result (expression_breaches symbols.now true (view_expression operand.now)) }
     ensures resolved { IfOk result (λ found. unary_of operator (resolved_expression symbols.now (view_expression operand.now)) ≡ Some (view_resolved_expression found)) }
 {
-    let operand = resolve_operand(alloc, symbols, operand)?;
+    let operand = boxed_expression(alloc, symbols, true, operand)?;
     Ok(ResolvedExpression::Unary(operator, operand))
 }
 
@@ -465,7 +479,7 @@ fn resolve_element(
     ensures index { IfOk result (λ found. resolved_expression symbols.now (view_expression index.now) ≡ Some (view_resolved_expression found.1.value)) }
 {
     let array = resolve_array(symbols, name)?;
-    let index = resolve_operand(alloc, symbols, index)?;
+    let index = boxed_expression(alloc, symbols, true, index)?;
     Ok((array, index))
 }
 
@@ -589,7 +603,8 @@ fn resolve_printed(
             place = 1;
             continue;
         }
-        resolved.push(resolve_argument(alloc, symbols, place, &argument.1)?)?;
+        let value = resolve_argument(alloc, symbols, place, &argument.1);
+        add(&mut resolved, value)?;
         place += 1;
     }
     Ok(resolved)
@@ -672,7 +687,8 @@ fn resolve_values(
 {
     let mut resolved = Vec::new(alloc);
     for argument in values {
-        resolved.push(resolve_expression(alloc, symbols, true, &argument.1)?)?;
+        let value = resolve_expression(alloc, symbols, true, &argument.1);
+        add(&mut resolved, value)?;
     }
     Ok(resolved)
 }

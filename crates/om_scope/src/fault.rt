@@ -64,7 +64,7 @@ pub fn refuse_among(
 
 /// What is answered of a statement whose check answered `checked`, where a loop had to stand: S12,
 /// or what goes before it.
-pub fn loop_fault(checked: Result<ResolvedStatement, SourceFault>, at: u32) -> SourceFault
+pub fn loop_fault(checked: Result<Box<ResolvedStatement>, SourceFault>, at: u32) -> SourceFault
     ensures { (breaches : List SourceFault) → Checks checked breaches
         → Refuses (with_breach (record { code = FaultCode.LoopForm; at = at }) breaches) result }
 {

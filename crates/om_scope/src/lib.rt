@@ -15,6 +15,7 @@ mod flow;
 mod found;
 mod function;
 mod globals;
+mod kept;
 pub mod laws;
 mod listed;
 mod names;

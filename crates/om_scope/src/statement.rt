@@ -24,9 +24,10 @@ use crate::canonical::{Loop, loop_in};
 use crate::construct::{constructing, traits_of};
 use crate::declaration::resolve_locals;
 use crate::directive::{resolve_directive, resolve_flush};
-use crate::expression::{misplaced, resolve_expression};
+use crate::expression::{boxed_expression, misplaced, unboxed};
 use crate::fault::{loop_fault, refuse_if};
 use crate::flow::Flow;
+use crate::kept::{add, boxed};
 use crate::listed::Listed;
 use crate::place::{expression_first, statement_first, statement_start};
 use crate::resolved::{
@@ -69,15 +70,15 @@ fn resolve_returned(
     symbols: &Symbols,
     flow: Flow,
     value: &Option<Expression>,
-) -> Result<Option<ResolvedExpression>, SourceFault>
+) -> Result<Option<Box<ResolvedExpression>>, SourceFault>
     ensures checked { Checks result (return_breaches symbols.now flow (option_map view_expression value.now)) }
-    ensures resolved { IfOk result (λ found. resolved_perhaps symbols.now (option_map view_expression value.now) ≡ Some (option_map view_resolved_expression found)) }
+    ensures resolved { IfOk result (λ found. resolved_perhaps symbols.now (option_map view_expression value.now) ≡ Some (option_map (λ boxed. view_resolved_expression boxed.value) found)) }
 {
     match value {
         None => Ok(None),
         Some(value) => {
             if flow.returns {
-                let value = resolve_expression(alloc, symbols, true, value)?;
+                let value = boxed_expression(alloc, symbols, true, value)?;
                 Ok(Some(value))
             } else {
                 Err(misplaced(symbols, value))
@@ -100,7 +101,7 @@ fn resolve_return(
 {
     check_jump(!flow.in_construct, at.start)?;
     let value = resolve_returned(alloc, symbols, flow, value)?;
-    Ok(ResolvedStatement::Return(at, value))
+    Ok(ResolvedStatement::Return(at, unboxed(value)))
 }
 
 /// A declaration in a block.
@@ -127,8 +128,8 @@ fn resolve_effect(
     ensures resolved { IfOk result (λ found. resolved_effect symbols.now (view_expression expression.now) ≡ Some (view_resolved_statement found)) }
 {
     let at = expression_first(expression);
-    let expression = resolve_expression(alloc, symbols, false, expression)?;
-    Ok(ResolvedStatement::Expression(at, expression))
+    let expression = boxed_expression(alloc, symbols, false, expression)?;
+    Ok(ResolvedStatement::Expression(at, Box::into_inner(expression)))
 }
 
 /// An expression that may be left out.
@@ -137,14 +138,14 @@ fn resolve_perhaps(
     symbols: &Symbols,
     for_value: bool,
     expression: &Option<Expression>,
-) -> Result<Option<ResolvedExpression>, SourceFault>
+) -> Result<Option<Box<ResolvedExpression>>, SourceFault>
     ensures checked { Checks result (perhaps_breaches symbols.now for_value (option_map view_expression expression.now)) }
-    ensures resolved { IfOk result (λ found. resolved_perhaps symbols.now (option_map view_expression expression.now) ≡ Some (option_map view_resolved_expression found)) }
+    ensures resolved { IfOk result (λ found. resolved_perhaps symbols.now (option_map view_expression expression.now) ≡ Some (option_map (λ boxed. view_resolved_expression boxed.value) found)) }
 {
     match expression {
         None => Ok(None),
         Some(expression) => {
-            let expression = resolve_expression(alloc, symbols, for_value, expression)?;
+            let expression = boxed_expression(alloc, symbols, for_value, expression)?;
             Ok(Some(expression))
         }
     }
@@ -164,8 +165,8 @@ fn resolve_for_start(
     match start {
         ForStart::Nothing(_) => Ok(ResolvedStart::Nothing),
         ForStart::Expression(expression, _) => {
-            let expression = resolve_expression(alloc, symbols, false, expression)?;
-            Ok(ResolvedStart::Expression(expression))
+            let expression = boxed_expression(alloc, symbols, false, expression)?;
+            Ok(ResolvedStart::Expression(Box::into_inner(expression)))
         }
         ForStart::Declaration(declaration) => {
             let declared = resolve_locals(alloc, symbols, declaration)?;
@@ -180,10 +181,16 @@ fn resolve_for_turn(
     alloc: Global,
     symbols: &Symbols,
     head: &ForHead,
-) -> Result<(Option<ResolvedExpression>, Option<ResolvedExpression>), SourceFault>
+) -> Result<
+    (
+        Option<Box<ResolvedExpression>>,
+        Option<Box<ResolvedExpression>>,
+    ),
+    SourceFault,
+>
     ensures checked { Checks result (for_turn_breaches symbols.now (view_for_head head.now)) }
-    ensures condition { IfOk result (λ found. resolved_perhaps symbols.now (view_for_head head.now).condition ≡ Some (option_map view_resolved_expression found.0)) }
-    ensures step { IfOk result (λ found. resolved_perhaps symbols.now (view_for_head head.now).step ≡ Some (option_map view_resolved_expression found.1)) }
+    ensures condition { IfOk result (λ found. resolved_perhaps symbols.now (view_for_head head.now).condition ≡ Some (option_map (λ boxed. view_resolved_expression boxed.value) found.0)) }
+    ensures step { IfOk result (λ found. resolved_perhaps symbols.now (view_for_head head.now).step ≡ Some (option_map (λ boxed. view_resolved_expression boxed.value) found.1)) }
 {
     let condition = resolve_perhaps(alloc, symbols, true, &head.condition)?;
     let step = resolve_perhaps(alloc, symbols, false, &head.step)?;
@@ -193,9 +200,9 @@ fn resolve_for_turn(
 /// What a `for` has before its body.
 #[derive(Drop)]
 struct ResolvedHead {
-    start: ResolvedStart,
-    condition: Option<ResolvedExpression>,
-    step: Option<ResolvedExpression>,
+    start: Box<ResolvedStart>,
+    condition: Option<Box<ResolvedExpression>>,
+    step: Option<Box<ResolvedExpression>>,
 }
 
 /// What a `for` has before its body: what it begins with, its condition and its step.
@@ -208,13 +215,13 @@ fn resolve_for_head(
     ensures checked { let tree = view_for_head head.now in
         Checks result (for_start_breaches symbols.old tree.start ++ for_turn_breaches (after_for_start symbols.old tree.start) tree) }
     ensures in_scope { OnOk result (symbols.new ≡ after_for_start symbols.old (view_for_head head.now).start) }
-    ensures start { IfOk result (λ found. resolved_start symbols.old (view_for_head head.now).start ≡ Some (view_resolved_start found.start)) }
+    ensures start { IfOk result (λ found. resolved_start symbols.old (view_for_head head.now).start ≡ Some (view_resolved_start found.start.value)) }
     ensures condition { let tree = view_for_head head.now in
-        IfOk result (λ found. resolved_perhaps (after_for_start symbols.old tree.start) tree.condition ≡ Some (option_map view_resolved_expression found.condition)) }
+        IfOk result (λ found. resolved_perhaps (after_for_start symbols.old tree.start) tree.condition ≡ Some (option_map (λ boxed. view_resolved_expression boxed.value) found.condition)) }
     ensures step { let tree = view_for_head head.now in
-        IfOk result (λ found. resolved_perhaps (after_for_start symbols.old tree.start) tree.step ≡ Some (option_map view_resolved_expression found.step)) }
+        IfOk result (λ found. resolved_perhaps (after_for_start symbols.old tree.start) tree.step ≡ Some (option_map (λ boxed. view_resolved_expression boxed.value) found.step)) }
 {
-    let start = resolve_for_start(alloc, symbols, &head.start)?;
+    let start = Box::new(alloc, resolve_for_start(alloc, symbols, &head.start)?)?;
     let (condition, step) = resolve_for_turn(alloc, symbols, head)?;
     Ok(ResolvedHead {
         start,
@@ -225,14 +232,20 @@ fn resolve_for_head(
 
 /// A `for` with its body.
 fn for_of(at: Span, head: ResolvedHead, body: Box<ResolvedStatement>) -> ResolvedStatement
-    ensures { view_resolved_statement result ≡ resolved.For at (view_resolved_start head.start) (option_map view_resolved_expression head.condition) (option_map view_resolved_expression head.step) (view_resolved_statement body.value) }
+    ensures { view_resolved_statement result ≡ resolved.For at (view_resolved_start head.start.value) (option_map (λ boxed. view_resolved_expression boxed.value) head.condition) (option_map (λ boxed. view_resolved_expression boxed.value) head.step) (view_resolved_statement body.value) }
 {
     let ResolvedHead {
         start,
         condition,
         step,
     } = head;
-    ResolvedStatement::For(at, start, condition, step, body)
+    ResolvedStatement::For(
+        at,
+        Box::into_inner(start),
+        unboxed(condition),
+        unboxed(step),
+        body,
+    )
 }
 
 /// A directive that stands alone, by its name.
@@ -300,7 +313,7 @@ fn enter_listed(symbols: &mut Symbols, kind: RegionKind, listed: Listed) -> Resu
     ensures { OnOk result (symbols.new ≡ in_kind kind listed symbols.old) }
 {
     let (copies, region) = listed.into_region(kind);
-    symbols.enter_region(copies, region)
+    symbols.enter_region(&copies, region)
 }
 
 /// Enters a construct, after its clauses.
@@ -328,10 +341,10 @@ fn enter_bounds(
     listed: Listed,
     schedule: ResolvedSchedule,
     found: &Loop<'_>,
-) -> Result<ResolvedLoop, SourceFault>
+) -> Result<Box<ResolvedLoop>, SourceFault>
     ensures checked { Checks result (found_breaches (round_listed kind listed symbols.old) (view_loop found.now)) }
     ensures in_scope { OnOk result (symbols.new ≡ in_kind kind listed symbols.old) }
-    ensures resolved { IfOk result (λ repeated. resolved_loop (round_listed kind listed symbols.old) schedule (view_loop found.now) ≡ Some (view_resolved_loop repeated)) }
+    ensures resolved { IfOk result (λ repeated. resolved_loop (round_listed kind listed symbols.old) schedule (view_loop found.now) ≡ Some (view_resolved_loop repeated.value)) }
 {
     if is_parallel(kind) {
         enter_listed(symbols, kind, listed)?;
@@ -350,7 +363,7 @@ fn enter_loop_construct(
     flow: Flow,
     directive: &Directive<Expression>,
     found: &Loop<'_>,
-) -> Result<(Vec<ResolvedClause>, ResolvedLoop), SourceFault>
+) -> Result<(Vec<ResolvedClause>, Box<ResolvedLoop>), SourceFault>
     ensures checked { let tree = view_directive directive.now in
         Checks result (directive_breaches symbols.old flow tree ++ found_breaches (round_bounds tree symbols.old) (view_loop found.now)) }
     ensures listed { OnOk result (directive_breaches symbols.old flow (view_directive directive.now) ≡ []) }
@@ -358,7 +371,7 @@ fn enter_loop_construct(
     ensures in_scope { OnOk result (symbols.new ≡ in_construct (view_directive directive.now) symbols.old) }
     ensures clauses { IfOk result (λ made. resolved_clauses symbols.old (view_directive directive.now).clauses ≡ Some (map view_resolved_clause made.0.items)) }
     ensures repeated { let tree = view_directive directive.now in
-        IfOk result (λ made. resolved_loop (round_bounds tree symbols.old) (schedule_of tree.clauses) (view_loop found.now) ≡ Some (view_resolved_loop made.1)) }
+        IfOk result (λ made. resolved_loop (round_bounds tree symbols.old) (schedule_of tree.clauses) (view_loop found.now) ≡ Some (view_resolved_loop made.1.value)) }
 {
     let (listed, clauses) = resolve_directive(alloc, symbols, flow, directive)?;
     let kind = traits_of(&directive.name).region;
@@ -398,25 +411,25 @@ fn resolve_statement(
         Statement::Empty(semicolon) => Ok(ResolvedStatement::Empty(*semicolon)),
         Statement::Expression(expression, _) => resolve_effect(alloc, symbols, expression),
         Statement::If(at, condition, then) => {
-            let condition = resolve_expression(alloc, symbols, true, &condition.value)?;
+            let condition = boxed_expression(alloc, symbols, true, &condition.value)?;
             let then = resolve_body(alloc, symbols, flow, then)?;
-            Ok(ResolvedStatement::If(*at, condition, then))
+            Ok(ResolvedStatement::If(*at, Box::into_inner(condition), then))
         }
         Statement::IfElse(at, condition, then, _, other) => {
-            let condition = resolve_expression(alloc, symbols, true, &condition.value)?;
+            let condition = boxed_expression(alloc, symbols, true, &condition.value)?;
             let then = resolve_body(alloc, symbols, flow, then)?;
             let other = resolve_body(alloc, symbols, flow, other)?;
-            Ok(ResolvedStatement::IfElse(*at, condition, then, other))
+            Ok(ResolvedStatement::IfElse(*at, Box::into_inner(condition), then, other))
         }
         Statement::While(at, condition, body) => {
-            let condition = resolve_expression(alloc, symbols, true, &condition.value)?;
+            let condition = boxed_expression(alloc, symbols, true, &condition.value)?;
             let body = resolve_body(alloc, symbols, looping(flow), body)?;
-            Ok(ResolvedStatement::While(*at, condition, body))
+            Ok(ResolvedStatement::While(*at, Box::into_inner(condition), body))
         }
         Statement::Do(at, body, _, condition, _) => {
             let body = resolve_body(alloc, symbols, looping(flow), body)?;
-            let condition = resolve_expression(alloc, symbols, true, &condition.value)?;
-            Ok(ResolvedStatement::Do(*at, body, condition))
+            let condition = boxed_expression(alloc, symbols, true, &condition.value)?;
+            Ok(ResolvedStatement::Do(*at, body, Box::into_inner(condition)))
         }
         Statement::For(head, body) => resolve_for(alloc, symbols, flow, head, body),
         Statement::Return(at, value, _) => resolve_return(alloc, symbols, flow, *at, value),
@@ -435,7 +448,10 @@ fn resolve_statement(
         Statement::Sections(directive, _, parts, _) => {
             resolve_sections(alloc, symbols, flow, directive, parts.as_slice())
         }
-        Statement::Section(_, first) => resolve_inside(alloc, symbols, flow, first),
+        Statement::Section(_, first) => {
+            let first = resolve_body(alloc, symbols, flow, first)?;
+            Ok(Box::into_inner(first))
+        }
     }
 }
 
@@ -475,9 +491,9 @@ fn resolve_plain_construct(
 {
     let inside = constructing(directive, flow);
     let clauses = enter_construct(alloc, symbols, flow, directive)?;
-    let body = resolve_statement(alloc, symbols, inside, body)?;
+    let body = boxed_statement(alloc, symbols, inside, body)?;
     symbols.leave();
-    Ok(construct_of(alloc, flow.parallel, directive, clauses, body)?)
+    construct_of(alloc, flow.parallel, directive, clauses, body)
 }
 
 /// A construct that is for a loop: S12.
@@ -498,7 +514,7 @@ fn resolve_loop_construct(
     match loop_in(body) {
         None => {
             enter_construct(alloc, symbols, flow, directive)?;
-            let checked = resolve_statement(alloc, symbols, inside, body);
+            let checked = boxed_statement(alloc, symbols, inside, body);
             Err(loop_fault(checked, statement_start(body)))
         }
         Some(found) => {
@@ -507,7 +523,7 @@ fn resolve_loop_construct(
             )?;
             let body = resolve_loop_body(alloc, symbols, inside, &found, body)?;
             symbols.leave();
-            Ok(loop_construct_of(alloc, directive, clauses, repeated, body)?)
+            loop_construct_of(alloc, directive, clauses, repeated, body)
         }
     }
 }
@@ -583,7 +599,7 @@ fn resolve_sections(
     let clauses = enter_construct(alloc, symbols, flow, directive)?;
     let items = resolve_parts(alloc, symbols, inside, parts)?;
     symbols.leave();
-    Ok(sections_construct_of(alloc, directive, clauses, items)?)
+    sections_construct_of(alloc, directive, clauses, items)
 }
 
 /// Whether an item of `sections`, behind so many parts, begins a part.
@@ -645,7 +661,8 @@ fn resolve_parts(
     let mut before = 0;
     let mut items = Vec::new(alloc);
     for part in parts {
-        items.push(resolve_part(alloc, symbols, flow, before, part)?)?;
+        let found = resolve_part(alloc, symbols, flow, before, part);
+        add(&mut items, found)?;
         before = parts_behind(before, part);
     }
     Ok(items)
@@ -671,8 +688,8 @@ fn resolve_part(
         FaultCode::TooMany,
         statement_start(part),
     )?;
-    let item = resolve_inside(alloc, symbols, flow, part)?;
-    Ok(part_of(alloc, begins_part(before, part), item)?)
+    let item = resolve_body(alloc, symbols, flow, part)?;
+    Ok(part_of(begins_part(before, part), item))
 }
 
 /// The items of a block, in a scope of their own.
@@ -688,9 +705,9 @@ fn resolve_block(
     ensures resolved { IfOk result (λ found. resolved_statements (inside symbols.old) flow.parallel (statements (map view_statement items.now)) ≡ Some (resolved.statements (map view_resolved_statement found.items))) }
 {
     symbols.enter(alloc)?;
-    let items = resolve_statements(alloc, symbols, flow, items)?;
+    let items = resolve_statements(alloc, symbols, flow, items);
     symbols.leave();
-    Ok(items)
+    items
 }
 
 /// A `for`, in a scope of its own.
@@ -714,25 +731,22 @@ fn resolve_for(
     Ok(for_of(head.word, turn, body))
 }
 
-/// A statement that is part of another one, which is a block of its own (C17 6.8.4p3, 6.8.5p5).
+/// The same, where it lies in a box.
 #[cycle(statement)]
-fn resolve_inside(
+fn boxed_statement(
     alloc: Global,
     symbols: &mut Symbols,
     flow: Flow,
-    body: &Statement,
-) -> Result<ResolvedStatement, SourceFault>
-    ensures checked { Checks result (statement_breaches (inside symbols.old) flow (view_statement body.now)) }
-    ensures in_scope { OnOk result (symbols.new ≡ symbols.old) }
-    ensures resolved { IfOk result (λ found. resolved_statement (inside symbols.old) flow.parallel (view_statement body.now) ≡ Some (view_resolved_statement found)) }
+    statement: &Statement,
+) -> Result<Box<ResolvedStatement>, SourceFault>
+    ensures checked { Checks result (statement_breaches symbols.old flow (view_statement statement.now)) }
+    ensures in_scope { OnOk result (symbols.new ≡ after_statement symbols.old (view_statement statement.now)) }
+    ensures resolved { IfOk result (λ found. resolved_statement symbols.old flow.parallel (view_statement statement.now) ≡ Some (view_resolved_statement found.value)) }
 {
-    symbols.enter(alloc)?;
-    let found = resolve_statement(alloc, symbols, flow, body)?;
-    symbols.leave();
-    Ok(found)
+    boxed(alloc, resolve_statement(alloc, symbols, flow, statement))
 }
 
-/// The same, where it lies in a box.
+/// A statement that is part of another one, which is a block of its own (C17 6.8.4p3, 6.8.5p5).
 #[cycle(statement)]
 fn resolve_body(
     alloc: Global,
@@ -744,8 +758,10 @@ fn resolve_body(
     ensures in_scope { OnOk result (symbols.new ≡ symbols.old) }
     ensures resolved { IfOk result (λ found. resolved_statement (inside symbols.old) flow.parallel (view_statement body.now) ≡ Some (view_resolved_statement found.value)) }
 {
-    let found = resolve_inside(alloc, symbols, flow, body)?;
-    Ok(Box::new(alloc, found)?)
+    symbols.enter(alloc)?;
+    let found = boxed_statement(alloc, symbols, flow, body);
+    symbols.leave();
+    found
 }
 
 /// The items of a block.
@@ -763,7 +779,8 @@ pub fn resolve_statements(
 {
     let mut resolved = Vec::new(alloc);
     for item in items {
-        resolved.push(resolve_statement(alloc, symbols, flow, item)?)?;
+        let found = resolve_statement(alloc, symbols, flow, item);
+        add(&mut resolved, found)?;
     }
     Ok(resolved)
 }

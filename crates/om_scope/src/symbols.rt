@@ -310,10 +310,10 @@ impl Symbols {
     /// Enters a construct in which these names are declared.
     pub fn enter_region(
         &mut self,
-        copies: IndexMap<Vec<u8>, Meaning>,
+        copies: &IndexMap<Vec<u8>, Meaning>,
         region: Region,
     ) -> Result<(), AllocError>
-        ensures { OnOk result (self.new ≡ within (scope_of copies.entries) region self.old) }
+        ensures { OnOk result (self.new ≡ within (scope_of copies.now.entries) region self.old) }
     {
         let alloc = *copies.allocator();
         self.begin(alloc, region)?;

@@ -10,6 +10,7 @@ use Rattle.om_scope.specs.StatementResolution.{resolved_statement}
 use Rattle.om_scope.specs.StatementRules.{after_for_start, after_statement, after_statements}
 use Rattle.om_scope.proofs.Blocks.{block_outside, body_outside, construct_outside, for_outside, parts_behind_le, parts_made, parts_refuse, parts_step, parts_whole, statements_made, statements_refuse, statements_step, statements_whole}
 use Rattle.om_scope.proofs.Constructs.{view_construct}
+use Rattle.om_scope.proofs.Founds.{ok_anyway, ok_then}
 use Rattle.om_scope.proofs.Fronts.{bounds_refuse}
 use Rattle.om_scope.proofs.Items.{drop-item, map-push}
 use Rattle.om_scope.proofs.statement.+statement.Goals as goal
@@ -20,29 +21,34 @@ resolve_statement-returns-in-Construct-clause-resolved t c =
     let h = rw c.deref-in-Construct.ensures at c.resolve_construct.ensures.resolved in
     rw (c.in-Construct.is, view_construct c.in-Construct.directive c.in-Construct.body) h
 
-pub resolve_inside-returns-clause-in_scope : goal.resolve_inside-returns-clause-in_scope
-resolve_inside-returns-clause-in_scope t c =
-    c.leave.ensures ∙ ap outside (c.in_ok-found.ensures.in_scope ∙ ap (λ scopes. after_statement scopes (view_statement c.args.body.now)) c.in_ok-enter.ensures) ∙ body_outside c.args.symbols.now (view_statement c.args.body.now)
+pub resolve_body-returns-clause-in_scope : goal.resolve_body-returns-clause-in_scope
+resolve_body-returns-clause-in_scope t c =
+    ok_then c.boxed_statement-found.result c.boxed_statement-found.ensures.in_scope
+    (λ behind. c.leave.ensures ∙ ap outside (behind ∙ ap (λ scopes. after_statement scopes (view_statement c.args.body.now)) c.in_ok-enter.ensures) ∙ body_outside c.args.symbols.now (view_statement c.args.body.now))
 
-pub resolve_statements-returns-in_err-resolve_statement-clause-checked : goal.resolve_statements-returns-in_err-resolve_statement-clause-checked
-resolve_statements-returns-in_err-resolve_statement-clause-checked t c =
+pub resolve_statements-returns-in_err-add-clause-checked : goal.resolve_statements-returns-in_err-add-clause-checked
+resolve_statements-returns-in_err-add-clause-checked t c =
     let p = err_from_is_err_and c.from_residual.result c.from_residual.ensures.1 in
     let here = ap (map view_statement) (drop-item c.args.items.now c.loop-item.item-index c.item-item.result c.loop-item-test.true c.item-item.is) in
     let left = rw here at c.loop-item.invariant in
-    rw (p.1, p.2) (statements_refuse _ _ _ _ _ _ _ left.0 c.in_err-resolve_statement.ensures.checked)
+    rw (p.1, p.2) (statements_refuse _ _ _ _ _ _ _ left.0 (c.in_err-add.ensures.checked _ c.resolve_statement-found.ensures.checked))
 
 pub resolve_statements-loop-item-preserved : goal.resolve_statements-loop-item-preserved
 resolve_statements-loop-item-preserved t c =
     let here = ap (map view_statement) (drop-item c.args.items.now c.loop-item.item-index c.item-item.result c.loop-item-test.true c.item-item.is) in
     let left = rw here at c.loop-item.invariant in
-    let one = c.in_ok-resolve_statement.ensures in
-    let made = ap (map view_resolved_statement) c.in_ok-push.ensures.items ∙ map-push view_resolved_statement c.loop-item.resolved.items c.in_ok-resolve_statement.field-0 in
-    rw (one.in_scope, made) (statements_step _ _ _ _ _ _ left.0 one.checked, left.1, statements_made _ _ _ _ _ _ _ left.2 one.resolved)
+    let added = c.in_ok-add.ensures.added in
+    let checked = rw added.1 at c.resolve_statement-found.ensures.checked in
+    let behind = rw added.1 at c.resolve_statement-found.ensures.in_scope in
+    let made = rw added.1 at c.resolve_statement-found.ensures.resolved in
+    let grown = ap (map view_resolved_statement) added.2 ∙ map-push view_resolved_statement c.loop-item.resolved.items added.0 in
+    rw (behind, grown) (statements_step _ _ _ _ _ _ left.0 checked, left.1, statements_made _ _ _ _ _ _ _ left.2 made)
 
 pub resolve_block-returns-clause-in_scope : goal.resolve_block-returns-clause-in_scope
 resolve_block-returns-clause-in_scope t c =
     let ss = map view_statement c.args.items.now in
-    c.leave.ensures ∙ ap outside (c.in_ok-items.ensures.in_scope ∙ ap (λ scopes. after_statements scopes ss) c.in_ok-enter.ensures) ∙ block_outside c.args.symbols.now ss
+    ok_then c.resolve_statements-items.result c.resolve_statements-items.ensures.in_scope
+    (λ behind. c.leave.ensures ∙ ap outside (behind ∙ ap (λ scopes. after_statements scopes ss) c.in_ok-enter.ensures) ∙ block_outside c.args.symbols.now ss)
 
 pub resolve_for-returns-clause-in_scope : goal.resolve_for-returns-clause-in_scope
 resolve_for-returns-clause-in_scope t c =
@@ -53,9 +59,10 @@ resolve_for-returns-clause-in_scope t c =
 
 pub resolve_plain_construct-returns-clause-in_scope : goal.resolve_plain_construct-returns-clause-in_scope
 resolve_plain_construct-returns-clause-in_scope t c =
-    c.leave.ensures
+    ok_anyway c.construct_of.result
+    (c.leave.ensures
     ∙ ap outside (c.in_ok-body.ensures.in_scope ∙ ap (λ scopes. after_statement scopes (view_statement c.args.body.now)) c.in_ok-clauses.ensures.in_scope)
-    ∙ construct_outside _ _ c.args.symbols.now (view_statement c.args.body.now)
+    ∙ construct_outside _ _ c.args.symbols.now (view_statement c.args.body.now))
 
 pub resolve_loop_construct-returns-in_err-clauses-in-Some-clause-checked : goal.resolve_loop_construct-returns-in_err-clauses-in-Some-clause-checked
 resolve_loop_construct-returns-in_err-clauses-in-Some-clause-checked t c =
@@ -63,23 +70,24 @@ resolve_loop_construct-returns-in_err-clauses-in-Some-clause-checked t c =
     let same : loop_in (view_statement c.args.body.now) ≡ Some (view_loop c.in-Some.found) = sym c.loop_in.ensures ∙ ap (option_map view_loop) c.in-Some.is in
     rw (p.1, p.2, same) (bounds_refuse c.args.symbols.now c.args.flow (view_directive c.args.directive.now) (view_loop c.in-Some.found) (view_statement c.args.body.now) _ c.in_err-clauses-in-Some.ensures.checked)
 
-pub resolve_parts-returns-in_err-resolve_part-clause-checked : goal.resolve_parts-returns-in_err-resolve_part-clause-checked
-resolve_parts-returns-in_err-resolve_part-clause-checked t c =
+pub resolve_parts-returns-in_err-add-clause-checked : goal.resolve_parts-returns-in_err-add-clause-checked
+resolve_parts-returns-in_err-add-clause-checked t c =
     let p = err_from_is_err_and c.from_residual.result c.from_residual.ensures.1 in
     let here = ap (map view_statement) (drop-item c.args.parts.now c.loop-part.part-index c.part-item.result c.loop-part-test.true c.part-item.is) in
     let left = rw here at c.loop-part.invariant in
-    let refused = rw left.1 at c.in_err-resolve_part.ensures.checked in
-    rw (p.1, p.2) (parts_refuse _ _ _ _ _ _ _ left.0 refused)
+    let checked = rw left.1 at c.resolve_part-found.ensures.checked in
+    rw (p.1, p.2) (parts_refuse _ _ _ _ _ _ _ left.0 (c.in_err-add.ensures.checked _ checked))
 
 pub resolve_parts-loop-part-preserved : goal.resolve_parts-loop-part-preserved
 resolve_parts-loop-part-preserved t c =
     let here = ap (map view_statement) (drop-item c.args.parts.now c.loop-part.part-index c.part-item.result c.loop-part-test.true c.part-item.is) in
     let left = rw here at c.loop-part.invariant in
-    let one = c.in_ok-resolve_part.ensures in
-    let whole = rw left.1 at one.checked in
-    let found = rw left.1 at one.resolved in
-    let made = ap (map view_resolved_statement) c.in_ok-push.ensures.items ∙ map-push view_resolved_statement c.loop-part.items.items c.in_ok-resolve_part.field-0 in
-    rw (c.parts_behind-before.ensures, made) (parts_step _ _ _ _ _ _ left.0 whole, one.in_scope ∙ left.1, parts_behind_le _ _ _ left.2, parts_made _ _ _ _ _ _ _ _ left.3 found)
+    let added = c.in_ok-add.ensures.added in
+    let checked = rw (left.1, added.1) at c.resolve_part-found.ensures.checked in
+    let behind = rw added.1 at c.resolve_part-found.ensures.in_scope in
+    let found = rw (left.1, added.1) at c.resolve_part-found.ensures.resolved in
+    let made = ap (map view_resolved_statement) added.2 ∙ map-push view_resolved_statement c.loop-part.items.items added.0 in
+    rw (c.parts_behind-before.ensures, made) (parts_step _ _ _ _ _ _ left.0 checked, behind ∙ left.1, parts_behind_le _ _ _ left.2, parts_made _ _ _ _ _ _ _ _ left.3 found)
 
 pub resolve_statements-returns-clause-resolved : goal.resolve_statements-returns-clause-resolved
 resolve_statements-returns-clause-resolved t c =
