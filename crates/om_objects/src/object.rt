@@ -38,7 +38,7 @@ pub enum Obj {
         number: u8,
     },
     /// The first iteration that is not given out of a team's worksharing region of this number,
-    /// from 1; for a `single` region, 1 once it is taken.
+    /// from 0; for a `single` region, 1 once it is taken.
     Work {
         team: Name,
         region: u64,

@@ -18,7 +18,7 @@ use Rattle.om_share.specs.Rows.{end_worksharing_row, closed_row, work_of, single
 pub carried : {E : Type 0} (r : Result Answer E) (a b : Asked) (s : State) → a ≡ b → ((t : State) → IfOk r (λ answer. answer ≡ answered a t)) → IfOk r (λ answer. answer ≡ answered b s)
 carried r a b s e h = subst (λ asked. IfOk r (λ answer. answer ≡ answered asked s)) e (h s)
 
-pub loop_opened : (worker to : ℕ) (c : Context) (form : LoopForm) (low high : Option ℤ) (lower upper from_lower from_upper : ℤ) (share : Share) (right : Bool) → low ≡ Some lower → high ≡ Some upper → right ≡ is_right_form form → right ≡ true → share ≡ loop_of (c.regions + 1) form from_lower from_upper → from_lower ≡ lower → from_upper ≡ upper → open_row worker to 2 c share ≡ loop_row worker to c form low high
+pub loop_opened : (worker to : ℕ) (c : Context) (form : LoopForm) (low high : Option ℤ) (lower upper from_lower from_upper : ℤ) (share : Share) (right : Bool) → low ≡ Some lower → high ≡ Some upper → right ≡ is_right_form form → right ≡ true → share ≡ loop_of c.regions form from_lower from_upper → from_lower ≡ lower → from_upper ≡ upper → open_row worker to 2 c share ≡ loop_row worker to c form low high
 loop_opened worker to c form low high lower upper from_lower from_upper share right e f g h k l m = grind (arith, common_steps)
 
 pub iterated : (to otherwise : ℕ) (c : Context) (slot : ℕ) (found : Option Share) (share : Share) (right : Bool) → found ≡ Some share → right ≡ is_loop share.sharing → right ≡ true → iteration_row to otherwise c slot share ≡ iterate_row to otherwise c slot found

@@ -95,13 +95,13 @@ loop_of region form lower upper = opened sharing.Loop region (count_of form.comp
 
 -- OpenMP 5.2, 11.5: a loop is opened
 abbrev pub loop_row : ℕ → ℕ → Context → LoopForm → Option ℤ → Option ℤ → Asked
-loop_row worker to c form (Some lower) (Some upper) = if is_right_form form then open_row worker to 2 c (loop_of (c.regions + 1) form lower upper) else decided Lacks
+loop_row worker to c form (Some lower) (Some upper) = if is_right_form form then open_row worker to 2 c (loop_of c.regions form lower upper) else decided Lacks
 loop_row worker to c form (Some lower) None = decided Lacks
 loop_row worker to c form None upper = decided Lacks
 
 -- OpenMP 5.2, 11.3: sections are opened, which are given out one by one
 abbrev pub sections_row : ℕ → ℕ → Context → ℕ → Asked
-sections_row worker to c n = open_row worker to 0 c (opened sharing.Sections (c.regions + 1) n (pos 0) (pos 1) (schedule.Dynamic 1))
+sections_row worker to c n = open_row worker to 0 c (opened sharing.Sections c.regions n (pos 0) (pos 1) (schedule.Dynamic 1))
 
 -- a share whose member has begun a chunk
 abbrev pub in_chunk : Share → ℕ → Chunk → Construct
@@ -189,7 +189,7 @@ abbrev pub single_row : ℕ → ℕ → ℕ → Context → Asked
 single_row worker to otherwise c =
     if is_misplaced c then decided (Faults fault.Nesting)
     else record {
-      names = write (obj.Work c.team.name (c.regions + 1)) ∷ events worker ∷ [];
+      names = write (obj.Work c.team.name c.regions) ∷ events worker ∷ [];
       row = λ values. chosen_row to otherwise c (nat_eq (number_in (first_of values)) 0);
     }
 

@@ -107,7 +107,6 @@ pub fn open_loop(
     form: LoopForm,
     bounds: Bounds,
 ) -> Result<Answer, AllocError>
-    requires { context.now.regions + 1 < 2 ^ 64 }
     ensures { (s : State) → IfOk result (λ answer. answer ≡ answered (loop_row at.worker at.to context.now form bounds.lower bounds.upper) s) }
 {
     let Some(lower) = bounds.lower else {
@@ -119,7 +118,7 @@ pub fn open_loop(
     if !is_right_form(form) {
         return Ok(Answer::decided(alloc, Row::Lacks));
     }
-    let share = loop_of(context.regions + 1, form, lower, upper);
+    let share = loop_of(context.regions, form, lower, upper);
     open_share(alloc, context, at, 2, share)
 }
 
@@ -130,12 +129,11 @@ pub fn open_sections(
     at: At,
     count: u32,
 ) -> Result<Answer, AllocError>
-    requires { context.now.regions + 1 < 2 ^ 64 }
     ensures { (s : State) → IfOk result (λ answer. answer ≡ answered (sections_row at.worker at.to context.now count) s) }
 {
     let share = Share {
         sharing: Sharing::Sections,
-        region: context.regions + 1,
+        region: context.regions,
         count: u64::from(count),
         lower: 0,
         step: 1,

@@ -1,6 +1,6 @@
 //! Single regions, and the end of each worksharing region.
 
-ghost use Rattle.std.specs.Prelude.{◌≡◌, ◌<◌, ◌+◌, ◌^◌, true, false, IfOk};
+ghost use Rattle.std.specs.Prelude.{◌≡◌, true, false, IfOk};
 ghost use Rattle.om_values.specs.State.{State};
 ghost use Rattle.om_values.specs.Stores.{state_of};
 ghost use Rattle.om_row.specs.Objects.{innermost};
@@ -76,7 +76,6 @@ pub fn single(
     worker: u8,
     branch: Branch,
 ) -> Result<Answer, AllocError>
-    requires { context.now.regions + 1 < 2 ^ 64 }
     ensures { IfOk result (λ answer. answer ≡ answered (single_row worker branch.to branch.otherwise context.now) (state_of store.now)) }
 {
     if is_misplaced(context) {
@@ -84,7 +83,7 @@ pub fn single(
     }
     let work = &Obj::Work {
         team: context.team.name,
-        region: context.regions + 1,
+        region: context.regions,
     };
     let is_first = store.number(alloc, work) == 0;
     let names = written_and_events(alloc, work, worker)?;

@@ -107,7 +107,7 @@ pub enum Sharing {
 #[derive(Clone, Copy, PartialEq, Eq)]
 pub struct Share {
     pub sharing: Sharing,
-    /// Its number among the worksharing regions that the member has met, from 1.
+    /// Its number among the worksharing regions that the member has met, from 0.
     pub region: u64,
     /// How many iterations there are in all.
     pub count: u64,

@@ -170,14 +170,25 @@ impl Store {
         let _before = self.put_present(object, value);
     }
 
+    /// The count that an object holds that is kept, if it holds one.
+    fn kept_count(&self, object: &Obj) -> Option<i128>
+        requires { is_kept self.now object.now ≡ true }
+        ensures { result ≡ count_of (state_of self.now object.now) }
+    {
+        match self.get(object) {
+            Some(value) => value.count(),
+            None => unreachable!(),
+        }
+    }
+
     /// Adds to the count at an object that is kept; another value stays. It takes no memory.
-    pub fn add(&mut self, alloc: Global, object: &Obj, number: i128)
+    pub fn add(&mut self, object: &Obj, number: i128)
         requires kept { is_kept self.old object.now ≡ true }
         requires fits { SumFits (state_of self.old object.now) number }
         ensures state { state_of self.new ≡ with_value object.now (value_plus number (state_of self.old object.now)) (state_of self.old) }
         ensures kept { (q : Obj) → is_kept self.new q ≡ is_kept self.old q }
     {
-        match self.count(alloc, object) {
+        match self.kept_count(object) {
             Some(count) => {
                 self.set(object, Val::Count(count + number));
             }
@@ -186,13 +197,13 @@ impl Store {
     }
 
     /// Takes from the count at an object that is kept; another value stays. It takes no memory.
-    pub fn subtract(&mut self, alloc: Global, object: &Obj, number: i128)
+    pub fn subtract(&mut self, object: &Obj, number: i128)
         requires kept { is_kept self.old object.now ≡ true }
         requires fits { SumFits (state_of self.old object.now) (neg_ℤ number) }
         ensures state { state_of self.new ≡ with_value object.now (value_plus (neg_ℤ number) (state_of self.old object.now)) (state_of self.old) }
         ensures kept { (q : Obj) → is_kept self.new q ≡ is_kept self.old q }
     {
-        match self.count(alloc, object) {
+        match self.kept_count(object) {
             Some(count) => {
                 self.set(object, Val::Count(count - number));
             }

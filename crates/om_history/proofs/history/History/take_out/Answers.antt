@@ -1,0 +1,16 @@
+-- The undos of all end at what the roll leaves.
+use Rattle.std.proofs.Common.{◌∙◌, sym, ap}
+use Rattle.std.proofs.lemmas.List.{drop_all}
+use Rattle.om_history.specs.Pasts.{past_in, history_in}
+use Rattle.om_history.proofs.Rolling.{undone_by, rolled-is}
+use Rattle.om_history.proofs.history.History.take_out.Goals as goal
+
+pub returns : goal.returns
+returns c = λ serial r held is.
+    let left = c.loop-member.invariant r held in (
+      ap (undone_by r (history_in c.loop-member.self))
+          (sym (drop_all c.loop-member.member-index c.args.taken.now c.loop-member-test.false))
+          ∙ left.0 ∙ ap (undone_by r (history_in c.args.self.now)) is
+          ∙ rolled-is r (past_in c.args.self.now) serial held.past,
+      left.1,
+    )

@@ -1,0 +1,7 @@
+pub mod Laws
+pub mod Runs
+pub mod Cones
+pub mod Commands
+pub mod Records
+pub mod Bounds
+pub mod Pasts

@@ -1,0 +1,92 @@
+-- What contracts see of a history that is kept, and what is true of it under rules.
+use Rattle.std.specs.Prelude.{◌≡◌, All, List, ℕ, ◌≤◌, ◌^◌, length}
+use Rattle.om_values.specs.declared.step.Label.{Label}
+use Rattle.om_values.specs.declared.step.Step.{Step}
+use Rattle.om_values.specs.declared.store.Store.{Store}
+use Rattle.om_values.specs.State.{State}
+use Rattle.om_values.specs.Stores.{state_of}
+use Rattle.om_values.specs.Rules.{Rules, step_at}
+use Rattle.om_history.specs.declared.records.UndoRecord.{UndoRecord}
+use Rattle.om_history.specs.declared.history.History.{History}
+use Rattle.om_history.specs.declared.reply.StepReply.{StepReply}
+use Rattle.om_history.specs.declared.reply.Taken.{Taken}
+use Rattle.om_history.specs.Runs.{History as Entries, reply_to_step, after_step}
+use Rattle.om_history.specs.Cones.{taken_by_roll, after_roll}
+use Rattle.om_history.specs.Records.{entries_of, ReplaysTo, HasRoom}
+use Rattle.om_history.specs.Commands.{IsRun, TakesCone}
+use Rattle.om_history.specs.Bounds.{IsSteady}
+
+-- the state, the undo records of the entries that stand, and how many steps were ever made
+pub record Past : Type 0 where
+  pub state : State
+  pub records : List UndoRecord
+  pub made : ℕ
+
+-- the entries that stand, and how many steps were ever made
+abbrev pub entries_in : Past → Entries
+entries_in past = record { entries = entries_of past.records; made = past.made }
+
+-- under these rules some commands led to a past
+pub record IsPast (r : Rules) (past : Past) : Type 0 where
+  pub steady : IsSteady r
+  -- the state is the replay of the entries, and each undo record is right at its place
+  pub replays : ReplaysTo r r.start past.records past.state
+  -- so that what is true after every run is true of the entries
+  pub reached : IsRun r (entries_in past)
+  pub few : length past.records ≤ past.made
+
+-- what a store and its records are, as a past
+abbrev pub past_of : Store → List UndoRecord → ℕ → Past
+past_of store records made = record { state = state_of store; records = records; made = made }
+
+-- what is true of a store and its records under rules
+pub record IsKept (r : Rules) (store : Store) (records : List UndoRecord) (made : ℕ) : Type 0 where
+  -- the objects of each footprint are kept, so that an undo takes no memory
+  pub rooms : All (λ k. HasRoom store k) records
+  pub few_made : made ≤ 2 ^ 63
+  pub past : IsPast r (past_of store records made)
+
+-- the past that a history holds, and its entries
+abbrev pub past_in : History → Past
+past_in h = past_of h.store h.records.items h.made
+
+abbrev pub history_in : History → Entries
+history_in h = entries_in (past_in h)
+
+-- a history under rules: what every call keeps
+abbrev pub IsHeld : Rules → History → Type 0
+IsHeld r h = IsKept r h.store h.records.items h.made
+
+-- whatever rules a history is held under, this is what they reply
+abbrev pub Replies : {A : Type 0} → (Rules → Entries → A) → History → A → Type 0
+Replies reply h it = (r : Rules) → IsHeld r h → it ≡ reply r (history_in h)
+
+-- whatever rules a history is held under, the next one is too, and its entries follow by a change
+abbrev pub Becomes : (Rules → Entries → Entries) → History → History → Type 0
+Becomes change old new = (r : Rules) → IsHeld r old → (history_in new ≡ change r (history_in old)) × IsHeld r new
+
+-- nothing changes that contracts see
+abbrev pub Stays : History → History → Type 0
+Stays old new = (past_in new ≡ past_in old) × ((r : Rules) → IsHeld r old → IsHeld r new)
+
+-- rules under which a history is held, and a step that is planned by them
+abbrev pub IsPlanned : Rules → History → Label → Step → Type 0
+IsPlanned r h label step = IsHeld r h × (step ≡ step_at r (past_in h).state label)
+
+-- what a planned step replies, and what it leaves
+abbrev pub RepliesToStep : Label → Step → History → StepReply → Type 0
+RepliesToStep label step h reply = (r : Rules) → IsPlanned r h label step
+    → reply ≡ reply_to_step r (history_in h) label
+
+abbrev pub TakesStep : Label → Step → History → History → Type 0
+TakesStep label step old new = (r : Rules) → IsPlanned r old label step
+    → (history_in new ≡ after_step r (history_in old) label) × IsHeld r new
+
+-- where these are what a roll takes out, they are taken out
+abbrev pub TakesOut : List Taken → History → History → Type 0
+TakesOut taken old new = (serial : ℕ) (r : Rules) → IsHeld r old → taken ≡ taken_by_roll r (history_in old) serial
+    → (history_in new ≡ after_roll r (history_in old) serial) × IsHeld r new
+
+-- a roll takes the cone out and nothing else
+abbrev pub TakesItsCone : ℕ → History → History → Type 0
+TakesItsCone serial old new = (r : Rules) → IsHeld r old → TakesCone r (history_in old) serial (history_in new)

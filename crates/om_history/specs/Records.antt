@@ -1,0 +1,65 @@
+-- Undo records against the replay of their entries.
+use Rattle.std.specs.Prelude.{◌≡◌, Bool, true, false, Option, None, Some, List, [], ◌∷◌, map, All, ℕ, ◌+◌, drop, slice_get}
+use Rattle.om_objects.specs.declared.footprint.Access.{Access}
+use Rattle.om_objects.specs.Footprint.{conflict_of}
+use Rattle.om_values.specs.declared.step.Update.{Update}
+use Rattle.om_values.specs.declared.step.Step.{Step}
+use Rattle.om_values.specs.declared.step.Entry.{Entry}
+use Rattle.om_values.specs.declared.store.Store.{Store}
+use Rattle.om_values.specs.State.{State, undo_record}
+use Rattle.om_values.specs.Stores.{is_kept}
+use Rattle.om_values.specs.Rules.{Rules, step_at, next_state}
+use Rattle.om_history.specs.declared.records.UndoRecord.{UndoRecord}
+use Rattle.om_history.specs.declared.reply.UndoReply.{UndoReply}
+use Rattle.om_history.specs.declared.reply.UndoReply.TheVariants.{Undone, Conflict, Nothing}
+use Rattle.om_history.specs.Laws.{updates_of}
+use Rattle.om_history.specs.Runs.{label_of, conflict_or}
+use Rattle.om_history.specs.Cones.{Transition}
+
+abbrev pub entries_of : List UndoRecord → List Entry
+entries_of ks = map (λ (k : UndoRecord). k.entry) ks
+
+abbrev pub transition_of : UndoRecord → Transition
+transition_of k = record { entry = k.entry; footprint = k.footprint }
+
+abbrev pub transitions_of : List UndoRecord → List Transition
+transitions_of ks = map transition_of ks
+
+-- what takes a step's updates back: old values where it puts, numbers where it adds, lengths where it appends
+abbrev pub back_of : Step → State → List Update
+back_of d s = undo_record d.footprint (updates_of d.outcome) s
+
+-- an undo record is right for a step at a state
+pub record IsRight (d : Step) (s : State) (k : UndoRecord) : Type 0 where
+  pub footprint : k.footprint ≡ d.footprint
+  pub back : k.back ≡ back_of d s
+  pub line : k.entry.line ≡ d.line
+
+-- the entries can be made in turn from s, the record of each is right there, and they end at `now`
+abbrev pub ReplaysTo : Rules → State → List UndoRecord → State → Type 0
+ReplaysTo r s [] now = s ≡ now
+ReplaysTo r s (k ∷ ks) now = (t : State) × (next_state r s (label_of k.entry) ≡ Some t) × IsRight
+    (step_at r s (label_of k.entry)) s k × ReplaysTo r t ks now
+
+-- a store keeps the objects of a footprint
+abbrev pub HasRoom : Store → UndoRecord → Type 0
+HasRoom store k = All (λ a. is_kept store a.object ≡ true) k.footprint
+
+-- the reply that names the first record that conflicts with a footprint, else the other reply
+abbrev pub first_kept_conflict : List Access → List UndoRecord → UndoReply → UndoReply
+first_kept_conflict footprint [] otherwise = otherwise
+first_kept_conflict footprint (k ∷ ks) otherwise = conflict_or k.entry (conflict_of footprint k.footprint)
+    (first_kept_conflict footprint ks otherwise)
+
+abbrev pub reply_before : Option UndoRecord → List UndoRecord → UndoReply
+reply_before None later = Nothing
+reply_before (Some k) later = first_kept_conflict k.footprint later (Undone k.entry.serial k.entry.line)
+
+-- what an undo of the entry at an index replies
+abbrev pub kept_reply : List UndoRecord → ℕ → UndoReply
+kept_reply ks i = reply_before (slice_get ks i) (drop (i + 1) ks)
+
+abbrev pub is_done : UndoReply → Bool
+is_done (Undone serial line) = true
+is_done (Conflict serial worker q) = false
+is_done Nothing = false

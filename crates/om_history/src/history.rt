@@ -1,0 +1,213 @@
+//! The history of a run, with the store that its entries lead to.
+
+ghost use Rattle.std.specs.Prelude.{◌≡◌, ◌<◌, ◌^◌, [], IfOk, OnOk, OnErr, IsNone, IfSome, ◌↔◌};
+ghost use Rattle.om_values.specs.Stores.{state_of};
+ghost use Rattle.om_values.specs.Rules.{Rules};
+ghost use Rattle.om_history.specs.Bounds.{IsSteady};
+ghost use Rattle.om_history.specs.Runs.{fault_of, reply_for, reply_to_undo, after_undo};
+ghost use Rattle.om_history.specs.Cones.{taken_by_roll, reply_to_roll, after_roll};
+ghost use Rattle.om_history.specs.Commands.{IsGone};
+ghost use Rattle.om_history.specs.Records.{is_done};
+ghost use Rattle.om_history.specs.Pasts.{past_in, history_in, IsHeld, IsPlanned, Replies, RepliesToStep, Becomes, TakesStep, TakesOut, TakesItsCone, Stays};
+
+use crate::records::{UndoRecord, append, cone_of, entries, last_index, reply_at, take_out};
+use crate::reply::{RollReply, StepReply, Taken, UndoReply};
+use om_values::{Control, Entry, Label, Outcome, Step, Store, Update, Val};
+use om_program::frame::Fault;
+use om_seq::Seq;
+use std::alloc::{AllocError, Global};
+
+/// The history of a run: its entries, each with what takes it back, and the store that they lead
+/// to.
+///
+/// Contracts see it as the past that it holds (`past_in`): the state, the undo records and how many
+/// steps were ever made. They speak of any rules under which commands led to it (`IsHeld`), so that
+/// it serves every program.
+#[derive(Drop)]
+pub struct History {
+    store: Store,
+    records: Vec<UndoRecord>,
+    made: u64,
+}
+
+/// The fault that a step's worker comes to, if it does.
+fn fault_in(updates: &[Update]) -> Option<Fault>
+    ensures { result ≡ fault_of updates.now }
+{
+    match updates.first()? {
+        Update::Put(Val::Control(Control::Faulted(fault, _))) => Some(*fault),
+        _ => None,
+    }
+}
+
+/// What a step answers, by its serial, its line and what comes of it.
+pub fn reply_to(outcome: &Outcome, serial: u64, line: u32) -> StepReply
+    ensures { result ≡ reply_for serial line outcome.now }
+{
+    match outcome {
+        Outcome::Updates(updates) => StepReply::Done {
+            serial,
+            line,
+            fault: fault_in(updates.as_slice()),
+        },
+        Outcome::Blocked(why) => StepReply::Blocked(*why),
+        Outcome::Ended => StepReply::Ended,
+    }
+}
+
+/// Whether an undo was done.
+fn is_undone(reply: &UndoReply) -> bool
+    ensures { result ≡ is_done reply.now }
+{
+    match reply {
+        UndoReply::Undone { .. } => true,
+        _ => false,
+    }
+}
+
+impl History {
+    /// The history in which no step was made, over the store in which a program starts. It takes no
+    /// memory.
+    pub fn new(alloc: Global, store: Store) -> History
+        ensures past { past_in result ≡ record { state = state_of store; records = []; made = 0 } }
+        ensures held { (r : Rules) → IsSteady r → r.start ≡ state_of store → IsHeld r result }
+    {
+        History {
+            store,
+            records: Vec::new(alloc),
+            made: 0,
+        }
+    }
+
+    /// What each object holds.
+    pub fn store(&self) -> &Store
+        ensures { state_of result.now ≡ (past_in self.now).state }
+    {
+        &self.store
+    }
+
+    /// How many steps were ever made; undos and rolls don't lower it.
+    pub fn made(&self) -> u64
+        ensures { result ≡ (past_in self.now).made }
+    {
+        self.made
+    }
+
+    /// A copy of the entries that stand, in their order. Its only error is out of memory.
+    pub fn entries(&self, alloc: Global) -> Result<Vec<Entry>, AllocError>
+        ensures { IfOk result (λ v. v.items ≡ (history_in self.now).entries) }
+    {
+        entries(alloc, self.records.as_slice())
+    }
+
+    /// Takes a worker's last step out, wherever it stands, unless a later step conflicts with it:
+    /// the reply of the definition of a run.
+    ///
+    /// Only `Undone` changes anything, and the number of steps ever made stays even then, so no
+    /// serial is given again. It takes no memory.
+    pub fn undo(&mut self, worker: u8) -> UndoReply
+        requires { (r : Rules) × IsHeld r self.old }
+        ensures reply { Replies (λ r h. reply_to_undo r h worker) self.old result }
+        ensures after { Becomes (λ r h. after_undo r h worker) self.old self.new }
+    {
+        match last_index(self.records.as_slice(), worker) {
+            Some(at) => {
+                let reply = reply_at(self.records.as_slice(), at);
+                if is_undone(&reply) {
+                    take_out(&mut self.store, &mut self.records, at);
+                }
+                reply
+            }
+            None => UndoReply::Nothing,
+        }
+    }
+
+    /// Takes the step of a label that was planned at the state, or says why it can't be taken: the
+    /// reply of the definition of a run.
+    ///
+    /// Only `Done` changes anything: an entry is added, whose serial is one above the number of
+    /// steps ever made. When out of memory, nothing changes.
+    pub fn take(&mut self, alloc: Global, label: Label, step: Step) -> Result<StepReply, AllocError>
+        requires few_made { (past_in self.old).made < 2 ^ 63 }
+        requires planned { (r : Rules) × IsPlanned r self.old label step }
+        ensures reply { IfOk result (RepliesToStep label step self.old) }
+        ensures after { OnOk result (TakesStep label step self.old self.new) }
+        ensures unchanged_on_error { OnErr result (Stays self.old self.new) }
+    {
+        let Step {
+            footprint,
+            outcome,
+            line,
+        } = step;
+        let serial = self.made + 1;
+        let reply = reply_to(&outcome, serial, line);
+        match outcome {
+            Outcome::Updates(updates) => {
+                let entry = Entry {
+                    serial,
+                    worker: label.worker,
+                    choice: label.choice,
+                    line,
+                };
+                let planned = UndoRecord {
+                    entry,
+                    footprint,
+                    back: updates,
+                };
+                append(&mut self.store, &mut self.records, alloc, planned)?;
+                self.made = serial;
+                Ok(reply)
+            }
+            Outcome::Blocked(_) => Ok(reply),
+            Outcome::Ended => Ok(reply),
+        }
+    }
+
+    /// What a roll of the entry with a serial would take out, the latest first: its cone, the least
+    /// set that holds it and, with each member, every later entry that conflicts with the member.
+    /// `None` where no entry has that serial. Nothing changes; the only error is out of memory.
+    pub fn cone(&self, alloc: Global, serial: u64) -> Result<Option<Vec<Taken>>, AllocError>
+        requires { (r : Rules) × IsHeld r self.now }
+        ensures none { IfOk result (λ o. IsNone o ↔ IsGone serial (history_in self.now)) }
+        ensures members { IfOk result (λ o. IfSome o (λ v. Replies (λ r h. taken_by_roll r h serial) self.now v.items)) }
+    {
+        let taken = cone_of(alloc, self.records.as_slice(), serial)?;
+        if taken.is_empty() {
+            Ok(None)
+        } else {
+            Ok(Some(taken))
+        }
+    }
+
+    /// Takes the members of a cone out, which `cone` answered. It takes no memory.
+    pub fn take_out(&mut self, taken: &[Taken])
+        requires { (r : Rules) × IsHeld r self.old }
+        ensures { TakesOut taken.now self.old self.new }
+    {
+        for member in taken {
+            let _undone = self.undo(member.worker);
+        }
+    }
+
+    /// Takes the entry with a serial and the rest of its cone out: the reply of the definition of a
+    /// run.
+    ///
+    /// Only `Rolled` changes anything, and the number of steps ever made stays even then. Where no
+    /// entry has that serial the answer is `NoEntry`. When out of memory, nothing changes.
+    pub fn roll(&mut self, alloc: Global, serial: u64) -> Result<RollReply, AllocError>
+        requires { (r : Rules) × IsHeld r self.old }
+        ensures reply { IfOk result (Replies (λ r h. reply_to_roll r h serial) self.old) }
+        ensures after { OnOk result (Becomes (λ r h. after_roll r h serial) self.old self.new) }
+        ensures takes_cone { OnOk result (TakesItsCone serial self.old self.new) }
+        ensures no_entry { IfOk result (λ x. (x ≡ RollReply.NoEntry) ↔ IsGone serial (history_in self.old)) }
+        ensures unchanged_without_entry { IfOk result (λ x. x ≡ RollReply.NoEntry → Stays self.old self.new) }
+        ensures unchanged_on_error { OnErr result (Stays self.old self.new) }
+    {
+        let taken = cone_of(alloc, self.records.as_slice(), serial)?;
+        if taken.is_empty() {
+            return Ok(RollReply::NoEntry);
+        }
+        self.take_out(taken.as_slice());
+        Ok(RollReply::Rolled(Seq::of(taken)))
+    }
+}

@@ -1,0 +1,13 @@
+//! A run's history under any rules: undo at any place of it, rolls, and the laws that they rest
+//! on.
+#![tactic(auto)]
+
+pub mod history;
+pub mod laws;
+pub mod records;
+pub mod reply;
+mod updates;
+
+pub use history::{History, reply_to};
+pub use records::UndoRecord;
+pub use reply::{RollReply, StepReply, Taken, UndoReply};

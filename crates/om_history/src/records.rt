@@ -1,0 +1,203 @@
+//! Undo records: the history's entries, each with its footprint and what takes it back.
+
+ghost use Rattle.std.specs.Prelude.{◌≡◌, ◌≢◌, map, reverse, ◌<◌, ◌+◌, ◌∷◌, ◌++◌, [], IfOk, OnOk, OnErr, All, IfSome, IfNone, length, slice_get, remove, drop, true};
+ghost use Rattle.om_objects.specs.declared.object.Obj.{Obj};
+ghost use Rattle.om_values.specs.State.{updated, undo_record, taken_back};
+ghost use Rattle.om_values.specs.Stores.{state_of, is_kept};
+ghost use Rattle.om_history.specs.Bounds.{FitsAll, FitsBack};
+ghost use Rattle.om_history.specs.Cones.{meets_one, is_member as is_member_of, cone, taken_of};
+ghost use Rattle.om_history.specs.Records.{entries_of, transition_of, transitions_of, first_kept_conflict, kept_reply, HasRoom};
+
+use crate::reply::{Taken, UndoReply};
+use crate::updates::{keep_all, make_all, take_back_all};
+use om_values::{Entry, Store, Update};
+use om_objects::{Access, conflict};
+use om_seq::Seq;
+use std::alloc::{AllocError, Global};
+
+#[cfg(test)]
+mod tests;
+
+/// An entry, with its footprint and what takes its updates back.
+#[derive(Drop)]
+pub struct UndoRecord {
+    pub entry: Entry,
+    /// The objects that the step touched, its worker's control first.
+    pub footprint: Seq<Access>,
+    /// For each access that was updated what takes its update back.
+    pub back: Seq<Update>,
+}
+
+/// The index of a worker's last entry, sought from the end.
+pub(crate) fn last_index(records: &[UndoRecord], worker: u8) -> Option<usize>
+    ensures own { IfSome result (λ i. IfSome (slice_get records.now i) (λ k. k.entry.worker ≡ worker)) }
+    ensures last { IfSome result (λ i. All (λ k. k.entry.worker ≢ worker) (drop (i + 1) records.now)) }
+    ensures within { IfSome result (λ i. i < length records.now) }
+    ensures none { IfNone result (All (λ k. k.entry.worker ≢ worker) records.now) }
+{
+    for i in (0..records.len()).rev() {
+        if records[i].entry.worker == worker {
+            return Some(i);
+        }
+    }
+    None
+}
+
+/// The reply that names the first record that conflicts with a footprint, else the other reply.
+fn first_conflict(footprint: &[Access], later: &[UndoRecord], otherwise: UndoReply) -> UndoReply
+    ensures { result ≡ first_kept_conflict footprint.now later.now otherwise }
+{
+    for made in later {
+        if let Some(object) = conflict(footprint, made.footprint.as_slice()) {
+            return UndoReply::Conflict {
+                serial: made.entry.serial,
+                worker: made.entry.worker,
+                object,
+            };
+        }
+    }
+    otherwise
+}
+
+/// What an undo of the entry at an index answers.
+pub(crate) fn reply_at(records: &[UndoRecord], at: usize) -> UndoReply
+    requires { at < length records.now }
+    ensures { result ≡ kept_reply records.now at }
+{
+    let last = &records[at];
+    let undone = UndoReply::Undone {
+        serial: last.entry.serial,
+        line: last.entry.line,
+    };
+    first_conflict(last.footprint.as_slice(), &records[at + 1..], undone)
+}
+
+/// Makes the updates of a record that has them in the place of what takes them back, and adds it at
+/// the end, with what takes them back. When out of memory, no value and no record changes.
+pub(crate) fn append(
+    store: &mut Store,
+    records: &mut Vec<UndoRecord>,
+    alloc: Global,
+    planned: UndoRecord,
+) -> Result<(), AllocError>
+    requires { FitsAll planned.footprint planned.back (state_of store.old) }
+    ensures state { OnOk result (state_of store.new ≡ updated planned.footprint planned.back (state_of store.old)) }
+    ensures records { OnOk result (records.new.items ≡ records.old.items ++ record planned { back = undo_record planned.footprint planned.back (state_of store.old) } ∷ []) }
+    ensures room { OnOk result (All (λ a. is_kept store.new a.object ≡ true) planned.footprint) }
+    ensures others_kept { (q : Obj) → is_kept store.old q ≡ true → is_kept store.new q ≡ true }
+    ensures same_state_on_error { OnErr result (state_of store.new ≡ state_of store.old) }
+    ensures same_records_on_error { OnErr result (records.new.items ≡ records.old.items) }
+{
+    let UndoRecord {
+        entry,
+        footprint,
+        back,
+    } = planned;
+    keep_all(store, alloc, footprint.as_slice())?;
+    records.reserve(1)?;
+    let mut back = back.into_vec();
+    make_all(store, footprint.as_slice(), &mut back)?;
+    let made = UndoRecord {
+        entry,
+        footprint,
+        back: Seq::of(back),
+    };
+    match records.push(made) {
+        Ok(()) => Ok(()),
+        Err(_) => unreachable!(),
+    }
+}
+
+/// Takes a record out, and takes its updates back. It takes no memory.
+pub(crate) fn take_out(store: &mut Store, records: &mut Vec<UndoRecord>, at: usize)
+    requires within { at < length records.old.items }
+    requires rooms { All (λ k. HasRoom store.old k) records.old.items }
+    requires fits { IfSome (slice_get records.old.items at) (λ k. FitsBack k.footprint k.back (state_of store.old)) }
+    ensures state { IfSome (slice_get records.old.items at) (λ k. state_of store.new ≡ taken_back k.footprint k.back (state_of store.old)) }
+    ensures records { records.new.items ≡ remove records.old.items at }
+    ensures kept { (q : Obj) → is_kept store.new q ≡ is_kept store.old q }
+{
+    let UndoRecord {
+        entry: _,
+        footprint,
+        back,
+    } = records.remove(at);
+    let mut back = back.into_vec();
+    take_back_all(store, footprint.as_slice(), &mut back);
+}
+
+/// Whether a record conflicts with one of these.
+fn meets(members: &[&UndoRecord], made: &UndoRecord) -> bool
+    ensures { result ≡ meets_one (map (λ k. transition_of k.now) members.now) (transition_of made.now) }
+{
+    for member in members {
+        if conflict(member.footprint.as_slice(), made.footprint.as_slice()).is_some() {
+            return true;
+        }
+    }
+    false
+}
+
+/// Whether a record is of the cone of the entry with a serial, where these are the members before
+/// it.
+fn is_member(members: &[&UndoRecord], made: &UndoRecord, serial: u64) -> bool
+    ensures { result ≡ is_member_of serial (map (λ k. transition_of k.now) members.now) (transition_of made.now) }
+{
+    made.entry.serial == serial || meets(members, made)
+}
+
+/// The members of the cone of the entry with a serial, in their order; none where no entry has it.
+fn members<'a>(
+    alloc: Global,
+    records: &'a [UndoRecord],
+    serial: u64,
+) -> Result<Vec<&'a UndoRecord>, AllocError>
+    ensures { IfOk result (λ v. map (λ k. transition_of k.now) v.items ≡ cone serial (transitions_of records.now)) }
+{
+    let mut members = Vec::new(alloc);
+    for candidate in records {
+        if is_member(members.as_slice(), candidate, serial) {
+            members.push(candidate)?;
+        }
+    }
+    Ok(members)
+}
+
+/// What names the entries of records, the last one first.
+fn names(alloc: Global, members: &[&UndoRecord]) -> Result<Vec<Taken>, AllocError>
+    ensures { IfOk result (λ v. v.items ≡ map (λ k. taken_of (transition_of k.now)) (reverse members.now)) }
+{
+    members
+        .iter()
+        .rev()
+        .map(|member| Taken {
+            serial: member.entry.serial,
+            worker: member.entry.worker,
+            line: member.entry.line,
+        })
+        .collect(alloc)
+}
+
+/// What a roll of the entry with a serial takes out, the latest first; nothing where no entry has
+/// it.
+pub(crate) fn cone_of(
+    alloc: Global,
+    records: &[UndoRecord],
+    serial: u64,
+) -> Result<Vec<Taken>, AllocError>
+    ensures { IfOk result (λ v. v.items ≡ map taken_of (reverse (cone serial (transitions_of records.now)))) }
+{
+    let members = members(alloc, records, serial)?;
+    names(alloc, members.as_slice())
+}
+
+/// The entries of records, in their order.
+pub(crate) fn entries(alloc: Global, records: &[UndoRecord]) -> Result<Vec<Entry>, AllocError>
+    ensures { IfOk result (λ v. v.items ≡ entries_of records.now) }
+{
+    let mut entries = Vec::with_capacity(alloc, records.len())?;
+    for made in records {
+        entries.push(made.entry)?;
+    }
+    Ok(entries)
+}
