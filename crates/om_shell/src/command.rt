@@ -1,6 +1,8 @@
 //! What a line asks for.
-ghost use Rattle.std.specs.Prelude.{◌≡◌, ◌<◌, length, map, IfOk, IfSome};
-ghost use Rattle.om_shell.specs.Commands.{number_of, worker_of, global_of, request_in, request_of, HasWorkerBelow};
+ghost use Rattle.std.specs.Prelude.{ℕ, ◌≡◌, ◌<◌, length, map, IfOk, IfSome};
+ghost use Rattle.std.specs.Str.{bytes_eq};
+ghost use Rattle.om_shell.specs.declared.command.Command.TheVariants.{Step, Undo, Print, Quit};
+ghost use Rattle.om_shell.specs.Commands.{number_of, worker_of, global_of, with_argument, with_word, alone, request_in, request_of, HasWorkerBelow};
 
 use crate::lines::words;
 use om_code::program::Program;
@@ -88,27 +90,85 @@ fn global(program: &Program, word: &[u8]) -> Option<u32>
     global_named(program, word)
 }
 
+// Whether a word is this one.
+fn is_word(word: &[u8], wanted: &[u8]) -> bool
+    ensures { result ≡ bytes_eq word.now wanted.now }
+{
+    word == wanted
+}
+
+// `step`, with the words behind it.
+fn step_request(workers: u8, words: &[&[u8]]) -> Request
+    ensures asked { result ≡ with_word (λ w. with_argument Step (worker_of workers w)) (map (λ word. word.now) words.now) }
+    ensures in_range { HasWorkerBelow workers result }
+{
+    match words {
+        [word] => match worker(workers, word) {
+            Some(worker) => Request::Command(Command::Step(worker)),
+            None => BAD_ARGUMENT,
+        },
+        [] | [_, _, ..] => BAD_ARGUMENT,
+    }
+}
+
+// `undo`, with the words behind it.
+fn undo_request(workers: u8, words: &[&[u8]]) -> Request
+    ensures asked { result ≡ with_word (λ w. with_argument Undo (worker_of workers w)) (map (λ word. word.now) words.now) }
+    ensures in_range { HasWorkerBelow workers result }
+{
+    match words {
+        [word] => match worker(workers, word) {
+            Some(worker) => Request::Command(Command::Undo(worker)),
+            None => BAD_ARGUMENT,
+        },
+        [] | [_, _, ..] => BAD_ARGUMENT,
+    }
+}
+
+// `print`, with the words behind it.
+fn print_request(program: &Program, words: &[&[u8]]) -> Request
+    ensures asked { result ≡ with_word (λ name. with_argument Print (global_of program.now name)) (map (λ word. word.now) words.now) }
+    ensures no_worker { (workers : ℕ) → HasWorkerBelow workers result }
+{
+    match words {
+        [word] => match global(program, word) {
+            Some(global) => Request::Command(Command::Print(global)),
+            None => BAD_ARGUMENT,
+        },
+        [] | [_, _, ..] => BAD_ARGUMENT,
+    }
+}
+
+// `quit`, with the words behind it.
+fn quit_request(words: &[&[u8]]) -> Request
+    ensures asked { result ≡ alone Quit (map (λ word. word.now) words.now) }
+    ensures no_worker { (workers : ℕ) → HasWorkerBelow workers result }
+{
+    match words {
+        [] => Request::Command(Command::Quit),
+        [_, ..] => BAD_ARGUMENT,
+    }
+}
+
 fn request_from(program: &Program, workers: u8, words: &[&[u8]]) -> Request
     ensures asked { result ≡ request_in program.now workers (map (λ word. word.now) words.now) }
     ensures in_range { HasWorkerBelow workers result }
 {
     match words {
         [] => Request::Nothing,
-        [b"step", word] => match worker(workers, word) {
-            Some(worker) => Request::Command(Command::Step(worker)),
-            None => BAD_ARGUMENT,
-        },
-        [b"undo", word] => match worker(workers, word) {
-            Some(worker) => Request::Command(Command::Undo(worker)),
-            None => BAD_ARGUMENT,
-        },
-        [b"print", word] => match global(program, word) {
-            Some(global) => Request::Command(Command::Print(global)),
-            None => BAD_ARGUMENT,
-        },
-        [b"quit"] => Request::Command(Command::Quit),
-        [b"step" | b"undo" | b"print" | b"quit", ..] => BAD_ARGUMENT,
-        _ => UNKNOWN_COMMAND,
+        [word, words @ ..] => {
+            if is_word(word, b"step") {
+                step_request(workers, words)
+            } else if is_word(word, b"undo") {
+                undo_request(workers, words)
+            } else if is_word(word, b"print") {
+                print_request(program, words)
+            } else if is_word(word, b"quit") {
+                quit_request(words)
+            } else {
+                UNKNOWN_COMMAND
+            }
+        }
     }
 }
 
