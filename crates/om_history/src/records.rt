@@ -15,9 +15,6 @@ use om_objects::{Access, conflict};
 use om_seq::Seq;
 use std::alloc::{AllocError, Global};
 
-#[cfg(test)]
-mod tests;
-
 /// An entry, with its footprint and what takes its updates back.
 #[derive(Drop)]
 pub struct UndoRecord {
