@@ -12,17 +12,17 @@ ghost use Rattle.om_fork.specs.Rows.{team_updates, forked, team_row, team_of, na
 use crate::members::{
     busy, first_frame, member, name_members, name_workers, put_given, put_members,
 };
-use om_values::{Blocked, Context, Edit, Frame, Store, Team, Update};
+use om_events::Record;
+use om_objects::{Access, Name};
 use om_program::frame::Fault;
 use om_program::print::ints_on;
 use om_program::raw::Body;
 use om_program::serial::int_at;
-use om_events::Record;
-use om_objects::{Access, Name};
 use om_row::names::{homes_in, name_events};
 use om_row::updates::put_event;
 use om_row::{Answer, Launch, Row};
 use om_seq::Seq;
+use om_values::{Blocked, Context, Edit, Frame, Store, Team, Update};
 use std::alloc::{AllocError, Global};
 
 /// A worker that carries out a FORK.

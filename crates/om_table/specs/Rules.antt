@@ -47,9 +47,17 @@ use Rattle.om_table.specs.Table.{row_of}
 -- the initial task, whose frame is at the first instruction of `main`
 abbrev pub first_context : Raw → Context
 first_context program = record {
-  task = 0 ∷ []; kind = kind.Initial; team = record { name = []; number = 0; size = 1; level = 0 };
-  phase = 0; births = 0; regions = 0; frames = 1; group = None; constructs = [];
-  frame = first_frame program.main (homes_for (0 ∷ []) 0 [] (body_of program program.main).slots); callers = [];
+  task = 0 ∷ [];
+  kind = kind.Initial;
+  team = record { name = []; number = 0; size = 1; level = 0 };
+  phase = 0;
+  births = 0;
+  regions = 0;
+  frames = 1;
+  group = None;
+  constructs = [];
+  frame = first_frame program.main (homes_for (0 ∷ []) 0 [] (body_of program program.main).slots);
+  callers = [];
 }
 
 abbrev pub first_control : Raw → ℕ → controls.Control

@@ -10,15 +10,14 @@ ghost use Rattle.om_table.specs.Rules.{site};
 ghost use Rattle.om_table.specs.Sites.{lock_of, targets_of};
 ghost use Rattle.om_table.specs.Table.{frame_row, team_row, share_row, region_row, task_row, row_of};
 
-use om_values::{Stack, Store};
+use om_fork::rows::{Going, arrive, begin, depart, leave};
+use om_fork::teams::{Forking, fork};
 use om_program::frame::Operand;
 use om_program::instruction::Instr;
 use om_program::print::ints_on;
 use om_program::program::Program;
 use om_program::raw::Slot;
 use om_program::serial::int_at;
-use om_fork::rows::{Going, arrive, begin, depart, leave};
-use om_fork::teams::{Forking, fork};
 use om_row::{Answer, Launch, Row};
 use om_share::{
     At, Bounds, Branch, ask_critical, end_masked, end_worksharing, enter_critical, grab, iterate,
@@ -26,6 +25,7 @@ use om_share::{
 };
 use om_spawn::task::{Making, spawn, task_end, task_yield};
 use om_spawn::wait::{finish, group_begin, group_end, wait_begin, wait_end};
+use om_values::{Stack, Store};
 use std::alloc::{AllocError, Global};
 
 /// A worker of so many that carries out an instruction.

@@ -4,9 +4,9 @@ ghost use Rattle.std.specs.Prelude.{◌≡◌, IfOk};
 ghost use Rattle.om_values.specs.Values.{is_idle};
 ghost use Rattle.om_values.specs.Homes.{cell_of};
 
+use om_objects::{Name, Obj};
 use om_program::frame::{Fault, Operand};
 use om_program::instruction::Schedule;
-use om_objects::{Name, Obj};
 use om_seq::{Pile, Seq};
 use std::alloc::{AllocError, Global};
 

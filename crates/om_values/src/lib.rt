@@ -7,9 +7,7 @@ pub mod step;
 pub mod store;
 pub mod value;
 
-pub use control::{
-    Construct, Context, Control, Frame, Home, Kind, Share, Sharing, Stack, Team,
-};
+pub use control::{Construct, Context, Control, Frame, Home, Kind, Share, Sharing, Stack, Team};
 pub use edit::Edit;
 pub use step::{Blocked, Choice, Entry, Label, Outcome, Step, Tail, Update};
 pub use store::Store;

@@ -6,9 +6,9 @@ ghost use Rattle.om_values.specs.Values.{default_of, cell_in, control_in, task_i
 
 use crate::control::{Control, Home};
 use crate::step::Tail;
-use om_program::frame::Cell;
 use om_events::Record;
 use om_objects::{Name, Obj};
+use om_program::frame::Cell;
 use om_seq::Seq;
 use std::alloc::{AllocError, Global};
 
@@ -255,7 +255,10 @@ impl Val {
             Val::Count(value) => Ok(Val::Count(*value)),
             Val::Number(value) => Ok(Val::Number(*value)),
             Val::Lock(holder) => Ok(Val::Lock(*holder)),
-            Val::Output(bytes) => Ok(Val::Output(Seq::of(Vec::from_slice(alloc, bytes.as_slice())?))),
+            Val::Output(bytes) => Ok(Val::Output(Seq::of(Vec::from_slice(
+                alloc,
+                bytes.as_slice(),
+            )?))),
             Val::Events(records) => Ok(Val::Events(copy_records(alloc, records.as_slice())?)),
         }
     }

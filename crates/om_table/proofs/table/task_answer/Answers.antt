@@ -13,9 +13,9 @@ returns-in-Spawn c =
     subst (λ i. IfOk c.spawn.result (λ answer. answer ≡ answered (task_row (site c.args.program.now c.args.doing.workers c.args.doing.worker c.args.stack.now) i) (state_of c.args.store.now)))
     (sym c.in-Spawn.is)
     (same_spawn c.spawn.result _ _ _ _ c.args.stack.now.top (state_of c.args.store.now)
-      (λ k. record { worker = c.args.doing.worker; line = c.line.ensures k; launch = (c.launch.ensures ∙ ap (λ n. record { to = c.args.stack.now.top.frame.next + 1; takes = n; body = c.in-Spawn.body }) c.from.ensures) k })
-      (body_is c.args.program.now c.in-Spawn.body c.body.result.now c.body.ensures.same)
-      (at_state c.spawn.result (spawn_row (record { worker = c.args.doing.worker; line = c.line.result; launch = c.launch.result }) c.body.result.now c.args.stack.now.top) (state_of c.args.store.now) c.spawn.ensures))
+    (λ k. record { worker = c.args.doing.worker; line = c.line.ensures k; launch = (c.launch.ensures ∙ ap (λ n. record { to = c.args.stack.now.top.frame.next + 1; takes = n; body = c.in-Spawn.body }) c.from.ensures) k })
+    (body_is c.args.program.now c.in-Spawn.body c.body.result.now c.body.ensures.same)
+    (at_state c.spawn.result (spawn_row (record { worker = c.args.doing.worker; line = c.line.result; launch = c.launch.result }) c.body.result.now c.args.stack.now.top) (state_of c.args.store.now) c.spawn.ensures))
 
 pub returns-in-WaitBegin : goal.returns-in-WaitBegin
 returns-in-WaitBegin c =
