@@ -12,9 +12,9 @@ ghost use Rattle.om_history.specs.Pasts.{past_in, history_in, IsHeld, IsPlanned,
 
 use crate::records::{UndoRecord, append, cone_of, entries, last_index, reply_at, take_out};
 use crate::reply::{RollReply, StepReply, Taken, UndoReply};
-use om_values::{Control, Entry, Label, Outcome, Step, Store, Update, Val};
 use om_program::frame::Fault;
 use om_seq::Seq;
+use om_values::{Control, Entry, Label, Outcome, Step, Store, Update, Val};
 use std::alloc::{AllocError, Global};
 
 /// The history of a run: its entries, each with what takes it back, and the store that they lead

@@ -10,9 +10,9 @@ ghost use Rattle.om_history.specs.Records.{entries_of, transition_of, transition
 
 use crate::reply::{Taken, UndoReply};
 use crate::updates::{keep_all, make_all, take_back_all};
-use om_values::{Entry, Store, Update};
 use om_objects::{Access, conflict};
 use om_seq::Seq;
+use om_values::{Entry, Store, Update};
 use std::alloc::{AllocError, Global};
 
 /// An entry, with its footprint and what takes its updates back.

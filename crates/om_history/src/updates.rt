@@ -6,8 +6,8 @@ ghost use Rattle.om_values.specs.State.{undo_of, undo_record, state_after, state
 ghost use Rattle.om_values.specs.Stores.{state_of, is_kept};
 ghost use Rattle.om_history.specs.Bounds.{FitsAt, FitsAtBack, FitsAll, FitsBack};
 
-use om_values::{Store, Update};
 use om_objects::{Access, Mode, Obj};
+use om_values::{Store, Update};
 use std::alloc::{AllocError, Global};
 use std::mem;
 

@@ -1,5 +1,5 @@
 -- Answers at a state, and of equal bodies.
-use Rattle.std.proofs.Common.{◌≡◌, subst, sym, ap, ℕ, List, [], Option, Some}
+use Rattle.std.proofs.Common.{◌≡◌, subst, sym, ap, ℕ, [], Some}
 use Rattle.std.specs.Prelude.{Result, Ok, Err, IfOk, slice_get, unwrap_or}
 use Rattle.om_program.specs.declared.raw.Body.{Body}
 use Rattle.om_program.specs.declared.raw.Raw.{Raw}

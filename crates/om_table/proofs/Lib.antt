@@ -1,1 +1,12 @@
 mod Answers
+mod Starting
+mod Bounds
+mod Counters
+mod Gentle
+mod ShareRows
+mod TaskRows
+mod Walk
+mod Plans
+mod Admits
+mod Replays
+mod Calm

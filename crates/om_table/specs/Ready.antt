@@ -1,5 +1,5 @@
 -- What the row of an instruction relies on.
-use Rattle.std.specs.Prelude.{ℕ, ◌+◌, ◌<◌, ◌≤◌, ◌^◌, length}
+use Rattle.std.specs.Prelude.{◌+◌, ◌<◌, ◌≤◌, ◌^◌, length}
 use Rattle.om_program.specs.declared.instruction.Instr.{Instr}
 use Rattle.om_program.specs.declared.raw.Raw.{Raw}
 use Rattle.om_program.specs.Places.{slots_of}

@@ -1,5 +1,5 @@
 -- The rules of a program: the state that it starts in, and what each worker's step names, does and shows as its line.
-use Rattle.std.specs.Prelude.{ℕ, ◌+◌, pos, ℤ, Bool, true, false, nat_eq, nat_lt, if◌then◌else◌, Option, None, Some, option_map, unwrap_or, List, [], ◌∷◌, slice_get}
+use Rattle.std.specs.Prelude.{ℕ, pos, ℤ, Bool, true, false, nat_eq, nat_lt, if◌then◌else◌, Option, None, Some, option_map, unwrap_or, List, [], ◌∷◌, slice_get}
 use Rattle.om_objects.specs.Names.{is_below}
 use Rattle.om_objects.specs.declared.footprint.Access.{Access}
 use Rattle.om_objects.specs.declared.object.Obj.TheVariants as obj
@@ -33,7 +33,7 @@ use Rattle.om_values.specs.declared.value.Val.{Val}
 use Rattle.om_values.specs.declared.value.Val.TheVariants as value
 use Rattle.om_values.specs.Edits.{changed}
 use Rattle.om_values.specs.Values.{default_of, control_in}
-use Rattle.om_values.specs.State.{State, values_read}
+use Rattle.om_values.specs.State.{State}
 use Rattle.om_values.specs.Rules.{Rules}
 use Rattle.om_row.specs.declared.row.Row.{Row}
 use Rattle.om_row.specs.declared.row.Row.TheVariants as row

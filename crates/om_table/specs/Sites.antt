@@ -1,5 +1,5 @@
 -- Where a worker takes a step.
-use Rattle.std.specs.Prelude.{ℕ, ◌+◌, List, [], Option, slice_get, unwrap_or}
+use Rattle.std.specs.Prelude.{ℕ, ◌+◌, List, [], slice_get, unwrap_or}
 use Rattle.om_program.specs.declared.raw.Raw.{Raw}
 use Rattle.om_program.specs.declared.raw.Body.{Body}
 use Rattle.om_program.specs.declared.raw.Slot.{Slot}

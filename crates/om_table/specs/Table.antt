@@ -1,5 +1,5 @@
 -- The table: each instruction with its row.
-use Rattle.std.specs.Prelude.{ℕ, ◌+◌, Bool, true, false, Option, None, Some, option_map, List, []}
+use Rattle.std.specs.Prelude.{ℕ, ◌+◌, Bool, true, false, Some, option_map}
 use Rattle.om_program.specs.declared.frame.Operand.TheVariants.{Int, NoValue}
 use Rattle.om_program.specs.declared.instruction.Instr.{Instr}
 use Rattle.om_program.specs.declared.instruction.Instr.TheVariants as i
