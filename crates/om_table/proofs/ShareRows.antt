@@ -35,7 +35,7 @@ open_within n worker to takes c share values =
     (recorded_within n worker (begun to takes (construct.Share share)) _ values (omega arith) (tt, (tt, (tt, tt))))
 
 pub loop_within : (n worker to : ℕ) (c : Context) (form : LoopForm) (lower upper : Option ℤ) (values : List Val) → AskedWithin n (loop_row worker to c form lower upper) values
-loop_within n worker to c form (Some lower) (Some upper) values = if_asked n (is_right_form form) _ _ values (open_within n worker to 2 c (loop_of (c.regions + 1) form lower upper) values) (lacks n values)
+loop_within n worker to c form (Some lower) (Some upper) values = if_asked n (is_right_form form) _ _ values (open_within n worker to 2 c (loop_of c.regions form lower upper) values) (lacks n values)
 loop_within n worker to c form (Some lower) None values = lacks n values
 loop_within n worker to c form None upper values = lacks n values
 
