@@ -152,7 +152,7 @@ fn push_dotted(numbers: &[u64], out: &mut Vec<u8>) -> Result<(), AllocError>
     Ok(())
 }
 
-/// Appends a dot and the digits of a number; without memory, at most the dot.
+/// Appends a dot and the digits of a number; out of memory, at most the dot.
 fn push_dotted_one(number: u64, out: &mut Vec<u8>) -> Result<(), AllocError>
     ensures appended { OnOk result (out.new.items ≡ out.old.items ++ 46 ∷ decimal number) }
     ensures front_stays { OnErr result (take (length out.old.items) out.new.items ≡ out.old.items) }

@@ -61,7 +61,7 @@ HasNoted height places before after =
 abbrev pub left : Search → ℕ
 left search = unknown_count search.heights.items + length search.unfollowed.items
 
--- why a height can't be noted at a place: no memory, or another height is known there
+-- why a height can't be noted at a place: out of memory, or another height is known there
 abbrev pub FailsToReach : CodeFault → Option ℕ → ℕ → Type 0
 FailsToReach Memory known height = Unit {0}
 FailsToReach Heights known height = ¬ (Agrees known height)

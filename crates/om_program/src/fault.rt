@@ -5,7 +5,7 @@ use thiserror::Error;
 /// The rule of valid code that a program breaks. Where it breaks several, any one of them is named.
 #[derive(Clone, Copy, Debug, Drop, PartialEq, Eq, Error)]
 pub enum CodeFault {
-    /// C0: there was no memory for the validator. It says nothing of the program.
+    /// C0: the validator is out of memory. It says nothing of the program.
     #[error("C0 no memory")]
     Memory,
     /// C1: an instruction can go on to a place that is not in its body.

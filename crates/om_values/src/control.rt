@@ -142,7 +142,8 @@ pub struct Context {
     pub task: Name,
     pub kind: Kind,
     pub team: Team,
-    /// How many barriers of its team are behind it.
+    /// How many barriers of its team are behind it; of an explicit task, the phase of the team in
+    /// which it was made.
     pub phase: u64,
     /// How many teams, tasks and groups were born of it.
     pub births: u64,

@@ -48,9 +48,11 @@ pub enum Val {
     Cell(Cell),
     /// An explicit task.
     Task(Task),
-    /// A count, to which steps add; it is below 0 while what it counts is taken back elsewhere.
+    /// A count, to which steps add. It is signed so that taking an addition back needs no
+    /// condition.
     Count(i128),
-    /// A number: barriers that were reached, or iterations that were given out.
+    /// A number: barriers that were reached, iterations that were given out, or 1 for a `single`
+    /// region that is taken.
     Number(u64),
     /// The worker that holds a lock, if one does.
     Lock(Option<u8>),
