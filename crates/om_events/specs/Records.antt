@@ -1,6 +1,6 @@
 -- The texts of event records.
 use Rattle.std.specs.Prelude.{ℕ, List, [], ◌∷◌, ◌++◌, codes, decimal}
-use Rattle.om_objects.specs.Names.{name_text}
+use Rattle.om_foot.specs.Names.{name_text}
 use Rattle.om_events.specs.declared.event.Record.{Record}
 use Rattle.om_events.specs.declared.event.Record.TheVariants as event
 use Rattle.om_events.specs.declared.kind.Endpoint.{Endpoint}

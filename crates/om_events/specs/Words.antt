@@ -1,6 +1,6 @@
 -- The words of a record's text, as the code has them.
 use Rattle.std.specs.Prelude.{Bool, true, false, ℕ, List, decimal}
-use Rattle.om_objects.specs.Names.{name_text}
+use Rattle.om_foot.specs.Names.{name_text}
 use Rattle.om_events.specs.declared.event.Record.{Record}
 use Rattle.om_events.specs.declared.event.Record.TheVariants as event
 use Rattle.om_events.specs.declared.words.Word.{Word}

@@ -8,7 +8,7 @@ ghost use Rattle.om_events.specs.Words.{has_endpoint};
 use crate::event::Record;
 use crate::kind::{Endpoint, Sync, TaskFlag, TaskStatus, Thread, Work};
 use crate::words::{Word, push_words};
-use om_objects::Name;
+use om_foot::Name;
 use om_seq::Seq;
 use std::alloc::AllocError;
 

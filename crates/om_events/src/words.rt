@@ -5,7 +5,7 @@ ghost use Rattle.om_events.specs.Records.{spaced, lock_text};
 ghost use Rattle.om_events.specs.Words.{word_text};
 
 use itoa::Buffer;
-use om_objects::Name;
+use om_foot::Name;
 use std::alloc::AllocError;
 
 // A word of a record's text, behind the number and the name of its callback.

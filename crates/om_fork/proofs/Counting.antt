@@ -2,18 +2,18 @@
 use Rattle.std.proofs.Common.{◌≡◌, refl, sym, ◌∙◌, ap, ℕ, ℤ, pos, zero, suc, ◌+◌, ◌-◌, ◌<◌, arith, List, [], ◌∷◌, ◌++◌, false, if◌then◌else◌, Some, replicate, append_assoc, length, length-append, ◌≤◌}
 use Rattle.std.specs.Prelude.{nat_lt, unwrap_or}
 use Rattle.std.proofs.lemmas.Bool.Decides.{nat_tests}
-use Rattle.om_objects.specs.declared.object.Obj.TheVariants as obj
-use Rattle.om_objects.specs.declared.footprint.Access.{Access}
-use Rattle.om_objects.specs.Names.{name_of}
-use Rattle.om_values.specs.declared.control.Control.TheVariants as control
-use Rattle.om_values.specs.declared.control.Frame.{Frame}
-use Rattle.om_values.specs.declared.control.Team.{Team}
-use Rattle.om_values.specs.declared.step.Update.{Update}
-use Rattle.om_values.specs.declared.step.Update.TheVariants.{Put}
-use Rattle.om_values.specs.declared.value.Val.{Val}
-use Rattle.om_values.specs.declared.value.Val.TheVariants as value
-use Rattle.om_values.specs.State.{State, values_read}
-use Rattle.om_values.specs.Values.{number_in, count_in, count_of, control_in, is_idle}
+use Rattle.om_foot.specs.declared.object.Obj.TheVariants as obj
+use Rattle.om_foot.specs.declared.footprint.Access.{Access}
+use Rattle.om_foot.specs.Names.{name_of}
+use Rattle.om_cells.specs.declared.control.Control.TheVariants as control
+use Rattle.om_cells.specs.declared.control.Frame.{Frame}
+use Rattle.om_cells.specs.declared.control.Team.{Team}
+use Rattle.om_cells.specs.declared.step.Update.{Update}
+use Rattle.om_cells.specs.declared.step.Update.TheVariants.{Put}
+use Rattle.om_cells.specs.declared.value.Val.{Val}
+use Rattle.om_cells.specs.declared.value.Val.TheVariants as value
+use Rattle.om_cells.specs.State.{State, values_read}
+use Rattle.om_cells.specs.Values.{number_in, count_in, count_of, control_in, is_idle}
 use Rattle.om_row.specs.Objects.{read, write, given_cells, puts}
 use Rattle.om_fork.specs.Barriers.{arrivals, barrier, is_open, open_in}
 use Rattle.om_fork.specs.Teams.{workers_from, first_busy, busy_in, member, member_cells, member_controls, member_puts}

@@ -1,11 +1,11 @@
 -- Barriers: how far each member came, and the tasks of the phase (OpenMP 5.2, 15.3).
 use Rattle.std.specs.Prelude.{ℕ, zero, suc, ◌+◌, ℤ, pos, negsuc, Bool, true, false, nat_lt, if◌then◌else◌, List, [], ◌∷◌, ◌++◌}
-use Rattle.om_objects.specs.declared.object.Obj.TheVariants as obj
-use Rattle.om_objects.specs.declared.footprint.Access.{Access}
-use Rattle.om_values.specs.declared.control.Team.{Team}
-use Rattle.om_values.specs.declared.value.Val.{Val}
-use Rattle.om_values.specs.State.{State}
-use Rattle.om_values.specs.Values.{number_in, count_in}
+use Rattle.om_foot.specs.declared.object.Obj.TheVariants as obj
+use Rattle.om_foot.specs.declared.footprint.Access.{Access}
+use Rattle.om_cells.specs.declared.control.Team.{Team}
+use Rattle.om_cells.specs.declared.value.Val.{Val}
+use Rattle.om_cells.specs.State.{State}
+use Rattle.om_cells.specs.Values.{number_in, count_in}
 use Rattle.om_row.specs.Objects.{read}
 
 -- how many barriers the members reached, from this thread number on

@@ -1,29 +1,29 @@
 -- The rows of parallel regions and barriers.
 use Rattle.std.specs.Prelude.{ℕ, zero, suc, ◌+◌, ◌-◌, ℤ, pos, negsuc, Bool, true, false, nat_lt, if◌then◌else◌, Option, None, Some, List, [], ◌∷◌, ◌++◌, length, replicate}
-use Rattle.om_objects.specs.declared.footprint.Access.{Access}
-use Rattle.om_objects.specs.declared.object.Obj.TheVariants as obj
-use Rattle.om_program.specs.declared.frame.Fault.TheVariants as fault
-use Rattle.om_program.specs.declared.instruction.Barrier as barriers
-use Rattle.om_program.specs.declared.instruction.Barrier.TheVariants as barrier_kind
-use Rattle.om_program.specs.declared.raw.Body.{Body}
-use Rattle.om_program.specs.declared.raw.Slot.{Slot}
+use Rattle.om_foot.specs.declared.footprint.Access.{Access}
+use Rattle.om_foot.specs.declared.object.Obj.TheVariants as obj
+use Rattle.om_code.specs.declared.frame.Fault.TheVariants as fault
+use Rattle.om_code.specs.declared.instruction.Barrier as barriers
+use Rattle.om_code.specs.declared.instruction.Barrier.TheVariants as barrier_kind
+use Rattle.om_code.specs.declared.raw.Body.{Body}
+use Rattle.om_code.specs.declared.raw.Slot.{Slot}
 use Rattle.om_events.specs.declared.event.Record.TheVariants as event_record
 use Rattle.om_events.specs.declared.kind.Endpoint.TheVariants as endpoint
 use Rattle.om_events.specs.declared.kind.Sync as syncs
 use Rattle.om_events.specs.declared.kind.Sync.TheVariants as sync
 use Rattle.om_events.specs.declared.kind.TaskFlag.TheVariants as flag
 use Rattle.om_events.specs.declared.event.Record.{Record}
-use Rattle.om_values.specs.declared.control.Frame.{Frame}
-use Rattle.om_values.specs.declared.control.Team.{Team}
-use Rattle.om_values.specs.declared.control.Context.{Context}
-use Rattle.om_values.specs.declared.control.Kind.{Kind}
-use Rattle.om_values.specs.declared.control.Kind.TheVariants as kind
-use Rattle.om_values.specs.declared.edit.Edit.TheVariants.{Go, BeginContext, EndContext, CountBirth, CountPhase}
-use Rattle.om_values.specs.declared.step.Blocked.TheVariants as blocked
-use Rattle.om_values.specs.declared.step.Tail.TheVariants.{Events}
-use Rattle.om_values.specs.declared.step.Update.{Update}
-use Rattle.om_values.specs.declared.step.Update.TheVariants.{Put, Keep, Append}
-use Rattle.om_values.specs.declared.value.Val.TheVariants as value
+use Rattle.om_cells.specs.declared.control.Frame.{Frame}
+use Rattle.om_cells.specs.declared.control.Team.{Team}
+use Rattle.om_cells.specs.declared.control.Context.{Context}
+use Rattle.om_cells.specs.declared.control.Kind.{Kind}
+use Rattle.om_cells.specs.declared.control.Kind.TheVariants as kind
+use Rattle.om_cells.specs.declared.edit.Edit.TheVariants.{Go, BeginContext, EndContext, CountBirth, CountPhase}
+use Rattle.om_cells.specs.declared.step.Blocked.TheVariants as blocked
+use Rattle.om_cells.specs.declared.step.Tail.TheVariants.{Events}
+use Rattle.om_cells.specs.declared.step.Update.{Update}
+use Rattle.om_cells.specs.declared.step.Update.TheVariants.{Put, Keep, Append}
+use Rattle.om_cells.specs.declared.value.Val.TheVariants as value
 use Rattle.om_row.specs.declared.row.Launch.{Launch}
 use Rattle.om_row.specs.declared.row.Row.{Row}
 use Rattle.om_row.specs.declared.row.Row.TheVariants.{Goes, Faults, Blocked, Lacks}

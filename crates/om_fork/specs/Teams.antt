@@ -1,19 +1,19 @@
 -- Teams: their size, their members, and what these begin with (OpenMP 5.2, 10.1).
 use Rattle.std.specs.Prelude.{ℕ, zero, suc, ◌+◌, ℤ, nat_lt, if◌then◌else◌, min, Option, None, Some, List, [], ◌∷◌, ◌++◌}
-use Rattle.om_objects.specs.declared.object.Obj.TheVariants as obj
-use Rattle.om_objects.specs.declared.footprint.Access.{Access}
-use Rattle.om_values.specs.declared.control.Home.{Home}
-use Rattle.om_values.specs.declared.control.Frame.{Frame}
-use Rattle.om_values.specs.declared.control.Team.{Team}
-use Rattle.om_values.specs.declared.control.Context.{Context}
-use Rattle.om_values.specs.declared.control.Kind.TheVariants as kind
-use Rattle.om_values.specs.declared.control.Control.TheVariants as control
-use Rattle.om_values.specs.declared.step.Update.{Update}
-use Rattle.om_values.specs.declared.step.Update.TheVariants.{Put}
-use Rattle.om_values.specs.declared.value.Val.{Val}
-use Rattle.om_values.specs.declared.value.Val.TheVariants as value
-use Rattle.om_values.specs.State.{State}
-use Rattle.om_values.specs.Values.{control_in, is_idle}
+use Rattle.om_foot.specs.declared.object.Obj.TheVariants as obj
+use Rattle.om_foot.specs.declared.footprint.Access.{Access}
+use Rattle.om_cells.specs.declared.control.Home.{Home}
+use Rattle.om_cells.specs.declared.control.Frame.{Frame}
+use Rattle.om_cells.specs.declared.control.Team.{Team}
+use Rattle.om_cells.specs.declared.control.Context.{Context}
+use Rattle.om_cells.specs.declared.control.Kind.TheVariants as kind
+use Rattle.om_cells.specs.declared.control.Control.TheVariants as control
+use Rattle.om_cells.specs.declared.step.Update.{Update}
+use Rattle.om_cells.specs.declared.step.Update.TheVariants.{Put}
+use Rattle.om_cells.specs.declared.value.Val.{Val}
+use Rattle.om_cells.specs.declared.value.Val.TheVariants as value
+use Rattle.om_cells.specs.State.{State}
+use Rattle.om_cells.specs.Values.{control_in, is_idle}
 use Rattle.om_row.specs.Objects.{write, given_cells, puts}
 
 -- the frame with which a task begins on a body

@@ -1,27 +1,27 @@
 //! BEGIN, ARRIVE, DEPART and LEAVE: a member's way through its region.
 
 ghost use Rattle.std.specs.Prelude.{◌≡◌, ◌++◌, ◌∷◌, [], ◌≤◌, ◌<◌, ◌+◌, ◌^◌, IfOk, OnOk, length, None};
-ghost use Rattle.om_values.specs.State.{State};
-ghost use Rattle.om_values.specs.Stores.{state_of};
+ghost use Rattle.om_cells.specs.State.{State};
+ghost use Rattle.om_cells.specs.Stores.{state_of};
 ghost use Rattle.om_row.specs.Rows.{answered, goes};
 ghost use Rattle.om_row.specs.Objects.{deaths, event, events, own_cells, write};
-ghost use Rattle.om_objects.specs.declared.object.Obj.TheVariants as obj;
-ghost use Rattle.om_values.specs.declared.value.Val.TheVariants as value;
+ghost use Rattle.om_foot.specs.declared.object.Obj.TheVariants as obj;
+ghost use Rattle.om_cells.specs.declared.value.Val.TheVariants as value;
 ghost use Rattle.om_fork.specs.Barriers.{barrier};
 ghost use Rattle.om_fork.specs.Rows.{sync_of, team_at_end, begin_row, reached_row, is_misplaced_barrier, arrive_row, kept, departed, depart_row, region_end, left_records, left, left_row, leave_row};
 
 use crate::barrier::{is_open, name_barrier, put_kept};
 use om_events::Record;
 use om_events::kind::{Endpoint, Sync, TaskFlag};
-use om_objects::{Access, Mode, Name, Obj};
-use om_program::frame::Fault;
-use om_program::instruction::Barrier;
-use om_program::raw::Slot;
+use om_foot::{Access, Mode, Name, Obj};
+use om_code::frame::Fault;
+use om_code::instruction::Barrier;
+use om_code::raw::Slot;
 use om_row::names::{is_misplaced, name, name_events, own_cells};
 use om_row::updates::{put_deaths, put_event};
 use om_row::{Answer, Row};
 use om_seq::{Pile, Seq};
-use om_values::{Blocked, Context, Edit, Kind, Stack, Store, Tail, Team, Update, Val};
+use om_cells::{Blocked, Context, Edit, Kind, Stack, Store, Tail, Team, Update, Val};
 use std::alloc::{AllocError, Global};
 
 /// A worker that carries out an instruction, and the place in the body at which it goes on.

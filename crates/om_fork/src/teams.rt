@@ -1,9 +1,9 @@
 //! FORK: a team is made.
 
 ghost use Rattle.std.specs.Prelude.{◌≡◌, ◌++◌, ◌∷◌, [], ◌+◌, ◌-◌, ◌<◌, ◌≤◌, ◌^◌, IfOk, length, None};
-ghost use Rattle.om_values.specs.Stores.{state_of};
-ghost use Rattle.om_program.specs.Frames.{int_at};
-ghost use Rattle.om_program.specs.Printing.{ints_on};
+ghost use Rattle.om_cells.specs.Stores.{state_of};
+ghost use Rattle.om_code.specs.Frames.{int_at};
+ghost use Rattle.om_code.specs.Printing.{ints_on};
 ghost use Rattle.om_row.specs.Rows.{answered};
 ghost use Rattle.om_row.specs.Objects.{events, homes_in};
 ghost use Rattle.om_fork.specs.Teams.{first_frame, member, workers_from, member_cells, size_of, level_of};
@@ -13,16 +13,16 @@ use crate::members::{
     busy, first_frame, member, name_members, name_workers, put_given, put_members,
 };
 use om_events::Record;
-use om_objects::{Access, Name};
-use om_program::frame::Fault;
-use om_program::print::ints_on;
-use om_program::raw::Body;
-use om_program::serial::int_at;
+use om_foot::{Access, Name};
+use om_code::frame::Fault;
+use om_code::print::ints_on;
+use om_code::raw::Body;
+use om_code::serial::int_at;
 use om_row::names::{homes_in, name_events};
 use om_row::updates::put_event;
 use om_row::{Answer, Launch, Row};
 use om_seq::Seq;
-use om_values::{Blocked, Context, Edit, Frame, Store, Team, Update};
+use om_cells::{Blocked, Context, Edit, Frame, Store, Team, Update};
 use std::alloc::{AllocError, Global};
 
 /// A worker that carries out a FORK.

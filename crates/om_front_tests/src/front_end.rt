@@ -3,8 +3,10 @@
 use om_code::program::Program;
 use om_lexer::{FaultCode, SourceFault, lex};
 use om_lower::lower::lower;
-use om_parser::{Unit, parse};
-use om_scope::{Resolved, resolve};
+use om_parser::parse;
+use om_resolved::Resolved;
+use om_scope::resolve;
+use om_tree::Unit;
 use std::alloc::{AllocError, Global};
 
 /// The tree of a source.

@@ -4,15 +4,15 @@ use Rattle.std.specs.Int.{w128}
 use Rattle.std.specs.Prelude.{FitsSigned}
 use Rattle.std.proofs.lemmas.Int.{to_z-of_z}
 use Rattle.std.proofs.Math.Path.{fun_ext}
-use Rattle.om_objects.specs.declared.object.Obj.{Obj}
-use Rattle.om_objects.specs.declared.footprint.Mode.TheVariants as mode
-use Rattle.om_objects.specs.Footprint.{obj_eq}
-use Rattle.om_objects.proofs.Objects.{obj_eq-true}
-use Rattle.om_values.specs.declared.value.Val.{Val}
-use Rattle.om_values.specs.declared.step.Update.{Update}
-use Rattle.om_values.specs.declared.step.Update.TheVariants as update
-use Rattle.om_values.specs.Values.{value_plus}
-use Rattle.om_values.specs.State.{State, with_value, state_after, state_before}
+use Rattle.om_foot.specs.declared.object.Obj.{Obj}
+use Rattle.om_foot.specs.declared.footprint.Mode.TheVariants as mode
+use Rattle.om_foot.specs.Footprint.{obj_eq}
+use Rattle.om_foot.proofs.Objects.{obj_eq-true}
+use Rattle.om_cells.specs.declared.value.Val.{Val}
+use Rattle.om_cells.specs.declared.step.Update.{Update}
+use Rattle.om_cells.specs.declared.step.Update.TheVariants as update
+use Rattle.om_cells.specs.Values.{value_plus}
+use Rattle.om_cells.specs.State.{State, with_value, state_after, state_before}
 
 changed_value : (e : Bool) (f : Val → Val) (here there : Val) → (e ≡ true → here ≡ there)
     → cond e (f here) there ≡ cond e (f there) there

@@ -4,8 +4,8 @@ use Rattle.std.specs.Prelude.{is_some, Contains}
 use Rattle.std.proofs.lemmas.Bool.{true≢false}
 use Rattle.std.proofs.lemmas.Bool.Decides.{Decides-eqb}
 use Rattle.std.proofs.lemmas.List.Elements.{Contains-append_left, Contains-append_right, Contains-push, Contains-push_cases}
-use Rattle.om_objects.specs.declared.object.Obj.{Obj}
-use Rattle.om_objects.specs.Footprint.{conflict_of}
+use Rattle.om_foot.specs.declared.object.Obj.{Obj}
+use Rattle.om_foot.specs.Footprint.{conflict_of}
 use Rattle.om_history.specs.Laws.{Apart}
 use Rattle.om_history.specs.Cones.{Transition, InCone, itself, follows, meets_one, is_member, cone_after, rest_after, cone}
 use Rattle.om_history.specs.Commands.{Rise}

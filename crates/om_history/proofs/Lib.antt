@@ -13,6 +13,7 @@ pub mod Rolls
 pub mod Remaining
 pub mod Leastness
 pub mod RunLaws
+pub mod Exactly
 pub mod Changes
 pub mod Rooms
 pub mod Borrowed

@@ -2,11 +2,11 @@
 use Rattle.std.proofs.Common.{◌≡◌, refl, sym, ◌∙◌, ap, subst, Bool, true, false, cond, Option, None, Some, List, [], ◌∷◌, ◌++◌, ℕ, ◌==◌, append_assoc, arith}
 use Rattle.std.specs.Prelude.{map, reverse, is_some}
 use Rattle.std.proofs.lemmas.List.{map-append, reverse-append}
-use Rattle.om_objects.specs.declared.object.Obj.{Obj}
-use Rattle.om_objects.specs.declared.footprint.Access.{Access}
-use Rattle.om_objects.specs.Footprint.{conflict_of}
-use Rattle.om_values.specs.State.{State}
-use Rattle.om_values.specs.Rules.{Rules, next_state}
+use Rattle.om_foot.specs.declared.object.Obj.{Obj}
+use Rattle.om_foot.specs.declared.footprint.Access.{Access}
+use Rattle.om_foot.specs.Footprint.{conflict_of}
+use Rattle.om_cells.specs.State.{State}
+use Rattle.om_cells.specs.Rules.{Rules, next_state}
 use Rattle.om_history.specs.Laws.{Apart, steps_then, steps_from}
 use Rattle.om_history.specs.Runs.{History, label_of, after_undo}
 use Rattle.om_history.specs.Cones.{Transition, with_footprints, transitions, meets_one, is_member, cone_after, rest_after, cone, taken_of, taken_by_roll, after_roll}

@@ -6,15 +6,15 @@ use Rattle.std.proofs.lemmas.Int.{ints}
 use Rattle.std.proofs.Math.ListN.{length-set}
 use Rattle.std.specs.Int.{w128}
 use Rattle.std.specs.Prelude.{FitsSigned}
-use Rattle.om_objects.specs.declared.footprint.Mode.{Mode}
-use Rattle.om_objects.specs.declared.footprint.Mode.TheVariants as mode
-use Rattle.om_objects.specs.declared.footprint.Access.{Access}
-use Rattle.om_objects.proofs.Objects.{obj_eq-same}
-use Rattle.om_values.specs.declared.value.Val.{Val}
-use Rattle.om_values.specs.declared.value.Val.TheVariants.{Count}
-use Rattle.om_values.specs.declared.step.Update.{Update}
-use Rattle.om_values.specs.declared.step.Update.TheVariants as update
-use Rattle.om_values.specs.State.{State, value_after, undo_of, state_after, state_before, updated, undo_record, taken_back}
+use Rattle.om_foot.specs.declared.footprint.Mode.{Mode}
+use Rattle.om_foot.specs.declared.footprint.Mode.TheVariants as mode
+use Rattle.om_foot.specs.declared.footprint.Access.{Access}
+use Rattle.om_foot.proofs.Objects.{obj_eq-same}
+use Rattle.om_cells.specs.declared.value.Val.{Val}
+use Rattle.om_cells.specs.declared.value.Val.TheVariants.{Count}
+use Rattle.om_cells.specs.declared.step.Update.{Update}
+use Rattle.om_cells.specs.declared.step.Update.TheVariants as update
+use Rattle.om_cells.specs.State.{State, value_after, undo_of, state_after, state_before, updated, undo_record, taken_back}
 use Rattle.om_history.specs.Bounds.{FitsAt, FitsAll, FitsAtBack, FitsBack}
 use Rattle.om_history.proofs.Back.{state_before-state_after}
 

@@ -4,10 +4,10 @@ use Rattle.std.specs.Prelude.{map, Contains, ◌↔◌}
 use Rattle.std.proofs.lemmas.List.{map-append, length-map}
 use Rattle.std.proofs.lemmas.Simd.{map-map}
 use Rattle.std.proofs.lemmas.List.Elements.{All-weaker, All-contains, All-contains_itself}
-use Rattle.om_objects.specs.declared.footprint.Access.{Access}
-use Rattle.om_values.specs.declared.step.Entry.{Entry}
-use Rattle.om_values.specs.State.{State}
-use Rattle.om_values.specs.Rules.{Rules}
+use Rattle.om_foot.specs.declared.footprint.Access.{Access}
+use Rattle.om_cells.specs.declared.step.Entry.{Entry}
+use Rattle.om_cells.specs.State.{State}
+use Rattle.om_cells.specs.Rules.{Rules}
 use Rattle.om_history.specs.Laws.{Apart}
 use Rattle.om_history.specs.Runs.{History, no_history, state_of_entries}
 use Rattle.om_history.specs.Bounds.{AreSmall, SmallCounts}
@@ -32,7 +32,7 @@ serials_identify = λ r cs a b at_a at_b is. ascends_identify (λ (e : Entry). e
     a b (Rise-ascends 0 (run r no_history cs).made (run r no_history cs).entries (serials_rise r cs)) at_a at_b is
 
 -- the transitions of a run, by its records
-run-transitions : (r : Rules) (h : History) (x : Kept r h) → transitions_of x.records ≡ transitions r h.entries
+pub run-transitions : (r : Rules) (h : History) (x : Kept r h) → transitions_of x.records ≡ transitions r h.entries
 run-transitions r h x = sym (transitions-is r x.records x.now x.replays) ∙ ap (transitions r) x.entries
 
 pub roll_is_cone : RollIsCone

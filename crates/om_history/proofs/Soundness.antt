@@ -5,16 +5,16 @@ use Rattle.std.proofs.lemmas.List.{length-take, map-append}
 use Rattle.std.proofs.lemmas.List.Elements.{All-weaker, All-push, All-append, All-take, All-drop}
 use Rattle.std.proofs.lemmas.List.Edits.{length-remove}
 use Rattle.std.proofs.lemmas.Option.{slice_get_within}
-use Rattle.om_objects.specs.declared.object.Obj.{Obj}
-use Rattle.om_objects.specs.declared.footprint.Access.{Access}
-use Rattle.om_values.specs.declared.step.Update.{Update}
-use Rattle.om_values.specs.declared.step.Label.{Label}
-use Rattle.om_values.specs.declared.step.Step.{Step}
-use Rattle.om_values.specs.declared.step.Outcome.TheVariants as outcome
-use Rattle.om_values.specs.declared.store.Store.{Store}
-use Rattle.om_values.specs.State.{State, updated, undo_record, taken_back}
-use Rattle.om_values.specs.Stores.{state_of, is_kept}
-use Rattle.om_values.specs.Rules.{Rules, step_at, state_after_outcome, next_state}
+use Rattle.om_foot.specs.declared.object.Obj.{Obj}
+use Rattle.om_foot.specs.declared.footprint.Access.{Access}
+use Rattle.om_cells.specs.declared.step.Update.{Update}
+use Rattle.om_cells.specs.declared.step.Label.{Label}
+use Rattle.om_cells.specs.declared.step.Step.{Step}
+use Rattle.om_cells.specs.declared.step.Outcome.TheVariants as outcome
+use Rattle.om_cells.specs.declared.store.Store.{Store}
+use Rattle.om_cells.specs.State.{State, updated, undo_record, taken_back}
+use Rattle.om_cells.specs.Stores.{state_of, is_kept}
+use Rattle.om_cells.specs.Rules.{Rules, step_at, state_after_outcome, next_state}
 use Rattle.om_history.specs.Laws.{updates_of}
 use Rattle.om_history.specs.Runs.{History, label_of, state_of_entries, entry_for, reply_for, history_with, reply_to_step, after_step, last_place, reply_at, reply_to_undo, history_without, after_undo}
 use Rattle.om_history.specs.declared.reply.UndoReply.{UndoReply}

@@ -1,14 +1,14 @@
 -- A step and then its undo.
 use Rattle.std.proofs.Common.{◌≡◌, refl, ◌∙◌, ap, None, Some, List, [], ◌∷◌, ◌++◌, ℕ, ◌+◌, eq-eqb, append-nil, ◌==◌, Option}
-use Rattle.om_values.specs.declared.step.Outcome.{Outcome}
-use Rattle.om_values.specs.declared.step.Label.{Label}
-use Rattle.om_values.specs.declared.step.Step.{Step}
-use Rattle.om_values.specs.declared.step.Entry.{Entry}
-use Rattle.om_values.specs.Rules.{Rules, step_at}
+use Rattle.om_cells.specs.declared.step.Outcome.{Outcome}
+use Rattle.om_cells.specs.declared.step.Label.{Label}
+use Rattle.om_cells.specs.declared.step.Step.{Step}
+use Rattle.om_cells.specs.declared.step.Entry.{Entry}
+use Rattle.om_cells.specs.Rules.{Rules, step_at}
 use Rattle.om_history.specs.Runs.{History, state_of_entries, entry_for, reply_for, history_with, reply_to_step, last_or_first, last_place, reply_at, reply_to_undo, history_without, after_undo, Undoes}
-use Rattle.om_program.specs.declared.frame.Fault.{Fault}
+use Rattle.om_code.specs.declared.frame.Fault.{Fault}
 use Rattle.om_history.specs.declared.reply.UndoReply.TheVariants.{Undone}
-use Rattle.om_values.specs.declared.step.Outcome.TheVariants as outcome
+use Rattle.om_cells.specs.declared.step.Outcome.TheVariants as outcome
 use Rattle.om_history.specs.declared.reply.StepReply.TheVariants as step_reply
 
 last_place-push : (w : ℕ) (es : List Entry) (e : Entry) → e.worker ≡ w
@@ -22,18 +22,18 @@ pub undo-push : (r : Rules) (es : List Entry) (e : Entry) (n : ℕ)
 undo-push r es e n = ap (reply_at r) (last_place-push e.worker es e refl)
 
 after-push : (r : Rules) (es : List Entry) (e : Entry) (n : ℕ)
-    → (after_undo r (record { entries = es ++ e ∷ []; made = n }) e.worker).entries ≡ es
+    → after_undo r (record { entries = es ++ e ∷ []; made = n }) e.worker ≡ record { entries = es; made = n }
 after-push r es e n =
     let h : History = record { entries = es ++ e ∷ []; made = n } in
-    ap (λ o. (history_without h o (reply_to_undo r h e.worker)).entries) (last_place-push e.worker es e refl)
-    ∙ ap (λ reply. (history_without h (Some (record { earlier = es; entry = e; later = [] })) reply).entries)
+    ap (λ o. history_without h o (reply_to_undo r h e.worker)) (last_place-push e.worker es e refl)
+    ∙ ap (λ reply. history_without h (Some (record { earlier = es; entry = e; later = [] })) reply)
     (undo-push r es e n)
-    ∙ append-nil es
+    ∙ (λ i. record { entries = append-nil es i; made = n })
 
 by_outcome : (r : Rules) (h : History) (l : Label) (d : Step) (o : Outcome) (serial line : ℕ) (fault : Option Fault)
     → reply_for (h.made + 1) d.line o ≡ step_reply.Done serial line fault
     → (reply_to_undo r (history_with h (entry_for h.made l d) o) l.worker ≡ Undone serial line)
-    × ((after_undo r (history_with h (entry_for h.made l d) o) l.worker).entries ≡ h.entries)
+    × (after_undo r (history_with h (entry_for h.made l d) o) l.worker ≡ record { entries = h.entries; made = h.made + 1 })
 by_outcome r h l d (outcome.Updates us) serial line fault e =
     let s : h.made + 1 ≡ serial = cc in
     let n : d.line ≡ line = cc in (
@@ -49,4 +49,4 @@ pub step_undone : (r : Rules) (h : History) (l : Label) (serial line : ℕ) (fau
 step_undone r h l serial line fault e =
     let d : Step = step_at r (state_of_entries r h.entries) l in
     let both = by_outcome r h l d d.outcome serial line fault e in
-    record { reply = both.0; entries = both.1 }
+    record { reply = both.0; after = both.1 }

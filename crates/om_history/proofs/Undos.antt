@@ -3,15 +3,15 @@ use Rattle.std.proofs.Common.{◌≡◌, ◌≢◌, refl, sym, ◌∙◌, ap, su
 use Rattle.std.specs.Prelude.{unwrap_or}
 use Rattle.std.proofs.lemmas.Bool.{true≢false, cases_eq}
 use Rattle.std.proofs.lemmas.List.{map-append}
-use Rattle.om_objects.specs.declared.object.Obj.{Obj}
-use Rattle.om_objects.specs.declared.object.Obj.TheVariants as obj
-use Rattle.om_objects.specs.declared.footprint.Access.{Access}
-use Rattle.om_objects.specs.Footprint.{conflict_of}
-use Rattle.om_objects.proofs.Objects.{AllApart, all_apart}
-use Rattle.om_values.specs.declared.step.Label.{Label}
-use Rattle.om_values.specs.declared.step.Entry.{Entry}
-use Rattle.om_values.specs.State.{State, taken_back}
-use Rattle.om_values.specs.Rules.{Rules, control_access, step_at}
+use Rattle.om_foot.specs.declared.object.Obj.{Obj}
+use Rattle.om_foot.specs.declared.object.Obj.TheVariants as obj
+use Rattle.om_foot.specs.declared.footprint.Access.{Access}
+use Rattle.om_foot.specs.Footprint.{conflict_of}
+use Rattle.om_foot.proofs.Objects.{AllApart, all_apart}
+use Rattle.om_cells.specs.declared.step.Label.{Label}
+use Rattle.om_cells.specs.declared.step.Entry.{Entry}
+use Rattle.om_cells.specs.State.{State, taken_back}
+use Rattle.om_cells.specs.Rules.{Rules, control_access, step_at}
 use Rattle.om_history.specs.Laws.{Apart}
 use Rattle.om_history.specs.Runs.{History, label_of, Place, last_or_first, last_place, state_after_step, conflict_or, first_conflict, reply_at, reply_to_undo, history_without, after_undo}
 use Rattle.om_history.specs.declared.reply.UndoReply.{UndoReply}
@@ -124,7 +124,7 @@ last_place-between w [] e fs own none = ap (λ o. last_or_first o (e.worker == w
 last_place-between w (x ∷ xs) e fs own none = ap (λ o. last_or_first o (x.worker == w) x (xs ++ e ∷ fs))
     (last_place-between w xs e fs own none)
 
-last_place-records : (w : ℕ) (before : List UndoRecord) (k : UndoRecord) (later : List UndoRecord)
+pub last_place-records : (w : ℕ) (before : List UndoRecord) (k : UndoRecord) (later : List UndoRecord)
     → k.entry.worker ≡ w → NoneOwn w (entries_of later)
     → last_place w (entries_of (before ++ k ∷ later)) ≡ Some (place_between before k later)
 last_place-records w before k later own none =
@@ -164,13 +164,13 @@ taking r before k later made now h none =
     }
 
 -- the last record of a worker
-record LastOf (w : ℕ) (ks : List UndoRecord) : Type 0 where
-  before : List UndoRecord
-  last : UndoRecord
-  later : List UndoRecord
-  split : ks ≡ before ++ last ∷ later
-  own : last.entry.worker ≡ w
-  none : NoneOwn w (entries_of later)
+pub record LastOf (w : ℕ) (ks : List UndoRecord) : Type 0 where
+  pub before : List UndoRecord
+  pub last : UndoRecord
+  pub later : List UndoRecord
+  pub split : ks ≡ before ++ last ∷ later
+  pub own : last.entry.worker ≡ w
+  pub none : NoneOwn w (entries_of later)
 
 found : (w : ℕ) (k : UndoRecord) (ks : List UndoRecord) → NoneOwn w (entries_of ks) ⊎ LastOf w ks
     → (k.entry.worker ≡ w) ⊎ (k.entry.worker ≡ w → ⊥) → NoneOwn w (entries_of (k ∷ ks)) ⊎ LastOf w (k ∷ ks)
@@ -187,7 +187,7 @@ found w k ks (inl none) (inl own) =
     inr (record { before = []; last = k; later = ks; split = refl; own = own; none = none })
 found w k ks (inl none) (inr other) = inl (other, none)
 
-find_last : (w : ℕ) (ks : List UndoRecord) → NoneOwn w (entries_of ks) ⊎ LastOf w ks
+pub find_last : (w : ℕ) (ks : List UndoRecord) → NoneOwn w (entries_of ks) ⊎ LastOf w ks
 find_last w [] = inl tt
 find_last w (k ∷ ks) = found w k ks (find_last w ks) (cases_eq k.entry.worker w)
 

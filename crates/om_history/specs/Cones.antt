@@ -1,10 +1,10 @@
 -- The cone of an entry, and what a roll replies and leaves.
 use Rattle.std.specs.Prelude.{◌≡◌, ◌==◌, Bool, true, false, cond, is_some, List, [], ◌∷◌, ◌++◌, map, reverse, ℕ, ◌<◌, Contains}
-use Rattle.om_objects.specs.declared.footprint.Access.{Access}
-use Rattle.om_objects.specs.Footprint.{conflict_of}
-use Rattle.om_values.specs.declared.step.Step.{Step}
-use Rattle.om_values.specs.declared.step.Entry.{Entry}
-use Rattle.om_values.specs.Rules.{Rules}
+use Rattle.om_foot.specs.declared.footprint.Access.{Access}
+use Rattle.om_foot.specs.Footprint.{conflict_of}
+use Rattle.om_cells.specs.declared.step.Step.{Step}
+use Rattle.om_cells.specs.declared.step.Entry.{Entry}
+use Rattle.om_cells.specs.Rules.{Rules}
 use Rattle.om_history.specs.declared.reply.Taken.{Taken}
 use Rattle.om_history.specs.declared.reply.RollReply.{RollReply}
 use Rattle.om_history.specs.declared.reply.RollReply.TheVariants.{Rolled, NoEntry}

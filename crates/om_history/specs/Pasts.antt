@@ -1,19 +1,19 @@
 -- What contracts see of a history that is kept, and what is true of it under rules.
-use Rattle.std.specs.Prelude.{◌≡◌, All, List, ℕ, ◌≤◌, ◌^◌, length}
-use Rattle.om_values.specs.declared.step.Label.{Label}
-use Rattle.om_values.specs.declared.step.Step.{Step}
-use Rattle.om_values.specs.declared.store.Store.{Store}
-use Rattle.om_values.specs.State.{State}
-use Rattle.om_values.specs.Stores.{state_of}
-use Rattle.om_values.specs.Rules.{Rules, step_at}
+use Rattle.std.specs.Prelude.{◌≡◌, Some, All, List, map, ℕ, ◌≤◌, ◌^◌, length}
+use Rattle.om_cells.specs.declared.step.Label.{Label}
+use Rattle.om_cells.specs.declared.step.Step.{Step}
+use Rattle.om_cells.specs.declared.store.Store.{Store}
+use Rattle.om_cells.specs.State.{State}
+use Rattle.om_cells.specs.Stores.{state_of}
+use Rattle.om_cells.specs.Rules.{Rules, step_at, replay}
 use Rattle.om_history.specs.declared.records.UndoRecord.{UndoRecord}
 use Rattle.om_history.specs.declared.history.History.{History}
 use Rattle.om_history.specs.declared.reply.StepReply.{StepReply}
 use Rattle.om_history.specs.declared.reply.Taken.{Taken}
-use Rattle.om_history.specs.Runs.{History as Entries, reply_to_step, after_step}
+use Rattle.om_history.specs.Runs.{History as Entries, label_of, reply_to_step, after_step}
 use Rattle.om_history.specs.Cones.{taken_by_roll, after_roll}
 use Rattle.om_history.specs.Records.{entries_of, ReplaysTo, HasRoom}
-use Rattle.om_history.specs.Commands.{IsRun, TakesCone}
+use Rattle.om_history.specs.Commands.{IsRun, Rise, TakesCone}
 use Rattle.om_history.specs.Bounds.{IsSteady}
 
 -- the state, the undo records of the entries that stand, and how many steps were ever made
@@ -56,6 +56,14 @@ history_in h = entries_in (past_in h)
 -- a history under rules: what every call keeps
 abbrev pub IsHeld : Rules → History → Type 0
 IsHeld r h = IsKept r h.store h.records.items h.made
+
+-- whatever rules a history is held under, this state is the replay of its entries
+abbrev pub IsReplay : History → State → Type 0
+IsReplay h s = (r : Rules) → IsHeld r h → replay r (map label_of (history_in h).entries) ≡ Some s
+
+-- and its serials rise, to the number of steps ever made at most
+abbrev pub AreNumbered : History → Type 0
+AreNumbered h = (r : Rules) → IsHeld r h → Rise 0 (history_in h).entries (history_in h).made
 
 -- whatever rules a history is held under, this is what they reply
 abbrev pub Replies : {A : Type 0} → (Rules → Entries → A) → History → A → Type 0

@@ -1,14 +1,14 @@
 -- Undo records against the replay of their entries.
 use Rattle.std.specs.Prelude.{◌≡◌, Bool, true, false, Option, None, Some, List, [], ◌∷◌, map, All, ℕ, ◌+◌, drop, slice_get}
-use Rattle.om_objects.specs.declared.footprint.Access.{Access}
-use Rattle.om_objects.specs.Footprint.{conflict_of}
-use Rattle.om_values.specs.declared.step.Update.{Update}
-use Rattle.om_values.specs.declared.step.Step.{Step}
-use Rattle.om_values.specs.declared.step.Entry.{Entry}
-use Rattle.om_values.specs.declared.store.Store.{Store}
-use Rattle.om_values.specs.State.{State, undo_record}
-use Rattle.om_values.specs.Stores.{is_kept}
-use Rattle.om_values.specs.Rules.{Rules, step_at, next_state}
+use Rattle.om_foot.specs.declared.footprint.Access.{Access}
+use Rattle.om_foot.specs.Footprint.{conflict_of}
+use Rattle.om_cells.specs.declared.step.Update.{Update}
+use Rattle.om_cells.specs.declared.step.Step.{Step}
+use Rattle.om_cells.specs.declared.step.Entry.{Entry}
+use Rattle.om_cells.specs.declared.store.Store.{Store}
+use Rattle.om_cells.specs.State.{State, undo_record}
+use Rattle.om_cells.specs.Stores.{is_kept}
+use Rattle.om_cells.specs.Rules.{Rules, step_at, next_state}
 use Rattle.om_history.specs.declared.records.UndoRecord.{UndoRecord}
 use Rattle.om_history.specs.declared.reply.UndoReply.{UndoReply}
 use Rattle.om_history.specs.declared.reply.UndoReply.TheVariants.{Undone, Conflict, Nothing}

@@ -1,20 +1,20 @@
 -- Histories, and what steps and undos reply and leave: the definition of a run.
 use Rattle.std.specs.Prelude.{◌≡◌, ◌==◌, Bool, true, false, Option, None, Some, List, [], ◌∷◌, ◌++◌, map, ℕ, ◌+◌, unwrap_or}
-use Rattle.om_objects.specs.declared.object.Obj.{Obj}
-use Rattle.om_objects.specs.declared.footprint.Access.{Access}
-use Rattle.om_objects.specs.Footprint.{conflict_of}
-use Rattle.om_program.specs.declared.frame.Fault.{Fault}
-use Rattle.om_values.specs.declared.control.Control.TheVariants.{Faulted}
-use Rattle.om_values.specs.declared.value.Val.TheVariants as value
-use Rattle.om_values.specs.declared.step.Update.{Update}
-use Rattle.om_values.specs.declared.step.Update.TheVariants.{Put}
-use Rattle.om_values.specs.declared.step.Outcome.{Outcome}
-use Rattle.om_values.specs.declared.step.Outcome.TheVariants as outcome
-use Rattle.om_values.specs.declared.step.Label.{Label}
-use Rattle.om_values.specs.declared.step.Step.{Step}
-use Rattle.om_values.specs.declared.step.Entry.{Entry}
-use Rattle.om_values.specs.State.{State}
-use Rattle.om_values.specs.Rules.{Rules, step_at, next_state, replay}
+use Rattle.om_foot.specs.declared.object.Obj.{Obj}
+use Rattle.om_foot.specs.declared.footprint.Access.{Access}
+use Rattle.om_foot.specs.Footprint.{conflict_of}
+use Rattle.om_code.specs.declared.frame.Fault.{Fault}
+use Rattle.om_cells.specs.declared.control.Control.TheVariants.{Faulted}
+use Rattle.om_cells.specs.declared.value.Val.TheVariants as value
+use Rattle.om_cells.specs.declared.step.Update.{Update}
+use Rattle.om_cells.specs.declared.step.Update.TheVariants.{Put}
+use Rattle.om_cells.specs.declared.step.Outcome.{Outcome}
+use Rattle.om_cells.specs.declared.step.Outcome.TheVariants as outcome
+use Rattle.om_cells.specs.declared.step.Label.{Label}
+use Rattle.om_cells.specs.declared.step.Step.{Step}
+use Rattle.om_cells.specs.declared.step.Entry.{Entry}
+use Rattle.om_cells.specs.State.{State}
+use Rattle.om_cells.specs.Rules.{Rules, step_at, next_state, replay}
 use Rattle.om_history.specs.declared.reply.StepReply.{StepReply}
 use Rattle.om_history.specs.declared.reply.StepReply.TheVariants as step_reply
 use Rattle.om_history.specs.declared.reply.UndoReply.{UndoReply}
@@ -121,10 +121,11 @@ history_without h _ _ = h
 abbrev pub after_undo : Rules → History → ℕ → History
 after_undo r h w = history_without h (last_place w h.entries) (reply_to_undo r h w)
 
--- a step that is done, and then an undo of its worker, which takes that very step out
+-- a step that is done, and then an undo of its worker: it takes that very step out, and changes nothing else but the
+-- number of steps ever made
 pub record Undoes (r : Rules) (h : History) (l : Label) (serial line : ℕ) : Type 0 where
   pub reply : reply_to_undo r (after_step r h l) l.worker ≡ Undone serial line
-  pub entries : (after_undo r (after_step r h l) l.worker).entries ≡ h.entries
+  pub after : after_undo r (after_step r h l) l.worker ≡ record { entries = h.entries; made = h.made + 1 }
 
 abbrev pub StepThenUndo : Type 0
 StepThenUndo = (r : Rules) (h : History) (l : Label) (serial line : ℕ) (fault : Option Fault)

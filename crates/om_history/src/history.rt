@@ -1,20 +1,20 @@
 //! The history of a run, with the store that its entries lead to.
 
 ghost use Rattle.std.specs.Prelude.{◌≡◌, ◌<◌, ◌^◌, [], IfOk, OnOk, OnErr, IsNone, IfSome, ◌↔◌};
-ghost use Rattle.om_values.specs.Stores.{state_of};
-ghost use Rattle.om_values.specs.Rules.{Rules};
+ghost use Rattle.om_cells.specs.Stores.{state_of};
+ghost use Rattle.om_cells.specs.Rules.{Rules};
 ghost use Rattle.om_history.specs.Bounds.{IsSteady};
 ghost use Rattle.om_history.specs.Runs.{fault_of, reply_for, reply_to_undo, after_undo};
 ghost use Rattle.om_history.specs.Cones.{taken_by_roll, reply_to_roll, after_roll};
 ghost use Rattle.om_history.specs.Commands.{IsGone};
 ghost use Rattle.om_history.specs.Records.{is_done};
-ghost use Rattle.om_history.specs.Pasts.{past_in, history_in, IsHeld, IsPlanned, Replies, RepliesToStep, Becomes, TakesStep, TakesOut, TakesItsCone, Stays};
+ghost use Rattle.om_history.specs.Pasts.{past_in, history_in, IsHeld, IsPlanned, IsReplay, AreNumbered, Replies, RepliesToStep, Becomes, TakesStep, TakesOut, TakesItsCone, Stays};
 
 use crate::records::{UndoRecord, append, cone_of, entries, last_index, reply_at, take_out};
 use crate::reply::{RollReply, StepReply, Taken, UndoReply};
-use om_program::frame::Fault;
+use om_cells::{Control, Entry, Label, Outcome, Step, Store, Update, Val};
+use om_code::frame::Fault;
 use om_seq::Seq;
-use om_values::{Control, Entry, Label, Outcome, Step, Store, Update, Val};
 use std::alloc::{AllocError, Global};
 
 /// The history of a run: its entries, each with what takes it back, and the store that they lead
@@ -79,9 +79,10 @@ impl History {
         }
     }
 
-    /// What each object holds.
+    /// What each object holds: its value at the replay of the entries.
     pub fn store(&self) -> &Store
-        ensures { state_of result.now ≡ (past_in self.now).state }
+        ensures state { state_of result.now ≡ (past_in self.now).state }
+        ensures replayed { IsReplay self.now (state_of result.now) }
     {
         &self.store
     }
@@ -93,9 +94,11 @@ impl History {
         self.made
     }
 
-    /// A copy of the entries that stand, in their order. Its only error is out of memory.
+    /// A copy of the entries that stand, in their order. Their serials rise, to the number of steps
+    /// ever made at most. Its only error is out of memory.
     pub fn entries(&self, alloc: Global) -> Result<Vec<Entry>, AllocError>
-        ensures { IfOk result (λ v. v.items ≡ (history_in self.now).entries) }
+        ensures entries { IfOk result (λ v. v.items ≡ (history_in self.now).entries) }
+        ensures numbered { AreNumbered self.now }
     {
         entries(alloc, self.records.as_slice())
     }
@@ -120,6 +123,15 @@ impl History {
             }
             None => UndoReply::Nothing,
         }
+    }
+
+    /// What `take` of a planned step would answer now: the reply of the definition of a run. Nothing
+    /// changes.
+    pub fn reply(&self, step: &Step) -> StepReply
+        requires { (r : Rules) × IsHeld r self.now }
+        ensures { (label : Label) → RepliesToStep label step.now self.now result }
+    {
+        reply_to(&step.outcome, self.made + 1, step.line)
     }
 
     /// Takes the step of a label that was planned at the state, or says why it can't be taken: the

@@ -2,6 +2,7 @@
 
 ghost use Rattle.om_history.specs.Laws.{Dependence, Commutation, Removal};
 ghost use Rattle.om_history.specs.Runs.{StepThenUndo};
+ghost use Rattle.om_history.specs.Undos.{ExactlyWhere};
 ghost use Rattle.om_history.specs.Bounds.{SmallCounts};
 ghost use Rattle.om_history.specs.Commands.{RemainingSteps, SerialsRise, SerialsIdentify, RollIsCone, RollTakesCone, RollIsUndos, Least};
 
@@ -25,8 +26,8 @@ pub fn removal()
     ensures { Removal }
 {}
 
-/// After a step that is done an undo of its worker answers that very step, and leaves the entries
-/// as they were before it.
+/// After a step that is done an undo of its worker answers that very step, and changes nothing but
+/// the number of steps ever made: the entries are what they were before it.
 pub fn step_then_undo()
     ensures { StepThenUndo }
 {}
@@ -35,6 +36,13 @@ pub fn step_then_undo()
 /// stand can be made in turn from the start.
 pub fn remaining_steps()
     ensures { RemainingSteps }
+{}
+
+/// After any run an undo is refused exactly where a later entry conflicts with the worker's last
+/// one, and names the first such entry; it is done exactly where none does; and there is nothing to
+/// undo exactly where the worker has no entry.
+pub fn exactly_where()
+    ensures { ExactlyWhere }
 {}
 
 /// After any run the serials of the entries rise, and none is above the number of steps ever made.

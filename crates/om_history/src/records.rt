@@ -1,18 +1,18 @@
 //! Undo records: the history's entries, each with its footprint and what takes it back.
 
 ghost use Rattle.std.specs.Prelude.{◌≡◌, ◌≢◌, map, reverse, ◌<◌, ◌+◌, ◌∷◌, ◌++◌, [], IfOk, OnOk, OnErr, All, IfSome, IfNone, length, slice_get, remove, drop, true};
-ghost use Rattle.om_objects.specs.declared.object.Obj.{Obj};
-ghost use Rattle.om_values.specs.State.{updated, undo_record, taken_back};
-ghost use Rattle.om_values.specs.Stores.{state_of, is_kept};
+ghost use Rattle.om_foot.specs.declared.object.Obj.{Obj};
+ghost use Rattle.om_cells.specs.State.{updated, undo_record, taken_back};
+ghost use Rattle.om_cells.specs.Stores.{state_of, is_kept};
 ghost use Rattle.om_history.specs.Bounds.{FitsAll, FitsBack};
 ghost use Rattle.om_history.specs.Cones.{meets_one, is_member as is_member_of, cone, taken_of};
 ghost use Rattle.om_history.specs.Records.{entries_of, transition_of, transitions_of, first_kept_conflict, kept_reply, HasRoom};
 
 use crate::reply::{Taken, UndoReply};
 use crate::updates::{keep_all, make_all, take_back_all};
-use om_objects::{Access, conflict};
+use om_cells::{Entry, Store, Update};
+use om_foot::{Access, conflict};
 use om_seq::Seq;
-use om_values::{Entry, Store, Update};
 use std::alloc::{AllocError, Global};
 
 /// An entry, with its footprint and what takes its updates back.

@@ -1,13 +1,13 @@
 //! Updates of a store, each exchanged for what takes it back.
 
 ghost use Rattle.std.specs.Prelude.{◌≡◌, ◌≤◌, true, All, OnOk, OnErr, IfOk, length, take};
-ghost use Rattle.om_objects.specs.declared.object.Obj.{Obj};
-ghost use Rattle.om_values.specs.State.{undo_of, undo_record, state_after, state_before, updated, taken_back};
-ghost use Rattle.om_values.specs.Stores.{state_of, is_kept};
+ghost use Rattle.om_foot.specs.declared.object.Obj.{Obj};
+ghost use Rattle.om_cells.specs.State.{undo_of, undo_record, state_after, state_before, updated, taken_back};
+ghost use Rattle.om_cells.specs.Stores.{state_of, is_kept};
 ghost use Rattle.om_history.specs.Bounds.{FitsAt, FitsAtBack, FitsAll, FitsBack};
 
-use om_objects::{Access, Mode, Obj};
-use om_values::{Store, Update};
+use om_cells::{Store, Update};
+use om_foot::{Access, Mode, Obj};
 use std::alloc::{AllocError, Global};
 use std::mem;
 

@@ -1,67 +1,102 @@
 -- Straight code: from a height at its start the height at each place follows, and each way has it.
-use Rattle.std.proofs.Common.{◌≡◌, ℕ, zero, suc, ◌+◌, ◌-◌, ◌<◌, ◌≤◌, cond, List, [], ◌∷◌, ◌++◌, length, Some, refl, sym, ◌∙◌, ap, subst, arith, slice_get, add-one}
+use Rattle.std.proofs.Common.{◌≡◌, ℕ, zero, suc, ◌+◌, ◌-◌, ◌<◌, ◌≤◌, List, [], ◌∷◌, ◌++◌, length, Some, refl, sym, ◌∙◌, ap, subst, arith, slice_get, add-one}
+use Rattle.std.specs.Prelude.{Contains}
+use Rattle.om_code.specs.declared.instruction.Exits.{Exits}
+use Rattle.om_code.specs.declared.instruction.Exits.TheVariants.{Nowhere, Next, Always, Either, OneOf}
 use Rattle.om_code.specs.declared.instruction.Instr.{Instr}
-use Rattle.om_code.specs.Ways.{pops, pushes, goes_on, Way, starts, follows}
+use Rattle.om_code.specs.declared.raw.Line.{Line}
+use Rattle.om_code.specs.Ways.{pops, pushes, exits, places, Way, starts, follows}
 use Rattle.om_code.specs.Validity.{StaysInside, HasOneHeight, IsLow}
-use Rattle.om_code.proofs.Exploring.{successor-is}
+use Rattle.om_code.proofs.Noting.{Contains-none, Contains-one}
 
--- the height after an instruction; the code after an end begins at 0
+-- to the next place, or nowhere
+abbrev pub IsStraight : Exits → Type 0
+IsStraight Nowhere = Unit {0}
+IsStraight Next = Unit {0}
+IsStraight _ = ⊥
+
+-- the height behind exits; the code behind an end begins at 0
+abbrev pub height_behind : Exits → Instr → ℕ → ℕ
+height_behind Next instr height = height - pops instr + pushes instr
+height_behind _ instr height = 0
+
 abbrev pub height_after : Instr → ℕ → ℕ
-height_after instr height = cond (goes_on instr) (height - pops instr + pushes instr) 0
+height_after instr height = height_behind (exits instr) instr height
 
 -- code that is entered at one height and left at another finds its operands, at most 256
-abbrev pub Runs : List Instr → ℕ → ℕ → Type 0
+abbrev pub Runs : List Line → ℕ → ℕ → Type 0
 Runs [] from to = from ≡ to
-Runs (instr ∷ code) from to = (pops instr ≤ from) × (from ≤ 256) × Runs code (height_after instr from) to
+Runs (line ∷ code) from to = IsStraight (exits line.instruction) × (pops line.instruction ≤ from) × (from ≤ 256) × Runs code (height_after line.instruction from) to
 
-pub Runs-append : (a b : List Instr) (from middle to : ℕ) → Runs a from middle → Runs b middle to → Runs (a ++ b) from to
+pub Runs-append : (a b : List Line) (from middle to : ℕ) → Runs a from middle → Runs b middle to → Runs (a ++ b) from to
 Runs-append [] b from middle to r s = subst (λ h. Runs b h to) (sym r) s
-Runs-append (instr ∷ a) b from middle to r s = (r.0, r.1, Runs-append a b (height_after instr from) middle to r.2 s)
+Runs-append (line ∷ a) b from middle to r s = (r.0, r.1, r.2, Runs-append a b (height_after line.instruction from) middle to r.3 s)
+
+-- straight exits lead to the next place alone
+pub next_only : (picks : List (List ℕ)) (at to : ℕ) (instr : Instr) → IsStraight (exits instr) → Contains (places picks at (exits instr)) to → (exits instr ≡ Next) × (to ≡ at + 1)
+next_only picks at to instr straight leads = by_exits (exits instr) straight leads
+  where
+    by_exits : (e : Exits) → IsStraight e → Contains (places picks at e) to → (e ≡ Next) × (to ≡ at + 1)
+    by_exits Nowhere s h = absurd (Contains-none to h)
+    by_exits Next s h = (refl, Contains-one (at + 1) to h)
+    by_exits (Always target) s h = absurd s
+    by_exits (Either target) s h = absurd s
+    by_exits (OneOf list) s h = absurd s
 
 -- the height at a place
-height_at : List Instr → ℕ → ℕ → ℕ
+pub height_at : List Line → ℕ → ℕ → ℕ
 height_at code from zero = from
 height_at [] from (suc at) = from
-height_at (instr ∷ code) from (suc at) = height_at code (height_after instr from) at
+height_at (line ∷ code) from (suc at) = height_at code (height_after line.instruction from) at
 
 -- what an instruction finds and leaves at its place
-runs_at : (code : List Instr) (from to at : ℕ) (instr : Instr) → Runs code from to → slice_get code at ≡ Some instr → (pops instr ≤ height_at code from at) × (height_at code from at ≤ 256) × (height_at code from (suc at) ≡ height_after instr (height_at code from at))
+pub record Finds (code : List Line) (from at : ℕ) (instr : Instr) : Type 0 where
+  pub straight : IsStraight (exits instr)
+  pub enough : pops instr ≤ height_at code from at
+  pub low : height_at code from at ≤ 256
+  pub leaves : height_at code from (suc at) ≡ height_after instr (height_at code from at)
+
+pub finds_at : (code : List Line) (from to at : ℕ) (line : Line) → Runs code from to → slice_get code at ≡ Some line → Finds code from at line.instruction
 unfolding height_at
-runs_at [] from to at instr r e = cc
-runs_at (i ∷ code) from to zero instr r e = let f : Some i ≡ Some instr = e in let s : i ≡ instr = cc in (subst (λ j. pops j ≤ from) s r.0, r.1, ap (λ j. height_after j from) s ∙ at_zero code (height_after instr from))
-  where
-    at_zero : (c : List Instr) (h : ℕ) → h ≡ h
-    at_zero c h = refl
-runs_at (i ∷ code) from to (suc at) instr r e = runs_at code (height_after i from) to at instr r.2 e
+finds_at [] from to at line r e = cc
+finds_at (l ∷ code) from to zero line r e =
+    let f : Some l ≡ Some line = e in
+    let s : l ≡ line = cc in
+    subst (λ k. Finds (l ∷ code) from zero k.instruction) s (record { straight = r.0; enough = r.1; low = r.2; leaves = refl })
+finds_at (l ∷ code) from to (suc at) line r e =
+    let there = finds_at code (height_after l.instruction from) to at line r.3 e in
+    record { straight = there.straight; enough = there.enough; low = there.low; leaves = there.leaves }
 
-way_height : (code : List Instr) (to at height : ℕ) → Runs code 0 to → Way code at height → height ≡ height_at code 0 at
-unfolding height_at
-way_height code to at height r starts = refl
-way_height code to at height r (follows before high rest next instr way is e h) =
-    let on = successor-is before next instr h in
-    let here = runs_at code 0 to before instr r is in
-    let same = way_height code to before high r way in
-    let after : height_after instr (height_at code 0 before) ≡ height_at code 0 before - pops instr + pushes instr = ap (λ b. cond b (height_at code 0 before - pops instr + pushes instr) 0) on.0 in
-    let value : rest + pushes instr ≡ height_at code 0 (suc before) = omega (arith, here.0, here.2, after, same, e) in
-    value ∙ ap (λ p. height_at code 0 p) (sym (on.1 ∙ add-one before))
+module _ (picks : List (List ℕ)) (code : List Line) (to : ℕ) (runs : Runs code 0 to) where
+  way_height : (at height : ℕ) → Way picks code at height → height ≡ height_at code 0 at
+  unfolding height_at
+  way_height at height starts = refl
+  way_height at height (follows before high rest next line way is e leads) =
+      let instr = line.instruction in
+      let here = finds_at code 0 to before line runs is in
+      let on = next_only picks before next instr here.straight leads in
+      let same = way_height before high way in
+      let after : height_after instr (height_at code 0 before) ≡ height_at code 0 before - pops instr + pushes instr = ap (λ x. height_behind x instr (height_at code 0 before)) on.0 in
+      let value : rest + pushes instr ≡ height_at code 0 (suc before) = omega (arith, here.enough, here.leaves, after, same, e) in
+      value ∙ ap (λ p. height_at code 0 p) (sym (on.1 ∙ add-one before))
 
-inside : (code : List Instr) (at height : ℕ) → StaysInside code → Way code at height → at < length code
-inside code at height stays starts = stays.begins
-inside code at height stays (follows before high rest next instr way is e h) = stays.goes_on before next instr is h
+  pub runs-one_height : HasOneHeight picks code
+  runs-one_height = record {
+    enough = λ at height line way is. let here = finds_at code 0 to at line runs is in omega (arith, here.enough, way_height at height way);
+    one = λ at height other way way'. way_height at height way ∙ sym (way_height at other way');
+  }
 
-found : (code : List Instr) (at : ℕ) → at < length code → (instr : Instr) × (slice_get code at ≡ Some instr)
-found [] at h = absurd (omega arith)
-found (i ∷ code) zero h = (i, refl)
-found (i ∷ code) (suc at) h = found code at (omega arith)
+  inside : (at height : ℕ) → StaysInside picks code → Way picks code at height → at < length code
+  inside at height stays starts = stays.begins
+  inside at height stays (follows before high rest next line way is e leads) = stays.goes_on before next line is leads
 
-pub runs-one_height : (code : List Instr) (to : ℕ) → Runs code 0 to → HasOneHeight code
-runs-one_height code to r = record {
-  enough = λ at height instr way is. let here = runs_at code 0 to at instr r is in omega (arith, here.0, way_height code to at height r way);
-  one = λ at height other way way'. way_height code to at height r way ∙ sym (way_height code to at other r way');
-}
+  found : (ls : List Line) (at : ℕ) → at < length ls → (line : Line) × (slice_get ls at ≡ Some line)
+  found [] at h = absurd (omega arith)
+  found (l ∷ ls) zero h = (l, refl)
+  found (l ∷ ls) (suc at) h = found ls at (omega arith)
 
-pub runs-low : (code : List Instr) (to : ℕ) → StaysInside code → Runs code 0 to → IsLow code
-runs-low code to stays r at height way =
-    let i = found code at (inside code at height stays way) in
-    let here = runs_at code 0 to at i.0 r i.1 in
-    omega (arith, here.1, way_height code to at height r way)
+  pub runs-low : StaysInside picks code → IsLow picks code
+  runs-low stays at height way =
+      let l = found code at (inside at height stays way) in
+      let here = finds_at code 0 to at l.0 runs l.1 in
+      omega (arith, here.low, way_height at height way)

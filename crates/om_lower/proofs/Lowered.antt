@@ -9,20 +9,20 @@ use Rattle.om_code.specs.declared.raw.GlobalVariable.{GlobalVariable}
 use Rattle.om_code.specs.declared.raw.Raw.{Raw}
 use Rattle.om_code.specs.Validity.{IsValid}
 use Rattle.om_lexer.specs.declared.fault.SourceFault.{SourceFault}
-use Rattle.om_scope.specs.declared.resolved.GlobalVariable as scopes
-use Rattle.om_scope.specs.declared.resolved.Resolved.{Resolved}
-use Rattle.om_scope.specs.declared.resolved.ResolvedFunction.{ResolvedFunction}
+use Rattle.om_resolved.specs.declared.resolved.GlobalVariable as scopes
+use Rattle.om_resolved.specs.declared.resolved.Resolved.{Resolved}
+use Rattle.om_resolved.specs.declared.resolved.ResolvedFunction.{ResolvedFunction}
 use Rattle.om_scope.specs.Faults.{first_of}
-use Rattle.om_scope.specs.ResolvedView.{view_resolved, view_resolved_function}
+use Rattle.om_resolved.specs.ResolvedView.{view_resolved, view_resolved_function}
 use Rattle.om_lower.specs.Code.{IsCodeOf, global_of}
 use Rattle.om_lower.specs.Limits.{length_breaches, limit_breaches, size_breaches}
 use Rattle.om_lower.specs.Untaken.{untaken_breaches}
-use Rattle.om_scope.specs.Uses.{is_main_function, IsResolved}
-use Rattle.om_lower.specs.Written.{body_of, raw_of}
-use Rattle.om_lower.proofs.Bodies.{same_raw, raw_stands}
+use Rattle.om_resolved.specs.Uses.{is_main_function, IsResolved}
+use Rattle.om_lower.specs.Written.{body_of, raw_of, raw_with}
+use Rattle.om_lower.proofs.Bodies.{raw_stands}
 use Rattle.om_lower.proofs.Firsts.{first_part}
 use Rattle.om_lower.proofs.Lists.{position-map}
-use Rattle.om_lower.proofs.Taken.{all_taken}
+use Rattle.om_lower.proofs.Taken.{all_taken, no_arrays}
 use Rattle.om_lower.proofs.Valid.{raw_valid}
 
 -- an element of a mapped list that passes
@@ -40,16 +40,16 @@ first_refused resolved functions i f fault same lt at none last =
     ap first_of (flat_map-map size_breaches view_resolved_function resolved.functions.items) ∙ first_part (λ g. size_breaches (view_resolved_function g)) resolved.functions.items i f fault (subst (λ l. i < length l) same lt) (subst (λ l. f ≡ get_or l i f) same at) none (ap first_of last)
 
 -- what the loop made of all functions
-pub record IsLowered (resolved : Resolved) (raw : Raw) : Type 0 where
+pub record IsLowered (resolved : Resolved) (raw : Raw) (main : ℕ) : Type 0 where
   pub no_breach : length_breaches (view_resolved resolved) ≡ []
-  pub raw_is : raw ≡ raw_of (view_resolved resolved) raw.main
-  pub main : position is_main_function (view_resolved resolved).functions ≡ Some raw.main
+  pub raw_is : raw ≡ raw_of (view_resolved resolved) main
+  pub main_is : position is_main_function (view_resolved resolved).functions ≡ Some main
 
-pub lowered : (resolved : Resolved) (n : ℕ) (functions functions' : List ResolvedFunction) (globals' : List scopes.GlobalVariable) (made bodies : List Body) (globals : List GlobalVariable) (main : ℕ) → functions ≡ resolved.functions.items → length functions ≤ n → (made ≡ map (λ f. body_of (view_resolved_function f)) (take n resolved.functions.items)) × (flat_map (λ f. size_breaches (view_resolved_function f)) (take n resolved.functions.items) ≡ []) → bodies ≡ made → globals' ≡ resolved.globals → globals ≡ map global_of globals' → functions' ≡ resolved.functions.items → position (λ f. is_main_function (view_resolved_function f)) functions' ≡ Some main → IsLowered resolved (record { globals = globals; bodies = bodies; main = main })
-lowered resolved n functions functions' globals' made bodies globals main same le inv eb eg' eg same' em = record {
+pub lowered : (resolved : Resolved) (n : ℕ) (functions functions' : List ResolvedFunction) (globals' : List scopes.GlobalVariable) (made bodies : List Body) (globals : List GlobalVariable) (main : ℕ) (raw : Raw) → functions ≡ resolved.functions.items → length functions ≤ n → (made ≡ map (λ f. body_of (view_resolved_function f)) (take n resolved.functions.items)) × (flat_map (λ f. size_breaches (view_resolved_function f)) (take n resolved.functions.items) ≡ []) → bodies ≡ made → globals' ≡ resolved.globals → globals ≡ map global_of globals' → functions' ≡ resolved.functions.items → position (λ f. is_main_function (view_resolved_function f)) functions' ≡ Some main → raw ≡ raw_with globals bodies main → IsLowered resolved raw main
+lowered resolved n functions functions' globals' made bodies globals main raw same le inv eb eg' eg same' em er = record {
   no_breach = flat_map-map size_breaches view_resolved_function resolved.functions.items ∙ ap (λ l. flat_map (λ f. size_breaches (view_resolved_function f)) l) (sym all) ∙ inv.1;
-  raw_is = same_raw (record { globals = globals; bodies = bodies; main = main }) (raw_of (view_resolved resolved) main) (eg ∙ ap (λ l. map global_of l) eg') (eb ∙ inv.0 ∙ ap (λ l. map (λ f. body_of (view_resolved_function f)) l) all ∙ sym (map-map resolved.functions.items)) refl;
-  main = position-map is_main_function view_resolved_function resolved.functions.items ∙ ap (λ l. position (λ f. is_main_function (view_resolved_function f)) l) (sym same') ∙ em;
+  raw_is = er ∙ ap (λ l. raw_with l bodies main) (eg ∙ ap (λ l. map global_of l) eg') ∙ ap (λ l. raw_with (map global_of resolved.globals) l main) (eb ∙ inv.0 ∙ ap (λ l. map (λ f. body_of (view_resolved_function f)) l) all ∙ sym (map-map resolved.functions.items));
+  main_is = position-map is_main_function view_resolved_function resolved.functions.items ∙ ap (λ l. position (λ f. is_main_function (view_resolved_function f)) l) (sym same') ∙ em;
 }
   where
     all : take n resolved.functions.items ≡ resolved.functions.items
@@ -59,8 +59,9 @@ lowered resolved n functions functions' globals' made bodies globals main same l
     map-map [] = refl
     map-map (f ∷ fs) = ap (λ l. body_of (view_resolved_function f) ∷ l) (map-map fs)
 
-pub lowered_valid : (resolved : Resolved) (raw : Raw) → IsResolved (view_resolved resolved) → limit_breaches (view_resolved resolved) ≡ [] → untaken_breaches (view_resolved resolved) ≡ [] → IsLowered resolved raw → IsValid raw
-lowered_valid resolved raw is within none l = subst IsValid (sym l.raw_is) (raw_valid (view_resolved resolved) raw.main is (all_taken (view_resolved resolved) none) l.main within l.no_breach)
+pub lowered_valid : (resolved : Resolved) (raw : Raw) (main : ℕ) → IsResolved (view_resolved resolved) → limit_breaches (view_resolved resolved) ≡ [] → untaken_breaches (view_resolved resolved) ≡ [] → IsLowered resolved raw main → IsValid raw
+lowered_valid resolved raw main is within none l =
+    let tree = view_resolved resolved in subst IsValid (sym l.raw_is) (raw_valid tree main is (all_taken tree none) (no_arrays tree none) l.main_is within l.no_breach)
 
-pub lowered_code : (resolved : Resolved) (raw result : Raw) → untaken_breaches (view_resolved resolved) ≡ [] → IsLowered resolved raw → result ≡ raw → IsCodeOf (view_resolved resolved) result
-lowered_code resolved raw result none l e = subst (λ r. IsCodeOf (view_resolved resolved) r) (sym (e ∙ l.raw_is)) (raw_stands (view_resolved resolved) raw.main (all_taken (view_resolved resolved) none) l.main)
+pub lowered_code : (resolved : Resolved) (raw result : Raw) (main : ℕ) → untaken_breaches (view_resolved resolved) ≡ [] → IsLowered resolved raw main → result ≡ raw → IsCodeOf (view_resolved resolved) result
+lowered_code resolved raw result main none l e = subst (λ r. IsCodeOf (view_resolved resolved) r) (sym (e ∙ l.raw_is)) (raw_stands (view_resolved resolved) main (all_taken (view_resolved resolved) none) l.main_is)

@@ -1,11 +1,10 @@
--- When a function is too long, and how many lines its code has.
-use Rattle.std.proofs.Common.{◌≡◌, ℕ, ◌+◌, ◌-◌, ◌<◌, ◌≤◌, true, false, List, [], ◌++◌, length, replicate, Vec, ◌∙◌, ap, arith, length-append}
+-- When a function is too long.
+use Rattle.std.proofs.Common.{◌≡◌, ℕ, ◌<◌, ◌≤◌, true, false, [], length, ap, arith}
 use Rattle.std.proofs.lemmas.Bool.Decides.{nat_tests}
 use Rattle.std.specs.Prelude.{nat_lt}
-use Rattle.om_code.specs.declared.instruction.Instr.{Instr}
 use Rattle.om_lexer.specs.declared.fault.FaultCode.TheVariants as faults
 use Rattle.om_scope.specs.Faults.{breach_if}
-use Rattle.om_scope.specs.ResolvedTree.{ResolvedFunctionTree}
+use Rattle.om_resolved.specs.ResolvedTree.{ResolvedFunctionTree}
 use Rattle.om_lower.specs.Limits.{function_size, size_breaches}
 use Rattle.om_lower.specs.Written.{body_of}
 
@@ -15,15 +14,8 @@ test_true m n h = grind (arith, nat_tests)
 test_false : (m n : ℕ) → n ≤ m → nat_lt m n ≡ false
 test_false m n h = grind (arith, nat_tests)
 
-pub passes_by_size : (f : ResolvedFunctionTree) → 65536 < length (body_of f).instructions → size_breaches f ≡ breach_if true faults.TooMany f.name_at
+pub passes_by_size : (f : ResolvedFunctionTree) → 65536 < length (body_of f).code → size_breaches f ≡ breach_if true faults.TooMany f.name_at
 passes_by_size f h = ap (λ b. breach_if b faults.TooMany f.name_at) (test_true 65536 (function_size f) h)
 
-pub passes_none : (f : ResolvedFunctionTree) → length (body_of f).instructions ≤ 65536 → size_breaches f ≡ []
+pub passes_none : (f : ResolvedFunctionTree) → length (body_of f).code ≤ 65536 → size_breaches f ≡ []
 passes_none f h = ap (λ b. breach_if b faults.TooMany f.name_at) (test_false 65536 (function_size f) h)
-
--- the lines of a part of the code that stands behind the rest
-pub lines_added : {Z : Type 0} (old part : List Instr) (code : Vec Instr Z) (lines added : List ℕ) (count line : ℕ) → length lines ≡ length old → code.items ≡ old ++ part → count ≡ code.len → added ≡ lines ++ replicate (count - length lines) line → added ≡ lines ++ replicate (length part) line
-lines_added old part code lines added count line same is all e =
-    let n : length code.items ≡ length old + length part = ap length is ∙ length-append old part in
-    let m : count - length lines ≡ length part = omega (arith, n, same, all, code.ok.0) in
-    e ∙ ap (λ k. lines ++ replicate k line) m

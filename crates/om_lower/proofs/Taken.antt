@@ -1,18 +1,19 @@
 -- What is known of forms that are taken.
 use Rattle.std.proofs.Common.{◌≡◌, ℕ, ℤ, Bool, true, false, ◌&&◌, not, cond, Some, None, List, [], ◌∷◌, refl, ap, sym, ◌∙◌, zero, suc, ◌<◌, length, take, get_or, arith, ◌+◌, add-one}
-use Rattle.std.specs.Prelude.{is_some, fold}
+use Rattle.std.proofs.lemmas.List.Elements.{All-nil, All-cons}
+use Rattle.std.specs.Prelude.{All, Option, is_some, fold}
 use Rattle.std.specs.List.{flat_map}
 use Rattle.om_lexer.specs.declared.fault.FaultCode.{FaultCode}
 use Rattle.om_lexer.specs.declared.fault.FaultCode.TheVariants as faults
 use Rattle.om_lexer.specs.declared.fault.SourceFault.{SourceFault}
 use Rattle.om_lexer.specs.declared.token.Span.{Span}
-use Rattle.om_parser.specs.declared.tree.AssignOperator.TheVariants as assigns
-use Rattle.om_parser.specs.declared.tree.BinaryOperator.TheVariants as binaries
-use Rattle.om_scope.specs.declared.resolved.GlobalVariable.{GlobalVariable}
-use Rattle.om_scope.specs.declared.resolved.Variable.TheVariants as named
+use Rattle.om_tree.specs.declared.tree.AssignOperator.TheVariants as assigns
+use Rattle.om_tree.specs.declared.tree.BinaryOperator.TheVariants as binaries
+use Rattle.om_resolved.specs.declared.resolved.GlobalVariable.{GlobalVariable}
+use Rattle.om_resolved.specs.declared.resolved.Variable.TheVariants as named
 use Rattle.om_scope.specs.Faults.{breach_if, goes_first, with_breach, perhaps_with}
-use Rattle.om_scope.specs.ResolvedTree.{ResolvedExpressionTree, Constant, Variable, Element, Call, ThreadNumber, TeamSize, Print, Unary, Binary, Conditional, Assign, AssignElement, Postfix, PostfixElement, ResolvedStatementTree, Declaration, Block, Empty, Expression, If, IfElse, While, Do, For, Return, Break, Continue, Parallel, Task, Loop, Sections, Section, Construct, StandAlone, ResolvedFunctionTree, ResolvedTree, statements}
-use Rattle.om_scope.specs.Uses.{is_main_function}
+use Rattle.om_resolved.specs.ResolvedTree.{ResolvedExpressionTree, Constant, Variable, Element, Call, ThreadNumber, TeamSize, Print, Unary, Binary, Conditional, Assign, AssignElement, Postfix, PostfixElement, ResolvedStatementTree, Declaration, Block, Empty, Expression, If, IfElse, While, Do, For, Return, Break, Continue, Parallel, Task, Loop, Sections, Section, Construct, Update, StandAlone, ResolvedFunctionTree, ResolvedTree, statements}
+use Rattle.om_resolved.specs.Uses.{is_main_function}
 use Rattle.om_lower.specs.Code.{listed, statements_of}
 use Rattle.om_lower.specs.Untaken.{takes_expression, takes_effect, takes_statement, statement_first, statement_untaken, function_untaken, with_global, untaken_breaches}
 use Rattle.om_lower.proofs.Firsts.{append_none}
@@ -115,6 +116,7 @@ taken_statement (Loop at clauses nowait l s) t = cc
 taken_statement (Sections at clauses nowait items) t = cc
 taken_statement (Section s) t = cc
 taken_statement (Construct at kind clauses s) t = cc
+taken_statement (Update at u) t = cc
 taken_statement (StandAlone at directive) t = cc
 
 not_broken : (b : Bool) (code : FaultCode) (at : ℕ) → breach_if (not b) code at ≡ [] → b ≡ true
@@ -157,6 +159,20 @@ none_before bs g e = from (is_some g.length) e
 none_in_functions : (gs : List GlobalVariable) (bs : List SourceFault) → fold with_global bs gs ≡ [] → bs ≡ []
 none_in_functions [] bs e = e
 none_in_functions (g ∷ gs) bs e = none_before bs g (none_in_functions gs (with_global bs g) e)
+
+scalar : (bs : List SourceFault) (g : GlobalVariable) → with_global bs g ≡ [] → g.length ≡ None
+scalar bs g e = from g.length e
+  where
+    from : (n : Option ℕ) → perhaps_with (is_some n) faults.Syntax g.at bs ≡ [] → n ≡ None
+    from None e = refl
+    from (Some n) e = absurd (some_with _ bs e)
+
+scalars : (gs : List GlobalVariable) (bs : List SourceFault) → fold with_global bs gs ≡ [] → All (λ g. g.length ≡ None) gs
+scalars [] bs e = All-nil (λ g. g.length ≡ None)
+scalars (g ∷ gs) bs e = All-cons (λ g. g.length ≡ None) g gs (scalar bs g (none_in_functions gs (with_global bs g) e)) (scalars gs (with_global bs g) e)
+
+pub no_arrays : (tree : ResolvedTree) → untaken_breaches tree ≡ [] → All (λ g. g.length ≡ None) tree.globals
+no_arrays tree e = scalars tree.globals (flat_map function_untaken tree.functions) e
 
 -- a tree without an untaken form
 pub all_taken : (tree : ResolvedTree) → untaken_breaches tree ≡ [] → AreTakenFunctions tree.functions

@@ -8,19 +8,23 @@ use Rattle.om_code.specs.declared.instruction.Instr.TheVariants as instrs
 use Rattle.om_code.specs.declared.instruction.Place.TheVariants as places
 use Rattle.om_code.specs.declared.raw.Body.{Body}
 use Rattle.om_code.specs.declared.raw.GlobalVariable as raws
+use Rattle.om_code.specs.declared.raw.Line.{Line}
 use Rattle.om_code.specs.declared.raw.Raw.{Raw}
 use Rattle.om_lexer.specs.declared.token.Span.{Span}
-use Rattle.om_parser.specs.declared.tree.AssignOperator.TheVariants as assigns
-use Rattle.om_parser.specs.declared.tree.BinaryOperator.TheVariants as binaries
-use Rattle.om_scope.specs.declared.resolved.GlobalVariable.{GlobalVariable}
-use Rattle.om_scope.specs.declared.resolved.Variable.TheVariants as named
-use Rattle.om_scope.specs.Uses.{is_main_function}
-use Rattle.om_scope.specs.ResolvedTree.{ResolvedExpressionTree, Variable, Constant, Binary, Assign, ResolvedStatementTree, Expression, Return, ResolvedStatementsTree, NoStatements, Statement, ResolvedFunctionTree, ResolvedTree}
+use Rattle.om_tree.specs.declared.tree.AssignOperator.TheVariants as assigns
+use Rattle.om_tree.specs.declared.tree.BinaryOperator.TheVariants as binaries
+use Rattle.om_resolved.specs.declared.resolved.GlobalVariable.{GlobalVariable}
+use Rattle.om_resolved.specs.declared.resolved.Variable.TheVariants as named
+use Rattle.om_resolved.specs.Uses.{is_main_function}
+use Rattle.om_resolved.specs.ResolvedTree.{ResolvedExpressionTree, Variable, Constant, Binary, Assign, ResolvedStatementTree, Expression, Return, ResolvedStatementsTree, NoStatements, Statement, ResolvedFunctionTree, ResolvedTree}
+
+-- an instruction with its line
+abbrev pub on_line : Instr → ℕ → Line
+on_line instr line = record { instruction = instr; line = line }
 
 -- an instruction stands at a place of a body, with its line
-pub record Stands (body : Body) (at : ℕ) (instr : Instr) (line : ℕ) : Type 0 where
-  pub instruction : slice_get body.instructions at ≡ Some instr
-  pub line_is : slice_get body.lines at ≡ Some line
+abbrev pub Stands : Body → ℕ → Instr → ℕ → Type 0
+Stands body at instr line = slice_get body.code at ≡ Some (on_line instr line)
 
 -- the code of an expression stands between two places: operands first, left to right (C17 6.5.6)
 pub data HasExpression (body : Body) (line : ℕ) : ResolvedExpressionTree → ℕ → ℕ → Type 0 where
@@ -54,16 +58,19 @@ pub record IsBodyOf (function : ResolvedFunctionTree) (body : Body) : Type 0 whe
   pub end : ℕ
   pub statements : HasStatements body (statements_of function) 0 end
   pub closing : Stands body end (instrs.Finish false) function.closing_line
-  pub instruction_count : length body.instructions ≡ end + 1
-  pub line_count : length body.lines ≡ end + 1
-  pub slots : body.slots ≡ 0
+  pub count : length body.code ≡ end + 1
+  pub slots : body.slots ≡ []
+  pub given : body.given ≡ []
 
 -- a global variable of the code
 abbrev pub global_of : GlobalVariable → raws.GlobalVariable
-global_of g = record { name = g.name; initial = g.initial }
+global_of g = record { name = g.name; length = g.length; initial = g.initial }
 
 -- code is that of a resolved tree
 pub record IsCodeOf (tree : ResolvedTree) (raw : Raw) : Type 0 where
   pub globals : raw.globals ≡ map global_of tree.globals
   pub bodies : AllZip IsBodyOf tree.functions raw.bodies
   pub main : position is_main_function tree.functions ≡ Some raw.main
+  pub texts : raw.texts ≡ []
+  pub picks : raw.picks ≡ []
+  pub locks : raw.locks ≡ []

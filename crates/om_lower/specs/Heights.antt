@@ -1,18 +1,16 @@
 -- How many operands code has on its stack at once.
 use Rattle.std.specs.Prelude.{ℕ, ◌+◌, max, List, [], ◌∷◌, Option, None, Some, Bool, true, false, not, if◌then◌else◌}
-use Rattle.om_lower.specs.SameExpression.{same_expression}
-use Rattle.om_parser.specs.declared.tree.AssignOperator.{AssignOperator}
-use Rattle.om_parser.specs.declared.tree.AssignOperator.TheVariants as assigns
-use Rattle.om_parser.specs.declared.tree.BinaryOperator.{BinaryOperator}
-use Rattle.om_parser.specs.declared.tree.BinaryOperator.TheVariants as binaries
-use Rattle.om_pragma.specs.declared.tree.AtomicKind.TheVariants as atomics
-use Rattle.om_scope.specs.declared.resolved.Capture.{Capture}
-use Rattle.om_scope.specs.declared.resolved.ConstructKind.{ConstructKind}
-use Rattle.om_scope.specs.declared.resolved.ConstructKind.TheVariants as constructs
-use Rattle.om_scope.specs.declared.resolved.CopyKind.{CopyKind}
-use Rattle.om_scope.specs.declared.resolved.CopyKind.TheVariants as copies
+use Rattle.om_tree.specs.declared.tree.AssignOperator.{AssignOperator}
+use Rattle.om_tree.specs.declared.tree.AssignOperator.TheVariants as assigns
+use Rattle.om_tree.specs.declared.tree.BinaryOperator.{BinaryOperator}
+use Rattle.om_tree.specs.declared.tree.BinaryOperator.TheVariants as binaries
+use Rattle.om_resolved.specs.declared.resolved.Capture.{Capture}
+use Rattle.om_resolved.specs.declared.resolved.ConstructKind.{ConstructKind}
+use Rattle.om_resolved.specs.declared.resolved.ConstructKind.TheVariants as constructs
+use Rattle.om_resolved.specs.declared.resolved.CopyKind.{CopyKind}
+use Rattle.om_resolved.specs.declared.resolved.CopyKind.TheVariants as copies
 use Rattle.om_lower.specs.Slots.{capture_cells}
-use Rattle.om_scope.specs.ResolvedTree.{ResolvedExpressionTree, Constant, Variable, Element, Call, ThreadNumber, TeamSize, Print, Unary, Binary, Conditional, Assign, AssignElement, Postfix, PostfixElement, ValuesTree, NoValues, Value, ResolvedDeclaratorTree, ResolvedClauseTree, ClauseValue, Shared, Copied, ResolvedLoopTree, ResolvedStartTree, StartNothing, StartExpression, StartDeclaration, ResolvedStatementTree, Declaration, Block, Empty, Expression, If, IfElse, While, Do, For, Return, Break, Continue, Parallel, Task, Loop, Sections, Section, Construct, StandAlone, ResolvedStatementsTree, NoStatements, Statement}
+use Rattle.om_resolved.specs.ResolvedTree.{ResolvedExpressionTree, Constant, Variable, Element, Call, ThreadNumber, TeamSize, Print, Unary, Binary, Conditional, Assign, AssignElement, Postfix, PostfixElement, ValuesTree, NoValues, Value, ResolvedDeclaratorTree, ResolvedClauseTree, ClauseValue, Shared, Copied, ResolvedLoopTree, ResolvedStartTree, StartNothing, StartExpression, StartDeclaration, ResolvedUpdateTree, ResolvedStatementTree, Declaration, Block, Empty, Expression, If, IfElse, While, Do, For, Return, Break, Continue, Parallel, Task, Loop, Sections, Section, Construct, Update, StandAlone, ResolvedStatementsTree, NoStatements, Statement}
 
 -- ---- expressions
 
@@ -122,40 +120,17 @@ abbrev pub entry_height : ConstructKind → List ResolvedClauseTree → ℕ
 entry_height (constructs.Single nowait) clauses = starts_height false clauses
 entry_height constructs.Masked clauses = max 1 (clause_values_height clauses)
 entry_height (constructs.Critical name) clauses = 0
-entry_height (constructs.Atomic kind) clauses = 0
+entry_height constructs.Atomic clauses = 0
+entry_height constructs.Taskgroup clauses = 0
 
 -- ---- updates (OpenMP API 5.2, section 15.8.4), whose code is the index and the operand, and no load
 
-abbrev pub is_update : ConstructKind → Bool
-is_update (constructs.Atomic atomics.Update) = true
-is_update _ = false
+abbrev pub indexed_height : Option ResolvedExpressionTree → (operand : ℕ) → ℕ
+indexed_height None operand = operand
+indexed_height (Some index) operand = max (operand_height index) (1 + operand)
 
-abbrev pub is_set : AssignOperator → Bool
-is_set assigns.Set = true
-is_set _ = false
-
-abbrev pub left_side : ResolvedExpressionTree → ResolvedExpressionTree
-left_side (Binary a o b) = a
-left_side e = e
-
-abbrev pub right_side : ResolvedExpressionTree → ResolvedExpressionTree
-right_side (Binary a o b) = b
-right_side e = e
-
--- the operand e of `x = x op e`, which begins with x, of `x = e op x` and of `x op= e`
-abbrev pub update_operand : AssignOperator → (begins : Bool) → ResolvedExpressionTree → ResolvedExpressionTree
-update_operand o begins e = if not (is_set o) then e else (if begins then right_side e else left_side e)
-
-abbrev pub updated_height : ResolvedExpressionTree → ℕ
-updated_height (Assign v o e) = operand_height (update_operand o (same_expression (Variable v) (left_side e)) e)
-updated_height (AssignElement v index o e) = max (operand_height index) (1 + operand_height (update_operand o (same_expression (Element v index) (left_side e)) e))
-updated_height (Postfix v o) = 1
-updated_height (PostfixElement v index o) = max (operand_height index) 2
-updated_height _ = 0
-
-abbrev pub update_height : ResolvedStatementTree → ℕ
-update_height (Expression at e) = updated_height e
-update_height _ = 0
+abbrev pub update_height : ResolvedUpdateTree → ℕ
+update_height u = indexed_height u.index (operand_height u.operand)
 
 -- ---- statements
 
@@ -179,7 +154,8 @@ unfoldable mutual
   statement_height (Loop at clauses nowait l s) = max (loop_height clauses l) (statement_height s)
   statement_height (Sections at clauses nowait items) = max (starts_height false clauses) (statements_height items)
   statement_height (Section s) = statement_height s
-  statement_height (Construct at kind clauses s) = max (entry_height kind clauses) (if is_update kind then update_height s else statement_height s)
+  statement_height (Construct at kind clauses s) = max (entry_height kind clauses) (statement_height s)
+  statement_height (Update at u) = update_height u
   statement_height (StandAlone at directive) = 0
 
   pub statements_height : ResolvedStatementsTree → ℕ

@@ -1,7 +1,6 @@
 pub mod Code
 pub mod Untaken
 pub mod Written
-pub mod SameExpression
 pub mod Slots
 pub mod Heights
 pub mod Limits

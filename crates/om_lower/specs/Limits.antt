@@ -7,7 +7,7 @@ use Rattle.om_lower.specs.Heights.{region_height, statements_height}
 use Rattle.om_lower.specs.Slots.{function_slots, has_too_many, region_slots}
 use Rattle.om_lower.specs.Written.{body_of}
 use Rattle.om_scope.specs.Faults.{breach_if}
-use Rattle.om_scope.specs.ResolvedTree.{ResolvedStatementTree, Declaration, Block, Empty, Expression, If, IfElse, While, Do, For, Return, Break, Continue, Parallel, Task, Loop, Sections, Section, Construct, StandAlone, ResolvedStatementsTree, NoStatements, Statement, ResolvedFunctionTree, ResolvedTree}
+use Rattle.om_resolved.specs.ResolvedTree.{ResolvedStatementTree, Declaration, Block, Empty, Expression, If, IfElse, While, Do, For, Return, Break, Continue, Parallel, Task, Loop, Sections, Section, Construct, Update, StandAlone, ResolvedStatementsTree, NoStatements, Statement, ResolvedFunctionTree, ResolvedTree}
 
 -- whether a body with these slots and this height has more than 256 slots, 4,096 cells or 256 operands at once
 abbrev pub is_too_large : (slots : List ℕ) → (height : ℕ) → Bool
@@ -34,6 +34,7 @@ unfoldable mutual
   has_large_region (Sections at clauses nowait items) = have_large_region items
   has_large_region (Section s) = has_large_region s
   has_large_region (Construct at kind clauses s) = has_large_region s
+  has_large_region (Update at u) = false
   has_large_region (StandAlone at directive) = false
 
   pub have_large_region : ResolvedStatementsTree → Bool
@@ -54,7 +55,7 @@ limit_breaches tree = flat_map body_breaches tree.functions
 
 -- how many instructions a function has
 abbrev pub function_size : ResolvedFunctionTree → ℕ
-function_size function = length (body_of function).instructions
+function_size function = length (body_of function).code
 
 -- S11 at the function's name: more than 65,536 instructions
 abbrev pub size_breaches : ResolvedFunctionTree → List SourceFault

@@ -1,11 +1,11 @@
 -- The variables of a body: a slot for each, and the cells that it has of its own. A list has the cells of each slot, in the order of the text.
 use Rattle.std.specs.Prelude.{ℕ, List, [], ◌∷◌, ◌++◌, Option, None, Some, Bool, ◌||◌, nat_lt, length, sum, map}
 use Rattle.std.specs.List.{flat_map}
-use Rattle.om_scope.specs.declared.resolved.Capture.{Capture}
-use Rattle.om_scope.specs.declared.resolved.LocalVariable.{LocalVariable}
-use Rattle.om_scope.specs.declared.resolved.Taking.{Taking}
-use Rattle.om_scope.specs.declared.resolved.Taking.TheVariants as takings
-use Rattle.om_scope.specs.ResolvedTree.{ResolvedDeclaratorTree, ResolvedClauseTree, ClauseValue, Shared, Copied, ResolvedStartTree, StartNothing, StartExpression, StartDeclaration, ResolvedStatementTree, Declaration, Block, Empty, Expression, If, IfElse, While, Do, For, Return, Break, Continue, Parallel, Task, Loop, Sections, Section, Construct, StandAlone, ResolvedStatementsTree, NoStatements, Statement, ResolvedFunctionTree}
+use Rattle.om_resolved.specs.declared.resolved.Capture.{Capture}
+use Rattle.om_resolved.specs.declared.resolved.LocalVariable.{LocalVariable}
+use Rattle.om_resolved.specs.declared.resolved.Taking.{Taking}
+use Rattle.om_resolved.specs.declared.resolved.Taking.TheVariants as takings
+use Rattle.om_resolved.specs.ResolvedTree.{ResolvedDeclaratorTree, ResolvedClauseTree, ClauseValue, Shared, Copied, ResolvedStartTree, StartNothing, StartExpression, StartDeclaration, ResolvedStatementTree, Declaration, Block, Empty, Expression, If, IfElse, While, Do, For, Return, Break, Continue, Parallel, Task, Loop, Sections, Section, Construct, Update, StandAlone, ResolvedStatementsTree, NoStatements, Statement, ResolvedFunctionTree}
 
 abbrev pub cells_of : Option ℕ → ℕ
 cells_of None = 1
@@ -57,6 +57,7 @@ unfoldable mutual
   statement_slots (Sections at clauses nowait items) = flat_map clause_slots clauses ++ statements_slots items
   statement_slots (Section s) = statement_slots s
   statement_slots (Construct at kind clauses s) = flat_map clause_slots clauses ++ statement_slots s
+  statement_slots (Update at u) = []
   statement_slots (StandAlone at directive) = []
 
   pub statements_slots : ResolvedStatementsTree → List ℕ

@@ -5,16 +5,16 @@ use Rattle.om_lexer.specs.declared.fault.FaultCode.TheVariants as faults
 use Rattle.om_lexer.specs.declared.fault.SourceFault.{SourceFault}
 use Rattle.om_lexer.specs.declared.token.Span.{Span}
 use Rattle.om_lower.specs.Code.{statements_of}
-use Rattle.om_parser.specs.declared.tree.AssignOperator.{AssignOperator}
-use Rattle.om_parser.specs.declared.tree.AssignOperator.TheVariants as assigns
-use Rattle.om_parser.specs.declared.tree.BinaryOperator.{BinaryOperator}
-use Rattle.om_parser.specs.declared.tree.BinaryOperator.TheVariants as binaries
-use Rattle.om_scope.specs.declared.resolved.GlobalVariable.{GlobalVariable}
-use Rattle.om_scope.specs.declared.resolved.Variable as variables
-use Rattle.om_scope.specs.declared.resolved.Variable.TheVariants as named
+use Rattle.om_tree.specs.declared.tree.AssignOperator.{AssignOperator}
+use Rattle.om_tree.specs.declared.tree.AssignOperator.TheVariants as assigns
+use Rattle.om_tree.specs.declared.tree.BinaryOperator.{BinaryOperator}
+use Rattle.om_tree.specs.declared.tree.BinaryOperator.TheVariants as binaries
+use Rattle.om_resolved.specs.declared.resolved.GlobalVariable.{GlobalVariable}
+use Rattle.om_resolved.specs.declared.resolved.Variable as variables
+use Rattle.om_resolved.specs.declared.resolved.Variable.TheVariants as named
 use Rattle.om_scope.specs.Faults.{breach_if, perhaps_with}
-use Rattle.om_scope.specs.ResolvedTree.{ResolvedExpressionTree, Constant, Variable, Binary, Assign, ResolvedStatementTree, Declaration, Block, Empty, Expression, If, IfElse, While, Do, For, Return, Break, Continue, Parallel, Task, Loop, Sections, Section, Construct, StandAlone, ResolvedFunctionTree, ResolvedTree}
-use Rattle.om_scope.specs.Uses.{is_main_function}
+use Rattle.om_resolved.specs.ResolvedTree.{ResolvedExpressionTree, Constant, Variable, Binary, Assign, ResolvedStatementTree, Declaration, Block, Empty, Expression, If, IfElse, While, Do, For, Return, Break, Continue, Parallel, Task, Loop, Sections, Section, Construct, Update, StandAlone, ResolvedFunctionTree, ResolvedTree}
+use Rattle.om_resolved.specs.Uses.{is_main_function}
 
 abbrev pub takes_variable : variables.Variable → Bool
 takes_variable (named.Global number) = true
@@ -68,6 +68,7 @@ statement_first (Loop at clauses nowait l s) = at
 statement_first (Sections at clauses nowait items) = at
 statement_first (Section s) = statement_first s
 statement_first (Construct at kind clauses s) = at
+statement_first (Update at u) = at
 statement_first (StandAlone at directive) = at
 
 -- S3 at an unsupported statement; its parts are not looked at

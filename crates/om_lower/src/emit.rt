@@ -1,14 +1,15 @@
 //! Writes the code of expressions, statements and functions. An unsupported form has none.
 
-ghost use Rattle.std.specs.Prelude.{◌≡◌, ◌≤◌, ◌-◌, ◌++◌, ◌∷◌, [], IfOk, OnOk, length, option_map, replicate};
-ghost use Rattle.om_lower.specs.Written.{load_code, store_code, operator_code, expression_code, effect_code, return_code, statement_code, statement_lines, body_of};
-ghost use Rattle.om_scope.specs.ResolvedView.{view_resolved_expression, view_resolved_statement, view_resolved_function};
+ghost use Rattle.std.specs.Prelude.{◌≡◌, ◌++◌, ◌∷◌, [], IfOk, OnOk, option_map};
+ghost use Rattle.om_lower.specs.Code.{on_line};
+ghost use Rattle.om_lower.specs.Written.{load_code, store_code, operator_code, expression_code, effect_code, return_code, statement_code, body_of};
+ghost use Rattle.om_resolved.specs.ResolvedView.{view_resolved_expression, view_resolved_statement, view_resolved_function};
 
 use om_code::instruction::{self, Instr, Place};
-use om_code::raw::Body;
-use om_parser::BinaryOperator;
-use om_scope::{ResolvedExpression, ResolvedFunction, ResolvedStatement, Variable};
+use om_code::raw::{Body, Line};
+use om_resolved::{ResolvedExpression, ResolvedFunction, ResolvedStatement, Variable};
 use om_seq::Seq;
+use om_tree::BinaryOperator;
 use std::alloc::{AllocError, Global};
 
 /// The body of a function: its statements, and the end at its closing brace.
@@ -16,40 +17,25 @@ pub(crate) fn emit_function(alloc: Global, function: &ResolvedFunction) -> Resul
     ensures { IfOk result (λ body. body ≡ body_of (view_resolved_function function.now)) }
 {
     let mut code = Vec::new(alloc);
-    let mut lines = Vec::new(alloc);
     for statement in function.body.as_slice() {
-        emit_statement(&mut code, &mut lines, statement)?;
+        emit_statement(&mut code, statement)?;
     }
-    code.push(Instr::Finish { has_value: false })?;
-    lines.push(function.closing_line)?;
+    let end = Instr::Finish { has_value: false };
+    put(&mut code, function.closing_line, end)?;
     Ok(Body {
-        instructions: Seq::of(code),
-        lines: Seq::of(lines),
-        slots: 0,
+        code: Seq::of(code),
+        slots: Seq::new(alloc),
+        given: Seq::new(alloc),
     })
 }
 
 /// Adds the code of a statement: its value, and what is done with it.
-fn emit_statement(
-    code: &mut Vec<Instr>,
-    lines: &mut Vec<u32>,
-    statement: &ResolvedStatement,
-) -> Result<(), AllocError>
-    requires { length lines.old.items ≡ length code.old.items }
-    ensures code { OnOk result (code.new.items ≡ code.old.items ++ statement_code (view_resolved_statement statement.now)) }
-    ensures lines { OnOk result (lines.new.items ≡ lines.old.items ++ statement_lines (view_resolved_statement statement.now)) }
+fn emit_statement(code: &mut Vec<Line>, statement: &ResolvedStatement) -> Result<(), AllocError>
+    ensures { OnOk result (code.new.items ≡ code.old.items ++ statement_code (view_resolved_statement statement.now)) }
 {
     match statement {
-        ResolvedStatement::Expression(at, expression) => {
-            emit_effect(code, expression)?;
-            add_lines(lines, code.len(), at.line)?;
-            Ok(())
-        }
-        ResolvedStatement::Return(at, value) => {
-            emit_return(code, value)?;
-            add_lines(lines, code.len(), at.line)?;
-            Ok(())
-        }
+        ResolvedStatement::Expression(at, expression) => emit_effect(code, at.line, expression),
+        ResolvedStatement::Return(at, value) => emit_return(code, at.line, value),
         ResolvedStatement::Declaration(_, _) => Ok(()),
         ResolvedStatement::Block(_, _) => Ok(()),
         ResolvedStatement::Empty(_) => Ok(()),
@@ -66,26 +52,23 @@ fn emit_statement(
         ResolvedStatement::Sections(_, _, _, _) => Ok(()),
         ResolvedStatement::Section(_) => Ok(()),
         ResolvedStatement::Construct(_, _, _, _) => Ok(()),
+        ResolvedStatement::Update(_, _) => Ok(()),
         ResolvedStatement::StandAlone(_, _) => Ok(()),
     }
 }
 
-/// Adds a line until there are so many lines.
-fn add_lines(lines: &mut Vec<u32>, count: usize, line: u32) -> Result<(), AllocError>
-    requires { length lines.old.items ≤ count }
-    ensures { OnOk result (lines.new.items ≡ lines.old.items ++ replicate (count - length lines.old.items) line) }
-{
-    lines.resize(count, line)
-}
-
 /// Adds the code of an expression that stands alone.
-fn emit_effect(code: &mut Vec<Instr>, expression: &ResolvedExpression) -> Result<(), AllocError>
-    ensures { OnOk result (code.new.items ≡ code.old.items ++ effect_code (view_resolved_expression expression.now)) }
+fn emit_effect(
+    code: &mut Vec<Line>,
+    line: u32,
+    expression: &ResolvedExpression,
+) -> Result<(), AllocError>
+    ensures { OnOk result (code.new.items ≡ code.old.items ++ effect_code line (view_resolved_expression expression.now)) }
 {
     match expression {
         ResolvedExpression::Assign(variable, _, value) => {
-            emit_expression(code, value)?;
-            emit_store(code, *variable)
+            emit_expression(code, line, value)?;
+            emit_store(code, line, *variable)
         }
         ResolvedExpression::Element(_, _) => Ok(()),
         ResolvedExpression::Call(_, _) => Ok(()),
@@ -104,29 +87,37 @@ fn emit_effect(code: &mut Vec<Instr>, expression: &ResolvedExpression) -> Result
 }
 
 /// Adds the code of a `return`.
-fn emit_return(code: &mut Vec<Instr>, value: &Option<ResolvedExpression>) -> Result<(), AllocError>
-    ensures { OnOk result (code.new.items ≡ code.old.items ++ return_code (option_map view_resolved_expression value.now)) }
+fn emit_return(
+    code: &mut Vec<Line>,
+    line: u32,
+    value: &Option<ResolvedExpression>,
+) -> Result<(), AllocError>
+    ensures { OnOk result (code.new.items ≡ code.old.items ++ return_code line (option_map view_resolved_expression value.now)) }
 {
     match value {
         None => Ok(()),
         Some(value) => {
-            emit_expression(code, value)?;
-            put(code, Instr::Finish { has_value: true })
+            emit_expression(code, line, value)?;
+            put(code, line, Instr::Finish { has_value: true })
         }
     }
 }
 
 /// Adds the code of an expression, which leaves its value on top of the operands.
-fn emit_expression(code: &mut Vec<Instr>, expression: &ResolvedExpression) -> Result<(), AllocError>
-    ensures { OnOk result (code.new.items ≡ code.old.items ++ expression_code (view_resolved_expression expression.now)) }
+fn emit_expression(
+    code: &mut Vec<Line>,
+    line: u32,
+    expression: &ResolvedExpression,
+) -> Result<(), AllocError>
+    ensures { OnOk result (code.new.items ≡ code.old.items ++ expression_code line (view_resolved_expression expression.now)) }
 {
     match expression {
-        ResolvedExpression::Variable(variable) => emit_load(code, *variable),
-        ResolvedExpression::Constant(value) => put(code, Instr::Constant(*value)),
+        ResolvedExpression::Variable(variable) => emit_load(code, line, *variable),
+        ResolvedExpression::Constant(value) => put(code, line, Instr::Constant(*value)),
         ResolvedExpression::Binary(left, operator, right) => {
-            emit_expression(code, left)?;
-            emit_expression(code, right)?;
-            emit_operator(code, *operator)
+            emit_expression(code, line, left)?;
+            emit_expression(code, line, right)?;
+            emit_operator(code, line, *operator)
         }
         ResolvedExpression::Element(_, _) => Ok(()),
         ResolvedExpression::Call(_, _) => Ok(()),
@@ -143,22 +134,23 @@ fn emit_expression(code: &mut Vec<Instr>, expression: &ResolvedExpression) -> Re
 }
 
 /// Adds what loads a variable.
-fn emit_load(code: &mut Vec<Instr>, variable: Variable) -> Result<(), AllocError>
-    ensures { OnOk result (code.new.items ≡ code.old.items ++ load_code variable) }
+fn emit_load(code: &mut Vec<Line>, line: u32, variable: Variable) -> Result<(), AllocError>
+    ensures { OnOk result (code.new.items ≡ code.old.items ++ load_code line variable) }
 {
     match variable {
-        Variable::Global(number) => put(code, Instr::Load(Place::Global(number))),
+        Variable::Global(number) => put(code, line, Instr::Load(Place::Global(number))),
         Variable::Local(_) => Ok(()),
     }
 }
 
 /// Adds what takes the top operand and stores it in a variable.
-fn emit_store(code: &mut Vec<Instr>, variable: Variable) -> Result<(), AllocError>
-    ensures { OnOk result (code.new.items ≡ code.old.items ++ store_code variable) }
+fn emit_store(code: &mut Vec<Line>, line: u32, variable: Variable) -> Result<(), AllocError>
+    ensures { OnOk result (code.new.items ≡ code.old.items ++ store_code line variable) }
 {
     match variable {
         Variable::Global(number) => put(
             code,
+            line,
             Instr::Store {
                 place: Place::Global(number),
                 keeps: false,
@@ -169,11 +161,15 @@ fn emit_store(code: &mut Vec<Instr>, variable: Variable) -> Result<(), AllocErro
 }
 
 /// Adds what an operator does with the two operands on top.
-fn emit_operator(code: &mut Vec<Instr>, operator: BinaryOperator) -> Result<(), AllocError>
-    ensures { OnOk result (code.new.items ≡ code.old.items ++ operator_code operator) }
+fn emit_operator(
+    code: &mut Vec<Line>,
+    line: u32,
+    operator: BinaryOperator,
+) -> Result<(), AllocError>
+    ensures { OnOk result (code.new.items ≡ code.old.items ++ operator_code line operator) }
 {
     match operator {
-        BinaryOperator::Add => put(code, Instr::Binary(instruction::BinaryOperator::Add)),
+        BinaryOperator::Add => put(code, line, Instr::Binary(instruction::BinaryOperator::Add)),
         BinaryOperator::Or => Ok(()),
         BinaryOperator::And => Ok(()),
         BinaryOperator::Equal => Ok(()),
@@ -189,10 +185,10 @@ fn emit_operator(code: &mut Vec<Instr>, operator: BinaryOperator) -> Result<(), 
     }
 }
 
-/// Adds one instruction.
-fn put(code: &mut Vec<Instr>, instr: Instr) -> Result<(), AllocError>
-    ensures { OnOk result (code.new.items ≡ code.old.items ++ instr ∷ []) }
+/// Adds one instruction, with its line.
+fn put(code: &mut Vec<Line>, line: u32, instruction: Instr) -> Result<(), AllocError>
+    ensures { OnOk result (code.new.items ≡ code.old.items ++ on_line instruction line ∷ []) }
 {
-    code.push(instr)?;
+    code.push(Line { instruction, line })?;
     Ok(())
 }

@@ -1,18 +1,16 @@
 //! How many operands code has on its stack at once, against a limit.
 
 ghost use Rattle.std.specs.Prelude.{◌≡◌, ◌≤◌, ◌↔◌, ◌-◌, IsTrue, SomeIff, map, option_map};
-ghost use Rattle.om_lower.specs.Heights.{captures_operands, clause_operands, clause_start_height, clause_value_height, clause_values_height, clauses_operands, copy_height, copy_operands, declarators_height, entry_height, given_height, is_update, left_below, loop_height, old_below, operand_height, perhaps_height, region_height, start_height, starts_height, statement_height, statements_height, values_height};
-ghost use Rattle.om_scope.specs.ResolvedTree as trees;
-ghost use Rattle.om_scope.specs.ResolvedView.{view_resolved_clause, view_resolved_declarator, view_resolved_expression, view_resolved_loop, view_resolved_start, view_resolved_statement};
+ghost use Rattle.om_lower.specs.Heights.{captures_operands, clause_operands, clause_start_height, clause_value_height, clause_values_height, clauses_operands, copy_height, copy_operands, declarators_height, entry_height, given_height, left_below, loop_height, old_below, operand_height, perhaps_height, region_height, start_height, starts_height, statement_height, statements_height, update_height, values_height};
+ghost use Rattle.om_resolved.specs.ResolvedTree as trees;
+ghost use Rattle.om_resolved.specs.ResolvedView.{view_resolved_clause, view_resolved_declarator, view_resolved_expression, view_resolved_loop, view_resolved_start, view_resolved_statement, view_resolved_update};
 
 use crate::slots::taken_cells;
-use crate::update::update_fits;
-use om_parser::{AssignOperator, BinaryOperator};
-use om_pragma::AtomicKind;
-use om_scope::{
+use om_resolved::{
     Capture, ConstructKind, CopyKind, ResolvedClause, ResolvedDeclarator, ResolvedExpression,
-    ResolvedLoop, ResolvedStart, ResolvedStatement,
+    ResolvedLoop, ResolvedStart, ResolvedStatement, ResolvedUpdate,
 };
+use om_tree::{AssignOperator, BinaryOperator};
 
 /// How many operands lie below the right side of an operator.
 fn left_below(operator: BinaryOperator) -> u32
@@ -269,21 +267,18 @@ fn entry_fits(kind: &ConstructKind, clauses: &[ResolvedClause], room: u32) -> bo
         ConstructKind::Single(_) => starts_fit(false, clauses, room),
         ConstructKind::Masked => room > 0 && clause_values_fit(clauses, room),
         ConstructKind::Critical(_) => true,
-        ConstructKind::Atomic(_) => true,
+        ConstructKind::Atomic => true,
+        ConstructKind::Taskgroup => true,
     }
 }
 
-/// Whether a construct is an `atomic` that updates.
-fn is_update(kind: &ConstructKind) -> bool
-    ensures { result ≡ is_update kind.now }
+/// Whether this many operands are enough for an atomic update.
+fn update_fits(update: &ResolvedUpdate, room: u32) -> bool
+    ensures { IsTrue result ↔ (update_height (view_resolved_update update.now) ≤ room) }
 {
-    match kind {
-        ConstructKind::Atomic(AtomicKind::Update) => true,
-        ConstructKind::Atomic(AtomicKind::Read) => false,
-        ConstructKind::Atomic(AtomicKind::Write) => false,
-        ConstructKind::Single(_) => false,
-        ConstructKind::Masked => false,
-        ConstructKind::Critical(_) => false,
+    match &update.index {
+        None => fits(&update.operand, room),
+        Some(index) => room > 0 && fits(index, room) && fits(&update.operand, room - 1),
     }
 }
 
@@ -335,13 +330,9 @@ pub(crate) fn statement_fits(statement: &ResolvedStatement, room: u32) -> bool
         }
         ResolvedStatement::Section(first) => statement_fits(first, room),
         ResolvedStatement::Construct(_, kind, clauses, body) => {
-            entry_fits(kind, clauses.as_slice(), room)
-                && if is_update(kind) {
-                    update_fits(body, room)
-                } else {
-                    statement_fits(body, room)
-                }
+            entry_fits(kind, clauses.as_slice(), room) && statement_fits(body, room)
         }
+        ResolvedStatement::Update(_, update) => update_fits(update, room),
         ResolvedStatement::StandAlone(_, _) => true,
     }
 }

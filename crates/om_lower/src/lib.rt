@@ -7,7 +7,5 @@ pub mod laws;
 pub mod limit;
 pub mod look;
 pub mod lower;
-mod same;
 mod slots;
 mod untaken;
-mod update;

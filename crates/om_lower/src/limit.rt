@@ -8,14 +8,14 @@ ghost use Rattle.om_lower.specs.Limits.{body_breaches, has_large_body, has_large
 ghost use Rattle.om_lower.specs.Slots.{region_slots};
 ghost use Rattle.om_scope.specs.Checks.{ChecksExactly};
 ghost use Rattle.om_scope.specs.Faults.{breach_if};
-ghost use Rattle.om_scope.specs.ResolvedTree as trees;
-ghost use Rattle.om_scope.specs.ResolvedView.{view_resolved, view_resolved_clause, view_resolved_function, view_resolved_statement};
+ghost use Rattle.om_resolved.specs.ResolvedTree as trees;
+ghost use Rattle.om_resolved.specs.ResolvedView.{view_resolved, view_resolved_clause, view_resolved_function, view_resolved_statement};
 
 use crate::height::{region_fits, statements_fit};
 use crate::slots::{function_passes, region_passes};
 use om_code::program::OPERAND_LIMIT;
 use om_lexer::{FaultCode, SourceFault};
-use om_scope::{Capture, Resolved, ResolvedClause, ResolvedFunction, ResolvedStatement};
+use om_resolved::{Capture, Resolved, ResolvedClause, ResolvedFunction, ResolvedStatement};
 
 /// How many slots a body may have.
 pub const SLOT_LIMIT: u32 = 256;
@@ -115,6 +115,7 @@ fn has_large_region(statement: &ResolvedStatement) -> bool
         ResolvedStatement::Sections(_, _, _, items) => have_large_region(items.as_slice()),
         ResolvedStatement::Section(first) => has_large_region(first),
         ResolvedStatement::Construct(_, _, _, body) => has_large_region(body),
+        ResolvedStatement::Update(_, _) => false,
         ResolvedStatement::StandAlone(_, _) => false,
     }
 }

@@ -5,11 +5,11 @@ ghost use Rattle.om_lexer.specs.Faults.{no_memory};
 ghost use Rattle.om_lower.specs.Code.{IsCodeOf, global_of};
 ghost use Rattle.om_lower.specs.Breaches.{code_breaches};
 ghost use Rattle.om_lower.specs.Limits.{length_breaches, limit_breaches, size_breaches};
-ghost use Rattle.om_scope.specs.Uses.{IsResolved, is_main_function};
+ghost use Rattle.om_resolved.specs.Uses.{IsResolved, is_main_function};
 ghost use Rattle.om_lower.specs.Untaken.{untaken_breaches};
-ghost use Rattle.om_lower.specs.Written.{body_of};
+ghost use Rattle.om_lower.specs.Written.{body_of, raw_with};
 ghost use Rattle.om_scope.specs.Faults.{first_of};
-ghost use Rattle.om_scope.specs.ResolvedView.{view_resolved, view_resolved_function};
+ghost use Rattle.om_resolved.specs.ResolvedView.{view_resolved, view_resolved_function};
 
 use crate::emit::emit_function;
 use crate::limit::{INSTRUCTION_LIMIT, check_limits, too_many};
@@ -17,7 +17,7 @@ use crate::untaken::{check_taken, is_main};
 use om_code::program::Program;
 use om_code::raw::{self, Body, Raw};
 use om_lexer::SourceFault;
-use om_scope::{GlobalVariable, Resolved, ResolvedFunction};
+use om_resolved::{GlobalVariable, Resolved, ResolvedFunction};
 use om_seq::Seq;
 use std::alloc::{AllocError, Global};
 
@@ -69,11 +69,22 @@ fn lower_taken(alloc: Global, resolved: &Resolved) -> Result<Program, SourceFaul
         bodies.push(lower_function(alloc, function)?)?;
     }
     let globals = copy_globals(alloc, resolved.globals.as_slice())?;
-    Ok(Program::of(Raw {
+    let main = main_of(resolved.functions.as_slice());
+    Ok(Program::of(raw_with(alloc, globals, Seq::of(bodies), main)))
+}
+
+/// Code without texts, lists of sections and locks.
+fn raw_with(alloc: Global, globals: Seq<raw::GlobalVariable>, bodies: Seq<Body>, main: u32) -> Raw
+    ensures { result ≡ raw_with globals bodies main }
+{
+    Raw {
         globals,
-        bodies: Seq::of(bodies),
-        main: main_of(resolved.functions.as_slice()),
-    }))
+        bodies,
+        main,
+        texts: Seq::new(alloc),
+        picks: Seq::new(alloc),
+        locks: Seq::new(alloc),
+    }
 }
 
 /// The body of a function, if it is not too long.
@@ -83,7 +94,7 @@ fn lower_function(alloc: Global, function: &ResolvedFunction) -> Result<Body, So
     ensures refused { IfErr result (λ fault. fault ≢ no_memory → size_breaches (view_resolved_function function.now) ≡ fault ∷ []) }
 {
     let body = emit_function(alloc, function)?;
-    if body.instructions.len() > INSTRUCTION_LIMIT {
+    if body.code.len() > INSTRUCTION_LIMIT {
         return Err(too_many(function));
     }
     Ok(body)
@@ -110,6 +121,7 @@ fn copy_global(alloc: Global, global: &GlobalVariable) -> Result<raw::GlobalVari
     let name = global.name.as_slice().to_vec(alloc)?;
     Ok(raw::GlobalVariable {
         name: Seq::of(name),
+        length: global.length,
         initial: global.initial,
     })
 }

@@ -4,11 +4,11 @@ ghost use Rattle.std.specs.Prelude.{◌≡◌, fold, map};
 ghost use Rattle.std.specs.List.{flat_map};
 ghost use Rattle.om_lower.specs.Rooms.{is_passed, whole_room, with_slot};
 ghost use Rattle.om_lower.specs.Slots.{capture_cells, cells_of, clause_slots, declared_cells, function_slots, has_too_many, parameter_cells, region_slots, start_slots, statement_slots, statements_slots, taken_cells};
-ghost use Rattle.om_scope.specs.ResolvedTree as trees;
-ghost use Rattle.om_scope.specs.ResolvedView.{view_resolved_clause, view_resolved_declarator, view_resolved_function, view_resolved_start, view_resolved_statement};
+ghost use Rattle.om_resolved.specs.ResolvedTree as trees;
+ghost use Rattle.om_resolved.specs.ResolvedView.{view_resolved_clause, view_resolved_declarator, view_resolved_function, view_resolved_start, view_resolved_statement};
 
 use crate::limit::{CELL_LIMIT, SLOT_LIMIT};
-use om_scope::{
+use om_resolved::{
     Capture, LocalVariable, ResolvedClause, ResolvedDeclarator, ResolvedFunction, ResolvedStart,
     ResolvedStatement, Taking,
 };
@@ -198,6 +198,7 @@ fn add_statement(room: &mut Room, statement: &ResolvedStatement)
             add_copies(room, clauses.as_slice());
             add_statement(room, body);
         }
+        ResolvedStatement::Update(_, _) => {}
         ResolvedStatement::StandAlone(_, _) => {}
     }
 }

@@ -7,15 +7,15 @@ ghost use Rattle.om_lower.specs.Code.{listed};
 ghost use Rattle.om_lower.specs.Untaken.{takes_variable, takes_operator, takes_assignment, takes_expression, takes_effect, takes_result, takes_statement, statement_first, statement_untaken, function_untaken, with_global, untaken_breaches};
 ghost use Rattle.om_scope.specs.Checks.{ChecksExactly};
 ghost use Rattle.om_scope.specs.Faults.{goes_first};
-ghost use Rattle.om_scope.specs.ResolvedTree.{statements};
-ghost use Rattle.om_scope.specs.ResolvedView.{view_resolved, view_resolved_expression, view_resolved_statement, view_resolved_function};
-ghost use Rattle.om_scope.specs.Uses.{is_main_function};
+ghost use Rattle.om_resolved.specs.ResolvedTree.{statements};
+ghost use Rattle.om_resolved.specs.ResolvedView.{view_resolved, view_resolved_expression, view_resolved_statement, view_resolved_function};
+ghost use Rattle.om_resolved.specs.Uses.{is_main_function};
 
 use om_lexer::{FaultCode, SourceFault, Span};
-use om_parser::{AssignOperator, BinaryOperator};
-use om_scope::{
+use om_resolved::{
     GlobalVariable, Resolved, ResolvedExpression, ResolvedFunction, ResolvedStatement, Variable,
 };
+use om_tree::{AssignOperator, BinaryOperator};
 
 /// That all forms are taken: S3 at the first token of the first in the text that is not, or at the
 /// name of an array.
@@ -134,6 +134,7 @@ fn first_token(statement: &ResolvedStatement) -> Span
         ResolvedStatement::Sections(at, _, _, _) => *at,
         ResolvedStatement::Section(statement) => first_token(statement),
         ResolvedStatement::Construct(at, _, _, _) => *at,
+        ResolvedStatement::Update(at, _) => *at,
         ResolvedStatement::StandAlone(at, _) => *at,
         ResolvedStatement::Expression(at, _) => *at,
         ResolvedStatement::Return(at, _) => *at,
@@ -162,6 +163,7 @@ fn takes_statement(statement: &ResolvedStatement) -> bool
         ResolvedStatement::Sections(_, _, _, _) => false,
         ResolvedStatement::Section(_) => false,
         ResolvedStatement::Construct(_, _, _, _) => false,
+        ResolvedStatement::Update(_, _) => false,
         ResolvedStatement::StandAlone(_, _) => false,
     }
 }

@@ -5,40 +5,28 @@ use std::alloc::{AllocError, Global};
 use std::cmp::Ordering;
 use std::test::Fail;
 
-const X: Obj = Obj::Global(1, 0);
+/// A global variable's cell.
+fn cell(variable: u32) -> Obj {
+    Obj::Global { variable, index: 0 }
+}
 
-const CONTROL: Access = Access {
-    object: Obj::Control(0),
-    mode: Mode::Write,
-};
-
-const READ: Access = Access {
-    object: X,
-    mode: Mode::Read,
-};
-
-const WRITE: Access = Access {
-    object: X,
-    mode: Mode::Write,
-};
-
-const COUNT: Access = Access {
-    object: Obj::Global(2, 0),
-    mode: Mode::Add,
-};
-
-/// Two footprints, and the object that is named.
-const CONFLICTS: [(&[Access], &[Access], Option<Obj>); 3] = [
-    (&[READ, COUNT], &[COUNT, READ], None),
-    (&[CONTROL, READ], &[WRITE], Some(X)),
-    (&[READ, CONTROL], &[CONTROL, WRITE], Some(X)),
-];
+/// An access of a global variable's cell.
+fn access(variable: u32, mode: Mode) -> Access {
+    Access {
+        object: cell(variable),
+        mode,
+    }
+}
 
 #[test]
 fn the_first_object_of_the_first_footprint_is_named(rt: HostRuntime) {
-    for (first, others, wanted) in CONFLICTS {
-        assert!(rt; conflict(first, others) == wanted);
-    }
+    let read = || access(1, Mode::Read);
+    let write = || access(1, Mode::Write);
+    let count = || access(2, Mode::Add);
+    let other = || access(3, Mode::Write);
+    assert!(rt; conflict(&[read(), count()], &[count(), read()]).is_none());
+    assert!(rt; conflict(&[other(), read()], &[write()]) == Some(cell(1)));
+    assert!(rt; conflict(&[read(), other()], &[other(), write()]) == Some(cell(1)));
 }
 
 /// The text of the name of these numbers.

@@ -2,16 +2,32 @@
 #![tactic(auto)]
 
 #[cfg(test)]
-mod cells;
+mod assembly;
+#[cfg(test)]
+mod code;
 #[cfg(test)]
 mod foot;
 #[cfg(test)]
+mod groups;
+#[cfg(test)]
+mod instructions;
+#[cfg(test)]
+mod laws;
+#[cfg(test)]
+mod pace;
+#[cfg(test)]
+mod run;
+#[cfg(test)]
+mod script;
+#[cfg(test)]
 mod seq;
 #[cfg(test)]
-mod start;
+mod serial;
 #[cfg(test)]
-mod task;
+mod shares;
 #[cfg(test)]
-mod team;
+mod tasks;
 #[cfg(test)]
-mod undo;
+mod teams;
+#[cfg(test)]
+mod texts;

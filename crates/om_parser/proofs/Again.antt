@@ -17,7 +17,7 @@ use Rattle.om_pragma.specs.declared.name.Name as names
 use Rattle.om_pragma.specs.declared.name.Number.{Number}
 use Rattle.om_parser.specs.ExpressionReading.{within, take_operator}
 use Rattle.om_parser.specs.Reading.{◌>>=◌, Outcome, too_deep, take, same_mark, same_word, take_mark, take_word, take_name, take_number, mark_at, word_at, name_at, number_at}
-use Rattle.om_parser.specs.Spelling.{mark, word, name, number}
+use Rattle.om_tree.specs.Spelling.{mark, word, name, number}
 use Rattle.om_parser.proofs.Outcomes.{ok, some}
 
 pub take_mark_again : (p : Punctuator) (s : Span) (ts : List Token) → take_mark p (mark p s ∷ ts) ≡ some (s, ts)

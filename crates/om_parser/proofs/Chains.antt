@@ -8,12 +8,12 @@ use Rattle.om_lexer.specs.declared.token.Punctuator.TheVariants.{Comma}
 use Rattle.om_lexer.specs.declared.token.Span.{Span}
 use Rattle.om_lexer.specs.declared.token.Token.{Token}
 use Rattle.om_parser.specs.declared.expression.TheConstants.{LEVELS}
-use Rattle.om_parser.specs.declared.tree.BinaryOperator.{BinaryOperator}
-use Rattle.om_parser.specs.declared.tree.PostfixOperator.{PostfixOperator}
+use Rattle.om_tree.specs.declared.tree.BinaryOperator.{BinaryOperator}
+use Rattle.om_tree.specs.declared.tree.PostfixOperator.{PostfixOperator}
 use Rattle.om_parser.specs.ExpressionReading.{within, postfix_of, level_operator, take_operator, More, chain_at, postfix_more, binary_more, binary_at, argument_at, expression_at, expression_step, expression_after, operand_at}
 use Rattle.om_parser.specs.Reading.{Outcome, Reader, too_deep, mark_at}
-use Rattle.om_parser.specs.Tree.{ExpressionTree, Postfix, Binary}
-use Rattle.om_parser.specs.Spelling.{postfix_mark, expression_spelling}
+use Rattle.om_tree.specs.Tree.{ExpressionTree, Postfix, Binary}
+use Rattle.om_tree.specs.Spelling.{postfix_mark, expression_spelling}
 use Rattle.om_parser.proofs.Outcomes.{ok, ok_is, some, bind_ok, choose_cases}
 use Rattle.om_parser.proofs.Taken.{mark_at_is}
 use Rattle.om_parser.proofs.ExpressionSound.{within_ok, option_map_is, postfix_is, take_operator_is, take_level_is, operand_sound, all_sound}

@@ -18,15 +18,15 @@ use Rattle.om_pragma.specs.Table.{EachBehind, IsDirective}
 use Rattle.om_pragma.specs.Words.{directive_word}
 use Rattle.om_parser.specs.declared.construct.LineStart.{LineStart}
 use Rattle.om_parser.specs.declared.construct.LineStart.TheVariants as lines
-use Rattle.om_parser.specs.AtomicForms.{has_atomic_form}
+use Rattle.om_tree.specs.AtomicForms.{has_atomic_form}
 use Rattle.om_parser.specs.ConstructReading.{LineReader, PartsReader, line_start, from_word, misplaced, unknown_line, stand_alone_at, item_of, part_item_at, section_at, bad_atomic, atomic_of, atomic_after, constructed_after, sections_after, construct_after, construct_at, line_of}
 use Rattle.om_parser.specs.Faults.{IsStopped}
-use Rattle.om_parser.specs.Formed.{IsLine, IsConstruct, IsStatement, IsBody, IsSectionItem, AreSome, AreSectionItems}
-use Rattle.om_parser.specs.Limits.{Limits}
-use Rattle.om_parser.specs.Places.{Place, Behind, Either, AtDepth, AtBrace, IsOverInside, IsOverInItems, IsOverInStatement}
+use Rattle.om_tree.specs.Formed.{IsLine, IsConstruct, IsStatement, IsBody, IsSectionItem, AreSome, AreSectionItems}
+use Rattle.om_tree.specs.Limits.{Limits}
+use Rattle.om_tree.specs.Places.{Place, Behind, Either, AtDepth, AtBrace, IsOverInside, IsOverInItems, IsOverInStatement}
 use Rattle.om_parser.specs.Reading.{Reader}
-use Rattle.om_parser.specs.Spelling.{token, mark, expression_spelling, statement_spelling}
-use Rattle.om_parser.specs.Tree.{ExpressionTree, StatementTree, StatementsTree, Empty, Construct, Sections, Section}
+use Rattle.om_tree.specs.Spelling.{token, mark, expression_spelling, statement_spelling}
+use Rattle.om_tree.specs.Tree.{ExpressionTree, StatementTree, StatementsTree, Empty, Construct, Sections, Section}
 use Rattle.om_parser.proofs.Outcomes.{ok, bind_err, after_front}
 use Rattle.om_parser.proofs.LineStarts.{start_of_directive, line_start_is}
 use Rattle.om_parser.proofs.ExpressionCut.{err_is}

@@ -6,16 +6,16 @@ use Rattle.om_lexer.specs.declared.token.Keyword.TheVariants as keywords
 use Rattle.om_lexer.specs.declared.token.Punctuator.TheVariants as punctuators
 use Rattle.om_lexer.specs.declared.token.Span.{Span}
 use Rattle.om_lexer.specs.declared.token.Token.{Token}
-use Rattle.om_parser.specs.declared.tree.ArrayLength.{ArrayLength}
+use Rattle.om_tree.specs.declared.tree.ArrayLength.{ArrayLength}
 use Rattle.om_pragma.specs.declared.name.Number.{Number}
-use Rattle.om_parser.specs.declared.tree.PrefixOperator.TheVariants as prefixes
+use Rattle.om_tree.specs.declared.tree.PrefixOperator.TheVariants as prefixes
 use Rattle.om_parser.specs.DeclarationReading.{constant_at, array_after, declarator_after, further_at, declaration_after, declared_at}
-use Rattle.om_parser.specs.Formed.{IsSignedConstant, IsDeclarator, IsDeclaration}
-use Rattle.om_parser.specs.Limits.{expressions_of_declarator, expressions_of_declaration}
+use Rattle.om_tree.specs.Formed.{IsSignedConstant, IsDeclarator, IsDeclaration}
+use Rattle.om_tree.specs.Limits.{expressions_of_declarator, expressions_of_declaration}
 use Rattle.om_parser.specs.Reading.{Reader, take, same_mark, take_mark}
 use Rattle.om_parser.specs.Repetition.{until}
-use Rattle.om_parser.specs.Spelling.{mark, name, number, perhaps, word, expression_spelling, array_spelling, initializer_spelling, declarator_spelling, further_spelling, declaration_spelling}
-use Rattle.om_parser.specs.Tree.{ExpressionTree, Constant, Prefix, InitializerTree, DeclaratorTree, DeclarationTree}
+use Rattle.om_tree.specs.Spelling.{mark, name, number, perhaps, word, expression_spelling, array_spelling, initializer_spelling, declarator_spelling, further_spelling, declaration_spelling}
+use Rattle.om_tree.specs.Tree.{ExpressionTree, Constant, Prefix, InitializerTree, DeclaratorTree, DeclarationTree}
 use Rattle.om_parser.proofs.Outcomes.{ok}
 use Rattle.om_parser.proofs.Again.{take_mark_again, mark_again, name_again, number_again, IsAnswer, bind_answer}
 use Rattle.om_parser.proofs.DeclarationSound.{further_some}

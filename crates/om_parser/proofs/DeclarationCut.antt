@@ -12,11 +12,11 @@ use Rattle.om_pragma.specs.declared.name.Name as names
 use Rattle.om_parser.specs.DeclarationReading.{constant_at, array_after, declarator_after, further_at, declaration_after, declared_at}
 use Rattle.om_parser.specs.Reading.{Reader, take_mark, mark_at, name_at, number_at}
 use Rattle.om_parser.specs.Repetition.{until}
-use Rattle.om_parser.specs.Formed.{IsDeclarator, IsDeclaration}
-use Rattle.om_parser.specs.Limits.{Limits, expressions_of_declarator, expressions_of_declaration}
+use Rattle.om_tree.specs.Formed.{IsDeclarator, IsDeclaration}
+use Rattle.om_tree.specs.Limits.{Limits, expressions_of_declarator, expressions_of_declaration}
 use Rattle.om_parser.specs.Parsing.{PassesLimit}
-use Rattle.om_parser.specs.Spelling.{mark, word, name, expression_spelling, initializer_spelling, declarator_spelling, further_spelling, declaration_spelling}
-use Rattle.om_parser.specs.Tree.{ExpressionTree, DeclaratorTree, DeclarationTree}
+use Rattle.om_tree.specs.Spelling.{mark, word, name, expression_spelling, initializer_spelling, declarator_spelling, further_spelling, declaration_spelling}
+use Rattle.om_tree.specs.Tree.{ExpressionTree, DeclaratorTree, DeclarationTree}
 use Rattle.om_parser.proofs.Outcomes.{ok, bind_err, choose_cases}
 use Rattle.om_parser.proofs.Taken.{take_mark_is, mark_at_is, name_at_is}
 use Rattle.om_parser.proofs.ItemsSound.{IsSound}

@@ -7,7 +7,7 @@ use Rattle.om_pragma.specs.declared.name.Name as names
 use Rattle.om_parser.specs.DeclarationReading.{constant_at, array_after, declarator_after, further_at, declaration_after, declared_at}
 use Rattle.om_parser.specs.Reading.{Reader, mark_at, name_at, number_at}
 use Rattle.om_parser.specs.Repetition.{until}
-use Rattle.om_parser.specs.Tree.{ExpressionTree}
+use Rattle.om_tree.specs.Tree.{ExpressionTree}
 use Rattle.om_parser.proofs.Refusals.{Refuses, done, bind, either, expected, until_refuses}
 
 pub constant_refuses : (ts : List Token) → Refuses (constant_at ts)

@@ -8,15 +8,15 @@ use Rattle.om_lexer.specs.declared.token.Span.{Span}
 use Rattle.om_lexer.specs.declared.token.Token.{Token}
 use Rattle.om_parser.specs.declared.declaration.Initial.{Initial}
 use Rattle.om_parser.specs.declared.declaration.Initial.TheVariants as initials
-use Rattle.om_parser.specs.declared.tree.ArrayLength.{ArrayLength}
+use Rattle.om_tree.specs.declared.tree.ArrayLength.{ArrayLength}
 use Rattle.om_pragma.specs.declared.name.Name as names
 use Rattle.om_parser.specs.DeclarationReading.{constant_at, initial_at, array_after, declarator_after, further_at, declaration_after, declared_at}
-use Rattle.om_parser.specs.Formed.{IsSignedConstant, IsDeclarator, IsDeclaration}
-use Rattle.om_parser.specs.Limits.{Limits, expressions_of_declarator, expressions_of_declaration}
+use Rattle.om_tree.specs.Formed.{IsSignedConstant, IsDeclarator, IsDeclaration}
+use Rattle.om_tree.specs.Limits.{Limits, expressions_of_declarator, expressions_of_declaration}
 use Rattle.om_parser.specs.Reading.{Reader, take_mark, mark_at, name_at, number_at}
 use Rattle.om_parser.specs.Repetition.{optional, until}
-use Rattle.om_parser.specs.Spelling.{mark, word, name, number, perhaps, expression_spelling, array_spelling, initializer_spelling, declarator_spelling, further_spelling, declaration_spelling}
-use Rattle.om_parser.specs.Tree.{ExpressionTree, InitializerTree, DeclaratorTree, DeclarationTree}
+use Rattle.om_tree.specs.Spelling.{mark, word, name, number, perhaps, expression_spelling, array_spelling, initializer_spelling, declarator_spelling, further_spelling, declaration_spelling}
+use Rattle.om_tree.specs.Tree.{ExpressionTree, InitializerTree, DeclaratorTree, DeclarationTree}
 use Rattle.om_parser.proofs.Outcomes.{ok, ok_is, some, bind_ok, choose_cases, after_front, after_token}
 use Rattle.om_parser.proofs.Taken.{take_mark_is, mark_at_is, name_at_is, number_at_is}
 use Rattle.om_parser.proofs.ExpressionSound.{whole_sound}

@@ -15,22 +15,22 @@ use Rattle.om_lexer.specs.declared.token.TokenKind.{TokenKind}
 use Rattle.om_lexer.specs.declared.token.TokenKind.TheVariants as kinds
 use Rattle.om_pragma.specs.declared.name.Name as names
 use Rattle.om_pragma.specs.declared.name.Number.{Number}
-use Rattle.om_parser.specs.declared.tree.AssignOperator.{AssignOperator}
-use Rattle.om_parser.specs.declared.tree.AssignOperator.TheVariants as assigns
-use Rattle.om_parser.specs.declared.tree.BinaryOperator.{BinaryOperator}
-use Rattle.om_parser.specs.declared.tree.BinaryOperator.TheVariants as binaries
-use Rattle.om_parser.specs.declared.tree.PostfixOperator.{PostfixOperator}
-use Rattle.om_parser.specs.declared.tree.PostfixOperator.TheVariants as postfixes
-use Rattle.om_parser.specs.declared.tree.PrefixOperator.{PrefixOperator}
-use Rattle.om_parser.specs.declared.tree.PrefixOperator.TheVariants as prefixes
-use Rattle.om_parser.specs.declared.tree.Text as texts
+use Rattle.om_tree.specs.declared.tree.AssignOperator.{AssignOperator}
+use Rattle.om_tree.specs.declared.tree.AssignOperator.TheVariants as assigns
+use Rattle.om_tree.specs.declared.tree.BinaryOperator.{BinaryOperator}
+use Rattle.om_tree.specs.declared.tree.BinaryOperator.TheVariants as binaries
+use Rattle.om_tree.specs.declared.tree.PostfixOperator.{PostfixOperator}
+use Rattle.om_tree.specs.declared.tree.PostfixOperator.TheVariants as postfixes
+use Rattle.om_tree.specs.declared.tree.PrefixOperator.{PrefixOperator}
+use Rattle.om_tree.specs.declared.tree.PrefixOperator.TheVariants as prefixes
+use Rattle.om_tree.specs.declared.tree.Text as texts
 use Rattle.om_parser.specs.ExpressionReading.{within, prefix_of, postfix_of, assign_of, of_level, level_operator, take_operator, take_assign, text_of, take_text, closed_by, paren_after, index_after, first_at, argument_at, arguments_at, arguments_after, call_after, named_after, primary_step, More, chain_at, postfix_more, binary_more, postfix_step, unary_step, binary_at, conditional_after, expression_after, expression_step, deeper, unary_at, expression_at, operand_at, whole_at}
-use Rattle.om_parser.specs.Formed.{level, binary_level, IsExpression, AreArguments, AreFurther, IsTextOf}
-use Rattle.om_parser.specs.Limits.{Limits, nesting, arguments_nesting}
+use Rattle.om_tree.specs.Formed.{level, binary_level, IsExpression, AreArguments, AreFurther, IsTextOf}
+use Rattle.om_tree.specs.Limits.{Limits, nesting, arguments_nesting}
 use Rattle.om_parser.specs.Reading.{◌>>=◌, Reader, choose, take, same_mark, mark_of, take_mark, take_word, take_number}
 use Rattle.om_parser.specs.Repetition.{until}
-use Rattle.om_parser.specs.Spelling.{mark, name, text, prefix_mark, postfix_mark, binary_mark, assign_mark, expression_spelling, arguments_spelling}
-use Rattle.om_parser.specs.Tree.{ExpressionTree, Name, Constant, Text, Paren, Index, Call, Prefix, Postfix, Binary, Conditional, Assign, ArgumentsTree, NoArguments, Argument, arguments}
+use Rattle.om_tree.specs.Spelling.{mark, name, text, prefix_mark, postfix_mark, binary_mark, assign_mark, expression_spelling, arguments_spelling}
+use Rattle.om_tree.specs.Tree.{ExpressionTree, Name, Constant, Text, Paren, Index, Call, Prefix, Postfix, Binary, Conditional, Assign, ArgumentsTree, NoArguments, Argument, arguments}
 use Rattle.om_parser.proofs.Outcomes.{ok, some}
 use Rattle.om_parser.proofs.Again.{take_mark_again, take_number_again, mark_again, name_again, take_operator_again, take_operator_here, Stopping, deep_at, IsAnswer, bind_answer, narrower, within_answer}
 use Rattle.om_parser.proofs.ExpressionSound.{grade}

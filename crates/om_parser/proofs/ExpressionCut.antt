@@ -10,17 +10,17 @@ use Rattle.om_lexer.specs.declared.token.Span.{Span}
 use Rattle.om_lexer.specs.declared.token.Token.{Token}
 use Rattle.om_lexer.specs.declared.token.TokenKind.TheVariants as kinds
 use Rattle.om_pragma.specs.declared.name.Name as names
-use Rattle.om_parser.specs.declared.tree.AssignOperator.TheVariants as assigns
-use Rattle.om_parser.specs.declared.tree.BinaryOperator.TheVariants as binaries
-use Rattle.om_parser.specs.declared.tree.PostfixOperator.TheVariants as postfixes
-use Rattle.om_parser.specs.declared.tree.PrefixOperator.TheVariants as prefixes
+use Rattle.om_tree.specs.declared.tree.AssignOperator.TheVariants as assigns
+use Rattle.om_tree.specs.declared.tree.BinaryOperator.TheVariants as binaries
+use Rattle.om_tree.specs.declared.tree.PostfixOperator.TheVariants as postfixes
+use Rattle.om_tree.specs.declared.tree.PrefixOperator.TheVariants as prefixes
 use Rattle.om_parser.specs.ExpressionReading.{within, prefix_of, postfix_of, level_operator, take_operator, take_assign, take_text, Inside, enter, closed_by, paren_after, index_after, first_at, argument_at, arguments_at, arguments_after, call_after, named_after, primary_step, More, chain_at, postfix_more, binary_more, postfix_step, unary_step, binary_at, conditional_after, expression_after, expression_step, deeper, unary_at, expression_at, operand_at, whole_at}
-use Rattle.om_parser.specs.Formed.{level, IsExpression, AreFurther, IsTextOf}
-use Rattle.om_parser.specs.Limits.{Limits, IsOpening, IsTooMuch, still_open}
+use Rattle.om_tree.specs.Formed.{level, IsExpression, AreFurther, IsTextOf}
+use Rattle.om_tree.specs.Limits.{Limits, IsOpening, IsTooMuch, still_open}
 use Rattle.om_parser.specs.Reading.{◌>>=◌, Outcome, Reader, syntax, too_deep, known, take_mark, take_number, mark_at, name_at}
 use Rattle.om_parser.specs.Repetition.{until}
-use Rattle.om_parser.specs.Spelling.{mark, name, number, text, prefix_mark, postfix_mark, binary_mark, assign_mark, expression_spelling, arguments_spelling}
-use Rattle.om_parser.specs.Tree.{ExpressionTree, Name, Constant, Text, Paren, Index, Call, Prefix, Postfix, Binary, Conditional, Assign, ArgumentsTree, NoArguments, Argument, arguments}
+use Rattle.om_tree.specs.Spelling.{mark, name, number, text, prefix_mark, postfix_mark, binary_mark, assign_mark, expression_spelling, arguments_spelling}
+use Rattle.om_tree.specs.Tree.{ExpressionTree, Name, Constant, Text, Paren, Index, Call, Prefix, Postfix, Binary, Conditional, Assign, ArgumentsTree, NoArguments, Argument, arguments}
 use Rattle.om_parser.proofs.Outcomes.{ok, ok_is, some, bind_ok, bind_err, choose_cases}
 use Rattle.om_parser.proofs.ItemsSound.{until_sound}
 use Rattle.om_parser.proofs.Taken.{take_mark_is, take_number_is, mark_at_is, name_at_is}

@@ -4,10 +4,10 @@ use Rattle.om_lexer.specs.declared.token.Span.{Span}
 use Rattle.om_lexer.specs.declared.token.Token.{Token}
 use Rattle.om_pragma.specs.declared.name.Name as names
 use Rattle.om_parser.specs.ExpressionReading.{prefix_of, postfix_of, level_operator, take_operator, take_assign, take_text, Inside, enter, closed_by, paren_after, index_after, first_at, argument_at, arguments_at, arguments_after, call_after, named_after, primary_step, More, chain_at, postfix_more, binary_more, postfix_step, unary_step, binary_at, conditional_after, expression_after, expression_step, deeper, unary_at, expression_at, operand_at, whole_at}
-use Rattle.om_parser.specs.Limits.{Limits}
+use Rattle.om_tree.specs.Limits.{Limits}
 use Rattle.om_parser.specs.Reading.{Outcome, Reader, take_mark, take_number, mark_at, name_at}
 use Rattle.om_parser.specs.Repetition.{until}
-use Rattle.om_parser.specs.Tree.{ExpressionTree}
+use Rattle.om_tree.specs.Tree.{ExpressionTree}
 use Rattle.om_parser.proofs.Outcomes.{some, choose_cases}
 use Rattle.om_parser.proofs.ExpressionSound.{option_map_is}
 use Rattle.om_parser.proofs.Refusals.{Refuses, done, wrong, deep, bind, either, expected, limited, until_refuses}

@@ -12,18 +12,18 @@ use Rattle.om_lexer.specs.declared.token.Token.{Token}
 use Rattle.om_lexer.specs.declared.token.TokenKind.{TokenKind}
 use Rattle.om_lexer.specs.declared.token.TokenKind.TheVariants as kinds
 use Rattle.om_pragma.specs.declared.name.Name as names
-use Rattle.om_parser.specs.declared.tree.AssignOperator.{AssignOperator}
-use Rattle.om_parser.specs.declared.tree.BinaryOperator.{BinaryOperator}
-use Rattle.om_parser.specs.declared.tree.PostfixOperator.{PostfixOperator}
-use Rattle.om_parser.specs.declared.tree.PrefixOperator.{PrefixOperator}
-use Rattle.om_parser.specs.declared.tree.Text as texts
+use Rattle.om_tree.specs.declared.tree.AssignOperator.{AssignOperator}
+use Rattle.om_tree.specs.declared.tree.BinaryOperator.{BinaryOperator}
+use Rattle.om_tree.specs.declared.tree.PostfixOperator.{PostfixOperator}
+use Rattle.om_tree.specs.declared.tree.PrefixOperator.{PrefixOperator}
+use Rattle.om_tree.specs.declared.tree.Text as texts
 use Rattle.om_parser.specs.ExpressionReading.{within, prefix_of, postfix_of, binary_of, assign_of, of_level, level_operator, take_operator, take_assign, text_of, take_text, Inside, enter, closed_by, paren_after, index_after, first_at, argument_at, arguments_at, arguments_after, call_after, named_after, primary_step, More, chain_at, postfix_more, binary_more, postfix_step, unary_step, binary_at, conditional_after, expression_after, expression_step, deeper, unary_at, expression_at, operand_at, whole_at}
-use Rattle.om_parser.specs.Formed.{level, binary_level, IsExpression, AreFurther, IsTextOf}
-use Rattle.om_parser.specs.Limits.{Limits, nesting, arguments_nesting}
+use Rattle.om_tree.specs.Formed.{level, binary_level, IsExpression, AreFurther, IsTextOf}
+use Rattle.om_tree.specs.Limits.{Limits, nesting, arguments_nesting}
 use Rattle.om_parser.specs.Reading.{◌>>=◌, Outcome, Reader, choose, take, too_deep, take_mark, take_number, mark_at, name_at}
 use Rattle.om_parser.specs.Repetition.{until}
-use Rattle.om_parser.specs.Spelling.{token, mark, name, text, perhaps, prefix_mark, postfix_mark, binary_mark, assign_mark, expression_spelling, arguments_spelling}
-use Rattle.om_parser.specs.Tree.{ExpressionTree, Name, Constant, Text, Paren, Index, Call, Prefix, Postfix, Binary, Conditional, Assign, NoArguments, Argument, arguments}
+use Rattle.om_tree.specs.Spelling.{token, mark, name, text, perhaps, prefix_mark, postfix_mark, binary_mark, assign_mark, expression_spelling, arguments_spelling}
+use Rattle.om_tree.specs.Tree.{ExpressionTree, Name, Constant, Text, Paren, Index, Call, Prefix, Postfix, Binary, Conditional, Assign, NoArguments, Argument, arguments}
 use Rattle.om_parser.proofs.Outcomes.{ok, ok_is, some, some_is, bind_ok, choose_cases, after_front, after_token, cond_some}
 use Rattle.om_parser.proofs.Taken.{take_is, take_mark_is, take_number_is, mark_at_is, name_at_is}
 use Rattle.om_parser.proofs.ItemsSound.{IsRead, IsSound, until_sound}

@@ -2,10 +2,10 @@
 use Rattle.std.proofs.Common.{◌≡◌, Bool, true, false, refl}
 use Rattle.std.specs.Prelude.{not, ◌||◌}
 use Rattle.om_pragma.specs.Questions.{is_atomic, atomic_kind}
-use Rattle.om_parser.specs.AtomicForms.{has_atomic_form}
-use Rattle.om_parser.specs.Limits.{Limits}
-use Rattle.om_parser.specs.Sizes.{Where, HasForms, HaveForms, IsItemWithin, HasItemForms}
-use Rattle.om_parser.specs.Tree.{StatementTree, StatementsTree, LocalDeclaration, Block, Empty, Expression, If, IfElse, While, Do, For, Return, Break, Continue, Construct, StandAlone, Sections, Section, NoStatements, Statement, ItemTree}
+use Rattle.om_tree.specs.AtomicForms.{has_atomic_form}
+use Rattle.om_tree.specs.Limits.{Limits}
+use Rattle.om_tree.specs.Sizes.{Where, HasForms, HaveForms, IsItemWithin, HasItemForms}
+use Rattle.om_tree.specs.Tree.{StatementTree, StatementsTree, LocalDeclaration, Block, Empty, Expression, If, IfElse, While, Do, For, Return, Break, Continue, Construct, StandAlone, Sections, Section, NoStatements, Statement, ItemTree}
 
 -- the one of two that is asked, where both hold
 where_both : (b : Bool) (First Second : Type 0) → First → Second → Where b First Second

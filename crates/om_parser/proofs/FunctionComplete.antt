@@ -6,12 +6,12 @@ use Rattle.om_lexer.specs.declared.token.Punctuator.TheVariants as punctuators
 use Rattle.om_lexer.specs.declared.token.Span.{Span}
 use Rattle.om_lexer.specs.declared.token.Token.{Token}
 use Rattle.om_pragma.specs.declared.name.Name as names
-use Rattle.om_parser.specs.declared.tree.Parameter.{Parameter}
+use Rattle.om_tree.specs.declared.tree.Parameter.{Parameter}
 use Rattle.om_parser.specs.FunctionReading.{parameter_at, further_parameter_at, listed_at, parameters_at, head_after}
 use Rattle.om_parser.specs.Reading.{Outcome, take, same_mark, same_word, take_mark, take_word, take_name}
 use Rattle.om_parser.specs.Repetition.{optional, until}
-use Rattle.om_parser.specs.Spelling.{mark, word, name, perhaps, behind_comma, parameter_spelling, parameters_spelling}
-use Rattle.om_parser.specs.Tree.{ParametersTree, NoParameters, Void, Listed, HeadTree}
+use Rattle.om_tree.specs.Spelling.{mark, word, name, perhaps, behind_comma, parameter_spelling, parameters_spelling}
+use Rattle.om_tree.specs.Tree.{ParametersTree, NoParameters, Void, Listed, HeadTree}
 use Rattle.om_parser.proofs.Outcomes.{ok}
 use Rattle.om_parser.proofs.Again.{take_mark_again, take_word_again, mark_again, word_again, IsAnswer}
 use Rattle.om_parser.proofs.DeclarationSound.{IsAny}

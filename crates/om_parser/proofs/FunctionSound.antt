@@ -9,14 +9,14 @@ use Rattle.om_lexer.specs.declared.token.Punctuator.TheVariants as punctuators
 use Rattle.om_lexer.specs.declared.token.Span.{Span}
 use Rattle.om_lexer.specs.declared.token.Token.{Token}
 use Rattle.om_pragma.specs.declared.name.Name as names
-use Rattle.om_parser.specs.declared.tree.Parameter.{Parameter}
-use Rattle.om_parser.specs.declared.tree.ResultType.{ResultType}
+use Rattle.om_tree.specs.declared.tree.Parameter.{Parameter}
+use Rattle.om_tree.specs.declared.tree.ResultType.{ResultType}
 use Rattle.om_parser.specs.FunctionReading.{parameter_at, further_parameter_at, listed_at, parameters_at, head_after, are_named}
-use Rattle.om_parser.specs.Formed.{AreNamed}
+use Rattle.om_tree.specs.Formed.{AreNamed}
 use Rattle.om_parser.specs.Reading.{take_mark, take_word, take_name, mark_at, word_at}
 use Rattle.om_parser.specs.Repetition.{optional, until}
-use Rattle.om_parser.specs.Spelling.{mark, word, name, perhaps, behind_comma, result_spelling, parameter_spelling, parameters_spelling, head_spelling}
-use Rattle.om_parser.specs.Tree.{ParametersTree, NoParameters, Void, Listed, HeadTree}
+use Rattle.om_tree.specs.Spelling.{mark, word, name, perhaps, behind_comma, result_spelling, parameter_spelling, parameters_spelling, head_spelling}
+use Rattle.om_tree.specs.Tree.{ParametersTree, NoParameters, Void, Listed, HeadTree}
 use Rattle.om_parser.proofs.Outcomes.{ok, ok_is, bind_ok, choose_cases, after_front, after_token}
 use Rattle.om_parser.proofs.Taken.{take_mark_is, take_word_is, take_name_is, mark_at_is, word_at_is}
 use Rattle.om_parser.proofs.ItemsSound.{IsRead, IsSound, until_sound}

@@ -7,10 +7,10 @@ use Rattle.std.proofs.lemmas.List.Elements.{All-nil, All-cons, Contains-append_l
 use Rattle.om_lexer.specs.declared.fault.FaultCode.TheVariants as faults
 use Rattle.om_lexer.specs.declared.fault.SourceFault.{SourceFault}
 use Rattle.om_lexer.specs.declared.token.Token.{Token}
-use Rattle.om_parser.specs.Limits.{Limits}
+use Rattle.om_tree.specs.Limits.{Limits}
 use Rattle.om_parser.specs.Parsing.{PassesLimit}
 use Rattle.om_parser.specs.Reading.{◌>>=◌, Outcome, Reader}
-use Rattle.om_parser.specs.Tree.{ExpressionTree}
+use Rattle.om_tree.specs.Tree.{ExpressionTree}
 use Rattle.om_parser.specs.Repetition.{until}
 use Rattle.om_parser.proofs.Outcomes.{ok, bind_err, choose_cases}
 use Rattle.om_parser.proofs.ExpressionCut.{err_is, IsNeverDeep, syntax_never_deep}

@@ -49,4 +49,3 @@ pub mod PartsCut
 pub mod UnitCut
 pub mod UnitRefusals
 pub mod Promises
-pub mod CallViews

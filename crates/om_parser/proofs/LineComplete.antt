@@ -14,13 +14,13 @@ use Rattle.om_pragma.specs.Spelling.{directive_spelling}
 use Rattle.om_pragma.proofs.Directives.{directive_again}
 use Rattle.om_pragma.proofs.Mapping.{mapped_spelling, mapped_directive}
 use Rattle.om_parser.specs.ExpressionReading.{whole_at}
-use Rattle.om_parser.specs.Formed.{IsExpression, IsLine}
-use Rattle.om_parser.specs.Limits.{Limits, nesting}
+use Rattle.om_tree.specs.Formed.{IsExpression, IsLine}
+use Rattle.om_tree.specs.Limits.{Limits, nesting}
 use Rattle.om_parser.specs.LineReading.{run_of, is_syntax, in_run, clause_value, all_of, no_value, with_value, line_at}
 use Rattle.om_parser.specs.Reading.{Outcome}
-use Rattle.om_parser.specs.Sizes.{most, extent, line_longest, line_nesting}
-use Rattle.om_parser.specs.Spelling.{token, expression_spelling}
-use Rattle.om_parser.specs.Tree.{ExpressionTree}
+use Rattle.om_tree.specs.Sizes.{most, extent, line_longest, line_nesting}
+use Rattle.om_tree.specs.Spelling.{token, expression_spelling}
+use Rattle.om_tree.specs.Tree.{ExpressionTree}
 use Rattle.om_parser.proofs.Again.{IsAnswer, bind_answer}
 use Rattle.om_parser.proofs.Outcomes.{ok, some}
 use Rattle.om_parser.proofs.ExpressionComplete.{whole_again}

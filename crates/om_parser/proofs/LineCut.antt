@@ -13,13 +13,13 @@ use Rattle.om_pragma.specs.Reading.{directive_at, expression_before}
 use Rattle.om_pragma.proofs.Directives.{directive_is, read_again}
 use Rattle.om_pragma.proofs.Refused.{refused_fault}
 use Rattle.om_parser.specs.ExpressionReading.{whole_at}
-use Rattle.om_parser.specs.Limits.{Limits}
+use Rattle.om_tree.specs.Limits.{Limits}
 use Rattle.om_parser.specs.LineFaults.{IsOneLine, clause_token, ExpectsClause, IsNoDirective, IsPassedInClause, IsWrongLine}
 use Rattle.om_parser.specs.LineReading.{run_of, is_syntax, in_run, place_behind, last_start, all_of, clause_value, with_value, sooner, line_of, line_at}
-use Rattle.om_parser.specs.Places.{in_parentheses}
+use Rattle.om_tree.specs.Places.{in_parentheses}
 use Rattle.om_parser.specs.Reading.{Outcome, syntax}
-use Rattle.om_parser.specs.Spelling.{token, mark}
-use Rattle.om_parser.specs.Tree.{ExpressionTree}
+use Rattle.om_tree.specs.Spelling.{token, mark}
+use Rattle.om_tree.specs.Tree.{ExpressionTree}
 use Rattle.om_parser.proofs.Outcomes.{ok, bind_err, choose_cases}
 use Rattle.om_parser.proofs.ExpressionCut.{err_is, too_much_at, whole_cut}
 use Rattle.om_parser.proofs.ExpressionRefusals.{whole_refuses}

@@ -10,7 +10,7 @@ use Rattle.om_lexer.specs.declared.token.TokenKind.TheVariants as kinds
 use Rattle.om_pragma.specs.Reading.{is_end, take_first}
 use Rattle.om_parser.specs.LineFaults.{IsOneLine}
 use Rattle.om_parser.specs.LineReading.{run_of, place_behind}
-use Rattle.om_parser.specs.Spelling.{token}
+use Rattle.om_tree.specs.Spelling.{token}
 use Rattle.om_parser.proofs.Outcomes.{some, some_is}
 
 -- the tokens of a run, and those behind it

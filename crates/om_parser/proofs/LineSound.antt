@@ -12,13 +12,13 @@ use Rattle.om_pragma.specs.Table.{IsDirective}
 use Rattle.om_pragma.proofs.Directives.{directive_is}
 use Rattle.om_pragma.proofs.Mapping.{mapped_expressions, mapped_spelling, mapped_directive}
 use Rattle.om_parser.specs.ExpressionReading.{whole_at}
-use Rattle.om_parser.specs.Formed.{IsExpression, IsLine}
-use Rattle.om_parser.specs.Limits.{Limits, nesting}
+use Rattle.om_tree.specs.Formed.{IsExpression, IsLine}
+use Rattle.om_tree.specs.Limits.{Limits, nesting}
 use Rattle.om_parser.specs.LineReading.{run_of, all_of, clause_value, no_value, with_value, sooner, line_of, line_at}
 use Rattle.om_parser.specs.Reading.{Outcome}
-use Rattle.om_parser.specs.Sizes.{most, extent, line_longest, line_nesting}
-use Rattle.om_parser.specs.Spelling.{expression_spelling}
-use Rattle.om_parser.specs.Tree.{ExpressionTree}
+use Rattle.om_tree.specs.Sizes.{most, extent, line_longest, line_nesting}
+use Rattle.om_tree.specs.Spelling.{expression_spelling}
+use Rattle.om_tree.specs.Tree.{ExpressionTree}
 use Rattle.om_parser.proofs.Outcomes.{ok, ok_is, bind_ok, choose_cases}
 use Rattle.om_parser.proofs.ExpressionSound.{whole_sound}
 use Rattle.om_parser.proofs.ItemsSound.{IsRead, IsSound}

@@ -25,7 +25,7 @@ use Rattle.om_pragma.proofs.Directives.{whole_written, each_written}
 use Rattle.om_pragma.proofs.Outcomes.{bind_ok}
 use Rattle.om_pragma.proofs.Taken.{same_kind_is, mark_at_is}
 use Rattle.om_parser.specs.LineFaults.{clause_token, ExpectsClause, IsNoDirective}
-use Rattle.om_parser.specs.Spelling.{mark}
+use Rattle.om_tree.specs.Spelling.{mark}
 use Rattle.om_parser.proofs.LineParts.{item}
 use Rattle.om_parser.proofs.Outcomes.{some, some_is}
 

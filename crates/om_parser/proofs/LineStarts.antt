@@ -11,8 +11,8 @@ use Rattle.om_pragma.specs.Spelling.{token, item_spelling, name_spelling, openin
 use Rattle.om_parser.specs.declared.construct.LineStart.{LineStart}
 use Rattle.om_parser.specs.declared.construct.LineStart.TheVariants as lines
 use Rattle.om_parser.specs.ConstructReading.{word_start, line_start}
-use Rattle.om_parser.specs.Spelling.{expression_spelling}
-use Rattle.om_parser.specs.Tree.{ExpressionTree}
+use Rattle.om_tree.specs.Spelling.{expression_spelling}
+use Rattle.om_tree.specs.Tree.{ExpressionTree}
 
 abbrev pub start_of_directive : DirectiveName → LineStart
 start_of_directive name = if is_stand_alone name then lines.StandAlone else if is_section name then lines.Section else lines.Construct

@@ -28,16 +28,16 @@ use Rattle.om_pragma.specs.Reading.{is_end}
 use Rattle.om_pragma.specs.Spelling.{kind_of, further_spelling, names_spelling, list_spelling, chunk_spelling, argument_spelling, comma_spelling, clause_spelling, item_spelling, critical_spelling, flush_spelling, name_spelling, opening_spelling, directive_spelling}
 use Rattle.om_pragma.specs.Words.{same_mark, sharing_word, operator_word, schedule_word, clause_word}
 use Rattle.om_pragma.proofs.Items.{clause_is_word, word_no_end}
-use Rattle.om_parser.specs.declared.tree.AssignOperator.{AssignOperator}
-use Rattle.om_parser.specs.declared.tree.AssignOperator.TheVariants as assigns
-use Rattle.om_parser.specs.declared.tree.BinaryOperator.{BinaryOperator}
-use Rattle.om_parser.specs.declared.tree.BinaryOperator.TheVariants as binaries
-use Rattle.om_parser.specs.declared.tree.PostfixOperator.{PostfixOperator}
-use Rattle.om_parser.specs.declared.tree.PostfixOperator.TheVariants as postfixes
-use Rattle.om_parser.specs.declared.tree.PrefixOperator.{PrefixOperator}
-use Rattle.om_parser.specs.declared.tree.PrefixOperator.TheVariants as prefixes
-use Rattle.om_parser.specs.Spelling.{token, mark, prefix_mark, postfix_mark, binary_mark, assign_mark, expression_spelling, arguments_spelling}
-use Rattle.om_parser.specs.Tree.{ExpressionTree, Name, Constant, Text, Paren, Index, Call, Prefix, Postfix, Binary, Conditional, Assign, ArgumentsTree, NoArguments, Argument}
+use Rattle.om_tree.specs.declared.tree.AssignOperator.{AssignOperator}
+use Rattle.om_tree.specs.declared.tree.AssignOperator.TheVariants as assigns
+use Rattle.om_tree.specs.declared.tree.BinaryOperator.{BinaryOperator}
+use Rattle.om_tree.specs.declared.tree.BinaryOperator.TheVariants as binaries
+use Rattle.om_tree.specs.declared.tree.PostfixOperator.{PostfixOperator}
+use Rattle.om_tree.specs.declared.tree.PostfixOperator.TheVariants as postfixes
+use Rattle.om_tree.specs.declared.tree.PrefixOperator.{PrefixOperator}
+use Rattle.om_tree.specs.declared.tree.PrefixOperator.TheVariants as prefixes
+use Rattle.om_tree.specs.Spelling.{token, mark, prefix_mark, postfix_mark, binary_mark, assign_mark, expression_spelling, arguments_spelling}
+use Rattle.om_tree.specs.Tree.{ExpressionTree, Name, Constant, Text, Paren, Index, Call, Prefix, Postfix, Binary, Conditional, Assign, ArgumentsTree, NoArguments, Argument}
 use Rattle.om_parser.proofs.ExpressionComplete.{expression_some}
 use Rattle.om_parser.proofs.LineRuns.{Endless, endless_both}
 

@@ -11,14 +11,14 @@ use Rattle.om_pragma.specs.declared.tree.Directive.{Directive}
 use Rattle.om_pragma.specs.Expressions.{expressions, first_expression, map_directive, tokens_in, with_tokens, IsValue}
 use Rattle.om_pragma.specs.Reading.{directive_at, expression_at, expression_before}
 use Rattle.om_pragma.proofs.Fillings.{first_is_only}
-use Rattle.om_parser.specs.declared.tree.Expression.{Expression, fold-roll-Expression}
-use Rattle.om_parser.specs.declared.tree.Expression.TheOpen.{Expression-F}
-use Rattle.om_parser.specs.declared.tree.Expression.TheVariants as values
-use Rattle.om_parser.specs.Limits.{Limits}
+use Rattle.om_tree.specs.declared.tree.Expression.{Expression, fold-roll-Expression}
+use Rattle.om_tree.specs.declared.tree.Expression.TheOpen.{Expression-F}
+use Rattle.om_tree.specs.declared.tree.Expression.TheVariants as values
+use Rattle.om_tree.specs.Limits.{Limits}
 use Rattle.om_parser.specs.LineReading.{clause_value, no_value, with_value, sooner, line_of}
 use Rattle.om_parser.specs.Reading.{Reads}
-use Rattle.om_parser.specs.Tree.{ExpressionTree, Constant}
-use Rattle.om_parser.specs.View.{expression_layer, view_expression, view_directive}
+use Rattle.om_tree.specs.Tree.{ExpressionTree, Constant}
+use Rattle.om_tree.specs.View.{expression_layer, view_expression, view_directive}
 use Rattle.om_parser.proofs.Outcomes.{ok, some}
 use Rattle.om_parser.proofs.ExpressionCut.{err_is}
 use Rattle.om_parser.proofs.LineParts.{first_mapped, mapped_twice}

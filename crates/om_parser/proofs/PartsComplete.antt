@@ -8,17 +8,17 @@ use Rattle.om_lexer.specs.declared.token.Token.{Token}
 use Rattle.om_lexer.specs.declared.token.TokenKind.TheVariants as kinds
 use Rattle.om_parser.specs.declared.declaration.Initial.TheVariants as initials
 use Rattle.om_parser.specs.declared.statement.Start.TheVariants as starts
-use Rattle.om_parser.specs.declared.tree.PrefixOperator.{PrefixOperator}
-use Rattle.om_parser.specs.declared.tree.PrefixOperator.TheVariants as prefixes
+use Rattle.om_tree.specs.declared.tree.PrefixOperator.{PrefixOperator}
+use Rattle.om_tree.specs.declared.tree.PrefixOperator.TheVariants as prefixes
 use Rattle.om_parser.specs.DeclarationReading.{initial_at, declared_at}
 use Rattle.om_parser.specs.ExpressionReading.{whole_at}
-use Rattle.om_parser.specs.Formed.{IsExpression}
-use Rattle.om_parser.specs.Limits.{Limits, nesting, expressions_of_declaration}
+use Rattle.om_tree.specs.Formed.{IsExpression}
+use Rattle.om_tree.specs.Limits.{Limits, nesting, expressions_of_declaration}
 use Rattle.om_parser.specs.PartReading.{parts}
-use Rattle.om_parser.specs.Sizes.{most, extent}
-use Rattle.om_parser.specs.Spelling.{mark, name, number, prefix_mark, expression_spelling, declarator_spelling}
+use Rattle.om_tree.specs.Sizes.{most, extent}
+use Rattle.om_tree.specs.Spelling.{mark, name, number, prefix_mark, expression_spelling, declarator_spelling}
 use Rattle.om_parser.specs.StatementReading.{start_of}
-use Rattle.om_parser.specs.Tree.{ExpressionTree, Name, Constant, Paren, Index, Call, Prefix, Postfix, Binary, Conditional, Assign, DeclarationTree}
+use Rattle.om_tree.specs.Tree.{ExpressionTree, Name, Constant, Paren, Index, Call, Prefix, Postfix, Binary, Conditional, Assign, DeclarationTree}
 use Rattle.om_parser.proofs.LineComplete.{line_again}
 use Rattle.om_parser.proofs.Again.{IsAnswer, narrower}
 use Rattle.om_parser.proofs.ExpressionComplete.{following, whole_again}

@@ -11,18 +11,18 @@ use Rattle.om_lexer.specs.declared.token.TokenKind.{TokenKind}
 use Rattle.om_lexer.specs.declared.token.TokenKind.TheVariants as kinds
 use Rattle.om_parser.specs.declared.declaration.Initial.TheVariants as initials
 use Rattle.om_parser.specs.declared.statement.Start.TheVariants as starts
-use Rattle.om_parser.specs.declared.tree.PrefixOperator.{PrefixOperator}
-use Rattle.om_parser.specs.declared.tree.PrefixOperator.TheVariants as prefixes
+use Rattle.om_tree.specs.declared.tree.PrefixOperator.{PrefixOperator}
+use Rattle.om_tree.specs.declared.tree.PrefixOperator.TheVariants as prefixes
 use Rattle.om_parser.specs.DeclarationReading.{initial_at, declared_at}
 use Rattle.om_parser.specs.ExpressionReading.{whole_at}
-use Rattle.om_parser.specs.Formed.{IsExpression}
-use Rattle.om_parser.specs.Limits.{Limits, expressions_of_declaration}
+use Rattle.om_tree.specs.Formed.{IsExpression}
+use Rattle.om_tree.specs.Limits.{Limits, expressions_of_declaration}
 use Rattle.om_parser.specs.Parsing.{PassesLimit}
 use Rattle.om_parser.specs.PartReading.{parts}
-use Rattle.om_parser.specs.Places.{IsOverIn, IsPassed, in_parentheses}
-use Rattle.om_parser.specs.Spelling.{token, mark, prefix_mark, expression_spelling, declaration_spelling}
+use Rattle.om_tree.specs.Places.{IsOverIn, IsPassed, in_parentheses}
+use Rattle.om_tree.specs.Spelling.{token, mark, prefix_mark, expression_spelling, declaration_spelling}
 use Rattle.om_parser.specs.StatementReading.{start_of}
-use Rattle.om_parser.specs.Tree.{ExpressionTree, Name, Constant, Paren, Prefix}
+use Rattle.om_tree.specs.Tree.{ExpressionTree, Name, Constant, Paren, Prefix}
 use Rattle.om_parser.proofs.LineCut.{line_cut}
 use Rattle.om_parser.proofs.ExpressionSound.{whole_sound}
 use Rattle.om_parser.proofs.ExpressionCut.{too_much_at, whole_cut}

@@ -4,12 +4,12 @@ use Rattle.std.proofs.lemmas.List.Elements.{All-head, All-tail}
 use Rattle.om_parser.specs.declared.declaration.Initial.TheVariants as initials
 use Rattle.om_parser.specs.DeclarationReading.{initial_at, declared_at}
 use Rattle.om_parser.specs.ExpressionReading.{whole_at}
-use Rattle.om_parser.specs.Formed.{IsExpression}
-use Rattle.om_parser.specs.Limits.{Limits, nesting, expressions_of_declaration}
+use Rattle.om_tree.specs.Formed.{IsExpression}
+use Rattle.om_tree.specs.Limits.{Limits, nesting, expressions_of_declaration}
 use Rattle.om_parser.specs.PartReading.{parts}
-use Rattle.om_parser.specs.Sizes.{most, extent}
-use Rattle.om_parser.specs.Spelling.{expression_spelling}
-use Rattle.om_parser.specs.Tree.{ExpressionTree}
+use Rattle.om_tree.specs.Sizes.{most, extent}
+use Rattle.om_tree.specs.Spelling.{expression_spelling}
+use Rattle.om_tree.specs.Tree.{ExpressionTree}
 use Rattle.om_parser.proofs.LineSound.{line_sound}
 use Rattle.om_parser.proofs.ExpressionSound.{whole_sound}
 use Rattle.om_parser.proofs.ItemsSound.{IsSound}

@@ -3,11 +3,11 @@ use Rattle.std.proofs.Common.{◌≡◌, ℕ, zero, suc, ◌<◌, ◌≤◌, Lis
 use Rattle.std.specs.Prelude.{nat_le}
 use Rattle.om_lexer.specs.declared.token.Span.{Span}
 use Rattle.om_lexer.specs.declared.token.Token.{Token}
-use Rattle.om_parser.specs.declared.tree.PrefixOperator.{PrefixOperator}
+use Rattle.om_tree.specs.declared.tree.PrefixOperator.{PrefixOperator}
 use Rattle.om_parser.specs.ExpressionReading.{within, prefix_of, take_operator, unary_step, unary_at, operand_at, postfix_at, prefixed, behind}
 use Rattle.om_parser.specs.Reading.{Outcome, syntax, too_deep}
-use Rattle.om_parser.specs.Tree.{ExpressionTree, Prefix}
-use Rattle.om_parser.specs.Spelling.{prefix_mark}
+use Rattle.om_tree.specs.Tree.{ExpressionTree, Prefix}
+use Rattle.om_tree.specs.Spelling.{prefix_mark}
 use Rattle.om_parser.proofs.Outcomes.{some}
 use Rattle.om_parser.proofs.ExpressionSound.{prefix_is, take_operator_is}
 

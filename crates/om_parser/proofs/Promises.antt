@@ -6,16 +6,16 @@ use Rattle.om_lexer.specs.Faults.{no_memory}
 use Rattle.om_lexer.specs.declared.fault.FaultCode.TheVariants as codes
 use Rattle.om_lexer.specs.declared.fault.SourceFault.{SourceFault}
 use Rattle.om_lexer.specs.declared.token.Token.{Token}
-use Rattle.om_parser.specs.declared.tree.Unit as units
+use Rattle.om_tree.specs.declared.tree.Unit as units
 use Rattle.om_parser.specs.Faults.{IsBadAtomic}
-use Rattle.om_parser.specs.Limits.{accepted}
+use Rattle.om_tree.specs.Limits.{accepted}
 use Rattle.om_parser.specs.LineFaults.{IsRefusedLine}
-use Rattle.om_parser.specs.Sizes.{IsItemWithin, IsWithinLimits, HasItemForms, AtomicsHaveForms}
+use Rattle.om_tree.specs.Sizes.{IsItemWithin, IsWithinLimits, HasItemForms, AtomicsHaveForms}
 use Rattle.om_parser.specs.Parsing.{IsTreeOf, IsTreeOrMemory, IsLimitPassed}
 use Rattle.om_parser.specs.Reading.{Reads}
-use Rattle.om_parser.specs.Tree.{UnitTree}
+use Rattle.om_tree.specs.Tree.{UnitTree}
 use Rattle.om_parser.specs.UnitReading.{unit_at}
-use Rattle.om_parser.specs.View.{view_unit}
+use Rattle.om_tree.specs.View.{view_unit}
 use Rattle.om_parser.proofs.Outcomes.{ok, ok_is}
 use Rattle.om_parser.proofs.Again.{IsAnswer}
 use Rattle.om_parser.proofs.ExpressionCut.{err_is}

@@ -6,12 +6,12 @@ use Rattle.om_lexer.specs.declared.token.Token.{Token}
 use Rattle.om_pragma.specs.declared.tree.Directive.{Directive}
 use Rattle.om_pragma.specs.Spelling.{opening_spelling, directive_spelling}
 use Rattle.om_parser.specs.declared.statement.Inside.{Inside}
-use Rattle.om_parser.specs.Formed.{IsStatement}
-use Rattle.om_parser.specs.Limits.{Limits}
+use Rattle.om_tree.specs.Formed.{IsStatement}
+use Rattle.om_tree.specs.Limits.{Limits}
 use Rattle.om_parser.specs.Reading.{take_mark}
-use Rattle.om_parser.specs.Spelling.{mark, expression_spelling, for_head_spelling, declaration_spelling, statement_spelling, statements_spelling}
+use Rattle.om_tree.specs.Spelling.{mark, expression_spelling, for_head_spelling, declaration_spelling, statement_spelling, statements_spelling}
 use Rattle.om_parser.specs.StatementReading.{Parts, item_at, statement_at}
-use Rattle.om_parser.specs.Tree.{ExpressionTree, StatementTree, LocalDeclaration, Block, Empty, Expression, If, IfElse, While, Do, For, Return, Break, Continue, Construct, StandAlone, Sections, Section}
+use Rattle.om_tree.specs.Tree.{ExpressionTree, StatementTree, LocalDeclaration, Block, Empty, Expression, If, IfElse, While, Do, For, Return, Break, Continue, Construct, StandAlone, Sections, Section}
 use Rattle.om_parser.proofs.Outcomes.{ok, some}
 use Rattle.om_parser.proofs.Taken.{take_mark_is}
 use Rattle.om_parser.proofs.StatementSound.{ArePartsSound, item_sound}

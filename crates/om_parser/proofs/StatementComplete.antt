@@ -22,15 +22,15 @@ use Rattle.om_parser.specs.declared.statement.Inside.{Inside}
 use Rattle.om_parser.specs.declared.statement.Inside.TheVariants as insides
 use Rattle.om_parser.specs.declared.statement.Start.{Start}
 use Rattle.om_parser.specs.declared.statement.Start.TheVariants as starts
-use Rattle.om_parser.specs.AtomicForms.{has_atomic_form}
+use Rattle.om_tree.specs.AtomicForms.{has_atomic_form}
 use Rattle.om_parser.specs.ConstructReading.{LineReader, PartsReader, line_start, stand_alone_at, item_of, part_item_at, section_at, section_item_of, section_item_at, bad_atomic, atomic_of, atomic_after, constructed_after, sections_after, construct_after, construct_at, line_of}
 use Rattle.om_parser.specs.Reading.{◌>>=◌, Reader, take, same_mark, same_word, take_mark, take_word}
-use Rattle.om_parser.specs.Spelling.{token, mark, word, perhaps, expression_spelling, declarator_spelling, further_spelling, declaration_spelling, condition_spelling, for_start_spelling, for_head_spelling, statement_spelling, statements_spelling, block_spelling}
-use Rattle.om_parser.specs.Formed.{IsOptional, IsForStart, IsForHead, ends_open, IsBody, IsPartItem, IsLine, IsConstruct, AreSome, IsStatement, AreStatements, AreSectionItems, IsExpression, IsLocalDeclaration}
-use Rattle.om_parser.specs.Limits.{Limits, nesting}
-use Rattle.om_parser.specs.Sizes.{Where, HasForms, HaveForms, HasRoom, HaveRoom, HasBlockRoom, extent, optional_extent, optional_nesting, for_start_extent, for_start_nesting, declaration_nesting, declaration_longest}
+use Rattle.om_tree.specs.Spelling.{token, mark, word, perhaps, expression_spelling, declarator_spelling, further_spelling, declaration_spelling, condition_spelling, for_start_spelling, for_head_spelling, statement_spelling, statements_spelling, block_spelling}
+use Rattle.om_tree.specs.Formed.{IsOptional, IsForStart, IsForHead, ends_open, IsBody, IsPartItem, IsLine, IsConstruct, AreSome, IsStatement, AreStatements, AreSectionItems, IsExpression, IsLocalDeclaration}
+use Rattle.om_tree.specs.Limits.{Limits, nesting}
+use Rattle.om_tree.specs.Sizes.{Where, HasForms, HaveForms, HasRoom, HaveRoom, HasBlockRoom, extent, optional_extent, optional_nesting, for_start_extent, for_start_nesting, declaration_nesting, declaration_longest}
 use Rattle.om_parser.specs.StatementReading.{Parts, start_of, condition_at, optional_before, for_start_at, for_head_after, OpeningTree, OpensIf, OpensWhile, OpensFor, opening_of, return_after, jump_after, expression_statement_at, else_after, behind_body, body_after, headed_of, do_end, do_after, block_item_at, item_at, items_at, block_items_after, block_after, section_items_after, parts_after, simple_of, statement_of, no_room, statement_at, parts_at, block_with}
-use Rattle.om_parser.specs.Tree.{ExpressionTree, DeclarationTree, ConditionTree, ForStartTree, Nothing, StartExpression, StartDeclaration, ForHeadTree, StatementTree, StatementsTree, LocalDeclaration, Block, Empty, Expression, If, IfElse, While, Do, For, Return, Break, Continue, Construct, StandAlone, Sections, Section, NoStatements, Statement, statements, BlockTree}
+use Rattle.om_tree.specs.Tree.{ExpressionTree, DeclarationTree, ConditionTree, ForStartTree, Nothing, StartExpression, StartDeclaration, ForHeadTree, StatementTree, StatementsTree, LocalDeclaration, Block, Empty, Expression, If, IfElse, While, Do, For, Return, Break, Continue, Construct, StandAlone, Sections, Section, NoStatements, Statement, statements, BlockTree}
 use Rattle.om_parser.proofs.LineComplete.{KeepsLine}
 use Rattle.om_parser.proofs.Outcomes.{ok, some}
 use Rattle.om_parser.proofs.Taken.{take_mark_is, take_word_is}

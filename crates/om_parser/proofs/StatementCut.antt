@@ -18,12 +18,12 @@ use Rattle.om_parser.specs.ConstructReading.{PartsReader, line_start, part_item_
 use Rattle.om_parser.specs.Faults.{IsStopped}
 use Rattle.om_parser.specs.Reading.{Reader, choose, too_deep, take_mark, take_word, mark_at, word_at}
 use Rattle.om_parser.specs.Repetition.{until}
-use Rattle.om_parser.specs.Spelling.{token, mark, word, perhaps, expression_spelling, declaration_spelling, condition_spelling, for_start_spelling, for_head_spelling, statement_spelling, statements_spelling, block_spelling}
-use Rattle.om_parser.specs.Formed.{IsOptional, IsForStart, IsForHead, ends_open, IsStatement, AreStatements, AreSome, IsExpression, IsLocalDeclaration}
-use Rattle.om_parser.specs.Limits.{Limits}
-use Rattle.om_parser.specs.Places.{Place, in_parentheses, IsOverInExpression, IsOverInDeclaration, Behind, Either, InOptional, InCondition, InForStart, InForHead, AtDepth, AtBrace, IsOverInside, IsOverInItems, IsOverInStatement, IsOverInBlock}
+use Rattle.om_tree.specs.Spelling.{token, mark, word, perhaps, expression_spelling, declaration_spelling, condition_spelling, for_start_spelling, for_head_spelling, statement_spelling, statements_spelling, block_spelling}
+use Rattle.om_tree.specs.Formed.{IsOptional, IsForStart, IsForHead, ends_open, IsStatement, AreStatements, AreSome, IsExpression, IsLocalDeclaration}
+use Rattle.om_tree.specs.Limits.{Limits}
+use Rattle.om_tree.specs.Places.{Place, in_parentheses, IsOverInExpression, IsOverInDeclaration, Behind, Either, InOptional, InCondition, InForStart, InForHead, AtDepth, AtBrace, IsOverInside, IsOverInItems, IsOverInStatement, IsOverInBlock}
 use Rattle.om_parser.specs.StatementReading.{Parts, start_of, condition_at, optional_before, for_start_at, for_head_after, OpeningTree, OpensIf, OpensWhile, OpensFor, with_body, opening_of, return_after, jump_after, expression_statement_at, else_after, behind_body, body_after, headed_of, do_end, do_after, block_item_at, item_at, block_items_after, block_after, section_items_after, parts_after, simple_of, statement_of, no_room, statement_at, parts_at, block_with}
-use Rattle.om_parser.specs.Tree.{ExpressionTree, Constant, DeclarationTree, ConditionTree, ForStartTree, Nothing, StartExpression, StartDeclaration, ForHeadTree, StatementTree, StatementsTree, LocalDeclaration, Block, Empty, Expression, If, IfElse, While, Do, For, Return, Break, Continue, Construct, NoStatements, Statement, statements, BlockTree}
+use Rattle.om_tree.specs.Tree.{ExpressionTree, Constant, DeclarationTree, ConditionTree, ForStartTree, Nothing, StartExpression, StartDeclaration, ForHeadTree, StatementTree, StatementsTree, LocalDeclaration, Block, Empty, Expression, If, IfElse, While, Do, For, Return, Break, Continue, Construct, NoStatements, Statement, statements, BlockTree}
 use Rattle.om_parser.proofs.Outcomes.{some, bind_err, choose_cases, after_front}
 use Rattle.om_parser.proofs.Taken.{take_word_is, mark_at_is, word_at_is}
 use Rattle.om_parser.proofs.ExpressionCut.{err_is}

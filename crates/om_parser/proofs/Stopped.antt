@@ -7,9 +7,9 @@ use Rattle.om_lexer.specs.declared.token.Punctuator.{Punctuator}
 use Rattle.om_lexer.specs.declared.token.Span.{Span}
 use Rattle.om_lexer.specs.declared.token.Token.{Token}
 use Rattle.om_parser.specs.Faults.{IsBadAtomic, IsStopped}
-use Rattle.om_parser.specs.Limits.{Limits}
+use Rattle.om_tree.specs.Limits.{Limits}
 use Rattle.om_parser.specs.LineFaults.{IsLineFault}
-use Rattle.om_parser.specs.Places.{Place, IsPassed}
+use Rattle.om_tree.specs.Places.{Place, IsPassed}
 use Rattle.om_parser.specs.Reading.{◌>>=◌, Outcome, syntax, known, mark_at, word_at}
 use Rattle.om_parser.proofs.Outcomes.{ok}
 use Rattle.om_parser.proofs.ExpressionCut.{err_is, IsNeverDeep}

@@ -12,7 +12,7 @@ use Rattle.om_lexer.specs.declared.token.TokenKind.TheVariants as kinds
 use Rattle.om_pragma.specs.declared.name.Name as names
 use Rattle.om_pragma.specs.declared.name.Number.{Number}
 use Rattle.om_parser.specs.Reading.{take, same_mark, same_word, mark_of, word_of, name_of, number_of, take_mark, take_word, take_name, take_number, mark_at, word_at, name_at, number_at}
-use Rattle.om_parser.specs.Spelling.{token, mark, word, name, number}
+use Rattle.om_tree.specs.Spelling.{token, mark, word, name, number}
 use Rattle.om_parser.proofs.Outcomes.{ok, some, some_is, choose_cases, known_ok, cond_some}
 
 pub take_is : {A : Type 0} (f : Token → Option A) (ts : List Token) (x : A) (us : List Token) → take f ts ≡ some (x, us) → (t : Token) × (ts ≡ t ∷ us) × (f t ≡ some x)

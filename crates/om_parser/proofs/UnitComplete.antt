@@ -7,16 +7,16 @@ use Rattle.om_lexer.specs.declared.token.Span.{Span}
 use Rattle.om_lexer.specs.declared.token.Token.{Token}
 use Rattle.om_lexer.specs.declared.token.TokenKind.TheVariants as kinds
 use Rattle.om_parser.specs.declared.declaration.Initial.TheVariants as initials
-use Rattle.om_parser.specs.declared.tree.ResultType.{ResultType}
-use Rattle.om_parser.specs.declared.tree.ResultType.TheVariants as results
+use Rattle.om_tree.specs.declared.tree.ResultType.{ResultType}
+use Rattle.om_tree.specs.declared.tree.ResultType.TheVariants as results
 use Rattle.om_parser.specs.DeclarationReading.{initial_at, declaration_after}
-use Rattle.om_parser.specs.Formed.{IsSignedConstant, IsGlobalDeclaration, IsFunction, IsItem, IsUnit}
-use Rattle.om_parser.specs.Limits.{Limits}
+use Rattle.om_tree.specs.Formed.{IsSignedConstant, IsGlobalDeclaration, IsFunction, IsItem, IsUnit}
+use Rattle.om_tree.specs.Limits.{Limits}
 use Rattle.om_parser.specs.Reading.{take, same_mark, take_mark}
 use Rattle.om_parser.specs.Repetition.{until}
-use Rattle.om_parser.specs.Spelling.{token, mark, name, expression_spelling, block_spelling, declarator_spelling, declaration_spelling, parameters_spelling, head_spelling, item_spelling, unit_spelling}
+use Rattle.om_tree.specs.Spelling.{token, mark, name, expression_spelling, block_spelling, declarator_spelling, declaration_spelling, parameters_spelling, head_spelling, item_spelling, unit_spelling}
 use Rattle.om_parser.specs.PartReading.{parts, block_at}
-use Rattle.om_parser.specs.Tree.{ExpressionTree, DeclarationTree, HeadTree, FunctionTree, ItemTree, Declaration, Prototype, Function, UnitTree}
+use Rattle.om_tree.specs.Tree.{ExpressionTree, DeclarationTree, HeadTree, FunctionTree, ItemTree, Declaration, Prototype, Function, UnitTree}
 use Rattle.om_parser.specs.UnitReading.{function_after, prototype_after, void_after, int_after, item_at, take_end, unit_at}
 use Rattle.om_parser.proofs.Again.{take_mark_again, take_word_again, mark_again, word_again, name_again, IsAnswer, bind_answer}
 use Rattle.om_parser.proofs.ItemsComplete.{AreAgain, until_again}

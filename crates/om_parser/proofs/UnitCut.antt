@@ -11,19 +11,19 @@ use Rattle.om_lexer.specs.declared.token.Token.{Token}
 use Rattle.om_lexer.specs.declared.token.TokenKind.TheVariants as kinds
 use Rattle.om_parser.specs.declared.declaration.Initial.TheVariants as initials
 use Rattle.om_pragma.specs.declared.name.Name as names
-use Rattle.om_parser.specs.declared.tree.ResultType.{ResultType}
-use Rattle.om_parser.specs.declared.tree.ResultType.TheVariants as results
+use Rattle.om_tree.specs.declared.tree.ResultType.{ResultType}
+use Rattle.om_tree.specs.declared.tree.ResultType.TheVariants as results
 use Rattle.om_parser.specs.DeclarationReading.{initial_at, declaration_after}
 use Rattle.om_parser.specs.Faults.{IsStopped}
-use Rattle.om_parser.specs.Formed.{IsFunction, IsItem, IsUnit}
+use Rattle.om_tree.specs.Formed.{IsFunction, IsItem, IsUnit}
 use Rattle.om_parser.specs.FunctionReading.{are_named, head_after}
-use Rattle.om_parser.specs.Limits.{Limits}
+use Rattle.om_tree.specs.Limits.{Limits}
 use Rattle.om_parser.specs.PartReading.{parts, block_at}
-use Rattle.om_parser.specs.Places.{IsOverInItem, IsOverInUnitItems, IsOverInUnit}
+use Rattle.om_tree.specs.Places.{IsOverInItem, IsOverInUnitItems, IsOverInUnit}
 use Rattle.om_parser.specs.Reading.{take_mark, take_word, mark_at, word_at, name_at}
 use Rattle.om_parser.specs.Repetition.{until}
-use Rattle.om_parser.specs.Spelling.{token, mark, word, name, result_spelling, block_spelling, head_spelling, item_spelling, unit_spelling}
-use Rattle.om_parser.specs.Tree.{HeadTree, Function}
+use Rattle.om_tree.specs.Spelling.{token, mark, word, name, result_spelling, block_spelling, head_spelling, item_spelling, unit_spelling}
+use Rattle.om_tree.specs.Tree.{HeadTree, Function}
 use Rattle.om_parser.specs.UnitReading.{function_after, prototype_after, void_after, int_after, item_at, take_end, unit_at}
 use Rattle.om_parser.proofs.Outcomes.{bind_err, choose_cases}
 use Rattle.om_parser.proofs.Taken.{take_mark_is, take_word_is, mark_at_is, word_at_is, name_at_is}

@@ -11,9 +11,9 @@ use Rattle.om_pragma.specs.declared.tree.Directive.{Directive}
 use Rattle.om_pragma.specs.Questions.{is_sections, is_atomic, word_span, atomic_kind}
 use Rattle.om_parser.specs.declared.construct.LineStart.{LineStart}
 use Rattle.om_parser.specs.declared.construct.LineStart.TheVariants as lines
-use Rattle.om_parser.specs.AtomicForms.{has_atomic_form}
+use Rattle.om_tree.specs.AtomicForms.{has_atomic_form}
 use Rattle.om_parser.specs.Reading.{◌>>=◌, Outcome, Reader, syntax}
-use Rattle.om_parser.specs.Tree.{ExpressionTree, StatementTree, Construct, StandAlone, Sections, Section, StatementsTree}
+use Rattle.om_tree.specs.Tree.{ExpressionTree, StatementTree, Construct, StandAlone, Sections, Section, StatementsTree}
 
 -- ---- which directive a line is, by its first word
 

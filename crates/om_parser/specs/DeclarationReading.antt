@@ -4,14 +4,14 @@ use Rattle.om_lexer.specs.declared.token.Punctuator.TheVariants as punctuators
 use Rattle.om_lexer.specs.declared.token.Span.{Span}
 use Rattle.om_parser.specs.declared.declaration.Initial.{Initial}
 use Rattle.om_parser.specs.declared.declaration.Initial.TheVariants as initials
-use Rattle.om_parser.specs.declared.tree.ArrayLength.{ArrayLength}
+use Rattle.om_tree.specs.declared.tree.ArrayLength.{ArrayLength}
 use Rattle.om_pragma.specs.declared.name.Name as names
-use Rattle.om_parser.specs.declared.tree.PrefixOperator.TheVariants as prefixes
+use Rattle.om_tree.specs.declared.tree.PrefixOperator.TheVariants as prefixes
 use Rattle.om_parser.specs.ExpressionReading.{whole_at}
-use Rattle.om_parser.specs.Limits.{Limits}
+use Rattle.om_tree.specs.Limits.{Limits}
 use Rattle.om_parser.specs.Reading.{◌>>=◌, choose, Reader, take_mark, mark_at, name_at, number_at}
 use Rattle.om_parser.specs.Repetition.{until}
-use Rattle.om_parser.specs.Tree.{ExpressionTree, Constant, Prefix, DeclaratorTree, DeclarationTree}
+use Rattle.om_tree.specs.Tree.{ExpressionTree, Constant, Prefix, DeclaratorTree, DeclarationTree}
 
 -- a constant, perhaps behind a minus
 unfoldable pub constant_at : Reader ExpressionTree

@@ -9,20 +9,20 @@ use Rattle.om_lexer.specs.declared.token.TokenKind.{TokenKind}
 use Rattle.om_lexer.specs.declared.token.TokenKind.TheVariants as kinds
 use Rattle.om_pragma.specs.declared.name.Name as names
 use Rattle.om_parser.specs.declared.expression.TheConstants.{LEVELS}
-use Rattle.om_parser.specs.declared.tree.AssignOperator.{AssignOperator}
-use Rattle.om_parser.specs.declared.tree.AssignOperator.TheVariants as assigns
-use Rattle.om_parser.specs.declared.tree.BinaryOperator.{BinaryOperator}
-use Rattle.om_parser.specs.declared.tree.BinaryOperator.TheVariants as binaries
-use Rattle.om_parser.specs.declared.tree.PostfixOperator.{PostfixOperator}
-use Rattle.om_parser.specs.declared.tree.PostfixOperator.TheVariants as postfixes
-use Rattle.om_parser.specs.declared.tree.PrefixOperator.{PrefixOperator}
-use Rattle.om_parser.specs.declared.tree.PrefixOperator.TheVariants as prefixes
-use Rattle.om_parser.specs.declared.tree.Text as texts
-use Rattle.om_parser.specs.Formed.{binary_level, level}
-use Rattle.om_parser.specs.Limits.{Limits}
+use Rattle.om_tree.specs.declared.tree.AssignOperator.{AssignOperator}
+use Rattle.om_tree.specs.declared.tree.AssignOperator.TheVariants as assigns
+use Rattle.om_tree.specs.declared.tree.BinaryOperator.{BinaryOperator}
+use Rattle.om_tree.specs.declared.tree.BinaryOperator.TheVariants as binaries
+use Rattle.om_tree.specs.declared.tree.PostfixOperator.{PostfixOperator}
+use Rattle.om_tree.specs.declared.tree.PostfixOperator.TheVariants as postfixes
+use Rattle.om_tree.specs.declared.tree.PrefixOperator.{PrefixOperator}
+use Rattle.om_tree.specs.declared.tree.PrefixOperator.TheVariants as prefixes
+use Rattle.om_tree.specs.declared.tree.Text as texts
+use Rattle.om_tree.specs.Formed.{binary_level, level}
+use Rattle.om_tree.specs.Limits.{Limits}
 use Rattle.om_parser.specs.Reading.{◌>>=◌, choose, Outcome, Reader, syntax, too_deep, take, take_mark, take_number, mark_at, name_at}
 use Rattle.om_parser.specs.Repetition.{until}
-use Rattle.om_parser.specs.Tree.{ExpressionTree, Name, Constant, Text, Paren, Index, Call, Prefix, Postfix, Binary, Conditional, Assign, NoArguments, arguments}
+use Rattle.om_tree.specs.Tree.{ExpressionTree, Name, Constant, Text, Paren, Index, Call, Prefix, Postfix, Binary, Conditional, Assign, NoArguments, arguments}
 
 -- goes on, unless the token before these is beyond the expression's limit: at least so many tokens are left behind those that it may have
 unfoldable pub within : {A : Type 0} → (beyond : ℕ) → Span → List Token → Outcome A → Outcome A

@@ -1,17 +1,9 @@
-pub mod Tree
-pub mod Spelling
-pub mod Formed
-pub mod Limits
-pub mod Sizes
-pub mod Places
-pub mod View
 pub mod Parsing
 pub mod Reading
 pub mod ExpressionReading
 pub mod Repetition
 pub mod DeclarationReading
 pub mod FunctionReading
-pub mod AtomicForms
 pub mod ConstructReading
 pub mod StatementReading
 pub mod StatementView

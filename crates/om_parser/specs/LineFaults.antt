@@ -14,11 +14,11 @@ use Rattle.om_pragma.specs.Refusals.{StandsClause, IsWordFault}
 use Rattle.om_pragma.specs.Spelling.{value_kind}
 use Rattle.om_pragma.specs.Table.{IsDirectiveOf}
 use Rattle.om_pragma.specs.Words.{clause_word}
-use Rattle.om_parser.specs.Formed.{IsExpression, IsUnit}
-use Rattle.om_parser.specs.Limits.{Limits, IsTooMuch}
-use Rattle.om_parser.specs.Places.{in_parentheses}
-use Rattle.om_parser.specs.Spelling.{token, mark, expression_spelling, unit_spelling}
-use Rattle.om_parser.specs.Tree.{ExpressionTree}
+use Rattle.om_tree.specs.Formed.{IsExpression, IsUnit}
+use Rattle.om_tree.specs.Limits.{Limits, IsTooMuch}
+use Rattle.om_tree.specs.Places.{in_parentheses}
+use Rattle.om_tree.specs.Spelling.{token, mark, expression_spelling, unit_spelling}
+use Rattle.om_tree.specs.Tree.{ExpressionTree}
 
 -- ---- the lines of a source
 

@@ -8,9 +8,9 @@ use Rattle.om_pragma.specs.declared.tree.Directive.{Directive}
 use Rattle.om_pragma.specs.Expressions.{first_expression, map_directive}
 use Rattle.om_pragma.specs.Reading.{is_end, directive_at, expression_before}
 use Rattle.om_parser.specs.ExpressionReading.{whole_at}
-use Rattle.om_parser.specs.Limits.{Limits}
+use Rattle.om_tree.specs.Limits.{Limits}
 use Rattle.om_parser.specs.Reading.{◌>>=◌, choose, Outcome, Reader, syntax}
-use Rattle.om_parser.specs.Tree.{ExpressionTree, Constant}
+use Rattle.om_tree.specs.Tree.{ExpressionTree, Constant}
 
 -- the tokens up to the first end of a directive line, with it, and those behind it
 unfoldable pub run_of : List Token → Option (List Token × List Token)

@@ -3,14 +3,14 @@ use Rattle.std.specs.Prelude.{◌≡◌, ℕ, List, ◌∷◌, ◌++◌, ◌⊎�
 use Rattle.om_lexer.specs.declared.fault.SourceFault.{SourceFault}
 use Rattle.om_lexer.specs.Faults.{no_memory}
 use Rattle.om_lexer.specs.declared.token.Token.{Token}
-use Rattle.om_parser.specs.declared.tree.Unit as units
-use Rattle.om_parser.specs.Formed.{IsUnit}
-use Rattle.om_parser.specs.Limits.{Limits, accepted, IsTooMuch}
+use Rattle.om_tree.specs.declared.tree.Unit as units
+use Rattle.om_tree.specs.Formed.{IsUnit}
+use Rattle.om_tree.specs.Limits.{Limits, accepted, IsTooMuch}
 use Rattle.om_parser.specs.LineFaults.{IsPassedInLine}
-use Rattle.om_parser.specs.Places.{IsPassed, IsOverInUnit}
-use Rattle.om_parser.specs.Spelling.{expression_spelling, unit_spelling}
-use Rattle.om_parser.specs.Tree.{ExpressionTree, UnitTree}
-use Rattle.om_parser.specs.View.{view_unit}
+use Rattle.om_tree.specs.Places.{IsPassed, IsOverInUnit}
+use Rattle.om_tree.specs.Spelling.{expression_spelling, unit_spelling}
+use Rattle.om_tree.specs.Tree.{ExpressionTree, UnitTree}
+use Rattle.om_tree.specs.View.{view_unit}
 
 -- a well-formed tree of these tokens
 pub record IsTreeOf (tokens : List Token) (u : UnitTree) : Type 0 where

@@ -3,11 +3,11 @@ use Rattle.std.specs.Prelude.{◌-◌}
 use Rattle.om_parser.specs.declared.declaration.Initial.TheVariants as initials
 use Rattle.om_parser.specs.DeclarationReading.{initial_at, declared_at}
 use Rattle.om_parser.specs.ExpressionReading.{whole_at}
-use Rattle.om_parser.specs.Limits.{Limits}
+use Rattle.om_tree.specs.Limits.{Limits}
 use Rattle.om_parser.specs.LineReading.{line_at}
 use Rattle.om_parser.specs.Reading.{Reader}
 use Rattle.om_parser.specs.StatementReading.{Parts, block_with}
-use Rattle.om_parser.specs.Tree.{BlockTree}
+use Rattle.om_tree.specs.Tree.{BlockTree}
 
 -- the readers of the parts, where the parentheses of a statement count for the nesting
 unfoldable pub parts : Limits → Parts

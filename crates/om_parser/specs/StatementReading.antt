@@ -15,7 +15,7 @@ use Rattle.om_parser.specs.declared.statement.Start.{Start}
 use Rattle.om_parser.specs.declared.statement.Start.TheVariants as starts
 use Rattle.om_parser.specs.Reading.{◌>>=◌, choose, Outcome, Reader, syntax, too_deep, take_mark, take_word, mark_at, word_at}
 use Rattle.om_parser.specs.Repetition.{until}
-use Rattle.om_parser.specs.Tree.{ExpressionTree, DeclarationTree, ConditionTree, ForStartTree, Nothing, StartExpression, StartDeclaration, ForHeadTree, StatementTree, LocalDeclaration, Block, Empty, Expression, If, IfElse, While, Do, For, Return, Break, Continue, statements, BlockTree}
+use Rattle.om_tree.specs.Tree.{ExpressionTree, DeclarationTree, ConditionTree, ForStartTree, Nothing, StartExpression, StartDeclaration, ForHeadTree, StatementTree, LocalDeclaration, Block, Empty, Expression, If, IfElse, While, Do, For, Return, Break, Continue, statements, BlockTree}
 
 -- the readers of the parts of statements that are no statements
 pub record Parts : Type 0 where

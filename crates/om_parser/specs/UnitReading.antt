@@ -8,15 +8,15 @@ use Rattle.om_lexer.specs.declared.token.TokenKind.{TokenKind}
 use Rattle.om_lexer.specs.declared.token.TokenKind.TheVariants as kinds
 use Rattle.om_parser.specs.declared.declaration.Initial.TheVariants as initials
 use Rattle.om_pragma.specs.declared.name.Name as names
-use Rattle.om_parser.specs.declared.tree.ResultType.{ResultType}
-use Rattle.om_parser.specs.declared.tree.ResultType.TheVariants as results
+use Rattle.om_tree.specs.declared.tree.ResultType.{ResultType}
+use Rattle.om_tree.specs.declared.tree.ResultType.TheVariants as results
 use Rattle.om_parser.specs.DeclarationReading.{initial_at, declaration_after}
 use Rattle.om_parser.specs.FunctionReading.{are_named, head_after}
-use Rattle.om_parser.specs.Limits.{Limits}
+use Rattle.om_tree.specs.Limits.{Limits}
 use Rattle.om_parser.specs.Reading.{◌>>=◌, choose, Outcome, Reader, syntax, take_mark, take_word, mark_at, word_at, name_at}
 use Rattle.om_parser.specs.Repetition.{until}
 use Rattle.om_parser.specs.PartReading.{block_at}
-use Rattle.om_parser.specs.Tree.{HeadTree, ItemTree, Declaration, Prototype, Function, UnitTree}
+use Rattle.om_tree.specs.Tree.{HeadTree, ItemTree, Declaration, Prototype, Function, UnitTree}
 
 -- ---- functions
 

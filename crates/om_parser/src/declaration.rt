@@ -2,19 +2,19 @@
 
 ghost use Rattle.std.specs.Prelude.{◌≡◌, None, Some, length, map};
 ghost use Rattle.om_lexer.specs.declared.token.Punctuator.TheVariants.{Semicolon};
-ghost use Rattle.om_parser.specs.Limits.{accepted};
+ghost use Rattle.om_tree.specs.Limits.{accepted};
 ghost use Rattle.om_parser.specs.Reading.{take_mark, Makes, Reads, ReadsAlways};
 ghost use Rattle.om_parser.specs.Repetition.{until};
 ghost use Rattle.om_parser.specs.DeclarationReading.{constant_at, initial_at, array_after, declarator_after, further_at, declaration_after, declared_at};
 ghost use Rattle.om_parser.specs.declared.declaration.Initial.TheVariants as initials;
-ghost use Rattle.om_parser.specs.View.{view_expression, view_declarator, view_declaration};
+ghost use Rattle.om_tree.specs.View.{view_expression, view_declarator, view_declaration};
 
 use crate::boxed::{boxed, boxed_before};
 use crate::expression::{before, whole};
 use crate::front::{mark, name, number, take_mark};
-use crate::tree::{ArrayLength, Declaration, Declarator, Expression, Initializer, PrefixOperator};
 use om_lexer::{Punctuator, SourceFault, Span, Token};
 use om_pragma::Name;
+use om_tree::{ArrayLength, Declaration, Declarator, Expression, Initializer, PrefixOperator};
 use std::alloc::Global;
 
 /// What may stand behind the `=` of a declarator (C17 6.7.9).

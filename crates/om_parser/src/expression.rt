@@ -4,18 +4,17 @@ ghost use Rattle.std.specs.Prelude.{◌≡◌, ℕ, ◌-◌, ◌≤◌, ◌⊎�
 ghost use Rattle.om_lexer.specs.declared.token.Token as lexed;
 ghost use Rattle.om_lexer.specs.Faults.{no_memory};
 ghost use Rattle.om_parser.specs.ExpressionReading.{argument_at, arguments_at, behind, binary_at, binary_more, call_after, chain_at, closed_by, conditional_after, deeper, expression_after, expression_at, first_at, named_after, operand_at, postfix_at, postfix_more, postfix_step, prefixed, primary_step, whole_at, IsTakenWithin};
-ghost use Rattle.om_parser.specs.Limits.{accepted};
+ghost use Rattle.om_tree.specs.Limits.{accepted};
 ghost use Rattle.om_parser.specs.Reading.{Reads};
-ghost use Rattle.om_parser.specs.Tree.{ExpressionTree, Binary, Postfix, Prefix};
-ghost use Rattle.om_parser.specs.View.{view_argument, view_expression};
+ghost use Rattle.om_tree.specs.Tree.{ExpressionTree, Binary, Postfix, Prefix};
+ghost use Rattle.om_tree.specs.View.{view_argument, view_expression};
 
 use crate::boxed::boxed;
 use crate::front::{mark, name, syntax, take_mark, take_number, too_deep};
 use crate::operator::{take_assign, take_looser, take_postfix, take_prefix, take_text};
-use crate::tree::{BinaryOperator, Expression, PostfixOperator, PrefixOperator};
-use crate::unit::TOKEN_LIMIT;
 use om_lexer::{Punctuator, SourceFault, Span, Token};
 use om_pragma::Name;
+use om_tree::{BinaryOperator, Expression, PostfixOperator, PrefixOperator, TOKEN_LIMIT};
 use std::alloc::{AllocError, Global};
 
 /// The levels of precedence between operands: from `||` to `*`.

@@ -6,13 +6,13 @@ ghost use Rattle.om_lexer.specs.declared.token.Punctuator.TheVariants.{ClosePare
 ghost use Rattle.om_parser.specs.FunctionReading.{parameter_at, further_parameter_at, listed_at, parameters_at, head_after, are_named};
 ghost use Rattle.om_parser.specs.Reading.{take_mark, take_name, Reads};
 ghost use Rattle.om_parser.specs.Repetition.{optional, until};
-ghost use Rattle.om_parser.specs.View.{view_parameters, view_head};
+ghost use Rattle.om_tree.specs.View.{view_parameters, view_head};
 
 use crate::boxed::boxed_before;
 use crate::front::{mark, name, take_mark, take_word, word};
-use crate::tree::{FunctionHead, Parameter, Parameters, ResultType};
 use om_lexer::{Keyword, Punctuator, SourceFault, Span, Token, TokenKind};
 use om_pragma::Name;
+use om_tree::{FunctionHead, Parameter, Parameters, ResultType};
 use std::alloc::Global;
 
 /// The rest of a function's head, of which all up to the left parenthesis is taken.

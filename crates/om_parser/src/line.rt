@@ -5,17 +5,17 @@ ghost use Rattle.om_lexer.specs.Faults.{no_memory};
 ghost use Rattle.om_pragma.specs.Expressions.{expressions, map_directive, with_tokens, IsValue};
 ghost use Rattle.om_pragma.specs.Reading.{is_end, take_first, directive_at, expression_before};
 ghost use Rattle.om_pragma.specs.Refusals.{EndsOnce};
-ghost use Rattle.om_parser.specs.Limits.{accepted};
+ghost use Rattle.om_tree.specs.Limits.{accepted};
 ghost use Rattle.om_parser.specs.LineReading.{alone, clause_value, in_run, is_syntax, last_start, line_at, line_of, place_behind, run_of, sooner, with_value};
 ghost use Rattle.om_parser.specs.Reading.{Reads, ReadsAlways};
-ghost use Rattle.om_parser.specs.View.{view_directive, view_expression};
+ghost use Rattle.om_tree.specs.View.{view_directive, view_expression};
 
 use crate::boxed::boxed;
 use crate::front::syntax;
 use crate::part::enclosed;
-use crate::tree::Expression;
 use om_lexer::{FaultCode, SourceFault, Token, TokenKind};
 use om_pragma::{Directive, directive, expression_before, first_value, one_answer};
+use om_tree::Expression;
 use std::alloc::Global;
 
 /// The directive line that stands first, with its expression, and the tokens behind it.

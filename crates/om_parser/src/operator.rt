@@ -3,15 +3,13 @@
 ghost use Rattle.std.specs.Prelude.{◌≡◌, ◌-◌, IfOk, nat_le, option_map};
 ghost use Rattle.om_parser.specs.ExpressionReading.{assign_of, binary_of, level_operator, postfix_of, prefix_of, take_assign, take_operator, take_text, text_of};
 ghost use Rattle.om_parser.specs.Reading.{take};
-ghost use Rattle.om_parser.specs.Formed.{binary_level, level};
-ghost use Rattle.om_parser.specs.View.{view_expression};
+ghost use Rattle.om_tree.specs.Formed.{binary_level, level};
+ghost use Rattle.om_tree.specs.View.{view_expression};
 
-use crate::tree::{
-    AssignOperator, BinaryOperator, Expression, PostfixOperator, PrefixOperator, Text,
-};
 use om_lexer::{Punctuator, Span, Token, TokenKind};
 use om_pragma::Name;
 use om_seq::Seq;
+use om_tree::{AssignOperator, BinaryOperator, Expression, PostfixOperator, PrefixOperator, Text};
 use std::alloc::{AllocError, Global};
 
 /// The operator before an operand that a token of this kind is (C17 6.5.3).

@@ -1,17 +1,16 @@
 //! The parts of statements that are no statements.
 
-ghost use Rattle.om_parser.specs.Limits.{accepted};
+ghost use Rattle.om_tree.specs.Limits.{accepted};
 ghost use Rattle.om_parser.specs.PartReading.{parts};
 ghost use Rattle.om_parser.specs.Reading.{Reads};
-ghost use Rattle.om_parser.specs.View.{view_expression, view_declaration, view_directive};
+ghost use Rattle.om_tree.specs.View.{view_expression, view_declaration, view_directive};
 
 use crate::declaration::local_declaration;
 use crate::expression::whole;
 use crate::line::line;
-use crate::tree::{Declaration, Expression};
-use crate::unit::NESTING_LIMIT;
 use om_lexer::{SourceFault, Span, Token};
 use om_pragma::Directive;
+use om_tree::{Declaration, Expression, NESTING_LIMIT};
 use std::alloc::Global;
 
 /// A whole expression, and the tokens behind it.

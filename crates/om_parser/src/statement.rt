@@ -4,26 +4,27 @@ ghost use Rattle.std.specs.Prelude.{◌≡◌, IfOk, length, map, option_map, Er
 ghost use Rattle.om_lexer.specs.declared.token.Punctuator.TheVariants.{CloseBrace};
 ghost use Rattle.om_lexer.specs.declared.token.Keyword.TheVariants.{Else};
 ghost use Rattle.om_pragma.specs.Questions.{atomic_kind};
-ghost use Rattle.om_parser.specs.AtomicForms.{has_atomic_form};
+ghost use Rattle.om_tree.specs.AtomicForms.{has_atomic_form};
 ghost use Rattle.om_parser.specs.ConstructReading.{atomic_after, atomic_of, construct_at, constructed_after, line_of, line_start, part_item_at, section_at, section_item_at, sections_after, stand_alone_at, unknown_line};
-ghost use Rattle.om_parser.specs.Limits.{accepted};
+ghost use Rattle.om_tree.specs.Limits.{accepted};
 ghost use Rattle.om_parser.specs.PartReading.{block_at, parts};
 ghost use Rattle.om_parser.specs.Reading.{choose, take_mark, take_word, Makes, Reads};
 ghost use Rattle.om_parser.specs.Repetition.{until};
 ghost use Rattle.om_parser.specs.StatementReading.{start_of, start_of_mark, start_of_word, condition_at, optional_before, for_start_at, for_head_after, opening_of, headed_of, behind_body, else_after, body_after, simple_of, return_after, jump_after, expression_statement_at, do_end, do_after, block_after, local_item_after, block_item_at, block_items_after, item_at, items_at, section_items_after, no_room, statement_at, parts_at, block_with};
-ghost use Rattle.om_parser.specs.Tree as trees;
+ghost use Rattle.om_tree.specs.Tree as trees;
 ghost use Rattle.om_parser.specs.StatementView.{view_opening};
-ghost use Rattle.om_parser.specs.View.{view_condition, view_expression, view_for_start, view_for_head, view_directive, view_statement, view_block};
+ghost use Rattle.om_tree.specs.View.{view_condition, view_expression, view_for_start, view_for_head, view_directive, view_statement, view_block};
 
-use crate::atomic::has_atomic_form;
 use crate::boxed::boxed_before;
 use crate::construct::{LineStart, line_start, misplaced};
 use crate::front::{mark, syntax, take_mark, take_word, too_deep, word};
 use crate::part::{declaration, directive_line, enclosed, enclosed_declaration, expression};
-use crate::tree::{Block, Condition, Expression, ForHead, ForStart, Statement};
-use crate::unit::{BLOCK_LIMIT, STATEMENT_LIMIT};
 use om_lexer::{FaultCode, Keyword, Punctuator, SourceFault, Span, Token, TokenKind};
 use om_pragma::Directive;
+use om_tree::{
+    BLOCK_LIMIT, Block, Condition, Expression, ForHead, ForStart, STATEMENT_LIMIT, Statement,
+    has_atomic_form,
+};
 use std::alloc::Global;
 
 /// Which statement a token begins.

@@ -4,25 +4,25 @@ ghost use Rattle.std.specs.Prelude.{◌≡◌, ◌⊎◌, [], IfOk, IfErr, lengt
 ghost use Rattle.om_lexer.specs.Faults.{no_memory};
 ghost use Rattle.om_lexer.specs.declared.fault.FaultCode.TheVariants.{BadClause, Syntax, TooDeep, UnknownDirective};
 ghost use Rattle.om_parser.specs.Faults.{IsBadAtomic};
-ghost use Rattle.om_parser.specs.Formed.{IsUnit};
-ghost use Rattle.om_parser.specs.Limits.{accepted};
+ghost use Rattle.om_tree.specs.Formed.{IsUnit};
+ghost use Rattle.om_tree.specs.Limits.{accepted};
 ghost use Rattle.om_parser.specs.LineFaults.{IsRefusedLine};
-ghost use Rattle.om_parser.specs.Sizes.{AtomicsHaveForms, IsWithinLimits};
+ghost use Rattle.om_tree.specs.Sizes.{AtomicsHaveForms, IsWithinLimits};
 ghost use Rattle.om_parser.specs.Parsing.{IsTreeOf, IsTreeOrMemory, IsLimitPassed};
 ghost use Rattle.om_parser.specs.Reading.{Reads};
-ghost use Rattle.om_parser.specs.Spelling.{unit_spelling};
-ghost use Rattle.om_parser.specs.Tree.{UnitTree};
+ghost use Rattle.om_tree.specs.Spelling.{unit_spelling};
+ghost use Rattle.om_tree.specs.Tree.{UnitTree};
 ghost use Rattle.om_parser.specs.Repetition.{until};
 ghost use Rattle.om_parser.specs.UnitReading.{function_after, prototype_after, void_after, int_after, item_at, take_end, unit_at};
-ghost use Rattle.om_parser.specs.View.{view_head, view_item, view_unit};
+ghost use Rattle.om_tree.specs.View.{view_head, view_item, view_unit};
 
 use crate::declaration::{Initial, declaration_after};
 use crate::front::{mark, name, syntax, take_mark, take_word, word};
 use crate::function::{are_named, head_after};
 use crate::statement::block;
-use crate::tree::{Function, FunctionHead, Item, ResultType, Unit};
 use om_lexer::{Keyword, Punctuator, SourceFault, Span, Token, TokenKind};
 use om_pragma::Name;
+use om_tree::{Function, FunctionHead, Item, ResultType, Unit};
 use std::alloc::Global;
 
 /// How deep parentheses may nest in an expression.

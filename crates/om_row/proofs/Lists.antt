@@ -3,15 +3,15 @@ use Rattle.std.proofs.Common.{◌≡◌, refl, sym, ◌∙◌, ap, ℕ, ℤ, suc
 use Rattle.std.specs.Prelude.{is_some, if◌then◌else◌}
 use Rattle.std.proofs.lemmas.List.{drop_more}
 use Rattle.std.proofs.lemmas.Option.{get_or_from_slice_get, slice_get_within}
-use Rattle.om_objects.specs.declared.footprint.Access.{Access}
-use Rattle.om_objects.specs.declared.object.Obj.{Obj}
-use Rattle.om_program.specs.declared.frame.Cell.TheVariants as cell
-use Rattle.om_values.specs.declared.control.Home.{Home}
-use Rattle.om_values.specs.declared.control.Construct.{Construct}
-use Rattle.om_values.specs.declared.step.Update.{Update}
-use Rattle.om_values.specs.declared.step.Update.TheVariants.{Put}
-use Rattle.om_values.specs.declared.value.Val.TheVariants as value
-use Rattle.om_values.specs.Homes.{cell_of}
+use Rattle.om_foot.specs.declared.footprint.Access.{Access}
+use Rattle.om_foot.specs.declared.object.Obj.{Obj}
+use Rattle.om_code.specs.declared.frame.Cell.TheVariants as cell
+use Rattle.om_cells.specs.declared.control.Home.{Home}
+use Rattle.om_cells.specs.declared.control.Construct.{Construct}
+use Rattle.om_cells.specs.declared.step.Update.{Update}
+use Rattle.om_cells.specs.declared.step.Update.TheVariants.{Put}
+use Rattle.om_cells.specs.declared.value.Val.TheVariants as value
+use Rattle.om_cells.specs.Homes.{cell_of}
 use Rattle.om_row.specs.Objects.{write, slot_cells, puts, group_name, group_in, or_else, is_in_region}
 
 one_less : (n size : ℕ) → n < size → size - n ≡ suc (size - (n + 1))

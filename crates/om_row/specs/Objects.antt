@@ -1,28 +1,28 @@
 -- The objects that instructions name, and what is put there.
 use Rattle.std.specs.Prelude.{ℕ, Bool, true, false, is_some, if◌then◌else◌, zero, suc, ◌+◌, ℤ, Option, None, Some, List, [], ◌∷◌, ◌++◌, slice_index_or}
-use Rattle.om_objects.specs.declared.object.Obj.{Obj}
-use Rattle.om_objects.specs.declared.object.Obj.TheVariants as obj
-use Rattle.om_objects.specs.declared.footprint.Access.{Access}
-use Rattle.om_objects.specs.declared.footprint.Mode.TheVariants as mode
-use Rattle.om_program.specs.declared.instruction.Place.{Place}
-use Rattle.om_program.specs.declared.instruction.Place.TheVariants as place
-use Rattle.om_program.specs.declared.raw.Slot.{Slot}
-use Rattle.om_program.specs.declared.raw.Source.{Source}
-use Rattle.om_program.specs.declared.raw.Source.TheVariants as source
-use Rattle.om_program.specs.declared.frame.Cell.TheVariants as cell
+use Rattle.om_foot.specs.declared.object.Obj.{Obj}
+use Rattle.om_foot.specs.declared.object.Obj.TheVariants as obj
+use Rattle.om_foot.specs.declared.footprint.Access.{Access}
+use Rattle.om_foot.specs.declared.footprint.Mode.TheVariants as mode
+use Rattle.om_code.specs.declared.instruction.Place.{Place}
+use Rattle.om_code.specs.declared.instruction.Place.TheVariants as place
+use Rattle.om_code.specs.declared.raw.Slot.{Slot}
+use Rattle.om_code.specs.declared.raw.Source.{Source}
+use Rattle.om_code.specs.declared.raw.Source.TheVariants as source
+use Rattle.om_code.specs.declared.frame.Cell.TheVariants as cell
 use Rattle.om_events.specs.declared.event.Record.{Record}
-use Rattle.om_values.specs.declared.control.Home.{Home}
-use Rattle.om_values.specs.declared.control.Home.TheVariants.{Own, Elsewhere}
-use Rattle.om_values.specs.declared.control.Context.{Context}
-use Rattle.om_values.specs.declared.control.Kind.{Kind}
-use Rattle.om_values.specs.declared.control.Kind.TheVariants as kind
-use Rattle.om_values.specs.declared.control.Construct.{Construct}
-use Rattle.om_values.specs.declared.control.Construct.TheVariants as construct
-use Rattle.om_values.specs.declared.step.Tail.TheVariants.{Events}
-use Rattle.om_values.specs.declared.step.Update.{Update}
-use Rattle.om_values.specs.declared.step.Update.TheVariants.{Put, Append}
-use Rattle.om_values.specs.declared.value.Val.TheVariants as value
-use Rattle.om_values.specs.Homes.{cell_of}
+use Rattle.om_cells.specs.declared.control.Home.{Home}
+use Rattle.om_cells.specs.declared.control.Home.TheVariants.{Own, Elsewhere}
+use Rattle.om_cells.specs.declared.control.Context.{Context}
+use Rattle.om_cells.specs.declared.control.Kind.{Kind}
+use Rattle.om_cells.specs.declared.control.Kind.TheVariants as kind
+use Rattle.om_cells.specs.declared.control.Construct.{Construct}
+use Rattle.om_cells.specs.declared.control.Construct.TheVariants as construct
+use Rattle.om_cells.specs.declared.step.Tail.TheVariants.{Events}
+use Rattle.om_cells.specs.declared.step.Update.{Update}
+use Rattle.om_cells.specs.declared.step.Update.TheVariants.{Put, Append}
+use Rattle.om_cells.specs.declared.value.Val.TheVariants as value
+use Rattle.om_cells.specs.Homes.{cell_of}
 
 abbrev pub read : Obj → Access
 read o = record { object = o; mode = mode.Read }

@@ -1,14 +1,14 @@
 -- What an instruction asks of the state, and what comes of the values there.
 use Rattle.std.specs.Prelude.{ℕ, Option, None, Some, List, [], ◌∷◌}
-use Rattle.om_objects.specs.declared.footprint.Access.{Access}
-use Rattle.om_program.specs.declared.frame.Operand.{Operand}
-use Rattle.om_program.specs.declared.frame.Cell.TheVariants as cell
-use Rattle.om_values.specs.declared.edit.Edit.{Edit}
-use Rattle.om_values.specs.declared.edit.Edit.TheVariants.{Go}
-use Rattle.om_values.specs.declared.step.Update.{Update}
-use Rattle.om_values.specs.declared.value.Val.{Val}
-use Rattle.om_values.specs.declared.value.Val.TheVariants as value
-use Rattle.om_values.specs.State.{State, values_read}
+use Rattle.om_foot.specs.declared.footprint.Access.{Access}
+use Rattle.om_code.specs.declared.frame.Operand.{Operand}
+use Rattle.om_code.specs.declared.frame.Cell.TheVariants as cell
+use Rattle.om_cells.specs.declared.edit.Edit.{Edit}
+use Rattle.om_cells.specs.declared.edit.Edit.TheVariants.{Go}
+use Rattle.om_cells.specs.declared.step.Update.{Update}
+use Rattle.om_cells.specs.declared.value.Val.{Val}
+use Rattle.om_cells.specs.declared.value.Val.TheVariants as value
+use Rattle.om_cells.specs.State.{State, values_read}
 use Rattle.om_row.specs.declared.row.Row.{Row}
 use Rattle.om_row.specs.declared.row.Row.TheVariants.{Goes}
 use Rattle.om_row.specs.declared.row.Answer.{Answer}

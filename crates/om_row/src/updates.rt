@@ -2,13 +2,13 @@
 
 ghost use Rattle.std.specs.Prelude.{◌≡◌, ◌++◌, ◌∷◌, [], IfOk, OnOk};
 ghost use Rattle.om_row.specs.Objects.{puts, deaths, event};
-ghost use Rattle.om_values.specs.declared.value.Val.TheVariants as value;
+ghost use Rattle.om_cells.specs.declared.value.Val.TheVariants as value;
 
 use om_events::Record;
-use om_objects::Access;
-use om_program::frame::Cell;
+use om_foot::Access;
+use om_code::frame::Cell;
 use om_seq::Seq;
-use om_values::{Tail, Update, Val};
+use om_cells::{Tail, Update, Val};
 use std::alloc::{AllocError, Global};
 
 /// Appends a put of a cell.

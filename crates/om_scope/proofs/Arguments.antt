@@ -2,17 +2,17 @@
 use Rattle.std.proofs.Common.{◌≡◌, ℕ, suc, ◌+◌, ◌<◌, List, [], ◌∷◌, ◌++◌, map, length, Some, None, Option, true, zero, refl, sym, ap, ◌∙◌, arith}
 use Rattle.om_lexer.specs.declared.fault.SourceFault.{SourceFault}
 use Rattle.om_lexer.specs.declared.token.Span.{Span}
-use Rattle.om_parser.specs.declared.tree.Expression.{Expression, fold-roll-Expression}
-use Rattle.om_parser.specs.declared.tree.Expression.TheOpen.{Expression-F}
-use Rattle.om_parser.specs.declared.tree.Expression.TheVariants as expressions
-use Rattle.om_parser.specs.View.{expression_layer, view_expression}
-use Rattle.om_parser.specs.Tree.{ExpressionTree, Call, ArgumentsTree, NoArguments, Argument, arguments}
+use Rattle.om_tree.specs.declared.tree.Expression.{Expression, fold-roll-Expression}
+use Rattle.om_tree.specs.declared.tree.Expression.TheOpen.{Expression-F}
+use Rattle.om_tree.specs.declared.tree.Expression.TheVariants as expressions
+use Rattle.om_tree.specs.View.{expression_layer, view_expression}
+use Rattle.om_tree.specs.Tree.{ExpressionTree, Call, ArgumentsTree, NoArguments, Argument, arguments}
 use Rattle.om_scope.specs.ExpressionRules.{argument_breaches, argument_count, arguments_breaches, expression_breaches, printed_breaches}
 use Rattle.om_scope.specs.Faults.{first_of}
 use Rattle.om_scope.specs.Outcomes.{Refuses}
 use Rattle.om_scope.specs.Perhaps.{◌>>=◌}
 use Rattle.om_scope.specs.Resolution.{resolved_expression, resolved_printed, resolved_values}
-use Rattle.om_scope.specs.ResolvedTree.{ResolvedExpressionTree, ValuesTree, NoValues, Value, values}
+use Rattle.om_resolved.specs.ResolvedTree.{ResolvedExpressionTree, ValuesTree, NoValues, Value, values}
 use Rattle.om_scope.specs.Scopes.{Scopes}
 use Rattle.om_scope.specs.Views.{view_argument}
 use Rattle.om_scope.proofs.Firsts.{first_of_left}

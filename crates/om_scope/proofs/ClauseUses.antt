@@ -10,23 +10,26 @@ use Rattle.om_pragma.specs.declared.name.NameList.{NameList}
 use Rattle.om_pragma.specs.declared.tree.Directive.{Directive}
 use Rattle.om_pragma.specs.declared.tree.DirectiveName.{DirectiveName}
 use Rattle.om_pragma.specs.declared.tree.DirectiveName.TheVariants as directives
-use Rattle.om_parser.specs.Tree.{ExpressionTree, DeclaratorTree, ForStartTree, Nothing, StartExpression, StartDeclaration}
-use Rattle.om_scope.specs.declared.resolved.CopyKind.{CopyKind}
-use Rattle.om_scope.specs.declared.resolved.CopyKind.TheVariants as copies
-use Rattle.om_scope.specs.declared.resolved.ResolvedSchedule.{ResolvedSchedule}
-use Rattle.om_scope.specs.declared.resolved.Variable.{Variable}
+use Rattle.om_tree.specs.Tree.{ExpressionTree, DeclaratorTree, ForStartTree, Nothing, StartExpression, StartDeclaration}
+use Rattle.om_resolved.specs.declared.resolved.CopyKind.{CopyKind}
+use Rattle.om_resolved.specs.declared.resolved.CopyKind.TheVariants as copies
+use Rattle.om_resolved.specs.declared.resolved.ResolvedSchedule.{ResolvedSchedule}
+use Rattle.om_resolved.specs.declared.resolved.Variable.{Variable}
 use Rattle.om_scope.specs.DirectiveRules.{names_in, traits_of}
 use Rattle.om_scope.specs.Loops.{Loop}
 use Rattle.om_scope.specs.Perhaps.{perhaps, each}
 use Rattle.om_scope.specs.Resolution.{resolved_expression, variable_named}
-use Rattle.om_scope.specs.ResolvedTree as resolved
-use Rattle.om_scope.specs.ResolvedTree.{ResolvedExpressionTree, ResolvedClauseTree, ResolvedLoopTree, ResolvedStatementTree, ResolvedStatementsTree}
+use Rattle.om_resolved.specs.ResolvedTree as resolved
+use Rattle.om_resolved.specs.ResolvedTree.{ResolvedExpressionTree, ResolvedClauseTree, ResolvedLoopTree, ResolvedStatementTree, ResolvedStatementsTree}
 use Rattle.om_scope.specs.Scopes.{Scopes, declarators_of, after_local}
 use Rattle.om_scope.specs.Sharing.{is_parallel}
 use Rattle.om_scope.specs.StatementResolution.{resolved_initial, resolved_declarator, resolved_declarators, clause_of, resolved_listed, kind_of, resolved_clause, resolved_clauses, resolved_item, has_nowait, parallel_of, construct_of, loop_construct_of, sections_construct_of, bounds_scopes, resolved_loop, resolved_start, resolved_perhaps, flushed, resolved_alone}
-use Rattle.om_scope.specs.Uses.{IsVariable, UsesVariables, PerhapsUsesVariables, DeclaratorsUseVariables, StartUsesVariables, ClauseUsesVariables, ClausesUseVariables, StatementUsesVariables, StatementsUseVariables}
+use Rattle.om_resolved.specs.Uses.{IsVariable, UsesVariables, PerhapsUsesVariables, DeclaratorsUseVariables, StartUsesVariables, ClauseUsesVariables, ClausesUseVariables, StatementUsesVariables, StatementsUseVariables}
 use Rattle.om_scope.proofs.ExpressionUses.{expression_uses}
 use Rattle.om_scope.proofs.GlobalsBelow.{Below, named_below, below_after_local, below_found}
+use Rattle.om_scope.proofs.UpdateUses.{atomic_uses}
+use Rattle.om_resolved.specs.declared.resolved.Side.{Side}
+use Rattle.om_pragma.specs.Questions.{atomic_kind}
 use Rattle.om_scope.proofs.Steps.{if_then, if_either, if_each, if_all_of, if_each_along}
 
 -- ---- declarations
@@ -83,25 +86,25 @@ clauses_use n scopes items h = if_all_of (ClauseUsesVariables n) (resolved_item 
 
 -- ---- constructs
 
-pub construct_uses : (n : ℕ) (parallel : Option ℕ) (d : Directive ExpressionTree) (name : DirectiveName) (cs : List ResolvedClauseTree) (body : ResolvedStatementTree)
-    → ClausesUseVariables n cs → StatementUsesVariables n body → StatementUsesVariables n (construct_of parallel d name cs body)
+pub construct_uses : (n : ℕ) (parallel : Option ℕ) (side : Side) (d : Directive ExpressionTree) (name : DirectiveName) (cs : List ResolvedClauseTree) (body : ResolvedStatementTree)
+    → ClausesUseVariables n cs → StatementUsesVariables n body → StatementUsesVariables n (construct_of parallel side d name cs body)
 unfolding construct_of
-construct_uses n parallel d (directives.Parallel s) cs body hc h = (hc, h)
-construct_uses n parallel d (directives.Task s) cs body hc h = (hc, h)
-construct_uses n parallel d (directives.Single s) cs body hc h = (hc, h)
-construct_uses n parallel d (directives.Masked s) cs body hc h = (hc, h)
-construct_uses n parallel d (directives.Master s) cs body hc h = (hc, h)
-construct_uses n parallel d (directives.Critical s name) cs body hc h = (hc, h)
-construct_uses n parallel d (directives.Atomic s) cs body hc h = (hc, h)
-construct_uses n parallel d (directives.For s) cs body hc h = h
-construct_uses n parallel d (directives.Sections s) cs body hc h = h
-construct_uses n parallel d (directives.Section s) cs body hc h = h
-construct_uses n parallel d (directives.ParallelFor s t) cs body hc h = h
-construct_uses n parallel d (directives.ParallelSections s t) cs body hc h = h
-construct_uses n parallel d (directives.Barrier s) cs body hc h = h
-construct_uses n parallel d (directives.Taskwait s) cs body hc h = h
-construct_uses n parallel d (directives.Taskyield s) cs body hc h = h
-construct_uses n parallel d (directives.Flush s list) cs body hc h = h
+construct_uses n parallel side d (directives.Parallel s) cs body hc h = (hc, h)
+construct_uses n parallel side d (directives.Task s) cs body hc h = (hc, h)
+construct_uses n parallel side d (directives.Single s) cs body hc h = (hc, h)
+construct_uses n parallel side d (directives.Masked s) cs body hc h = (hc, h)
+construct_uses n parallel side d (directives.Master s) cs body hc h = (hc, h)
+construct_uses n parallel side d (directives.Critical s name) cs body hc h = (hc, h)
+construct_uses n parallel side d (directives.Atomic s) cs body hc h = atomic_uses n (atomic_kind d) side d.hash cs body hc h
+construct_uses n parallel side d (directives.For s) cs body hc h = h
+construct_uses n parallel side d (directives.Sections s) cs body hc h = h
+construct_uses n parallel side d (directives.Section s) cs body hc h = h
+construct_uses n parallel side d (directives.ParallelFor s t) cs body hc h = h
+construct_uses n parallel side d (directives.ParallelSections s t) cs body hc h = h
+construct_uses n parallel side d (directives.Barrier s) cs body hc h = h
+construct_uses n parallel side d (directives.Taskwait s) cs body hc h = h
+construct_uses n parallel side d (directives.Taskyield s) cs body hc h = h
+construct_uses n parallel side d (directives.Flush s list) cs body hc h = h
 
 pub loop_construct_uses : (n : ℕ) (d : Directive ExpressionTree) (cs : List ResolvedClauseTree) (l : ResolvedLoopTree) (body : ResolvedStatementTree)
     → ClausesUseVariables n cs → UsesVariables n l.from → UsesVariables n l.to → StatementUsesVariables n body → StatementUsesVariables n (loop_construct_of d cs l body)

@@ -11,11 +11,11 @@ use Rattle.om_pragma.specs.declared.name.NameList.{NameList}
 use Rattle.om_pragma.specs.declared.tree.Directive.{Directive}
 use Rattle.om_pragma.specs.declared.tree.DirectiveName.{DirectiveName}
 use Rattle.om_pragma.specs.declared.tree.DirectiveName.TheVariants as directives
-use Rattle.om_parser.specs.Tree.{ExpressionTree, InitializerTree, DeclaratorTree, ForStartTree, Nothing, StartExpression, StartDeclaration}
+use Rattle.om_tree.specs.Tree.{ExpressionTree, InitializerTree, DeclaratorTree, ForStartTree, Nothing, StartExpression, StartDeclaration}
 use Rattle.om_scope.specs.declared.flow.Flow.{Flow}
-use Rattle.om_scope.specs.declared.resolved.CopyKind.{CopyKind}
-use Rattle.om_scope.specs.declared.resolved.CopyKind.TheVariants as copies
-use Rattle.om_scope.specs.declared.resolved.ResolvedSchedule.{ResolvedSchedule}
+use Rattle.om_resolved.specs.declared.resolved.CopyKind.{CopyKind}
+use Rattle.om_resolved.specs.declared.resolved.CopyKind.TheVariants as copies
+use Rattle.om_resolved.specs.declared.resolved.ResolvedSchedule.{ResolvedSchedule}
 use Rattle.om_scope.specs.declared.symbols.Meaning.{Meaning}
 use Rattle.om_scope.specs.declared.symbols.Meaning.TheVariants as meanings
 use Rattle.om_scope.specs.DirectiveRules.{Listed, nothing_listed, is_listed, after_name, is_variable, is_mislisted, uses_original, listed_breaches, names_in, names_breaches, clause_breaches, item_breaches, after_item, directive_breaches, nesting_breaches, flushed_breaches, list_breaches, flush_breaches}

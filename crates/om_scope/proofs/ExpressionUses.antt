@@ -1,17 +1,17 @@
 -- A resolved expression uses globals that there are.
 use Rattle.std.proofs.Common.{ℕ, List, Option, None, Some}
 use Rattle.std.specs.Prelude.{IfSome, nat_eq, ◌-◌}
-use Rattle.om_parser.specs.declared.tree.AssignOperator.{AssignOperator}
-use Rattle.om_parser.specs.declared.tree.PostfixOperator.{PostfixOperator}
-use Rattle.om_parser.specs.declared.tree.PrefixOperator.{PrefixOperator}
-use Rattle.om_parser.specs.declared.tree.PrefixOperator.TheVariants as prefixes
-use Rattle.om_parser.specs.Tree.{ExpressionTree, Name, Constant, Text, Paren, Index, Call, Prefix, Postfix, Binary, Conditional, Assign, ArgumentsTree, NoArguments, Argument}
+use Rattle.om_tree.specs.declared.tree.AssignOperator.{AssignOperator}
+use Rattle.om_tree.specs.declared.tree.PostfixOperator.{PostfixOperator}
+use Rattle.om_tree.specs.declared.tree.PrefixOperator.{PrefixOperator}
+use Rattle.om_tree.specs.declared.tree.PrefixOperator.TheVariants as prefixes
+use Rattle.om_tree.specs.Tree.{ExpressionTree, Name, Constant, Text, Paren, Index, Call, Prefix, Postfix, Binary, Conditional, Assign, ArgumentsTree, NoArguments, Argument}
 use Rattle.om_scope.specs.ExpressionRules.{is_printf}
 use Rattle.om_scope.specs.Resolution.{TargetTree, Scalar, ElementOf, assigned, stepped, prefixed, variable_named, callee_named, call_of, format_in, print_of, own_call_of, resolved_expression, resolved_values, resolved_printed, resolved_target}
-use Rattle.om_scope.specs.ResolvedTree as resolved
-use Rattle.om_scope.specs.ResolvedTree.{ResolvedExpressionTree, ValuesTree}
+use Rattle.om_resolved.specs.ResolvedTree as resolved
+use Rattle.om_resolved.specs.ResolvedTree.{ResolvedExpressionTree, ValuesTree}
 use Rattle.om_scope.specs.Scopes.{Scopes, meaning_of}
-use Rattle.om_scope.specs.Uses.{IsVariable, UsesVariables, ValuesUseVariables}
+use Rattle.om_resolved.specs.Uses.{IsVariable, UsesVariables, ValuesUseVariables}
 use Rattle.om_scope.proofs.GlobalsBelow.{Below, named_below}
 use Rattle.om_scope.proofs.Steps.{if_then, if_either}
 

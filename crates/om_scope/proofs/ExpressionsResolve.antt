@@ -6,8 +6,8 @@ use Rattle.std.proofs.lemmas.Bool.Decides.{nat_tests}
 use Rattle.om_lexer.specs.declared.fault.FaultCode.TheVariants as faults
 use Rattle.om_lexer.specs.declared.fault.SourceFault.{SourceFault}
 use Rattle.om_pragma.specs.declared.name.Name as names
-use Rattle.om_parser.specs.declared.tree.PrefixOperator.TheVariants as prefixes
-use Rattle.om_parser.specs.Tree.{ExpressionTree, Name, Constant, Text, Paren, Index, Call, Prefix, Postfix, Binary, Conditional, Assign, ArgumentsTree, NoArguments, Argument}
+use Rattle.om_tree.specs.declared.tree.PrefixOperator.TheVariants as prefixes
+use Rattle.om_tree.specs.Tree.{ExpressionTree, Name, Constant, Text, Paren, Index, Call, Prefix, Postfix, Binary, Conditional, Assign, ArgumentsTree, NoArguments, Argument}
 use Rattle.om_scope.specs.declared.symbols.Meaning.{Meaning}
 use Rattle.om_scope.specs.declared.symbols.Meaning.TheVariants as meanings
 use Rattle.om_scope.specs.declared.print.TheConstants.{PRINTED_LIMIT}
@@ -16,7 +16,7 @@ use Rattle.om_scope.specs.Faults.{breach_if, perhaps_with}
 use Rattle.om_scope.specs.Formats.{is_format}
 use Rattle.om_scope.specs.Places.{expression_start}
 use Rattle.om_scope.specs.Resolution.{variable_of, variable_named, callee_of, callee_named, text_in, format_in, print_of, own_call_of, resolved_expression, resolved_values, resolved_printed, resolved_target}
-use Rattle.om_scope.specs.ResolvedTree.{ValuesTree}
+use Rattle.om_resolved.specs.ResolvedTree.{ValuesTree}
 use Rattle.om_scope.specs.Scopes.{Scopes, meaning_of}
 use Rattle.om_scope.specs.Sharing.{is_copied}
 use Rattle.om_scope.proofs.SomeSteps.{some_then}

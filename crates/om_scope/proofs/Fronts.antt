@@ -1,7 +1,7 @@
 -- The first breach of the first two of three parts.
 use Rattle.std.proofs.Common.{◌≡◌, List, [], ◌∷◌, ◌++◌, Some}
 use Rattle.om_lexer.specs.declared.fault.SourceFault.{SourceFault}
-use Rattle.om_parser.specs.Tree.{ExpressionTree, StatementTree}
+use Rattle.om_tree.specs.Tree.{ExpressionTree, StatementTree}
 use Rattle.om_pragma.specs.declared.tree.Directive.{Directive}
 use Rattle.om_scope.specs.declared.flow.Flow.{Flow}
 use Rattle.om_scope.specs.DirectiveRules.{constructing, directive_breaches, in_construct}

@@ -10,14 +10,14 @@ use Rattle.om_pragma.specs.declared.clause.DataSharing.{DataSharing}
 use Rattle.om_pragma.specs.declared.clause.DataSharing.TheVariants as lists
 use Rattle.om_pragma.specs.declared.name.Name as names
 use Rattle.om_pragma.specs.declared.tree.Directive.{Directive}
-use Rattle.om_parser.specs.declared.tree.Parameter.{Parameter}
-use Rattle.om_parser.specs.Tree.{ExpressionTree, DeclaratorTree, ForStartTree, Nothing, StartExpression, StartDeclaration, StatementTree, LocalDeclaration, Block, Empty, Expression, If, IfElse, While, Do, For, Return, Break, Continue, Construct, StandAlone, Sections, Section, HeadTree}
-use Rattle.om_scope.specs.declared.resolved.Variable.{Variable}
-use Rattle.om_scope.specs.declared.resolved.Variable.TheVariants as variables
+use Rattle.om_tree.specs.declared.tree.Parameter.{Parameter}
+use Rattle.om_tree.specs.Tree.{ExpressionTree, DeclaratorTree, ForStartTree, Nothing, StartExpression, StartDeclaration, StatementTree, LocalDeclaration, Block, Empty, Expression, If, IfElse, While, Do, For, Return, Break, Continue, Construct, StandAlone, Sections, Section, HeadTree}
+use Rattle.om_resolved.specs.declared.resolved.Variable.{Variable}
+use Rattle.om_resolved.specs.declared.resolved.Variable.TheVariants as variables
 use Rattle.om_scope.specs.declared.symbols.Meaning.{Meaning}
 use Rattle.om_scope.specs.declared.symbols.Meaning.TheVariants as meanings
 use Rattle.om_scope.specs.declared.symbols.Region.{Region}
-use Rattle.om_scope.specs.declared.symbols.Shape.{Shape}
+use Rattle.om_resolved.specs.declared.resolved.Shape.{Shape}
 use Rattle.om_scope.specs.DirectiveRules.{Listed, nothing_listed, names_in, copy_of, after_name, after_names, after_clause, after_item, listed_by, in_construct, traits_of}
 use Rattle.om_scope.specs.Loops.{Loop}
 use Rattle.om_scope.specs.Resolution.{variable_of, variable_named}
@@ -25,7 +25,7 @@ use Rattle.om_scope.specs.Scopes.{Binding, Scope, Enclosing, Scopes, meaning_out
 use Rattle.om_scope.specs.Sharing.{is_parallel}
 use Rattle.om_scope.specs.StatementResolution.{bounds_scopes}
 use Rattle.om_scope.specs.StatementRules.{after_for_start, after_statement, in_loop, round_bounds, with_iteration}
-use Rattle.om_scope.specs.Uses.{IsVariable}
+use Rattle.om_resolved.specs.Uses.{IsVariable}
 use Rattle.om_scope.proofs.Steps.{if_either, if_first}
 
 abbrev pub MeaningBelow : ℕ → Meaning → Type 0

@@ -5,14 +5,14 @@ use Rattle.std.specs.List.{flat_map, list_any}
 use Rattle.std.specs.Str.{bytes_eq}
 use Rattle.std.proofs.lemmas.Bool.Decides.{nat_tests}
 use Rattle.om_lexer.specs.declared.fault.FaultCode.TheVariants as faults
-use Rattle.om_parser.specs.declared.tree.ArrayLength.{ArrayLength}
-use Rattle.om_parser.specs.Tree.{DeclaratorTree, HeadTree, FunctionTree, ItemTree, Declaration, Prototype, Function}
+use Rattle.om_tree.specs.declared.tree.ArrayLength.{ArrayLength}
+use Rattle.om_tree.specs.Tree.{DeclaratorTree, HeadTree, FunctionTree, ItemTree, Declaration, Prototype, Function}
 use Rattle.om_scope.specs.declared.globals.TheConstants.{GLOBAL_CELL_LIMIT}
 use Rattle.om_scope.specs.declared.function.TheConstants.{FUNCTION_LIMIT}
 use Rattle.om_scope.specs.Faults.{breach_if}
 use Rattle.om_scope.specs.Perhaps.{◌>>=◌, all_along}
 use Rattle.om_scope.specs.Places.{head_start}
-use Rattle.om_scope.specs.ResolvedTree.{ResolvedFunctionTree}
+use Rattle.om_resolved.specs.ResolvedTree.{ResolvedFunctionTree}
 use Rattle.om_scope.specs.Scopes.{Scopes, is_declared, with_name, with_function, signature_of, after_global, after_globals, after_prototype, after_function, after_item, cells_of, declarators_of, predeclared}
 use Rattle.om_scope.specs.StatementRules.{array_size_breaches, is_empty_array}
 use Rattle.om_scope.specs.UnitResolution.{global_of, globals_of, item_functions, resolved_function}

@@ -7,9 +7,9 @@ use Rattle.std.specs.Str.{bytes_eq}
 use Rattle.std.proofs.lemmas.List.{map-append}
 use Rattle.std.proofs.lemmas.Option.{slice_get-map}
 use Rattle.std.proofs.lemmas.Slice.Eq.{bytes_eq-Decides}
-use Rattle.om_parser.specs.Tree.{DeclaratorTree, HeadTree, ItemTree, Declaration, Prototype, Function}
-use Rattle.om_scope.specs.declared.resolved.GlobalVariable.{GlobalVariable}
-use Rattle.om_scope.specs.declared.resolved.Variable.TheVariants as variables
+use Rattle.om_tree.specs.Tree.{DeclaratorTree, HeadTree, ItemTree, Declaration, Prototype, Function}
+use Rattle.om_resolved.specs.declared.resolved.GlobalVariable.{GlobalVariable}
+use Rattle.om_resolved.specs.declared.resolved.Variable.TheVariants as variables
 use Rattle.om_scope.specs.declared.symbols.Meaning.{Meaning}
 use Rattle.om_scope.specs.declared.symbols.Meaning.TheVariants as meanings
 use Rattle.om_scope.specs.Laws.{NumbersNameGlobals}

@@ -1,7 +1,7 @@
 -- A tree without a breach has a resolution.
 use Rattle.std.proofs.Common.{◌≡◌, [], None, refl}
 use Rattle.std.specs.Prelude.{IsSome}
-use Rattle.om_parser.specs.Tree.{statements, FunctionTree, ItemTree, Declaration, Prototype, Function}
+use Rattle.om_tree.specs.Tree.{statements, FunctionTree, ItemTree, Declaration, Prototype, Function}
 use Rattle.om_scope.specs.Breaches.{breaches_of, main_breaches, rule_breaches}
 use Rattle.om_scope.specs.Laws.{UnbrokenTreesResolve}
 use Rattle.om_scope.specs.Perhaps.{all_along}

@@ -1,16 +1,17 @@
 -- A resolved statement uses globals that there are.
 use Rattle.std.proofs.Common.{ℕ, Bool, Option, Some}
 use Rattle.std.specs.Prelude.{IfSome, not}
-use Rattle.om_parser.specs.Tree.{StatementTree, LocalDeclaration, Block, Empty, Expression, If, IfElse, While, Do, For, Return, Break, Continue, Construct, StandAlone, Sections, Section, StatementsTree, NoStatements, Statement}
+use Rattle.om_tree.specs.Tree.{StatementTree, LocalDeclaration, Block, Empty, Expression, If, IfElse, While, Do, For, Return, Break, Continue, Construct, StandAlone, Sections, Section, StatementsTree, NoStatements, Statement}
 use Rattle.om_scope.specs.DirectiveRules.{in_construct, parallel_in, traits_of}
 use Rattle.om_scope.specs.Loops.{Loop, loop_in}
 use Rattle.om_scope.specs.Resolution.{resolved_expression}
-use Rattle.om_scope.specs.ResolvedTree as resolved
-use Rattle.om_scope.specs.ResolvedTree.{ResolvedLoopTree, ResolvedStatementTree}
+use Rattle.om_resolved.specs.ResolvedTree as resolved
+use Rattle.om_resolved.specs.ResolvedTree.{ResolvedLoopTree, ResolvedStatementTree}
 use Rattle.om_scope.specs.Scopes.{Scopes, inside, declarators_of}
 use Rattle.om_scope.specs.StatementResolution.{resolved_declarators, resolved_clauses, resolved_loop, resolved_start, resolved_perhaps, schedule_of, part_of, resolved_statement, resolved_statements, resolved_repeated, resolved_parts, resolved_plain_construct, resolved_loop_construct}
+use Rattle.om_scope.specs.Updates.{statement_side}
 use Rattle.om_scope.specs.StatementRules.{after_for_start, after_statement, begins_part, in_loop, parts_behind, round_bounds}
-use Rattle.om_scope.specs.Uses.{UsesVariables, PerhapsUsesVariables, DeclaratorsUseVariables, StartUsesVariables, ClausesUseVariables, StatementUsesVariables, StatementsUseVariables}
+use Rattle.om_resolved.specs.Uses.{UsesVariables, PerhapsUsesVariables, DeclaratorsUseVariables, StartUsesVariables, ClausesUseVariables, StatementUsesVariables, StatementsUseVariables}
 use Rattle.om_scope.proofs.ClauseUses.{perhaps_uses, declarators_use, start_uses, clauses_use, construct_uses, loop_construct_uses, sections_construct_uses, loop_uses, alone_uses}
 use Rattle.om_scope.proofs.ExpressionUses.{expression_uses}
 use Rattle.om_scope.proofs.GlobalsBelow.{Below, below_inside, below_construct, below_bounds, below_in_loop, below_start, below_statement}
@@ -62,7 +63,7 @@ mutual
       if_either (λ o. IfSome o (StatementUsesVariables n)) (not (traits_of d.name).takes_loop) (resolved_plain_construct scopes parallel d s) (resolved_loop_construct scopes parallel d (loop_in s) s)
       (if_then (ClausesUseVariables n) (StatementUsesVariables n) (resolved_clauses scopes d.clauses) _ (clauses_use n scopes d.clauses h) (λ cs hcs.
       if_then (StatementUsesVariables n) (StatementUsesVariables n) (resolved_statement (in_construct d scopes) (parallel_in d parallel) s) _
-      (statement_uses n (in_construct d scopes) (parallel_in d parallel) s (below_construct n d scopes h)) (λ body hb. construct_uses n parallel d d.name cs body hcs hb)))
+      (statement_uses n (in_construct d scopes) (parallel_in d parallel) s (below_construct n d scopes h)) (λ body hb. construct_uses n parallel (statement_side s) d d.name cs body hcs hb)))
       (if_then (ClausesUseVariables n) (StatementUsesVariables n) (resolved_clauses scopes d.clauses) _ (clauses_use n scopes d.clauses h) (λ cs hcs.
       if_then (λ found. Unit {0}) (StatementUsesVariables n) (loop_in s) _ (if_any (loop_in s)) (λ found u.
       if_then (LoopUsesVariables n) (StatementUsesVariables n) (resolved_loop (round_bounds d scopes) (schedule_of d.clauses) found) _ (loop_uses n (round_bounds d scopes) (schedule_of d.clauses) found (below_bounds n d scopes h)) (λ l hl.

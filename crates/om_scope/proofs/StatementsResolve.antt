@@ -4,7 +4,7 @@ use Rattle.std.specs.Prelude.{IsSome, nat_le, ◌&&◌}
 use Rattle.om_lexer.specs.declared.fault.FaultCode.TheVariants as faults
 use Rattle.om_lexer.specs.declared.fault.SourceFault.{SourceFault}
 use Rattle.om_pragma.specs.declared.tree.Directive.{Directive}
-use Rattle.om_parser.specs.Tree.{ExpressionTree, StatementTree, LocalDeclaration, Block, Empty, Expression, If, IfElse, While, Do, For, Return, Break, Continue, Construct, StandAlone, Sections, Section, StatementsTree, NoStatements, Statement}
+use Rattle.om_tree.specs.Tree.{ExpressionTree, StatementTree, LocalDeclaration, Block, Empty, Expression, If, IfElse, While, Do, For, Return, Break, Continue, Construct, StandAlone, Sections, Section, StatementsTree, NoStatements, Statement}
 use Rattle.om_scope.specs.declared.flow.Flow.{Flow}
 use Rattle.om_scope.specs.declared.statement.TheConstants.{SECTION_LIMIT}
 use Rattle.om_scope.specs.DirectiveRules.{constructing, directive_breaches, flush_breaches, in_construct, parallel_in, traits_of}

@@ -6,16 +6,16 @@ use Rattle.std.specs.Str.{bytes_eq}
 use Rattle.std.proofs.lemmas.List.Elements.{All-nil, All-cons, All-append}
 use Rattle.std.proofs.lemmas.List.Folds.{Any-from_list_any, list_any-append}
 use Rattle.om_lexer.specs.declared.fault.FaultCode.TheVariants as faults
-use Rattle.om_parser.specs.Tree.{statements, DeclaratorTree, HeadTree, FunctionTree, ItemTree, Declaration, Prototype, Function, UnitTree}
+use Rattle.om_tree.specs.Tree.{statements, DeclaratorTree, HeadTree, FunctionTree, ItemTree, Declaration, Prototype, Function, UnitTree}
 use Rattle.om_scope.specs.declared.symbols.Meaning.TheVariants as meanings
-use Rattle.om_scope.specs.declared.resolved.Variable.TheVariants as variables
+use Rattle.om_resolved.specs.declared.resolved.Variable.TheVariants as variables
 use Rattle.om_scope.specs.Breaches.{breaches_of, is_main, main_breaches, rule_breaches}
 use Rattle.om_scope.specs.Faults.{breach_if}
 use Rattle.om_scope.specs.Perhaps.{◌>>=◌, all_along}
-use Rattle.om_scope.specs.ResolvedTree.{ResolvedFunctionTree, ResolvedTree}
+use Rattle.om_resolved.specs.ResolvedTree.{ResolvedFunctionTree, ResolvedTree}
 use Rattle.om_scope.specs.Scopes.{Scopes, file_scope, definitions_of, inside, parameters_of, is_declared, shape_of, declarators_of, after_global, after_globals, after_parameters, after_prototype, after_function, after_item, with_function, signature_of}
 use Rattle.om_scope.specs.UnitResolution.{global_of, globals_of, resolved_inside, resolved_function, item_functions, resolution_of}
-use Rattle.om_scope.specs.Uses.{StatementsUseVariables, FunctionUsesVariables, is_main_function, IsResolved}
+use Rattle.om_resolved.specs.Uses.{StatementsUseVariables, FunctionUsesVariables, is_main_function, IsResolved}
 use Rattle.om_scope.proofs.GlobalsBelow.{Below, more, scope_push, below_inside, below_parameters, below_prototype, below_function}
 use Rattle.om_scope.proofs.Limits.{Fits, items_fit, functions_fit}
 use Rattle.om_scope.proofs.StatementUses.{statements_use}

@@ -1,10 +1,10 @@
 -- The resolution of a whole source, once its items are resolved.
 use Rattle.std.proofs.Common.{◌≡◌, List, [], ◌++◌, Option, Some, sym, ap, ◌∙◌}
 use Rattle.std.specs.List.{flat_map}
-use Rattle.om_parser.specs.Tree.{ItemTree}
-use Rattle.om_scope.specs.declared.resolved.GlobalVariable.{GlobalVariable}
+use Rattle.om_tree.specs.Tree.{ItemTree}
+use Rattle.om_resolved.specs.declared.resolved.GlobalVariable.{GlobalVariable}
 use Rattle.om_scope.specs.Perhaps.{◌>>=◌, all_along}
-use Rattle.om_scope.specs.ResolvedTree.{ResolvedFunctionTree, ResolvedTree}
+use Rattle.om_resolved.specs.ResolvedTree.{ResolvedFunctionTree, ResolvedTree}
 use Rattle.om_scope.specs.Scopes.{Scopes, after_item, definitions_of, file_scope}
 use Rattle.om_scope.specs.UnitResolution.{globals_of, item_functions, items_resolution}
 use Rattle.om_scope.proofs.Along.{made_and, nothing_made}

@@ -4,7 +4,7 @@ use Rattle.std.specs.List.{list_any}
 use Rattle.std.specs.Str.{bytes_eq}
 use Rattle.om_lexer.specs.declared.fault.FaultCode.TheVariants as faults
 use Rattle.om_lexer.specs.declared.fault.SourceFault.{SourceFault}
-use Rattle.om_parser.specs.Tree.{ItemTree, Declaration, Prototype, Function, UnitTree}
+use Rattle.om_tree.specs.Tree.{ItemTree, Declaration, Prototype, Function, UnitTree}
 use Rattle.om_scope.specs.Faults.{breach_if}
 use Rattle.om_scope.specs.Scopes.{definitions_of, file_scope}
 use Rattle.om_scope.specs.UnitRules.{items_breaches}

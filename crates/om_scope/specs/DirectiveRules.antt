@@ -17,7 +17,7 @@ use Rattle.om_pragma.specs.declared.tree.Directive.{Directive}
 use Rattle.om_pragma.specs.declared.tree.DirectiveName.{DirectiveName}
 use Rattle.om_pragma.specs.declared.tree.DirectiveName.TheVariants as directives
 use Rattle.om_pragma.specs.Questions.{word_span}
-use Rattle.om_parser.specs.Tree.{ExpressionTree}
+use Rattle.om_tree.specs.Tree.{ExpressionTree}
 use Rattle.om_scope.specs.declared.construct.Inside.{Inside}
 use Rattle.om_scope.specs.declared.construct.Inside.TheVariants as insides
 use Rattle.om_scope.specs.declared.construct.Traits.{Traits}
@@ -26,10 +26,10 @@ use Rattle.om_scope.specs.declared.symbols.Meaning.{Meaning}
 use Rattle.om_scope.specs.declared.symbols.Meaning.TheVariants as meanings
 use Rattle.om_scope.specs.declared.symbols.RegionKind.{RegionKind}
 use Rattle.om_scope.specs.declared.symbols.RegionKind.TheVariants as regions
-use Rattle.om_scope.specs.declared.symbols.Shape.TheVariants as shapes
-use Rattle.om_scope.specs.declared.resolved.CopyKind.{CopyKind}
-use Rattle.om_scope.specs.declared.resolved.CopyKind.TheVariants as copies
-use Rattle.om_scope.specs.declared.resolved.Variable.TheVariants as variables
+use Rattle.om_resolved.specs.declared.resolved.Shape.TheVariants as shapes
+use Rattle.om_resolved.specs.declared.resolved.CopyKind.{CopyKind}
+use Rattle.om_resolved.specs.declared.resolved.CopyKind.TheVariants as copies
+use Rattle.om_resolved.specs.declared.resolved.Variable.TheVariants as variables
 use Rattle.om_scope.specs.Faults.{breach_if, breaches_along}
 use Rattle.om_scope.specs.ExpressionRules.{expression_breaches, is_copied_array, is_scalar, undeclared_breaches}
 use Rattle.om_scope.specs.Scopes.{Binding, Scope, Scopes, meaning_of, with_name, within}

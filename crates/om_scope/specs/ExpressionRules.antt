@@ -5,12 +5,12 @@ use Rattle.om_lexer.specs.declared.fault.FaultCode.TheVariants as faults
 use Rattle.om_lexer.specs.declared.fault.SourceFault.{SourceFault}
 use Rattle.om_pragma.specs.declared.name.Name as names
 use Rattle.om_pragma.specs.declared.name.Number.{Number}
-use Rattle.om_parser.specs.declared.tree.PrefixOperator.{PrefixOperator}
-use Rattle.om_parser.specs.declared.tree.PrefixOperator.TheVariants as prefixes
-use Rattle.om_parser.specs.Tree.{ExpressionTree, Name, Constant, Text, Paren, Index, Call, Prefix, Postfix, Binary, Conditional, Assign, ArgumentsTree, NoArguments, Argument}
+use Rattle.om_tree.specs.declared.tree.PrefixOperator.{PrefixOperator}
+use Rattle.om_tree.specs.declared.tree.PrefixOperator.TheVariants as prefixes
+use Rattle.om_tree.specs.Tree.{ExpressionTree, Name, Constant, Text, Paren, Index, Call, Prefix, Postfix, Binary, Conditional, Assign, ArgumentsTree, NoArguments, Argument}
 use Rattle.om_scope.specs.declared.symbols.Meaning.{Meaning}
 use Rattle.om_scope.specs.declared.symbols.Meaning.TheVariants as meanings
-use Rattle.om_scope.specs.declared.symbols.Shape.TheVariants as shapes
+use Rattle.om_resolved.specs.declared.resolved.Shape.TheVariants as shapes
 use Rattle.om_scope.specs.Faults.{breach_if, perhaps_with}
 use Rattle.om_scope.specs.declared.print.TheConstants.{PRINTED_LIMIT}
 use Rattle.om_scope.specs.Formats.{is_format}

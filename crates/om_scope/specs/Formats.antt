@@ -1,6 +1,6 @@
 -- The formats of `printf` (C17 7.21.6.1): `%d` takes a value, `%%` none, and there is no other conversion.
 use Rattle.std.specs.Prelude.{ℕ, ◌-◌, ◌==◌, List, Bool, false, fold, if◌then◌else◌}
-use Rattle.om_parser.specs.Tree.{ExpressionTree, Name, Constant, Text, Paren, Index, Call, Prefix, Postfix, Binary, Conditional, Assign}
+use Rattle.om_tree.specs.Tree.{ExpressionTree, Name, Constant, Text, Paren, Index, Call, Prefix, Postfix, Binary, Conditional, Assign}
 use Rattle.om_scope.specs.declared.print.Reading.{Reading}
 use Rattle.om_scope.specs.declared.print.Reading.TheVariants as readings
 

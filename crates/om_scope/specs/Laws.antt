@@ -1,13 +1,21 @@
 -- What every resolution is.
-use Rattle.std.specs.Prelude.{◌≡◌, ℕ, List, [], Some, IsSome, fold, option_map, slice_get}
+use Rattle.std.specs.Prelude.{◌≡◌, ℕ, Bool, List, [], Option, Some, IsSome, IfSome, fold, option_map, slice_get}
 use Rattle.std.specs.List.{flat_map}
-use Rattle.om_parser.specs.Tree.{ItemTree, UnitTree}
-use Rattle.om_scope.specs.declared.resolved.Variable.TheVariants as variables
+use Rattle.om_tree.specs.Formed.{AreStatements}
+use Rattle.om_tree.specs.Tree.{ExpressionTree, StatementsTree, ItemTree, UnitTree}
+use Rattle.om_resolved.specs.Whole.{Around, IsWhole, AreWholeItems}
+use Rattle.om_scope.specs.ExpressionRules.{expression_breaches}
+use Rattle.om_scope.specs.Knowing.{Agrees, HaveNoSections, Knows}
+use Rattle.om_scope.specs.Resolution.{resolved_expression}
+use Rattle.om_resolved.specs.declared.resolved.Variable.TheVariants as variables
 use Rattle.om_scope.specs.declared.symbols.Meaning.TheVariants as meanings
 use Rattle.om_scope.specs.Breaches.{breaches_of}
-use Rattle.om_scope.specs.declared.symbols.Shape.{Shape}
+use Rattle.om_scope.specs.declared.flow.Flow.{Flow}
+use Rattle.om_scope.specs.StatementResolution.{resolved_statements}
+use Rattle.om_scope.specs.StatementRules.{statements_breaches}
+use Rattle.om_resolved.specs.declared.resolved.Shape.{Shape}
 use Rattle.om_scope.specs.UnitResolution.{globals_of, resolution_of}
-use Rattle.om_scope.specs.Scopes.{definitions_of, file_scope, meaning_of, after_item}
+use Rattle.om_scope.specs.Scopes.{Scopes, definitions_of, file_scope, meaning_of, after_item}
 
 -- A name that means a variable behind some items is the name of the global of that number among those that they declare.
 abbrev pub NumbersNameGlobals : Type 0
@@ -19,3 +27,16 @@ NumbersNameGlobals =
 -- A tree that breaks no rule has a resolution.
 abbrev pub UnbrokenTreesResolve : Type 0
 UnbrokenTreesResolve = (unit : UnitTree) → breaches_of unit ≡ [] → IsSome (resolution_of unit)
+
+-- An expression without a breach, in scopes that are known, resolves to one that is whole.
+abbrev pub UnbrokenExpressionsAreWhole : Type 0
+UnbrokenExpressionsAreWhole =
+    (around : Around) (scopes : Scopes) (is_used : Bool) (e : ExpressionTree)
+    → Knows around scopes → expression_breaches scopes is_used e ≡ [] → IfSome (resolved_expression scopes e) (IsWhole around is_used)
+
+-- Well-formed statements without a breach, in scopes that are known, resolve to whole ones.
+abbrev pub UnbrokenStatementsAreWhole : Type 0
+UnbrokenStatementsAreWhole =
+    (around : Around) (scopes : Scopes) (flow : Flow) (parallel : Option ℕ) (ss : StatementsTree)
+    → Knows around scopes → Agrees around flow → AreStatements ss → HaveNoSections ss → statements_breaches scopes flow ss ≡ []
+    → IfSome (resolved_statements scopes parallel ss) (AreWholeItems around)

@@ -1,5 +1,5 @@
 -- Parts of a loop as trees.
-use Rattle.om_parser.specs.View.{view_expression}
+use Rattle.om_tree.specs.View.{view_expression}
 use Rattle.om_scope.specs.declared.canonical.Bound as bounds
 use Rattle.om_scope.specs.declared.canonical.Loop as found
 use Rattle.om_scope.specs.declared.canonical.LoopStart as starts

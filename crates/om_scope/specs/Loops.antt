@@ -3,16 +3,16 @@ use Rattle.std.specs.Prelude.{ℕ, ℤ, pos, ◌-ℤ◌, List, [], ◌∷◌, Op
 use Rattle.std.specs.Str.{bytes_eq}
 use Rattle.om_lexer.specs.declared.token.Span.{Span}
 use Rattle.om_pragma.specs.declared.name.Name as names
-use Rattle.om_parser.specs.declared.tree.ArrayLength.{ArrayLength}
-use Rattle.om_parser.specs.declared.tree.AssignOperator.{AssignOperator}
-use Rattle.om_parser.specs.declared.tree.AssignOperator.TheVariants as assigns
-use Rattle.om_parser.specs.declared.tree.BinaryOperator.{BinaryOperator}
-use Rattle.om_parser.specs.declared.tree.BinaryOperator.TheVariants as binaries
-use Rattle.om_parser.specs.declared.tree.PostfixOperator.{PostfixOperator}
-use Rattle.om_parser.specs.declared.tree.PostfixOperator.TheVariants as postfixes
-use Rattle.om_parser.specs.declared.tree.PrefixOperator.{PrefixOperator}
-use Rattle.om_parser.specs.declared.tree.PrefixOperator.TheVariants as prefixes
-use Rattle.om_parser.specs.Tree.{ExpressionTree, Name, Constant, Text, Paren, Index, Call, Prefix, Postfix, Binary, Conditional, Assign, InitializerTree, DeclaratorTree, ForStartTree, Nothing, StartExpression, StartDeclaration, ForHeadTree, StatementTree, LocalDeclaration, Block, Empty, Expression, If, IfElse, While, Do, For, Return, Break, Continue, Construct, StandAlone, Sections, Section}
+use Rattle.om_tree.specs.declared.tree.ArrayLength.{ArrayLength}
+use Rattle.om_tree.specs.declared.tree.AssignOperator.{AssignOperator}
+use Rattle.om_tree.specs.declared.tree.AssignOperator.TheVariants as assigns
+use Rattle.om_tree.specs.declared.tree.BinaryOperator.{BinaryOperator}
+use Rattle.om_tree.specs.declared.tree.BinaryOperator.TheVariants as binaries
+use Rattle.om_tree.specs.declared.tree.PostfixOperator.{PostfixOperator}
+use Rattle.om_tree.specs.declared.tree.PostfixOperator.TheVariants as postfixes
+use Rattle.om_tree.specs.declared.tree.PrefixOperator.{PrefixOperator}
+use Rattle.om_tree.specs.declared.tree.PrefixOperator.TheVariants as prefixes
+use Rattle.om_tree.specs.Tree.{ExpressionTree, Name, Constant, Text, Paren, Index, Call, Prefix, Postfix, Binary, Conditional, Assign, InitializerTree, DeclaratorTree, ForStartTree, Nothing, StartExpression, StartDeclaration, ForHeadTree, StatementTree, LocalDeclaration, Block, Empty, Expression, If, IfElse, While, Do, For, Return, Break, Continue, Construct, StandAlone, Sections, Section}
 use Rattle.om_scope.specs.declared.canonical.Direction.{Direction}
 use Rattle.om_scope.specs.declared.canonical.Direction.TheVariants as directions
 use Rattle.om_scope.specs.declared.canonical.Step.{Step}

@@ -1,21 +1,22 @@
 -- Parts of statements and expressions that have a function of their own.
 use Rattle.std.specs.Prelude.{pos, List, Option, Some, if◌then◌else◌}
 use Rattle.om_lexer.specs.declared.token.Span.{Span}
-use Rattle.om_parser.specs.declared.tree.AssignOperator.{AssignOperator}
-use Rattle.om_parser.specs.Tree.{ExpressionTree, DeclarationTree}
+use Rattle.om_tree.specs.declared.tree.AssignOperator.{AssignOperator}
+use Rattle.om_tree.specs.Tree.{ExpressionTree, DeclarationTree}
 use Rattle.om_scope.specs.declared.assembly.Around.{Around}
 use Rattle.om_scope.specs.declared.assembly.Around.TheVariants as arounds
-use Rattle.om_scope.specs.declared.resolved.UnaryOperator.{UnaryOperator}
+use Rattle.om_resolved.specs.declared.resolved.UnaryOperator.{UnaryOperator}
 use Rattle.om_scope.specs.declared.symbols.RegionKind.{RegionKind}
 use Rattle.om_scope.specs.DirectiveRules.{Listed, in_kind}
 use Rattle.om_scope.specs.Perhaps.{◌>>=◌}
 use Rattle.om_scope.specs.Places.{expression_first}
 use Rattle.om_scope.specs.Resolution.{TargetTree, assigned, resolved_expression}
-use Rattle.om_scope.specs.ResolvedTree as resolved
-use Rattle.om_scope.specs.ResolvedTree.{ResolvedClauseTree, ResolvedExpressionTree, ResolvedStatementTree}
+use Rattle.om_resolved.specs.ResolvedTree as resolved
+use Rattle.om_resolved.specs.ResolvedTree.{ResolvedClauseTree, ResolvedExpressionTree, ResolvedStatementTree}
 use Rattle.om_scope.specs.Scopes.{Scopes, declarators_of}
 use Rattle.om_scope.specs.Sharing.{is_parallel}
-use Rattle.om_scope.specs.StatementResolution.{resolved_declarators, resolved_perhaps}
+use Rattle.om_scope.specs.StatementResolution.{resolved_declarators, resolved_perhaps, with_update}
+use Rattle.om_scope.specs.Updates.{update_of}
 
 -- `++` or `--` before a target, as an assignment of 1
 abbrev pub step_of : AssignOperator → Option TargetTree → Option ResolvedExpressionTree
@@ -41,6 +42,7 @@ abbrev pub with_around : Around → Span → List ResolvedClauseTree → Resolve
 with_around (arounds.Parallel captures) at cs body = resolved.Parallel at cs captures body
 with_around (arounds.Task captures) at cs body = resolved.Task at cs captures body
 with_around (arounds.Construct kind) at cs body = resolved.Construct at kind cs body
+with_around (arounds.Update side) at cs body = with_update at (update_of side body)
 with_around arounds.Nothing at cs body = body
 
 -- the scopes of the bounds of a loop whose construct is of this kind, and whose clauses say this

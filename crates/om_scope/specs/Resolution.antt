@@ -2,21 +2,21 @@
 -- There is none where a name that is used means no variable.
 use Rattle.std.specs.Prelude.{ℕ, ◌-◌, pos, List, Option, None, Some, position, nat_eq, if◌then◌else◌}
 use Rattle.std.specs.Str.{bytes_eq}
-use Rattle.om_parser.specs.declared.tree.AssignOperator.{AssignOperator}
-use Rattle.om_parser.specs.declared.tree.AssignOperator.TheVariants as assigns
-use Rattle.om_parser.specs.declared.tree.PostfixOperator.{PostfixOperator}
-use Rattle.om_parser.specs.declared.tree.PrefixOperator.{PrefixOperator}
-use Rattle.om_parser.specs.declared.tree.PrefixOperator.TheVariants as prefixes
-use Rattle.om_parser.specs.Tree.{ExpressionTree, Name, Constant, Text, Paren, Index, Call, Prefix, Postfix, Binary, Conditional, Assign, ArgumentsTree, NoArguments, Argument}
+use Rattle.om_tree.specs.declared.tree.AssignOperator.{AssignOperator}
+use Rattle.om_tree.specs.declared.tree.AssignOperator.TheVariants as assigns
+use Rattle.om_tree.specs.declared.tree.PostfixOperator.{PostfixOperator}
+use Rattle.om_tree.specs.declared.tree.PrefixOperator.{PrefixOperator}
+use Rattle.om_tree.specs.declared.tree.PrefixOperator.TheVariants as prefixes
+use Rattle.om_tree.specs.Tree.{ExpressionTree, Name, Constant, Text, Paren, Index, Call, Prefix, Postfix, Binary, Conditional, Assign, ArgumentsTree, NoArguments, Argument}
 use Rattle.om_pragma.specs.declared.name.Name as names
-use Rattle.om_scope.specs.declared.resolved.UnaryOperator.TheVariants as unaries
-use Rattle.om_scope.specs.declared.resolved.Variable.{Variable}
+use Rattle.om_resolved.specs.declared.resolved.UnaryOperator.TheVariants as unaries
+use Rattle.om_resolved.specs.declared.resolved.Variable.{Variable}
 use Rattle.om_scope.specs.declared.symbols.Meaning.{Meaning}
 use Rattle.om_scope.specs.declared.symbols.Meaning.TheVariants as meanings
 use Rattle.om_scope.specs.ExpressionRules.{is_printf}
 use Rattle.om_scope.specs.Perhaps.{◌>>=◌}
-use Rattle.om_scope.specs.ResolvedTree as resolved
-use Rattle.om_scope.specs.ResolvedTree.{ResolvedExpressionTree, ValuesTree}
+use Rattle.om_resolved.specs.ResolvedTree as resolved
+use Rattle.om_resolved.specs.ResolvedTree.{ResolvedExpressionTree, ValuesTree}
 use Rattle.om_scope.specs.Scopes.{Scopes, meaning_of}
 
 abbrev pub variable_of : Option Meaning → Option Variable

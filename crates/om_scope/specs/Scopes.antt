@@ -6,19 +6,19 @@ use Rattle.std.specs.Option.{option_or}
 use Rattle.std.specs.Str.{bytes_eq}
 use Rattle.std.specs.declared.alloc.Global.{Global}
 use Rattle.om_lexer.specs.declared.token.Span.{Span}
-use Rattle.om_parser.specs.declared.tree.ArrayLength.{ArrayLength}
+use Rattle.om_tree.specs.declared.tree.ArrayLength.{ArrayLength}
 use Rattle.om_pragma.specs.declared.name.Name as names
-use Rattle.om_parser.specs.declared.tree.Parameter.{Parameter}
-use Rattle.om_parser.specs.declared.tree.ResultType.{ResultType}
-use Rattle.om_parser.specs.declared.tree.ResultType.TheVariants as results
-use Rattle.om_parser.specs.Tree.{DeclaratorTree, DeclarationTree, ParametersTree, NoParameters, Void, Listed, HeadTree, ItemTree, Declaration, Prototype, Function}
-use Rattle.om_scope.specs.declared.resolved.Variable.TheVariants as variables
+use Rattle.om_tree.specs.declared.tree.Parameter.{Parameter}
+use Rattle.om_tree.specs.declared.tree.ResultType.{ResultType}
+use Rattle.om_tree.specs.declared.tree.ResultType.TheVariants as results
+use Rattle.om_tree.specs.Tree.{DeclaratorTree, DeclarationTree, ParametersTree, NoParameters, Void, Listed, HeadTree, ItemTree, Declaration, Prototype, Function}
+use Rattle.om_resolved.specs.declared.resolved.Variable.TheVariants as variables
 use Rattle.om_scope.specs.declared.symbols.Meaning.{Meaning}
 use Rattle.om_scope.specs.declared.symbols.Meaning.TheVariants as meanings
 use Rattle.om_scope.specs.declared.symbols.Region.{Region}
 use Rattle.om_scope.specs.declared.symbols.RegionKind.TheVariants as regions
-use Rattle.om_scope.specs.declared.symbols.Shape.{Shape}
-use Rattle.om_scope.specs.declared.symbols.Shape.TheVariants as shapes
+use Rattle.om_resolved.specs.declared.resolved.Shape.{Shape}
+use Rattle.om_resolved.specs.declared.resolved.Shape.TheVariants as shapes
 use Rattle.om_scope.specs.declared.symbols.Signature.{Signature}
 
 -- a name, and what it is declared as

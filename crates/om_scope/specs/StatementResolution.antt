@@ -1,8 +1,8 @@
 -- The resolution of declarations, directives and statements.
 use Rattle.std.specs.Prelude.{ℕ, List, [], ◌∷◌, Option, None, Some, Bool, true, option_map, not, if◌then◌else◌}
 use Rattle.om_lexer.specs.declared.token.Span.{Span}
-use Rattle.om_parser.specs.declared.tree.ArrayLength.{ArrayLength}
-use Rattle.om_parser.specs.Tree.{ExpressionTree, InitializerTree, DeclaratorTree, ForStartTree, Nothing, StartExpression, StartDeclaration, ForHeadTree, StatementTree, LocalDeclaration, Block, Empty, Expression, If, IfElse, While, Do, For, Return, Break, Continue, Construct, StandAlone, Sections, Section, StatementsTree, NoStatements, Statement}
+use Rattle.om_tree.specs.declared.tree.ArrayLength.{ArrayLength}
+use Rattle.om_tree.specs.Tree.{ExpressionTree, InitializerTree, DeclaratorTree, ForStartTree, Nothing, StartExpression, StartDeclaration, ForHeadTree, StatementTree, LocalDeclaration, Block, Empty, Expression, If, IfElse, While, Do, For, Return, Break, Continue, Construct, StandAlone, Sections, Section, StatementsTree, NoStatements, Statement}
 use Rattle.om_pragma.specs.declared.clause.Clause.{Clause}
 use Rattle.om_pragma.specs.declared.clause.Clause.TheVariants as clauses
 use Rattle.om_pragma.specs.declared.clause.ClauseItem.{ClauseItem}
@@ -13,27 +13,31 @@ use Rattle.om_pragma.specs.declared.clause.Schedule as schedules
 use Rattle.om_pragma.specs.declared.clause.ScheduleKind.TheVariants as ways
 use Rattle.om_pragma.specs.declared.name.Name as names
 use Rattle.om_pragma.specs.declared.name.NameList.{NameList}
+use Rattle.om_pragma.specs.declared.tree.AtomicKind.{AtomicKind}
+use Rattle.om_pragma.specs.declared.tree.AtomicKind.TheVariants as atomics
 use Rattle.om_pragma.specs.declared.tree.Directive.{Directive}
 use Rattle.om_pragma.specs.declared.tree.DirectiveName.{DirectiveName}
 use Rattle.om_pragma.specs.declared.tree.DirectiveName.TheVariants as directives
 use Rattle.om_pragma.specs.Questions.{atomic_kind, has_clause}
-use Rattle.om_scope.specs.declared.resolved.ConstructKind.TheVariants as constructs
-use Rattle.om_scope.specs.declared.resolved.CopyKind.{CopyKind}
-use Rattle.om_scope.specs.declared.resolved.CopyKind.TheVariants as copies
-use Rattle.om_scope.specs.declared.resolved.LocalVariable.{LocalVariable}
-use Rattle.om_scope.specs.declared.resolved.ResolvedSchedule.{ResolvedSchedule}
-use Rattle.om_scope.specs.declared.resolved.StandAlone.TheVariants as alones
-use Rattle.om_scope.specs.declared.resolved.Variable.{Variable}
-use Rattle.om_scope.specs.Captures.{captures_of, listed_variables, taken_by_parallel, taken_by_task}
+use Rattle.om_resolved.specs.declared.resolved.ConstructKind.TheVariants as constructs
+use Rattle.om_resolved.specs.declared.resolved.CopyKind.{CopyKind}
+use Rattle.om_resolved.specs.declared.resolved.CopyKind.TheVariants as copies
+use Rattle.om_resolved.specs.declared.resolved.LocalVariable.{LocalVariable}
+use Rattle.om_resolved.specs.declared.resolved.ResolvedSchedule.{ResolvedSchedule}
+use Rattle.om_resolved.specs.declared.resolved.Side.{Side}
+use Rattle.om_resolved.specs.declared.resolved.StandAlone.TheVariants as alones
+use Rattle.om_resolved.specs.declared.resolved.Variable.{Variable}
+use Rattle.om_resolved.specs.Captures.{captures_of, listed_variables, taken_by_parallel, taken_by_task}
 use Rattle.om_scope.specs.DirectiveRules.{in_construct, names_in, parallel_in, traits_of}
 use Rattle.om_scope.specs.Loops.{Loop, loop_in}
 use Rattle.om_scope.specs.Perhaps.{◌>>=◌, perhaps, each, each_along, all_of}
 use Rattle.om_scope.specs.Places.{expression_first, statement_first}
 use Rattle.om_scope.specs.Resolution.{resolved_expression, variable_named}
-use Rattle.om_scope.specs.ResolvedTree as resolved
-use Rattle.om_scope.specs.ResolvedTree.{ResolvedDeclaratorTree, ResolvedClauseTree, ResolvedLoopTree, ResolvedStartTree, ResolvedStatementTree, ResolvedStatementsTree}
+use Rattle.om_resolved.specs.ResolvedTree as resolved
+use Rattle.om_resolved.specs.ResolvedTree.{ResolvedDeclaratorTree, ResolvedClauseTree, ResolvedLoopTree, ResolvedStartTree, ResolvedUpdateTree, ResolvedStatementTree, ResolvedStatementsTree}
 use Rattle.om_scope.specs.Scopes.{Scopes, inside, declarators_of, after_local}
 use Rattle.om_scope.specs.Sharing.{is_parallel}
+use Rattle.om_scope.specs.Updates.{statement_side, update_of}
 use Rattle.om_scope.specs.StatementRules.{after_for_start, after_statement, begins_part, in_loop, parts_behind, round_bounds, with_iteration}
 
 -- ---- declarations
@@ -127,24 +131,34 @@ task_of parallel d cs body =
 abbrev pub critical_name : Option (Span × names.Name × Span) → Option (List ℕ)
 critical_name name = option_map (λ n. n.1.text) name
 
+-- a statement that is no update does nothing
+abbrev pub with_update : Span → Option ResolvedUpdateTree → ResolvedStatementTree
+with_update at None = resolved.Empty at
+with_update at (Some update) = resolved.Update at update
+
+abbrev pub atomic_of : AtomicKind → Side → Span → List ResolvedClauseTree → ResolvedStatementTree → ResolvedStatementTree
+atomic_of atomics.Update side at cs body = with_update at (update_of side body)
+atomic_of atomics.Read side at cs body = resolved.Construct at constructs.Atomic cs body
+atomic_of atomics.Write side at cs body = resolved.Construct at constructs.Atomic cs body
+
 -- a directive that is no construct for one statement leaves its statement as it is
-unfoldable pub construct_of : Option ℕ → Directive ExpressionTree → DirectiveName → List ResolvedClauseTree → ResolvedStatementTree → ResolvedStatementTree
-construct_of parallel d (directives.Parallel s) cs body = parallel_of d cs body
-construct_of parallel d (directives.Task s) cs body = task_of parallel d cs body
-construct_of parallel d (directives.Single s) cs body = resolved.Construct d.hash (constructs.Single (has_nowait d)) cs body
-construct_of parallel d (directives.Masked s) cs body = resolved.Construct d.hash constructs.Masked cs body
-construct_of parallel d (directives.Master s) cs body = resolved.Construct d.hash constructs.Masked cs body
-construct_of parallel d (directives.Critical s name) cs body = resolved.Construct d.hash (constructs.Critical (critical_name name)) cs body
-construct_of parallel d (directives.Atomic s) cs body = resolved.Construct d.hash (constructs.Atomic (atomic_kind d)) cs body
-construct_of parallel d (directives.For s) cs body = body
-construct_of parallel d (directives.Sections s) cs body = body
-construct_of parallel d (directives.Section s) cs body = body
-construct_of parallel d (directives.ParallelFor s t) cs body = body
-construct_of parallel d (directives.ParallelSections s t) cs body = body
-construct_of parallel d (directives.Barrier s) cs body = body
-construct_of parallel d (directives.Taskwait s) cs body = body
-construct_of parallel d (directives.Taskyield s) cs body = body
-construct_of parallel d (directives.Flush s list) cs body = body
+unfoldable pub construct_of : Option ℕ → Side → Directive ExpressionTree → DirectiveName → List ResolvedClauseTree → ResolvedStatementTree → ResolvedStatementTree
+construct_of parallel side d (directives.Parallel s) cs body = parallel_of d cs body
+construct_of parallel side d (directives.Task s) cs body = task_of parallel d cs body
+construct_of parallel side d (directives.Single s) cs body = resolved.Construct d.hash (constructs.Single (has_nowait d)) cs body
+construct_of parallel side d (directives.Masked s) cs body = resolved.Construct d.hash constructs.Masked cs body
+construct_of parallel side d (directives.Master s) cs body = resolved.Construct d.hash constructs.Masked cs body
+construct_of parallel side d (directives.Critical s name) cs body = resolved.Construct d.hash (constructs.Critical (critical_name name)) cs body
+construct_of parallel side d (directives.Atomic s) cs body = atomic_of (atomic_kind d) side d.hash cs body
+construct_of parallel side d (directives.For s) cs body = body
+construct_of parallel side d (directives.Sections s) cs body = body
+construct_of parallel side d (directives.Section s) cs body = body
+construct_of parallel side d (directives.ParallelFor s t) cs body = body
+construct_of parallel side d (directives.ParallelSections s t) cs body = body
+construct_of parallel side d (directives.Barrier s) cs body = body
+construct_of parallel side d (directives.Taskwait s) cs body = body
+construct_of parallel side d (directives.Taskyield s) cs body = body
+construct_of parallel side d (directives.Flush s list) cs body = body
 
 -- the clauses of a `parallel for` belong to its `parallel`, at whose end its loop's threads wait for each other
 abbrev pub loop_construct_of : Directive ExpressionTree → List ResolvedClauseTree → ResolvedLoopTree → ResolvedStatementTree → ResolvedStatementTree
@@ -254,7 +268,7 @@ unfoldable mutual
   resolved_statement scopes parallel (Construct d s) =
       if not (traits_of d.name).takes_loop
       then (resolved_clauses scopes d.clauses >>= λ cs.
-      resolved_statement (in_construct d scopes) (parallel_in d parallel) s >>= λ body. Some (construct_of parallel d d.name cs body))
+      resolved_statement (in_construct d scopes) (parallel_in d parallel) s >>= λ body. Some (construct_of parallel (statement_side s) d d.name cs body))
       else (resolved_clauses scopes d.clauses >>= λ cs.
       loop_in s >>= λ found. resolved_loop (round_bounds d scopes) (schedule_of d.clauses) found >>= λ l.
       resolved_repeated (in_construct d scopes) (parallel_in d parallel) found s >>= λ body. Some (loop_construct_of d cs l body))
@@ -308,7 +322,7 @@ resolved_part scopes parallel before s = resolved_statement (inside scopes) para
 abbrev pub resolved_plain_construct : Scopes → Option ℕ → Directive ExpressionTree → StatementTree → Option ResolvedStatementTree
 resolved_plain_construct scopes parallel d s =
     resolved_clauses scopes d.clauses >>= λ cs.
-    resolved_statement (in_construct d scopes) (parallel_in d parallel) s >>= λ body. Some (construct_of parallel d d.name cs body)
+    resolved_statement (in_construct d scopes) (parallel_in d parallel) s >>= λ body. Some (construct_of parallel (statement_side s) d d.name cs body)
 
 -- of one that is for a loop, which is this one
 abbrev pub resolved_loop_construct : Scopes → Option ℕ → Directive ExpressionTree → Option Loop → StatementTree → Option ResolvedStatementTree

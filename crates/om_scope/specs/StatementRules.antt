@@ -2,9 +2,9 @@
 use Rattle.std.specs.Prelude.{ℕ, ◌+◌, List, [], ◌++◌, Option, None, Some, Bool, true, false, nat_eq, nat_le, not, ◌&&◌, ◌||◌, if◌then◌else◌, is_some, fold}
 use Rattle.om_lexer.specs.declared.fault.FaultCode.TheVariants as faults
 use Rattle.om_lexer.specs.declared.fault.SourceFault.{SourceFault}
-use Rattle.om_parser.specs.declared.tree.ArrayLength.{ArrayLength}
+use Rattle.om_tree.specs.declared.tree.ArrayLength.{ArrayLength}
 use Rattle.om_pragma.specs.declared.name.Name as names
-use Rattle.om_parser.specs.Tree.{ExpressionTree, InitializerTree, DeclaratorTree, ForStartTree, Nothing, StartExpression, StartDeclaration, ForHeadTree, StatementTree, LocalDeclaration, Block, Empty, Expression, If, IfElse, While, Do, For, Return, Break, Continue, Construct, StandAlone, Sections, Section, StatementsTree, NoStatements, Statement}
+use Rattle.om_tree.specs.Tree.{ExpressionTree, InitializerTree, DeclaratorTree, ForStartTree, Nothing, StartExpression, StartDeclaration, ForHeadTree, StatementTree, LocalDeclaration, Block, Empty, Expression, If, IfElse, While, Do, For, Return, Break, Continue, Construct, StandAlone, Sections, Section, StatementsTree, NoStatements, Statement}
 use Rattle.om_pragma.specs.declared.tree.Directive.{Directive}
 use Rattle.om_scope.specs.declared.flow.Flow.{Flow}
 use Rattle.om_scope.specs.declared.statement.TheConstants.{SECTION_LIMIT}
@@ -14,7 +14,7 @@ use Rattle.om_scope.specs.ExpressionRules.{expression_breaches, is_scalar, mispl
 use Rattle.om_scope.specs.DirectiveRules.{constructing, directive_breaches, flush_breaches, in_construct, traits_of}
 use Rattle.om_scope.specs.Loops.{Loop, loop_in}
 use Rattle.om_scope.specs.Sharing.{is_parallel}
-use Rattle.om_scope.specs.declared.symbols.Shape.TheVariants as shapes
+use Rattle.om_resolved.specs.declared.resolved.Shape.TheVariants as shapes
 use Rattle.om_scope.specs.Scopes.{Scopes, is_declared, inside, meaning_of, with_local, declarators_of, after_local, after_locals}
 
 -- S8: declared again in the same scope (C17 6.7p3)

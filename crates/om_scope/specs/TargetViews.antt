@@ -2,7 +2,7 @@
 use Rattle.om_scope.specs.declared.expression.Target.{Target}
 use Rattle.om_scope.specs.declared.expression.Target.TheVariants as targets
 use Rattle.om_scope.specs.Resolution.{TargetTree, Scalar, ElementOf}
-use Rattle.om_scope.specs.ResolvedView.{view_resolved_expression}
+use Rattle.om_resolved.specs.ResolvedView.{view_resolved_expression}
 
 abbrev pub view_target : Target → TargetTree
 view_target (targets.Variable variable) = Scalar variable

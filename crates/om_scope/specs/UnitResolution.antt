@@ -1,16 +1,16 @@
 -- The resolution of functions and of a whole source.
 use Rattle.std.specs.Prelude.{ℤ, pos, List, [], ◌∷◌, Option, None, Some, map}
 use Rattle.std.specs.List.{flat_map}
-use Rattle.om_parser.specs.declared.tree.Parameter.{Parameter}
-use Rattle.om_parser.specs.Tree.{InitializerTree, DeclaratorTree, statements, FunctionTree, ItemTree, Declaration, Prototype, Function, UnitTree}
+use Rattle.om_tree.specs.declared.tree.Parameter.{Parameter}
+use Rattle.om_tree.specs.Tree.{InitializerTree, DeclaratorTree, statements, FunctionTree, ItemTree, Declaration, Prototype, Function, UnitTree}
 use Rattle.om_pragma.specs.declared.name.Name as names
-use Rattle.om_scope.specs.declared.resolved.GlobalVariable.{GlobalVariable}
-use Rattle.om_scope.specs.declared.resolved.LocalVariable.{LocalVariable}
+use Rattle.om_resolved.specs.declared.resolved.GlobalVariable.{GlobalVariable}
+use Rattle.om_resolved.specs.declared.resolved.LocalVariable.{LocalVariable}
 use Rattle.om_scope.specs.Constants.{signed_constant, signed_value}
 use Rattle.om_scope.specs.Perhaps.{◌>>=◌, all_along}
 use Rattle.om_scope.specs.Places.{head_first}
-use Rattle.om_scope.specs.ResolvedTree.{ResolvedFunctionTree, ResolvedStatementsTree, ResolvedTree}
-use Rattle.om_scope.specs.Scopes.{Scopes, file_scope, inside, declarators_of, definitions_of, parameters_of, after_function, after_item, after_parameters}
+use Rattle.om_resolved.specs.ResolvedTree.{ResolvedFunctionTree, ResolvedStatementsTree, ResolvedTree}
+use Rattle.om_scope.specs.Scopes.{Scopes, file_scope, inside, declarators_of, definitions_of, parameters_of, returns_value, after_function, after_item, after_parameters}
 use Rattle.om_scope.specs.StatementResolution.{length_of, local_of, resolved_statements}
 
 -- ---- functions
@@ -34,6 +34,7 @@ resolved_function scopes f =
       name = f.head.name.text;
       name_at = f.head.name.span.start;
       first = head_first f.head;
+      returns = returns_value f.head.result;
       parameters = flat_map parameter_variable (parameters_of f.head.parameters);
       body = body;
       closing_line = f.body.close_brace.line;

@@ -6,8 +6,8 @@ use Rattle.om_lexer.specs.declared.fault.FaultCode.TheVariants as faults
 use Rattle.om_lexer.specs.declared.fault.SourceFault.{SourceFault}
 use Rattle.om_pragma.specs.declared.name.Name as names
 use Rattle.om_pragma.specs.declared.name.Number.{Number}
-use Rattle.om_parser.specs.declared.tree.Parameter.{Parameter}
-use Rattle.om_parser.specs.Tree.{InitializerTree, DeclaratorTree, statements, HeadTree, FunctionTree, ItemTree, Declaration, Prototype, Function}
+use Rattle.om_tree.specs.declared.tree.Parameter.{Parameter}
+use Rattle.om_tree.specs.Tree.{InitializerTree, DeclaratorTree, statements, HeadTree, FunctionTree, ItemTree, Declaration, Prototype, Function}
 use Rattle.om_scope.specs.declared.flow.Flow.{Flow}
 use Rattle.om_scope.specs.declared.globals.TheConstants.{GLOBAL_CELL_LIMIT}
 use Rattle.om_scope.specs.declared.function.TheConstants.{FUNCTION_LIMIT, PARAMETER_LIMIT}

@@ -1,28 +1,30 @@
 //! Constructs, put together of their clauses and their statement.
 
-ghost use Rattle.std.specs.Prelude.{◌≡◌, [], IfOk, map, option_map};
-ghost use Rattle.om_parser.specs.View.{view_directive, view_expression};
+ghost use Rattle.std.specs.Prelude.{◌≡◌, [], IfOk, List, map, option_map};
+ghost use Rattle.om_lexer.specs.declared.token.Span.{Span};
+ghost use Rattle.om_tree.specs.View.{view_directive, view_expression};
 ghost use Rattle.om_pragma.specs.Expressions.{map_clause, map_item};
 ghost use Rattle.om_pragma.specs.Questions.{atomic_kind};
 ghost use Rattle.om_scope.specs.Checks.{Checks};
 ghost use Rattle.om_scope.specs.Parts.{with_around};
-ghost use Rattle.om_scope.specs.ResolvedTree.{statements};
-ghost use Rattle.om_scope.specs.ResolvedView.{view_resolved_clause, view_resolved_loop, view_resolved_statement};
-ghost use Rattle.om_scope.specs.StatementResolution.{clause_schedule, construct_of, critical_name, has_default, has_nowait, loop_construct_of, parallel_of, part_of, plain_schedule, schedule_in, schedule_of, sections_construct_of, task_of};
+ghost use Rattle.om_resolved.specs.ResolvedTree.{ResolvedClauseTree, ResolvedStatementTree, statements};
+ghost use Rattle.om_resolved.specs.ResolvedView.{view_resolved_clause, view_resolved_loop, view_resolved_statement};
+ghost use Rattle.om_scope.specs.StatementResolution.{atomic_of, clause_schedule, construct_of, critical_name, has_default, has_nowait, loop_construct_of, parallel_of, part_of, plain_schedule, schedule_in, schedule_of, sections_construct_of, task_of};
 
-use crate::captures::{captures_of_parallel, captures_of_task};
 use crate::construct::traits_of;
 use crate::declaration::copy_of;
-use crate::resolved::{
-    Capture, ConstructKind, ResolvedClause, ResolvedLoop, ResolvedSchedule, ResolvedStatement,
-};
 use crate::symbols::is_parallel;
+use crate::update::with_update;
 use om_lexer::{SourceFault, Span};
-use om_parser::{Expression, Name};
 use om_pragma::{
     AtomicKind, Clause, ClauseItem, ClauseKind, Directive, DirectiveName, Schedule, ScheduleKind,
 };
+use om_resolved::{
+    Capture, ConstructKind, ResolvedClause, ResolvedLoop, ResolvedSchedule, ResolvedStatement,
+    Side, captures_of_parallel, captures_of_task,
+};
 use om_seq::Seq;
+use om_tree::{Expression, Name};
 use std::alloc::{AllocError, Global};
 
 /// Whether a directive is `nowait`.
@@ -85,6 +87,8 @@ pub enum Around {
     /// A `task`, with what it takes from outside.
     Task(Seq<Capture>),
     Construct(ConstructKind),
+    /// An `atomic` that updates; its statement has the target on this side.
+    Update(Side),
     /// The statement stays as it is.
     Nothing,
 }
@@ -135,11 +139,31 @@ fn around_critical(alloc: Global, name: &Option<(Span, Name, Span)>) -> Result<A
     Ok(Around::Construct(ConstructKind::Critical(name)))
 }
 
-/// What a construct puts round its statement, in the `parallel` that begins there.
+/// What an `atomic` puts round its statement, which has the target on that side.
+fn around_atomic(kind: AtomicKind, side: Side) -> Around
+    ensures { (at : Span) (cs : List ResolvedClauseTree) (body : ResolvedStatementTree) → with_around result at cs body ≡ atomic_of kind side at cs body }
+{
+    match kind {
+        AtomicKind::Update => Around::Update(side),
+        AtomicKind::Read => Around::Construct(ConstructKind::Atomic),
+        AtomicKind::Write => Around::Construct(ConstructKind::Atomic),
+    }
+}
+
+/// What a construct depends on besides its clauses and its statement.
+#[derive(Clone, Copy)]
+pub struct Setting {
+    /// The byte of the source where the innermost `parallel` round it begins.
+    pub parallel: Option<u32>,
+    /// On which side an atomic update has its target.
+    pub side: Side,
+}
+
+/// What a construct puts round its statement.
 #[tactic(auto, unfolding(crate::specs::StatementResolution::construct_of))]
 fn around_of(
     alloc: Global,
-    parallel: Option<u32>,
+    setting: Setting,
     directive: &Directive<Expression>,
     clauses: &[ResolvedClause],
     body: &ResolvedStatement,
@@ -147,11 +171,11 @@ fn around_of(
     ensures { let tree = view_directive directive.now in
         let cs = map view_resolved_clause clauses.now in
         let inner = view_resolved_statement body.now in
-        IfOk result (λ around. with_around around tree.hash cs inner ≡ construct_of parallel tree tree.name cs inner) }
+        IfOk result (λ around. with_around around tree.hash cs inner ≡ construct_of setting.parallel setting.side tree tree.name cs inner) }
 {
     match &directive.name {
         DirectiveName::Parallel(_) => around_parallel(alloc, directive, clauses, body),
-        DirectiveName::Task(_) => around_task(alloc, parallel, directive, clauses, body),
+        DirectiveName::Task(_) => around_task(alloc, setting.parallel, directive, clauses, body),
         DirectiveName::Single(_) => {
             let kind = ConstructKind::Single(has_nowait(directive));
             Ok(Around::Construct(kind))
@@ -159,10 +183,7 @@ fn around_of(
         DirectiveName::Masked(_) => Ok(Around::Construct(ConstructKind::Masked)),
         DirectiveName::Master(_) => Ok(Around::Construct(ConstructKind::Masked)),
         DirectiveName::Critical(_, name) => around_critical(alloc, name),
-        DirectiveName::Atomic(_) => {
-            let kind = ConstructKind::Atomic(atomic_kind(directive));
-            Ok(Around::Construct(kind))
-        }
+        DirectiveName::Atomic(_) => Ok(around_atomic(atomic_kind(directive), setting.side)),
         DirectiveName::For(_) => Ok(Around::Nothing),
         DirectiveName::Sections(_) => Ok(Around::Nothing),
         DirectiveName::Section(_) => Ok(Around::Nothing),
@@ -188,23 +209,24 @@ fn with_around(
         Around::Parallel(captures) => ResolvedStatement::Parallel(at, clauses, captures, body),
         Around::Task(captures) => ResolvedStatement::Task(at, clauses, captures, body),
         Around::Construct(kind) => ResolvedStatement::Construct(at, kind, clauses, body),
+        Around::Update(side) => with_update(at, side, body),
         Around::Nothing => Box::into_inner(body),
     }
 }
 
-/// A construct round a statement, in the `parallel` that begins there.
+/// A construct round a statement.
 pub fn construct_of(
     alloc: Global,
-    parallel: Option<u32>,
+    setting: Setting,
     directive: &Directive<Expression>,
     clauses: Vec<ResolvedClause>,
     body: Box<ResolvedStatement>,
 ) -> Result<ResolvedStatement, SourceFault>
     ensures checked { Checks result [] }
     ensures made { let tree = view_directive directive.now in
-        IfOk result (λ found. view_resolved_statement found ≡ construct_of parallel tree tree.name (map view_resolved_clause clauses.items) (view_resolved_statement body.value)) }
+        IfOk result (λ found. view_resolved_statement found ≡ construct_of setting.parallel setting.side tree tree.name (map view_resolved_clause clauses.items) (view_resolved_statement body.value)) }
 {
-    let around = around_of(alloc, parallel, directive, clauses.as_slice(), &body)?;
+    let around = around_of(alloc, setting, directive, clauses.as_slice(), &body)?;
     Ok(with_around(around, directive.hash, clauses, body))
 }
 

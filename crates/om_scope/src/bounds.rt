@@ -6,7 +6,7 @@ ghost use Rattle.om_scope.specs.ExpressionRules.{expression_breaches};
 ghost use Rattle.om_scope.specs.Scopes.{is_declared};
 ghost use Rattle.om_scope.specs.LoopViews.{view_loop};
 ghost use Rattle.om_scope.specs.Resolution.{resolved_expression};
-ghost use Rattle.om_scope.specs.ResolvedView.{view_resolved_expression, view_resolved_loop};
+ghost use Rattle.om_resolved.specs.ResolvedView.{view_resolved_expression, view_resolved_loop};
 ghost use Rattle.om_scope.specs.StatementResolution.{bounds_scopes, resolved_loop};
 ghost use Rattle.om_scope.specs.StatementRules.{found_breaches, values_breaches, variable_breaches, with_iteration};
 
@@ -14,10 +14,10 @@ use crate::canonical::Loop;
 use crate::declaration::local_of;
 use crate::expression::{boxed_expression, check_declared, is_scalar};
 use crate::fault::refuse_if;
-use crate::resolved::{ResolvedExpression, ResolvedLoop, ResolvedSchedule};
-use crate::symbols::{Shape, Symbols};
+use crate::symbols::Symbols;
 use om_lexer::{FaultCode, SourceFault};
-use om_parser::Name;
+use om_resolved::{ResolvedExpression, ResolvedLoop, ResolvedSchedule, Shape};
+use om_tree::Name;
 use std::alloc::{AllocError, Global};
 
 /// The variable of a loop that does not declare it: S7, S9.

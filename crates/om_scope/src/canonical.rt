@@ -1,12 +1,12 @@
 //! Canonical loops (OpenMP API 5.2, section 4.4.1).
 
 ghost use Rattle.std.specs.Prelude.{◌≡◌, ◌≤◌, option_map, map};
-ghost use Rattle.om_parser.specs.View.{view_declarator, view_expression, view_for_head, view_for_start, view_further, view_initializer, view_statement};
+ghost use Rattle.om_tree.specs.View.{view_declarator, view_expression, view_for_head, view_for_start, view_further, view_initializer, view_statement};
 ghost use Rattle.om_scope.specs.Loops as loops;
 ghost use Rattle.om_scope.specs.LoopViews.{view_bound, view_loop, view_start};
 
 use om_lexer::Span;
-use om_parser::{
+use om_tree::{
     ArrayLength, AssignOperator, BinaryOperator, Declarator, Expression, ForHead, ForStart,
     Initializer, Name, PostfixOperator, PrefixOperator, Statement,
 };

@@ -1,10 +1,10 @@
 //! Constants with their sign (C17 6.6).
 
 ghost use Rattle.std.specs.Prelude.{◌≡◌};
-ghost use Rattle.om_parser.specs.View.{view_expression};
+ghost use Rattle.om_tree.specs.View.{view_expression};
 ghost use Rattle.om_scope.specs.Constants.{minus_constant, signed_constant};
 
-use om_parser::{Expression, Number, PrefixOperator};
+use om_tree::{Expression, Number, PrefixOperator};
 
 /// A constant behind a minus.
 fn minus_constant(expression: &Expression) -> Option<(bool, Number)>

@@ -1,13 +1,13 @@
 //! What each directive is as a construct.
 
 ghost use Rattle.std.specs.Prelude.{◌≡◌};
-ghost use Rattle.om_parser.specs.View.{view_directive};
+ghost use Rattle.om_tree.specs.View.{view_directive};
 ghost use Rattle.om_scope.specs.DirectiveRules.{constructing, is_closed_inside, parallel_in, row, traits_of};
 
 use crate::flow::Flow;
 use crate::symbols::{RegionKind, is_parallel};
-use om_parser::Expression;
 use om_pragma::{Directive, DirectiveName};
+use om_tree::Expression;
 
 /// Whether worksharing constructs and barriers may stand in a construct.
 #[derive(Clone, Copy)]

@@ -1,20 +1,20 @@
 //! Declarations in functions: their rules, and the variables that they declare.
 
 ghost use Rattle.std.specs.Prelude.{◌≡◌, ◌++◌, [], ◌∷◌, false, OnOk, IfOk, Some, option_map, map};
-ghost use Rattle.om_parser.specs.View.{view_declaration, view_declarator, view_further, view_initializer};
+ghost use Rattle.om_tree.specs.View.{view_declaration, view_declarator, view_further, view_initializer};
 ghost use Rattle.om_scope.specs.Checks.{Checks, ChecksExactly};
 ghost use Rattle.om_scope.specs.Scopes.{after_local, after_locals, behind_commas, cells_of, declarators_of, shape_of};
-ghost use Rattle.om_scope.specs.ResolvedView.{view_resolved_declarator, view_resolved_expression};
+ghost use Rattle.om_resolved.specs.ResolvedView.{view_resolved_declarator, view_resolved_expression};
 ghost use Rattle.om_scope.specs.StatementResolution.{length_of, local_of, resolved_declarator, resolved_declarators, resolved_initial};
 ghost use Rattle.om_scope.specs.StatementRules.{array_size_breaches, initializer_breaches, is_empty_array, local_breaches, locals_breaches, redeclared_breaches};
 
 use crate::expression::{boxed_expression, unboxed};
 use crate::fault::refuse_if;
-use crate::resolved::{LocalVariable, ResolvedDeclarator, ResolvedExpression};
-use crate::symbols::{Shape, Symbols};
+use crate::symbols::Symbols;
 use om_lexer::{FaultCode, SourceFault, Span};
-use om_parser::{ArrayLength, Declaration, Declarator, Initializer, Name};
+use om_resolved::{LocalVariable, ResolvedDeclarator, ResolvedExpression, Shape};
 use om_seq::Seq;
+use om_tree::{ArrayLength, Declaration, Declarator, Initializer, Name};
 use std::alloc::{AllocError, Global};
 
 /// That a name is not declared in this scope yet: S8.

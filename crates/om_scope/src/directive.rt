@@ -2,14 +2,14 @@
 
 ghost use Rattle.std.specs.Prelude.{◌≡◌, ◌++◌, ◌&&◌, ◌||◌, false, OnOk, IfOk, Option, Some, map, fold, not, option_map};
 ghost use Rattle.std.specs.List.{flat_map};
-ghost use Rattle.om_parser.specs.View.{view_directive, view_expression};
+ghost use Rattle.om_tree.specs.View.{view_directive, view_expression};
 ghost use Rattle.om_pragma.specs.Expressions.{map_clause, map_item};
 ghost use Rattle.om_scope.specs.Checks.{Checks, ChecksExactly};
 ghost use Rattle.om_scope.specs.DirectiveRules.{after_clause, after_item, after_name, after_names, clause_breaches, directive_breaches, flushed_breaches, is_listed, is_mislisted, is_variable, item_breaches, list_breaches, listed_breaches, listed_by, names_breaches, names_in, nesting_breaches, nothing_listed, sharing_of, uses_original};
 ghost use Rattle.om_scope.specs.Faults.{breaches_along};
 ghost use Rattle.om_scope.specs.Perhaps.{each};
 ghost use Rattle.om_scope.specs.Resolution.{variable_named, variable_of};
-ghost use Rattle.om_scope.specs.ResolvedView.{view_resolved_clause};
+ghost use Rattle.om_resolved.specs.ResolvedView.{view_resolved_clause};
 ghost use Rattle.om_scope.specs.StatementResolution.{clause_of, flushed, kind_of, resolved_clause, resolved_clauses, resolved_listed};
 
 use crate::construct::traits_of;
@@ -18,12 +18,12 @@ use crate::expression::{boxed_expression, check_declared, is_copied_array, is_sc
 use crate::fault::refuse_if;
 use crate::flow::Flow;
 use crate::listed::Listed;
-use crate::resolved::{CopyKind, ResolvedClause, Variable};
 use crate::symbols::{Meaning, Symbols};
 use om_lexer::{FaultCode, SourceFault, Span};
-use om_parser::{Expression, Name};
 use om_pragma::{Clause, ClauseItem, DataSharing, Directive, DirectiveName, NameList};
+use om_resolved::{CopyKind, ResolvedClause, Variable};
 use om_seq::Seq;
+use om_tree::{Expression, Name};
 use std::alloc::{AllocError, Global};
 
 /// A worksharing construct or a barrier where none may stand: S14.

@@ -1,15 +1,15 @@
 //! Expressions: their rules, and the variable of each use.
 
 ghost use Rattle.std.specs.Prelude.{◌≡◌, ◌<◌, ◌++◌, pos, true, Option, Some, IfOk, map, length, option_map};
-ghost use Rattle.om_parser.specs.Tree.{arguments};
-ghost use Rattle.om_parser.specs.View.{view_expression};
+ghost use Rattle.om_tree.specs.Tree.{arguments};
+ghost use Rattle.om_tree.specs.View.{view_expression};
 ghost use Rattle.om_scope.specs.ExpressionRules.{undeclared_breaches, is_undeclared, is_scalar, is_array, is_printf, is_copied_array, is_miscalled, scalar_breaches, unlisted_breaches, array_breaches, call_breaches, constant_breaches, leading_breaches, misplaced_breaches, expression_breaches, called_breaches, own_call_breaches, argument_count, arguments_breaches, target_breaches, argument_breaches, element_breaches, is_print, is_target, misprint_breaches, prefix_breaches, print_breaches, printed_breaches, misused_array_breaches, misused_scalar_breaches};
 ghost use Rattle.om_scope.specs.Checks.{Checks, ChecksExactly};
 ghost use Rattle.om_scope.specs.Faults.{first_of};
 ghost use Rattle.om_scope.specs.Parts.{step_of, unary_of};
 ghost use Rattle.om_scope.specs.Resolution.{assigned, call_of, callee_named, format_in, own_call_of, prefixed, print_of, resolved_expression, resolved_printed, resolved_target, resolved_values, resolved_call, stepped, text_in, variable_named, variable_of};
-ghost use Rattle.om_scope.specs.ResolvedTree as trees;
-ghost use Rattle.om_scope.specs.ResolvedView.{view_resolved_expression};
+ghost use Rattle.om_resolved.specs.ResolvedTree as trees;
+ghost use Rattle.om_resolved.specs.ResolvedView.{view_resolved_expression};
 ghost use Rattle.om_scope.specs.TargetViews.{view_target};
 ghost use Rattle.om_scope.specs.Views.{view_argument};
 
@@ -17,11 +17,11 @@ use crate::fault::{refuse_among, refuse_if};
 use crate::kept::{add, boxed};
 use crate::place::expression_start;
 use crate::print::{PRINTED_LIMIT, is_format};
-use crate::resolved::{ResolvedExpression, UnaryOperator, Variable};
-use crate::symbols::{Meaning, Shape, Symbols};
+use crate::symbols::{Meaning, Symbols};
 use om_lexer::{FaultCode, SourceFault, Span};
-use om_parser::{AssignOperator, Expression, Name, Number, PostfixOperator, PrefixOperator};
+use om_resolved::{ResolvedExpression, Shape, UnaryOperator, Variable};
 use om_seq::Seq;
+use om_tree::{AssignOperator, Expression, Name, Number, PostfixOperator, PrefixOperator};
 use std::alloc::{AllocError, Global};
 
 /// Whether a name of this meaning is undeclared, or a function that is never defined.

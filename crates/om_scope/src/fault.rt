@@ -5,8 +5,8 @@ ghost use Rattle.om_scope.specs.Checks.{Checks, ChecksExactly};
 ghost use Rattle.om_scope.specs.Faults.{answered_among, breach_if, first_of, goes_first, perhaps_with, with_breach};
 ghost use Rattle.om_scope.specs.Outcomes.{Refuses};
 
-use crate::resolved::{ResolvedExpression, ResolvedStatement};
 use om_lexer::{FaultCode, SourceFault};
+use om_resolved::{ResolvedExpression, ResolvedStatement};
 
 /// A refusal where a rule is broken.
 pub fn refuse_if(broken: bool, code: FaultCode, at: u32) -> Result<(), SourceFault>

@@ -3,12 +3,12 @@
 ghost use Rattle.std.specs.Prelude.{◌≡◌, ◌++◌, ◌+◌, ◌<◌, OnOk, IfOk, Some, length, map};
 ghost use Rattle.std.specs.List.{flat_map, list_any};
 ghost use Rattle.std.specs.Str.{bytes_eq};
-ghost use Rattle.om_parser.specs.View.{view_function, view_head, view_parameters};
+ghost use Rattle.om_tree.specs.View.{view_function, view_head, view_parameters};
 ghost use Rattle.om_scope.specs.Checks.{Checks, ChecksExactly};
 ghost use Rattle.om_scope.specs.Scopes.{after_function, after_parameter, after_parameter_name, after_parameters, after_prototype, asks, inside, parameters_of, returns_value, signature_eq, signature_of};
 ghost use Rattle.om_scope.specs.Faults.{breaches_along};
-ghost use Rattle.om_scope.specs.ResolvedTree as resolved;
-ghost use Rattle.om_scope.specs.ResolvedView.{view_resolved_function, view_resolved_statement};
+ghost use Rattle.om_resolved.specs.ResolvedTree as resolved;
+ghost use Rattle.om_resolved.specs.ResolvedView.{view_resolved_function, view_resolved_statement};
 ghost use Rattle.om_scope.specs.UnitResolution.{named_parameter, parameter_variable, resolved_function, resolved_inside};
 ghost use Rattle.om_scope.specs.UnitRules.{body_breaches, definition_breaches, flow_of, function_breaches, head_breaches, is_other_main, is_redeclared, next_parameter, parameter_breaches, parameter_name_breaches, parameters_breaches, prototype_breaches};
 
@@ -16,12 +16,12 @@ use crate::declaration::{check_new, copy_of, local_of};
 use crate::fault::refuse_if;
 use crate::flow::Flow;
 use crate::place::head_first;
-use crate::resolved::{LocalVariable, ResolvedFunction, ResolvedStatement};
 use crate::statement::resolve_statements;
-use crate::symbols::{Meaning, Shape, Signature, Symbols};
+use crate::symbols::{Meaning, Signature, Symbols};
 use om_lexer::{FaultCode, SourceFault, Span};
-use om_parser::{Function, FunctionHead, Name, Parameter, Parameters, ResultType};
+use om_resolved::{LocalVariable, ResolvedFunction, ResolvedStatement, Shape};
 use om_seq::Seq;
+use om_tree::{Function, FunctionHead, Name, Parameter, Parameters, ResultType};
 use std::alloc::{AllocError, Global};
 
 /// How many functions a source may define.
@@ -304,6 +304,7 @@ pub fn resolve_function(
         name,
         name_at: function.head.name.span.start,
         first: head_first(&function.head),
+        returns: returns_value(&function.head.result),
         parameters: Seq::of(parameters),
         body,
         closing_line: function.body.close_brace.line,

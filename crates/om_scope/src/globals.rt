@@ -1,7 +1,7 @@
 //! Globals: their rules, and what they hold at the start.
 
 ghost use Rattle.std.specs.Prelude.{◌≡◌, ◌++◌, ◌+◌, ◌≤◌, ◌<◌, [], ◌∷◌, false, OnOk, IfOk, map, option_map};
-ghost use Rattle.om_parser.specs.View.{view_declaration, view_declarator, view_further, view_initializer};
+ghost use Rattle.om_tree.specs.View.{view_declaration, view_declarator, view_further, view_initializer};
 ghost use Rattle.om_scope.specs.Checks.{Checks, ChecksExactly};
 ghost use Rattle.om_scope.specs.Constants.{signed_value};
 ghost use Rattle.om_scope.specs.Scopes.{after_global, after_globals, behind_commas, cells_of, declarators_of, is_declared};
@@ -13,10 +13,10 @@ use crate::declaration::{cells_of, check_new, check_size, copy_of, length_of, sh
 use crate::expression::constant_of;
 use crate::fault::refuse_if;
 use crate::place::expression_start;
-use crate::resolved::GlobalVariable;
 use crate::symbols::Symbols;
 use om_lexer::{FaultCode, SourceFault, Span};
-use om_parser::{Declaration, Declarator, Initializer, Number};
+use om_resolved::GlobalVariable;
+use om_tree::{Declaration, Declarator, Initializer, Number};
 use std::alloc::Global;
 
 /// How many cells the globals of a source may have. A scalar has one.

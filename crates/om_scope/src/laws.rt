@@ -1,6 +1,6 @@
 //! Laws of resolving, for every tree.
 
-ghost use Rattle.om_scope.specs.Laws.{NumbersNameGlobals, UnbrokenTreesResolve};
+ghost use Rattle.om_scope.specs.Laws.{NumbersNameGlobals, UnbrokenExpressionsAreWhole, UnbrokenStatementsAreWhole, UnbrokenTreesResolve};
 
 /// A name that means a variable is the name of that very global among those declared before.
 pub fn numbers_name_globals()
@@ -11,4 +11,15 @@ pub fn numbers_name_globals()
 /// function of the tree.
 pub fn unbroken_trees_resolve()
     ensures { UnbrokenTreesResolve }
+{}
+
+/// An expression that breaks no rule resolves to one that is whole, where the names in scope are what
+/// stands round it.
+pub fn unbroken_expressions_are_whole()
+    ensures { UnbrokenExpressionsAreWhole }
+{}
+
+/// So do the well-formed statements of a block, where none of them is or holds a `sections`.
+pub fn unbroken_statements_are_whole()
+    ensures { UnbrokenStatementsAreWhole }
 {}

@@ -4,7 +4,6 @@
 mod assembly;
 mod bounds;
 mod canonical;
-mod captures;
 mod constant;
 mod construct;
 mod declaration;
@@ -12,7 +11,6 @@ mod directive;
 mod expression;
 mod fault;
 mod flow;
-mod found;
 mod function;
 mod globals;
 mod kept;
@@ -22,16 +20,11 @@ mod names;
 mod nesting;
 mod place;
 mod print;
-mod resolved;
 mod sightings;
 mod statement;
 mod symbols;
 mod unit;
+mod update;
 
 pub use globals::GLOBAL_CELL_LIMIT;
-pub use resolved::{
-    Capture, ConstructKind, CopyKind, GlobalVariable, LocalVariable, Resolved, ResolvedClause,
-    ResolvedDeclarator, ResolvedExpression, ResolvedFunction, ResolvedLoop, ResolvedSchedule,
-    ResolvedStart, ResolvedStatement, StandAlone, Taking, UnaryOperator, Variable,
-};
 pub use unit::resolve;

@@ -5,11 +5,11 @@ ghost use Rattle.om_scope.specs.DirectiveRules.{after_name, is_listed, nothing_l
 ghost use Rattle.om_scope.specs.Scopes.{scope_of};
 
 use crate::names::Names;
-use crate::resolved::Variable;
-use crate::symbols::{Meaning, Region, RegionKind, Shape, declares, put};
+use crate::symbols::{Meaning, Region, RegionKind, declares, put};
 use indexmap::IndexMap;
-use om_parser::Name;
 use om_pragma::{DataSharing, Sharing};
+use om_resolved::{Shape, Variable};
+use om_tree::Name;
 use std::alloc::{AllocError, Global};
 use std::marker::Model;
 

@@ -1,11 +1,11 @@
 //! Where a part of a tree begins.
 
 ghost use Rattle.std.specs.Prelude.{◌≡◌};
-ghost use Rattle.om_parser.specs.View.{view_expression, view_head, view_statement};
+ghost use Rattle.om_tree.specs.View.{view_expression, view_head, view_statement};
 ghost use Rattle.om_scope.specs.Places.{expression_first, expression_start, head_first, statement_first, statement_start};
 
 use om_lexer::Span;
-use om_parser::{Expression, FunctionHead, ResultType, Statement};
+use om_tree::{Expression, FunctionHead, ResultType, Statement};
 
 /// The span of an expression's first token.
 #[tactic(auto, unfolding(crate::specs::Places::expression_first))]

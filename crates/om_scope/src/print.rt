@@ -1,10 +1,10 @@
 //! The formats of `printf`.
 
 ghost use Rattle.std.specs.Prelude.{◌≡◌, fold};
-ghost use Rattle.om_parser.specs.View.{view_expression};
+ghost use Rattle.om_tree.specs.View.{view_expression};
 ghost use Rattle.om_scope.specs.Formats.{after_character, is_format, is_whole, takes_values, with_value};
 
-use om_parser::Expression;
+use om_tree::Expression;
 
 /// How many values a `printf` may write.
 pub const PRINTED_LIMIT: usize = 16;

@@ -1,8 +1,8 @@
 //! Statements: their rules, and the variables of their names.
 
 ghost use Rattle.std.specs.Prelude.{◌≡◌, ◌++◌, ◌<◌, [], false, not, OnOk, IfOk, Some, map, option_map};
-ghost use Rattle.om_parser.specs.Tree.{statements};
-ghost use Rattle.om_parser.specs.View.{view_declaration, view_expression, view_for_head, view_directive, view_for_start, view_statement};
+ghost use Rattle.om_tree.specs.Tree.{statements};
+ghost use Rattle.om_tree.specs.View.{view_declaration, view_expression, view_for_head, view_directive, view_for_start, view_statement};
 ghost use Rattle.om_scope.specs.Checks.{Checks, ChecksExactly};
 ghost use Rattle.om_scope.specs.DirectiveRules.{directive_breaches, flush_breaches, in_construct, in_kind};
 ghost use Rattle.om_scope.specs.ExpressionRules.{expression_breaches};
@@ -10,14 +10,14 @@ ghost use Rattle.om_scope.specs.LoopViews.{view_loop};
 ghost use Rattle.om_scope.specs.Loops.{loop_in};
 ghost use Rattle.om_scope.specs.Parts.{resolved_declaration, resolved_effect, resolved_return, round_listed};
 ghost use Rattle.om_scope.specs.Places.{statement_first};
-ghost use Rattle.om_scope.specs.ResolvedTree as resolved;
-ghost use Rattle.om_scope.specs.ResolvedView.{view_resolved_clause, view_resolved_expression, view_resolved_loop, view_resolved_start, view_resolved_statement};
+ghost use Rattle.om_resolved.specs.ResolvedTree as resolved;
+ghost use Rattle.om_resolved.specs.ResolvedView.{view_resolved_clause, view_resolved_expression, view_resolved_loop, view_resolved_start, view_resolved_statement};
 ghost use Rattle.om_scope.specs.Scopes.{after_locals, declarators_of, inside};
 ghost use Rattle.om_scope.specs.StatementResolution.{resolved_alone, resolved_part, resolved_clauses, resolved_construct, resolved_for, resolved_loop, resolved_loop_construct, resolved_parts, resolved_perhaps, resolved_plain_construct, resolved_repeated, resolved_sections, resolved_start, resolved_statement, resolved_statements, schedule_of};
 ghost use Rattle.om_scope.specs.StatementRules.{after_for_start, after_statement, for_start_breaches, for_turn_breaches, after_statements, for_breaches, looping, body_breaches, continuing, found_breaches, in_loop, loop_construct_breaches, jump_breaches, construct_breaches, plain_construct_breaches, part_breaches, begins_part, has_section, parts_behind, sections_breaches, sections_construct_breaches, locals_breaches, round_bounds, stand_alone_breaches, perhaps_breaches, return_breaches, statement_breaches, statements_breaches};
 
 use crate::assembly::{
-    construct_of, loop_construct_of, part_of, schedule_of, sections_construct_of,
+    Setting, construct_of, loop_construct_of, part_of, schedule_of, sections_construct_of,
 };
 use crate::bounds::{enter_loop, resolve_loop};
 use crate::canonical::{Loop, loop_in};
@@ -30,14 +30,15 @@ use crate::flow::Flow;
 use crate::kept::{add, boxed};
 use crate::listed::Listed;
 use crate::place::{expression_first, statement_first, statement_start};
-use crate::resolved::{
+use crate::symbols::{RegionKind, Symbols, is_parallel};
+use crate::update::statement_side;
+use om_lexer::{FaultCode, SourceFault, Span};
+use om_pragma::{Directive, DirectiveName};
+use om_resolved::{
     ResolvedClause, ResolvedExpression, ResolvedLoop, ResolvedSchedule, ResolvedStart,
     ResolvedStatement, StandAlone,
 };
-use crate::symbols::{RegionKind, Symbols, is_parallel};
-use om_lexer::{FaultCode, SourceFault, Span};
-use om_parser::{Declaration, Expression, ForHead, ForStart, Statement};
-use om_pragma::{Directive, DirectiveName};
+use om_tree::{Declaration, Expression, ForHead, ForStart, Statement};
 use std::alloc::{AllocError, Global};
 
 /// How many parts a `sections` may have.
@@ -490,10 +491,14 @@ fn resolve_plain_construct(
     ensures resolved { IfOk result (λ found. resolved_plain_construct symbols.old flow.parallel (view_directive directive.now) (view_statement body.now) ≡ Some (view_resolved_statement found)) }
 {
     let inside = constructing(directive, flow);
+    let setting = Setting {
+        parallel: flow.parallel,
+        side: statement_side(body),
+    };
     let clauses = enter_construct(alloc, symbols, flow, directive)?;
     let body = boxed_statement(alloc, symbols, inside, body)?;
     symbols.leave();
-    construct_of(alloc, flow.parallel, directive, clauses, body)
+    construct_of(alloc, setting, directive, clauses, body)
 }
 
 /// A construct that is for a loop: S12.

@@ -9,21 +9,14 @@ ghost use Rattle.om_scope.specs.Scopes.{scope_of, predeclared, nothing_declared,
 
 use crate::names::Names;
 use crate::nesting::{Construct, holder_since, is_copy, is_unlisted_since, leave_construct};
-use crate::resolved::Variable;
 use crate::sightings::{Sighting, Sightings, depth_of};
 use indexmap::IndexMap;
-use om_parser::Name;
 use om_pragma::Sharing;
+use om_resolved::{Shape, Variable};
+use om_tree::Name;
 use std::alloc::{AllocError, Global};
 use std::marker::Model;
 use std::mem;
-
-/// Whether a variable is one `int` or several.
-#[derive(Clone, Copy)]
-pub enum Shape {
-    Scalar,
-    Array,
-}
 
 /// What a call of a function needs and gives.
 #[derive(Clone, Copy)]

@@ -3,25 +3,25 @@
 ghost use Rattle.std.specs.Prelude.{◌≡◌, ◌≢◌, ◌++◌, [], OnOk, IfOk, IfErr, Some, map, option_map};
 ghost use Rattle.std.specs.List.{flat_map, list_any};
 ghost use Rattle.om_lexer.specs.Faults.{no_memory};
-ghost use Rattle.om_parser.specs.View.{view_item, view_unit};
+ghost use Rattle.om_tree.specs.View.{view_item, view_unit};
 ghost use Rattle.om_scope.specs.Breaches.{breaches_of, is_main, main_breaches};
 ghost use Rattle.om_scope.specs.Checks.{Checks, ChecksExactly};
 ghost use Rattle.om_scope.specs.Faults.{first_of};
 ghost use Rattle.om_scope.specs.Perhaps.{all_along};
-ghost use Rattle.om_scope.specs.ResolvedView.{view_resolved, view_resolved_function};
+ghost use Rattle.om_resolved.specs.ResolvedView.{view_resolved, view_resolved_function};
 ghost use Rattle.om_scope.specs.Scopes.{after_definition, after_item, definitions_of, file_scope, nothing_declared};
 ghost use Rattle.om_scope.specs.UnitResolution.{globals_of, item_functions, items_resolution, resolution_of};
 ghost use Rattle.om_scope.specs.UnitRules.{item_breaches, items_breaches};
-ghost use Rattle.om_scope.specs.Uses.{IsResolved};
+ghost use Rattle.om_resolved.specs.Uses.{IsResolved};
 
 use crate::function::{check_prototype, resolve_function};
 use crate::globals::declare_globals;
 use crate::names::Names;
-use crate::resolved::{GlobalVariable, Resolved, ResolvedFunction};
 use crate::symbols::{Symbols, add_predeclared};
 use om_lexer::{FaultCode, SourceFault};
-use om_parser::{Item, Unit};
+use om_resolved::{GlobalVariable, Resolved, ResolvedFunction};
 use om_seq::Seq;
+use om_tree::{Item, Unit};
 use std::alloc::{AllocError, Global};
 
 /// Adds the function that an item defines.

@@ -1,36 +1,36 @@
 -- The rows of serial instructions: those of the frame machine, with objects for variables and updates for what is put.
 use Rattle.std.specs.Prelude.{ℕ, ◌+◌, ℤ, pos, nat_le, if◌then◌else◌, Option, None, Some, option_map, unwrap_or, Result, Ok, Err, List, [], ◌∷◌, ◌++◌, length}
-use Rattle.om_objects.specs.declared.object.Obj.TheVariants as obj
-use Rattle.om_objects.specs.declared.footprint.Access.{Access}
-use Rattle.om_program.specs.declared.instruction.Instr.{Instr}
-use Rattle.om_program.specs.declared.instruction.Place.{Place}
-use Rattle.om_program.specs.declared.instruction.Place.TheVariants as place
-use Rattle.om_program.specs.declared.instruction.Reduction.{Reduction}
-use Rattle.om_program.specs.declared.raw.Body.{Body}
-use Rattle.om_program.specs.declared.raw.Raw.{Raw}
-use Rattle.om_program.specs.declared.raw.Slot.{Slot}
-use Rattle.om_program.specs.declared.frame.Cell as cells
-use Rattle.om_program.specs.declared.frame.Cell.TheVariants as cell
-use Rattle.om_program.specs.declared.frame.Fault.{Fault}
-use Rattle.om_program.specs.declared.frame.Fault.TheVariants as fault
-use Rattle.om_program.specs.declared.frame.Operand.{Operand}
-use Rattle.om_program.specs.declared.frame.Operand.TheVariants as operand
-use Rattle.om_program.specs.declared.serial.Touch.{Touch}
-use Rattle.om_program.specs.declared.serial.Touch.TheVariants as touch
-use Rattle.om_program.specs.declared.serial.Turn.{Turn}
-use Rattle.om_program.specs.declared.serial.Turn.TheVariants as turn
-use Rattle.om_program.specs.Frames.{Act, act, cells_in, print_bytes}
-use Rattle.om_program.specs.Places.{slots_of}
-use Rattle.om_program.specs.Arithmetic.{combine}
-use Rattle.om_values.specs.declared.control.Context.{Context}
-use Rattle.om_values.specs.declared.control.Frame.{Frame}
-use Rattle.om_values.specs.declared.edit.Edit.TheVariants.{Go, BeginFrame, EndFrame}
-use Rattle.om_values.specs.declared.step.Tail.TheVariants.{Bytes}
-use Rattle.om_values.specs.declared.step.Update.{Update}
-use Rattle.om_values.specs.declared.step.Update.TheVariants.{Put, Keep, Append}
-use Rattle.om_values.specs.declared.value.Val.{Val}
-use Rattle.om_values.specs.declared.value.Val.TheVariants as value
-use Rattle.om_values.specs.Values.{cell_in}
+use Rattle.om_foot.specs.declared.object.Obj.TheVariants as obj
+use Rattle.om_foot.specs.declared.footprint.Access.{Access}
+use Rattle.om_code.specs.declared.instruction.Instr.{Instr}
+use Rattle.om_code.specs.declared.instruction.Place.{Place}
+use Rattle.om_code.specs.declared.instruction.Place.TheVariants as place
+use Rattle.om_code.specs.declared.instruction.Reduction.{Reduction}
+use Rattle.om_code.specs.declared.raw.Body.{Body}
+use Rattle.om_code.specs.declared.raw.Raw.{Raw}
+use Rattle.om_code.specs.declared.raw.Slot.{Slot}
+use Rattle.om_code.specs.declared.frame.Cell as cells
+use Rattle.om_code.specs.declared.frame.Cell.TheVariants as cell
+use Rattle.om_code.specs.declared.frame.Fault.{Fault}
+use Rattle.om_code.specs.declared.frame.Fault.TheVariants as fault
+use Rattle.om_code.specs.declared.frame.Operand.{Operand}
+use Rattle.om_code.specs.declared.frame.Operand.TheVariants as operand
+use Rattle.om_code.specs.declared.serial.Touch.{Touch}
+use Rattle.om_code.specs.declared.serial.Touch.TheVariants as touch
+use Rattle.om_code.specs.declared.serial.Turn.{Turn}
+use Rattle.om_code.specs.declared.serial.Turn.TheVariants as turn
+use Rattle.om_code.specs.Frames.{Act, act, cells_in, print_bytes}
+use Rattle.om_code.specs.Places.{slots_of}
+use Rattle.om_code.specs.Arithmetic.{combine}
+use Rattle.om_cells.specs.declared.control.Context.{Context}
+use Rattle.om_cells.specs.declared.control.Frame.{Frame}
+use Rattle.om_cells.specs.declared.edit.Edit.TheVariants.{Go, BeginFrame, EndFrame}
+use Rattle.om_cells.specs.declared.step.Tail.TheVariants.{Bytes}
+use Rattle.om_cells.specs.declared.step.Update.{Update}
+use Rattle.om_cells.specs.declared.step.Update.TheVariants.{Put, Keep, Append}
+use Rattle.om_cells.specs.declared.value.Val.{Val}
+use Rattle.om_cells.specs.declared.value.Val.TheVariants as value
+use Rattle.om_cells.specs.Values.{cell_in}
 use Rattle.om_row.specs.declared.row.Launch.{Launch}
 use Rattle.om_row.specs.declared.row.Answer.{Answer}
 use Rattle.om_row.specs.declared.row.Row.{Row}

@@ -1,25 +1,25 @@
 //! The rows of the frame machine: objects for its variables, updates for what it puts.
 
 ghost use Rattle.std.specs.Prelude.{◌≡◌, ◌++◌, ◌<◌, ◌+◌, ◌^◌, ◌∷◌, [], IfOk, OnOk, slice_get, unwrap_or, option_map};
-ghost use Rattle.om_objects.specs.declared.object.Obj.TheVariants as obj;
-ghost use Rattle.om_program.specs.Places.{slots_of};
-ghost use Rattle.om_program.specs.Validity.{NamesKnown};
-ghost use Rattle.om_values.specs.Stores.{state_of};
+ghost use Rattle.om_foot.specs.declared.object.Obj.TheVariants as obj;
+ghost use Rattle.om_code.specs.Places.{slots_of};
+ghost use Rattle.om_code.specs.Validity.{NamesKnown};
+ghost use Rattle.om_cells.specs.Stores.{state_of};
 ghost use Rattle.om_row.specs.Rows.{answered};
 ghost use Rattle.om_row.specs.Objects.{read, write};
 ghost use Rattle.om_serial.specs.Rows.{row_of, unsets, cleared, serial_row, slots_in};
 
-use om_objects::{Access, Mode, Obj};
-use om_program::frame::Cell;
-use om_program::instruction::Instr;
-use om_program::print::print_bytes;
-use om_program::raw::{Raw, Slot};
-use om_program::serial::{Touch, Turn, touch_of, turn_of};
+use om_foot::{Access, Mode, Obj};
+use om_code::frame::Cell;
+use om_code::instruction::Instr;
+use om_code::print::print_bytes;
+use om_code::raw::{Raw, Slot};
+use om_code::serial::{Touch, Turn, touch_of, turn_of};
 use om_row::names::{name, name_slot, object_of};
 use om_row::updates::put_cell;
 use om_row::{Answer, Row};
 use om_seq::Seq;
-use om_values::{Context, Edit, Store, Tail, Update, Val};
+use om_cells::{Context, Edit, Store, Tail, Update, Val};
 use std::alloc::{AllocError, Global};
 
 /// The slots of a body, by its number; none where there is no such body.

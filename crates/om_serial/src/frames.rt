@@ -1,21 +1,21 @@
 //! Calls, returns, reductions, and the numbers of threads.
 
 ghost use Rattle.std.specs.Prelude.{◌≡◌, ◌<◌, ◌≤◌, ◌+◌, ◌^◌, IfOk, length, option_map};
-ghost use Rattle.om_values.specs.State.{State};
-ghost use Rattle.om_values.specs.Stores.{state_of};
+ghost use Rattle.om_cells.specs.State.{State};
+ghost use Rattle.om_cells.specs.Stores.{state_of};
 ghost use Rattle.om_row.specs.Rows.{answered};
 ghost use Rattle.om_serial.specs.Rows.{number_row, call_row, return_row, reduced, reduce_row};
 
 use crate::acts::{read, write};
-use om_program::arithmetic::combine;
-use om_program::frame::{Cell, Fault, Operand};
-use om_program::instruction::{Place, Reduction};
-use om_program::raw::{Body, Slot};
+use om_code::arithmetic::combine;
+use om_code::frame::{Cell, Fault, Operand};
+use om_code::instruction::{Place, Reduction};
+use om_code::raw::{Body, Slot};
 use om_row::names::{homes_in, name, name_given, object_of, own_cells};
 use om_row::updates::{put_cell, put_deaths, put_ints};
 use om_row::{Answer, Launch, Row};
 use om_seq::Seq;
-use om_values::{Context, Edit, Store, Update};
+use om_cells::{Context, Edit, Store, Update};
 use std::alloc::{AllocError, Global};
 
 // How many frames of a task wait, at most, for the one that runs.

@@ -2,14 +2,14 @@
 use Rattle.std.proofs.Common.{◌≡◌, subst, ℕ, ◌+◌, ℤ, arith, Bool, true, Option, None, Some}
 use Rattle.std.specs.Prelude.{Result, IfOk}
 use Rattle.std.proofs.lemmas.Grind.{common_steps}
-use Rattle.om_program.specs.declared.instruction.LoopForm.{LoopForm}
-use Rattle.om_program.specs.declared.instruction.Schedule.TheVariants as schedule
-use Rattle.om_values.specs.declared.control.Construct.{Construct}
-use Rattle.om_values.specs.declared.control.Construct.TheVariants as construct
-use Rattle.om_values.specs.declared.control.Context.{Context}
-use Rattle.om_values.specs.declared.control.Share.{Share}
+use Rattle.om_code.specs.declared.instruction.LoopForm.{LoopForm}
+use Rattle.om_code.specs.declared.instruction.Schedule.TheVariants as schedule
+use Rattle.om_cells.specs.declared.control.Construct.{Construct}
+use Rattle.om_cells.specs.declared.control.Construct.TheVariants as construct
+use Rattle.om_cells.specs.declared.control.Context.{Context}
+use Rattle.om_cells.specs.declared.control.Share.{Share}
 use Rattle.om_events.specs.declared.kind.Work.{Work}
-use Rattle.om_values.specs.State.{State}
+use Rattle.om_cells.specs.State.{State}
 use Rattle.om_row.specs.declared.row.Answer.{Answer}
 use Rattle.om_row.specs.Rows.{Asked, answered}
 use Rattle.om_share.specs.Rows.{end_worksharing_row, closed_row, work_of, single_work, is_right_form, loop_of, open_row, loop_row, is_loop, iteration_row, iterate_row, grab_row, static_row}

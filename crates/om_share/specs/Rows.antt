@@ -1,32 +1,32 @@
 -- The rows of worksharing, masked and critical regions.
 use Rattle.std.specs.Prelude.{ℕ, ◌+◌, ℤ, pos, ◌&&◌, Bool, true, false, nat_lt, nat_eq, if◌then◌else◌, Option, None, Some, List, [], ◌∷◌, slice_get}
 use Rattle.std.specs.Ordering.{int_eq}
-use Rattle.om_objects.specs.declared.object.Obj.TheVariants as obj
-use Rattle.om_program.specs.declared.frame.Fault.TheVariants as fault
-use Rattle.om_program.specs.declared.frame.Cell.TheVariants as cell
-use Rattle.om_program.specs.declared.instruction.LoopForm.{LoopForm}
-use Rattle.om_program.specs.declared.instruction.Schedule.{Schedule}
-use Rattle.om_program.specs.declared.instruction.Schedule.TheVariants as schedule
-use Rattle.om_program.specs.declared.instruction.Place.TheVariants.{Slot}
-use Rattle.om_program.specs.Arithmetic.{is_int}
+use Rattle.om_foot.specs.declared.object.Obj.TheVariants as obj
+use Rattle.om_code.specs.declared.frame.Fault.TheVariants as fault
+use Rattle.om_code.specs.declared.frame.Cell.TheVariants as cell
+use Rattle.om_code.specs.declared.instruction.LoopForm.{LoopForm}
+use Rattle.om_code.specs.declared.instruction.Schedule.{Schedule}
+use Rattle.om_code.specs.declared.instruction.Schedule.TheVariants as schedule
+use Rattle.om_code.specs.declared.instruction.Place.TheVariants.{Slot}
+use Rattle.om_code.specs.Arithmetic.{is_int}
 use Rattle.om_events.specs.declared.event.Record.{Record}
 use Rattle.om_events.specs.declared.event.Record.TheVariants as event_record
 use Rattle.om_events.specs.declared.kind.Endpoint.TheVariants as endpoint
 use Rattle.om_events.specs.declared.kind.Work as works
 use Rattle.om_events.specs.declared.kind.Work.TheVariants as work
-use Rattle.om_values.specs.declared.control.Context.{Context}
-use Rattle.om_values.specs.declared.control.Construct.{Construct}
-use Rattle.om_values.specs.declared.control.Construct.TheVariants as construct
-use Rattle.om_values.specs.declared.control.Share.{Share}
-use Rattle.om_values.specs.declared.control.Sharing as sharings
-use Rattle.om_values.specs.declared.control.Sharing.TheVariants as sharing
-use Rattle.om_values.specs.declared.control.Team.{Team}
-use Rattle.om_values.specs.declared.edit.Edit.{Edit}
-use Rattle.om_values.specs.declared.edit.Edit.TheVariants.{Go, Open, Close, Replace, CountRegion}
-use Rattle.om_values.specs.declared.step.Blocked.TheVariants as blocked
-use Rattle.om_values.specs.declared.step.Update.TheVariants.{Put, Keep}
-use Rattle.om_values.specs.declared.value.Val.TheVariants as value
-use Rattle.om_values.specs.Values.{number_in, holder_in}
+use Rattle.om_cells.specs.declared.control.Context.{Context}
+use Rattle.om_cells.specs.declared.control.Construct.{Construct}
+use Rattle.om_cells.specs.declared.control.Construct.TheVariants as construct
+use Rattle.om_cells.specs.declared.control.Share.{Share}
+use Rattle.om_cells.specs.declared.control.Sharing as sharings
+use Rattle.om_cells.specs.declared.control.Sharing.TheVariants as sharing
+use Rattle.om_cells.specs.declared.control.Team.{Team}
+use Rattle.om_cells.specs.declared.edit.Edit.{Edit}
+use Rattle.om_cells.specs.declared.edit.Edit.TheVariants.{Go, Open, Close, Replace, CountRegion}
+use Rattle.om_cells.specs.declared.step.Blocked.TheVariants as blocked
+use Rattle.om_cells.specs.declared.step.Update.TheVariants.{Put, Keep}
+use Rattle.om_cells.specs.declared.value.Val.TheVariants as value
+use Rattle.om_cells.specs.Values.{number_in, holder_in}
 use Rattle.om_row.specs.declared.row.Row.{Row}
 use Rattle.om_row.specs.declared.row.Row.TheVariants.{Goes, Faults, Blocked, Lacks}
 use Rattle.om_row.specs.Rows.{Asked, decided, goes, first_of}

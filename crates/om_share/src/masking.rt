@@ -2,7 +2,7 @@
 
 ghost use Rattle.std.specs.Prelude.{◌≡◌, pos, IfOk};
 ghost use Rattle.std.specs.Ordering.{int_eq};
-ghost use Rattle.om_values.specs.State.{State};
+ghost use Rattle.om_cells.specs.State.{State};
 ghost use Rattle.om_row.specs.Objects.{innermost};
 ghost use Rattle.om_row.specs.Rows.{answered};
 ghost use Rattle.om_share.specs.Rows.{filtered_row, masked_row, is_masked, end_masked_row};
@@ -11,7 +11,7 @@ use crate::parts::{At, Branch, edits, jump, own_events, recorded};
 use om_events::{Endpoint, Record};
 use om_row::names::innermost;
 use om_row::{Answer, Row};
-use om_values::{Construct, Context, Edit};
+use om_cells::{Construct, Context, Edit};
 use std::alloc::{AllocError, Global};
 
 /// The record that a masked region begins or ends.

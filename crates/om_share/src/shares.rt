@@ -1,9 +1,9 @@
 //! Loops and sections: how they are opened, and how their iterations are given out.
 
 ghost use Rattle.std.specs.Prelude.{◌≡◌, ◌<◌, ◌+◌, ◌^◌, ◌∷◌, [], true, slice_get, IfOk, IfSome};
-ghost use Rattle.om_values.specs.State.{State};
-ghost use Rattle.om_values.specs.Stores.{state_of};
-ghost use Rattle.om_objects.specs.declared.object.Obj.TheVariants as obj;
+ghost use Rattle.om_cells.specs.State.{State};
+ghost use Rattle.om_cells.specs.Stores.{state_of};
+ghost use Rattle.om_foot.specs.declared.object.Obj.TheVariants as obj;
 ghost use Rattle.om_row.specs.Objects.{write};
 ghost use Rattle.om_row.specs.Rows.{answered};
 ghost use Rattle.om_share.specs.Chunks.{value_of};
@@ -12,13 +12,13 @@ ghost use Rattle.om_share.specs.Rows.{is_right_schedule, is_right_form, loop_of,
 use crate::chunk::{Chunk, chunk_within, count_of, static_chunk, step_size};
 use crate::parts::{At, Branch, begun, edits, jump, recorded, share_in, work_record, written};
 use om_events::{Endpoint, Work};
-use om_objects::Obj;
-use om_program::frame::{Cell, Fault};
-use om_program::instruction::{LoopForm, Place, Schedule};
+use om_foot::Obj;
+use om_code::frame::{Cell, Fault};
+use om_code::instruction::{LoopForm, Place, Schedule};
 use om_row::names::{is_misplaced, object_of};
 use om_row::{Answer, Row};
 use om_seq::Seq;
-use om_values::{Construct, Context, Edit, Share, Sharing, Store, Update, Val};
+use om_cells::{Construct, Context, Edit, Share, Sharing, Store, Update, Val};
 use std::alloc::{AllocError, Global};
 
 /// The bounds of a loop, where they are ints.

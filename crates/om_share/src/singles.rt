@@ -1,8 +1,8 @@
 //! Single regions, and the end of each worksharing region.
 
 ghost use Rattle.std.specs.Prelude.{◌≡◌, true, false, IfOk};
-ghost use Rattle.om_values.specs.State.{State};
-ghost use Rattle.om_values.specs.Stores.{state_of};
+ghost use Rattle.om_cells.specs.State.{State};
+ghost use Rattle.om_cells.specs.Stores.{state_of};
 ghost use Rattle.om_row.specs.Objects.{innermost};
 ghost use Rattle.om_row.specs.Rows.{answered};
 ghost use Rattle.om_share.specs.Rows.{single_work, chosen_row, single_row, closed_row, end_worksharing_row};
@@ -12,11 +12,11 @@ use crate::parts::{
 };
 use crate::shares::work_of;
 use om_events::{Endpoint, Work};
-use om_objects::Obj;
-use om_program::frame::Fault;
+use om_foot::Obj;
+use om_code::frame::Fault;
 use om_row::names::{innermost, is_misplaced};
 use om_row::{Answer, Row};
-use om_values::{Construct, Context, Edit, Store, Update, Val};
+use om_cells::{Construct, Context, Edit, Store, Update, Val};
 use std::alloc::{AllocError, Global};
 
 /// The kind of a single region in its records, for the thread that runs it and for any other.

@@ -8,9 +8,9 @@ use Rattle.std.proofs.KnownBytes.{Appends-trans}
 use Rattle.om_cells.specs.declared.step.Entry.{Entry}
 use Rattle.om_cells.specs.declared.step.Outcome.{Outcome}
 use Rattle.om_cells.specs.declared.step.Outcome.TheVariants as outcome
-use Rattle.om_undo.specs.declared.reply.UndoReply.{UndoReply}
-use Rattle.om_undo.specs.declared.reply.UndoReply.TheVariants as undo_reply
-use Rattle.om_undo.specs.Runs.{History, Place, history_with, history_without}
+use Rattle.om_history.specs.declared.reply.UndoReply.{UndoReply}
+use Rattle.om_history.specs.declared.reply.UndoReply.TheVariants as undo_reply
+use Rattle.om_history.specs.Runs.{History, Place, history_with, history_without}
 use Rattle.om_undo.specs.Machines.{MachineView}
 use Rattle.om_shell.specs.declared.command.Command.TheVariants.{Step, Undo, Print, Quit}
 use Rattle.om_shell.specs.declared.command.Request.{Request}

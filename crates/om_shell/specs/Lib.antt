@@ -4,6 +4,7 @@ pub mod Progress
 pub mod Batch
 pub mod Source
 pub mod Commands
+pub mod Objects
 pub mod Replies
 pub mod Places
 pub mod Verdict

@@ -4,7 +4,7 @@ use Rattle.std.specs.Str.Lines.{lines}
 use Rattle.om_code.specs.declared.raw.Raw.{Raw}
 use Rattle.om_lexer.specs.declared.fault.SourceFault.{SourceFault}
 use Rattle.om_undo.specs.Machines.{MachineView}
-use Rattle.om_undo.specs.Runs.{no_history}
+use Rattle.om_history.specs.Runs.{no_history}
 use Rattle.om_shell.specs.Lines.{parts_of, source_in, commands_in}
 use Rattle.om_shell.specs.Places.{refusal_text}
 use Rattle.om_shell.specs.Replies.{session}

@@ -7,12 +7,12 @@ use Rattle.om_lexer.specs.declared.token.Token.{Token}
 use Rattle.om_lexer.specs.Sources.{IsTokens, IsFault}
 use Rattle.om_parser.specs.Faults.{IsBadAtomic}
 use Rattle.om_parser.specs.LineFaults.{IsRefusedLine}
-use Rattle.om_parser.specs.Sizes.{IsWithinLimits, AtomicsHaveForms}
+use Rattle.om_tree.specs.Sizes.{IsWithinLimits, AtomicsHaveForms}
 use Rattle.om_parser.specs.Parsing.{IsTreeOf, IsLimitPassed}
-use Rattle.om_parser.specs.Tree.{UnitTree}
+use Rattle.om_tree.specs.Tree.{UnitTree}
 use Rattle.om_scope.specs.Breaches.{breaches_of}
 use Rattle.om_scope.specs.Faults.{first_of}
-use Rattle.om_scope.specs.ResolvedTree.{ResolvedTree}
+use Rattle.om_resolved.specs.ResolvedTree.{ResolvedTree}
 use Rattle.om_scope.specs.UnitResolution.{resolution_of}
 use Rattle.om_lower.specs.Breaches.{code_breaches}
 use Rattle.om_lower.specs.Code.{IsCodeOf}

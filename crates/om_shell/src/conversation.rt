@@ -23,7 +23,7 @@ fn answer_lines<W: Write>(
 ) -> Result<(usize, bool), ShellFault>
     requires within { searched ≤ length bytes.now }
     requires known { HasNoLineEnd (take searched bytes.now) }
-    requires few_made { session.old.machine.history.made + length bytes.now < 2 ^ 61 }
+    requires few_made { session.old.machine.history.made + length bytes.now < 2 ^ 63 }
     ensures answered { IfOk result (λ r. Answers (W.contents writer.old) (W.contents writer.new) bytes.now r.0 (due session.old.machine) (due_behind r.1 session.new.machine)) }
     ensures left { IfOk result (λ r. r.1 ≡ false → HasNoLineEnd (drop r.0 bytes.now)) }
     ensures made { IfOk result (λ r. session.new.machine.history.made ≤ session.old.machine.history.made + r.0) }
@@ -51,7 +51,7 @@ pub(crate) fn converse<R: Read, W: Write>(
     reader: &mut R,
     writer: &mut W,
 ) -> Result<(), ShellFault>
-    requires few_made { session.old.machine.history.made + length input.old.pending.items + 4096 * input.old.reads_left < 2 ^ 61 }
+    requires few_made { session.old.machine.history.made + length input.old.pending.items + 4096 * input.old.reads_left < 2 ^ 63 }
     ensures done { OnOk result (IsDone (R.remaining reader.old) (R.remaining reader.new) (W.contents writer.old) (W.contents writer.new)
         input.old.pending.items (due session.old.machine) (Some session.new.machine)) }
     ensures broken_off { IfErr result (BreaksOff (R.remaining reader.old) (R.remaining reader.new) (W.contents writer.old) (W.contents writer.new)

@@ -1,16 +1,18 @@
 //! From a source to its program: lexer, parser, names, code.
 ghost use Rattle.std.specs.Prelude.{◌≢◌, IfOk, IfErr};
 ghost use Rattle.om_lexer.specs.Faults.{no_memory};
-ghost use Rattle.om_parser.specs.View.{view_unit};
-ghost use Rattle.om_scope.specs.ResolvedView.{view_resolved};
-ghost use Rattle.om_scope.specs.Uses.{IsResolved};
+ghost use Rattle.om_tree.specs.View.{view_unit};
+ghost use Rattle.om_resolved.specs.ResolvedView.{view_resolved};
+ghost use Rattle.om_resolved.specs.Uses.{IsResolved};
 ghost use Rattle.om_shell.specs.Verdict.{IsTreeOfSource, IsResolutionOfSource, IsProgramOf, IsRefused};
 
 use om_code::program::Program;
 use om_lexer::{SourceFault, lex};
 use om_lower::lower::lower;
-use om_parser::{Unit, parse};
-use om_scope::{Resolved, resolve};
+use om_parser::parse;
+use om_resolved::Resolved;
+use om_scope::resolve;
+use om_tree::Unit;
 use std::alloc::Global;
 
 // The tree of a source.

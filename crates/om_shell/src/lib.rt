@@ -8,6 +8,8 @@ mod fault;
 mod front_end;
 mod input;
 mod lines;
+mod number;
+mod object;
 mod options;
 mod output;
 mod refusal;

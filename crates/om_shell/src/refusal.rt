@@ -2,7 +2,7 @@
 ghost use Rattle.std.specs.Prelude.{◌≡◌, ◌++◌, ◌≤◌, take, length, decimal, codes, OnOk};
 ghost use Rattle.om_shell.specs.Places.{line_after, column_after, refusal_text};
 
-use crate::reply::push_number;
+use crate::number::push_number;
 use om_lexer::SourceFault;
 use std::alloc::AllocError;
 

@@ -1,21 +1,17 @@
 //! The texts of replies, each on a line of its own.
 ghost use Rattle.std.specs.Prelude.{◌≡◌, ◌++◌, decimal, OnOk, codes};
-ghost use Rattle.om_shell.specs.Replies.{entry_text, fault_text, step_text, name_of, object_text, undo_text, int_text, print_text, command_fault_text};
+ghost use Rattle.om_shell.specs.Objects.{object_text};
+ghost use Rattle.om_shell.specs.Replies.{entry_text, fault_text, blocker_text, step_text, undo_text, cell_text, print_text, command_fault_text};
 
 use crate::command::CommandFault;
-use itoa::{Buffer, Integer};
-use om_cells::{Fault, Val};
+use crate::number::push_number;
+use crate::object::{push_name, push_object};
+use om_cells::{Blocked, Val};
+use om_code::frame::{Cell, Fault};
 use om_code::program::Program;
 use om_foot::Obj;
 use om_undo::{StepReply, UndoReply};
 use std::alloc::AllocError;
-
-pub(crate) fn push_number<I: Integer>(text: &mut Vec<u8>, number: I) -> Result<(), AllocError>
-    ensures { OnOk result (text.new.items ≡ text.old.items ++ I.text number) }
-{
-    let mut buffer = Buffer::new();
-    text.extend_from_slice(buffer.format(number).as_bytes())
-}
 
 // `#S worker W line L`
 fn push_entry(text: &mut Vec<u8>, serial: u64, worker: u8, line: u32) -> Result<(), AllocError>
@@ -41,6 +37,19 @@ fn push_fault(text: &mut Vec<u8>, fault: Option<Fault>) -> Result<(), AllocError
     }
 }
 
+// The worker that holds the lock, or has to be idle.
+fn push_blocker(text: &mut Vec<u8>, why: Blocked) -> Result<(), AllocError>
+    ensures { OnOk result (text.new.items ≡ text.old.items ++ blocker_text why) }
+{
+    match why {
+        Blocked::Critical(worker) | Blocked::Busy(worker) => {
+            text.extend_from_slice(b" by ")?;
+            push_number(text, worker)
+        }
+        _ => Ok(()),
+    }
+}
+
 /// Appends the reply to a step.
 pub(crate) fn push_step(text: &mut Vec<u8>, worker: u8, reply: StepReply) -> Result<(), AllocError>
     ensures { OnOk result (text.new.items ≡ text.old.items ++ step_text worker reply) }
@@ -58,34 +67,10 @@ pub(crate) fn push_step(text: &mut Vec<u8>, worker: u8, reply: StepReply) -> Res
         StepReply::Blocked(why) => {
             text.extend_from_slice(b"blocked B")?;
             push_number(text, why.number())?;
+            push_blocker(text, why)?;
             text.extend_from_slice(b"\n")
         }
         StepReply::Ended => text.extend_from_slice(b"ended\n"),
-    }
-}
-
-// The name of a global, which is empty where the program has no such global.
-fn push_name(text: &mut Vec<u8>, program: &Program, global: u32) -> Result<(), AllocError>
-    ensures { OnOk result (text.new.items ≡ text.old.items ++ name_of program.now global) }
-{
-    match program.globals().get(global as usize) {
-        Some(variable) => text.extend_from_slice(variable.name.as_slice()),
-        None => Ok(()),
-    }
-}
-
-fn push_object(text: &mut Vec<u8>, program: &Program, object: &Obj) -> Result<(), AllocError>
-    ensures { OnOk result (text.new.items ≡ text.old.items ++ object_text program.now object.now) }
-{
-    match object {
-        Obj::Control(worker) => {
-            text.extend_from_slice(b"control ")?;
-            push_number(text, *worker)
-        }
-        Obj::Global(variable, _) => {
-            text.extend_from_slice(b"global ")?;
-            push_name(text, program, *variable)
-        }
     }
 }
 
@@ -132,12 +117,13 @@ pub(crate) fn push_undo(
     }
 }
 
-fn push_int(text: &mut Vec<u8>, value: Option<i32>) -> Result<(), AllocError>
-    ensures { OnOk result (text.new.items ≡ text.old.items ++ int_text value) }
+fn push_cell(text: &mut Vec<u8>, cell: Cell) -> Result<(), AllocError>
+    ensures { OnOk result (text.new.items ≡ text.old.items ++ cell_text cell) }
 {
-    match value {
-        Some(number) => push_number(text, number),
-        None => Ok(()),
+    match cell {
+        Cell::Int(number) => push_number(text, number),
+        Cell::Unset => text.extend_from_slice(b"unset"),
+        Cell::Dead => text.extend_from_slice(b"dead"),
     }
 }
 
@@ -152,7 +138,7 @@ pub(crate) fn push_print(
 {
     push_name(text, program, global)?;
     text.extend_from_slice(b" = ")?;
-    push_int(text, value.int())?;
+    push_cell(text, value.cell())?;
     text.extend_from_slice(b"\n")
 }
 

@@ -46,8 +46,8 @@ fn answer_commands<R: Read, W: Write>(
     writer: &mut W,
 ) -> Result<Ended, ShellFault>
     requires at_least_one { 0 < workers }
-    requires at_most_eight { workers ≤ 8 }
-    requires few { length input.old.pending.items + 4096 * input.old.reads_left < 2 ^ 61 }
+    requires at_most_32 { workers ≤ 32 }
+    requires few { length input.old.pending.items + 4096 * input.old.reads_left < 2 ^ 63 }
     ensures status { IfOk result (λ ended. ended.status ≡ 0) }
     ensures done { IfOk result (λ ended. IsDone (R.remaining reader.old) (R.remaining reader.new) (W.contents writer.old) (W.contents writer.new)
         input.old.pending.items (due (started program workers)) ended.machine) }
@@ -71,8 +71,8 @@ pub(crate) fn serve<R: Read, W: Write>(
     writer: &mut W,
 ) -> Result<Ended, ShellFault>
     requires at_least_one { 0 < workers }
-    requires at_most_eight { workers ≤ 8 }
-    requires few { length input.old.pending.items + 4096 * input.old.reads_left < 2 ^ 61 }
+    requires at_most_32 { workers ≤ 32 }
+    requires few { length input.old.pending.items + 4096 * input.old.reads_left < 2 ^ 63 }
     ensures served { IfOk result (λ ended. Serves (R.remaining reader.old) (R.remaining reader.new) (W.contents writer.old) (W.contents writer.new)
         input.old.pending.items workers source.now ended.status ended.machine) }
     ensures broken_off { IfErr result (BreaksOffServing (R.remaining reader.old) (R.remaining reader.new) (W.contents writer.old) (W.contents writer.new)
@@ -98,7 +98,7 @@ pub(crate) fn serve_alone<W: Write>(
     writer: &mut W,
 ) -> Result<Ended, ShellFault>
     requires at_least_one { 0 < workers }
-    requires at_most_eight { workers ≤ 8 }
+    requires at_most_32 { workers ≤ 32 }
     ensures served { IfOk result (λ ended. ServesAlone (W.contents writer.old) (W.contents writer.new) workers source.now ended.status ended.machine) }
     ensures broken_off { IfErr result (BreaksOffAlone (W.contents writer.old) (W.contents writer.new) workers source.now) }
 {

@@ -1,7 +1,7 @@
 //! A session: a machine, and the replies to lines.
 ghost use Rattle.std.specs.Prelude.{◌≡◌, ◌≢◌, ◌<◌, ◌≤◌, ◌^◌, ◌+◌, ◌++◌, true, false, IfOk, IfErr, OnOk};
 ghost use Rattle.std.specs.Io.KnownBytes.{Appends};
-ghost use Rattle.om_undo.specs.Runs.{no_history};
+ghost use Rattle.om_history.specs.Runs.{no_history};
 ghost use Rattle.om_undo.specs.Machines.{MachineView};
 ghost use Rattle.om_shell.specs.Commands.{HasWorkerBelow};
 ghost use Rattle.om_shell.specs.Progress.{AppendsPart};
@@ -29,7 +29,7 @@ impl Session {
     /// A session at the start of a program.
     pub(crate) fn new(alloc: Global, program: Program, workers: u8) -> Result<Session, AllocError>
         requires at_least_one { 0 < workers }
-        requires at_most_eight { workers ≤ 8 }
+        requires at_most_32 { workers ≤ 32 }
         ensures { IfOk result (λ session. session.machine ≡ record { program = program; workers = workers; history = no_history }) }
     {
         Ok(Session {
@@ -55,7 +55,7 @@ impl Session {
         line: &[u8],
         writer: &mut W,
     ) -> Result<bool, ShellFault>
-        requires few_made { self.old.machine.history.made < 2 ^ 61 }
+        requires few_made { self.old.machine.history.made < 2 ^ 63 }
         ensures quits { IfOk result (λ more. more ≡ false → asked self.old.machine line.now ≡ Request.Command Command.Quit) }
         ensures goes_on { IfOk result (λ more. more ≡ true → asked self.old.machine line.now ≢ Request.Command Command.Quit) }
         ensures machine { OnOk result (self.new.machine ≡ machine_after self.old.machine (asked self.old.machine line.now)) }
@@ -71,7 +71,7 @@ impl Session {
 
     // Does what a line asks for; the reply is the text then.
     fn follow(&mut self, alloc: Global, line: &[u8]) -> Result<Request, AllocError>
-        requires few_made { self.old.machine.history.made < 2 ^ 61 }
+        requires few_made { self.old.machine.history.made < 2 ^ 63 }
         ensures asked { IfOk result (λ request. request ≡ asked self.old.machine line.now) }
         ensures machine { OnOk result (self.new.machine ≡ machine_after self.old.machine (asked self.old.machine line.now)) }
         ensures text { OnOk result (self.new.text.items ≡ reply_to self.old.machine (asked self.old.machine line.now)) }
@@ -86,7 +86,7 @@ impl Session {
     // Does what is asked, and appends the reply to the text.
     fn carry_out(&mut self, alloc: Global, request: Request) -> Result<(), AllocError>
         requires in_range { HasWorkerBelow self.old.machine.workers request }
-        requires few_made { self.old.machine.history.made < 2 ^ 61 }
+        requires few_made { self.old.machine.history.made < 2 ^ 63 }
         ensures machine { OnOk result (self.new.machine ≡ machine_after self.old.machine request) }
         ensures text { OnOk result (self.new.text.items ≡ self.old.text.items ++ reply_to self.old.machine request) }
     {
@@ -100,7 +100,7 @@ impl Session {
     // Carries a command out, and appends the reply to the text.
     fn obey(&mut self, alloc: Global, command: Command) -> Result<(), AllocError>
         requires in_range { HasWorkerBelow self.old.machine.workers (Request.Command command) }
-        requires few_made { self.old.machine.history.made < 2 ^ 61 }
+        requires few_made { self.old.machine.history.made < 2 ^ 63 }
         ensures machine { OnOk result (self.new.machine ≡ machine_after_command self.old.machine command) }
         ensures text { OnOk result (self.new.text.items ≡ self.old.text.items ++ command_text self.old.machine command) }
     {
@@ -114,7 +114,7 @@ impl Session {
 
     fn step(&mut self, alloc: Global, worker: u8) -> Result<(), AllocError>
         requires in_range { worker < self.old.machine.workers }
-        requires few_made { self.old.machine.history.made < 2 ^ 61 }
+        requires few_made { self.old.machine.history.made < 2 ^ 63 }
         ensures machine { OnOk result (self.new.machine ≡ machine_after_command self.old.machine (Command.Step worker)) }
         ensures text { OnOk result (self.new.text.items ≡ self.old.text.items ++ command_text self.old.machine (Command.Step worker)) }
     {
@@ -135,7 +135,11 @@ impl Session {
         ensures machine { OnOk result (self.new.machine ≡ machine_after_command self.old.machine (Command.Print global)) }
         ensures text { OnOk result (self.new.text.items ≡ self.old.text.items ++ command_text self.old.machine (Command.Print global)) }
     {
-        let value = self.machine.look(alloc, &Obj::Global(global, 0))?;
+        let object = Obj::Global {
+            variable: global,
+            index: 0,
+        };
+        let value = self.machine.look(alloc, &object)?;
         push_print(&mut self.text, self.machine.program(), global, &value)
     }
 }

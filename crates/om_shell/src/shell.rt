@@ -30,7 +30,7 @@ fn run_from_input<R: Read, W: Write>(
     writer: &mut W,
 ) -> Result<Ended, ShellFault>
     requires at_least_one { 0 < workers }
-    requires at_most_eight { workers ≤ 8 }
+    requires at_most_32 { workers ≤ 32 }
     ensures to_end { IfOk result (λ ended. RunsToEnd (R.remaining reader.old) (R.remaining reader.new) (W.contents writer.old) (W.contents writer.new)
         workers None ended.status ended.machine) }
     ensures broken_off { IfErr result (BreaksOffRun (R.remaining reader.old) (R.remaining reader.new) (W.contents writer.old) (W.contents writer.new)
@@ -56,7 +56,7 @@ fn run_by<R: Read, W: Write>(
     source: Option<&[u8]>,
 ) -> Result<Ended, ShellFault>
     requires at_least_one { 0 < workers }
-    requires at_most_eight { workers ≤ 8 }
+    requires at_most_32 { workers ≤ 32 }
     ensures to_end { IfOk result (λ ended. RunsToEnd (R.remaining reader.old) (R.remaining reader.new) (W.contents writer.old) (W.contents writer.new)
         workers (option_copied source.entry) ended.status ended.machine) }
     ensures broken_off { IfErr result (BreaksOffRun (R.remaining reader.old) (R.remaining reader.new) (W.contents writer.old) (W.contents writer.new)
@@ -90,7 +90,7 @@ pub fn run<R: Read, W: Write>(
     options: Options<'_>,
 ) -> Result<Ended, ShellFault>
     requires at_least_one_worker { 0 < options.workers }
-    requires at_most_eight_workers { options.workers ≤ 8 }
+    requires at_most_32_workers { options.workers ≤ 32 }
 
     // What was written is the script of the bytes that were taken, and nothing further could change it.
     ensures runs_to_end { IfOk result (λ ended. RunsToEnd (R.remaining reader.old) (R.remaining reader.new) (W.contents writer.old) (W.contents writer.new)

@@ -1,11 +1,11 @@
 -- Counts as numbers, and additions to them.
 use Rattle.std.proofs.Common.{◌≡◌, refl, sym, ◌∙◌, ap, ℕ, ℤ, pos, List, [], ◌∷◌, ◌++◌, Option, Some, append_assoc}
 use Rattle.std.specs.Prelude.{unwrap_or, Result, Ok, Err, OnOk}
-use Rattle.om_values.specs.declared.step.Update.{Update}
-use Rattle.om_values.specs.declared.step.Update.TheVariants.{Add}
-use Rattle.om_values.specs.declared.value.Val.{Val}
-use Rattle.om_values.specs.declared.value.Val.TheVariants as value
-use Rattle.om_values.specs.Values.{count_of, count_in}
+use Rattle.om_cells.specs.declared.step.Update.{Update}
+use Rattle.om_cells.specs.declared.step.Update.TheVariants.{Add}
+use Rattle.om_cells.specs.declared.value.Val.{Val}
+use Rattle.om_cells.specs.declared.value.Val.TheVariants as value
+use Rattle.om_cells.specs.Values.{count_of, count_in}
 use Rattle.om_spawn.specs.Tasks.{additions}
 
 -- what is no count counts as 0

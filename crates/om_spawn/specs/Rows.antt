@@ -1,14 +1,14 @@
 -- The rows of tasks, task groups, and the end of the program.
 use Rattle.std.specs.Prelude.{ℕ, ℤ, pos, negsuc, Bool, true, false, if◌then◌else◌, nat_eq, Option, None, Some, List, [], ◌∷◌, ◌++◌}
 use Rattle.std.specs.Cmp.Lexicographic.{pointwise}
-use Rattle.om_objects.specs.Names.{parent_of}
-use Rattle.om_objects.specs.declared.object.Obj.TheVariants as obj
-use Rattle.om_objects.specs.declared.footprint.Access.{Access}
-use Rattle.om_program.specs.declared.frame.Fault.TheVariants as fault
-use Rattle.om_program.specs.declared.raw.Body.{Body}
-use Rattle.om_program.specs.declared.raw.Slot.{Slot}
-use Rattle.om_program.specs.Frames.{int_at}
-use Rattle.om_program.specs.Printing.{ints_on}
+use Rattle.om_foot.specs.Names.{parent_of}
+use Rattle.om_foot.specs.declared.object.Obj.TheVariants as obj
+use Rattle.om_foot.specs.declared.footprint.Access.{Access}
+use Rattle.om_code.specs.declared.frame.Fault.TheVariants as fault
+use Rattle.om_code.specs.declared.raw.Body.{Body}
+use Rattle.om_code.specs.declared.raw.Slot.{Slot}
+use Rattle.om_code.specs.Frames.{int_at}
+use Rattle.om_code.specs.Printing.{ints_on}
 use Rattle.om_events.specs.declared.event.Record.{Record}
 use Rattle.om_events.specs.declared.event.Record.TheVariants as event_record
 use Rattle.om_events.specs.declared.kind.Endpoint as endpoints
@@ -18,20 +18,20 @@ use Rattle.om_events.specs.declared.kind.Sync.TheVariants as sync
 use Rattle.om_events.specs.declared.kind.TaskFlag.TheVariants as flag
 use Rattle.om_events.specs.declared.kind.TaskStatus as statuses
 use Rattle.om_events.specs.declared.kind.TaskStatus.TheVariants as status
-use Rattle.om_values.specs.declared.control.Context.{Context}
-use Rattle.om_values.specs.declared.control.Construct.TheVariants as construct
-use Rattle.om_values.specs.declared.control.Kind.{Kind}
-use Rattle.om_values.specs.declared.control.Kind.TheVariants as kind
-use Rattle.om_values.specs.declared.control.Stack.{Stack}
-use Rattle.om_values.specs.declared.edit.Edit.TheVariants.{Go, BeginContext, EndContext, Open, Close, CountBirth, End}
-use Rattle.om_values.specs.declared.step.Blocked.TheVariants as blocked
-use Rattle.om_values.specs.declared.step.Update.{Update}
-use Rattle.om_values.specs.declared.step.Update.TheVariants.{Put, Keep}
-use Rattle.om_values.specs.declared.value.Ready.{Ready}
-use Rattle.om_values.specs.declared.value.Task as tasks
-use Rattle.om_values.specs.declared.value.Task.TheVariants as task
-use Rattle.om_values.specs.declared.value.Val.TheVariants as value
-use Rattle.om_values.specs.Values.{task_in, count_in}
+use Rattle.om_cells.specs.declared.control.Context.{Context}
+use Rattle.om_cells.specs.declared.control.Construct.TheVariants as construct
+use Rattle.om_cells.specs.declared.control.Kind.{Kind}
+use Rattle.om_cells.specs.declared.control.Kind.TheVariants as kind
+use Rattle.om_cells.specs.declared.control.Stack.{Stack}
+use Rattle.om_cells.specs.declared.edit.Edit.TheVariants.{Go, BeginContext, EndContext, Open, Close, CountBirth, End}
+use Rattle.om_cells.specs.declared.step.Blocked.TheVariants as blocked
+use Rattle.om_cells.specs.declared.step.Update.{Update}
+use Rattle.om_cells.specs.declared.step.Update.TheVariants.{Put, Keep}
+use Rattle.om_cells.specs.declared.value.Ready.{Ready}
+use Rattle.om_cells.specs.declared.value.Task as tasks
+use Rattle.om_cells.specs.declared.value.Task.TheVariants as task
+use Rattle.om_cells.specs.declared.value.Val.TheVariants as value
+use Rattle.om_cells.specs.Values.{task_in, count_in}
 use Rattle.om_row.specs.declared.row.Row.{Row}
 use Rattle.om_row.specs.declared.row.Row.TheVariants.{Goes, Faults, Blocked, Lacks}
 use Rattle.om_row.specs.Rows.{Asked, decided, goes, first_of}

@@ -1,18 +1,18 @@
 -- Explicit tasks: their names, what they wait and begin with, and the counts in which they stand (OpenMP 5.2, 12.5).
 use Rattle.std.specs.Prelude.{ℕ, ◌+◌, ℤ, pos, Bool, Option, None, Some, List, [], ◌∷◌, ◌++◌}
 use Rattle.std.specs.Ordering.{int_eq}
-use Rattle.om_objects.specs.Names.{name_of}
-use Rattle.om_objects.specs.declared.object.Obj.TheVariants as obj
-use Rattle.om_objects.specs.declared.footprint.Access.{Access}
-use Rattle.om_program.specs.declared.raw.Body.{Body}
-use Rattle.om_values.specs.declared.control.Home.{Home}
-use Rattle.om_values.specs.declared.control.Frame.{Frame}
-use Rattle.om_values.specs.declared.control.Context.{Context}
-use Rattle.om_values.specs.declared.control.Construct.{Construct}
-use Rattle.om_values.specs.declared.control.Kind.TheVariants as kind
-use Rattle.om_values.specs.declared.step.Update.{Update}
-use Rattle.om_values.specs.declared.step.Update.TheVariants.{Add}
-use Rattle.om_values.specs.declared.value.Ready.{Ready}
+use Rattle.om_foot.specs.Names.{name_of}
+use Rattle.om_foot.specs.declared.object.Obj.TheVariants as obj
+use Rattle.om_foot.specs.declared.footprint.Access.{Access}
+use Rattle.om_code.specs.declared.raw.Body.{Body}
+use Rattle.om_cells.specs.declared.control.Home.{Home}
+use Rattle.om_cells.specs.declared.control.Frame.{Frame}
+use Rattle.om_cells.specs.declared.control.Context.{Context}
+use Rattle.om_cells.specs.declared.control.Construct.{Construct}
+use Rattle.om_cells.specs.declared.control.Kind.TheVariants as kind
+use Rattle.om_cells.specs.declared.step.Update.{Update}
+use Rattle.om_cells.specs.declared.step.Update.TheVariants.{Add}
+use Rattle.om_cells.specs.declared.value.Ready.{Ready}
 use Rattle.om_row.specs.Objects.{add, homes_in, group_name, group_in}
 use Rattle.om_spawn.specs.declared.task.Making.{Making}
 

@@ -1,16 +1,16 @@
 //! The counts of unfinished tasks.
 
 ghost use Rattle.std.specs.Prelude.{◌≡◌, ◌++◌, ◌∷◌, [], OnOk};
-ghost use Rattle.om_objects.specs.declared.object.Obj.TheVariants as obj;
-ghost use Rattle.om_values.specs.Values.{count_in};
-ghost use Rattle.om_values.specs.Stores.{state_of};
+ghost use Rattle.om_foot.specs.declared.object.Obj.TheVariants as obj;
+ghost use Rattle.om_cells.specs.Values.{count_in};
+ghost use Rattle.om_cells.specs.Stores.{state_of};
 ghost use Rattle.om_row.specs.Objects.{add};
 ghost use Rattle.om_spawn.specs.Tasks.{is_zero, group_count, counts, additions};
 
-use om_objects::{Access, Mode, Name, Obj};
+use om_foot::{Access, Mode, Name, Obj};
 use om_row::names::name;
 use om_seq::Seq;
-use om_values::{Context, Store, Update};
+use om_cells::{Context, Store, Update};
 use std::alloc::{AllocError, Global};
 
 /// The count that an object holds, or 0.

@@ -1,19 +1,19 @@
 //! The row of the choice to start a task.
 
 ghost use Rattle.std.specs.Prelude.{◌≡◌, ◌∷◌, [], IfOk, option_map};
-ghost use Rattle.om_objects.specs.declared.object.Obj.TheVariants as obj;
-ghost use Rattle.om_values.specs.Stores.{state_of};
-ghost use Rattle.om_values.specs.Values.{task_in};
+ghost use Rattle.om_foot.specs.declared.object.Obj.TheVariants as obj;
+ghost use Rattle.om_cells.specs.Stores.{state_of};
+ghost use Rattle.om_cells.specs.Values.{task_in};
 ghost use Rattle.om_row.specs.Rows.{answered};
 ghost use Rattle.om_spawn.specs.Tasks.{first_frame, task_context};
 ghost use Rattle.om_spawn.specs.Rows.{begun_updates, ready_for, start_row};
 
 use crate::part::{name_with_events, update_with_event};
 use om_events::{Record, TaskStatus};
-use om_objects::{Mode, Name, Obj};
+use om_foot::{Mode, Name, Obj};
 use om_row::{Answer, Row};
 use om_seq::{Pile, Seq};
-use om_values::{Blocked, Context, Edit, Frame, Home, Kind, Ready, Store, Task, Update, Val};
+use om_cells::{Blocked, Context, Edit, Frame, Home, Kind, Ready, Store, Task, Update, Val};
 use std::alloc::{AllocError, Global};
 
 /// Where a task is to be started.

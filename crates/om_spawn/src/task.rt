@@ -1,9 +1,9 @@
 //! The rows that make and end explicit tasks.
 
 ghost use Rattle.std.specs.Prelude.{◌≡◌, ◌∷◌, [], ◌+◌, ◌<◌, ◌≤◌, ◌^◌, ◌++◌, IfOk, OnOk, length};
-ghost use Rattle.om_values.specs.State.{State};
-ghost use Rattle.om_values.specs.declared.value.Task.TheVariants as task;
-ghost use Rattle.om_values.specs.declared.value.Val.TheVariants as value;
+ghost use Rattle.om_cells.specs.State.{State};
+ghost use Rattle.om_cells.specs.declared.value.Task.TheVariants as task;
+ghost use Rattle.om_cells.specs.declared.value.Val.TheVariants as value;
 ghost use Rattle.om_row.specs.Rows.{answered};
 ghost use Rattle.om_spawn.specs.Tasks.{born, ready_of};
 ghost use Rattle.om_spawn.specs.Rows.{made_names, values_given, made_row, spawn_row, ended_names, ended_updates, task_end_row, task_yield_row};
@@ -11,15 +11,15 @@ ghost use Rattle.om_spawn.specs.Rows.{made_names, values_given, made_row, spawn_
 use crate::count::{add_to_counts, name_counts};
 use crate::part::{go_and, name_one};
 use om_events::{Record, TaskStatus};
-use om_objects::{Access, Mode, Name, Obj};
-use om_program::frame::Fault;
-use om_program::print::ints_on;
-use om_program::raw::{Body, Slot};
+use om_foot::{Access, Mode, Name, Obj};
+use om_code::frame::Fault;
+use om_code::print::ints_on;
+use om_code::raw::{Body, Slot};
 use om_row::names::{group_of, homes_in, name_events, name_given, own_cells};
 use om_row::updates::{put_deaths, put_event, put_ints};
 use om_row::{Answer, Launch, Row};
 use om_seq::Seq;
-use om_values::{Context, Edit, Kind, Ready, Stack, Task, Update, Val};
+use om_cells::{Context, Edit, Kind, Ready, Stack, Task, Update, Val};
 use std::alloc::{AllocError, Global};
 
 /// How a task is made.

@@ -3,8 +3,8 @@
 ghost use Rattle.std.specs.Prelude.{◌≡◌, ◌∷◌, [], ◌+◌, ◌<◌, ◌^◌, IfOk};
 ghost use Rattle.om_events.specs.declared.kind.Endpoint.TheVariants as endpoint;
 ghost use Rattle.om_events.specs.declared.kind.Sync.TheVariants as sync;
-ghost use Rattle.om_values.specs.State.{State};
-ghost use Rattle.om_values.specs.Stores.{state_of};
+ghost use Rattle.om_cells.specs.State.{State};
+ghost use Rattle.om_cells.specs.Stores.{state_of};
 ghost use Rattle.om_row.specs.Rows.{answered};
 ghost use Rattle.om_row.specs.Objects.{events, event, innermost};
 ghost use Rattle.om_spawn.specs.Tasks.{born, innermost_group};
@@ -13,14 +13,14 @@ ghost use Rattle.om_spawn.specs.Rows.{sync_event, wait_begin_row, waited, wait_e
 use crate::count::is_zero;
 use crate::part::{go_and, name_with_events, update_with_event};
 use om_events::{Endpoint, Record, Sync, TaskFlag};
-use om_objects::{Access, Mode, Name, Obj};
-use om_program::frame::Fault;
-use om_program::serial::int_at;
+use om_foot::{Access, Mode, Name, Obj};
+use om_code::frame::Fault;
+use om_code::serial::int_at;
 use om_row::names::{innermost, name_events};
 use om_row::updates::put_event;
 use om_row::{Answer, Row};
 use om_seq::Seq;
-use om_values::{Blocked, Construct, Context, Edit, Kind, Store, Update};
+use om_cells::{Blocked, Construct, Context, Edit, Kind, Store, Update};
 use std::alloc::{AllocError, Global};
 
 /// What a context's task records where it begins and ends to wait.

@@ -1,12 +1,3 @@
-pub mod Frame
-pub mod Back
-pub mod Exchange
-pub mod Removal
-pub mod Undoing
-pub mod Remaining
-pub mod Bounds
-pub mod Logs
-pub mod Places
-pub mod Rooms
-pub mod Starting
-pub mod Soundness
+mod Calm
+mod Views
+mod OneList

@@ -1,12 +1,9 @@
-//! The machine: steps forwards, undo at any place of the history, and the laws that they rest on.
+//! The machine of a program: steps forwards, undos and rolls at any place of the history, and the
+//! laws of its runs.
 #![tactic(auto)]
 
 pub mod laws;
 pub mod machine;
-mod records;
-pub mod reply;
-mod start;
-mod updates;
 
 pub use machine::Machine;
-pub use reply::{StepReply, UndoReply};
+pub use om_history::{RollReply, StepReply, Taken, UndoReply};

@@ -1,19 +1,25 @@
-//! The machine: a program's run, which goes forwards by steps and backwards by undos.
+//! The machine: a program's run, which goes forwards by steps and backwards by undos and rolls.
 
-ghost use Rattle.std.specs.Prelude.{◌≡◌, ◌<◌, ◌≤◌, ◌^◌, IfOk, OnOk, OnErr, IsTrue, ◌↔◌};
+ghost use Rattle.std.specs.Prelude.{◌≡◌, ◌<◌, ◌≤◌, ◌^◌, ℕ, IfOk, OnOk, OnErr, IsNone, IfSome, ◌↔◌};
 ghost use Rattle.om_foot.specs.declared.object.Obj.TheVariants as obj;
-ghost use Rattle.om_team.specs.Rules.{rules_of, line_of};
-ghost use Rattle.om_cells.specs.Stores.{state_of};
-ghost use Rattle.om_undo.specs.Runs.{no_history, state_of_entries, fault_of, reply_for, reply_to_step, after_step, reply_to_undo, after_undo};
-ghost use Rattle.om_undo.specs.Records.{is_done};
+ghost use Rattle.om_cells.specs.Ready.{AreReady};
+ghost use Rattle.om_cells.specs.Rules.{step_at};
+ghost use Rattle.om_cells.specs.Values.{control_in};
+ghost use Rattle.om_task.specs.Rules.{rules_of, line_in};
+ghost use Rattle.om_history.specs.Runs.{no_history, reply_to_step, after_step, reply_to_undo, after_undo};
+ghost use Rattle.om_history.specs.Cones.{taken_by_roll, reply_to_roll, after_roll};
+ghost use Rattle.om_history.specs.Commands.{IsRun, IsGone, Rise, TakesCone};
+ghost use Rattle.om_history.specs.Pasts.{past_in, IsHeld};
+ghost use Rattle.om_undo.specs.Machines.{rules_for, state_in};
 
-use crate::records::{UndoRecord, append, entries, last_index, reply_at, take_out};
-use crate::reply::{StepReply, UndoReply};
-use crate::start::started;
-use om_cells::{Choice, Control, Entry, Fault, Label, Outcome, Step, Store, Update, Val};
+use crate::laws::steady_rules;
+use om_cells::{Choice, Control, Entry, Label, Step, Val};
 use om_code::program::Program;
-use om_foot::Obj;
-use om_task::plan;
+use om_foot::{Name, Obj};
+use om_history::{History, RollReply, StepReply, Taken, UndoReply};
+use om_task::laws::low_counters;
+use om_task::plan::{line, plan};
+use om_task::start::started;
 use std::alloc::{AllocError, Global};
 use std::marker::Model;
 
@@ -21,14 +27,12 @@ use std::marker::Model;
 ///
 /// Contracts see its program, its number of workers, and its history: the entries that stand and
 /// how many steps were ever made. Its state is always the replay of these entries from the start,
-/// whatever steps and undos led to them.
+/// whatever steps, undos and rolls led to them.
 #[derive(Drop)]
 pub struct Machine {
     program: Program,
     workers: u8,
-    store: Store,
-    records: Vec<UndoRecord>,
-    made: u64,
+    history: History,
 }
 
 impl Model for Machine {
@@ -36,82 +40,52 @@ impl Model for Machine {
 
     ghost Value = { MachineView };
 
-    ghost use Rattle.om_undo.specs.Records.{entries_of};
+    ghost use Rattle.om_history.specs.Pasts.{history_in};
     ghost use Rattle.om_undo.specs.Machines.{IsSound};
 
-    ghost view = { λ m. record { program = m.program; workers = m.workers; history = record { entries = entries_of m.records.items; made = m.made } } };
+    ghost view = { λ m. record { program = m.program; workers = m.workers; history = history_in m.history } };
 
-    ghost invariant = { λ m. IsSound m.program m.store m.records.items m.made };
+    ghost invariant = { λ m. IsSound m.program m.workers m.history };
 }
 
-/// The fault that a step's worker comes to, if it does.
-fn fault_in(updates: &[Update]) -> Option<Fault>
-    ensures { result ≡ fault_of updates.now }
+/// The step that a worker would take by its choice.
+fn label(worker: u8, choice: &Choice) -> Label
+    ensures { result ≡ record { worker = worker; choice = choice.now } }
 {
-    match updates.first()? {
-        Update::Put(Val::Control(Control::Faulted(fault, _))) => Some(*fault),
-        Update::Put(Val::Control(Control::Idle)) => None,
-        Update::Put(Val::Control(Control::Running(_))) => None,
-        Update::Put(Val::Control(Control::Ended(_))) => None,
-        Update::Put(Val::Int(_)) => None,
-        Update::Put(Val::Count(_)) => None,
-        Update::Keep => None,
-        Update::Add(_) => None,
+    Label {
+        worker,
+        choice: *choice,
     }
 }
 
-/// What a step answers, by what comes of it.
-fn reply_to(outcome: &Outcome, serial: u64, line: u32) -> StepReply
-    ensures { result ≡ reply_for serial line outcome.now }
+/// The plan of a label's step where a history stands. Its only error is out of memory.
+fn planned(
+    alloc: Global,
+    program: &Program,
+    workers: u8,
+    history: &History,
+    label: Label,
+) -> Result<Step, AllocError>
+    requires { IsHeld (rules_of program.now workers) history.now }
+    ensures { IfOk result (λ step. step ≡ step_at (rules_of program.now workers) (past_in history.now).state label) }
 {
-    match outcome {
-        Outcome::Updates(updates) => StepReply::Done {
-            serial,
-            line,
-            fault: fault_in(updates.as_slice()),
-        },
-        Outcome::Blocked(why) => StepReply::Blocked(*why),
-        Outcome::Ended => StepReply::Ended,
-    }
-}
-
-/// Whether an undo was done.
-fn is_undone(reply: &UndoReply) -> bool
-    ensures { result ≡ is_done reply.now }
-{
-    match reply {
-        UndoReply::Undone { .. } => true,
-        UndoReply::Conflict { .. } => false,
-        UndoReply::Nothing => false,
-    }
-}
-
-/// The line of the next instruction of a worker.
-fn next_line(program: &Program, store: &Store, worker: u8) -> u32
-    ensures { result ≡ line_of program.now (state_of store.now (obj.Control worker)) }
-{
-    match store.get(&Obj::Control(worker)) {
-        Some(Val::Control(control)) => om_team::line(program, control),
-        Some(Val::Int(_)) => 0,
-        Some(Val::Count(_)) => 0,
-        None => 0,
-    }
+    low_counters();
+    plan(alloc, program, workers, history.store(), &label)
 }
 
 impl Machine {
-    /// A machine at the start of a program, with 1 to 8 workers. Its only error is out of memory.
+    /// A machine at the start of a program, with 1 to 32 workers. Its only error is out of memory.
     pub fn new(alloc: Global, program: Program, workers: u8) -> Result<Machine, AllocError>
-        requires at_least_one { 0 < workers }
-        requires at_most_eight { workers ≤ 8 }
+        requires at_least_one { 1 ≤ workers }
+        requires at_most_32 { workers ≤ 32 }
         ensures { IfOk result (λ m. m ≡ record { program = program; workers = workers; history = no_history }) }
     {
-        let store = started(alloc, &program)?;
+        steady_rules();
+        let store = started(alloc, &program, workers)?;
         Ok(Machine {
             program,
             workers,
-            store,
-            records: Vec::new(alloc),
-            made: 0,
+            history: History::new(alloc, store),
         })
     }
 
@@ -126,50 +100,34 @@ impl Machine {
         choice: Choice,
     ) -> Result<StepReply, AllocError>
         requires in_range { worker < self.old.workers }
-        requires few_made { self.old.history.made < 2 ^ 61 }
-        ensures reply { IfOk result (λ r. r ≡ reply_to_step (rules_of self.old.program) self.old.history (record { worker = worker; choice = choice })) }
-        ensures after { OnOk result (self.new ≡ record self.old { history = after_step (rules_of self.old.program) self.old.history (record { worker = worker; choice = choice }) }) }
+        requires few_made { self.old.history.made < 2 ^ 63 }
+        ensures reply { IfOk result (λ x. x ≡ reply_to_step (rules_for self.old) self.old.history (record { worker = worker; choice = choice })) }
+        ensures after { OnOk result (self.new ≡ record self.old { history = after_step (rules_for self.old) self.old.history (record { worker = worker; choice = choice }) }) }
         ensures unchanged_on_error { OnErr result (self.new ≡ self.old) }
     {
-        let label = Label { worker, choice };
-        let Step {
-            footprint,
-            outcome,
-            line,
-        } = plan(alloc, &self.program, &self.store, label)?;
-        let serial = self.made + 1;
-        let reply = reply_to(&outcome, serial, line);
-        match outcome {
-            Outcome::Updates(updates) => {
-                let entry = Entry {
-                    serial,
-                    worker,
-                    choice,
-                    line,
-                };
-                append(
-                    &mut self.store,
-                    &mut self.records,
-                    entry,
-                    footprint,
-                    updates,
-                )?;
-                self.made = serial;
-                Ok(reply)
-            }
-            Outcome::Blocked(_) => Ok(reply),
-            Outcome::Ended => Ok(reply),
-        }
+        let step = planned(
+            alloc,
+            &self.program,
+            self.workers,
+            &self.history,
+            label(worker, &choice),
+        )?;
+        self.history.take(alloc, label(worker, &choice), step)
     }
 
     /// What `step` would answer now. Nothing changes; the only error is out of memory.
     pub fn peek(&self, alloc: Global, worker: u8, choice: Choice) -> Result<StepReply, AllocError>
         requires { worker < self.now.workers }
-        ensures { IfOk result (λ r. r ≡ reply_to_step (rules_of self.now.program) self.now.history (record { worker = worker; choice = choice })) }
+        ensures { IfOk result (λ x. x ≡ reply_to_step (rules_for self.now) self.now.history (record { worker = worker; choice = choice })) }
     {
-        let label = Label { worker, choice };
-        let step = plan(alloc, &self.program, &self.store, label)?;
-        Ok(reply_to(&step.outcome, self.made + 1, step.line))
+        let step = planned(
+            alloc,
+            &self.program,
+            self.workers,
+            &self.history,
+            label(worker, &choice),
+        )?;
+        Ok(self.history.reply(&step))
     }
 
     /// Takes a worker's last step out of the history, wherever it stands, unless a later step
@@ -179,43 +137,83 @@ impl Machine {
     /// serial is given again. It takes no memory.
     pub fn undo(&mut self, worker: u8) -> UndoReply
         requires { worker < self.old.workers }
-        ensures reply { result ≡ reply_to_undo (rules_of self.old.program) self.old.history worker }
-        ensures after { self.new ≡ record self.old { history = after_undo (rules_of self.old.program) self.old.history worker } }
+        ensures reply { result ≡ reply_to_undo (rules_for self.old) self.old.history worker }
+        ensures after { self.new ≡ record self.old { history = after_undo (rules_for self.old) self.old.history worker } }
     {
-        match last_index(self.records.as_slice(), worker) {
-            Some(at) => {
-                let reply = reply_at(self.records.as_slice(), at);
-                if is_undone(&reply) {
-                    take_out(&mut self.store, &mut self.records, at);
-                }
-                reply
-            }
-            None => UndoReply::Nothing,
-        }
+        self.history.undo(worker)
+    }
+
+    /// What a roll of the entry with a serial would take out, the latest first: its cone, the least
+    /// set that holds it and, with each member, every later entry that conflicts with the member.
+    /// `None` where no entry has that serial. Nothing changes; the only error is out of memory.
+    pub fn cone(&self, alloc: Global, serial: u64) -> Result<Option<Vec<Taken>>, AllocError>
+        ensures none { IfOk result (λ o. IsNone o ↔ IsGone serial self.now.history) }
+        ensures members { IfOk result (λ o. IfSome o (λ v. v.items ≡ taken_by_roll (rules_for self.now) self.now.history serial)) }
+    {
+        self.history.cone(alloc, serial)
+    }
+
+    /// Takes the members of a cone out, which `cone` answered. It takes no memory.
+    pub fn take_out(&mut self, taken: &[Taken])
+        requires { (serial : ℕ) × (taken.now ≡ taken_by_roll (rules_for self.old) self.old.history serial) }
+        ensures { (serial : ℕ) → taken.now ≡ taken_by_roll (rules_for self.old) self.old.history serial → self.new ≡ record self.old { history = after_roll (rules_for self.old) self.old.history serial } }
+    {
+        self.history.take_out(taken)
+    }
+
+    /// Takes the entry with a serial and the rest of its cone out of the history: the reply of the
+    /// definition of a run.
+    ///
+    /// Only `Rolled` changes anything, and the number of steps ever made stays even then. Where no
+    /// entry has that serial the answer is `NoEntry`. When out of memory, nothing changes.
+    pub fn roll(&mut self, alloc: Global, serial: u64) -> Result<RollReply, AllocError>
+        ensures reply { IfOk result (λ x. x ≡ reply_to_roll (rules_for self.old) self.old.history serial) }
+        ensures after { OnOk result (self.new ≡ record self.old { history = after_roll (rules_for self.old) self.old.history serial }) }
+        ensures takes_cone { OnOk result (TakesCone (rules_for self.old) self.old.history serial self.new.history) }
+        ensures no_entry { IfOk result (λ x. (x ≡ RollReply.NoEntry) ↔ IsGone serial self.old.history) }
+        ensures unchanged_without_entry { IfOk result (λ x. x ≡ RollReply.NoEntry → self.new ≡ self.old) }
+        ensures unchanged_on_error { OnErr result (self.new ≡ self.old) }
+    {
+        self.history.roll(alloc, serial)
     }
 
     /// A copy of what an object holds: its value at the replay of the entries. Its only error is
     /// out of memory.
     pub fn look(&self, alloc: Global, object: &Obj) -> Result<Val, AllocError>
-        ensures { IfOk result (λ v. v ≡ state_of_entries (rules_of self.now.program) self.now.history.entries object.now) }
+        ensures { IfOk result (λ v. v ≡ state_in self.now object.now) }
     {
-        self.store.copy_at(alloc, object)
+        self.history.store().copy_at(alloc, object)
     }
 
-    /// A copy of the entries that stand, in their order. Its only error is out of memory.
-    pub fn history(&self, alloc: Global) -> Result<Vec<Entry>, AllocError>
-        ensures { IfOk result (λ v. v.items ≡ self.now.history.entries) }
+    /// The names of all tasks that are ready to be begun at the replay of the entries, ascending.
+    /// Its only error is out of memory.
+    pub fn ready(&self, alloc: Global) -> Result<Vec<Name>, AllocError>
+        ensures { IfOk result (λ v. AreReady (state_in self.now) v.items) }
     {
-        entries(alloc, self.records.as_slice())
+        self.history.store().ready(alloc)
+    }
+
+    /// A copy of the entries that stand, in their order. Their serials rise, to the number of steps
+    /// ever made at most, and what is true after every run is true of them. Its only error is out
+    /// of memory.
+    pub fn history(&self, alloc: Global) -> Result<Vec<Entry>, AllocError>
+        ensures entries { IfOk result (λ v. v.items ≡ self.now.history.entries) }
+        ensures numbered { Rise 0 self.now.history.entries self.now.history.made }
+        ensures reached { IsRun (rules_for self.now) self.now.history }
+    {
+        self.history.entries(alloc)
     }
 
     /// The line in the source of a worker's next instruction, from 1; 0 where it is idle or has
     /// ended. At a fault it is the line of the instruction that met it.
     pub fn line(&self, worker: u8) -> u32
         requires { worker < self.now.workers }
-        ensures { result ≡ line_of self.now.program (state_of_entries (rules_of self.now.program) self.now.history.entries (obj.Control worker)) }
+        ensures { result ≡ line_in self.now.program (control_in (state_in self.now (obj.Control worker))) }
     {
-        next_line(&self.program, &self.store, worker)
+        match self.history.store().control(worker) {
+            Some(control) => line(&self.program, control),
+            None => line(&self.program, &Control::Idle),
+        }
     }
 
     /// The program that it runs.
@@ -225,9 +223,11 @@ impl Machine {
         &self.program
     }
 
-    /// How many workers it has, 1 to 8. They are numbered from 0.
+    /// How many workers it has, 1 to 32. They are numbered from 0.
     pub fn workers(&self) -> u8
-        ensures { result ≡ self.now.workers }
+        ensures same { result ≡ self.now.workers }
+        ensures at_least_one { 1 ≤ self.now.workers }
+        ensures at_most_32 { self.now.workers ≤ 32 }
     {
         self.workers
     }

@@ -43,7 +43,7 @@ fn source_in<R: Files>(
 // Runs the shell over standard input and output, and answers its status.
 fn session<R: Files + Input + Print>(rt: &R, alloc: Global, words: Words) -> Result<u8, ShellFault>
     requires least { 0 < words.workers }
-    requires most { words.workers ≤ 8 }
+    requires most { words.workers ≤ 32 }
 {
     let source = source_in(rt, alloc, words.file)?;
     let mut reader = rt.reader();

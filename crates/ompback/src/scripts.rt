@@ -71,7 +71,7 @@ fn run_over(
     writes_left: u64,
 ) -> Told
     requires at_least_one { 0 < workers }
-    requires at_most_eight { workers ≤ 8 }
+    requires at_most_32 { workers ≤ 32 }
 {
     let mut writer = Sink {
         bytes: Vec::new(alloc),

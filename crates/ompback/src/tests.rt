@@ -30,12 +30,12 @@ fn takes_words(rt: HostRuntime) -> Result<(), Fail> {
     let words = words_in(rt.alloc(), ["ompback"].as_slice())?;
     assert_eq!(rt; words.workers, 2);
     assert!(rt; words.file.is_none());
-    let words = words_in(rt.alloc(), ["ompback", "--threads", "8", "a.c"].as_slice())?;
-    assert_eq!(rt; words.workers, 8);
+    let words = words_in(rt.alloc(), ["ompback", "--threads", "32", "a.c"].as_slice())?;
+    assert_eq!(rt; words.workers, 32);
     assert_eq!(rt; words.file, Some("a.c"));
     for wrong in [
         "--threads=0",
-        "--threads=9",
+        "--threads=33",
         "--threads=x",
         "--what",
         "--help",

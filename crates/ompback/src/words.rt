@@ -7,7 +7,7 @@ use std::alloc::Global;
 /// What the words ask for.
 #[derive(Clone, Copy)]
 pub struct Words<'a> {
-    /// How many workers there are, 1 to 8.
+    /// How many workers there are, 1 to 32.
     pub workers: u8,
     /// The file of the source; where there is none, the source is at the front of the input.
     pub file: Option<&'a str>,
@@ -32,15 +32,15 @@ Exit status:
 /// What the words ask for. An error is wrong words, a call for help, or out of memory.
 pub fn words_in<'a>(alloc: Global, words: &'a [&'a str]) -> Result<Words<'a>, Error>
     ensures least { IfOk result (λ words. 0 < words.workers) }
-    ensures most { IfOk result (λ words. words.workers ≤ 8) }
+    ensures most { IfOk result (λ words. words.workers ≤ 32) }
 {
     let threads = Arg::new(alloc, "threads")
         .long("threads")
         .value_name("N")
-        .help("How many workers there are, 1 to 8")
+        .help("How many workers there are, 1 to 32")
         .default_value("2")
         .action(ArgAction::Set)
-        .value_parser(clap::value_parser!(u8).range(1..=8));
+        .value_parser(clap::value_parser!(u8).range(1..=32));
     let file = Arg::new(alloc, "file")
         .value_name("FILE")
         .help("The C source")
@@ -59,13 +59,13 @@ pub fn words_in<'a>(alloc: Global, words: &'a [&'a str]) -> Result<Words<'a>, Er
 
 // The number of workers that is given, if it is one; it always is, by the parse.
 fn workers_or_two(given: Option<u8>) -> u8
-    ensures given { IfSome given (λ n. 0 < n → n ≤ 8 → result ≡ n) }
+    ensures given { IfSome given (λ n. 0 < n → n ≤ 32 → result ≡ n) }
     ensures two { IfNone given (result ≡ 2) }
     ensures least { 0 < result }
-    ensures most { result ≤ 8 }
+    ensures most { result ≤ 32 }
 {
     match given {
-        Some(n) if 1 <= n && n <= 8 => n,
+        Some(n) if 1 <= n && n <= 32 => n,
         _ => 2,
     }
 }

@@ -1,6 +1,6 @@
 //! Operators as in C.
 
-use om_parser::{AssignOperator, BinaryOperator, PostfixOperator, PrefixOperator};
+use om_tree::{AssignOperator, BinaryOperator, PostfixOperator, PrefixOperator};
 
 pub fn binary_mark(operator: BinaryOperator) -> &'static str {
     match operator {

@@ -1,6 +1,8 @@
 //! The constructs of a resolved tree, and what each takes from outside.
 
-use om_scope::{Capture, CopyKind, Resolved, ResolvedClause, ResolvedStatement, Taking, Variable};
+use om_resolved::{
+    Capture, CopyKind, Resolved, ResolvedClause, ResolvedStatement, Taking, Variable,
+};
 use std::alloc::{AllocError, Global};
 
 /// The constructs of the functions of a source, the outer before the inner: `WORD( CLAUSES ) CAPTURES;`.

@@ -3,11 +3,11 @@
 use super::add_bytes;
 use super::operators::{assign_mark, binary_mark, postfix_mark, prefix_mark};
 use om_lexer::Span;
-use om_parser::{
+use om_pragma::Directive;
+use om_tree::{
     Declaration, Declarator, Expression, ForHead, ForStart, FunctionHead, Item, Parameter,
     Parameters, ResultType, Statement, Unit,
 };
-use om_pragma::Directive;
 use std::alloc::{AllocError, Global};
 
 /// The items of a source, and the byte where it ends.

@@ -3,7 +3,7 @@
 use crate::front_end::{refusal, resolved};
 use crate::printers::operators::binary_mark;
 use crate::table::{Frame, check};
-use om_scope::{Resolved, ResolvedLoop, ResolvedStatement};
+use om_resolved::{Resolved, ResolvedLoop, ResolvedStatement};
 use std::alloc::{AllocError, Global};
 use std::test::Fail;
 

@@ -1,4 +1,4 @@
-use Rattle.om_objects.proofs.NameLemmas.{front_of, on_error}
+use Rattle.om_foot.proofs.NameLemmas.{front_of, on_error}
 use Rattle.om_events.proofs.WordLemmas.{next_word}
 use Rattle.om_events.proofs.words.push_spaced.Goals as goal
 

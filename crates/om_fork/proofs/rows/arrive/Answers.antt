@@ -1,5 +1,5 @@
 use Rattle.std.proofs.Common.{◌≡◌, ◌∙◌, sym, subst, IfOk, if◌then◌else◌}
-use Rattle.om_program.specs.declared.frame.Fault.TheVariants as fault
+use Rattle.om_code.specs.declared.frame.Fault.TheVariants as fault
 use Rattle.om_row.specs.declared.row.Row.TheVariants.{Faults}
 use Rattle.om_row.specs.Rows.{answered, decided}
 use Rattle.om_fork.specs.Rows.{reached_row}

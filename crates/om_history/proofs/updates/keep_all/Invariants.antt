@@ -1,7 +1,7 @@
 use Rattle.std.proofs.Common.{◌≡◌, take, true}
 use Rattle.std.specs.Prelude.{All}
-use Rattle.om_objects.specs.declared.object.Obj.{Obj}
-use Rattle.om_values.specs.Stores.{state_of, is_kept}
+use Rattle.om_foot.specs.declared.object.Obj.{Obj}
+use Rattle.om_cells.specs.Stores.{state_of, is_kept}
 use Rattle.om_history.proofs.updates.keep_all.Given as goal
 
 -- the objects so far are kept

@@ -1,9 +1,9 @@
 use Rattle.std.proofs.Common.{◌∙◌, sym, ap, rules}
 use Rattle.std.specs.Prelude.{FitsSigned}
 use Rattle.std.specs.Int.{w128}
-use Rattle.om_objects.specs.declared.footprint.Mode.TheVariants as mode
-use Rattle.om_values.specs.State.{state_after}
-use Rattle.om_values.specs.Stores.{state_of}
+use Rattle.om_foot.specs.declared.footprint.Mode.TheVariants as mode
+use Rattle.om_cells.specs.State.{state_after}
+use Rattle.om_cells.specs.Stores.{state_of}
 use Rattle.om_history.proofs.Changes.{added_at}
 use Rattle.om_history.proofs.updates.make_addition.Goals as goal
 

@@ -1,9 +1,9 @@
 use Rattle.std.proofs.Common.{◌≡◌, ◌∙◌, ◌+◌, sym, arith, List, ℕ, get_or, set}
 use Rattle.std.proofs.Math.ListN.{length-set}
-use Rattle.om_objects.specs.declared.footprint.Access.{Access}
-use Rattle.om_values.specs.declared.step.Update.{Update}
-use Rattle.om_values.specs.State.{State}
-use Rattle.om_values.specs.Stores.{state_of}
+use Rattle.om_foot.specs.declared.footprint.Access.{Access}
+use Rattle.om_cells.specs.declared.step.Update.{Update}
+use Rattle.om_cells.specs.State.{State}
+use Rattle.om_cells.specs.Stores.{state_of}
 use Rattle.om_history.proofs.Rooms.{updated-past, undo_record-past, Onward, onward, fits_here, WayBack, way_back}
 use Rattle.om_history.proofs.updates.make_all.Goals as goal
 

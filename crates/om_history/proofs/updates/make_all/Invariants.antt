@@ -1,7 +1,7 @@
 use Rattle.std.proofs.Common.{◌≡◌, ◌++◌, take, drop, length}
-use Rattle.om_objects.specs.declared.object.Obj.{Obj}
-use Rattle.om_values.specs.State.{updated, undo_record, taken_back}
-use Rattle.om_values.specs.Stores.{state_of, is_kept}
+use Rattle.om_foot.specs.declared.object.Obj.{Obj}
+use Rattle.om_cells.specs.State.{updated, undo_record, taken_back}
+use Rattle.om_cells.specs.Stores.{state_of, is_kept}
 use Rattle.om_history.specs.Bounds.{FitsAll, FitsBack}
 use Rattle.om_history.proofs.updates.make_all.Given as goal
 

@@ -1,5 +1,5 @@
 use Rattle.std.proofs.Common.{◌∙◌, arith}
-use Rattle.om_values.specs.Stores.{state_of}
+use Rattle.om_cells.specs.Stores.{state_of}
 use Rattle.om_history.proofs.Rooms.{taken_back-front, FitsBack-front}
 use Rattle.om_history.proofs.updates.take_back_all.Goals as goal
 

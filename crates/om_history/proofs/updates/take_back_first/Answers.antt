@@ -1,10 +1,10 @@
 use Rattle.std.proofs.Common.{◌≡◌, ◌∙◌, sym, ap, subst, arith, take, ◌-◌, List, ℕ, get_or, set}
 use Rattle.std.proofs.Math.ListN.{length-set}
 use Rattle.std.proofs.lemmas.List.{take-set}
-use Rattle.om_objects.specs.declared.footprint.Access.{Access}
-use Rattle.om_values.specs.declared.step.Update.{Update}
-use Rattle.om_values.specs.State.{State, taken_back}
-use Rattle.om_values.specs.Stores.{state_of}
+use Rattle.om_foot.specs.declared.footprint.Access.{Access}
+use Rattle.om_cells.specs.declared.step.Update.{Update}
+use Rattle.om_cells.specs.State.{State, taken_back}
+use Rattle.om_cells.specs.Stores.{state_of}
 use Rattle.om_history.specs.Bounds.{FitsBack}
 use Rattle.om_history.proofs.Rooms.{BackStep, back_step}
 use Rattle.om_history.proofs.updates.take_back_first.Goals as goal

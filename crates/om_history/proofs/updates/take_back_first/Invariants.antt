@@ -1,7 +1,7 @@
 use Rattle.std.proofs.Common.{◌≡◌, take, length}
-use Rattle.om_objects.specs.declared.object.Obj.{Obj}
-use Rattle.om_values.specs.State.{taken_back}
-use Rattle.om_values.specs.Stores.{state_of, is_kept}
+use Rattle.om_foot.specs.declared.object.Obj.{Obj}
+use Rattle.om_cells.specs.State.{taken_back}
+use Rattle.om_cells.specs.Stores.{state_of, is_kept}
 use Rattle.om_history.specs.Bounds.{FitsBack}
 use Rattle.om_history.proofs.updates.take_back_first.Given as goal
 

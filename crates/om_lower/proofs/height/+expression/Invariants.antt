@@ -1,7 +1,7 @@
 use Rattle.std.proofs.Common.{◌≤◌, ◌↔◌, drop, map}
 use Rattle.om_lower.specs.Heights.{values_height}
-use Rattle.om_scope.specs.ResolvedTree as trees
-use Rattle.om_scope.specs.ResolvedView.{view_resolved_expression}
+use Rattle.om_resolved.specs.ResolvedTree as trees
+use Rattle.om_resolved.specs.ResolvedView.{view_resolved_expression}
 use Rattle.om_lower.proofs.height.+expression.Given as goal
 
 -- what is left of the room is enough for what is left exactly where all of it is enough for all

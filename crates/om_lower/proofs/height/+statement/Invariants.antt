@@ -1,7 +1,7 @@
 use Rattle.std.proofs.Common.{◌≤◌, ◌↔◌, drop, map}
 use Rattle.om_lower.specs.Heights.{statements_height}
-use Rattle.om_scope.specs.ResolvedTree as trees
-use Rattle.om_scope.specs.ResolvedView.{view_resolved_statement}
+use Rattle.om_resolved.specs.ResolvedTree as trees
+use Rattle.om_resolved.specs.ResolvedView.{view_resolved_statement}
 use Rattle.om_lower.proofs.height.+statement.Given as goal
 
 abbrev pub invariant-statements_fit-loop-item : goal.invariant-statements_fit-loop-item

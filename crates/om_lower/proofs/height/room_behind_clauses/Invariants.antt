@@ -1,6 +1,6 @@
 use Rattle.std.proofs.Common.{◌≡◌, ◌+◌, drop, map}
 use Rattle.om_lower.specs.Heights.{clauses_operands}
-use Rattle.om_scope.specs.ResolvedView.{view_resolved_clause}
+use Rattle.om_resolved.specs.ResolvedView.{view_resolved_clause}
 use Rattle.om_lower.proofs.height.room_behind_clauses.Given as goal
 
 abbrev pub invariant-loop-clause : goal.invariant-loop-clause

@@ -1,7 +1,7 @@
 use Rattle.std.proofs.Common.{◌≡◌, drop, map}
 use Rattle.om_lower.specs.Limits.{have_large_region}
-use Rattle.om_scope.specs.ResolvedTree as trees
-use Rattle.om_scope.specs.ResolvedView.{view_resolved_statement}
+use Rattle.om_resolved.specs.ResolvedTree as trees
+use Rattle.om_resolved.specs.ResolvedView.{view_resolved_statement}
 use Rattle.om_lower.proofs.limit.+statement.Given as goal
 
 -- the answer for the statements that are left is the answer for all

@@ -1,6 +1,6 @@
 use Rattle.std.proofs.lemmas.Result.{err_from_is_err_and}
 use Rattle.om_lower.specs.Limits.{body_breaches}
-use Rattle.om_scope.specs.ResolvedView.{view_resolved_function}
+use Rattle.om_resolved.specs.ResolvedView.{view_resolved_function}
 use Rattle.om_lower.proofs.Firsts.{first_of_views, none_of_views}
 use Rattle.om_lower.proofs.limit.check_functions.Goals as goal
 

@@ -2,7 +2,7 @@ use Rattle.std.proofs.Common.{◌≡◌, [], take, map}
 use Rattle.std.specs.List.{flat_map}
 use Rattle.om_lower.specs.Limits.{size_breaches}
 use Rattle.om_lower.specs.Written.{body_of}
-use Rattle.om_scope.specs.ResolvedView.{view_resolved_function}
+use Rattle.om_resolved.specs.ResolvedView.{view_resolved_function}
 use Rattle.om_lower.proofs.lower.lower_taken.Given as goal
 
 abbrev pub invariant-loop-function : goal.invariant-loop-function

@@ -1,8 +1,8 @@
 use Rattle.std.proofs.Common.{◌∙◌, map, ap}
 use Rattle.om_lower.specs.Slots.{parameter_cells, statements_slots}
 use Rattle.om_lower.proofs.Rooms.{passed_by_two}
-use Rattle.om_scope.specs.ResolvedTree as trees
-use Rattle.om_scope.specs.ResolvedView.{view_resolved_statement}
+use Rattle.om_resolved.specs.ResolvedTree as trees
+use Rattle.om_resolved.specs.ResolvedView.{view_resolved_statement}
 use Rattle.om_lower.proofs.slots.function_passes.Goals as goal
 
 pub returns : goal.returns

@@ -2,7 +2,7 @@ use Rattle.std.proofs.Common.{◌∙◌, map}
 use Rattle.std.specs.List.{flat_map}
 use Rattle.om_lower.specs.Slots.{capture_cells, clause_slots, statement_slots}
 use Rattle.om_lower.proofs.Rooms.{passed_by_three}
-use Rattle.om_scope.specs.ResolvedView.{view_resolved_clause, view_resolved_statement}
+use Rattle.om_resolved.specs.ResolvedView.{view_resolved_clause, view_resolved_statement}
 use Rattle.om_lower.proofs.slots.region_passes.Goals as goal
 
 pub returns : goal.returns

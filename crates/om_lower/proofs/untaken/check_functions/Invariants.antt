@@ -1,7 +1,7 @@
 use Rattle.std.proofs.Common.{◌≡◌, [], take}
 use Rattle.std.specs.List.{flat_map}
 use Rattle.om_lower.specs.Untaken.{function_untaken}
-use Rattle.om_scope.specs.ResolvedView.{view_resolved_function}
+use Rattle.om_resolved.specs.ResolvedView.{view_resolved_function}
 use Rattle.om_lower.proofs.untaken.check_functions.Given as goal
 
 abbrev pub invariant-loop-function : goal.invariant-loop-function

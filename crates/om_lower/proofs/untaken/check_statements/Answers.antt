@@ -3,7 +3,7 @@ use Rattle.std.specs.List.{flat_map}
 use Rattle.std.proofs.lemmas.Result.{err_from_is_err_and}
 use Rattle.om_lower.specs.Untaken.{statement_untaken}
 use Rattle.om_scope.specs.Faults.{first_of}
-use Rattle.om_scope.specs.ResolvedView.{view_resolved_statement}
+use Rattle.om_resolved.specs.ResolvedView.{view_resolved_statement}
 use Rattle.om_lower.proofs.Firsts.{first_of_views, none_of_views}
 use Rattle.om_lower.proofs.Taken.{listed_all}
 use Rattle.om_lower.proofs.untaken.check_statements.Goals as goal

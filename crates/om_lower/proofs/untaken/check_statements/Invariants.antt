@@ -1,7 +1,7 @@
 use Rattle.std.proofs.Common.{◌≡◌, [], take}
 use Rattle.std.specs.List.{flat_map}
 use Rattle.om_lower.specs.Untaken.{statement_untaken}
-use Rattle.om_scope.specs.ResolvedView.{view_resolved_statement}
+use Rattle.om_resolved.specs.ResolvedView.{view_resolved_statement}
 use Rattle.om_lower.proofs.untaken.check_statements.Given as goal
 
 abbrev pub invariant-loop-statement : goal.invariant-loop-statement

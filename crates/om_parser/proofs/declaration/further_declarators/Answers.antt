@@ -3,10 +3,10 @@ use Rattle.std.proofs.lemmas.Result.{err_from_is_err_and}
 use Rattle.std.proofs.lemmas.List.{map_push}
 use Rattle.om_lexer.specs.declared.token.Punctuator.TheVariants.{Semicolon}
 use Rattle.om_parser.specs.DeclarationReading.{initial_at, further_at}
-use Rattle.om_parser.specs.Limits.{accepted}
+use Rattle.om_tree.specs.Limits.{accepted}
 use Rattle.om_parser.specs.Reading.{take_mark}
 use Rattle.om_parser.specs.Repetition.{until}
-use Rattle.om_parser.specs.View.{view_declarator, view_further}
+use Rattle.om_tree.specs.View.{view_declarator, view_further}
 use Rattle.om_parser.proofs.DeclarationSound.{initial_further_shorter}
 use Rattle.om_parser.proofs.Loops.{until_begins, until_ends, until_fails, until_goes_on}
 use Rattle.om_parser.proofs.Taken.{mark_shorter}

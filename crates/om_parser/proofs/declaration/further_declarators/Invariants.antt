@@ -1,10 +1,10 @@
 use Rattle.std.proofs.Common.{length, map}
 use Rattle.om_lexer.specs.declared.token.Punctuator.TheVariants.{Semicolon}
 use Rattle.om_parser.specs.DeclarationReading.{initial_at, further_at}
-use Rattle.om_parser.specs.Limits.{accepted}
+use Rattle.om_tree.specs.Limits.{accepted}
 use Rattle.om_parser.specs.Reading.{take_mark}
 use Rattle.om_parser.specs.Repetition.{until}
-use Rattle.om_parser.specs.View.{view_further}
+use Rattle.om_tree.specs.View.{view_further}
 use Rattle.om_parser.proofs.Loops.{GoesOn}
 use Rattle.om_parser.proofs.declaration.further_declarators.Given as goal
 

@@ -4,8 +4,8 @@ use Rattle.std.proofs.lemmas.Result.{err_from_is_err_and}
 use Rattle.om_lexer.specs.declared.token.Punctuator.TheVariants.{CloseParen}
 use Rattle.om_parser.specs.ExpressionReading.{argument_at, arguments_at, binary_at, binary_more, chain_at, expression_at, operand_at}
 use Rattle.om_parser.specs.Reading.{take_mark, too_deep}
-use Rattle.om_parser.specs.Tree.{Binary}
-use Rattle.om_parser.specs.View.{view_argument, view_expression}
+use Rattle.om_tree.specs.Tree.{Binary}
+use Rattle.om_tree.specs.View.{view_argument, view_expression}
 use Rattle.om_parser.proofs.Chains.{chain_ends, chain_stops, chain_goes_on, no_binary, binary_over, binary_fails, binary_on, binary_shorter, operand_shorter, argument_shorter, fails_or, binary_stops, level_stops, level_ends, turn_goes_on}
 use Rattle.om_parser.proofs.Loops.{until_ends, until_fails, until_goes_on}
 use Rattle.om_parser.proofs.Taken.{mark_shorter}

@@ -2,7 +2,7 @@ use Rattle.std.proofs.Common.{◌≡◌, ◌-◌, ◌+◌, ◌*◌, length, map,
 use Rattle.om_lexer.specs.declared.token.Punctuator.TheVariants.{CloseParen}
 use Rattle.om_parser.specs.ExpressionReading.{argument_at, arguments_at, binary_at, binary_more, chain_at, expression_at, operand_at}
 use Rattle.om_parser.specs.Reading.{take_mark}
-use Rattle.om_parser.specs.View.{view_argument, view_expression}
+use Rattle.om_tree.specs.View.{view_argument, view_expression}
 use Rattle.om_parser.proofs.Chains.{GoesOn}
 use Rattle.om_parser.proofs.Loops as loops
 use Rattle.om_parser.proofs.expression.+expression.Given as goal

@@ -2,8 +2,8 @@ use Rattle.std.proofs.Common.{length, sym, inr, arith}
 use Rattle.std.proofs.lemmas.Result.{err_from_is_err_and}
 use Rattle.om_parser.specs.ExpressionReading.{chain_at, postfix_more}
 use Rattle.om_parser.specs.Reading.{too_deep}
-use Rattle.om_parser.specs.Tree.{Postfix}
-use Rattle.om_parser.specs.View.{view_expression}
+use Rattle.om_tree.specs.Tree.{Postfix}
+use Rattle.om_tree.specs.View.{view_expression}
 use Rattle.om_parser.proofs.Chains.{chain_ends, chain_stops, chain_goes_on, no_postfix, postfix_over, postfix_on, postfix_shorter}
 use Rattle.om_parser.proofs.expression.postfixes.Goals as goal
 

@@ -1,6 +1,6 @@
 use Rattle.std.proofs.Common.{length}
 use Rattle.om_parser.specs.ExpressionReading.{chain_at, postfix_more}
-use Rattle.om_parser.specs.View.{view_expression}
+use Rattle.om_tree.specs.View.{view_expression}
 use Rattle.om_parser.proofs.Chains.{GoesOn}
 use Rattle.om_parser.proofs.expression.postfixes.Given as goal
 

@@ -1,5 +1,5 @@
 use Rattle.om_parser.specs.ExpressionReading.{prefixed}
-use Rattle.om_parser.specs.View.{view_expression}
+use Rattle.om_tree.specs.View.{view_expression}
 use Rattle.om_parser.proofs.Prefixes.{prefixed_inwards}
 use Rattle.om_parser.proofs.expression.prefixed.Goals as goal
 

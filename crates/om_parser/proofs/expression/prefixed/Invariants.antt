@@ -1,6 +1,6 @@
 use Rattle.std.proofs.Common.{◌≡◌, length}
 use Rattle.om_parser.specs.ExpressionReading.{prefixed}
-use Rattle.om_parser.specs.View.{view_expression}
+use Rattle.om_tree.specs.View.{view_expression}
 use Rattle.om_parser.proofs.expression.prefixed.Given as goal
 
 -- behind the operators that are left it is the whole

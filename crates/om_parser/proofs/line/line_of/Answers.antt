@@ -1,4 +1,4 @@
-use Rattle.om_parser.specs.Limits.{accepted}
+use Rattle.om_tree.specs.Limits.{accepted}
 use Rattle.om_parser.proofs.LineViews.{refused_line}
 use Rattle.om_parser.proofs.line.line_of.Goals as goal
 

@@ -1,5 +1,5 @@
 use Rattle.std.proofs.Common.{◌≡◌, sym, rules}
-use Rattle.om_parser.specs.Limits.{accepted}
+use Rattle.om_tree.specs.Limits.{accepted}
 use Rattle.om_parser.proofs.LineViews.{none_left, none_read, some_read, value_fails}
 use Rattle.om_parser.proofs.line.with_value.Goals as goal
 

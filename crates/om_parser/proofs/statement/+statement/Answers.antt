@@ -2,12 +2,12 @@ use Rattle.std.proofs.Common.{◌∙◌, ◌≡◌, [], ◌∷◌, ◌++◌, len
 use Rattle.std.proofs.lemmas.Result.{err_from_is_err_and}
 use Rattle.std.proofs.lemmas.List.{map_push}
 use Rattle.om_lexer.specs.declared.token.Punctuator.TheVariants.{CloseBrace}
-use Rattle.om_parser.specs.Limits.{accepted}
+use Rattle.om_tree.specs.Limits.{accepted}
 use Rattle.om_parser.specs.PartReading.{parts}
 use Rattle.om_parser.specs.Reading.{take_mark}
 use Rattle.om_parser.specs.Repetition.{until}
 use Rattle.om_parser.specs.StatementReading.{item_at, statement_at}
-use Rattle.om_parser.specs.View.{view_statement}
+use Rattle.om_tree.specs.View.{view_statement}
 use Rattle.om_parser.proofs.Loops.{until_begins, until_ends, until_fails, until_goes_on}
 use Rattle.om_parser.proofs.Shorter.{brace_shorter, item_shorter}
 use Rattle.om_parser.proofs.Started.{block_statement}

@@ -1,5 +1,5 @@
 use Rattle.std.proofs.Common.{map}
-use Rattle.om_parser.specs.View.{view_declarator, view_further}
+use Rattle.om_tree.specs.View.{view_declarator, view_further}
 use Rattle.om_scope.specs.Scopes.{after_local, behind_commas}
 use Rattle.om_scope.specs.StatementResolution.{resolved_declarator}
 use Rattle.om_scope.proofs.Along.{each_along-step}

@@ -1,6 +1,6 @@
 use Rattle.std.proofs.Common.{◌+◌, map, drop, ap, ◌∙◌}
 use Rattle.std.proofs.lemmas.Result.{err_from_is_err_and}
-use Rattle.om_parser.specs.View.{view_declarator, view_further}
+use Rattle.om_tree.specs.View.{view_declarator, view_further}
 use Rattle.om_scope.specs.Scopes.{after_local, behind_commas}
 use Rattle.om_scope.specs.StatementResolution.{resolved_declarator}
 use Rattle.om_scope.specs.StatementRules.{local_breaches}

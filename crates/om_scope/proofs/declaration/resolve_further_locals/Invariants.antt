@@ -1,6 +1,6 @@
 use Rattle.std.proofs.Common.{◌≡◌, map, drop}
-use Rattle.om_parser.specs.View.{view_further}
-use Rattle.om_scope.specs.ResolvedView.{view_resolved_declarator}
+use Rattle.om_tree.specs.View.{view_further}
+use Rattle.om_resolved.specs.ResolvedView.{view_resolved_declarator}
 use Rattle.om_scope.specs.Scopes.{after_local, behind_commas}
 use Rattle.om_scope.specs.StatementResolution.{resolved_declarators}
 use Rattle.om_scope.specs.StatementRules.{local_breaches}

@@ -2,7 +2,7 @@ use Rattle.std.proofs.Common.{◌+◌, map, drop, ap, sym, ◌∙◌}
 use Rattle.std.proofs.lemmas.Result.{err_from_is_err_and}
 use Rattle.om_scope.specs.DirectiveRules.{after_name, listed_breaches, sharing_of}
 use Rattle.om_scope.specs.Perhaps.{each}
-use Rattle.om_scope.specs.ResolvedView.{view_resolved_clause}
+use Rattle.om_resolved.specs.ResolvedView.{view_resolved_clause}
 use Rattle.om_scope.specs.StatementResolution.{resolved_listed}
 use Rattle.om_scope.proofs.Along.{each-step, made_and, unbroken-refuse, unbroken-step}
 use Rattle.om_scope.proofs.Items.{drop-item, map-push}

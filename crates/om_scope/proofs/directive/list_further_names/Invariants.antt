@@ -1,7 +1,7 @@
 use Rattle.std.proofs.Common.{◌≡◌, map, drop}
 use Rattle.om_scope.specs.DirectiveRules.{after_name, listed_breaches, sharing_of}
 use Rattle.om_scope.specs.Perhaps.{each}
-use Rattle.om_scope.specs.ResolvedView.{view_resolved_clause}
+use Rattle.om_resolved.specs.ResolvedView.{view_resolved_clause}
 use Rattle.om_scope.specs.StatementResolution.{resolved_listed}
 use Rattle.om_scope.proofs.Along.{Unbroken, made_and}
 use Rattle.om_scope.proofs.directive.list_further_names.Given as goal

@@ -1,9 +1,9 @@
 use Rattle.std.proofs.Common.{◌+◌, map, drop, ap, ◌∙◌}
 use Rattle.std.proofs.lemmas.Result.{err_from_is_err_and}
-use Rattle.om_parser.specs.View.{view_expression}
+use Rattle.om_tree.specs.View.{view_expression}
 use Rattle.om_pragma.specs.Expressions.{map_item}
 use Rattle.om_scope.specs.DirectiveRules.{after_item, item_breaches}
-use Rattle.om_scope.specs.ResolvedView.{view_resolved_clause}
+use Rattle.om_resolved.specs.ResolvedView.{view_resolved_clause}
 use Rattle.om_scope.specs.StatementResolution.{resolved_item}
 use Rattle.om_scope.proofs.Along.{all_of-step, unbroken-refuse, unbroken-step}
 use Rattle.om_scope.proofs.Items.{drop-item}

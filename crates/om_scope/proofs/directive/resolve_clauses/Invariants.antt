@@ -1,8 +1,8 @@
 use Rattle.std.proofs.Common.{◌≡◌, map, drop}
-use Rattle.om_parser.specs.View.{view_expression}
+use Rattle.om_tree.specs.View.{view_expression}
 use Rattle.om_pragma.specs.Expressions.{map_item}
 use Rattle.om_scope.specs.DirectiveRules.{after_item, item_breaches, nothing_listed}
-use Rattle.om_scope.specs.ResolvedView.{view_resolved_clause}
+use Rattle.om_resolved.specs.ResolvedView.{view_resolved_clause}
 use Rattle.om_scope.specs.StatementResolution.{resolved_clauses}
 use Rattle.om_scope.proofs.Along.{Unbroken, made_and}
 use Rattle.om_scope.proofs.directive.resolve_clauses.Given as goal

@@ -1,10 +1,10 @@
 use Rattle.std.proofs.Common.{◌≡◌, ◌<◌, map, ap, ◌∙◌, arith}
 use Rattle.std.proofs.lemmas.List.{drop_all}
 use Rattle.std.proofs.lemmas.Result.{err_from_is_err_and}
-use Rattle.om_parser.specs.Tree.{arguments}
+use Rattle.om_tree.specs.Tree.{arguments}
 use Rattle.om_scope.specs.ExpressionRules.{expression_breaches}
 use Rattle.om_scope.specs.Resolution.{resolved_expression}
-use Rattle.om_scope.specs.ResolvedView.{view_resolved_expression}
+use Rattle.om_resolved.specs.ResolvedView.{view_resolved_expression}
 use Rattle.om_scope.specs.Views.{view_argument}
 use Rattle.om_scope.proofs.Arguments.{arguments_refuse, arguments_step, made_all, made_step, printed_all, printed_behind, printed_format, printed_made, printed_refuse, printed_step, view_call}
 use Rattle.om_scope.proofs.Items.{drop-item, map-push}

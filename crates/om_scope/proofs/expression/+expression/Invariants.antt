@@ -1,7 +1,7 @@
 use Rattle.std.proofs.Common.{◌≡◌, ◌≤◌, map, drop}
-use Rattle.om_parser.specs.Tree.{arguments}
+use Rattle.om_tree.specs.Tree.{arguments}
 use Rattle.om_scope.specs.ExpressionRules.{arguments_breaches, printed_breaches}
-use Rattle.om_scope.specs.ResolvedView.{view_resolved_expression}
+use Rattle.om_resolved.specs.ResolvedView.{view_resolved_expression}
 use Rattle.om_scope.specs.Views.{view_argument}
 use Rattle.om_scope.proofs.Arguments.{ArePrinted, IsMade}
 use Rattle.om_scope.proofs.expression.+expression.Given as goal

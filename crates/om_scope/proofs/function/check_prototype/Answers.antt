@@ -1,5 +1,5 @@
 use Rattle.std.proofs.Common.{ap, ◌∙◌}
-use Rattle.om_parser.specs.View.{view_head}
+use Rattle.om_tree.specs.View.{view_head}
 use Rattle.om_scope.specs.Scopes.{after_parameters, outside, parameters_of}
 use Rattle.std.proofs.lemmas.Result.{err_from_is_err_and}
 use Rattle.om_scope.proofs.Firsts.{first_of_left}

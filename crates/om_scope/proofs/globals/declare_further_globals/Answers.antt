@@ -1,6 +1,6 @@
 use Rattle.std.proofs.Common.{map, ap}
 use Rattle.std.proofs.lemmas.Result.{err_from_is_err_and}
-use Rattle.om_parser.specs.View.{view_further}
+use Rattle.om_tree.specs.View.{view_further}
 use Rattle.om_scope.specs.Scopes.{after_global}
 use Rattle.om_scope.specs.UnitRules.{global_breaches}
 use Rattle.om_scope.proofs.Along.{unbroken-refuse}

@@ -1,5 +1,5 @@
 use Rattle.std.proofs.Common.{◌≡◌, ◌++◌, map, drop}
-use Rattle.om_parser.specs.View.{view_further}
+use Rattle.om_tree.specs.View.{view_further}
 use Rattle.om_scope.specs.Scopes.{after_global, behind_commas}
 use Rattle.om_scope.specs.UnitResolution.{global_of}
 use Rattle.om_scope.specs.UnitRules.{global_breaches}

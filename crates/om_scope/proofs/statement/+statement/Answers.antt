@@ -1,10 +1,10 @@
 use Rattle.std.proofs.Common.{◌≡◌, Some, map, option_map, ap, sym, ◌∙◌}
 use Rattle.std.proofs.lemmas.List.{drop_all}
 use Rattle.std.proofs.lemmas.Result.{err_from_is_err_and}
-use Rattle.om_parser.specs.View.{view_directive, view_for_start, view_statement}
+use Rattle.om_tree.specs.View.{view_directive, view_for_start, view_statement}
 use Rattle.om_scope.specs.LoopViews.{view_loop}
 use Rattle.om_scope.specs.Loops.{loop_in}
-use Rattle.om_scope.specs.ResolvedView.{view_resolved_statement}
+use Rattle.om_resolved.specs.ResolvedView.{view_resolved_statement}
 use Rattle.om_scope.specs.Scopes.{outside}
 use Rattle.om_scope.specs.StatementResolution.{resolved_statement}
 use Rattle.om_scope.specs.StatementRules.{after_for_start, after_statement, after_statements}

@@ -1,7 +1,7 @@
 use Rattle.std.proofs.Common.{◌≡◌, ◌≤◌, map, drop}
-use Rattle.om_parser.specs.Tree.{statements}
-use Rattle.om_parser.specs.View.{view_statement}
-use Rattle.om_scope.specs.ResolvedView.{view_resolved_statement}
+use Rattle.om_tree.specs.Tree.{statements}
+use Rattle.om_tree.specs.View.{view_statement}
+use Rattle.om_resolved.specs.ResolvedView.{view_resolved_statement}
 use Rattle.om_scope.specs.StatementResolution.{resolved_parts, resolved_statements}
 use Rattle.om_scope.specs.StatementRules.{after_statements, sections_breaches, statements_breaches}
 use Rattle.om_scope.proofs.Statements.{Made}

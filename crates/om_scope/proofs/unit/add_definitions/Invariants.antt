@@ -1,5 +1,5 @@
 use Rattle.std.proofs.Common.{◌≡◌, map, drop, fold}
-use Rattle.om_parser.specs.View.{view_item}
+use Rattle.om_tree.specs.View.{view_item}
 use Rattle.om_scope.specs.Scopes.{after_definition, definitions_of}
 use Rattle.om_scope.proofs.unit.add_definitions.Given as goal
 

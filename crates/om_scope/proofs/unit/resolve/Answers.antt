@@ -1,7 +1,7 @@
 use Rattle.std.proofs.Common.{refl}
-use Rattle.om_parser.specs.View.{view_unit}
+use Rattle.om_tree.specs.View.{view_unit}
 use Rattle.om_scope.specs.Breaches.{breaches_of}
-use Rattle.om_scope.specs.ResolvedView.{view_resolved}
+use Rattle.om_resolved.specs.ResolvedView.{view_resolved}
 use Rattle.om_scope.specs.UnitResolution.{resolution_of}
 use Rattle.om_scope.proofs.Uses.{is_resolved}
 use Rattle.om_scope.proofs.unit.resolve.Goals as goal

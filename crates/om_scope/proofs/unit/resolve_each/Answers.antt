@@ -1,7 +1,7 @@
 use Rattle.std.proofs.Common.{◌+◌, map, drop, ap, ◌∙◌, append_assoc}
 use Rattle.std.specs.List.{flat_map}
 use Rattle.std.proofs.lemmas.Result.{err_from_is_err_and}
-use Rattle.om_parser.specs.View.{view_item}
+use Rattle.om_tree.specs.View.{view_item}
 use Rattle.om_scope.specs.Scopes.{after_item}
 use Rattle.om_scope.specs.UnitResolution.{globals_of, item_functions}
 use Rattle.om_scope.specs.UnitRules.{item_breaches}

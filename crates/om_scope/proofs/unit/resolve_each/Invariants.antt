@@ -1,8 +1,8 @@
 use Rattle.std.proofs.Common.{◌≡◌, ◌++◌, map, drop}
 use Rattle.std.specs.List.{flat_map}
-use Rattle.om_parser.specs.View.{view_item}
+use Rattle.om_tree.specs.View.{view_item}
 use Rattle.om_scope.specs.Perhaps.{all_along}
-use Rattle.om_scope.specs.ResolvedView.{view_resolved_function}
+use Rattle.om_resolved.specs.ResolvedView.{view_resolved_function}
 use Rattle.om_scope.specs.Scopes.{after_item}
 use Rattle.om_scope.specs.UnitResolution.{globals_of, item_functions}
 use Rattle.om_scope.specs.UnitRules.{item_breaches}

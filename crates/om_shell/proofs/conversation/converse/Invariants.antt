@@ -10,7 +10,7 @@ invariant-reads g l = record {
       l.initial.input.pending.items l.input.pending.items (due l.initial.session.machine) (due l.session.machine);
   within : l.searched ≤ length l.input.pending.items;
   known : HasNoLineEnd (take l.searched l.input.pending.items);
-  few_made : l.session.machine.history.made + length l.input.pending.items + 4096 * l.input.reads_left < 2 ^ 61;
+  few_made : l.session.machine.history.made + length l.input.pending.items + 4096 * l.input.reads_left < 2 ^ 63;
 }
 
 abbrev pub decreases-reads : goal.decreases-reads

@@ -1,0 +1,17 @@
+-- The map's keys ascend, and a look-up finds each of its entries.
+use Rattle.std.proofs.Common.{◌∙◌, sym, ap, subst, ◌++◌, List, ℕ}
+use Rattle.std.proofs.lemmas.List.{append-nil}
+use Rattle.om_cells.specs.Stores.{state_of}
+use Rattle.om_cells.specs.Ready.{AreReady}
+use Rattle.om_cells.specs.ReadyEntries.{names_ready}
+use Rattle.om_cells.proofs.ReadyLemmas.{are_ready}
+use Rattle.om_cells.proofs.store.Store.ready.Goals as goal
+
+pub returns : goal.returns
+unfolding state_of
+returns c =
+    let names : List (List ℕ) = c.loop-object.names.items in
+    subst (AreReady (state_of c.args.self.now))
+    (sym c.loop-object.invariant ∙ ap (λ es. names ++ names_ready es) c.in-None.ensures.steps.0 ∙ append-nil names)
+    (are_ready c.args.self.now.values.entries c.into_iter-object-iterator.ensures.into_iter_gives.5
+    c.into_iter-object-iterator.ensures.into_iter_gives.6)

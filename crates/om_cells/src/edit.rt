@@ -1,0 +1,179 @@
+//! Edits: what a step makes of its own control, as data as small as what changes.
+
+ghost use Rattle.std.specs.Prelude.{◌≡◌, IfOk, OnOk, ◌<◌, ◌+◌, ◌^◌};
+ghost use Rattle.om_cells.specs.Edits.{frame_at, frame_begun, value_given, context_begun, context_ended, edited, changed_by, changed, HasRoom, HaveRoom, Counts};
+
+use crate::control::{Construct, Context, Control, Frame, Home, Stack};
+use om_code::frame::{Fault, Operand};
+use om_seq::{Pile, Seq};
+use std::alloc::{AllocError, Global};
+use std::mem;
+
+/// A change of a running control. Elsewhere it changes nothing.
+#[derive(Drop)]
+pub enum Edit {
+    /// The running frame goes to a place, with so many operands taken and then one pushed.
+    Go {
+        to: u32,
+        takes: u32,
+        pushed: Option<Operand>,
+    },
+    /// The running frame goes to a place, with so many operands taken, and waits there for the
+    /// value of a new frame, which runs.
+    BeginFrame {
+        to: u32,
+        takes: u32,
+        body: u32,
+        homes: Seq<Home>,
+    },
+    /// The running frame ends, with a value for the frame that waits for it.
+    EndFrame(Operand),
+    /// A context begins, and runs.
+    BeginContext(Context),
+    /// The running context ends. The one below runs on; where there is none, the worker is idle.
+    EndContext,
+    /// The running context enters a region.
+    Open(Construct),
+    /// The running context leaves its innermost region.
+    Close,
+    /// The running context's innermost region becomes this one.
+    Replace(Construct),
+    /// A team, a task or a group is born of the running context.
+    CountBirth,
+    /// The running context meets a worksharing region.
+    CountRegion,
+    /// The running context goes on from a barrier.
+    CountPhase,
+    /// The worker meets a fault.
+    Fail(Fault),
+    /// The initial task ends, with a value.
+    End(i32),
+}
+
+impl Frame {
+    /// Goes to a place, with so many operands taken and then one pushed.
+    fn go(&mut self, to: u32, takes: u32, pushed: Option<Operand>) -> Result<(), AllocError>
+        ensures { OnOk result (self.new ≡ frame_at to takes pushed self.old) }
+    {
+        self.operands.drop_top(takes as usize);
+        if let Some(operand) = pushed {
+            self.operands.push(operand)?;
+        }
+        self.next = to;
+        Ok(())
+    }
+}
+
+impl Context {
+    /// Lets the running frame wait, and begins one of this body with these slots.
+    fn begin_frame(&mut self, alloc: Global, body: u32, homes: Seq<Home>) -> Result<(), AllocError>
+        requires { self.old.frames + 1 < 2 ^ 64 }
+        ensures { OnOk result (self.new ≡ frame_begun body homes self.old) }
+    {
+        let frame = Frame {
+            body,
+            next: 0,
+            ordinal: self.frames,
+            operands: Pile::new(alloc),
+            homes,
+        };
+        self.frames += 1;
+        let waits = mem::replace(&mut self.frame, frame);
+        self.callers.push(waits)
+    }
+
+    /// Ends the running frame, with a value for the one that waits for it.
+    fn end_frame(&mut self, value: Operand) -> Result<(), AllocError>
+        ensures { OnOk result (self.new ≡ value_given value self.old.callers self.old) }
+    {
+        let Some(mut frame) = self.callers.pop() else {
+            return Ok(());
+        };
+        frame.operands.push(value)?;
+        self.frame = frame;
+        Ok(())
+    }
+}
+
+impl Stack {
+    /// Begins a context, which runs.
+    fn begin_context(&mut self, context: Context) -> Result<(), AllocError>
+        ensures { OnOk result (self.new ≡ context_begun context self.old) }
+    {
+        let left = mem::replace(&mut self.top, context);
+        self.below.push(left)
+    }
+}
+
+/// The control after the running context of a stack ends.
+fn after_context(stack: Stack) -> Control
+    ensures { result ≡ context_ended stack.below }
+{
+    let Stack { top: _, mut below } = stack;
+    match below.pop() {
+        Some(top) => Control::Running(Stack { top, below }),
+        None => Control::Idle,
+    }
+}
+
+/// The control after an edit of a stack.
+fn edited(alloc: Global, stack: Stack, edit: Edit) -> Result<Control, AllocError>
+    requires { Counts edit stack }
+    ensures { IfOk result (λ control. control ≡ edited edit stack) }
+{
+    let mut stack = stack;
+    match edit {
+        Edit::Go { to, takes, pushed } => stack.top.frame.go(to, takes, pushed)?,
+        Edit::BeginFrame {
+            to,
+            takes,
+            body,
+            homes,
+        } => {
+            stack.top.frame.go(to, takes, None)?;
+            stack.top.begin_frame(alloc, body, homes)?;
+        }
+        Edit::EndFrame(value) => stack.top.end_frame(value)?,
+        Edit::BeginContext(context) => stack.begin_context(context)?,
+        Edit::EndContext => return Ok(after_context(stack)),
+        Edit::Open(construct) => stack.top.constructs.push(construct)?,
+        Edit::Close => stack.top.constructs.drop_top(1),
+        Edit::Replace(construct) => {
+            stack.top.constructs.drop_top(1);
+            stack.top.constructs.push(construct)?;
+        }
+        Edit::CountBirth => stack.top.births += 1,
+        Edit::CountRegion => stack.top.regions += 1,
+        Edit::CountPhase => stack.top.phase += 1,
+        Edit::Fail(fault) => return Ok(Control::Faulted(fault, stack)),
+        Edit::End(value) => return Ok(Control::Ended(value)),
+    }
+    Ok(Control::Running(stack))
+}
+
+impl Control {
+    /// Makes an edit, where the worker runs. After an error the control is any.
+    fn edit(&mut self, alloc: Global, edit: Edit) -> Result<(), AllocError>
+        requires { HasRoom edit self.old }
+        ensures { OnOk result (self.new ≡ changed_by edit self.old) }
+    {
+        match mem::replace(self, Control::Idle) {
+            Control::Running(stack) => *self = edited(alloc, stack, edit)?,
+            other => *self = other,
+        }
+        Ok(())
+    }
+
+    /// Makes edits, in their order. After an error the control is any.
+    pub fn change(&mut self, alloc: Global, edits: Seq<Edit>) -> Result<(), AllocError>
+        requires { HaveRoom edits self.old }
+        ensures { OnOk result (self.new ≡ changed edits self.old) }
+    {
+        let mut edits = edits.into_vec();
+        while !edits.is_empty() {
+            let edit = edits.remove(0);
+            self.edit(alloc, edit)?;
+        }
+        Ok(())
+    }
+}

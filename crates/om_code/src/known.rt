@@ -1,0 +1,174 @@
+//! Whether what a program names exists.
+
+ghost use Rattle.std.specs.Prelude.{◌≡◌, ◌↔◌, ◌≤◌, ◌<◌, [], IsTrue, All, length};
+ghost use Rattle.om_code.specs.Validity.{HasTables, HasLength, IsKnown, IsGiven, NamesKnown, IsKnownPlace, IsKnownBody, CanBegin, FitsOuter, value_count};
+
+use crate::instruction::{Instr, Place};
+use crate::program::NUMBERS;
+use crate::raw::{Body, GlobalVariable, Line, Piece, Raw, Slot, Source};
+
+/// Whether each global has a number and a length, and the main body begins from nothing.
+pub(crate) fn has_tables(raw: &Raw) -> bool
+    ensures { IsTrue result ↔ HasTables raw.now }
+{
+    raw.globals.len() <= NUMBERS
+        && have_lengths(raw.globals.as_slice())
+        && is_known_body(raw.bodies.as_slice(), &[], raw.main, 0)
+}
+
+/// Whether each global is a scalar or an array that isn't too long.
+fn have_lengths(globals: &[GlobalVariable]) -> bool
+    ensures { IsTrue result ↔ All (λ global. HasLength global.length) globals.now }
+{
+    globals.iter().all(|global| has_length(global.length))
+}
+
+/// Whether this is the length of a scalar, or of an array of 1 to 65,536 cells.
+fn has_length(length: Option<u32>) -> bool
+    ensures { IsTrue result ↔ HasLength length }
+{
+    match length {
+        None => true,
+        Some(cells) => 1 <= cells && cells <= 65_536,
+    }
+}
+
+/// Whether each slot of a body has a number and a cell, and what the body names exists.
+pub(crate) fn is_known(raw: &Raw, body: &Body) -> bool
+    ensures { IsTrue result ↔ IsKnown raw.now body.now }
+{
+    let slots = body.slots.as_slice();
+    slots.len() <= NUMBERS
+        && have_cells(slots)
+        && are_given(slots, body.given.as_slice())
+        && name_known(raw, slots, body.code.as_slice())
+}
+
+/// Whether each slot has a cell.
+fn have_cells(slots: &[Slot]) -> bool
+    ensures { IsTrue result ↔ All (λ slot. 1 ≤ slot.cells) slots.now }
+{
+    slots.iter().all(|slot| 1 <= slot.cells)
+}
+
+/// Whether a value can be given to each of these slots.
+fn are_given(slots: &[Slot], given: &[u32]) -> bool
+    ensures { IsTrue result ↔ All (λ number. IsGiven slots.now number) given.now }
+{
+    given.iter().all(|number| is_given(slots, *number))
+}
+
+/// Whether a value can be given to a slot: it exists, and its cells are in its own frame.
+fn is_given(slots: &[Slot], number: u32) -> bool
+    ensures { IsTrue result ↔ IsGiven slots.now number }
+{
+    match slots.get(number as usize) {
+        Some(slot) => slot.source == Source::Own,
+        None => false,
+    }
+}
+
+/// Whether what each instruction names exists.
+fn name_known(raw: &Raw, slots: &[Slot], code: &[Line]) -> bool
+    ensures { IsTrue result ↔ All (λ line. NamesKnown raw.now slots.now line.instruction) code.now }
+{
+    code.iter()
+        .all(|line| names_known(raw, slots, line.instruction))
+}
+
+/// Whether what an instruction names exists, in a body with these slots.
+fn names_known(raw: &Raw, slots: &[Slot], instr: Instr) -> bool
+    ensures { IsTrue result ↔ NamesKnown raw.now slots.now instr }
+{
+    match instr {
+        Instr::Load(place) | Instr::LoadElement(place) => is_known_place(raw, slots, place),
+        Instr::Store { place, .. } | Instr::StoreElement { place, .. } => {
+            is_known_place(raw, slots, place)
+        }
+        Instr::Atomic { place, .. } | Instr::AtomicElement { place, .. } => {
+            is_known_place(raw, slots, place)
+        }
+        Instr::Reduce { copy, place, .. } => {
+            (copy as usize) < slots.len() && is_known_place(raw, slots, place)
+        }
+        Instr::Clear(slot) | Instr::Iterate { slot, .. } => (slot as usize) < slots.len(),
+        Instr::Call { body, values } => {
+            is_known_body(raw.bodies.as_slice(), &[], body, usize::from(values))
+        }
+        Instr::Fork { body, values, .. } | Instr::Spawn { body, values } => {
+            is_known_body(raw.bodies.as_slice(), slots, body, usize::from(values))
+        }
+        Instr::Print { text, values } => match raw.texts.as_slice().get(text as usize) {
+            Some(pieces) => value_count(pieces.as_slice()) == usize::from(values),
+            None => false,
+        },
+        Instr::Pick(list) => (list as usize) < raw.picks.len(),
+        Instr::AskCritical(lock) | Instr::EnterCritical(lock) | Instr::LeaveCritical(lock) => {
+            (lock as usize) < raw.locks.len()
+        }
+        _ => true,
+    }
+}
+
+/// Whether a variable exists.
+fn is_known_place(raw: &Raw, slots: &[Slot], place: Place) -> bool
+    ensures { IsTrue result ↔ IsKnownPlace raw.now.globals slots.now place }
+{
+    match place {
+        Place::Global(number) => (number as usize) < raw.globals.len(),
+        Place::Slot(number) => (number as usize) < slots.len(),
+    }
+}
+
+/// Whether a body exists, and a frame of it can begin with so many values beside an outer frame with these slots.
+fn is_known_body(bodies: &[Body], outer: &[Slot], body: u32, values: usize) -> bool
+    ensures { IsTrue result ↔ IsKnownBody bodies.now outer.now body values }
+{
+    match bodies.get(body as usize) {
+        Some(body) => can_begin(outer, values, body),
+        None => false,
+    }
+}
+
+/// Whether a frame of a body can begin with so many values beside an outer frame with these slots.
+fn can_begin(outer: &[Slot], values: usize, body: &Body) -> bool
+    ensures { IsTrue result ↔ CanBegin outer.now values body.now }
+{
+    body.given.len() == values && fit_outer(outer, body.slots.as_slice())
+}
+
+/// Whether each slot has its own cells, or those of an outer slot that has as many.
+fn fit_outer(outer: &[Slot], slots: &[Slot]) -> bool
+    ensures { IsTrue result ↔ All (λ slot. FitsOuter outer.now slot.cells slot.source) slots.now }
+{
+    slots
+        .iter()
+        .all(|slot| fits_outer(outer, slot.cells, slot.source))
+}
+
+/// Whether a slot has its own cells, or those of an outer slot that has as many.
+fn fits_outer(outer: &[Slot], cells: u32, source: Source) -> bool
+    ensures { IsTrue result ↔ FitsOuter outer.now cells source }
+{
+    match source {
+        Source::Own => true,
+        Source::Outer(number) => match outer.get(number as usize) {
+            Some(slot) => slot.cells == cells,
+            None => false,
+        },
+    }
+}
+
+/// How many values a text takes.
+fn value_count(pieces: &[Piece]) -> usize
+    ensures { result ≡ value_count pieces.now }
+{
+    let mut count = 0;
+    for piece in pieces {
+        match piece {
+            Piece::Bytes(_) => {}
+            Piece::Value => count += 1,
+        }
+    }
+    count
+}

@@ -1,4 +1,0 @@
-//! What is true of the runs of every program, under the rules of the whole table.
-#![tactic(auto)]
-
-pub mod laws;

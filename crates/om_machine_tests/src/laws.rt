@@ -1,0 +1,22 @@
+//! The laws can be called.
+
+#[test]
+fn the_laws_can_be_called() {
+    om_share::laws::partition();
+    om_share::laws::shares();
+    om_task::laws::low_counters();
+    om_task::laws::calm_rules();
+    om_history::laws::dependence();
+    om_history::laws::commutation();
+    om_history::laws::removal();
+    om_history::laws::step_then_undo();
+    om_history::laws::remaining_steps();
+    om_history::laws::serials_rise();
+    om_history::laws::serials_identify();
+    om_history::laws::roll_is_cone();
+    om_history::laws::roll_takes_cone();
+    om_history::laws::roll_is_undos();
+    om_history::laws::least();
+    om_history::laws::small_counts();
+    om_undo::laws::steady_rules();
+}

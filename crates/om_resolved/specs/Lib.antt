@@ -1,0 +1,6 @@
+pub mod ResolvedTree
+pub mod ResolvedView
+pub mod Formats
+pub mod Captures
+pub mod Whole
+pub mod Uses

@@ -1,0 +1,114 @@
+-- The resolved tree of a value of the program.
+use Rattle.std.specs.Prelude.{map, option_map}
+use Rattle.om_resolved.specs.declared.resolved.Resolved as wholes
+use Rattle.om_resolved.specs.declared.resolved.ResolvedClause.{ResolvedClause}
+use Rattle.om_resolved.specs.declared.resolved.ResolvedClause.TheVariants as clauses
+use Rattle.om_resolved.specs.declared.resolved.ResolvedDeclarator.{ResolvedDeclarator}
+use Rattle.om_resolved.specs.declared.resolved.ResolvedExpression.{ResolvedExpression, fold-ResolvedExpression}
+use Rattle.om_resolved.specs.declared.resolved.ResolvedExpression.TheOpen.{ResolvedExpression-F}
+use Rattle.om_resolved.specs.declared.resolved.ResolvedFunction.{ResolvedFunction}
+use Rattle.om_resolved.specs.declared.resolved.ResolvedLoop.{ResolvedLoop}
+use Rattle.om_resolved.specs.declared.resolved.ResolvedUpdate.{ResolvedUpdate}
+use Rattle.om_resolved.specs.declared.resolved.ResolvedStart.{ResolvedStart}
+use Rattle.om_resolved.specs.declared.resolved.ResolvedStart.TheVariants as starts
+use Rattle.om_resolved.specs.declared.resolved.ResolvedStatement.{ResolvedStatement, fold-ResolvedStatement}
+use Rattle.om_resolved.specs.declared.resolved.ResolvedStatement.TheOpen.{ResolvedStatement-F}
+use Rattle.om_resolved.specs.ResolvedTree as trees
+use Rattle.om_resolved.specs.ResolvedTree.{ResolvedExpressionTree, ResolvedDeclaratorTree, ResolvedClauseTree, ResolvedLoopTree, ResolvedUpdateTree, ResolvedStartTree, ResolvedStatementTree, ResolvedFunctionTree, ResolvedTree}
+
+-- one layer of an expression, whose parts are trees already
+abbrev pub expression_layer : ResolvedExpression-F ResolvedExpressionTree → ResolvedExpressionTree
+expression_layer (ResolvedExpression-F.Constant value) = trees.Constant value
+expression_layer (ResolvedExpression-F.Variable v) = trees.Variable v
+expression_layer (ResolvedExpression-F.Element v index) = trees.Element v index.value
+expression_layer (ResolvedExpression-F.Call function values) = trees.Call function (trees.values values.items)
+expression_layer ResolvedExpression-F.ThreadNumber = trees.ThreadNumber
+expression_layer ResolvedExpression-F.TeamSize = trees.TeamSize
+expression_layer (ResolvedExpression-F.Print format values) = trees.Print format (trees.values values.items)
+expression_layer (ResolvedExpression-F.Unary o e) = trees.Unary o e.value
+expression_layer (ResolvedExpression-F.Binary a o b) = trees.Binary a.value o b.value
+expression_layer (ResolvedExpression-F.Conditional c a b) = trees.Conditional c.value a.value b.value
+expression_layer (ResolvedExpression-F.Assign v o e) = trees.Assign v o e.value
+expression_layer (ResolvedExpression-F.AssignElement v index o e) = trees.AssignElement v index.value o e.value
+expression_layer (ResolvedExpression-F.Postfix v o) = trees.Postfix v o
+expression_layer (ResolvedExpression-F.PostfixElement v index o) = trees.PostfixElement v index.value o
+
+-- an expression without boxes and capacities
+abbrev pub view_resolved_expression : ResolvedExpression → ResolvedExpressionTree
+view_resolved_expression = fold-ResolvedExpression ResolvedExpressionTree expression_layer
+
+abbrev pub view_resolved_declarator : ResolvedDeclarator → ResolvedDeclaratorTree
+view_resolved_declarator d = record { variable = d.variable; length = d.length; initial = option_map view_resolved_expression d.initial }
+
+abbrev pub view_resolved_clause : ResolvedClause → ResolvedClauseTree
+view_resolved_clause (clauses.Value kind e) = trees.ClauseValue kind (view_resolved_expression e)
+view_resolved_clause (clauses.Shared v) = trees.Shared v
+view_resolved_clause (clauses.Copied kind original copy) = trees.Copied kind original copy
+
+abbrev pub view_resolved_loop : ResolvedLoop → ResolvedLoopTree
+view_resolved_loop l = record {
+  at = l.at;
+  variable = l.variable;
+  from = view_resolved_expression l.from;
+  comparison = l.comparison;
+  to = view_resolved_expression l.to;
+  step = l.step;
+  schedule = l.schedule;
+}
+
+abbrev pub view_resolved_update : ResolvedUpdate → ResolvedUpdateTree
+view_resolved_update u = record {
+  at = u.at;
+  variable = u.variable;
+  index = option_map view_resolved_expression u.index;
+  operator = u.operator;
+  side = u.side;
+  operand = view_resolved_expression u.operand;
+}
+
+abbrev pub view_resolved_start : ResolvedStart → ResolvedStartTree
+view_resolved_start starts.Nothing = trees.StartNothing
+view_resolved_start (starts.Expression e) = trees.StartExpression (view_resolved_expression e)
+view_resolved_start (starts.Declaration ds) = trees.StartDeclaration (map view_resolved_declarator ds.items)
+
+-- one layer of a statement, whose parts are trees already
+abbrev pub statement_layer : ResolvedStatement-F ResolvedStatementTree → ResolvedStatementTree
+statement_layer (ResolvedStatement-F.Declaration at ds) = trees.Declaration at (map view_resolved_declarator ds.items)
+statement_layer (ResolvedStatement-F.Block at items) = trees.Block at (trees.statements items.items)
+statement_layer (ResolvedStatement-F.Empty at) = trees.Empty at
+statement_layer (ResolvedStatement-F.Expression at e) = trees.Expression at (view_resolved_expression e)
+statement_layer (ResolvedStatement-F.If at c s) = trees.If at (view_resolved_expression c) s.value
+statement_layer (ResolvedStatement-F.IfElse at c s t) = trees.IfElse at (view_resolved_expression c) s.value t.value
+statement_layer (ResolvedStatement-F.While at c s) = trees.While at (view_resolved_expression c) s.value
+statement_layer (ResolvedStatement-F.Do at s c) = trees.Do at s.value (view_resolved_expression c)
+statement_layer (ResolvedStatement-F.For at start condition step s) =
+    trees.For at (view_resolved_start start) (option_map view_resolved_expression condition) (option_map view_resolved_expression step) s.value
+statement_layer (ResolvedStatement-F.Return at value) = trees.Return at (option_map view_resolved_expression value)
+statement_layer (ResolvedStatement-F.Break at) = trees.Break at
+statement_layer (ResolvedStatement-F.Continue at) = trees.Continue at
+statement_layer (ResolvedStatement-F.Parallel at clauses captures s) = trees.Parallel at (map view_resolved_clause clauses.items) captures s.value
+statement_layer (ResolvedStatement-F.Task at clauses captures s) = trees.Task at (map view_resolved_clause clauses.items) captures s.value
+statement_layer (ResolvedStatement-F.Loop at clauses nowait l s) = trees.Loop at (map view_resolved_clause clauses.items) nowait (view_resolved_loop l) s.value
+statement_layer (ResolvedStatement-F.Sections at clauses nowait items) = trees.Sections at (map view_resolved_clause clauses.items) nowait (trees.statements items.items)
+statement_layer (ResolvedStatement-F.Section s) = trees.Section s.value
+statement_layer (ResolvedStatement-F.Construct at kind clauses s) = trees.Construct at kind (map view_resolved_clause clauses.items) s.value
+statement_layer (ResolvedStatement-F.Update at u) = trees.Update at (view_resolved_update u)
+statement_layer (ResolvedStatement-F.StandAlone at directive) = trees.StandAlone at directive
+
+-- a statement without boxes and capacities
+abbrev pub view_resolved_statement : ResolvedStatement → ResolvedStatementTree
+view_resolved_statement = fold-ResolvedStatement ResolvedStatementTree statement_layer
+
+abbrev pub view_resolved_function : ResolvedFunction → ResolvedFunctionTree
+view_resolved_function f = record {
+  name = f.name;
+  name_at = f.name_at;
+  first = f.first;
+  returns = f.returns;
+  parameters = f.parameters;
+  body = trees.statements (map view_resolved_statement f.body.items);
+  closing_line = f.closing_line;
+}
+
+abbrev pub view_resolved : wholes.Resolved → ResolvedTree
+view_resolved r = record { globals = r.globals; functions = map view_resolved_function r.functions.items }

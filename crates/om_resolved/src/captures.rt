@@ -1,0 +1,165 @@
+//! What a region takes from outside, and how (OpenMP API 5.2, section 5.1).
+
+ghost use Rattle.std.specs.Prelude.{◌≡◌, OnOk, IfOk, fold, map};
+ghost use Rattle.std.specs.List.{flat_map};
+ghost use Rattle.om_resolved.specs.Captures.{captured, captures_of, combined_uses, is_before, listed_uses, listed_variables, taken_by_parallel, taken_by_task, taken_variables, with_use};
+ghost use Rattle.om_resolved.specs.ResolvedView.{view_resolved_clause, view_resolved_statement};
+
+use crate::found::{Found, take_statement};
+use crate::resolved::{Capture, CopyKind, ResolvedClause, ResolvedStatement, Taking, Variable};
+use om_seq::Seq;
+use std::alloc::{AllocError, Global};
+
+/// Notes the original of a copy that is combined into it.
+fn take_combined(
+    found: &mut Found,
+    start: u32,
+    kind: CopyKind,
+    original: Variable,
+) -> Result<(), AllocError>
+    ensures { OnOk result (found.new ≡ fold (with_use start) found.old (combined_uses kind original)) }
+{
+    match kind {
+        CopyKind::Private => Ok(()),
+        CopyKind::Firstprivate => Ok(()),
+        CopyKind::Reduction(_) => found.take(start, original),
+    }
+}
+
+/// Notes what a clause of a region uses in it.
+fn take_listed(found: &mut Found, start: u32, clause: &ResolvedClause) -> Result<(), AllocError>
+    ensures { OnOk result (found.new ≡ fold (with_use start) found.old (listed_uses (view_resolved_clause clause.now))) }
+{
+    match clause {
+        ResolvedClause::Value(_, _) => Ok(()),
+        ResolvedClause::Shared(variable) => found.take(start, *variable),
+        ResolvedClause::Copied(kind, original, _) => take_combined(found, start, *kind, *original),
+    }
+}
+
+/// Notes what the clauses of a region use in it.
+fn take_all_listed(
+    found: &mut Found,
+    start: u32,
+    clauses: &[ResolvedClause],
+) -> Result<(), AllocError>
+    ensures { OnOk result (found.new ≡ fold (with_use start) found.old (flat_map listed_uses (map view_resolved_clause clauses.now))) }
+{
+    for clause in clauses {
+        take_listed(found, start, clause)?;
+    }
+    Ok(())
+}
+
+/// The variables from outside that the clauses of a region list that begins there.
+fn listed_variables(
+    alloc: Global,
+    start: u32,
+    clauses: &[ResolvedClause],
+) -> Result<Found, AllocError>
+    ensures { IfOk result (λ found. found ≡ listed_variables start (map view_resolved_clause clauses.now)) }
+{
+    let mut found = Found::new(alloc);
+    take_all_listed(&mut found, start, clauses)?;
+    Ok(found)
+}
+
+/// The variables from outside that a region uses that begins there.
+fn taken_variables(
+    alloc: Global,
+    start: u32,
+    clauses: &[ResolvedClause],
+    body: &ResolvedStatement,
+) -> Result<Found, AllocError>
+    ensures { IfOk result (λ found. found ≡ taken_variables start (map view_resolved_clause clauses.now) (view_resolved_statement body.now)) }
+{
+    let mut found = listed_variables(alloc, start, clauses)?;
+    take_statement(&mut found, start, body)?;
+    Ok(found)
+}
+
+/// Variables as a `parallel` takes them from outside.
+fn captured_by_parallel(alloc: Global, variables: &[u32]) -> Result<Seq<Capture>, AllocError>
+    ensures { IfOk result (λ captures. captures ≡ captured taken_by_parallel variables.now) }
+{
+    let mut captures = Vec::new(alloc);
+    for variable in variables {
+        captures.push(Capture {
+            variable: *variable,
+            taking: Taking::Shared,
+        })?;
+    }
+    Ok(Seq::of(captures))
+}
+
+/// What a `parallel` that begins there takes from outside.
+pub fn captures_of_parallel(
+    alloc: Global,
+    start: u32,
+    clauses: &[ResolvedClause],
+    body: &ResolvedStatement,
+) -> Result<Seq<Capture>, AllocError>
+    ensures { IfOk result (λ captures. captures ≡ captures_of taken_by_parallel start (map view_resolved_clause clauses.now) (view_resolved_statement body.now)) }
+{
+    let found = taken_variables(alloc, start, clauses, body)?;
+    captured_by_parallel(alloc, found.variables())
+}
+
+/// Whether a variable is declared before the innermost `parallel` begins.
+fn is_before(parallel: Option<u32>, variable: u32) -> bool
+    ensures { result ≡ is_before parallel variable }
+{
+    match parallel {
+        None => false,
+        Some(parallel) => variable < parallel,
+    }
+}
+
+/// How a `task` takes a variable from outside.
+fn taken_by_task(has_default: bool, parallel: Option<u32>, listed: &Found, variable: u32) -> Taking
+    ensures { result ≡ taken_by_task has_default parallel listed.now variable }
+{
+    if has_default || listed.contains(variable) || is_before(parallel, variable) {
+        Taking::Shared
+    } else {
+        Taking::Firstprivate
+    }
+}
+
+/// Variables as a `task` takes them from outside.
+fn captured_by_task(
+    alloc: Global,
+    has_default: bool,
+    parallel: Option<u32>,
+    listed: &Found,
+    variables: &[u32],
+) -> Result<Seq<Capture>, AllocError>
+    ensures { IfOk result (λ captures. captures ≡ captured (taken_by_task has_default parallel listed.now) variables.now) }
+{
+    let mut captures = Vec::new(alloc);
+    for variable in variables {
+        captures.push(Capture {
+            variable: *variable,
+            taking: taken_by_task(has_default, parallel, listed, *variable),
+        })?;
+    }
+    Ok(Seq::of(captures))
+}
+
+/// What a `task` that begins there takes from outside, in the `parallel` that begins at `parallel`.
+pub fn captures_of_task(
+    alloc: Global,
+    has_default: bool,
+    parallel: Option<u32>,
+    start: u32,
+    clauses: &[ResolvedClause],
+    body: &ResolvedStatement,
+) -> Result<Seq<Capture>, AllocError>
+    ensures { let trees = map view_resolved_clause clauses.now in
+        let taking = taken_by_task has_default parallel (listed_variables start trees) in
+        IfOk result (λ captures. captures ≡ captures_of taking start trees (view_resolved_statement body.now)) }
+{
+    let listed = listed_variables(alloc, start, clauses)?;
+    let found = taken_variables(alloc, start, clauses, body)?;
+    captured_by_task(alloc, has_default, parallel, &listed, found.variables())
+}

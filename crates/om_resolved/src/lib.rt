@@ -1,0 +1,15 @@
+//! The resolved tree: every use has its variable, and every region what it takes from outside.
+#![tactic(auto)]
+
+mod captures;
+mod found;
+pub mod laws;
+mod resolved;
+
+pub use captures::{captures_of_parallel, captures_of_task};
+pub use resolved::{
+    Capture, ConstructKind, CopyKind, GlobalVariable, LocalVariable, Resolved, ResolvedClause,
+    ResolvedDeclarator, ResolvedExpression, ResolvedFunction, ResolvedLoop, ResolvedSchedule,
+    ResolvedStart, ResolvedStatement, ResolvedUpdate, Shape, Side, StandAlone, Taking,
+    UnaryOperator, UpdateOperator, Variable,
+};

@@ -1,0 +1,13 @@
+pub mod Twins
+pub mod ExpressionTwins
+pub mod HeadTwins
+pub mod StatementTwins
+pub mod OneCode
+pub mod Levels
+pub mod ExpressionLevels
+pub mod StatementLevels
+pub mod CodeLevels
+pub mod Named
+pub mod NamedExpressions
+pub mod Sized
+pub mod StatementSized

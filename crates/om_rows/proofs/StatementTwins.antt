@@ -1,0 +1,339 @@
+-- Two codes of one statement: they are one, and so are the lists of PICK that they have.
+use Rattle.std.proofs.Common.{◌≡◌, ℕ, ◌+◌, ◌<◌, ◌≤◌, ℤ, pos, Bool, true, false, List, [], ◌∷◌, length, Option, Some, None, refl, sym, ap, ◌∙◌, ⊎_elim, arith}
+use Rattle.std.specs.Prelude.{slice_get, option_map, ◌++◌}
+use Rattle.om_resolved.specs.Uses.{is_main_function}
+use Rattle.om_lexer.specs.declared.token.Span.{Span}
+use Rattle.std.proofs.lemmas.Bool.{cases_lt}
+use Rattle.om_code.specs.declared.instruction.Barrier.{Barrier}
+use Rattle.om_code.specs.declared.instruction.Comparison.{Comparison}
+use Rattle.om_code.specs.declared.instruction.Instr.{Instr}
+use Rattle.om_code.specs.declared.instruction.Instr.TheVariants as i
+use Rattle.om_code.specs.declared.raw.Line.{Line}
+use Rattle.om_resolved.specs.declared.resolved.Capture.{Capture}
+use Rattle.om_resolved.specs.declared.resolved.ConstructKind.{ConstructKind}
+use Rattle.om_resolved.specs.declared.resolved.ConstructKind.TheVariants as constructs
+use Rattle.om_resolved.specs.declared.resolved.CopyKind.{CopyKind}
+use Rattle.om_resolved.specs.declared.resolved.CopyKind.TheVariants as copies
+use Rattle.om_resolved.specs.declared.resolved.LocalVariable.{LocalVariable}
+use Rattle.om_resolved.specs.declared.resolved.StandAlone as alone
+use Rattle.om_resolved.specs.declared.resolved.StandAlone.TheVariants as alones
+use Rattle.om_resolved.specs.declared.resolved.Variable as variables
+use Rattle.om_resolved.specs.ResolvedTree.{ResolvedExpressionTree, ResolvedDeclaratorTree, ResolvedClauseTree, ClauseValue, Shared, Copied, ResolvedLoopTree, ResolvedUpdateTree, ResolvedStartTree, StartNothing, StartExpression, StartDeclaration, ResolvedStatementTree, Declaration, Block, Empty, Expression, If, IfElse, While, Do, For, Return, Break, Continue, Parallel, Task, Loop, Sections, Section, Construct, Update, StandAlone, ResolvedStatementsTree, NoStatements, Statement, ResolvedFunctionTree}
+use Rattle.om_rows.specs.Bodies.{Numbers, next_body, next_pick, behind, behind_all, BodySite, FunctionBody, ParallelBody, TaskBody, variables_of, region_variables, regions, all_regions}
+use Rattle.om_rows.specs.Code.{body_row}
+use Rattle.om_rows.specs.Expressions.{constant, value, effect}
+use Rattle.om_rows.specs.Operators.{comparison_of}
+use Rattle.om_rows.specs.Rows.{Site, Row, part, ◌▸◌, given, perhaps, each, unless}
+use Rattle.om_rows.specs.Slots.{FirstCopy, slot}
+use Rattle.om_rows.specs.Statements.{Jumps, nowhere, in_loop, in_iteration, jump, declared, declarator, start, test, returned, copy_start, clause_start, starts, reduction_start, clause_reduction_start, reduction_starts, combined, clause_combined, reductions, clause_value, given_copies, load_original, barrier, worksharing_end, alone_row, filter_row, single_row, masked_row, critical_row, assignment_row, updated, update_row, group_row, construct_row, loop_row, loop_rest, sections_row, parallel_row, task_row, begins_part, part_end, part_begin, parts_end, statement, statements, parts}
+use Rattle.om_rows.proofs.Twins.{Alike, twin_end, twin_jump, twin_next, twin_within, twin_as, twin_more, twin_free, twin_part, twin_here, twin_closed}
+use Rattle.om_rows.proofs.HeadTwins as heads
+use Rattle.om_rows.proofs.ExpressionTwins as expressions
+use Rattle.om_rows.proofs.ExpressionTwins.{with_code}
+
+-- two tables of lists of PICK have the same lists from this number up to that one
+pub record Covers (picks picks' : List (List ℕ)) (a b : ℕ) : Type 0 where
+  pub by : (k : ℕ) → a ≤ k → k < b → slice_get picks k ≡ slice_get picks' k
+
+module _ (functions : List ResolvedFunctionTree) (formats locks picks picks' : List (List ℕ)) where
+  abbrev pub Covered : ℕ → ℕ → Type 0
+  Covered a b = Covers picks picks' a b
+
+  pub covers_none : (a : ℕ) → Covered a a
+  covers_none a = record { by = λ k le lt. absurd (omega arith) }
+
+  pub covers_join : (a m b : ℕ) → Covered a m → Covered m b → Covered a b
+  covers_join a m b f g = record { by = λ k le lt. ⊎_elim (λ (below : k < m). f.by k le below) (λ (behind : m ≤ k). g.by k behind lt) (cases_lt k m) }
+
+  covers_one : (a : ℕ) → slice_get picks a ≡ slice_get picks' a → Covered a (a + 1)
+  covers_one a e = record { by = λ k le lt. let at : k ≡ a = omega arith in ap (λ z. slice_get picks z) at ∙ e ∙ ap (λ z. slice_get picks' z) (sym at) }
+
+  -- `break` and `continue` go to the same places
+  abbrev pub Same : Jumps → Jumps → Type 0
+  Same j j' = (j.over ≡ j'.over) × (j.next ≡ j'.next)
+
+  -- where a body's code stands, but for the code
+  abbrev pub base_of : BodySite → Site
+  base_of b = record {
+    code = [];
+    slots = variables_of b;
+    functions = functions;
+    formats = formats;
+    locks = locks;
+    picks = [];
+    is_main = is_main_function b.function;
+  }
+
+  -- a body has two codes
+  pub record HasCodes (b : BodySite) : Type 0 where
+    pub code : List Line
+    pub code' : List Line
+    pub end : ℕ
+    pub end' : ℕ
+    pub one : body_row (with_code (base_of b) code picks) b.numbers b.function b.tree 0 end
+    pub other : body_row (with_code (base_of b) code' picks') b.numbers b.function b.tree 0 end'
+
+  abbrev pub HaveCodes : List BodySite → Type 0
+  HaveCodes [] = Unit {0}
+  HaveCodes (b ∷ bs) = HasCodes b × HaveCodes bs
+
+  module _ (f : ResolvedFunctionTree) where
+    abbrev pub region_base : List ResolvedClauseTree → ResolvedStatementTree → Site
+    region_base clauses s = record {
+      code = [];
+      slots = region_variables clauses s;
+      functions = functions;
+      formats = formats;
+      locks = locks;
+      picks = [];
+      is_main = is_main_function f;
+    }
+
+    pub front : (xs ys : List BodySite) → HaveCodes (xs ++ ys) → HaveCodes xs
+    front [] ys h = tt
+    front (x ∷ xs) ys h = (h.0, front xs ys h.1)
+
+    pub back : (xs ys : List BodySite) → HaveCodes (xs ++ ys) → HaveCodes ys
+    back [] ys h = h
+    back (x ∷ xs) ys h = back xs ys h.1
+
+    abbrev pub Twins : List Line → List Line → Type 0 → Type 0 → Row → Row → Type 0
+    Twins code code' needs gives r t = (p p' q q' : ℕ) → r p q → t p' q' → Alike code code' needs gives p q p' q'
+
+    parts_end_twin : (base : Site) (code code' : List Line) (l grab grab' : ℕ) (opened : Bool) (places places' : List ℕ)
+        → Twins code code' (grab ≡ grab') (places ≡ places')
+        (parts_end (with_code base code picks) l grab opened places) (parts_end (with_code base code' picks') l grab' opened places')
+    parts_end_twin base code code' l grab grab' true [] [] p p' q q' r t = twin_as (twin_jump r t (λ k. ap i.Jump k) twin_end) (λ g. refl)
+    parts_end_twin base code code' l grab grab' false [] [] p p' q q' r t = twin_as (twin_end r t) (λ g. refl)
+    parts_end_twin base code code' l grab grab' opened (x ∷ xs) places' p p' q q' r t = absurd r
+    parts_end_twin base code code' l grab grab' opened [] (y ∷ ys) p p' q q' r t = absurd t
+
+    part_end_twin : (base : Site) (code code' : List Line) (l grab grab' : ℕ) (opened : Bool)
+        → Twins code code' (grab ≡ grab') (Unit {0}) (part_end (with_code base code picks) l grab opened) (part_end (with_code base code' picks') l grab' opened)
+    part_end_twin base code code' l grab grab' true p p' q q' r t = twin_jump r t (λ k. ap i.Jump k) twin_end
+    part_end_twin base code code' l grab grab' false p p' q q' r t = twin_end r t
+
+    part_begin_twin : {H : Type 0} (base : Site) (code code' : List Line) (l grab grab' : ℕ) (begins opened : Bool) (places places' : List ℕ) (rest rest' : Bool → List ℕ → Row)
+        → ((o : Bool) (ps ps' : List ℕ) → Twins code code' (grab ≡ grab') ((ps ≡ ps') × H) (rest o ps) (rest' o ps'))
+        → Twins code code' (grab ≡ grab') ((places ≡ places') × H)
+        (part_begin (with_code base code picks) l grab begins opened places rest) (part_begin (with_code base code' picks') l grab' begins opened places' rest')
+    part_begin_twin base code code' l grab grab' false opened places places' rest rest' h p p' q q' r t = h opened places places' p p' q q' r t
+    part_begin_twin base code code' l grab grab' true opened [] places' rest rest' h p p' q q' r t = absurd r
+    part_begin_twin base code code' l grab grab' true opened (x ∷ xs) [] rest rest' h p p' q q' r t = absurd t
+    part_begin_twin base code code' l grab grab' true opened (x ∷ xs) (y ∷ ys) rest rest' h p p' q q' r t =
+        twin_as
+        (twin_within r t (λ n. n) (part_end_twin base code code' l grab grab' opened p p') (λ m m' r t.
+        twin_here r t (λ r t. h true xs ys m m' q q' r t)))
+        (λ g. (cc (g.1.0, g.1.1.0), g.1.1.1))
+
+    -- the bodies of regions given, the lists of a statement, of statements
+    abbrev pub Covers-in : List ℕ → Numbers → ResolvedStatementTree → Type 0
+    Covers-in outer n s = HaveCodes (regions f outer n s) → Covered n.picks (behind n s).picks
+
+    abbrev pub Covers-all : List ℕ → Numbers → ResolvedStatementsTree → Type 0
+    Covers-all outer n items = HaveCodes (all_regions f outer n items) → Covered n.picks (behind_all n items).picks
+
+    own : {N X : Type 0} {code code' : List Line} {p p' q q' : ℕ} (n : Numbers) → Alike code code' N (Unit {0}) p q p' q' → Alike code code' N (X → Covered n.picks n.picks) p q p' q'
+    own n a = twin_as a (λ g h. covers_none n.picks)
+
+    assignment_twin : (l : ℕ) (s : ResolvedStatementTree) (n : Numbers) (outer : List ℕ) (base : Site) (code code' : List Line)
+        → Twins code code' (Unit {0}) (Covers-in outer n s)
+        (assignment_row (with_code base code picks) l s) (assignment_row (with_code base code' picks') l s)
+    assignment_twin l (Expression first e) n outer base code code' p p' q q' r t = own n (twin_free (expressions.effect_twin base code code' picks picks' l e p p' q q' r t))
+    assignment_twin l _ n outer base code code' p p' q q' r t = absurd r
+
+    -- the lists of PICK in the body of a `parallel` or a `task`, by those of its statement
+    parallel_covers : (first : Span) (clauses : List ResolvedClauseTree) (captures : List Capture) (s : ResolvedStatementTree) (n : Numbers) (outer : List ℕ)
+        (h : HasCodes (record { function = f; tree = ParallelBody first clauses captures s; outer = outer; numbers = next_body n }))
+        → Twins h.code h.code' (Same nowhere nowhere) (Covers-in (region_variables clauses s) (next_body n) s)
+        (statement (with_code (region_base clauses s) h.code picks) (next_body n) s nowhere)
+        (statement (with_code (region_base clauses s) h.code' picks') (next_body n) s nowhere)
+        → HaveCodes (regions f (region_variables clauses s) (next_body n) s) → Covered n.picks (behind (next_body n) s).picks
+    parallel_covers first clauses captures s n outer h twin inner =
+        let r = h.one in let t = h.other in
+        let starts = heads.reduction_starts_twin (region_base clauses s) h.code h.code' picks picks' first.line clauses 1 1 r.1.0 t.1.0 r.1.1 t.1.1 in
+        (twin r.1.0 t.1.0 r.1.2.0 t.1.2.0 r.1.2.1 t.1.2.1).given (starts.same refl) inner
+
+    task_covers : (first : Span) (clauses : List ResolvedClauseTree) (captures : List Capture) (s : ResolvedStatementTree) (n : Numbers) (outer : List ℕ)
+        (h : HasCodes (record { function = f; tree = TaskBody first clauses captures s; outer = outer; numbers = next_body n }))
+        → Twins h.code h.code' (Same nowhere nowhere) (Covers-in (region_variables clauses s) (next_body n) s)
+        (statement (with_code (region_base clauses s) h.code picks) (next_body n) s nowhere)
+        (statement (with_code (region_base clauses s) h.code' picks') (next_body n) s nowhere)
+        → HaveCodes (regions f (region_variables clauses s) (next_body n) s) → Covered n.picks (behind (next_body n) s).picks
+    task_covers first clauses captures s n outer h twin inner =
+        let r = h.one in let t = h.other in (twin 0 0 r.0 t.0 r.1 t.1).given refl inner
+
+    mutual
+      unfolding regions all_regions
+
+      pub statement_twin : (s : ResolvedStatementTree) (n : Numbers) (outer : List ℕ) (base : Site) (code code' : List Line) (j j' : Jumps)
+          → Twins code code' (Same j j') (Covers-in outer n s)
+          (statement (with_code base code picks) n s j) (statement (with_code base code' picks') n s j')
+      statement_twin (Declaration first ds) n outer base code code' j j' p p' q q' r t =
+          own n (twin_free (heads.declarators_twin base code code' picks picks' first.line ds p p' q q' r t))
+      statement_twin (Block first items) n outer base code code' j j' p p' q q' r t = statements_twin items n outer base code code' j j' p p' q q' r t
+      statement_twin (Empty first) n outer base code code' j j' p p' q q' r t = own n (twin_end r t)
+      statement_twin (Expression first e) n outer base code code' j j' p p' q q' r t =
+          own n (twin_free (expressions.effect_twin base code code' picks picks' first.line e p p' q q' r t))
+      statement_twin (If first c s) n outer base code code' j j' p p' q q' r t =
+          twin_closed {L = r.0 ≡ t.0}
+          (twin_part r.1 t.1 (expressions.value_twin base code code' picks picks' first.line c p p') (λ m m' r t.
+          twin_jump r t (λ k. ap i.JumpIfZero k.1) (λ r t.
+          twin_within r t (λ k. k.0) (statement_twin s n outer base code code' j j' (m + 1) (m' + 1)) (λ m m' r t.
+          twin_here r t twin_end))))
+          (λ g. g.1.0) (λ g. g.0)
+      statement_twin (IfElse first c s u) n outer base code code' j j' p p' q q' r t =
+          twin_closed {L = (r.0 ≡ t.0) × (r.1 ≡ t.1)}
+          (twin_part r.2 t.2 (expressions.value_twin base code code' picks picks' first.line c p p') (λ m m' r t.
+          twin_jump r t (λ k. ap i.JumpIfZero k.1.0) (λ r t.
+          twin_within r t (λ k. k.0) (statement_twin s n outer base code code' j j' (m + 1) (m' + 1)) (λ m m' r t.
+          twin_jump r t (λ k. ap i.Jump k.1.1) (λ r t.
+          twin_here r t (λ r t.
+          twin_within r t (λ k. k.0) (statement_twin u (behind n s) outer base code code' j j' (m + 1) (m' + 1)) (λ m m' r t.
+          twin_here r t twin_end)))))))
+          (λ g. (g.1.0, g.1.1.1.0)) (λ g h. covers_join n.picks (behind n s).picks (behind (behind n s) u).picks
+          (g.0 (front (regions f outer n s) (regions f outer (behind n s) u) h))
+          (g.1.1.0 (back (regions f outer n s) (regions f outer (behind n s) u) h)))
+      statement_twin (While first c s) n outer base code code' j j' p p' q q' r t =
+          twin_closed {L = (r.0 ≡ t.0) × (r.1 ≡ t.1)}
+          (twin_here r.2 t.2 (λ u v.
+          twin_part u v (expressions.value_twin base code code' picks picks' first.line c p p') (λ m m' u v.
+          twin_jump u v (λ k. ap i.JumpIfZero k.1.1) (λ u v.
+          twin_within u v (λ k. (ap Some k.1.1, ap Some k.1.0)) (statement_twin s n outer base code code' (in_loop r.1 r.0) (in_loop t.1 t.0) (m + 1) (m' + 1)) (λ m m' u v.
+          twin_jump u v (λ k. ap i.Jump k.1.0) (λ u v.
+          twin_here u v twin_end))))))
+          (λ g. (g.0, g.1.1.0)) (λ g. g.1.0)
+      statement_twin (Do first s c) n outer base code code' j j' p p' q q' r t =
+          twin_closed {L = (r.0 ≡ t.0) × (r.1 ≡ t.1) × (r.2 ≡ t.2)}
+          (twin_here r.3 t.3 (λ u v.
+          twin_within u v (λ k. (ap Some k.1.2, ap Some k.1.1)) (statement_twin s n outer base code code' (in_loop r.2 r.1) (in_loop t.2 t.1) p p') (λ m m' u v.
+          twin_here u v (λ u v.
+          twin_part u v (expressions.value_twin base code code' picks picks' first.line c m m') (λ m m' u v.
+          twin_jump u v (λ k. ap i.JumpIfZero k.1.2) (λ u v.
+          twin_jump u v (λ k. ap i.Jump k.1.0) (λ u v.
+          twin_here u v twin_end)))))))
+          (λ g. (g.0, g.1.1.0, g.1.1.1.0)) (λ g. g.1.0)
+      statement_twin (For first begin c step s) n outer base code code' j j' p p' q q' r t =
+          twin_closed {L = (r.0 ≡ t.0) × (r.1 ≡ t.1) × (r.2 ≡ t.2)}
+          (twin_part r.3 t.3 (heads.start_twin base code code' picks picks' first.line begin p p') (λ m m' u v.
+          twin_here u v (λ u v.
+          twin_within u v (λ k. k.1.2)
+          (heads.perhaps_twin base code code' picks picks' (test (with_code base code picks) first.line r.2) (test (with_code base code' picks') first.line t.2) c
+          (heads.test_twin base code code' picks picks' first.line r.2 t.2) m m') (λ m m' u v.
+          twin_within u v (λ k. (ap Some k.1.2, ap Some k.1.1)) (statement_twin s n outer base code code' (in_loop r.2 r.1) (in_loop t.2 t.1) m m') (λ m m' u v.
+          twin_here u v (λ u v.
+          twin_part u v
+          (heads.perhaps_twin base code code' picks picks' (effect (with_code base code picks) first.line) (effect (with_code base code' picks') first.line) step
+          (expressions.effect_twin base code code' picks picks' first.line) m m') (λ m m' u v.
+          twin_jump u v (λ k. ap i.Jump k.1.0) (λ u v.
+          twin_here u v twin_end))))))))
+          (λ g. (g.0, g.1.1.1.0, g.1.1.1.1.0)) (λ g. g.1.1.0)
+      statement_twin (Return first e) n outer base code code' j j' p p' q q' r t =
+          own n (twin_free (heads.returned_twin base code code' picks picks' first.line base.is_main e p p' q q' r t))
+      statement_twin (Break first) n outer base code code' j j' p p' q q' r t =
+          own n (twin_more (heads.jump_twin base code code' picks picks' first.line j.over j'.over p p' q q' r t) (λ k. k.0))
+      statement_twin (Continue first) n outer base code code' j j' p p' q q' r t =
+          own n (twin_more (heads.jump_twin base code code' picks picks' first.line j.next j'.next p p' q q' r t) (λ k. k.1))
+      statement_twin (Parallel first clauses captures s) n outer base code code' j j' p p' q q' r t =
+          twin_as
+          (twin_more (heads.parallel_twin base code code' picks picks' first.line n.bodies (clause_value clauses) (given_copies clauses captures s) p p' q q' r t) (λ k. tt))
+          (λ g h. parallel_covers first clauses captures s n outer h.0
+          (statement_twin s (next_body n) (region_variables clauses s) (region_base clauses s) h.0.code h.0.code' nowhere nowhere) h.1)
+      statement_twin (Task first clauses captures s) n outer base code code' j j' p p' q q' r t =
+          twin_as
+          (twin_more (heads.task_twin base code code' picks picks' first.line n.bodies (given_copies clauses captures s) p p' q q' r t) (λ k. tt))
+          (λ g h. task_covers first clauses captures s n outer h.0
+          (statement_twin s (next_body n) (region_variables clauses s) (region_base clauses s) h.0.code h.0.code' nowhere nowhere) h.1)
+      statement_twin (Loop first clauses nowait loop s) n outer base code code' j j' p p' q q' r t =
+          twin_more
+          (heads.given_twin base code code' picks picks'
+          (loop_rest (with_code base code picks) first.line clauses nowait loop (λ next. statement (with_code base code picks) n s (in_iteration next)))
+          (loop_rest (with_code base code' picks') first.line clauses nowait loop (λ next. statement (with_code base code' picks') n s (in_iteration next)))
+          (comparison_of loop.comparison)
+          (λ comparison. heads.loop_twin base code code' picks picks' first.line clauses nowait loop
+          (λ next. statement (with_code base code picks) n s (in_iteration next)) (λ next. statement (with_code base code' picks') n s (in_iteration next)) comparison
+          (λ next next' p p' q q' r t. twin_more (statement_twin s n outer base code code' (in_iteration next) (in_iteration next') p p' q q' r t) (λ k. (refl, ap Some k))))
+          p p' q q' r t)
+          (λ k. tt)
+      statement_twin (Sections first clauses nowait items) n outer base code code' j j' p p' q q' r t =
+          twin_closed {L = (r.0 ≡ t.0) × (r.1 ≡ t.1) × (r.2 ≡ t.2)}
+          (twin_part r.4 t.4 (heads.starts_twin base code code' picks picks' first.line clauses p p') (λ m m' u v.
+          twin_jump u v (λ k. ap (λ z. i.Sections (length z)) k.1.0) (λ u v.
+          twin_here u v (λ u v.
+          twin_jump u v (λ k. ap i.Grab k.1.2) (λ u v.
+          twin_next u v (λ u v.
+          twin_within u v (λ k. k.1.1)
+          (parts_twin items (next_pick n) outer base code code' first.line r.1 t.1 false r.0 t.0 (m + 1 + 1 + 1) (m' + 1 + 1 + 1)) (λ m m' u v.
+          twin_here u v (λ u v.
+          twin_part u v (heads.reductions_twin base code code' picks picks' first.line clauses m m') (λ m m' u v.
+          twin_more (heads.end_twin base code code' picks picks' first.line nowait m m' q q' u v) (λ k. tt))))))))))
+          (λ g. (g.1.0.0, g.0, g.1.1.0))
+          (λ g h. covers_join n.picks (n.picks + 1) (behind_all (next_pick n) items).picks (covers_one n.picks (r.3 ∙ ap Some g.1.0.0 ∙ sym t.3)) (g.1.0.1 h))
+      statement_twin (Section s) n outer base code code' j j' p p' q q' r t = statement_twin s n outer base code code' j j' p p' q q' r t
+      statement_twin (Construct first (constructs.Single nowait) clauses s) n outer base code code' j j' p p' q q' r t =
+          twin_more
+          (heads.single_twin base code code' picks picks' first.line nowait clauses
+          (statement (with_code base code picks) n s nowhere) (statement (with_code base code' picks') n s nowhere)
+          (λ p p' q q' r t. twin_more (statement_twin s n outer base code code' nowhere nowhere p p' q q' r t) (λ k. (refl, refl)))
+          p p' q q' r t)
+          (λ k. tt)
+      statement_twin (Construct first constructs.Masked clauses s) n outer base code code' j j' p p' q q' r t =
+          twin_more
+          (heads.masked_twin base code code' picks picks' first.line clauses
+          (statement (with_code base code picks) n s nowhere) (statement (with_code base code' picks') n s nowhere)
+          (λ p p' q q' r t. twin_more (statement_twin s n outer base code code' nowhere nowhere p p' q q' r t) (λ k. (refl, refl)))
+          p p' q q' r t)
+          (λ k. tt)
+      statement_twin (Construct first (constructs.Critical name) clauses s) n outer base code code' j j' p p' q q' r t =
+          twin_more
+          (heads.critical_twin base code code' picks picks' first.line name
+          (statement (with_code base code picks) n s nowhere) (statement (with_code base code' picks') n s nowhere)
+          (λ p p' q q' r t. twin_more (statement_twin s n outer base code code' nowhere nowhere p p' q q' r t) (λ k. (refl, refl)))
+          p p' q q' r t)
+          (λ k. tt)
+      statement_twin (Construct first constructs.Atomic clauses s) n outer base code code' j j' p p' q q' r t =
+          twin_more (assignment_twin first.line s n outer base code code' p p' q q' r t) (λ k. tt)
+      statement_twin (Construct first constructs.Taskgroup clauses s) n outer base code code' j j' p p' q q' r t =
+          twin_more
+          (heads.group_twin base code code' picks picks' first.line
+          (statement (with_code base code picks) n s nowhere) (statement (with_code base code' picks') n s nowhere)
+          (λ p p' q q' r t. twin_more (statement_twin s n outer base code code' nowhere nowhere p p' q q' r t) (λ k. (refl, refl)))
+          p p' q q' r t)
+          (λ k. tt)
+      statement_twin (Update first u) n outer base code code' j j' p p' q q' r t =
+          own n (twin_free (heads.update_twin base code code' picks picks' first.line u p p' q q' r t))
+      statement_twin (StandAlone first directive) n outer base code code' j j' p p' q q' r t =
+          own n (twin_free (heads.alone_twin base code code' picks picks' first.line directive p p' q q' r t))
+
+      pub statements_twin : (items : ResolvedStatementsTree) (n : Numbers) (outer : List ℕ) (base : Site) (code code' : List Line) (j j' : Jumps)
+          → Twins code code' (Same j j') (Covers-all outer n items)
+          (statements (with_code base code picks) n items j) (statements (with_code base code' picks') n items j')
+      statements_twin NoStatements n outer base code code' j j' p p' q q' r t = own n (twin_end r t)
+      statements_twin (Statement s rest) n outer base code code' j j' p p' q q' r t =
+          twin_as
+          (twin_within r t (λ k. k) (statement_twin s n outer base code code' j j' p p') (λ m m' r t.
+          statements_twin rest (behind n s) outer base code code' j j' m m' q q' r t))
+          (λ g h. covers_join n.picks (behind n s).picks (behind_all (behind n s) rest).picks
+          (g.0 (front (regions f outer n s) (all_regions f outer (behind n s) rest) h))
+          (g.1 (back (regions f outer n s) (all_regions f outer (behind n s) rest) h)))
+
+      pub parts_twin : (items : ResolvedStatementsTree) (n : Numbers) (outer : List ℕ) (base : Site) (code code' : List Line) (l grab grab' : ℕ) (opened : Bool) (places places' : List ℕ)
+          → Twins code code' (grab ≡ grab') ((places ≡ places') × Covers-all outer n items)
+          (parts (with_code base code picks) n l grab items opened places) (parts (with_code base code' picks') n l grab' items opened places')
+      parts_twin NoStatements n outer base code code' l grab grab' opened places places' p p' q q' r t =
+          twin_as (parts_end_twin base code code' l grab grab' opened places places' p p' q q' r t) (λ g. (g, λ h. covers_none n.picks))
+      parts_twin (Statement s rest) n outer base code code' l grab grab' opened places places' p p' q q' r t =
+          part_begin_twin base code code' l grab grab' (begins_part s) opened places places'
+          (λ o ps. part (statement (with_code base code picks) n s nowhere) ▸ parts (with_code base code picks) (behind n s) l grab rest o ps)
+          (λ o ps. part (statement (with_code base code' picks') n s nowhere) ▸ parts (with_code base code' picks') (behind n s) l grab' rest o ps)
+          (λ o ps ps' p p' q q' r t.
+          twin_as
+          (twin_within r t (λ k. (refl, refl)) (statement_twin s n outer base code code' nowhere nowhere p p') (λ m m' r t.
+          parts_twin rest (behind n s) outer base code code' l grab grab' o ps ps' m m' q q' r t))
+          (λ g. (
+            g.1.0,
+            λ h. covers_join n.picks (behind n s).picks (behind_all (behind n s) rest).picks
+                (g.0 (front (regions f outer n s) (all_regions f outer (behind n s) rest) h))
+                (g.1.1 (back (regions f outer n s) (all_regions f outer (behind n s) rest) h)),
+          )))
+          p p' q q' r t

@@ -1,0 +1,37 @@
+-- What the code of every tree is.
+use Rattle.std.specs.Prelude.{◌≡◌, ◌<◌, ◌^◌, ℕ, ◌+◌, List, All, length}
+use Rattle.om_code.specs.declared.raw.Line.{Line}
+use Rattle.om_code.specs.declared.raw.Raw.{Raw}
+use Rattle.om_code.specs.Validity.{HasOneHeight, StaysInside}
+use Rattle.om_resolved.specs.ResolvedTree.{ResolvedExpressionTree, ResolvedStatementTree, ResolvedTree}
+use Rattle.om_rows.specs.Bodies.{Numbers}
+use Rattle.om_rows.specs.Code.{IsCodeOf}
+use Rattle.om_rows.specs.Expressions.{value, effect}
+use Rattle.om_rows.specs.Rows.{Site}
+use Rattle.om_rows.specs.Sizes.{value_size, effect_size, statement_size}
+use Rattle.om_rows.specs.Statements.{Jumps, statement}
+
+-- A tree has one code.
+abbrev pub OneCode : Type 0
+OneCode = (tree : ResolvedTree) (raw other : Raw) → IsCodeOf tree raw → IsCodeOf tree other → raw ≡ other
+
+-- Code keeps to its body and its levels.
+pub record IsLevel (picks : List (List ℕ)) (code : List Line) : Type 0 where
+  -- whichever way an instruction is reached, as many operands stand below it, and those that it takes are there
+  pub one_height : HasOneHeight picks code
+  -- it begins in its body and goes on in it, if that has fewer than 2^32 instructions
+  pub inside : length code < 2 ^ 32 → StaysInside picks code
+
+-- The bodies of a tree's code are level, whatever the tree is.
+abbrev pub CodeIsLevel : Type 0
+CodeIsLevel = (tree : ResolvedTree) (raw : Raw) → IsCodeOf tree raw → All (λ body. IsLevel raw.picks body.code) raw.bodies
+
+-- The code of a part has as many instructions as the part tells.
+abbrev pub ValueSizes : Type 0
+ValueSizes = (at : Site) (l : ℕ) (e : ResolvedExpressionTree) (p q : ℕ) → value at l e p q → q ≡ p + value_size e
+
+abbrev pub EffectSizes : Type 0
+EffectSizes = (at : Site) (l : ℕ) (e : ResolvedExpressionTree) (p q : ℕ) → effect at l e p q → q ≡ p + effect_size e
+
+abbrev pub StatementSizes : Type 0
+StatementSizes = (at : Site) (n : Numbers) (s : ResolvedStatementTree) (jumps : Jumps) (p q : ℕ) → statement at n s jumps p q → q ≡ p + statement_size s

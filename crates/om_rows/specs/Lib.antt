@@ -1,0 +1,11 @@
+pub mod Rows
+pub mod Operators
+pub mod Tables
+pub mod Slots
+pub mod Bodies
+pub mod Mentions
+pub mod Expressions
+pub mod Statements
+pub mod Code
+pub mod Sizes
+pub mod Laws

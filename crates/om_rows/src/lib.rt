@@ -1,0 +1,4 @@
+//! The code of a resolved tree, as a relation, and what holds of it whoever made the code.
+#![tactic(auto)]
+
+pub mod laws;

@@ -1,5 +1,0 @@
-use Rattle.om_table.proofs.Calm.{calm_rules}
-use Rattle.om_table.proofs.laws.calm_rules.Goals as goal
-
-pub returns : goal.returns
-returns c = calm_rules

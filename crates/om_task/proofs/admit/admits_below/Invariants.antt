@@ -1,0 +1,7 @@
+use Rattle.std.proofs.Common.{◌≡◌, drop}
+use Rattle.om_task.specs.Rules.{admits_all}
+use Rattle.om_task.proofs.admit.admits_below.Given as goal
+
+-- the contexts further down decide
+abbrev pub invariant-loop-depth : goal.invariant-loop-depth
+invariant-loop-depth l = admits_all l.program l.name (drop l.depth l.contexts) ≡ admits_all l.program l.name l.contexts

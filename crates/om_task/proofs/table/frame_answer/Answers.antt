@@ -1,0 +1,19 @@
+use Rattle.std.proofs.Common.{◌≡◌, subst, sym}
+use Rattle.std.specs.Prelude.{IfOk}
+use Rattle.om_cells.specs.Stores.{state_of}
+use Rattle.om_row.specs.Rows.{answered}
+use Rattle.om_serial.specs.Rows.{number_row}
+use Rattle.om_task.specs.Rules.{site}
+use Rattle.om_task.specs.Table.{frame_row}
+use Rattle.om_task.proofs.Answers.{at_state}
+use Rattle.om_task.proofs.table.frame_answer.Goals as goal
+
+pub returns-in-ThreadNumber : goal.returns-in-ThreadNumber
+returns-in-ThreadNumber c =
+    subst (λ i. IfOk c.number.result (λ answer. answer ≡ answered (frame_row (site c.args.program.now c.args.doing.workers c.args.doing.worker c.args.stack.now) i) (state_of c.args.store.now)))
+    (sym c.in-ThreadNumber.is) (at_state c.number.result (number_row c.args.stack.now.top c.args.stack.now.top.team.number) (state_of c.args.store.now) c.number.ensures)
+
+pub returns-in-TeamSize : goal.returns-in-TeamSize
+returns-in-TeamSize c =
+    subst (λ i. IfOk c.number-in-TeamSize.result (λ answer. answer ≡ answered (frame_row (site c.args.program.now c.args.doing.workers c.args.doing.worker c.args.stack.now) i) (state_of c.args.store.now)))
+    (sym c.in-TeamSize.is) (at_state c.number-in-TeamSize.result (number_row c.args.stack.now.top c.args.stack.now.top.team.size) (state_of c.args.store.now) c.number-in-TeamSize.ensures)

@@ -1,0 +1,27 @@
+-- What is true of the runs of every program.
+use Rattle.std.specs.Prelude.{◌≡◌, ℕ, ◌≤◌, ℤ, pos, Some, List, ◌∷◌, length}
+use Rattle.om_code.specs.declared.raw.Raw.{Raw}
+use Rattle.om_cells.specs.declared.step.Label.{Label}
+use Rattle.om_cells.specs.declared.step.Outcome.TheVariants.{Updates}
+use Rattle.om_cells.specs.declared.step.Update.{Update}
+use Rattle.om_cells.specs.declared.value.Val.{Val}
+use Rattle.om_cells.specs.declared.value.Val.TheVariants.{Count}
+use Rattle.om_cells.specs.Rules.{Rules, replay, control_access}
+use Rattle.om_cells.specs.State.{State}
+use Rattle.om_foot.specs.declared.object.Obj.{Obj}
+use Rattle.om_task.specs.Counters.{StateWithin}
+use Rattle.om_task.specs.Rules.{rules_of}
+use Rattle.om_task.specs.Steps.{AddOnce, AreModest}
+
+-- after n steps from the start no counter is above n
+abbrev pub LowCounters : Type 0
+LowCounters = (program : Raw) (workers n : ℕ) (ls : List Label) (s : State) → replay (rules_of program workers) ls ≡ Some s → length ls ≤ n → StateWithin n s
+
+-- rules whose start has no count but 0, and whose steps put no count and add at most one, once to each object
+pub record IsCalm (r : Rules) : Type 0 where
+  pub start : (q : Obj) (n : ℤ) → r.start q ≡ Count n → n ≡ pos 0
+  pub once : (l : Label) (control : Val) → AddOnce (control_access l ∷ r.further l control)
+  pub modest : (l : Label) (values : List Val) (us : List Update) → r.outcome l values ≡ Updates us → AreModest us
+
+abbrev pub CalmRules : Type 0
+CalmRules = (program : Raw) (workers : ℕ) → IsCalm (rules_of program workers)

@@ -1,0 +1,86 @@
+//! Where a worker may start a task (OpenMP 5.2, 12.9).
+
+ghost use Rattle.std.specs.Prelude.{◌≡◌, ◌∷◌};
+ghost use Rattle.om_foot.specs.Names.{is_below};
+ghost use Rattle.om_code.specs.Places.{instruction_at};
+ghost use Rattle.om_task.specs.Rules.{leaving, departs, admits_on, admits_all};
+
+use om_events::TaskStatus;
+use om_foot::{Name, is_descendant};
+use om_code::instruction::Instr;
+use om_code::program::Program;
+use om_seq::Pile;
+use om_cells::{Context, Stack};
+
+/// The instruction at which a context stands.
+pub(crate) fn instruction(program: &Program, context: &Context) -> Option<Instr>
+    ensures { result ≡ instruction_at program.now context.now.frame.body context.now.frame.next }
+{
+    program.instruction(context.frame.body, context.frame.next)
+}
+
+/// The status of the task that is left for another one at an instruction; `None` where that is no
+/// scheduling point.
+pub(crate) fn leaving(instruction: Option<Instr>) -> Option<TaskStatus>
+    ensures { result ≡ leaving instruction }
+{
+    match instruction? {
+        Instr::Depart(_) | Instr::Leave | Instr::WaitEnd => Some(TaskStatus::Switch),
+        Instr::GroupEnd | Instr::Finish { .. } => Some(TaskStatus::Switch),
+        Instr::Yield => Some(TaskStatus::Yield),
+        _ => None,
+    }
+}
+
+/// Whether an instruction departs from a barrier.
+fn departs(instruction: Option<Instr>) -> bool
+    ensures { result ≡ departs instruction }
+{
+    match instruction {
+        Some(instruction) => matches!(instruction, Instr::Depart(_) | Instr::Leave),
+        None => false,
+    }
+}
+
+/// Whether the task of a name descends from another one.
+fn is_below(name: &Name, other: &Name) -> bool
+    ensures { result ≡ is_below name.now other.now }
+{
+    is_descendant(name, other)
+}
+
+/// Whether a task may be started where a context is left for it.
+fn admits_on(program: &Program, name: &Name, context: &Context) -> bool
+    ensures { result ≡ admits_on program.now name.now context.now }
+{
+    if departs(instruction(program, context)) {
+        return true;
+    }
+    is_below(name, &context.task)
+}
+
+/// Whether a task may be started where these contexts are left for it.
+fn admits_below(program: &Program, name: &Name, contexts: &Pile<Context>) -> bool
+    ensures { result ≡ admits_all program.now name.now contexts.now }
+{
+    for depth in 0..contexts.len() {
+        let Some(context) = contexts.get(depth) else {
+            unreachable!();
+        };
+        if !admits_on(program, name, context) {
+            return false;
+        }
+    }
+    true
+}
+
+/// Whether the task scheduling constraints admit a task on a stack.
+pub(crate) fn admits(program: &Program, name: &Name, stack: &Stack) -> bool
+    ensures { result ≡ admits_all program.now name.now (stack.now.top ∷ stack.now.below) }
+{
+    if admits_on(program, name, &stack.top) {
+        admits_below(program, name, &stack.below)
+    } else {
+        false
+    }
+}

@@ -1,0 +1,15 @@
+//! Laws of the rules of every program.
+
+ghost use Rattle.om_task.specs.Laws.{LowCounters, CalmRules};
+
+/// A state that n steps lead to has no counter above n: so fewer than 2^63 steps leave room in each
+/// for a plan.
+pub fn low_counters()
+    ensures { LowCounters }
+{}
+
+/// Every count is 0 at the start; a step puts no count, adds at most one, and adds but once to each
+/// object that it touches.
+pub fn calm_rules()
+    ensures { CalmRules }
+{}

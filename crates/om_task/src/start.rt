@@ -1,0 +1,155 @@
+//! The store in which a program starts.
+
+ghost use Rattle.std.specs.Prelude.{◌≡◌, ◌≤◌, IfOk, [], ◌∷◌};
+ghost use Rattle.om_code.specs.declared.frame.Cell.TheVariants as cells;
+ghost use Rattle.om_events.specs.declared.kind.Thread.TheVariants as thread;
+ghost use Rattle.om_events.specs.declared.event.Record.TheVariants as event_record;
+ghost use Rattle.om_cells.specs.declared.value.Val.TheVariants as value;
+ghost use Rattle.om_cells.specs.Stores.{state_of};
+ghost use Rattle.om_task.specs.Sites.{body_of};
+ghost use Rattle.om_task.specs.Rules.{first_context, first_control, first_records, initial_in, start_of};
+
+use om_events::{Endpoint, Record, TaskFlag, Thread};
+use om_foot::{Name, Obj};
+use om_code::frame::Cell;
+use om_code::program::Program;
+use om_code::raw::{Body, GlobalVariable};
+use om_row::names::homes_for;
+use om_seq::{Pile, Seq};
+use om_cells::{Context, Control, Frame, Kind, Stack, Store, Team, Val};
+use std::alloc::{AllocError, Global};
+
+/// The body of `main`.
+fn main_body(program: &Program) -> &Body
+    ensures { result.now ≡ body_of program.now program.now.main }
+{
+    let raw = program.raw();
+    match raw.bodies.as_slice().get(raw.main as usize) {
+        Some(body) => body,
+        None => unreachable!(),
+    }
+}
+
+/// The name of the initial task.
+fn first_task() -> Name
+    ensures { result ≡ 0 ∷ [] }
+{
+    match Name::empty().child(0) {
+        Some(task) => task,
+        None => unreachable!(),
+    }
+}
+
+/// The frame of the initial task, at the first instruction of `main`.
+fn first_frame(alloc: Global, program: &Program) -> Result<Frame, AllocError>
+    ensures { IfOk result (λ frame. frame ≡ (first_context program.now).frame) }
+{
+    let slots = main_body(program).slots.as_slice();
+    let homes = homes_for(alloc, &first_task(), 0, &[], slots)?;
+    Ok(Frame {
+        body: program.main(),
+        next: 0,
+        ordinal: 0,
+        operands: Pile::new(alloc),
+        homes,
+    })
+}
+
+/// The context of the initial task, with its frame.
+fn first_context(alloc: Global, frame: Frame) -> Context
+    ensures { result ≡ record { task = 0 ∷ []; kind = Kind.Initial; team = record { name = []; number = 0; size = 1; level = 0 }; phase = 0; births = 0; regions = 0; frames = 1; group = None; constructs = []; frame = frame; callers = [] } }
+{
+    let team = Team {
+        name: Name::empty(),
+        number: 0,
+        size: 1,
+        level: 0,
+    };
+    Context {
+        task: first_task(),
+        kind: Kind::Initial,
+        team,
+        phase: 0,
+        births: 0,
+        regions: 0,
+        frames: 1,
+        group: None,
+        constructs: Pile::new(alloc),
+        frame,
+        callers: Pile::new(alloc),
+    }
+}
+
+/// The control of the worker that runs the initial task.
+fn first_control(alloc: Global, program: &Program) -> Result<Val, AllocError>
+    ensures { IfOk result (λ v. v ≡ value.Control (first_control program.now 0)) }
+{
+    let frame = first_frame(alloc, program)?;
+    let top = first_context(alloc, frame);
+    let below = Pile::new(alloc);
+    Ok(Val::Control(Control::Running(Stack { top, below })))
+}
+
+/// What is recorded of the worker that runs the initial task.
+fn initial_records(alloc: Global) -> Result<Val, AllocError>
+    ensures { IfOk result (λ v. v ≡ value.Events (first_records 1 0)) }
+{
+    let thread = Thread::Initial;
+    let mut records = Seq::one(alloc, Record::ThreadBegin { thread })?;
+    records.push(Record::ImplicitTask {
+        endpoint: Endpoint::Begin,
+        team: Name::empty(),
+        task: first_task(),
+        size: 1,
+        number: 1,
+        flag: TaskFlag::Initial,
+    })?;
+    Ok(Val::Events(records))
+}
+
+/// What is recorded of any other worker.
+fn worker_records(alloc: Global) -> Result<Val, AllocError>
+    ensures { IfOk result (λ v. v ≡ value.Events (event_record.ThreadBegin thread.Worker ∷ [])) }
+{
+    let thread = Thread::Worker;
+    let records = Seq::one(alloc, Record::ThreadBegin { thread })?;
+    Ok(Val::Events(records))
+}
+
+/// What the first cell of a global variable holds at first.
+fn initial_value(global: &GlobalVariable) -> Val
+    ensures { result ≡ value.Cell (cells.Int (initial_in (Some global.now))) }
+{
+    match global.length {
+        Some(_) => Val::Cell(Cell::Int(0)),
+        None => Val::Cell(Cell::Int(global.initial)),
+    }
+}
+
+/// The store in which a program starts with one worker. Its only error is out of memory.
+fn with_globals(alloc: Global, program: &Program) -> Result<Store, AllocError>
+    ensures { IfOk result (λ store. state_of store ≡ start_of program.now 1) }
+{
+    let mut store = Store::new(alloc);
+    store.create(&Obj::Control(0), first_control(alloc, program)?)?;
+    store.create(&Obj::Events(0), initial_records(alloc)?)?;
+    for (number, global) in program.globals().iter().enumerate() {
+        let variable = number as u32;
+        let object = Obj::Global { variable, index: 0 };
+        store.create(&object, initial_value(global))?;
+    }
+    Ok(store)
+}
+
+/// The store in which a program starts with so many workers, 1 to 32. Its only error is out of
+/// memory.
+pub fn started(alloc: Global, program: &Program, workers: u8) -> Result<Store, AllocError>
+    requires { 1 ≤ workers }
+    ensures { IfOk result (λ store. state_of store ≡ start_of program.now workers) }
+{
+    let mut store = with_globals(alloc, program)?;
+    for worker in 1..workers {
+        store.create(&Obj::Events(worker), worker_records(alloc)?)?;
+    }
+    Ok(store)
+}

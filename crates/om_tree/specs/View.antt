@@ -1,0 +1,141 @@
+-- The tree of a value of the program.
+use Rattle.std.specs.Prelude.{Option, map, option_map}
+use Rattle.om_lexer.specs.declared.token.Span.{Span}
+use Rattle.om_pragma.specs.declared.tree.Directive.{Directive}
+use Rattle.om_pragma.specs.Expressions.{map_directive}
+use Rattle.om_tree.specs.declared.tree.Block as blocks
+use Rattle.om_tree.specs.declared.tree.Condition.{Condition}
+use Rattle.om_tree.specs.declared.tree.Declaration as declarations
+use Rattle.om_tree.specs.declared.tree.Declarator.{Declarator}
+use Rattle.om_tree.specs.declared.tree.Expression.{Expression, fold-Expression}
+use Rattle.om_tree.specs.declared.tree.Expression.TheOpen.{Expression-F}
+use Rattle.om_tree.specs.declared.tree.ForHead.{ForHead}
+use Rattle.om_tree.specs.declared.tree.ForStart.{ForStart}
+use Rattle.om_tree.specs.declared.tree.ForStart.TheVariants as starts
+use Rattle.om_tree.specs.declared.tree.Function as functions
+use Rattle.om_tree.specs.declared.tree.FunctionHead.{FunctionHead}
+use Rattle.om_tree.specs.declared.tree.Initializer.{Initializer}
+use Rattle.om_tree.specs.declared.tree.Item.{Item}
+use Rattle.om_tree.specs.declared.tree.Item.TheVariants as items
+use Rattle.om_tree.specs.declared.tree.Parameters.{Parameters}
+use Rattle.om_tree.specs.declared.tree.Parameters.TheVariants as parameters
+use Rattle.om_tree.specs.declared.tree.Statement.{Statement, fold-Statement}
+use Rattle.om_tree.specs.declared.tree.Statement.TheOpen.{Statement-F}
+use Rattle.om_tree.specs.declared.tree.Unit as units
+use Rattle.om_tree.specs.Tree as trees
+use Rattle.om_tree.specs.Tree.{ExpressionTree, InitializerTree, DeclaratorTree, DeclarationTree, ConditionTree, ForStartTree, ForHeadTree, StatementTree, BlockTree, ParametersTree, HeadTree, FunctionTree, ItemTree, UnitTree}
+
+-- one layer of an expression, whose parts are trees already
+abbrev pub expression_layer : Expression-F ExpressionTree → ExpressionTree
+expression_layer (Expression-F.Name n) = trees.Name n
+expression_layer (Expression-F.Constant n) = trees.Constant n
+expression_layer (Expression-F.Text t) = trees.Text t
+expression_layer (Expression-F.Paren left e right) = trees.Paren left e.value right
+expression_layer (Expression-F.Index n left e right) = trees.Index n left e.value right
+expression_layer (Expression-F.Call n left values right) = trees.Call n left (trees.arguments values.items) right
+expression_layer (Expression-F.Prefix o at e) = trees.Prefix o at e.value
+expression_layer (Expression-F.Postfix e o at) = trees.Postfix e.value o at
+expression_layer (Expression-F.Binary a o at b) = trees.Binary a.value o at b.value
+expression_layer (Expression-F.Conditional c question a colon b) = trees.Conditional c.value question a.value colon b.value
+expression_layer (Expression-F.Assign a o at b) = trees.Assign a.value o at b.value
+
+-- an expression without boxes and capacities
+abbrev pub view_expression : Expression → ExpressionTree
+view_expression = fold-Expression ExpressionTree expression_layer
+
+-- an argument behind its comma, if it has one
+abbrev pub view_argument : Option Span × Expression → Option Span × ExpressionTree
+view_argument a = (a.0, view_expression a.1)
+
+-- the same of an initializer
+abbrev pub view_initializer : Initializer → InitializerTree
+view_initializer i = record { equal = i.equal; value = view_expression i.value }
+
+-- a declarator without boxes and capacities
+abbrev pub view_declarator : Declarator → DeclaratorTree
+view_declarator d = record { name = d.name; array = d.array; initializer = option_map view_initializer d.initializer }
+
+-- a declarator behind its comma
+abbrev pub view_further : Span × Declarator → Span × DeclaratorTree
+view_further d = (d.0, view_declarator d.1)
+
+-- a declaration without boxes and capacities
+abbrev pub view_declaration : declarations.Declaration → DeclarationTree
+view_declaration d = record { int = d.int; first = view_declarator d.first; rest = map view_further d.rest.items; semicolon = d.semicolon }
+
+-- an expression in parentheses, as a tree
+abbrev pub view_condition : Condition → ConditionTree
+view_condition c = record { open_paren = c.open_paren; value = view_expression c.value; close_paren = c.close_paren }
+
+-- what a `for` begins with, as a tree
+abbrev pub view_for_start : ForStart → ForStartTree
+view_for_start (starts.Nothing semicolon) = trees.Nothing semicolon
+view_for_start (starts.Expression e semicolon) = trees.StartExpression (view_expression e) semicolon
+view_for_start (starts.Declaration d) = trees.StartDeclaration (view_declaration d)
+
+-- a `for` up to its closing parenthesis, as a tree
+abbrev pub view_for_head : ForHead → ForHeadTree
+view_for_head h = record {
+  word = h.word;
+  open_paren = h.open_paren;
+  start = view_for_start h.start;
+  condition = option_map view_expression h.condition;
+  semicolon = h.semicolon;
+  step = option_map view_expression h.step;
+  close_paren = h.close_paren;
+}
+
+-- a directive whose expressions are trees
+abbrev pub view_directive : Directive Expression → Directive ExpressionTree
+view_directive = map_directive view_expression
+
+-- one layer of a statement, whose parts are trees already
+abbrev pub statement_layer : Statement-F StatementTree → StatementTree
+statement_layer (Statement-F.Declaration d) = trees.LocalDeclaration (view_declaration d)
+statement_layer (Statement-F.Block left items right) = trees.Block left (trees.statements items.items) right
+statement_layer (Statement-F.Empty semicolon) = trees.Empty semicolon
+statement_layer (Statement-F.Expression e semicolon) = trees.Expression (view_expression e) semicolon
+statement_layer (Statement-F.If at c s) = trees.If at (view_condition c) s.value
+statement_layer (Statement-F.IfElse at c s other t) = trees.IfElse at (view_condition c) s.value other t.value
+statement_layer (Statement-F.While at c s) = trees.While at (view_condition c) s.value
+statement_layer (Statement-F.Do at s again c semicolon) = trees.Do at s.value again (view_condition c) semicolon
+statement_layer (Statement-F.For h s) = trees.For (view_for_head h) s.value
+statement_layer (Statement-F.Return at value semicolon) = trees.Return at (option_map view_expression value) semicolon
+statement_layer (Statement-F.Break at semicolon) = trees.Break at semicolon
+statement_layer (Statement-F.Continue at semicolon) = trees.Continue at semicolon
+statement_layer (Statement-F.Construct d s) = trees.Construct (view_directive d) s.value
+statement_layer (Statement-F.StandAlone d) = trees.StandAlone (view_directive d)
+statement_layer (Statement-F.Sections d left parts right) = trees.Sections (view_directive d) left (trees.statements parts.items) right
+statement_layer (Statement-F.Section d s) = trees.Section (view_directive d) s.value
+
+-- a statement without boxes and capacities
+abbrev pub view_statement : Statement → StatementTree
+view_statement = fold-Statement StatementTree statement_layer
+
+-- a block without boxes and capacities
+abbrev pub view_block : blocks.Block → BlockTree
+view_block b = record { open_brace = b.open_brace; items = map view_statement b.items.items; close_brace = b.close_brace }
+
+-- parameters without capacities
+abbrev pub view_parameters : Parameters → ParametersTree
+view_parameters parameters.Nothing = trees.NoParameters
+view_parameters (parameters.Void at) = trees.Void at
+view_parameters (parameters.Listed first rest) = trees.Listed first rest.items
+
+-- a function's result, name and parameters, as a tree
+abbrev pub view_head : FunctionHead → HeadTree
+view_head h = record { result = h.result; name = h.name; open_paren = h.open_paren; parameters = view_parameters h.parameters; close_paren = h.close_paren }
+
+-- the same of a function
+abbrev pub view_function : functions.Function → FunctionTree
+view_function f = record { head = view_head f.head; body = view_block f.body }
+
+-- what stands at file scope, as a tree
+abbrev pub view_item : Item → ItemTree
+view_item (items.Declaration d) = trees.Declaration (view_declaration d)
+view_item (items.Prototype h semicolon) = trees.Prototype (view_head h) semicolon
+view_item (items.Function f) = trees.Function (view_function f)
+
+-- a whole source, as a tree
+abbrev pub view_unit : units.Unit → UnitTree
+view_unit u = record { items = map view_item u.items.items; end = u.end }

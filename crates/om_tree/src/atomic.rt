@@ -1,0 +1,258 @@
+//! Which statements an `atomic` may have (OpenMP API 5.2, 15.8.4).
+
+ghost use Rattle.std.specs.Prelude.{◌≡◌, map};
+ghost use Rattle.std.specs.Str.{bytes_eq};
+ghost use Rattle.om_tree.specs.AtomicForms.{same_expression, contains, arguments_contain, same_arguments, is_place, is_atomic_operator, is_one_operand, is_operation_on, is_step, is_updated, is_update, is_read, is_write, has_atomic_form};
+ghost use Rattle.om_tree.specs.Tree.{arguments};
+ghost use Rattle.om_tree.specs.View.{view_argument, view_expression, view_statement};
+
+use crate::tree::{AssignOperator, BinaryOperator, Expression, PrefixOperator, Statement};
+use om_lexer::Span;
+use om_pragma::{AtomicKind, Name};
+
+/// Whether two names have the same text.
+fn same_name(one: &Name, other: &Name) -> bool
+    ensures { result ≡ bytes_eq one.now.text other.now.text }
+{
+    one.text.as_slice() == other.text.as_slice()
+}
+
+/// Whether two expressions are the same but for their spans.
+#[cycle(same)]
+#[tactic(auto, using(crate::proofs::CallViews::view_call), unfolding(crate::specs::AtomicForms::same_expression))]
+pub fn same_expression(one: &Expression, other: &Expression) -> bool
+    ensures { result ≡ same_expression (view_expression one.now) (view_expression other.now) }
+{
+    match (one, other) {
+        (Expression::Name(name), Expression::Name(other)) => same_name(name, other),
+        (Expression::Constant(number), Expression::Constant(other)) => number.value == other.value,
+        (Expression::Text(text), Expression::Text(other)) => {
+            text.value.as_slice() == other.value.as_slice()
+        }
+        (Expression::Paren(_, inner, _), Expression::Paren(_, other, _)) => {
+            same_expression(inner, other)
+        }
+        (Expression::Index(name, _, index, _), Expression::Index(other, _, other_index, _)) => {
+            same_name(name, other) && same_expression(index, other_index)
+        }
+        (Expression::Call(name, _, values, _), Expression::Call(other, _, others, _)) => {
+            same_name(name, other) && same_arguments(values, others)
+        }
+        (Expression::Prefix(operator, _, inner), Expression::Prefix(other, _, other_inner)) => {
+            *operator == *other && same_expression(inner, other_inner)
+        }
+        (Expression::Postfix(inner, operator, _), Expression::Postfix(other_inner, other, _)) => {
+            *operator == *other && same_expression(inner, other_inner)
+        }
+        (
+            Expression::Binary(left, operator, _, right),
+            Expression::Binary(other_left, other, _, other_right),
+        ) => {
+            *operator == *other
+                && same_expression(left, other_left)
+                && same_expression(right, other_right)
+        }
+        (
+            Expression::Conditional(condition, _, value, _, alternative),
+            Expression::Conditional(other, _, other_value, _, other_alternative),
+        ) => {
+            same_expression(condition, other)
+                && same_expression(value, other_value)
+                && same_expression(alternative, other_alternative)
+        }
+        (
+            Expression::Assign(left, operator, _, right),
+            Expression::Assign(other_left, other, _, other_right),
+        ) => {
+            *operator == *other
+                && same_expression(left, other_left)
+                && same_expression(right, other_right)
+        }
+        _ => false,
+    }
+}
+
+/// Whether these are as many arguments as the others, and each is the same as the other's.
+#[cycle(same)]
+#[tactic(auto, unfolding(crate::specs::AtomicForms::same_expression))]
+fn same_arguments(
+    values: &[(Option<Span>, Expression)],
+    others: &[(Option<Span>, Expression)],
+) -> bool
+    ensures { result ≡ same_arguments (arguments (map view_argument values.now)) (arguments (map view_argument others.now)) }
+{
+    let mut rest = others;
+    for (_, value) in values {
+        let [(_, other), behind @ ..] = rest else {
+            return false;
+        };
+        if !same_expression(value, other) {
+            return false;
+        }
+        rest = behind;
+    }
+    match rest {
+        [] => true,
+        [_, ..] => false,
+    }
+}
+
+/// Whether an expression, or a part of it, is the same as the target.
+#[cycle(contains)]
+#[tactic(auto, unfolding(crate::specs::AtomicForms::contains))]
+fn contains(expression: &Expression, target: &Expression) -> bool
+    ensures { result ≡ contains (view_expression target.now) (view_expression expression.now) }
+{
+    if same_expression(target, expression) {
+        return true;
+    }
+    match expression {
+        Expression::Name(_) | Expression::Constant(_) | Expression::Text(_) => false,
+        Expression::Paren(_, part, _)
+        | Expression::Index(_, _, part, _)
+        | Expression::Prefix(_, _, part)
+        | Expression::Postfix(part, _, _) => contains(part, target),
+        Expression::Call(_, _, values, _) => any_contains(values, target),
+        Expression::Conditional(condition, _, value, _, other) => {
+            contains(condition, target) || contains(value, target) || contains(other, target)
+        }
+        Expression::Binary(left, _, _, right) | Expression::Assign(left, _, _, right) => {
+            contains(left, target) || contains(right, target)
+        }
+    }
+}
+
+/// Whether one of these arguments, or a part of it, is the same as the target.
+#[cycle(contains)]
+#[tactic(auto, unfolding(crate::specs::AtomicForms::contains))]
+fn any_contains(values: &[(Option<Span>, Expression)], target: &Expression) -> bool
+    ensures { result ≡ arguments_contain (view_expression target.now) (arguments (map view_argument values.now)) }
+{
+    for (_, value) in values {
+        if contains(value, target) {
+            return true;
+        }
+    }
+    false
+}
+
+/// Whether an expression is a name or an indexed name.
+fn is_place(expression: &Expression) -> bool
+    ensures { result ≡ is_place (view_expression expression.now) }
+{
+    match expression {
+        Expression::Name(_) => true,
+        Expression::Index(..) => true,
+        _ => false,
+    }
+}
+
+/// Whether an update may have this operator.
+fn is_atomic_operator(operator: BinaryOperator) -> bool
+    ensures { result ≡ is_atomic_operator operator }
+{
+    match operator {
+        BinaryOperator::Add
+        | BinaryOperator::Subtract
+        | BinaryOperator::Multiply
+        | BinaryOperator::Divide => true,
+        _ => false,
+    }
+}
+
+/// Whether one operand is the target, and the other does not contain it.
+fn is_one_operand(target: &Expression, left: &Expression, right: &Expression) -> bool
+    ensures { result ≡ is_one_operand (view_expression target.now) (view_expression left.now) (view_expression right.now) }
+{
+    (same_expression(target, left) && !contains(right, target))
+        || (same_expression(target, right) && !contains(left, target))
+}
+
+/// Whether a value is an operation of the target and an operand that does not contain it.
+#[tactic(auto, unfolding(crate::specs::AtomicForms::is_operation_on))]
+fn is_operation_on(target: &Expression, value: &Expression) -> bool
+    ensures { result ≡ is_operation_on (view_expression target.now) (view_expression value.now) }
+{
+    match value {
+        Expression::Binary(left, operator, _, right) => {
+            is_atomic_operator(*operator) && is_one_operand(target, left, right)
+        }
+        _ => false,
+    }
+}
+
+/// Whether this assignment of a value to the target updates it.
+#[tactic(auto, unfolding(crate::specs::AtomicForms::is_updated))]
+fn is_updated(target: &Expression, operator: AssignOperator, value: &Expression) -> bool
+    ensures { result ≡ is_updated (view_expression target.now) operator (view_expression value.now) }
+{
+    match operator {
+        AssignOperator::Set => is_operation_on(target, value),
+        AssignOperator::Remainder => false,
+        _ => !contains(value, target),
+    }
+}
+
+/// Whether an operator before its operand is `++` or `--`.
+fn is_step(operator: PrefixOperator) -> bool
+    ensures { result ≡ is_step operator }
+{
+    match operator {
+        PrefixOperator::Increment | PrefixOperator::Decrement => true,
+        _ => false,
+    }
+}
+
+/// Whether an expression is an update.
+#[tactic(auto, unfolding(crate::specs::AtomicForms::is_update))]
+fn is_update(expression: &Expression) -> bool
+    ensures { result ≡ is_update (view_expression expression.now) }
+{
+    match expression {
+        Expression::Prefix(operator, _, target) => is_step(*operator) && is_place(target),
+        Expression::Postfix(target, _, _) => is_place(target),
+        Expression::Assign(target, operator, _, value) => {
+            is_place(target) && is_updated(target, *operator, value)
+        }
+        _ => false,
+    }
+}
+
+/// Whether an expression is a read: `v = x`.
+#[tactic(auto, unfolding(crate::specs::AtomicForms::is_read))]
+fn is_read(expression: &Expression) -> bool
+    ensures { result ≡ is_read (view_expression expression.now) }
+{
+    match expression {
+        Expression::Assign(target, AssignOperator::Set, _, value) => {
+            is_place(target) && is_place(value)
+        }
+        _ => false,
+    }
+}
+
+/// Whether an expression is a write: `x = e`.
+#[tactic(auto, unfolding(crate::specs::AtomicForms::is_write))]
+fn is_write(expression: &Expression) -> bool
+    ensures { result ≡ is_write (view_expression expression.now) }
+{
+    match expression {
+        Expression::Assign(target, AssignOperator::Set, _, _) => is_place(target),
+        _ => false,
+    }
+}
+
+/// Whether an `atomic` of this kind may have this statement (OpenMP API 5.2, 15.8.4).
+#[tactic(auto, unfolding(crate::specs::AtomicForms::has_atomic_form))]
+pub fn has_atomic_form(kind: AtomicKind, statement: &Statement) -> bool
+    ensures { result ≡ has_atomic_form kind (view_statement statement.now) }
+{
+    let Statement::Expression(expression, _) = statement else {
+        return false;
+    };
+    match kind {
+        AtomicKind::Update => is_update(expression),
+        AtomicKind::Read => is_read(expression),
+        AtomicKind::Write => is_write(expression),
+    }
+}

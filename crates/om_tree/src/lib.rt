@@ -1,0 +1,16 @@
+//! The tree of a C source (C17 6.5 to 6.9): its parts, which trees are well-formed, which tokens they have, and how
+//! large they may be.
+#![tactic(auto)]
+
+mod atomic;
+mod limit;
+mod tree;
+
+pub use atomic::{has_atomic_form, same_expression};
+pub use limit::{BLOCK_LIMIT, NESTING_LIMIT, STATEMENT_LIMIT, TOKEN_LIMIT};
+pub use om_pragma::{Name, Number};
+pub use tree::{
+    ArrayLength, AssignOperator, BinaryOperator, Block, Condition, Declaration, Declarator,
+    Expression, ForHead, ForStart, Function, FunctionHead, Initializer, Item, Parameter,
+    Parameters, PostfixOperator, PrefixOperator, ResultType, Statement, Text, Unit,
+};

@@ -1,0 +1,32 @@
+-- What is promised of the runs of every program.
+use Rattle.std.specs.Prelude.{◌≡◌, ℕ, Some, Option, List, map}
+use Rattle.om_code.specs.declared.raw.Raw.{Raw}
+use Rattle.om_code.specs.declared.frame.Fault.{Fault}
+use Rattle.om_cells.specs.declared.step.Label.{Label}
+use Rattle.om_cells.specs.Rules.{replay}
+use Rattle.om_task.specs.Rules.{rules_of}
+use Rattle.om_history.specs.declared.reply.StepReply.TheVariants.{Done}
+use Rattle.om_history.specs.Runs.{History, no_history, label_of, state_of_entries, reply_to_step, Undoes}
+use Rattle.om_history.specs.Commands.{Command, run}
+use Rattle.om_history.specs.Undos.{UndoReplies}
+
+-- the history of a program with so many workers after steps, undos and rolls, by any workers in any interleaving
+abbrev pub history_after : Raw → ℕ → List Command → History
+history_after program workers commands = run (rules_of program workers) no_history commands
+
+-- the three sentences, of a program with so many workers
+pub record Headline (program : Raw) (workers : ℕ) : Type 0 where
+  -- after any commands the state is the replay of the entries that remain: what they give, in order, from the start
+  pub state_is_the_replay : (commands : List Command)
+      → let r = rules_of program workers in let entries = (history_after program workers commands).entries in
+      replay r (map label_of entries) ≡ Some (state_of_entries r entries)
+  -- a step that is done and then an undo of its worker change nothing but the number of steps ever made
+  pub undo_takes_the_step_back : (commands : List Command) (label : Label) (serial line : ℕ) (fault : Option Fault)
+      → let r = rules_of program workers in let before = history_after program workers commands in
+      reply_to_step r before label ≡ Done serial line fault → Undoes r before label serial line
+  -- an undo is refused exactly where a later entry conflicts with the worker's last one, and the refusal names the first
+  pub undo_is_refused_exactly_at_conflicts : (commands : List Command) (worker : ℕ)
+      → UndoReplies (rules_of program workers) (history_after program workers commands) worker
+
+abbrev pub EveryHeadline : Type 0
+EveryHeadline = (program : Raw) (workers : ℕ) → Headline program workers

@@ -1,7 +1,0 @@
-use Rattle.std.proofs.Common.{◌∙◌, sym, neg_ℤ}
-use Rattle.om_values.specs.Stores.{state_of}
-use Rattle.om_values.proofs.StoreLemmas.{same_sum}
-use Rattle.om_values.proofs.store.Store.subtract.Goals as goal
-
-pub returns-in-None-clause-state : goal.returns-in-None-clause-state
-returns-in-None-clause-state c = same_sum c.args.object.now (neg_ℤ c.args.number) (state_of c.args.self.now) (sym c.kept_count.ensures ∙ c.in-None.is)
