@@ -5,10 +5,10 @@ ghost use Rattle.om_cells.specs.Stores.{state_of};
 ghost use Rattle.om_cells.specs.Values.{count_in};
 ghost use Rattle.om_fork.specs.Barriers.{arrivals, barrier, is_zero, open_in};
 
+use om_cells::{Store, Team, Update};
 use om_foot::{Access, Mode, Name, Obj};
 use om_row::names::name;
 use om_seq::Seq;
-use om_cells::{Store, Team, Update};
 use std::alloc::{AllocError, Global};
 
 /// Appends how far each member of a team of this size came, as what is read.

@@ -5,11 +5,11 @@ ghost use Rattle.om_cells.specs.Stores.{state_of};
 ghost use Rattle.om_cells.specs.declared.value.Val.TheVariants as value;
 ghost use Rattle.om_fork.specs.Teams.{first_frame, member, workers_from, busy_in, member_controls, member_cells, member_puts};
 
+use om_cells::{Context, Control, Frame, Home, Kind, Stack, Store, Team, Update, Val};
 use om_foot::{Access, Mode, Name, Obj};
 use om_row::names::{name, name_given};
 use om_row::updates::put_ints;
 use om_seq::{Pile, Seq};
-use om_cells::{Context, Control, Frame, Home, Kind, Stack, Store, Team, Update, Val};
 use std::alloc::{AllocError, Global};
 
 /// The frame with which a task begins on a body. It takes no memory.

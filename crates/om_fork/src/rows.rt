@@ -11,17 +11,17 @@ ghost use Rattle.om_fork.specs.Barriers.{barrier};
 ghost use Rattle.om_fork.specs.Rows.{sync_of, team_at_end, begin_row, reached_row, is_misplaced_barrier, arrive_row, kept, departed, depart_row, region_end, left_records, left, left_row, leave_row};
 
 use crate::barrier::{is_open, name_barrier, put_kept};
-use om_events::Record;
-use om_events::kind::{Endpoint, Sync, TaskFlag};
-use om_foot::{Access, Mode, Name, Obj};
+use om_cells::{Blocked, Context, Edit, Kind, Stack, Store, Tail, Team, Update, Val};
 use om_code::frame::Fault;
 use om_code::instruction::Barrier;
 use om_code::raw::Slot;
+use om_events::Record;
+use om_events::kind::{Endpoint, Sync, TaskFlag};
+use om_foot::{Access, Mode, Name, Obj};
 use om_row::names::{is_misplaced, name, name_events, own_cells};
 use om_row::updates::{put_deaths, put_event};
 use om_row::{Answer, Row};
 use om_seq::{Pile, Seq};
-use om_cells::{Blocked, Context, Edit, Kind, Stack, Store, Tail, Team, Update, Val};
 use std::alloc::{AllocError, Global};
 
 /// A worker that carries out an instruction, and the place in the body at which it goes on.

@@ -12,17 +12,17 @@ ghost use Rattle.om_fork.specs.Rows.{team_updates, forked, team_row, team_of, na
 use crate::members::{
     busy, first_frame, member, name_members, name_workers, put_given, put_members,
 };
-use om_events::Record;
-use om_foot::{Access, Name};
+use om_cells::{Blocked, Context, Edit, Frame, Store, Team, Update};
 use om_code::frame::Fault;
 use om_code::print::ints_on;
 use om_code::raw::Body;
 use om_code::serial::int_at;
+use om_events::Record;
+use om_foot::{Access, Name};
 use om_row::names::{homes_in, name_events};
 use om_row::updates::put_event;
 use om_row::{Answer, Launch, Row};
 use om_seq::Seq;
-use om_cells::{Blocked, Context, Edit, Frame, Store, Team, Update};
 use std::alloc::{AllocError, Global};
 
 /// A worker that carries out a FORK.

@@ -9,17 +9,17 @@ ghost use Rattle.om_row.specs.Rows.{answered};
 ghost use Rattle.om_row.specs.Objects.{read, write};
 ghost use Rattle.om_serial.specs.Rows.{row_of, unsets, cleared, serial_row, slots_in};
 
-use om_foot::{Access, Mode, Obj};
+use om_cells::{Context, Edit, Store, Tail, Update, Val};
 use om_code::frame::Cell;
 use om_code::instruction::Instr;
 use om_code::print::print_bytes;
 use om_code::raw::{Raw, Slot};
 use om_code::serial::{Touch, Turn, touch_of, turn_of};
+use om_foot::{Access, Mode, Obj};
 use om_row::names::{name, name_slot, object_of};
 use om_row::updates::put_cell;
 use om_row::{Answer, Row};
 use om_seq::Seq;
-use om_cells::{Context, Edit, Store, Tail, Update, Val};
 use std::alloc::{AllocError, Global};
 
 /// The slots of a body, by its number; none where there is no such body.

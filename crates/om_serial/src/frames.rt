@@ -7,6 +7,7 @@ ghost use Rattle.om_row.specs.Rows.{answered};
 ghost use Rattle.om_serial.specs.Rows.{number_row, call_row, return_row, reduced, reduce_row};
 
 use crate::acts::{read, write};
+use om_cells::{Context, Edit, Store, Update};
 use om_code::arithmetic::combine;
 use om_code::frame::{Cell, Fault, Operand};
 use om_code::instruction::{Place, Reduction};
@@ -15,7 +16,6 @@ use om_row::names::{homes_in, name, name_given, object_of, own_cells};
 use om_row::updates::{put_cell, put_deaths, put_ints};
 use om_row::{Answer, Launch, Row};
 use om_seq::Seq;
-use om_cells::{Context, Edit, Store, Update};
 use std::alloc::{AllocError, Global};
 
 // How many frames of a task wait, at most, for the one that runs.

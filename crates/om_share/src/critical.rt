@@ -8,12 +8,12 @@ ghost use Rattle.om_row.specs.Rows.{answered};
 ghost use Rattle.om_share.specs.Rows.{ask_critical_row, lock_row, enter_critical_row, is_critical, unlock_row, leave_critical_row};
 
 use crate::parts::{At, edits, recorded, update_and_event, written_and_events};
+use om_cells::{Blocked, Construct, Context, Edit, Store, Update, Val};
 use om_events::Record;
 use om_foot::Obj;
 use om_row::names::innermost;
 use om_row::{Answer, Row};
 use om_seq::Seq;
-use om_cells::{Blocked, Construct, Context, Edit, Store, Update, Val};
 use std::alloc::{AllocError, Global};
 
 /// The name of a lock, for a record.

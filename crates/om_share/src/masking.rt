@@ -8,10 +8,10 @@ ghost use Rattle.om_row.specs.Rows.{answered};
 ghost use Rattle.om_share.specs.Rows.{filtered_row, masked_row, is_masked, end_masked_row};
 
 use crate::parts::{At, Branch, edits, jump, own_events, recorded};
+use om_cells::{Construct, Context, Edit};
 use om_events::{Endpoint, Record};
 use om_row::names::innermost;
 use om_row::{Answer, Row};
-use om_cells::{Construct, Context, Edit};
 use std::alloc::{AllocError, Global};
 
 /// The record that a masked region begins or ends.

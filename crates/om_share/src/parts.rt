@@ -5,13 +5,13 @@ ghost use Rattle.om_row.specs.Objects.{write, events, event, innermost};
 ghost use Rattle.om_row.specs.Rows.{goes};
 ghost use Rattle.om_share.specs.Rows.{edits, begun, share_of, share_in};
 
+use om_cells::{Construct, Context, Edit, Share, Update};
 use om_events::{Endpoint, Record, Work};
 use om_foot::{Access, Mode, Obj};
 use om_row::names::{innermost, name, name_events};
 use om_row::updates::put_event;
 use om_row::{Answer, Row};
 use om_seq::Seq;
-use om_cells::{Construct, Context, Edit, Share, Update};
 use std::alloc::{AllocError, Global};
 
 /// The worker that takes a step, and the place at which it goes on.

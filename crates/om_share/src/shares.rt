@@ -11,14 +11,14 @@ ghost use Rattle.om_share.specs.Rows.{is_right_schedule, is_right_form, loop_of,
 
 use crate::chunk::{Chunk, chunk_within, count_of, static_chunk, step_size};
 use crate::parts::{At, Branch, begun, edits, jump, recorded, share_in, work_record, written};
-use om_events::{Endpoint, Work};
-use om_foot::Obj;
+use om_cells::{Construct, Context, Edit, Share, Sharing, Store, Update, Val};
 use om_code::frame::{Cell, Fault};
 use om_code::instruction::{LoopForm, Place, Schedule};
+use om_events::{Endpoint, Work};
+use om_foot::Obj;
 use om_row::names::{is_misplaced, object_of};
 use om_row::{Answer, Row};
 use om_seq::Seq;
-use om_cells::{Construct, Context, Edit, Share, Sharing, Store, Update, Val};
 use std::alloc::{AllocError, Global};
 
 /// The bounds of a loop, where they are ints.

@@ -11,12 +11,12 @@ use crate::parts::{
     At, Branch, begun, edits, recorded, update_and_event, work_record, written_and_events,
 };
 use crate::shares::work_of;
+use om_cells::{Construct, Context, Edit, Store, Update, Val};
+use om_code::frame::Fault;
 use om_events::{Endpoint, Work};
 use om_foot::Obj;
-use om_code::frame::Fault;
 use om_row::names::{innermost, is_misplaced};
 use om_row::{Answer, Row};
-use om_cells::{Construct, Context, Edit, Store, Update, Val};
 use std::alloc::{AllocError, Global};
 
 /// The kind of a single region in its records, for the thread that runs it and for any other.

@@ -7,10 +7,10 @@ ghost use Rattle.om_cells.specs.Stores.{state_of};
 ghost use Rattle.om_row.specs.Objects.{add};
 ghost use Rattle.om_spawn.specs.Tasks.{is_zero, group_count, counts, additions};
 
+use om_cells::{Context, Store, Update};
 use om_foot::{Access, Mode, Name, Obj};
 use om_row::names::name;
 use om_seq::Seq;
-use om_cells::{Context, Store, Update};
 use std::alloc::{AllocError, Global};
 
 /// The count that an object holds, or 0.

@@ -3,12 +3,12 @@
 ghost use Rattle.std.specs.Prelude.{◌≡◌, ◌∷◌, [], None, IfOk};
 ghost use Rattle.om_row.specs.Objects.{events, event};
 
+use om_cells::{Edit, Update};
 use om_events::Record;
 use om_foot::{Access, Mode, Obj};
 use om_row::names::name_events;
 use om_row::updates::put_event;
 use om_seq::Seq;
-use om_cells::{Edit, Update};
 use std::alloc::{AllocError, Global};
 
 /// An object alone.

@@ -9,11 +9,11 @@ ghost use Rattle.om_spawn.specs.Tasks.{first_frame, task_context};
 ghost use Rattle.om_spawn.specs.Rows.{begun_updates, ready_for, start_row};
 
 use crate::part::{name_with_events, update_with_event};
+use om_cells::{Blocked, Context, Edit, Frame, Home, Kind, Ready, Store, Task, Update, Val};
 use om_events::{Record, TaskStatus};
 use om_foot::{Mode, Name, Obj};
 use om_row::{Answer, Row};
 use om_seq::{Pile, Seq};
-use om_cells::{Blocked, Context, Edit, Frame, Home, Kind, Ready, Store, Task, Update, Val};
 use std::alloc::{AllocError, Global};
 
 /// Where a task is to be started.

@@ -10,16 +10,16 @@ ghost use Rattle.om_spawn.specs.Rows.{made_names, values_given, made_row, spawn_
 
 use crate::count::{add_to_counts, name_counts};
 use crate::part::{go_and, name_one};
-use om_events::{Record, TaskStatus};
-use om_foot::{Access, Mode, Name, Obj};
+use om_cells::{Context, Edit, Kind, Ready, Stack, Task, Update, Val};
 use om_code::frame::Fault;
 use om_code::print::ints_on;
 use om_code::raw::{Body, Slot};
+use om_events::{Record, TaskStatus};
+use om_foot::{Access, Mode, Name, Obj};
 use om_row::names::{group_of, homes_in, name_events, name_given, own_cells};
 use om_row::updates::{put_deaths, put_event, put_ints};
 use om_row::{Answer, Launch, Row};
 use om_seq::Seq;
-use om_cells::{Context, Edit, Kind, Ready, Stack, Task, Update, Val};
 use std::alloc::{AllocError, Global};
 
 /// How a task is made.

@@ -12,15 +12,15 @@ ghost use Rattle.om_spawn.specs.Rows.{sync_event, wait_begin_row, waited, wait_e
 
 use crate::count::is_zero;
 use crate::part::{go_and, name_with_events, update_with_event};
-use om_events::{Endpoint, Record, Sync, TaskFlag};
-use om_foot::{Access, Mode, Name, Obj};
+use om_cells::{Blocked, Construct, Context, Edit, Kind, Store, Update};
 use om_code::frame::Fault;
 use om_code::serial::int_at;
+use om_events::{Endpoint, Record, Sync, TaskFlag};
+use om_foot::{Access, Mode, Name, Obj};
 use om_row::names::{innermost, name_events};
 use om_row::updates::put_event;
 use om_row::{Answer, Row};
 use om_seq::Seq;
-use om_cells::{Blocked, Construct, Context, Edit, Kind, Store, Update};
 use std::alloc::{AllocError, Global};
 
 /// What a context's task records where it begins and ends to wait.

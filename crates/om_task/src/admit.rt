@@ -5,12 +5,12 @@ ghost use Rattle.om_foot.specs.Names.{is_below};
 ghost use Rattle.om_code.specs.Places.{instruction_at};
 ghost use Rattle.om_task.specs.Rules.{leaving, departs, admits_on, admits_all};
 
-use om_events::TaskStatus;
-use om_foot::{Name, is_descendant};
+use om_cells::{Context, Stack};
 use om_code::instruction::Instr;
 use om_code::program::Program;
+use om_events::TaskStatus;
+use om_foot::{Name, is_descendant};
 use om_seq::Pile;
-use om_cells::{Context, Stack};
 
 /// The instruction at which a context stands.
 pub(crate) fn instruction(program: &Program, context: &Context) -> Option<Instr>

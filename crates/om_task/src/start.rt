@@ -9,14 +9,14 @@ ghost use Rattle.om_cells.specs.Stores.{state_of};
 ghost use Rattle.om_task.specs.Sites.{body_of};
 ghost use Rattle.om_task.specs.Rules.{first_context, first_control, first_records, initial_in, start_of};
 
-use om_events::{Endpoint, Record, TaskFlag, Thread};
-use om_foot::{Name, Obj};
+use om_cells::{Context, Control, Frame, Kind, Stack, Store, Team, Val};
 use om_code::frame::Cell;
 use om_code::program::Program;
 use om_code::raw::{Body, GlobalVariable};
+use om_events::{Endpoint, Record, TaskFlag, Thread};
+use om_foot::{Name, Obj};
 use om_row::names::homes_for;
 use om_seq::{Pile, Seq};
-use om_cells::{Context, Control, Frame, Kind, Stack, Store, Team, Val};
 use std::alloc::{AllocError, Global};
 
 /// The body of `main`.

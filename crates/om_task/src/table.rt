@@ -10,14 +10,15 @@ ghost use Rattle.om_task.specs.Rules.{site};
 ghost use Rattle.om_task.specs.Sites.{lock_of, targets_of};
 ghost use Rattle.om_task.specs.Table.{frame_row, team_row, share_row, region_row, task_row, row_of};
 
-use om_fork::rows::{Going, arrive, begin, depart, leave};
-use om_fork::teams::{Forking, fork};
+use om_cells::{Stack, Store};
 use om_code::frame::Operand;
 use om_code::instruction::Instr;
 use om_code::print::ints_on;
 use om_code::program::Program;
 use om_code::raw::Slot;
 use om_code::serial::int_at;
+use om_fork::rows::{Going, arrive, begin, depart, leave};
+use om_fork::teams::{Forking, fork};
 use om_row::{Answer, Launch, Row};
 use om_share::{
     At, Bounds, Branch, ask_critical, end_masked, end_worksharing, enter_critical, grab, iterate,
@@ -25,7 +26,6 @@ use om_share::{
 };
 use om_spawn::task::{Making, spawn, task_end, task_yield};
 use om_spawn::wait::{finish, group_begin, group_end, wait_begin, wait_end};
-use om_cells::{Stack, Store};
 use std::alloc::{AllocError, Global};
 
 /// A worker of so many that carries out an instruction.
