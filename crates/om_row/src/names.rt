@@ -4,11 +4,11 @@ ghost use Rattle.std.specs.Prelude.{◌≡◌, ◌++◌, ◌∷◌, [], ◌≤�
 ghost use Rattle.om_row.specs.Objects.{read, write, object_of, slot_cells, given_cells, own_slot, own_cells, home_at, home_from, home_for, homes_for, homes_in, innermost, group_name, group_in, is_in_region, is_misplaced_in, is_misplaced};
 ghost use Rattle.om_foot.specs.declared.object.Obj.TheVariants as obj;
 
-use om_foot::{Access, Mode, Name, Obj};
+use om_cells::{Construct, Context, Home, Kind};
 use om_code::instruction::Place;
 use om_code::raw::{Slot, Source};
+use om_foot::{Access, Mode, Name, Obj};
 use om_seq::{Pile, Seq};
-use om_cells::{Construct, Context, Home, Kind};
 use std::alloc::{AllocError, Global};
 
 /// Appends an access.

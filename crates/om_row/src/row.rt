@@ -3,10 +3,10 @@
 ghost use Rattle.std.specs.Prelude.{◌≡◌, [], IfOk};
 ghost use Rattle.om_row.specs.Rows.{goes};
 
-use om_foot::Access;
-use om_code::frame::{Fault, Operand};
-use om_seq::Seq;
 use om_cells::{Blocked, Edit, Update};
+use om_code::frame::{Fault, Operand};
+use om_foot::Access;
+use om_seq::Seq;
 use std::alloc::{AllocError, Global};
 
 /// What comes of an instruction, before its edits are made.

@@ -4,11 +4,11 @@ ghost use Rattle.std.specs.Prelude.{◌≡◌, ◌++◌, ◌∷◌, [], IfOk, On
 ghost use Rattle.om_row.specs.Objects.{puts, deaths, event};
 ghost use Rattle.om_cells.specs.declared.value.Val.TheVariants as value;
 
+use om_cells::{Tail, Update, Val};
+use om_code::frame::Cell;
 use om_events::Record;
 use om_foot::Access;
-use om_code::frame::Cell;
 use om_seq::Seq;
-use om_cells::{Tail, Update, Val};
 use std::alloc::{AllocError, Global};
 
 /// Appends a put of a cell.
