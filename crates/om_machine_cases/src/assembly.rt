@@ -1,7 +1,7 @@
 //! Programs from texts: their tables, their bodies, and the instructions in these.
 //!
-//! The blocks of a text have an empty line between them. The first one has the tables, where there are any, a line
-//! for each item:
+//! The blocks of a text have an empty line between them. The first one has the tables, where there are any, a
+//! line for each item:
 //!
 //! ```text
 //! global x            a scalar
@@ -10,6 +10,7 @@
 //! lock                the unnamed critical region; `lock a` has the name `a`
 //! text n = %d         what PRINT writes; a line end follows
 //! pick region A B     where the sections begin: the labels A and B of the body `region`
+//! main 1              the number of the body that runs first, if it is not `main`
 //! ```
 //!
 //! Each further block is a body: its name, its slots, and the slots that are given values. `main` runs first.
@@ -19,8 +20,9 @@
 //! 4: LOAD $0; CONST 2; BIN <; JZ @E; LOAD $0; RET; @E; RETN
 //! ```
 //!
-//! Before the colon stands the source line of the instructions behind it. `@E` alone is the label E of the next
-//! instruction. `$0` is the slot of number 0; any other variable is a global.
+//! Before the colon stands the source line of the instructions behind it. `@E` alone is the label E of the
+//! next instruction. `$0` is the slot of number 0 and `#0` the global of number 0; any other variable is a
+//! global by its name.
 
 use crate::fault::CaseFault;
 use crate::instructions::{Scope, instruction_of};
@@ -41,8 +43,8 @@ pub(crate) fn raw_of(alloc: Global, text: &str) -> Result<Raw, CaseFault> {
     let (tables, code) = parts(text.trim()).ok_or(CaseFault::Unknown)?;
     let bodies: Vec<&str> = code.split("\n\n").collect(alloc)?;
     let bodies = bodies.as_slice();
-    let names = names_of(alloc, bodies)?;
-    let globals = globals_of(alloc, tables)?;
+    let names = names_of(alloc, code, "body ")?;
+    let globals = names_of(alloc, tables, "global ")?;
     let scope = Scope {
         globals: globals.as_slice(),
         bodies: names.as_slice(),
@@ -51,7 +53,7 @@ pub(crate) fn raw_of(alloc: Global, text: &str) -> Result<Raw, CaseFault> {
     Ok(Raw {
         globals: variables(alloc, tables)?,
         bodies: bodies_of(alloc, bodies, scope)?,
-        main: scope.body("main").ok_or(CaseFault::Unknown)?,
+        main: main_of(tables, scope)?,
         texts: texts(alloc, tables)?,
         picks: picks(alloc, tables, bodies, scope)?,
         locks: locks(alloc, tables)?,
@@ -66,6 +68,14 @@ fn parts(text: &str) -> Option<(&str, &str)> {
     text.split_once("\n\n")
 }
 
+/// The number of the body that runs first.
+fn main_of(tables: &str, scope: Scope<'_>) -> Result<u32, CaseFault> {
+    match tables.lines().find_map(|line| line.strip_prefix("main ")) {
+        Some(main) => number(main),
+        None => scope.body("main").ok_or(CaseFault::Unknown),
+    }
+}
+
 /// The lines of a block that begin with a word, each without it.
 fn items<'a>(alloc: Global, block: &'a str, word: &str) -> Result<Vec<&'a str>, AllocError> {
     let mut items = Vec::new(alloc);
@@ -77,19 +87,10 @@ fn items<'a>(alloc: Global, block: &'a str, word: &str) -> Result<Vec<&'a str>, 
     Ok(items)
 }
 
-/// The names of the bodies, by their numbers.
-fn names_of<'a>(alloc: Global, bodies: &[&'a str]) -> Result<Vec<&'a str>, AllocError> {
+/// The first words of the items of a block, by their numbers.
+fn names_of<'a>(alloc: Global, block: &'a str, word: &str) -> Result<Vec<&'a str>, AllocError> {
     let mut names = Vec::new(alloc);
-    for body in bodies {
-        names.push(first_word(body.strip_prefix("body").unwrap_or(body)))?;
-    }
-    Ok(names)
-}
-
-/// The names of the globals, by their numbers.
-fn globals_of<'a>(alloc: Global, tables: &'a str) -> Result<Vec<&'a str>, AllocError> {
-    let mut names = Vec::new(alloc);
-    for item in &items(alloc, tables, "global ")? {
+    for item in &items(alloc, block, word)? {
         names.push(first_word(item))?;
     }
     Ok(names)
@@ -111,24 +112,16 @@ fn variables(alloc: Global, tables: &str) -> Result<Seq<GlobalVariable>, CaseFau
 
 /// The global variable of an item, as `x`, `x = 3` or `a 5`.
 fn variable(alloc: Global, item: &str) -> Result<GlobalVariable, CaseFault> {
-    let name = bytes(alloc, first_word(item))?;
-    let (length, initial) = match item.split_once(" = ") {
-        Some((_, initial)) => (None, number(initial)?),
-        None => (length_of(item)?, 0),
+    let (head, initial) = item.split_once(" = ").unwrap_or((item, "0"));
+    let length = match head.split_once(' ') {
+        Some((_, length)) => Some(number(length)?),
+        None => None,
     };
     Ok(GlobalVariable {
-        name,
+        name: bytes(alloc, first_word(head))?,
         length,
-        initial,
+        initial: number(initial)?,
     })
-}
-
-/// The length of an array, as behind its name; `None` where nothing stands there.
-fn length_of(item: &str) -> Result<Option<u32>, CaseFault> {
-    match item.split_once(' ') {
-        Some((_, length)) => Ok(Some(number(length)?)),
-        None => Ok(None),
-    }
 }
 
 /// The names of the critical regions of the tables.

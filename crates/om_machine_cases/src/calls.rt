@@ -48,18 +48,9 @@ fn verdict(alloc: Global, program: &str) -> Result<String, CaseFault> {
     }
 }
 
-/// The numbers that words spell.
-fn numbers(alloc: Global, words: &[&str]) -> Result<Vec<u64>, CaseFault> {
-    let mut numbers = Vec::new(alloc);
-    for word in words {
-        numbers.push(number(word)?)?;
-    }
-    Ok(numbers)
-}
-
 /// The text of the name of these numbers.
 fn name(alloc: Global, words: &[&str]) -> Result<String, CaseFault> {
-    match Name::of(numbers(alloc, words)?.as_slice()) {
+    match Name::of(sequence(alloc, words)?.as_slice()) {
         Some(name) => Ok(name_text(alloc, &name)?),
         None => Ok(String::from_str(alloc, "none")?),
     }

@@ -56,7 +56,8 @@ impl Run {
         Ok(Run { machine, calls: 0 })
     }
 
-    /// What the last steps of a machine can have changed: its history's end, its workers, their records, its output.
+    /// What the last steps of a machine can have changed: its history's end, its workers, their records, its
+    /// output.
     fn shown(&self, alloc: Global) -> Result<String, AllocError> {
         let entries = self.entries(alloc)?;
         let behind = entries.len().saturating_sub(1);
@@ -256,17 +257,12 @@ impl Run {
         u32::try_from(at).ok()
     }
 
-    /// Whether a step would be done.
-    fn can(&self, alloc: Global, worker: u8, choice: Choice) -> Result<bool, CaseFault> {
-        let reply = self.foretold(alloc, worker, choice)?;
-        Ok(matches!(reply, StepReply::Done { .. }))
-    }
-
     /// The start of the first ready task that a worker can start.
     fn start_of(&self, alloc: Global, worker: u8) -> Result<Option<Choice>, CaseFault> {
         for name in &self.ready(alloc)? {
             let start = Choice::Start(*name);
-            if self.can(alloc, worker, start)? {
+            let reply = self.foretold(alloc, worker, start)?;
+            if matches!(reply, StepReply::Done { .. }) {
                 return Ok(Some(start));
             }
         }
@@ -276,7 +272,8 @@ impl Run {
     /// The move of the lowest worker that has one: its next instruction, else the start of a task.
     fn next_move(&self, alloc: Global) -> Result<Option<(u8, Choice)>, CaseFault> {
         for worker in 0..self.machine.workers() {
-            if self.can(alloc, worker, Choice::Next)? {
+            let reply = self.foretold(alloc, worker, Choice::Next)?;
+            if matches!(reply, StepReply::Done { .. }) {
                 return Ok(Some((worker, Choice::Next)));
             }
             if let Some(start) = self.start_of(alloc, worker)? {
