@@ -4,7 +4,7 @@
 -- a closing brace belongs to the block that it closes. A parameter is in scope in the whole of its function. A copy is in scope from the
 -- first instruction of its start to the last of its construct, and the variable that a loop's iterations have from LOOP. Private and
 -- firstprivate copies of a `parallel` or a `task` are in scope in the whole of its body.
-use Rattle.std.specs.Prelude.{ℕ, ◌+◌, List, [], ◌∷◌, ◌++◌, Option, None, Some, map, length, reverse}
+use Rattle.std.specs.Prelude.{ℕ, ◌+◌, List, [], ◌∷◌, ◌++◌, Option, None, Some, map, length, reverse, Bool}
 use Rattle.std.specs.List.{flat_map}
 use Rattle.om_resolved.specs.declared.resolved.ConstructKind.{ConstructKind}
 use Rattle.om_resolved.specs.declared.resolved.ConstructKind.TheVariants as constructs
@@ -12,32 +12,13 @@ use Rattle.om_resolved.specs.declared.resolved.CopyKind.{CopyKind}
 use Rattle.om_resolved.specs.declared.resolved.CopyKind.TheVariants as copies
 use Rattle.om_resolved.specs.declared.resolved.LocalVariable.{LocalVariable}
 use Rattle.om_resolved.specs.ResolvedTree.{ResolvedDeclaratorTree, ResolvedClauseTree, ClauseValue, Shared, Copied, ResolvedLoopTree, ResolvedStartTree, StartNothing, StartExpression, StartDeclaration, ResolvedStatementTree, Declaration, Block, Empty, Expression, If, IfElse, While, Do, For, Return, Break, Continue, Parallel, Task, Loop, Sections, Construct, Update, StandAlone, ResolvedStatementsTree, NoStatements, Statement, ResolvedPartsTree, NoParts, Part, ResolvedFunctionTree, ResolvedTree}
+use Rattle.om_visible.specs.declared.walk.Around.{Around}
+use Rattle.om_visible.specs.declared.walk.BodyNames.{BodyNames}
+use Rattle.om_visible.specs.declared.walk.Opened.{Opened}
+use Rattle.om_visible.specs.declared.walk.Scope.{Scope}
 use Rattle.om_rows.specs.Bodies.{function_variables, region_variables}
-use Rattle.om_rows.specs.Sizes.{value_size, perhaps_size, each_size, declarator_size, start_size, test_size, clause_start_size, clause_combined_size, construct_size, filter_size, statement_size, statements_size}
+use Rattle.om_rows.specs.Sizes.{value_size, perhaps_size, each_size, declarator_size, start_size, test_size, clause_start_size, clause_combined_size, construct_size, end_size, filter_size, loop_size, parts_size, statement_size, statements_size}
 use Rattle.om_rows.specs.Statements.{clause_value}
-
--- a variable whose scope has begun: its name, itself, and the place of the first instruction in its scope
-pub record Opened : Type 0 where
-  pub name : List ℕ
-  pub variable : ℕ
-  pub from : ℕ
-
--- the same of one whose scope has ended: in which body it is, and the place behind the last instruction
-pub record Scope : Type 0 where
-  pub body : ℕ
-  pub name : List ℕ
-  pub variable : ℕ
-  pub from : ℕ
-  pub to : ℕ
-
--- a body: its variables by their slots, and where the directive stands whose body it is
-pub record Around : Type 0 where
-  pub body : ℕ
-  pub place : ℕ
-
-pub record BodyNames : Type 0 where
-  pub around : Option Around
-  pub variables : List ℕ
 
 -- what a part of the tree gives: variables whose scopes go on behind it; those whose scopes end in it, the innermost first; and the bodies
 -- of the regions in it
@@ -137,91 +118,119 @@ parallel_size clauses s = 1 + each_size clause_region_start clauses + statement_
 abbrev pub task_size : ResolvedStatementTree → ℕ
 task_size s = statement_size s + 1
 
+abbrev pub ended : (body to : ℕ) → (ℕ → Found) → ℕ → Found
+ended body to found k = ending body to (found k)
+
 -- the body of a region at p of another body
 abbrev pub region : (body p : ℕ) → List ℕ → (ℕ → ℕ → Found) → ℕ → Found
-region body p variables inner k = record {
+region body p variables inside k = record {
   opened = [];
-  closed = (inner k (k + 1)).closed;
-  bodies = record { around = Some (record { body = body; place = p }); variables = variables } ∷ (inner k (k + 1)).bodies;
+  closed = (inside k (k + 1)).closed;
+  bodies = record { around = Some (record { body = body; place = p }); variables = variables } ∷ (inside k (k + 1)).bodies;
 }
+
+-- a statement of another one is a block of its own (C17 6.8.4p3, 6.8.5p5); its names, by where it stands
+abbrev pub inner : (body p : ℕ) → ResolvedStatementTree → (ℕ → ℕ → ℕ → Found) → ℕ → Found
+inner body p s of_statement = ended body (p + statement_size s) (of_statement body p)
+
+-- BEGIN, the starts of reductions, the statement, what combines them, ARRIVE, LEAVE
+abbrev pub parallel_names : List ResolvedClauseTree → ResolvedStatementTree → (ℕ → ℕ → ℕ → Found) → (body : ℕ) → ℕ → Found
+parallel_names clauses s of_statement body =
+    ended body (parallel_size clauses s)
+    ((λ k. opening (region_copied 1 clauses)) then inner body (1 + each_size clause_region_start clauses) s of_statement)
+
+-- the statement, TEND
+abbrev pub task_names : List ResolvedClauseTree → ResolvedStatementTree → (ℕ → ℕ → ℕ → Found) → (body : ℕ) → ℕ → Found
+task_names clauses s of_statement body =
+    ended body (task_size s) ((λ k. opening (task_copied clauses)) then inner body 0 s of_statement)
+
+-- of these constructs only `single` makes copies; the statement of an `atomic` is an assignment, which declares nothing
+abbrev pub kind_names : (body p : ℕ) → ConstructKind → List ResolvedClauseTree → ResolvedStatementTree → (ℕ → ℕ → ℕ → Found) → ℕ → Found
+kind_names body p (constructs.Single nowait) clauses s of_statement =
+    ended body (p + construct_size (constructs.Single nowait) clauses s (statement_size s))
+    ((λ k. opening (copied (p + 1) clauses)) then inner body (p + 1 + each_size clause_start_size clauses) s of_statement)
+kind_names body p constructs.Masked clauses s of_statement = inner body (p + filter_size (clause_value clauses) + 1) s of_statement
+kind_names body p (constructs.Critical name) clauses s of_statement = inner body (p + 2) s of_statement
+kind_names body p constructs.Atomic clauses s of_statement = λ k. nothing
+kind_names body p constructs.Taskgroup clauses s of_statement = inner body (p + 1) s of_statement
+
+-- both bounds, the starts of copies, LOOP, GRAB, ITER, the statement
+abbrev pub loop_names : (body p : ℕ) → List ResolvedClauseTree → (nowait : Bool) → ResolvedLoopTree → ResolvedStatementTree → (ℕ → ℕ → ℕ → Found) → ℕ → Found
+loop_names body p clauses nowait l s of_statement =
+    ended body (p + loop_size clauses nowait l (statement_size s))
+    ((λ k. opening (copied (p + value_size l.from + value_size l.to) clauses))
+    then ((λ k. opening (opened_at (p + value_size l.from + value_size l.to + each_size clause_start_size clauses) l.variable ∷ []))
+    then inner body (p + value_size l.from + value_size l.to + each_size clause_start_size clauses + 3) s of_statement))
+
+-- the starts of copies, SECT, GRAB, PICK, the parts
+abbrev pub sections_size : List ResolvedClauseTree → (nowait : Bool) → ResolvedPartsTree → ℕ
+sections_size clauses nowait parts =
+    each_size clause_start_size clauses + 3 + parts_size parts + each_size clause_combined_size clauses + end_size nowait
+
+abbrev pub sections_names : (body p : ℕ) → List ResolvedClauseTree → (nowait : Bool) → ResolvedPartsTree → (ℕ → ℕ → ℕ → Found) → ℕ → Found
+sections_names body p clauses nowait parts of_parts =
+    ended body (p + sections_size clauses nowait parts)
+    ((λ k. opening (copied p clauses)) then of_parts body (p + each_size clause_start_size clauses + 3))
 
 abbrev mutual
   -- a statement of this body, with so many bodies before
-  pub names : (body p : ℕ) → ResolvedStatementTree → ℕ → Found
-  names body p (Declaration first ds) k = opening (declared p ds)
-  names body p (Block first items) k = block_names body p items k
-  names body p (Empty first) k = nothing
-  names body p (Expression first e) k = nothing
-  names body p (If first c s) k = inner_names body (p + value_size c + 1) s k
-  names body p (IfElse first c s t) k =
-      (inner_names body (p + value_size c + 1) s then inner_names body (p + value_size c + 1 + statement_size s + 1) t) k
-  names body p (While first c s) k = inner_names body (p + value_size c + 1) s k
-  names body p (Do first s c) k = inner_names body p s k
-  names body p (For first start c step s) k =
-      ending body (p + statement_size (For first start c step s))
-          (((λ k. opening (start_declared p start)) then inner_names body (p + start_size start + perhaps_size test_size c) s) k)
-  names body p (Return first e) k = nothing
-  names body p (Break first) k = nothing
-  names body p (Continue first) k = nothing
-  names body p (Parallel first clauses captures s) k =
-      region body p (region_variables clauses s) (parallel_names clauses s) k
-  names body p (Task first clauses captures s) k = region body p (region_variables clauses s) (task_names clauses s) k
-  names body p (Loop first clauses nowait l s) k =
-      ending body (p + statement_size (Loop first clauses nowait l s))
-          (((λ k. opening (copied (p + (value_size l.from + value_size l.to)) clauses))
-          then ((λ k. opening (opened_at (p + (value_size l.from + value_size l.to) + each_size clause_start_size clauses) l.variable ∷ []))
-          then inner_names body (p + (value_size l.from + value_size l.to) + each_size clause_start_size clauses + 3) s)) k)
-  names body p (Sections first clauses nowait parts) k =
-      ending body (p + statement_size (Sections first clauses nowait parts))
-          (((λ k. opening (copied p clauses)) then part_names body (p + each_size clause_start_size clauses + 3) parts) k)
-  names body p (Construct first kind clauses s) k = kind_names body p kind clauses s k
-  names body p (Update first u) k = nothing
-  names body p (StandAlone first directive) k = nothing
+  pub names : ResolvedStatementTree → (body p k : ℕ) → Found
+  names (Declaration first ds) body p k = opening (declared p ds)
+  names (Block first items) body p k = ending body (p + statements_size items) (all_names items body p k)
+  names (Empty first) body p k = nothing
+  names (Expression first e) body p k = nothing
+  names (If first c s) body p k = inner body (p + value_size c + 1) s (λ b q. names s b q) k
+  names (IfElse first c s t) body p k =
+      (inner body (p + value_size c + 1) s (λ b q. names s b q)
+      then inner body (p + value_size c + 1 + statement_size s + 1) t (λ b q. names t b q)) k
+  names (While first c s) body p k = inner body (p + value_size c + 1) s (λ b q. names s b q) k
+  names (Do first s c) body p k = inner body p s (λ b q. names s b q) k
+  names (For first start c step s) body p k =
+      ended body (p + statement_size (For first start c step s))
+      ((λ k. opening (start_declared p start))
+      then inner body (p + start_size start + perhaps_size test_size c) s (λ b q. names s b q)) k
+  names (Return first e) body p k = nothing
+  names (Break first) body p k = nothing
+  names (Continue first) body p k = nothing
+  names (Parallel first clauses captures s) body p k =
+      region body p (region_variables clauses s) (parallel_names clauses s (λ b q. names s b q)) k
+  names (Task first clauses captures s) body p k =
+      region body p (region_variables clauses s) (task_names clauses s (λ b q. names s b q)) k
+  names (Loop first clauses nowait l s) body p k = loop_names body p clauses nowait l s (λ b q. names s b q) k
+  names (Sections first clauses nowait parts) body p k = sections_names body p clauses nowait parts (λ b q. part_names parts b q) k
+  names (Construct first kind clauses s) body p k = kind_names body p kind clauses s (λ b q. names s b q) k
+  names (Update first u) body p k = nothing
+  names (StandAlone first directive) body p k = nothing
 
-  -- a statement of another one, which is a block of its own (C17 6.8.4p3, 6.8.5p5)
-  pub inner_names : (body p : ℕ) → ResolvedStatementTree → ℕ → Found
-  inner_names body p s k = ending body (p + statement_size s) (names body p s k)
+  pub all_names : ResolvedStatementsTree → (body p k : ℕ) → Found
+  all_names NoStatements body p k = nothing
+  all_names (Statement s rest) body p k = ((λ k. names s body p k) then (λ k. all_names rest body (p + statement_size s) k)) k
 
-  pub all_names : (body p : ℕ) → ResolvedStatementsTree → ℕ → Found
-  all_names body p NoStatements k = nothing
-  all_names body p (Statement s rest) k = (names body p s then all_names body (p + statement_size s) rest) k
+  pub part_names : ResolvedPartsTree → (body p k : ℕ) → Found
+  part_names NoParts body p k = nothing
+  part_names (Part items rest) body p k =
+      (ended body (p + statements_size items) (λ k. all_names items body p k)
+      then (λ k. part_names rest body (p + statements_size items + 1) k)) k
 
-  pub part_names : (body p : ℕ) → ResolvedPartsTree → ℕ → Found
-  part_names body p NoParts k = nothing
-  part_names body p (Part items rest) k =
-      (block_names body p items then part_names body (p + statements_size items + 1) rest) k
+abbrev pub inner_names : ResolvedStatementTree → (body p k : ℕ) → Found
+inner_names s body p = inner body p s (names s)
 
-  pub block_names : (body p : ℕ) → ResolvedStatementsTree → ℕ → Found
-  block_names body p items k = ending body (p + statements_size items) (all_names body p items k)
-
-  -- of these constructs only `single` makes copies; the statement of an `atomic` is an assignment, which declares nothing
-  pub kind_names : (body p : ℕ) → ConstructKind → List ResolvedClauseTree → ResolvedStatementTree → ℕ → Found
-  kind_names body p (constructs.Single nowait) clauses s k =
-      ending body (p + construct_size (constructs.Single nowait) clauses s (statement_size s))
-          (((λ k. opening (copied (p + 1) clauses)) then inner_names body (p + 1 + each_size clause_start_size clauses) s) k)
-  kind_names body p constructs.Masked clauses s k = inner_names body (p + filter_size (clause_value clauses) + 1) s k
-  kind_names body p (constructs.Critical name) clauses s k = inner_names body (p + 2) s k
-  kind_names body p constructs.Atomic clauses s k = nothing
-  kind_names body p constructs.Taskgroup clauses s k = inner_names body (p + 1) s k
-
-  -- BEGIN, the starts of reductions, the statement, what combines them, ARRIVE, LEAVE
-  pub parallel_names : List ResolvedClauseTree → ResolvedStatementTree → (body : ℕ) → ℕ → Found
-  parallel_names clauses s body k =
-      ending body (parallel_size clauses s)
-          (((λ k. opening (region_copied 1 clauses)) then inner_names body (1 + each_size clause_region_start clauses) s) k)
-
-  -- the statement, TEND
-  pub task_names : List ResolvedClauseTree → ResolvedStatementTree → (body : ℕ) → ℕ → Found
-  task_names clauses s body k = ending body (task_size s) (((λ k. opening (task_copied clauses)) then inner_names body 0 s) k)
+abbrev pub block_names : ResolvedStatementsTree → (body p k : ℕ) → Found
+block_names items body p = ended body (p + statements_size items) (all_names items body p)
 
 -- ---- whole functions
 
--- the statements, and the last instruction at the closing brace; the body is the next one
+-- the statements, and the last instruction at the closing brace
+abbrev pub function_body_names : ResolvedFunctionTree → (body : ℕ) → ℕ → Found
+function_body_names f body =
+    ended body (statements_size f.body + 1) ((λ k. opening (map (opened_at 0) f.parameters)) then all_names f.body body 0)
+
+-- the body of a function is the next one
 abbrev pub function_names : ResolvedFunctionTree → ℕ → Found
 function_names f k = record {
   opened = [];
-  closed = (ending k (statements_size f.body + 1) (((λ k. opening (map (opened_at 0) f.parameters)) then all_names k 0 f.body) (k + 1))).closed;
-  bodies = record { around = None; variables = function_variables f } ∷ (all_names k 0 f.body (k + 1)).bodies;
+  closed = (function_body_names f k (k + 1)).closed;
+  bodies = record { around = None; variables = function_variables f } ∷ (function_body_names f k (k + 1)).bodies;
 }
 
 abbrev pub functions_names : List ResolvedFunctionTree → ℕ → Found

@@ -4,6 +4,7 @@
 pub mod names;
 mod size;
 mod statement;
+mod stub;
 mod walk;
 
 pub use names::{Local, Names, names_of};

@@ -174,7 +174,10 @@ fn pass_values(place: &mut u32, values: &[ResolvedExpression]) -> Result<(), All
 }
 
 /// Goes over the code of an expression that leaves nothing.
-pub(crate) fn pass_effect(place: &mut u32, expression: &ResolvedExpression) -> Result<(), AllocError>
+pub(crate) fn pass_effect(
+    place: &mut u32,
+    expression: &ResolvedExpression,
+) -> Result<(), AllocError>
     ensures { OnOk result (place.new ≡ place.old + effect_size (view_resolved_expression expression.now)) }
 {
     match expression {
@@ -227,7 +230,10 @@ pub(crate) fn pass_effect(place: &mut u32, expression: &ResolvedExpression) -> R
 }
 
 /// Goes over the code of a value that may be left out.
-pub(crate) fn pass_perhaps(place: &mut u32, expression: &Option<ResolvedExpression>) -> Result<(), AllocError>
+pub(crate) fn pass_perhaps(
+    place: &mut u32,
+    expression: &Option<ResolvedExpression>,
+) -> Result<(), AllocError>
     ensures { OnOk result (place.new ≡ place.old + perhaps_size value_size (option_map view_resolved_expression expression.now)) }
 {
     match expression {
@@ -237,7 +243,10 @@ pub(crate) fn pass_perhaps(place: &mut u32, expression: &Option<ResolvedExpressi
 }
 
 /// Goes over the code of a test that may be left out.
-pub(crate) fn pass_test(place: &mut u32, condition: &Option<ResolvedExpression>) -> Result<(), AllocError>
+pub(crate) fn pass_test(
+    place: &mut u32,
+    condition: &Option<ResolvedExpression>,
+) -> Result<(), AllocError>
     ensures { OnOk result (place.new ≡ place.old + perhaps_size test_size (option_map view_resolved_expression condition.now)) }
 {
     match condition {
@@ -250,7 +259,10 @@ pub(crate) fn pass_test(place: &mut u32, condition: &Option<ResolvedExpression>)
 }
 
 /// Goes over the code of a step that may be left out.
-pub(crate) fn pass_step(place: &mut u32, step: &Option<ResolvedExpression>) -> Result<(), AllocError>
+pub(crate) fn pass_step(
+    place: &mut u32,
+    step: &Option<ResolvedExpression>,
+) -> Result<(), AllocError>
     ensures { OnOk result (place.new ≡ place.old + perhaps_size effect_size (option_map view_resolved_expression step.now)) }
 {
     match step {

@@ -1,20 +1,22 @@
 //! The scopes of variables, as they are met in the text.
 
-ghost use Rattle.std.specs.Prelude.{◌≡◌, ◌+◌, ◌∷◌, [], IfOk, OnOk, length, map};
-ghost use Rattle.om_resolved.specs.ResolvedView.{view_resolved_clause, view_resolved_declarator, view_resolved_start, view_resolved_statement};
+ghost use Rattle.std.specs.Prelude.{◌≡◌, ◌≤◌, ◌<◌, ◌+◌, ◌∷◌, [], IfOk, OnOk, length, map, option_map};
+ghost use Rattle.om_resolved.specs.ResolvedView.{view_resolved_clause, view_resolved_declarator, view_resolved_expression, view_resolved_start, view_resolved_statement};
 ghost use Rattle.om_rows.specs.Bodies.{region_variables};
-ghost use Rattle.om_rows.specs.Sizes.{clause_combined_size, clause_start_size, declarator_size, each_size, start_size};
+ghost use Rattle.om_rows.specs.Sizes.{clause_combined_size, clause_start_size, declarator_size, each_size, effect_size, perhaps_size, start_size, test_size, value_size};
 ghost use Rattle.om_rows.specs.Statements.{given_copies};
 ghost use Rattle.om_visible.specs.Scopes.{clause_copies, clause_region_copies, clause_region_start, copied, declared, nothing, opened_at, opening, region_copied, region_from, region_start, start_declared, task_clause, task_copied};
-ghost use Rattle.om_visible.specs.Walks.{BeginsRegion, Closes, Walked};
+ghost use Rattle.om_visible.specs.Walks.{BeginsRegion, Closes, ClosesLast, Walked};
 
-use crate::size::{combined_own, copy_start_own, pass, pass_effect, pass_perhaps};
+use crate::size::{
+    combined_own, copy_start_own, pass, pass_effect, pass_perhaps, pass_step, pass_test, pass_value,
+};
+use crate::stub::{Variables, given_copies, region_variables};
 use om_resolved::{
-    Capture, CopyKind, LocalVariable, ResolvedClause, ResolvedDeclarator, ResolvedStart,
-    ResolvedStatement,
+    Capture, CopyKind, LocalVariable, ResolvedClause, ResolvedDeclarator, ResolvedExpression,
+    ResolvedStart, ResolvedStatement,
 };
 use om_seq::Seq;
-use om_tables::{Variables, given_copies, region_variables};
 use std::alloc::{AllocError, Global};
 
 /// A variable whose scope has begun.
@@ -63,7 +65,7 @@ pub(crate) struct Walk {
     /// The place of the next instruction in it.
     pub(crate) place: u32,
     /// The variables in scope that the body declares or copies, the last one last.
-    pub(crate) open: Vec<Opened>,
+    pub(crate) opened: Vec<Opened>,
     pub(crate) closed: Vec<Scope>,
     /// All bodies that have begun.
     pub(crate) bodies: Vec<BodyNames>,
@@ -74,7 +76,7 @@ pub(crate) fn open(walk: &mut Walk, variable: &LocalVariable, from: u32) -> Resu
     ensures { OnOk result (Walked walk.old walk.new 0 (λ k. opening (opened_at from variable.now ∷ []))) }
 {
     let name = Seq::of(Vec::from_slice(walk.alloc, variable.name.as_slice())?);
-    walk.open.push(Opened {
+    walk.opened.push(Opened {
         name,
         variable: variable.at,
         from,
@@ -82,21 +84,30 @@ pub(crate) fn open(walk: &mut Walk, variable: &LocalVariable, from: u32) -> Resu
     Ok(())
 }
 
+/// Ends the scope of the last variable that is open, if one is.
+fn close_last(walk: &mut Walk) -> Result<(), AllocError>
+    ensures { OnOk result (0 < length walk.old.opened.items → ClosesLast walk.old walk.new) }
+{
+    let Some(opened) = walk.opened.pop() else {
+        return Ok(());
+    };
+    let scope = Scope {
+        body: walk.body,
+        name: opened.name,
+        variable: opened.variable,
+        from: opened.from,
+        to: walk.place,
+    };
+    walk.closed.push(scope)?;
+    Ok(())
+}
+
 /// Ends the scopes of all but the first `height` variables that are open, the last one first.
 pub(crate) fn close(walk: &mut Walk, height: usize) -> Result<(), AllocError>
-    ensures { OnOk result (Closes height walk.old walk.new) }
+    ensures { OnOk result (height ≤ length walk.old.opened.items → Closes height walk.old walk.new) }
 {
-    while walk.open.len() > height {
-        let Some(opened) = walk.open.pop() else {
-            return Ok(());
-        };
-        walk.closed.push(Scope {
-            body: walk.body,
-            name: opened.name,
-            variable: opened.variable,
-            from: opened.from,
-            to: walk.place,
-        })?;
+    for _turn in height..walk.opened.len() {
+        close_last(walk)?;
     }
     Ok(())
 }
@@ -108,15 +119,72 @@ pub(crate) fn skip(walk: &mut Walk, count: u32) -> Result<(), AllocError>
     pass(&mut walk.place, count)
 }
 
+/// Goes over the code of an expression that leaves its value.
+pub(crate) fn skip_value(walk: &mut Walk, expression: &ResolvedExpression) -> Result<(), AllocError>
+    ensures { OnOk result (Walked walk.old walk.new (value_size (view_resolved_expression expression.now)) (λ k. nothing)) }
+{
+    pass_value(&mut walk.place, expression)
+}
+
+/// Goes over the code of an expression that leaves nothing.
+pub(crate) fn skip_effect(
+    walk: &mut Walk,
+    expression: &ResolvedExpression,
+) -> Result<(), AllocError>
+    ensures { OnOk result (Walked walk.old walk.new (effect_size (view_resolved_expression expression.now)) (λ k. nothing)) }
+{
+    pass_effect(&mut walk.place, expression)
+}
+
+/// Goes over the code of a value that may be left out.
+pub(crate) fn skip_perhaps(
+    walk: &mut Walk,
+    expression: &Option<ResolvedExpression>,
+) -> Result<(), AllocError>
+    ensures { OnOk result (Walked walk.old walk.new (perhaps_size value_size (option_map view_resolved_expression expression.now)) (λ k. nothing)) }
+{
+    pass_perhaps(&mut walk.place, expression)
+}
+
+/// Goes over the code of a test that may be left out.
+pub(crate) fn skip_test(
+    walk: &mut Walk,
+    condition: &Option<ResolvedExpression>,
+) -> Result<(), AllocError>
+    ensures { OnOk result (Walked walk.old walk.new (perhaps_size test_size (option_map view_resolved_expression condition.now)) (λ k. nothing)) }
+{
+    pass_test(&mut walk.place, condition)
+}
+
+/// Goes over the code of a step that may be left out.
+pub(crate) fn skip_step(
+    walk: &mut Walk,
+    step: &Option<ResolvedExpression>,
+) -> Result<(), AllocError>
+    ensures { OnOk result (Walked walk.old walk.new (perhaps_size effect_size (option_map view_resolved_expression step.now)) (λ k. nothing)) }
+{
+    pass_step(&mut walk.place, step)
+}
+
+/// Adds a declared variable.
+fn add_declarator(walk: &mut Walk, declarator: &ResolvedDeclarator) -> Result<(), AllocError>
+    ensures { OnOk result (Walked walk.old walk.new (declarator_size (view_resolved_declarator declarator.now)) (λ k. opening (opened_at walk.old.place declarator.now.variable ∷ []))) }
+{
+    let from = walk.place;
+    open(walk, &declarator.variable, from)?;
+    skip_perhaps(walk, &declarator.initial)?;
+    skip(walk, 1)
+}
+
 /// Adds declared variables.
-pub(crate) fn add_declarators(walk: &mut Walk, declarators: &[ResolvedDeclarator]) -> Result<(), AllocError>
+pub(crate) fn add_declarators(
+    walk: &mut Walk,
+    declarators: &[ResolvedDeclarator],
+) -> Result<(), AllocError>
     ensures { OnOk result (Walked walk.old walk.new (each_size declarator_size (map view_resolved_declarator declarators.now)) (λ k. opening (declared walk.old.place (map view_resolved_declarator declarators.now)))) }
 {
     for declarator in declarators {
-        let from = walk.place;
-        open(walk, &declarator.variable, from)?;
-        pass_perhaps(&mut walk.place, &declarator.initial)?;
-        skip(walk, 1)?;
+        add_declarator(walk, declarator)?;
     }
     Ok(())
 }
@@ -127,7 +195,7 @@ pub(crate) fn add_start(walk: &mut Walk, start: &ResolvedStart) -> Result<(), Al
 {
     match start {
         ResolvedStart::Nothing => Ok(()),
-        ResolvedStart::Expression(expression) => pass_effect(&mut walk.place, expression),
+        ResolvedStart::Expression(expression) => skip_effect(walk, expression),
         ResolvedStart::Declaration(declarators) => add_declarators(walk, declarators.as_slice()),
     }
 }
@@ -195,7 +263,10 @@ fn add_region_copy(walk: &mut Walk, clause: &ResolvedClause) -> Result<(), Alloc
 }
 
 /// Adds the copies that clauses make in the body of their region.
-pub(crate) fn add_region_copies(walk: &mut Walk, clauses: &[ResolvedClause]) -> Result<(), AllocError>
+pub(crate) fn add_region_copies(
+    walk: &mut Walk,
+    clauses: &[ResolvedClause],
+) -> Result<(), AllocError>
     ensures { OnOk result (Walked walk.old walk.new (each_size clause_region_start (map view_resolved_clause clauses.now)) (λ k. opening (region_copied walk.old.place (map view_resolved_clause clauses.now)))) }
 {
     for clause in clauses {
