@@ -1,0 +1,10 @@
+use Rattle.std.proofs.Common.{◌≡◌, map, drop}
+use Rattle.om_rows.specs.Slots.{statements_sights}
+use Rattle.om_resolved.specs.ResolvedTree as trees
+use Rattle.om_resolved.specs.ResolvedView.{view_resolved_statement}
+use Rattle.om_tables.specs.Sighted.{sighted}
+use Rattle.om_tables.proofs.sights.+statement.Given as goal
+
+abbrev pub invariant-see_statements-loop-item : goal.invariant-see_statements-loop-item
+invariant-see_statements-loop-item l =
+    sighted l.variables (statements_sights (trees.statements (map view_resolved_statement (drop l.item-index l.items)))) ≡ sighted l.fn.variables (statements_sights (trees.statements (map view_resolved_statement l.items)))
