@@ -1,6 +1,6 @@
 //! The variables of a body, by their slots.
 
-ghost use Rattle.std.specs.Prelude.{◌≡◌, [], OnOk, fold, length, nat_eq};
+ghost use Rattle.std.specs.Prelude.{◌≡◌, ◌≤◌, [], OnOk, fold, length, nat_eq};
 ghost use Rattle.om_resolved.specs.Captures.{variable_uses};
 ghost use Rattle.om_rows.specs.Slots.{slot_of};
 ghost use Rattle.om_rows.specs.Tables.{with_sight};
@@ -49,10 +49,11 @@ impl Variables {
         self.seen.len()
     }
 
-    #[tactic(auto, using(crate::proofs::Places::number_found))]
+    #[tactic(auto, using(crate::proofs::Places::number_found, crate::proofs::Places::number_least))]
     /// The slot of a variable; of one that is not there, the number behind all slots.
     pub fn slot_of(&self, variable: u32) -> usize
-        ensures { result ≡ slot_of self.now variable }
+        ensures exact { result ≡ slot_of self.now variable }
+        ensures least { result ≤ length self.now }
     {
         let slot = self.seen.get_index_of(&variable);
         slot.unwrap_or(self.seen.len())
