@@ -11,3 +11,9 @@ pub mod Named
 pub mod NamedExpressions
 pub mod Sized
 pub mod StatementSized
+pub mod WholeCode
+pub mod RowsCode
+pub mod WholeMentions
+pub mod TreeCode
+pub mod NamedHeads
+pub mod Positions
