@@ -7,7 +7,8 @@ use Rattle.om_tables.specs.Numbering.{function_numbers}
 
 pub called_at : (n : Numbers) (fs : List ResolvedFunctionTree) (k : ℕ)
     → unwrap_or (slice_get (function_numbers n fs) k) (behind_functions n fs).bodies ≡ (behind_functions n (take k fs)).bodies
-called_at n [] k = refl
+called_at n [] zero = refl
+called_at n [] (suc k) = refl
 called_at n (f ∷ fs) zero = refl
 called_at n (f ∷ fs) (suc k) = called_at (behind_function n f) fs k
 
@@ -15,4 +16,5 @@ called_at n (f ∷ fs) (suc k) = called_at (behind_function n f) fs k
 pub called_in : (fs : List ResolvedFunctionTree) (k : ℕ) (numbers : List ℕ) (behind : ℕ)
     → numbers ≡ function_numbers first_numbers fs → behind ≡ (behind_functions first_numbers fs).bodies
     → unwrap_or (slice_get numbers k) behind ≡ called_body fs k
-called_in fs k numbers behind same last = rw (same, last) (called_at first_numbers fs k)
+called_in fs k numbers behind same last =
+    ap (λ found. unwrap_or (slice_get found k) behind) same ∙ ap (λ all. unwrap_or (slice_get (function_numbers first_numbers fs) k) all) last ∙ called_at first_numbers fs k

@@ -6,3 +6,4 @@ pub mod Noted
 pub mod Copies
 pub mod Extents
 pub mod Tables
+pub mod Picks

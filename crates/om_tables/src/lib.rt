@@ -17,7 +17,7 @@ mod variables;
 pub use copies::{FirstCopy, given_copies, given_copies_in};
 pub use extents::Extents;
 pub use mentions::Mentions;
-pub use numbers::{Numbers, behind, behind_all, behind_function};
+pub use numbers::{Numbers, behind, behind_all, behind_function, behind_parts};
 pub use scope::Scope;
 pub use sights::{function_variables, region_variables};
 pub use slots::{copy_slots, parameter_slots, slots_with};

@@ -3,8 +3,8 @@
 ghost use Rattle.std.specs.Prelude.{◌≡◌, ◌++◌, [], OnOk, map, option_map};
 ghost use Rattle.std.specs.List.{flat_map};
 ghost use Rattle.om_resolved.specs.ResolvedTree as trees;
-ghost use Rattle.om_resolved.specs.ResolvedView.{view_resolved_clause, view_resolved_declarator, view_resolved_expression, view_resolved_function, view_resolved_loop, view_resolved_start, view_resolved_statement, view_resolved_update};
-ghost use Rattle.om_rows.specs.Mentions.{all_mentioned, clause_mentioned, declarator_mentioned, extent_mention, format_mention, function_mentioned, lock_mention, loop_mentioned, mentioned, perhaps_mentioned, start_mentioned, update_mentioned};
+ghost use Rattle.om_resolved.specs.ResolvedView.{view_resolved_clause, view_resolved_declarator, view_resolved_expression, view_resolved_function, view_resolved_loop, view_resolved_part, view_resolved_start, view_resolved_statement, view_resolved_update};
+ghost use Rattle.om_rows.specs.Mentions.{all_mentioned, clause_mentioned, declarator_mentioned, extent_mention, format_mention, function_mentioned, lock_mention, loop_mentioned, mentioned, parts_mentioned, perhaps_mentioned, start_mentioned, update_mentioned};
 ghost use Rattle.om_rows.specs.Slots.{cells_of_length};
 ghost use Rattle.om_tables.specs.Extents.{measured};
 ghost use Rattle.om_tables.specs.Noted.{noted};
@@ -14,7 +14,7 @@ use crate::formats::note_expression;
 use crate::texts::Texts;
 use om_resolved::{
     ConstructKind, ResolvedClause, ResolvedDeclarator, ResolvedExpression, ResolvedFunction,
-    ResolvedLoop, ResolvedStart, ResolvedStatement, ResolvedUpdate,
+    ResolvedLoop, ResolvedPart, ResolvedStart, ResolvedStatement, ResolvedUpdate,
 };
 use std::alloc::{AllocError, Global};
 
@@ -331,11 +331,10 @@ fn note_statement(
             note_loop(found, alloc, repeated)?;
             note_statement(found, alloc, body)
         }
-        ResolvedStatement::Sections(_, clauses, _, items) => {
+        ResolvedStatement::Sections(_, clauses, _, parts) => {
             note_clauses(found, alloc, clauses.as_slice())?;
-            note_statements(found, alloc, items.as_slice())
+            note_parts(found, alloc, parts.as_slice())
         }
-        ResolvedStatement::Section(first) => note_statement(found, alloc, first),
         ResolvedStatement::Construct(_, kind, clauses, body) => {
             note_construct(found, alloc, kind)?;
             note_clauses(found, alloc, clauses.as_slice())?;
@@ -363,6 +362,27 @@ fn note_statements(
 {
     for item in items {
         note_statement(found, alloc, item)?;
+    }
+    Ok(())
+}
+
+/// Notes what the parts of `sections` mention.
+#[tactic(auto, unfolding(om_rows::specs::Mentions::parts_mentioned))]
+#[cycle(statement)]
+fn note_parts(
+    found: &mut Mentions,
+    alloc: Global,
+    parts: &[ResolvedPart],
+) -> Result<(), AllocError>
+    ensures formats { let tree = trees.parts (map view_resolved_part parts.now) in
+        OnOk result (found.new.formats ≡ noted found.old.formats (parts_mentioned format_mention tree)) }
+    ensures locks { let tree = trees.parts (map view_resolved_part parts.now) in
+        OnOk result (found.new.locks ≡ noted found.old.locks (parts_mentioned lock_mention tree)) }
+    ensures extents { let tree = trees.parts (map view_resolved_part parts.now) in
+        OnOk result (found.new.extents ≡ measured found.old.extents (parts_mentioned extent_mention tree)) }
+{
+    for part in parts {
+        note_statements(found, alloc, part.items.as_slice())?;
     }
     Ok(())
 }

@@ -2,11 +2,11 @@
 
 ghost use Rattle.std.specs.Prelude.{◌≡◌, IfOk, map};
 ghost use Rattle.om_resolved.specs.ResolvedTree as trees;
-ghost use Rattle.om_resolved.specs.ResolvedView.{view_resolved_function, view_resolved_statement};
+ghost use Rattle.om_resolved.specs.ResolvedView.{view_resolved_function, view_resolved_part, view_resolved_statement};
 ghost use Rattle.om_rows.specs.Bodies as bodies;
 ghost use Rattle.om_tables.specs.Numbering.{numbers_of};
 
-use om_resolved::{ResolvedFunction, ResolvedStatement};
+use om_resolved::{ResolvedFunction, ResolvedPart, ResolvedStatement};
 use std::alloc::AllocError;
 
 /// The numbers that the next body, and the next list of PICK, get.
@@ -76,10 +76,9 @@ pub fn behind(numbers: Numbers, statement: &ResolvedStatement) -> Result<Numbers
         ResolvedStatement::Parallel(_, _, _, body) => behind(numbers.next_body()?, body),
         ResolvedStatement::Task(_, _, _, body) => behind(numbers.next_body()?, body),
         ResolvedStatement::Loop(_, _, _, _, body) => behind(numbers, body),
-        ResolvedStatement::Sections(_, _, _, items) => {
-            behind_all(numbers.next_pick()?, items.as_slice())
+        ResolvedStatement::Sections(_, _, _, parts) => {
+            behind_parts(numbers.next_pick()?, parts.as_slice())
         }
-        ResolvedStatement::Section(first) => behind(numbers, first),
         ResolvedStatement::Construct(_, _, _, body) => behind(numbers, body),
         ResolvedStatement::Update(_, _) => Ok(numbers),
         ResolvedStatement::StandAlone(_, _) => Ok(numbers),
@@ -95,6 +94,19 @@ pub fn behind_all(numbers: Numbers, items: &[ResolvedStatement]) -> Result<Numbe
     let mut numbers = numbers;
     for item in items {
         numbers = behind(numbers, item)?;
+    }
+    Ok(numbers)
+}
+
+/// The numbers behind the parts of `sections`.
+#[cycle(statement)]
+pub fn behind_parts(numbers: Numbers, parts: &[ResolvedPart]) -> Result<Numbers, AllocError>
+    ensures { let tree = trees.parts (map view_resolved_part parts.now) in
+        IfOk result (λ made. numbers_of made ≡ bodies.behind_parts (numbers_of numbers) tree) }
+{
+    let mut numbers = numbers;
+    for part in parts {
+        numbers = behind_all(numbers, part.items.as_slice())?;
     }
     Ok(numbers)
 }

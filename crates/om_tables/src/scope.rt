@@ -99,7 +99,6 @@ impl<'a> Scope<'a> {
         }
     }
 
-    #[tactic(auto, using(crate::proofs::Called::called_in))]
     /// The number of the body of a function; behind all functions, the number behind all bodies.
     pub fn called_body(&self, function: usize) -> u32
         ensures { result ≡ rows.called_body (names_of self.now).functions function }

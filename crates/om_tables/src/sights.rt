@@ -4,9 +4,9 @@ ghost use Rattle.std.specs.Prelude.{◌≡◌, ◌++◌, ◌∷◌, [], OnOk, If
 ghost use Rattle.std.specs.List.{flat_map};
 ghost use Rattle.om_resolved.specs.Captures.{expression_uses, perhaps_uses};
 ghost use Rattle.om_resolved.specs.ResolvedTree as trees;
-ghost use Rattle.om_resolved.specs.ResolvedView.{view_resolved_clause, view_resolved_declarator, view_resolved_expression, view_resolved_function, view_resolved_loop, view_resolved_start, view_resolved_statement};
+ghost use Rattle.om_resolved.specs.ResolvedView.{view_resolved_clause, view_resolved_declarator, view_resolved_expression, view_resolved_function, view_resolved_loop, view_resolved_part, view_resolved_start, view_resolved_statement};
 ghost use Rattle.om_rows.specs.Bodies as bodies;
-ghost use Rattle.om_rows.specs.Slots.{clause_sights, combined_sights, declarator_sights, loop_sights, original_sights, parameter_sight, region_clause_sights, start_sights, statement_sights, statements_sights};
+ghost use Rattle.om_rows.specs.Slots.{clause_sights, combined_sights, declarator_sights, loop_sights, original_sights, parameter_sight, parts_sights, region_clause_sights, start_sights, statement_sights, statements_sights};
 ghost use Rattle.om_tables.specs.Sighted.{sighted};
 
 use crate::uses::{
@@ -15,7 +15,7 @@ use crate::uses::{
 use crate::variables::Variables;
 use om_resolved::{
     CopyKind, LocalVariable, ResolvedClause, ResolvedDeclarator, ResolvedExpression,
-    ResolvedFunction, ResolvedLoop, ResolvedStart, ResolvedStatement, Variable,
+    ResolvedFunction, ResolvedLoop, ResolvedPart, ResolvedStart, ResolvedStatement, Variable,
 };
 use std::alloc::{AllocError, Global};
 
@@ -298,11 +298,10 @@ fn see_statement(
             see_loop_head(variables, clauses.as_slice(), repeated)?;
             see_statement(variables, body)
         }
-        ResolvedStatement::Sections(_, clauses, _, items) => {
+        ResolvedStatement::Sections(_, clauses, _, parts) => {
             see_clauses(variables, clauses.as_slice())?;
-            see_statements(variables, items.as_slice())
+            see_parts(variables, parts.as_slice())
         }
-        ResolvedStatement::Section(first) => see_statement(variables, first),
         ResolvedStatement::Construct(_, _, clauses, body) => {
             see_clauses(variables, clauses.as_slice())?;
             see_statement(variables, body)
@@ -324,6 +323,19 @@ fn see_statements(
 {
     for item in items {
         see_statement(variables, item)?;
+    }
+    Ok(())
+}
+
+/// Sees the parts of `sections`.
+#[tactic(auto, unfolding(om_rows::specs::Slots::parts_sights))]
+#[cycle(statement)]
+fn see_parts(variables: &mut Variables, parts: &[ResolvedPart]) -> Result<(), AllocError>
+    ensures { let tree = trees.parts (map view_resolved_part parts.now) in
+        OnOk result (variables.new ≡ sighted variables.old (parts_sights tree)) }
+{
+    for part in parts {
+        see_statements(variables, part.items.as_slice())?;
     }
     Ok(())
 }
