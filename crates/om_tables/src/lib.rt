@@ -16,7 +16,7 @@ mod variables;
 
 pub use copies::{FirstCopy, given_copies, given_copies_in};
 pub use extents::Extents;
-pub use mentions::Mentions;
+pub use mentions::{Mentions, extents_of};
 pub use numbers::{Numbers, behind, behind_all, behind_function, behind_parts};
 pub use scope::Scope;
 pub use sights::{function_variables, region_variables};

@@ -1,11 +1,11 @@
 //! What a function mentions, its regions too: formats, names of critical regions, declared variables.
 
-ghost use Rattle.std.specs.Prelude.{◌≡◌, ◌++◌, [], OnOk, map, option_map};
+ghost use Rattle.std.specs.Prelude.{◌≡◌, ◌++◌, [], OnOk, IfOk, ℕ, map, option_map};
 ghost use Rattle.std.specs.List.{flat_map};
 ghost use Rattle.om_resolved.specs.ResolvedTree as trees;
 ghost use Rattle.om_resolved.specs.ResolvedView.{view_resolved_clause, view_resolved_declarator, view_resolved_expression, view_resolved_function, view_resolved_loop, view_resolved_part, view_resolved_start, view_resolved_statement, view_resolved_update};
-ghost use Rattle.om_rows.specs.Mentions.{all_mentioned, clause_mentioned, declarator_mentioned, extent_mention, format_mention, function_mentioned, lock_mention, loop_mentioned, mentioned, parts_mentioned, perhaps_mentioned, start_mentioned, update_mentioned};
-ghost use Rattle.om_rows.specs.Slots.{cells_of_length};
+ghost use Rattle.om_rows.specs.Mentions.{all_mentioned, clause_mentioned, declarator_mentioned, extent_mention, extents_of, format_mention, function_mentioned, lock_mention, loop_mentioned, mentioned, parts_mentioned, perhaps_mentioned, start_mentioned, update_mentioned};
+ghost use Rattle.om_rows.specs.Slots.{cells_in, cells_of_length};
 ghost use Rattle.om_tables.specs.Extents.{measured};
 ghost use Rattle.om_tables.specs.Noted.{noted};
 
@@ -42,6 +42,18 @@ impl Mentions {
             extents: Extents::new(alloc),
         }
     }
+}
+
+/// How many cells the declared variables of a function have.
+#[tactic(auto, using(crate::proofs::Cells::cells_measured))]
+pub fn extents_of(alloc: Global, function: &ResolvedFunction) -> Result<Extents, AllocError>
+    ensures { let tree = view_resolved_function function.now in
+        IfOk result (λ made. (variable : ℕ) → cells_in made variable ≡ cells_in (extents_of tree) variable) }
+{
+    let mut found = Mentions::new(alloc);
+    note_function(&mut found, alloc, function)?;
+    let Mentions { extents, .. } = found;
+    Ok(extents)
 }
 
 /// Notes what a function mentions.
@@ -127,11 +139,7 @@ fn note_declarators(
 }
 
 /// Notes the beginning of a `for`.
-fn note_start(
-    found: &mut Mentions,
-    alloc: Global,
-    start: &ResolvedStart,
-) -> Result<(), AllocError>
+fn note_start(found: &mut Mentions, alloc: Global, start: &ResolvedStart) -> Result<(), AllocError>
     ensures formats { let tree = view_resolved_start start.now in
         OnOk result (found.new.formats ≡ noted found.old.formats (start_mentioned format_mention tree)) }
     ensures locks { let tree = view_resolved_start start.now in
@@ -188,11 +196,7 @@ fn note_clauses(
 }
 
 /// Notes the bounds of a canonical loop.
-fn note_loop(
-    found: &mut Mentions,
-    alloc: Global,
-    repeated: &ResolvedLoop,
-) -> Result<(), AllocError>
+fn note_loop(found: &mut Mentions, alloc: Global, repeated: &ResolvedLoop) -> Result<(), AllocError>
     ensures formats { let tree = view_resolved_loop repeated.now in
         OnOk result (found.new.formats ≡ noted found.old.formats (loop_mentioned format_mention tree)) }
     ensures locks { let tree = view_resolved_loop repeated.now in
@@ -369,11 +373,7 @@ fn note_statements(
 /// Notes what the parts of `sections` mention.
 #[tactic(auto, unfolding(om_rows::specs::Mentions::parts_mentioned))]
 #[cycle(statement)]
-fn note_parts(
-    found: &mut Mentions,
-    alloc: Global,
-    parts: &[ResolvedPart],
-) -> Result<(), AllocError>
+fn note_parts(found: &mut Mentions, alloc: Global, parts: &[ResolvedPart]) -> Result<(), AllocError>
     ensures formats { let tree = trees.parts (map view_resolved_part parts.now) in
         OnOk result (found.new.formats ≡ noted found.old.formats (parts_mentioned format_mention tree)) }
     ensures locks { let tree = trees.parts (map view_resolved_part parts.now) in

@@ -112,10 +112,7 @@ pub fn behind_parts(numbers: Numbers, parts: &[ResolvedPart]) -> Result<Numbers,
 }
 
 /// The numbers behind a function.
-pub fn behind_function(
-    numbers: Numbers,
-    function: &ResolvedFunction,
-) -> Result<Numbers, AllocError>
+pub fn behind_function(numbers: Numbers, function: &ResolvedFunction) -> Result<Numbers, AllocError>
     ensures { let tree = view_resolved_function function.now in
         IfOk result (λ made. numbers_of made ≡ bodies.behind_function (numbers_of numbers) tree) }
 {

@@ -1,6 +1,6 @@
 //! What the instructions of a body name by numbers.
 
-ghost use Rattle.std.specs.Prelude.{◌≡◌, ◌≤◌, length, map};
+ghost use Rattle.std.specs.Prelude.{◌≡◌, ◌≤◌, length, map, slice_get};
 ghost use Rattle.om_resolved.specs.ResolvedView.{view_resolved_function};
 ghost use Rattle.om_rows.specs.Bodies as rows;
 ghost use Rattle.om_tables.specs.Numbering.{function_numbers};
@@ -103,7 +103,7 @@ impl<'a> Scope<'a> {
     pub fn called_body(&self, function: usize) -> u32
         ensures { result ≡ rows.called_body (names_of self.now).functions function }
     {
-        let number = self.tables.bodies.get(function).copied();
+        let number = number_at(self.tables.bodies.as_slice(), function);
         number.unwrap_or(self.tables.behind.bodies)
     }
 
@@ -113,4 +113,11 @@ impl<'a> Scope<'a> {
     {
         self.is_main
     }
+}
+
+/// The number at an index, if there is one.
+fn number_at(numbers: &[u32], index: usize) -> Option<u32>
+    ensures { result ≡ slice_get numbers.now index }
+{
+    numbers.get(index).copied()
 }

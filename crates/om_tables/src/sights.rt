@@ -48,10 +48,7 @@ pub fn region_variables(
 }
 
 /// Sees parameters.
-fn see_parameters(
-    variables: &mut Variables,
-    parameters: &[LocalVariable],
-) -> Result<(), AllocError>
+fn see_parameters(variables: &mut Variables, parameters: &[LocalVariable]) -> Result<(), AllocError>
     ensures { OnOk result (variables.new ≡ sighted variables.old (map parameter_sight parameters.now)) }
 {
     for parameter in parameters {
@@ -250,10 +247,7 @@ fn see_head(
 /// Sees a statement. The bodies of regions in it have slots of their own.
 #[tactic(auto, unfolding(om_rows::specs::Slots::statement_sights))]
 #[cycle(statement)]
-fn see_statement(
-    variables: &mut Variables,
-    statement: &ResolvedStatement,
-) -> Result<(), AllocError>
+fn see_statement(variables: &mut Variables, statement: &ResolvedStatement) -> Result<(), AllocError>
     ensures { let sights = statement_sights (view_resolved_statement statement.now) in
         OnOk result (variables.new ≡ sighted variables.old sights) }
 {
@@ -314,10 +308,7 @@ fn see_statement(
 /// Sees statements.
 #[tactic(auto, unfolding(om_rows::specs::Slots::statements_sights))]
 #[cycle(statement)]
-fn see_statements(
-    variables: &mut Variables,
-    items: &[ResolvedStatement],
-) -> Result<(), AllocError>
+fn see_statements(variables: &mut Variables, items: &[ResolvedStatement]) -> Result<(), AllocError>
     ensures { let tree = trees.statements (map view_resolved_statement items.now) in
         OnOk result (variables.new ≡ sighted variables.old (statements_sights tree)) }
 {

@@ -1,6 +1,6 @@
 //! Texts by numbers: formats, and names of critical regions.
 
-ghost use Rattle.std.specs.Prelude.{◌≡◌, ◌≤◌, [], OnOk, length};
+ghost use Rattle.std.specs.Prelude.{◌≡◌, ◌≤◌, [], OnOk, length, option_map, slice_get};
 ghost use Rattle.std.specs.Str.{bytes_eq};
 ghost use Rattle.om_rows.specs.Tables.{number_in, with_sight};
 
@@ -45,10 +45,12 @@ impl Texts {
         self.texts.len()
     }
 
-    /// The text of a number.
+    /// The text of a number; `None` where there is no such number.
     pub fn text(&self, number: usize) -> Option<&[u8]>
+        ensures { option_map (λ text. text.now) result ≡ slice_get self.now number }
     {
-        self.texts.get_index(number).map(|text| text.as_slice())
+        let text = self.texts.get_index(number)?;
+        Some(text.as_slice())
     }
 
     /// The number of a text; of one that is not there, the number behind all of them.

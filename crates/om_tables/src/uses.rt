@@ -64,10 +64,7 @@ pub(crate) fn take_expression(
 /// Notes what the values of a call use.
 #[tactic(auto, unfolding(om_resolved::specs::Captures::values_uses))]
 #[cycle(expression)]
-fn take_values(
-    variables: &mut Variables,
-    values: &[ResolvedExpression],
-) -> Result<(), AllocError>
+fn take_values(variables: &mut Variables, values: &[ResolvedExpression]) -> Result<(), AllocError>
     ensures { OnOk result (variables.new ≡ sighted variables.old (values_uses (trees.values (map view_resolved_expression values.now)))) }
 {
     for value in values {
@@ -136,7 +133,10 @@ fn take_captures(variables: &mut Variables, captures: &[Capture]) -> Result<(), 
 }
 
 /// Notes variables that are used.
-pub(crate) fn take_variables(variables: &mut Variables, listed: &[Variable]) -> Result<(), AllocError>
+pub(crate) fn take_variables(
+    variables: &mut Variables,
+    listed: &[Variable],
+) -> Result<(), AllocError>
     ensures { OnOk result (variables.new ≡ sighted variables.old (flat_map variable_uses listed.now)) }
 {
     for variable in listed {
@@ -146,7 +146,10 @@ pub(crate) fn take_variables(variables: &mut Variables, listed: &[Variable]) -> 
 }
 
 /// Notes what a directive uses that stands alone.
-pub(crate) fn take_stand_alone(variables: &mut Variables, directive: &StandAlone) -> Result<(), AllocError>
+pub(crate) fn take_stand_alone(
+    variables: &mut Variables,
+    directive: &StandAlone,
+) -> Result<(), AllocError>
     ensures { OnOk result (variables.new ≡ sighted variables.old (stand_alone_uses directive.now)) }
 {
     match directive {
@@ -170,11 +173,13 @@ pub(crate) fn take_region(
 }
 
 /// Notes what an atomic update uses.
-pub(crate) fn take_update(variables: &mut Variables, update: &ResolvedUpdate) -> Result<(), AllocError>
+pub(crate) fn take_update(
+    variables: &mut Variables,
+    update: &ResolvedUpdate,
+) -> Result<(), AllocError>
     ensures { OnOk result (variables.new ≡ sighted variables.old (update_uses (view_resolved_update update.now))) }
 {
     variables.sight(update.variable)?;
     take_perhaps(variables, &update.index)?;
     take_expression(variables, &update.operand)
 }
-
