@@ -15,5 +15,10 @@ pub mod WholeCode
 pub mod RowsCode
 pub mod WholeMentions
 pub mod TreeCode
-pub mod NamedHeads
+pub mod NamedStatements
 pub mod Positions
+pub mod NamedBodies
+pub mod Placed
+pub mod Given
+pub mod KnownBodies
+pub mod Valid

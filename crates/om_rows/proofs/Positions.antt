@@ -91,15 +91,14 @@ module _ (f : ResolvedFunctionTree) where
 -- the body of a function by its number, as it is numbered
 pub function_body_there : (fs : List ResolvedFunctionTree) (k : ℕ) (f : ResolvedFunctionTree) (n : Numbers) (all : List BodySite)
     → StandsAt all n.bodies (bodies_from n fs) → slice_get fs k ≡ Some f
-    → (b : BodySite) × (slice_get all (behind_functions n (take k fs)).bodies ≡ Some b) × (b.function ≡ f) × (b.tree ≡ FunctionBody)
+    → (m : Numbers) × (slice_get all (behind_functions n (take k fs)).bodies ≡ Some (record { function = f; tree = FunctionBody; outer = []; numbers = m }))
 function_body_there [] k f n all h e = absurd cc
 function_body_there (g ∷ fs) zero f n all h e =
     let same : g ≡ f = cc e in
     let front = stands_front all (function_bodies n g) (bodies_from (behind_function n g) fs) n.bodies h in (
-      record { function = g; tree = FunctionBody; outer = []; numbers = next_body n },
-      stands_head all _ (all_regions g (function_variables g) (next_body n) g.body) n.bodies front,
-      same,
-      refl,
+      next_body n,
+      stands_head all _ (all_regions g (function_variables g) (next_body n) g.body) n.bodies front
+          ∙ ap (λ (z : ResolvedFunctionTree). Some (record { function = z; tree = FunctionBody; outer = []; numbers = next_body n })) same,
     )
 function_body_there (g ∷ fs) (suc k) f n all h e =
     function_body_there fs k f (behind_function n g) all

@@ -1,6 +1,6 @@
 //! Laws of the code of a tree, whoever made it.
 
-ghost use Rattle.om_rows.specs.Laws.{BodyIsLevel, CodeIsLevel, EffectRowsHaveCode, EffectSizes, OneCode, RowsHaveCode, StatementRowsHaveCode, StatementSizes, ValueRowsHaveCode, ValueSizes, WholeHasCode};
+ghost use Rattle.om_rows.specs.Laws.{BodyIsLevel, CodeFaults, CodeIsLevel, CodeIsValid, EffectRowsHaveCode, EffectSizes, OneCode, RowsHaveCode, StatementRowsHaveCode, StatementSizes, ValueRowsHaveCode, ValueSizes, WholeHasCode};
 
 /// A tree has one code.
 pub fn one_code()
@@ -29,6 +29,15 @@ pub fn rows_have_code()
     ensures value { ValueRowsHaveCode }
     ensures effect { EffectRowsHaveCode }
     ensures statement { StatementRowsHaveCode }
+{}
+
+/// The code of a whole tree is valid where no body has more than 2^32 places or slots, and no way more than
+/// 256 operands; else only the rule on operands is broken.
+///
+/// So whoever finds such code refused has too many operands in it, or is out of memory.
+pub fn code_is_valid()
+    ensures valid { CodeIsValid }
+    ensures faults { CodeFaults }
 {}
 
 /// The code of an expression or a statement has as many instructions as the tree tells.

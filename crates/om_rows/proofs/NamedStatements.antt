@@ -1,9 +1,9 @@
 -- What the code of declarations, clauses and constructs names exists.
 use Rattle.std.proofs.Common.{◌≡◌, ℕ, ◌+◌, ◌<◌, ◌≤◌, ℤ, pos, Bool, true, false, List, [], ◌∷◌, ◌++◌, length, Option, Some, None, refl, sym, ap, ◌∙◌, subst, arith}
-use Rattle.std.specs.Prelude.{slice_get, map, nat_eq, is_some, All}
+use Rattle.std.specs.Prelude.{slice_get, map, nat_eq, is_some, All, if◌then◌else◌}
 use Rattle.std.specs.List.{flat_map, list_any}
 use Rattle.std.specs.Str.{bytes_eq}
-use Rattle.std.proofs.lemmas.List.Elements.{All-head, All-tail}
+use Rattle.std.proofs.lemmas.List.Elements.{All-nil, All-cons, All-head, All-tail, All-append}
 use Rattle.std.proofs.lemmas.Option.{slice_get_within}
 use Rattle.om_code.specs.declared.instruction.AtomicOperator.{AtomicOperator}
 use Rattle.om_code.specs.declared.instruction.Barrier.{Barrier}
@@ -13,26 +13,34 @@ use Rattle.om_code.specs.declared.raw.Raw.{Raw}
 use Rattle.om_code.specs.declared.raw.Slot.{Slot}
 use Rattle.om_code.specs.Validity.{IsKnownPlace, IsKnownBody}
 use Rattle.om_pragma.specs.declared.clause.ValueClause.{ValueClause}
+use Rattle.om_resolved.specs.declared.resolved.Capture.{Capture}
 use Rattle.om_resolved.specs.declared.resolved.CopyKind.{CopyKind}
 use Rattle.om_resolved.specs.declared.resolved.CopyKind.TheVariants as copies
 use Rattle.om_resolved.specs.declared.resolved.LocalVariable.{LocalVariable}
 use Rattle.om_resolved.specs.declared.resolved.StandAlone as alone
 use Rattle.om_resolved.specs.declared.resolved.StandAlone.TheVariants as alones
+use Rattle.om_resolved.specs.declared.resolved.Taking.{Taking}
+use Rattle.om_resolved.specs.declared.resolved.Taking.TheVariants as takings
 use Rattle.om_resolved.specs.declared.resolved.Variable as variables
 use Rattle.om_resolved.specs.declared.resolved.Variable.TheVariants as named
-use Rattle.om_resolved.specs.Captures.{variable_uses, expression_uses, perhaps_uses, clause_uses, update_uses}
+use Rattle.om_resolved.specs.Captures.{variable_uses, expression_uses, perhaps_uses, clause_uses, captured_variable, update_uses}
 use Rattle.om_resolved.specs.ResolvedTree.{ResolvedExpressionTree, ResolvedDeclaratorTree, ResolvedClauseTree, ClauseValue, Shared, Copied, ResolvedLoopTree, ResolvedUpdateTree, ResolvedStartTree, StartNothing, StartExpression, StartDeclaration, ResolvedStatementTree, Expression, ResolvedTree}
 use Rattle.om_resolved.specs.Whole.{Around, Admitted, IsWholeIfAny, AreWholeDeclarators, IsWholeStart, IsWholeReturn, AreWholeClauses, IsWholeClause, IsWholeTarget, IsWholeUpdate, IsWholeLoop, IsWholeStatement}
 use Rattle.om_resolved.specs.Whole as whole
+use Rattle.om_rows.specs.Bodies.{region_variables}
 use Rattle.om_rows.specs.Expressions.{value, effect}
 use Rattle.om_rows.specs.Mentions.{format_mention, perhaps_mentioned, declarator_mentioned, start_mentioned, clause_mentioned, loop_mentioned, update_mentioned, lock_name}
 use Rattle.om_rows.specs.Operators.{comparison_of, side_of, update_of}
 use Rattle.om_rows.specs.Rows.{Site, Row, given, perhaps, each}
-use Rattle.om_rows.specs.Slots.{FirstCopy, place, slot, declarator_sights, start_sights, clause_sights, region_clause_sights, loop_sights}
-use Rattle.om_rows.specs.Statements.{jump, declared, declarator, start, test, returned, copy_start, clause_start, starts, reduction_start, clause_reduction_start, reduction_starts, combined, clause_combined, reductions, clause_value, load_original, barrier, worksharing_end, alone_row, filter_row, single_row, masked_row, lock_number, critical_row, updated, update_row, assignment_row, group_row, loop_rest, parallel_row, task_row}
+use Rattle.om_rows.specs.Slots.{FirstCopy, clause_first, capture_first, taken_first, first_copies, first_copy_at, by_slots, region_uses, place, slot, declarator_sights, start_sights, clause_sights, region_clause_sights, loop_sights}
+use Rattle.om_rows.specs.Statements.{jump, declared, declarator, start, test, returned, copy_start, clause_start, starts, reduction_start, clause_reduction_start, reduction_starts, combined, clause_combined, reductions, clause_value, given_copies, load_original, barrier, worksharing_end, alone_row, filter_row, single_row, masked_row, lock_number, critical_row, updated, update_row, assignment_row, group_row, loop_rest, parallel_row, task_row}
 use Rattle.om_rows.proofs.Named.{Named, named_end, named_ins, named_part, number_found, Has, has_front, has_back}
 use Rattle.om_rows.proofs.NamedExpressions as expressions
 use Rattle.om_rows.proofs.NamedExpressions.{Program}
+
+-- what a copy begins with exists
+abbrev pub CopyKnown : Raw → Site → List Slot → FirstCopy → Type 0
+CopyKnown raw at slots copy = IsKnownPlace raw.globals slots (place at copy.original)
 
 module _ (tree : ResolvedTree) (raw : Raw) (at : Site) (slots : List Slot) (program : Program tree raw at slots) where
   abbrev pub Names : Row → Type 0
@@ -295,3 +303,55 @@ module _ (tree : ResolvedTree) (raw : Raw) (at : Site) (slots : List Slot) (prog
   pub task_names : (l body : ℕ) (xs : List FirstCopy) → Names (each (load_original at l) xs) → IsKnownBody raw.bodies slots body (length xs)
       → Names (task_row at l body xs)
   task_names l body xs loads known p q r = named_part r (loads p) (λ m r. named_ins r known named_end)
+
+  copy_at_known : (xs : List FirstCopy) (variable : ℕ) → All (CopyKnown raw at slots) xs → All (CopyKnown raw at slots) (first_copy_at xs variable)
+  copy_at_known [] variable known = All-nil (CopyKnown raw at slots)
+  copy_at_known (x ∷ xs) variable known = chosen (nat_eq x.variable variable) (copy_at_known xs variable (All-tail (CopyKnown raw at slots) x xs known))
+    where
+      chosen : (b : Bool) → All (CopyKnown raw at slots) (first_copy_at xs variable) → All (CopyKnown raw at slots) (if b then x ∷ [] else first_copy_at xs variable)
+      chosen true rest = All-cons (CopyKnown raw at slots) x [] (All-head (CopyKnown raw at slots) x xs known) (All-nil (CopyKnown raw at slots))
+      chosen false rest = rest
+
+  by_slots_known : (order : List ℕ) (xs : List FirstCopy) → All (CopyKnown raw at slots) xs → All (CopyKnown raw at slots) (by_slots order xs)
+  by_slots_known [] xs known = All-nil (CopyKnown raw at slots)
+  by_slots_known (x ∷ order) xs known =
+      All-append (CopyKnown raw at slots) (first_copy_at xs x) (by_slots order xs) (copy_at_known xs x known) (by_slots_known order xs known)
+
+  clause_copies_known : (clauses : List ResolvedClauseTree) (around : Around) (admitted : Admitted) → IsHere around → AreWholeClauses around admitted clauses
+      → Slots (flat_map clause_uses clauses) → All (CopyKnown raw at slots) (flat_map clause_first clauses)
+  clause_copies_known [] around admitted g w s = All-nil (CopyKnown raw at slots)
+  clause_copies_known (ClauseValue kind e ∷ cs) around admitted g w s =
+      clause_copies_known cs around admitted g (All-tail (IsWholeClause around admitted) (ClauseValue kind e) cs w)
+      (slots_back (expression_uses e) (flat_map clause_uses cs) s)
+  clause_copies_known (Shared x ∷ cs) around admitted g w s =
+      clause_copies_known cs around admitted g (All-tail (IsWholeClause around admitted) (Shared x) cs w) (slots_back (variable_uses x) (flat_map clause_uses cs) s)
+  clause_copies_known (Copied copies.Private x copy ∷ cs) around admitted g w s =
+      clause_copies_known cs around admitted g (All-tail (IsWholeClause around admitted) (Copied copies.Private x copy) cs w) s
+  clause_copies_known (Copied copies.Firstprivate x copy ∷ cs) around admitted g w s =
+      All-cons (CopyKnown raw at slots) _ (flat_map clause_first cs)
+      (expressions.place_there tree raw at slots program around _ x g.0 (All-head (IsWholeClause around admitted) (Copied copies.Firstprivate x copy) cs w).1
+      (slots_front (variable_uses x) (flat_map clause_uses cs) s))
+      (clause_copies_known cs around admitted g (All-tail (IsWholeClause around admitted) (Copied copies.Firstprivate x copy) cs w)
+      (slots_back (variable_uses x) (flat_map clause_uses cs) s))
+  clause_copies_known (Copied (copies.Reduction o) x copy ∷ cs) around admitted g w s =
+      clause_copies_known cs around admitted g (All-tail (IsWholeClause around admitted) (Copied (copies.Reduction o) x copy) cs w)
+      (slots_back (variable_uses x) (flat_map clause_uses cs) s)
+
+  taken_known : (taking : Taking) (x : ℕ) → list_any (nat_eq x) at.slots ≡ true → All (CopyKnown raw at slots) (taken_first taking x)
+  taken_known takings.Shared x here = All-nil (CopyKnown raw at slots)
+  taken_known takings.Firstprivate x here =
+      All-cons (CopyKnown raw at slots) _ [] (expressions.slot_there tree raw at slots program x here) (All-nil (CopyKnown raw at slots))
+
+  captures_known : (captures : List Capture) → Slots (map captured_variable captures) → All (CopyKnown raw at slots) (flat_map capture_first captures)
+  captures_known [] s = All-nil (CopyKnown raw at slots)
+  captures_known (c ∷ cs) s =
+      All-append (CopyKnown raw at slots) (capture_first c) (flat_map capture_first cs) (taken_known c.taking c.variable s.0) (captures_known cs s.1)
+
+  -- what a region copies as it begins is loaded from places that exist
+  pub copies_known : (clauses : List ResolvedClauseTree) (captures : List Capture) (s : ResolvedStatementTree) (around : Around) (admitted : Admitted) → IsHere around
+      → AreWholeClauses around admitted clauses → Slots (region_uses clauses captures) → All (CopyKnown raw at slots) (given_copies clauses captures s)
+  copies_known clauses captures s around admitted g w v =
+      by_slots_known (region_variables clauses s) (first_copies clauses captures)
+      (All-append (CopyKnown raw at slots) (flat_map clause_first clauses) (flat_map capture_first captures)
+      (clause_copies_known clauses around admitted g w (slots_front (flat_map clause_uses clauses) (map captured_variable captures) v))
+      (captures_known captures (slots_back (flat_map clause_uses clauses) (map captured_variable captures) v)))
