@@ -1,6 +1,6 @@
 //! What PRINT writes for the formats of a program.
 
-ghost use Rattle.std.specs.Prelude.{◌≡◌, ◌∷◌, ◌++◌, [], OnOk, IfOk, List, option_map};
+ghost use Rattle.std.specs.Prelude.{◌≡◌, ◌∷◌, ◌++◌, ◌≤◌, [], OnOk, IfOk, IfSome, List, length, option_map};
 ghost use Rattle.om_lower.specs.Texts.{behind_cut, cut_behind, cut_on, cut_pieces, text_of, with_run};
 ghost use Rattle.om_resolved.specs.Formats as formats;
 
@@ -53,7 +53,8 @@ fn cut_next<'a>(
     byte: u8,
     rest: &'a [u8],
 ) -> Result<Option<&'a [u8]>, AllocError>
-    ensures { IfOk result (λ left. cut_behind cut.old (byte ∷ rest.now) ≡ cut_on cut.new (option_map (λ next. next.now) left)) }
+    ensures same { IfOk result (λ left. cut_behind cut.old (byte ∷ rest.now) ≡ cut_on cut.new (option_map (λ next. next.now) left)) }
+    ensures shorter { IfOk result (λ left. IfSome left (λ next. length next.now ≤ length rest.now)) }
 {
     if byte == b'%' {
         return cut_converted(alloc, cut, rest);
@@ -68,7 +69,8 @@ fn cut_converted<'a>(
     cut: &mut Cut,
     rest: &'a [u8],
 ) -> Result<Option<&'a [u8]>, AllocError>
-    ensures { IfOk result (λ left. option_map (behind_cut cut.old) (formats.converted rest.now) ≡ cut_on cut.new (option_map (λ next. next.now) left)) }
+    ensures shorter { IfOk result (λ left. IfSome left (λ next. length next.now ≤ length rest.now)) }
+    ensures same { IfOk result (λ left. option_map (behind_cut cut.old) (formats.converted rest.now) ≡ cut_on cut.new (option_map (λ next. next.now) left)) }
 {
     let Some((byte, behind)) = rest.split_first() else {
         return Ok(None);
@@ -85,6 +87,7 @@ fn cut_converted<'a>(
 }
 
 /// Adds a byte that is written.
+#[tactic(auto, using(crate::proofs::Cutting::run_byte))]
 fn add_byte(cut: &mut Cut, byte: u8) -> Result<(), AllocError>
     ensures { OnOk result ((rest : List formats.Piece) → behind_cut cut.new rest ≡ behind_cut cut.old (formats.with_byte byte rest)) }
 {
@@ -93,6 +96,7 @@ fn add_byte(cut: &mut Cut, byte: u8) -> Result<(), AllocError>
 }
 
 /// Adds a value that is written in decimal.
+#[tactic(auto, using(crate::proofs::Cutting::run_value))]
 fn add_value(alloc: Global, cut: &mut Cut) -> Result<(), AllocError>
     ensures { OnOk result ((rest : List formats.Piece) → behind_cut cut.new rest ≡ behind_cut cut.old (formats.Value ∷ rest)) }
 {
