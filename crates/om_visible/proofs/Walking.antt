@@ -1,10 +1,12 @@
 -- Walks, one behind another.
-use Rattle.std.proofs.Common.{◌≡◌, ℕ, suc, ◌+◌, ◌<◌, ◌≤◌, List, [], ◌∷◌, ◌++◌, length, map, drop, take, get_or, add-one, refl, sym, ◌∙◌, ap, subst, arith, length-append}
+use Rattle.std.proofs.Common.{◌≡◌, ℕ, suc, ◌+◌, ◌<◌, ◌≤◌, List, [], ◌∷◌, ◌++◌, length, map, drop, take, get_or, add-one, None, refl, sym, ◌∙◌, ap, subst, arith, length-append}
 use Rattle.std.specs.Prelude.{reverse}
-use Rattle.std.proofs.lemmas.List.{append_assoc, append-nil, drop_all, drop-append-le, reverse-append, take-append-le, map-append}
+use Rattle.std.proofs.lemmas.List.{append_assoc, append-nil, drop_all, drop-append-le, reverse-append, take-append-le}
 use Rattle.std.proofs.Math.Seq.{drop-append_seam, drop-cons, take-append_seam, take-length}
+use Rattle.om_resolved.specs.ResolvedTree.{ResolvedFunctionTree}
+use Rattle.om_rows.specs.Bodies.{function_variables}
 use Rattle.om_visible.specs.declared.walk.Walk.{Walk}
-use Rattle.om_visible.specs.Scopes.{Found, nothing, ended, ◌then◌, closed_at}
+use Rattle.om_visible.specs.Scopes.{Found, nothing, ended, ◌then◌, closed_at, function_body_names, function_names}
 use Rattle.om_visible.specs.Walks.{Added, Closes, ClosesLast, Walked}
 
 -- nothing is passed
@@ -164,3 +166,22 @@ added_then a b c f g first second = record {
   where
     next : length b.bodies.items ≡ length a.bodies.items + length (f (length a.bodies.items)).bodies
     next = ap length first.bodies ∙ length-append a.bodies.items (f (length a.bodies.items)).bodies
+
+-- the body of a function, behind its begin
+pub function_added : (a b c : Walk) (f : ResolvedFunctionTree) (n : ℕ) (v : List ℕ) → b.opened.items ≡ a.opened.items → b.closed.items ≡ a.closed.items
+    → b.bodies.items ≡ a.bodies.items ++ record { around = None; variables = v } ∷ [] → v ≡ function_variables f
+    → b.body ≡ length a.bodies.items → Walked b c n (function_body_names f b.body) → Added a c (function_names f)
+function_added a b c f n v same_opened same_closed begun is body w = record {
+  opened = w.opened ∙ append-nil b.opened.items ∙ same_opened;
+  closed = w.closed ∙ ap (λ xs. xs ++ (function_body_names f b.body (length b.bodies.items)).closed) same_closed
+      ∙ ap (λ k. a.closed.items ++ (function_body_names f k (length b.bodies.items)).closed) body
+      ∙ ap (λ k. a.closed.items ++ (function_body_names f (length a.bodies.items) k).closed) next;
+  bodies = w.bodies ∙ ap (λ xs. xs ++ (function_body_names f b.body (length b.bodies.items)).bodies) begun
+      ∙ append_assoc a.bodies.items (record { around = None; variables = v } ∷ []) (function_body_names f b.body (length b.bodies.items)).bodies
+      ∙ ap (λ vs. a.bodies.items ++ record { around = None; variables = vs } ∷ (function_body_names f b.body (length b.bodies.items)).bodies) is
+      ∙ ap (λ k. a.bodies.items ++ record { around = None; variables = function_variables f } ∷ (function_body_names f k (length b.bodies.items)).bodies) body
+      ∙ ap (λ k. a.bodies.items ++ record { around = None; variables = function_variables f } ∷ (function_body_names f (length a.bodies.items) k).bodies) next;
+}
+  where
+    next : length b.bodies.items ≡ length a.bodies.items + 1
+    next = ap length begun ∙ length-append a.bodies.items (record { around = None; variables = v } ∷ [])

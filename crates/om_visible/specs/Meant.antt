@@ -1,5 +1,5 @@
 -- Which variable a name means at an instruction.
-use Rattle.std.specs.Prelude.{ℕ, ◌+◌, List, [], ◌∷◌, Option, None, Some, Bool, ◌&&◌, length, nat_eq, nat_le, nat_lt, zero, suc, position, slice_get, if◌then◌else◌}
+use Rattle.std.specs.Prelude.{ℕ, List, [], ◌∷◌, Option, None, Some, Bool, ◌&&◌, length, nat_eq, nat_le, nat_lt, zero, suc, position, slice_get, if◌then◌else◌}
 use Rattle.std.specs.Str.{bytes_eq}
 use Rattle.om_visible.specs.declared.walk.Around.{Around}
 use Rattle.om_visible.specs.declared.walk.BodyNames.{BodyNames}

@@ -4,7 +4,7 @@
 -- a closing brace belongs to the block that it closes. A parameter is in scope in the whole of its function. A copy is in scope from the
 -- first instruction of its start to the last of its construct, and the variable that a loop's iterations have from LOOP. Private and
 -- firstprivate copies of a `parallel` or a `task` are in scope in the whole of its body.
-use Rattle.std.specs.Prelude.{ℕ, ◌+◌, List, [], ◌∷◌, ◌++◌, Option, None, Some, map, length, reverse, Bool}
+use Rattle.std.specs.Prelude.{ℕ, ◌+◌, List, [], ◌∷◌, ◌++◌, None, Some, map, length, reverse, Bool}
 use Rattle.std.specs.List.{flat_map}
 use Rattle.om_resolved.specs.declared.resolved.ConstructKind.{ConstructKind}
 use Rattle.om_resolved.specs.declared.resolved.ConstructKind.TheVariants as constructs
@@ -12,7 +12,6 @@ use Rattle.om_resolved.specs.declared.resolved.CopyKind.{CopyKind}
 use Rattle.om_resolved.specs.declared.resolved.CopyKind.TheVariants as copies
 use Rattle.om_resolved.specs.declared.resolved.LocalVariable.{LocalVariable}
 use Rattle.om_resolved.specs.ResolvedTree.{ResolvedDeclaratorTree, ResolvedClauseTree, ClauseValue, Shared, Copied, ResolvedLoopTree, ResolvedStartTree, StartNothing, StartExpression, StartDeclaration, ResolvedStatementTree, Declaration, Block, Empty, Expression, If, IfElse, While, Do, For, Return, Break, Continue, Parallel, Task, Loop, Sections, Construct, Update, StandAlone, ResolvedStatementsTree, NoStatements, Statement, ResolvedPartsTree, NoParts, Part, ResolvedFunctionTree, ResolvedTree}
-use Rattle.om_visible.specs.declared.walk.Around.{Around}
 use Rattle.om_visible.specs.declared.walk.BodyNames.{BodyNames}
 use Rattle.om_visible.specs.declared.walk.Opened.{Opened}
 use Rattle.om_visible.specs.declared.walk.Scope.{Scope}
@@ -239,4 +238,8 @@ functions_names (f ∷ fs) k = (function_names f then functions_names fs) k
 
 -- of a program
 abbrev pub tree_names : ResolvedTree → Found
-tree_names tree = functions_names tree.functions 0
+tree_names tree = record {
+  opened = [];
+  closed = (functions_names tree.functions 0).closed;
+  bodies = (functions_names tree.functions 0).bodies;
+}

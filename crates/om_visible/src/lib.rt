@@ -4,7 +4,6 @@
 pub mod names;
 mod size;
 mod statement;
-mod stub;
 mod walk;
 
 pub use names::{Local, Names, names_of};

@@ -9,9 +9,9 @@ ghost use Rattle.om_visible.specs.Scopes.{function_body_names, function_names, f
 ghost use Rattle.om_visible.specs.Walks.{Added, Walked};
 
 use crate::statement::add_statements;
-use crate::stub::function_variables;
 use crate::walk::{Around, BodyNames, Scope, Walk, close, open, skip};
 use om_resolved::{LocalVariable, Resolved, ResolvedFunction};
+use om_tables::function_variables;
 use std::alloc::{AllocError, Global};
 
 /// Where the variable of a function that a name means has its cells, in a body.
@@ -161,7 +161,8 @@ fn add_function(walk: &mut Walk, function: &ResolvedFunction) -> Result<(), Allo
     })?;
     walk.body = number;
     walk.place = 0;
-    add_function_body(walk, function)
+    add_function_body(walk, function)?;
+    Ok(())
 }
 
 /// Adds the bodies of functions.

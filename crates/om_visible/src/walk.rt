@@ -11,12 +11,12 @@ ghost use Rattle.om_visible.specs.Walks.{BeginsRegion, Closes, ClosesLast, Walke
 use crate::size::{
     combined_own, copy_start_own, pass, pass_effect, pass_perhaps, pass_step, pass_test, pass_value,
 };
-use crate::stub::{Variables, given_copies, region_variables};
 use om_resolved::{
     Capture, CopyKind, LocalVariable, ResolvedClause, ResolvedDeclarator, ResolvedExpression,
     ResolvedStart, ResolvedStatement,
 };
 use om_seq::Seq;
+use om_tables::{Variables, given_copies, region_variables};
 use std::alloc::{AllocError, Global};
 
 /// A variable whose scope has begun.

@@ -1,6 +1,5 @@
-use Rattle.std.proofs.Common.{◌+◌, drop, map, ap}
+use Rattle.std.proofs.Common.{map, ap}
 use Rattle.om_resolved.specs.ResolvedView.{view_resolved_function}
-use Rattle.om_visible.specs.Scopes.{functions_names}
 use Rattle.om_visible.proofs.Walking.{added_none, added_then, left_item, nothing_left}
 use Rattle.om_visible.proofs.names.add_functions.Goals as goal
 

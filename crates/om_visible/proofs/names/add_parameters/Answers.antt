@@ -1,4 +1,4 @@
-use Rattle.std.proofs.Common.{◌+◌, drop, map, ap}
+use Rattle.std.proofs.Common.{◌+◌, drop, map}
 use Rattle.om_visible.specs.Scopes.{opened_at, opening}
 use Rattle.om_visible.proofs.Walking.{left_item, nothing_left, walked_none, walked_stay}
 use Rattle.om_visible.proofs.names.add_parameters.Goals as goal

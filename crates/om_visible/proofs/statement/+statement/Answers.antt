@@ -42,7 +42,7 @@ add_loop-returns n c =
     let copies = walked_next _ _ _ _ _ _ (λ b p. (λ k. opening (opened_at p l.variable ∷ [])) then inner_names s b (p + 3)) c.in_ok-add_copies.ensures iterated in
     let second = walked_past _ _ _ _ _ (λ b p. (λ k. opening (copied p clauses)) then ((λ k. opening (opened_at (p + starts) l.variable ∷ [])) then inner_names s b (p + starts + 3))) c.in_ok-skip_value-2.ensures copies in
     let first = walked_past _ _ _ _ _ (λ b p. (λ k. opening (copied (p + value_size l.to) clauses)) then ((λ k. opening (opened_at (p + value_size l.to + starts) l.variable ∷ [])) then inner_names s b (p + value_size l.to + starts + 3))) c.in_ok-skip_value.ensures second in
-    walked_end_at _ _ _ _ _ _ (omega (arith, c.len.ensures, c.args.walk.now.opened.ok.0)) (walked_size _ _ _ (loop_size clauses c.args.nowait l (statement_size s)) _ (omega (arith, c.end_own.ensures)) first) c.in_ok-close.ensures
+    walked_end_at _ _ _ _ _ _ (omega (arith, c.len-height.ensures, c.args.walk.now.opened.ok.0)) (walked_size _ _ _ (loop_size clauses c.args.nowait l (statement_size s)) _ (omega (arith, c.end_own.ensures)) first) c.in_ok-close.ensures
 
 pub add_sections-returns : goal.add_sections-returns
 add_sections-returns n c =
@@ -51,4 +51,4 @@ add_sections-returns n c =
     let behind = walked_on _ _ _ _ _ _ c.in_ok-add_parts.ensures (walked_on _ _ _ _ _ _ c.in_ok-skip_combined.ensures c.in_ok-skip-2.ensures) in
     let body = walked_past _ _ _ _ _ (λ b p. part_names parts b p) c.in_ok-skip.ensures behind in
     let copies = walked_next _ _ _ _ _ _ (λ b p. part_names parts b (p + 3)) c.in_ok-add_copies.ensures body in
-    walked_end_at _ _ _ _ _ _ (omega (arith, c.len.ensures, c.args.walk.now.opened.ok.0)) (walked_size _ _ _ (sections_size clauses c.args.nowait parts) _ (omega (arith, c.end_own.ensures)) copies) c.in_ok-close.ensures
+    walked_end_at _ _ _ _ _ _ (omega (arith, c.len-height.ensures, c.args.walk.now.opened.ok.0)) (walked_size _ _ _ (sections_size clauses c.args.nowait parts) _ (omega (arith, c.end_own.ensures)) copies) c.in_ok-close.ensures

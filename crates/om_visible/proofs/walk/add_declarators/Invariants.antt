@@ -1,8 +1,8 @@
-use Rattle.std.proofs.Common.{◌≡◌, ℕ, ◌+◌, drop, map}
+use Rattle.std.proofs.Common.{drop, map}
 use Rattle.om_resolved.specs.ResolvedView.{view_resolved_declarator}
-use Rattle.om_rows.specs.Sizes.{clause_combined_size, clause_start_size, declarator_size, each_size}
+use Rattle.om_rows.specs.Sizes.{declarator_size, each_size}
 use Rattle.om_visible.specs.declared.walk.Walk.{Walk}
-use Rattle.om_visible.specs.Scopes.{clause_region_start, copied, declared, nothing, opening, region_copied, task_copied}
+use Rattle.om_visible.specs.Scopes.{declared, opening}
 use Rattle.om_visible.specs.Walks.{Walked}
 use Rattle.om_visible.proofs.walk.add_declarators.Given as goal
 

@@ -1,4 +1,4 @@
-use Rattle.std.proofs.Common.{◌≡◌, ◌+◌, ◌<◌, ◌∷◌, [], ap, arith, length, length-append, refl}
+use Rattle.std.proofs.Common.{◌<◌, ◌∷◌, [], ap, arith, length, length-append, refl}
 use Rattle.om_visible.proofs.Walking.{closes_more, closes_none}
 use Rattle.om_visible.proofs.walk.close.Goals as goal
 

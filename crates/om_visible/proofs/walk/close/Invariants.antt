@@ -1,4 +1,4 @@
-use Rattle.std.proofs.Common.{◌≡◌, ◌≤◌, ◌+◌, ◌-◌, ℕ, length}
+use Rattle.std.proofs.Common.{◌≡◌, ◌≤◌, ◌+◌, length}
 use Rattle.om_visible.specs.declared.walk.Walk.{Walk}
 use Rattle.om_visible.specs.Walks.{Closes}
 use Rattle.om_visible.proofs.walk.close.Given as goal

@@ -1,8 +1,8 @@
 use Rattle.std.proofs.Common.{◌+◌, drop, map, ap}
 use Rattle.om_resolved.specs.ResolvedView.{view_resolved_clause}
 use Rattle.om_rows.specs.Sizes.{clause_combined_size, each_size}
-use Rattle.om_visible.specs.Scopes.{copied, declared, nothing, opening, region_copied, task_copied}
-use Rattle.om_visible.proofs.Walking.{left_item, nothing_left, walked_next, walked_none, walked_past, walked_size}
+use Rattle.om_visible.specs.Scopes.{nothing}
+use Rattle.om_visible.proofs.Walking.{left_item, nothing_left, walked_none, walked_past, walked_size}
 use Rattle.om_visible.proofs.walk.skip_combined.Goals as goal
 
 pub loop-clause-preserved : goal.loop-clause-preserved
