@@ -1,0 +1,5 @@
+pub mod Worlds
+pub mod Meaning
+pub mod Serial
+pub mod Running
+pub mod Laws

@@ -1,0 +1,26 @@
+//! Laws of the serial meaning.
+
+ghost use Rattle.om_meaning.specs.Laws.{ElementGivesOld, PostfixGivesOld, SerialMeaning, StatementMeans, ValueMeans};
+
+/// The code of an expression gives its value, in the world that the expression leaves, or meets its fault.
+pub fn value_means()
+    ensures { ValueMeans }
+{}
+
+/// The code of a statement goes on where the statement does, in its world, or ends the body as it does.
+pub fn statement_means()
+    ensures { StatementMeans }
+{}
+
+/// The code of a function without calls and directives ends where the function's meaning ends, with its value, its
+/// globals and its output. It faults where that faults, with its fault and its output. Where loops have only n turns
+/// and are out of them, it does neither within n instructions; and it ends and faults nowhere else.
+pub fn serial_meaning()
+    ensures { SerialMeaning }
+{}
+
+/// The value of `x++`, `x--`, `a[j]++` and `a[j]--` is the old one, where that is an int.
+pub fn postfix_gives_old()
+    ensures variable { PostfixGivesOld }
+    ensures element { ElementGivesOld }
+{}
