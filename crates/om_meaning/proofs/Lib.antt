@@ -6,3 +6,4 @@ pub mod Flows
 pub mod Statements
 pub mod Behaving
 pub mod Postfix
+pub mod Spoken

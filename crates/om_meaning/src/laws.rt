@@ -2,6 +2,8 @@
 
 ghost use Rattle.om_meaning.specs.Laws.{ElementGivesOld, PostfixGivesOld, SerialMeaning, StatementMeans, ValueMeans};
 
+use om_rows::laws::{formats_are_numbered, function_bodies};
+
 /// The code of an expression gives its value, in the world that the expression leaves, or meets its fault.
 pub fn value_means()
     ensures { ValueMeans }
@@ -17,7 +19,10 @@ pub fn statement_means()
 /// and are out of them, it does neither within n instructions; and it ends and faults nowhere else.
 pub fn serial_meaning()
     ensures { SerialMeaning }
-{}
+{
+    function_bodies();
+    formats_are_numbered();
+}
 
 /// The value of `x++`, `x--`, `a[j]++` and `a[j]--` is the old one, where that is an int.
 pub fn postfix_gives_old()
