@@ -7,3 +7,4 @@ pub mod Statements
 pub mod Behaving
 pub mod Postfix
 pub mod Spoken
+pub mod Ints

@@ -95,11 +95,13 @@ module _ (formats : List (List ℕ)) where
     spoken (Do first s c) g h = (spoken s g.0 (front (mentioned format_mention s) (expression_formats c) h), g.1)
     spoken (For first start c step s) g h =
         let a = back (start_mentioned format_mention start) (perhaps_mentioned format_mention c ++ (perhaps_mentioned format_mention step ++ mentioned format_mention s)) h in
-        let b = back (perhaps_mentioned format_mention c) (perhaps_mentioned format_mention step ++ mentioned format_mention s) a in
-        (start_spoken start g.0
-        (front (start_mentioned format_mention start) (perhaps_mentioned format_mention c ++ (perhaps_mentioned format_mention step ++ mentioned format_mention s)) h),
-        g.1, step_spoken step g.2 (front (perhaps_mentioned format_mention step) (mentioned format_mention s) b),
-        spoken s g.3 (back (perhaps_mentioned format_mention step) (mentioned format_mention s) b))
+        let b = back (perhaps_mentioned format_mention c) (perhaps_mentioned format_mention step ++ mentioned format_mention s) a in (
+          start_spoken start g.0
+              (front (start_mentioned format_mention start) (perhaps_mentioned format_mention c ++ (perhaps_mentioned format_mention step ++ mentioned format_mention s)) h),
+          g.1,
+          step_spoken step g.2 (front (perhaps_mentioned format_mention step) (mentioned format_mention s) b),
+          spoken s g.3 (back (perhaps_mentioned format_mention step) (mentioned format_mention s) b),
+        )
     spoken (Return first e) g h = g
     spoken (Break first) g h = g
     spoken (Continue first) g h = g
@@ -113,6 +115,7 @@ module _ (formats : List (List ℕ)) where
 
     pub all_spoken : (xs : ResolvedStatementsTree) → AreSerialStatements xs → All Found (all_mentioned format_mention xs) → AreSpoken formats xs
     all_spoken NoStatements g h = tt
-    all_spoken (Statement x xs) g h =
-        (spoken x g.0 (front (mentioned format_mention x) (all_mentioned format_mention xs) h),
-        all_spoken xs g.1 (back (mentioned format_mention x) (all_mentioned format_mention xs) h))
+    all_spoken (Statement x xs) g h = (
+      spoken x g.0 (front (mentioned format_mention x) (all_mentioned format_mention xs) h),
+      all_spoken xs g.1 (back (mentioned format_mention x) (all_mentioned format_mention xs) h),
+    )

@@ -21,6 +21,7 @@ use Rattle.om_rows.specs.Mentions.{IsTextOf, format_mention, mentioned}
 use Rattle.om_rows.specs.Rows.{Site}
 use Rattle.om_rows.specs.Slots.{place_of}
 use Rattle.om_rows.specs.Statements.{Jumps, statement}
+use Rattle.om_meaning.specs.Ints.{HasInts, HoldsInts, LeavesInts}
 use Rattle.om_meaning.specs.Meaning as flows
 use Rattle.om_meaning.specs.Meaning.{Flow, Failed, OutOfTurns, then_do, value_of, effect_of, meaning, meanings}
 use Rattle.om_meaning.specs.Running.{frame, world_of, run, ended, Ends, Gives, Does}
@@ -103,3 +104,7 @@ ElementGivesOld =
     value_of at j w ≡ Got n u → index_in (at.cells (at.place a)) n ≡ Some k →
     held u (at.place a) k ≡ cell.Int old → is_int old ≡ true →
     value_of at (PostfixElement a j operator) w ≡ with_value (effect_of at (PostfixElement a j operator) w) (λ z t. Got old t)
+
+-- Where variables hold ints and constants are ints, each value is an int, and variables hold ints behind it.
+abbrev pub IntsStay : Type 0
+IntsStay = (at : Layout) (e : ResolvedExpressionTree) (w : World) → HasInts e → HoldsInts w → LeavesInts (value_of at e w)

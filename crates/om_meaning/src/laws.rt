@@ -1,6 +1,6 @@
 //! Laws of the serial meaning.
 
-ghost use Rattle.om_meaning.specs.Laws.{ElementGivesOld, PostfixGivesOld, SerialMeaning, StatementMeans, ValueMeans};
+ghost use Rattle.om_meaning.specs.Laws.{ElementGivesOld, IntsStay, PostfixGivesOld, SerialMeaning, StatementMeans, ValueMeans};
 
 use om_rows::laws::{formats_are_numbered, function_bodies};
 
@@ -28,4 +28,9 @@ pub fn serial_meaning()
 pub fn postfix_gives_old()
     ensures variable { PostfixGivesOld }
     ensures element { ElementGivesOld }
+{}
+
+/// From variables that hold ints an expression leaves an int, and variables that hold ints.
+pub fn ints_stay()
+    ensures { IntsStay }
 {}
