@@ -1,5 +1,7 @@
 -- A run and a meaning agree in both directions.
 use Rattle.std.proofs.Common.{◌≡◌, ℕ, zero, suc, ◌+◌, ◌<◌, ◌≤◌, ℤ, pos, Bool, true, false, List, [], ◌∷◌, length, Option, Some, None, refl, sym, ap, ◌∙◌, subst, ⊎_elim, arith}
+use Rattle.std.specs.Prelude.{All, IsSomeAnd, slice_get}
+use Rattle.std.specs.List.{flat_map}
 use Rattle.std.proofs.lemmas.Bool.{cases_lt}
 use Rattle.om_code.specs.declared.frame.Fault.{Fault}
 use Rattle.om_code.specs.declared.instruction.Instr.TheVariants as i
@@ -9,17 +11,18 @@ use Rattle.om_code.specs.Frames as frames
 use Rattle.om_code.specs.Frames.{Frame, FrameTurn, Finished, Faulted, Stuck, frame_turn}
 use Rattle.om_resolved.specs.ResolvedTree.{ResolvedFunctionTree, ResolvedTree}
 use Rattle.om_resolved.specs.Uses.{is_main_function}
-use Rattle.om_rows.specs.Bodies.{Numbers, BodyTree, FunctionBody, ParallelBody, TaskBody, BodySite}
+use Rattle.om_rows.specs.Bodies.{Numbers, FunctionBody, called_body, function_variables}
 use Rattle.om_rows.specs.Code.{last_instruction, IsBodyOf, IsCodeOf, site_of}
-use Rattle.om_rows.specs.Mentions.{formats_of}
+use Rattle.om_rows.specs.Mentions.{format_mention, formats_of, function_mentioned}
+use Rattle.om_rows.specs.Laws.{FunctionBodies, FormatsAreNumbered}
 use Rattle.om_rows.specs.Rows.{Site}
 use Rattle.om_rows.specs.Statements.{nowhere}
 use Rattle.om_meaning.specs.Laws.{layout_of, source, IsOver, Agrees, Behaves, SerialMeaning}
 use Rattle.om_meaning.specs.Meaning as flows
 use Rattle.om_meaning.specs.Meaning.{Flow, Broke, Continued, Failed, OutOfTurns, then_do, meanings}
 use Rattle.om_meaning.specs.Running.{frame, world_of, on_from, run, ended, Comes, Ends, Does}
-use Rattle.om_meaning.specs.Serial.{AreSerialStatements}
 use Rattle.om_meaning.specs.Worlds.{World}
+use Rattle.om_meaning.proofs.Spoken.{AreSpoken, Found, front, back, all_spoken}
 use Rattle.om_meaning.proofs.Statements as statements
 use Rattle.om_meaning.proofs.Stepping as steps
 
@@ -117,18 +120,36 @@ module _ (raw : Raw) (body : Body) where
   closes true m l u has = steps.stop raw body m l (i.Finish false) [] u u (ended true None) (frame m [] u) has refl refl refl
   closes false m l u has = steps.stop raw body m l i.ReturnNothing [] u u (ended false None) (frame m [] u) has refl refl refl
 
-function_behaves : (tree : ResolvedTree) (raw : Raw) (f : ResolvedFunctionTree) (t : BodyTree) (outer : List ℕ) (n : Numbers) (body : Body) → IsCodeOf tree raw
-    → IsBodyOf tree raw (record { function = f; tree = t; outer = outer; numbers = n }) body → t ≡ FunctionBody → AreSerialStatements (formats_of tree) f.body
-    → Behaves raw body (is_main_function f) (source (layout_of raw body (site_of tree raw (record { function = f; tree = t; outer = outer; numbers = n }) body)) f.body)
-function_behaves tree raw f FunctionBody outer n body code is same serial =
-    let at : Site = site_of tree raw (record { function = f; tree = FunctionBody; outer = outer; numbers = n }) body in
+-- the formats of a function are among those of its program
+function_formats : (formats : List (List ℕ)) (fs : List ResolvedFunctionTree) (k : ℕ) (f : ResolvedFunctionTree) → slice_get fs k ≡ Some f
+    → All (Found formats) (flat_map (function_mentioned format_mention) fs) → All (Found formats) (function_mentioned format_mention f)
+function_formats formats [] k f e h = absurd cc
+function_formats formats (g ∷ fs) zero f e h =
+    let same : g ≡ f = cc e in
+    subst (λ z. All (Found formats) (function_mentioned format_mention z)) same
+    (front formats (function_mentioned format_mention g) (flat_map (function_mentioned format_mention) fs) h)
+function_formats formats (g ∷ fs) (suc k) f e h =
+    function_formats formats fs k f e (back formats (function_mentioned format_mention g) (flat_map (function_mentioned format_mention) fs) h)
+
+body_behaves : (tree : ResolvedTree) (raw : Raw) (f : ResolvedFunctionTree) (n : Numbers) (body : Body) → IsCodeOf tree raw
+    → IsBodyOf tree raw (record { function = f; tree = FunctionBody; outer = []; numbers = n }) body → AreSpoken (formats_of tree) f.body
+    → Behaves raw body (is_main_function f) (source (layout_of raw body (function_variables f)) f.body)
+body_behaves tree raw f n body code is serial =
+    let at : Site = site_of tree raw (record { function = f; tree = FunctionBody; outer = []; numbers = n }) body in
     let row = is.code in
-    behaves raw body (is_main_function f) (source (layout_of raw body at) f.body)
-    (λ k w. follows_from raw body (is_main_function f) k row.0 (frame 0 [] w) (meanings (layout_of raw body at) f.body k w)
+    behaves raw body (is_main_function f) (source (layout_of raw body (function_variables f)) f.body)
+    (λ k w. follows_from raw body (is_main_function f) k row.0 (frame 0 [] w) (meanings (layout_of raw body (function_variables f)) f.body k w)
     (λ u. closes raw body (is_main_function f) row.0 f.closing_line u row.2.0)
     (statements.statements_run raw body at refl code.texts f.body n k nowhere 0 row.0 [] w serial row.1))
-function_behaves tree raw f (ParallelBody first clauses captures s) outer n body code is same serial = absurd cc
-function_behaves tree raw f (TaskBody first clauses captures s) outer n body code is same serial = absurd cc
 
-pub serial_meaning : SerialMeaning
-serial_meaning tree raw b body code is same serial = function_behaves tree raw b.function b.tree b.outer b.numbers body code is same serial
+-- by what is known of the bodies and the formats of a program
+pub serial_meaning : FunctionBodies → FormatsAreNumbered → SerialMeaning
+serial_meaning bodies formats tree raw code k f e serial =
+    let found = bodies tree raw code k f e in there (slice_get raw.bodies (called_body tree.functions k)) found.0 found.1
+  where
+    there : (o : Option Body) (n : Numbers) → IsSomeAnd o (IsBodyOf tree raw (record { function = f; tree = FunctionBody; outer = []; numbers = n }))
+        → IsSomeAnd o (λ body. Behaves raw body (is_main_function f) (source (layout_of raw body (function_variables f)) f.body))
+    there None n is = absurd is
+    there (Some body) n is =
+        body_behaves tree raw f n body code is
+        (all_spoken (formats_of tree) f.body serial (function_formats (formats_of tree) tree.functions k f e (formats tree)))

@@ -232,35 +232,35 @@ module _ (raw : Raw) (body : Body) (at : Site) (same : at.code ≡ body.code) wh
       (steps.pushes raw body _ l q (i.Binary o) (with_int (pos 1) (with_int z s)) s u (result (operate o z (pos 1)) u) (has _ h.2.1.0)
       (binary_acts raw body.slots o (h.0 + 1) z (pos 1) s u) h.2.1.1))
 
-  pub value_means : (e : ResolvedExpressionTree) (l : ℕ) → IsSerial e → Means (value at l e) (λ w. value_of (layout_of raw body at) e w)
+  pub value_means : (e : ResolvedExpressionTree) (l : ℕ) → IsSerial e → Means (value at l e) (λ w. value_of (layout_of raw body at.slots) e w)
   value_means (Constant n) l g p q s w h = constant_means l n p q s w h
   value_means (Variable x) l g p q s w h =
       steps.pushes raw body p l q (i.Load (place at x)) s s w (load (place at x) 0 w) (has _ h.0) (load_acts raw body.slots (place at x) p s w) h.1
   value_means (Element a j) l g p q s w h =
-      steps.gives_then raw body _ h.0 q s s (value_of (layout_of raw body at) j w) (λ n u. load_element (place at a) (Cells a) n u) (value_means j l g p h.0 s w h.1)
+      steps.gives_then raw body _ h.0 q s s (value_of (layout_of raw body at.slots) j w) (λ n u. load_element (place at a) (Cells a) n u) (value_means j l g p h.0 s w h.1)
       (λ n u. steps.pushes raw body _ l q (i.LoadElement (place at a)) (with_int n s) s u (load_element (place at a) (Cells a) n u) (has _ h.2.0)
       (load_element_acts raw body.slots (place at a) h.0 n s u) h.2.1)
   value_means (Call f es) l g p q s w h = absurd g
   value_means ThreadNumber l g p q s w h = absurd g
   value_means TeamSize l g p q s w h = absurd g
   value_means (Print format es) l g p q s w h = absurd g
-  value_means (Unary o e) l g p q s w h = unary_means l o (value at l e) (λ u. value_of (layout_of raw body at) e u) (value_means e l g) p q s w h
+  value_means (Unary o e) l g p q s w h = unary_means l o (value at l e) (λ u. value_of (layout_of raw body at.slots) e u) (value_means e l g) p q s w h
   value_means (Binary a o b) l g p q s w h =
-      binary_means l (form_of o) (value at l a) (value at l b) (λ u. value_of (layout_of raw body at) a u) (λ u. value_of (layout_of raw body at) b u)
+      binary_means l (form_of o) (value at l a) (value at l b) (λ u. value_of (layout_of raw body at.slots) a u) (λ u. value_of (layout_of raw body at.slots) b u)
       (value_means a l g.0) (value_means b l g.1) p q s w h
   value_means (Conditional c a b) l g p q s w h =
-      conditional_means l (value at l c) (value at l a) (value at l b) (λ u. value_of (layout_of raw body at) c u) (λ u. value_of (layout_of raw body at) a u)
-      (λ u. value_of (layout_of raw body at) b u) (value_means c l g.0) (value_means a l g.1) (value_means b l g.2) p q s w h
+      conditional_means l (value at l c) (value at l a) (value at l b) (λ u. value_of (layout_of raw body at.slots) c u) (λ u. value_of (layout_of raw body at.slots) a u)
+      (λ u. value_of (layout_of raw body at.slots) b u) (value_means c l g.0) (value_means a l g.1) (value_means b l g.2) p q s w h
   value_means (Assign x o e) l g p q s w h =
-      assigned_means l x (compound_of o) (value at l e) (λ u. value_of (layout_of raw body at) e u) (value_means e l g) p q s w h
+      assigned_means l x (compound_of o) (value at l e) (λ u. value_of (layout_of raw body at.slots) e u) (value_means e l g) p q s w h
   value_means (AssignElement a j o e) l g p q s w h =
-      element_assigned_means l a (value at l j) (compound_of o) (value at l e) (λ u. value_of (layout_of raw body at) j u) (λ u. value_of (layout_of raw body at) e u)
+      element_assigned_means l a (value at l j) (compound_of o) (value at l e) (λ u. value_of (layout_of raw body at.slots) j u) (λ u. value_of (layout_of raw body at.slots) e u)
       (value_means j l g.0) (value_means e l g.1) p q s w h
   value_means (Postfix x o) l g p q s w h =
       undone_means l (undo_of o) (assigned at l true x (Some (step_of o)) (constant at l (pos 1))) (λ u. means.assigned (place at x) (Some (step_of o)) means.one u)
       (assigned_means l x (Some (step_of o)) (constant at l (pos 1)) means.one (constant_means l (pos 1))) p q s w h
   value_means (PostfixElement a j o) l g p q s w h =
       undone_means l (undo_of o) (element_assigned at l true a (value at l j) (Some (step_of o)) (constant at l (pos 1)))
-      (λ u. means.element_assigned (place at a) (Cells a) (λ t. value_of (layout_of raw body at) j t) (Some (step_of o)) means.one u)
-      (element_assigned_means l a (value at l j) (Some (step_of o)) (constant at l (pos 1)) (λ t. value_of (layout_of raw body at) j t) means.one
+      (λ u. means.element_assigned (place at a) (Cells a) (λ t. value_of (layout_of raw body at.slots) j t) (Some (step_of o)) means.one u)
+      (element_assigned_means l a (value at l j) (Some (step_of o)) (constant at l (pos 1)) (λ t. value_of (layout_of raw body at.slots) j t) means.one
       (value_means j l g) (constant_means l (pos 1))) p q s w h

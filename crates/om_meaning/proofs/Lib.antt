@@ -6,3 +6,5 @@ pub mod Flows
 pub mod Statements
 pub mod Behaving
 pub mod Postfix
+pub mod Spoken
+pub mod Ints

@@ -24,18 +24,19 @@ use Rattle.om_rows.specs.Tables.{number_in}
 use Rattle.om_meaning.specs.Meaning as flows
 use Rattle.om_meaning.specs.Meaning.{is_zero, value_of, values_of, effect_of, Flow, flow_value, then_do, after_turn, turns, turns_first, tested, tested_if_any, effect_flow, effect_if_any, all_declared, begun, meaning, meanings}
 use Rattle.om_meaning.specs.Running.{frame, with_int, ended, Leads, Comes, Ends, Gives, Drops, JumpsTo, Does}
-use Rattle.om_meaning.specs.Serial.{IsSerial, AreSerial, IsSerialEffect, IsSerialStart, IsSerialStatement, AreSerialStatements}
+use Rattle.om_meaning.specs.Serial.{IsSerial, AreSerial}
 use Rattle.om_meaning.specs.Laws.{layout_of}
 use Rattle.om_meaning.specs.Worlds.{World, Layout, Outcome, Got, Faulty, Values, GotAll, FaultyAt, after_value, with_first, store, clear, print}
 use Rattle.om_meaning.proofs.Acting.{store_drops, clear_acts}
 use Rattle.om_meaning.proofs.Expressions as expressions
 use Rattle.om_meaning.proofs.Flows as runs
 use Rattle.om_meaning.proofs.Printing.{with_ints, prints}
+use Rattle.om_meaning.proofs.Spoken.{IsSpokenEffect, IsSpokenStart, IsSpokenStatement, AreSpoken}
 use Rattle.om_meaning.proofs.Stepping as steps
 
 module _ (raw : Raw) (body : Body) (at : Site) (same : at.code ≡ body.code) (texts : AllZip IsTextOf at.formats raw.texts) where
   abbrev L : Layout
-  L = layout_of raw body at
+  L = layout_of raw body at.slots
 
   abbrev pub Run : ℕ → Frame → ℕ → Jumps → List Operand → Flow → Type 0
   Run n c q jumps s r = Does raw body at.is_main n c q jumps s r
@@ -91,7 +92,7 @@ module _ (raw : Raw) (body : Body) (at : Site) (same : at.code ≡ body.code) (t
       (steps.step raw body m l i.Pop (with_int v s) w _ (expressions.has raw body at same _ h.0) (ap (λ n. frames.Onward (frame n s w)) h.1))
   popped l m q c s (Faulty f w) g h = g
 
-  pub effect_drops : (e : ResolvedExpressionTree) (l p q : ℕ) (s : List Operand) (w : World) → IsSerialEffect at.formats e → effect at l e p q
+  pub effect_drops : (e : ResolvedExpressionTree) (l p q : ℕ) (s : List Operand) (w : World) → IsSpokenEffect at.formats e → effect at l e p q
       → Drops raw body (frame p s w) q s (effect_of L e w)
   effect_drops (Assign x o e) l p q s w g h =
       expressions.assigned_spends raw body at same l x (compound_of o) (value at l e) (λ u. value_of L e u) (expressions.value_means raw body at same e l g) p q s w h
@@ -115,7 +116,7 @@ module _ (raw : Raw) (body : Body) (at : Site) (same : at.code ≡ body.code) (t
   effect_drops (Binary a o b) l p q s w g h = popped l h.0 q _ s (value_of L (Binary a o b) w) (value_gives (Binary a o b) l p h.0 s w g h.1) h.2
   effect_drops (Conditional c a b) l p q s w g h = popped l h.0 q _ s (value_of L (Conditional c a b) w) (value_gives (Conditional c a b) l p h.0 s w g h.1) h.2
 
-  effect_runs : (e : ResolvedExpressionTree) (l n p q : ℕ) (jumps : Jumps) (s : List Operand) (w : World) → IsSerialEffect at.formats e → effect at l e p q
+  effect_runs : (e : ResolvedExpressionTree) (l n p q : ℕ) (jumps : Jumps) (s : List Operand) (w : World) → IsSpokenEffect at.formats e → effect at l e p q
       → Run n (frame p s w) q jumps s (effect_flow L e w)
   effect_runs e l n p q jumps s w g h =
       runs.effect_then raw body at.is_main n _ q q jumps s s (effect_of L e w) flows.Onward (effect_drops e l p q s w g h) (λ u. runs.stays raw body at.is_main (frame q s u))
@@ -146,13 +147,13 @@ module _ (raw : Raw) (body : Body) (at : Site) (same : at.code ≡ body.code) (t
       (declared_runs d.variable d.initial l n p h.0 jumps s w (All-head IsSerialDeclarator d ds g) h.1)
       (λ u. declarators_run ds l n h.0 q jumps s u (All-tail IsSerialDeclarator d ds g) h.2)
 
-  start_runs : (begin : ResolvedStartTree) (l n p q : ℕ) (jumps : Jumps) (s : List Operand) (w : World) → IsSerialStart at.formats begin
+  start_runs : (begin : ResolvedStartTree) (l n p q : ℕ) (jumps : Jumps) (s : List Operand) (w : World) → IsSpokenStart at.formats begin
       → start at l begin p q → Run n (frame p s w) q jumps s (begun L begin w)
   start_runs StartNothing l n p q jumps s w g h = runs.to_place raw body at.is_main p q s w h
   start_runs (StartExpression e) l n p q jumps s w g h = effect_runs e l n p q jumps s w g h
   start_runs (StartDeclaration ds) l n p q jumps s w g h = declarators_run ds l n p q jumps s w g h
 
-  between_runs : (e : Option ResolvedExpressionTree) (l n p q : ℕ) (jumps : Jumps) (s : List Operand) (w : World) → IfSome e (IsSerialEffect at.formats)
+  between_runs : (e : Option ResolvedExpressionTree) (l n p q : ℕ) (jumps : Jumps) (s : List Operand) (w : World) → IfSome e (IsSpokenEffect at.formats)
       → perhaps (effect at l) e p q → Run n (frame p s w) q jumps s (effect_if_any L e w)
   between_runs None l n p q jumps s w g h = runs.to_place raw body at.is_main p q s w h
   between_runs (Some e) l n p q jumps s w g h = effect_runs e l n p q jumps s w g h
@@ -183,7 +184,7 @@ module _ (raw : Raw) (body : Body) (at : Site) (same : at.code ≡ body.code) (t
 
   -- what stands between two turns, and the jump back
   step_back : (e : Option ResolvedExpressionTree) (f : World → Flow) (l n from m start over : ℕ) (jumps : Jumps) (s : List Operand) (w : World)
-      → IfSome e (IsSerialEffect at.formats) → perhaps (effect at l) e from m → slice_get at.code m ≡ Some (record { instruction = i.Jump start; line = l })
+      → IfSome e (IsSpokenEffect at.formats) → perhaps (effect at l) e from m → slice_get at.code m ≡ Some (record { instruction = i.Jump start; line = l })
       → ((u : World) → Run n (frame start s u) over jumps s (f u)) → Run (suc n) (frame from s w) over jumps s (then_do (effect_if_any L e w) f)
   step_back e f l n from m start over jumps s w g h back_jump back =
       runs.flow_then raw body at.is_main (suc n) _ m over jumps s (effect_if_any L e w) f (between_runs e l (suc n) from m jumps s w g h)
@@ -209,7 +210,7 @@ module _ (raw : Raw) (body : Body) (at : Site) (same : at.code ≡ body.code) (t
   -- ---- statements
 
   mutual
-    pub statement_runs : (x : ResolvedStatementTree) (m : Numbers) (n : ℕ) (jumps : Jumps) (p q : ℕ) (s : List Operand) (w : World) → IsSerialStatement at.formats x
+    pub statement_runs : (x : ResolvedStatementTree) (m : Numbers) (n : ℕ) (jumps : Jumps) (p q : ℕ) (s : List Operand) (w : World) → IsSpokenStatement at.formats x
         → statement at m x jumps p q → Run n (frame p s w) q jumps s (meaning L x n w)
     statement_runs (Declaration first ds) m n jumps p q s w g h = declarators_run ds first.line n p q jumps s w g h
     statement_runs (Block first items) m n jumps p q s w g h = statements_run items m n jumps p q s w g h
@@ -286,7 +287,7 @@ module _ (raw : Raw) (body : Body) (at : Site) (same : at.code ≡ body.code) (t
     statement_runs (Update first u) m n jumps p q s w g h = absurd g
     statement_runs (StandAlone first directive) m n jumps p q s w g h = absurd g
 
-    pub statements_run : (xs : ResolvedStatementsTree) (m : Numbers) (n : ℕ) (jumps : Jumps) (p q : ℕ) (s : List Operand) (w : World) → AreSerialStatements at.formats xs
+    pub statements_run : (xs : ResolvedStatementsTree) (m : Numbers) (n : ℕ) (jumps : Jumps) (p q : ℕ) (s : List Operand) (w : World) → AreSpoken at.formats xs
         → statements at m xs jumps p q → Run n (frame p s w) q jumps s (meanings L xs n w)
     statements_run NoStatements m n jumps p q s w g h = runs.to_place raw body at.is_main p q s w h
     statements_run (Statement x xs) m n jumps p q s w g h =

@@ -1,6 +1,7 @@
 -- The code of the relation does what expressions and statements mean.
-use Rattle.std.specs.Prelude.{◌≡◌, ◌≢◌, ℕ, ℤ, pos, Bool, true, Option, None, Some, List, []}
-use Rattle.std.specs.List.{AllZip}
+use Rattle.std.specs.Prelude.{◌≡◌, ◌≢◌, ℕ, ℤ, pos, Bool, true, Option, None, Some, List, [], All, IsSomeAnd, slice_get}
+use Rattle.std.specs.List.{AllZip, list_any}
+use Rattle.std.specs.Str.{bytes_eq}
 use Rattle.om_code.specs.declared.frame.Cell.TheVariants as cell
 use Rattle.om_code.specs.declared.frame.Fault.{Fault}
 use Rattle.om_code.specs.declared.frame.Operand.{Operand}
@@ -11,24 +12,25 @@ use Rattle.om_code.specs.Frames as frames
 use Rattle.om_code.specs.Frames.{Frame, FrameTurn, Faulted, Stuck, cells_in, index_in}
 use Rattle.om_tree.specs.declared.tree.PostfixOperator.{PostfixOperator}
 use Rattle.om_resolved.specs.declared.resolved.Variable.{Variable}
-use Rattle.om_resolved.specs.ResolvedTree.{ResolvedExpressionTree, Postfix, PostfixElement, ResolvedStatementTree, ResolvedStatementsTree, ResolvedTree}
+use Rattle.om_resolved.specs.ResolvedTree.{ResolvedExpressionTree, Postfix, PostfixElement, ResolvedStatementTree, ResolvedStatementsTree, ResolvedFunctionTree, ResolvedTree}
 use Rattle.om_resolved.specs.Uses.{is_main_function}
-use Rattle.om_rows.specs.Bodies.{Numbers, BodySite, FunctionBody}
-use Rattle.om_rows.specs.Code.{IsBodyOf, IsCodeOf, site_of}
+use Rattle.om_rows.specs.Bodies.{Numbers, called_body, function_variables}
+use Rattle.om_rows.specs.Code.{IsCodeOf}
 use Rattle.om_rows.specs.Expressions.{value}
-use Rattle.om_rows.specs.Mentions.{IsTextOf, formats_of}
+use Rattle.om_rows.specs.Mentions.{IsTextOf, format_mention, mentioned}
 use Rattle.om_rows.specs.Rows.{Site}
 use Rattle.om_rows.specs.Slots.{place_of}
 use Rattle.om_rows.specs.Statements.{Jumps, statement}
+use Rattle.om_meaning.specs.Ints.{HasInts, HoldsInts, LeavesInts}
 use Rattle.om_meaning.specs.Meaning as flows
 use Rattle.om_meaning.specs.Meaning.{Flow, Failed, OutOfTurns, then_do, value_of, effect_of, meaning, meanings}
 use Rattle.om_meaning.specs.Running.{frame, world_of, run, ended, Ends, Gives, Does}
 use Rattle.om_meaning.specs.Serial.{IsSerial, IsSerialStatement, AreSerialStatements}
 use Rattle.om_meaning.specs.Worlds.{World, Layout, Outcome, Got, with_value, held}
 
--- where a body has its variables, and how many cells its tables give them
-abbrev pub layout_of : Raw → Body → Site → Layout
-layout_of raw body at = record { place = place_of at.slots; cells = cells_in raw body.slots }
+-- where a body has these variables, by their slots, and how many cells its tables give them
+abbrev pub layout_of : Raw → Body → (variables : List ℕ) → Layout
+layout_of raw body variables = record { place = place_of variables; cells = cells_in raw body.slots }
 
 -- From where its code begins, on any operands, a frame comes to where the code ends with the expression's value on them,
 -- or meets the expression's fault.
@@ -36,15 +38,16 @@ abbrev pub ValueMeans : Type 0
 ValueMeans =
     (raw : Raw) (body : Body) (at : Site) → at.code ≡ body.code →
     (e : ResolvedExpressionTree) (l p q : ℕ) (s : List Operand) (w : World) → IsSerial e → value at l e p q →
-    Gives raw body (frame p s w) q s (value_of (layout_of raw body at) e w)
+    Gives raw body (frame p s w) q s (value_of (layout_of raw body at.slots) e w)
 
 -- The same of a statement: it goes on where its code ends, where its loop ends or where that goes on, or it ends its body.
 abbrev pub StatementMeans : Type 0
 StatementMeans =
     (raw : Raw) (body : Body) (at : Site) → at.code ≡ body.code → AllZip IsTextOf at.formats raw.texts →
     (x : ResolvedStatementTree) (m : Numbers) (n : ℕ) (jumps : Jumps) (p q : ℕ) (s : List Operand) (w : World) →
-    IsSerialStatement at.formats x → statement at m x jumps p q →
-    Does raw body at.is_main n (frame p s w) q jumps s (meaning (layout_of raw body at) x n w)
+    IsSerialStatement x → All (λ format. list_any (bytes_eq format) at.formats ≡ true) (mentioned format_mention x) →
+    statement at m x jumps p q →
+    Does raw body at.is_main n (frame p s w) q jumps s (meaning (layout_of raw body at.slots) x n w)
 
 -- ---- a whole function
 
@@ -77,12 +80,13 @@ pub record Behaves (raw : Raw) (body : Body) (is_main : Bool) (means : ℕ → W
   -- it lacks nothing
   pub never_stuck : (w : World) (n : ℕ) → run raw body n (frame 0 [] w) ≢ Stuck
 
--- The code of a function without calls and directives, run by the frame machine, behaves as the function means.
+-- The body of each function without calls and directives, run by the frame machine, behaves as the function means.
 abbrev pub SerialMeaning : Type 0
 SerialMeaning =
-    (tree : ResolvedTree) (raw : Raw) (b : BodySite) (body : Body) → IsCodeOf tree raw → IsBodyOf tree raw b body → b.tree ≡ FunctionBody →
-    AreSerialStatements (formats_of tree) b.function.body →
-    Behaves raw body (is_main_function b.function) (source (layout_of raw body (site_of tree raw b body)) b.function.body)
+    (tree : ResolvedTree) (raw : Raw) → IsCodeOf tree raw →
+    (k : ℕ) (f : ResolvedFunctionTree) → slice_get tree.functions k ≡ Some f → AreSerialStatements f.body →
+    IsSomeAnd (slice_get raw.bodies (called_body tree.functions k)) (λ body.
+    Behaves raw body (is_main_function f) (source (layout_of raw body (function_variables f)) f.body))
 
 -- ---- the old value of `x++` and its like (C17 6.5.2.4p2)
 
@@ -100,3 +104,7 @@ ElementGivesOld =
     value_of at j w ≡ Got n u → index_in (at.cells (at.place a)) n ≡ Some k →
     held u (at.place a) k ≡ cell.Int old → is_int old ≡ true →
     value_of at (PostfixElement a j operator) w ≡ with_value (effect_of at (PostfixElement a j operator) w) (λ z t. Got old t)
+
+-- Where variables hold ints and constants are ints, each value is an int, and variables hold ints behind it.
+abbrev pub IntsStay : Type 0
+IntsStay = (at : Layout) (e : ResolvedExpressionTree) (w : World) → HasInts e → HoldsInts w → LeavesInts (value_of at e w)

@@ -1,7 +1,5 @@
--- What has a meaning here: expressions and statements without calls and directives, whose formats are among these.
-use Rattle.std.specs.Prelude.{◌≡◌, ℕ, List, true, All, IfSome}
-use Rattle.std.specs.List.{list_any}
-use Rattle.std.specs.Str.{bytes_eq}
+-- What has a meaning here: expressions and statements without calls and directives.
+use Rattle.std.specs.Prelude.{All, IfSome}
 use Rattle.om_resolved.specs.ResolvedTree.{ResolvedExpressionTree, Constant, Variable, Element, Unary, Binary, Conditional, Assign, AssignElement, Postfix, PostfixElement, Print, ValuesTree, NoValues, Value, ResolvedStartTree, StartNothing, StartExpression, StartDeclaration, ResolvedStatementTree, Declaration, Block, Empty, Expression, If, IfElse, While, Do, For, Return, Break, Continue, ResolvedStatementsTree, NoStatements, Statement}
 
 abbrev mutual
@@ -23,32 +21,32 @@ abbrev mutual
   AreSerial (Value e rest) = IsSerial e × AreSerial rest
 
 -- an expression whose value nothing uses
-abbrev pub IsSerialEffect : List (List ℕ) → ResolvedExpressionTree → Type 0
-IsSerialEffect formats (Print format es) = (list_any (bytes_eq format) formats ≡ true) × AreSerial es
-IsSerialEffect formats e = IsSerial e
+abbrev pub IsSerialEffect : ResolvedExpressionTree → Type 0
+IsSerialEffect (Print format es) = AreSerial es
+IsSerialEffect e = IsSerial e
 
-abbrev pub IsSerialStart : List (List ℕ) → ResolvedStartTree → Type 0
-IsSerialStart formats StartNothing = Unit {0}
-IsSerialStart formats (StartExpression e) = IsSerialEffect formats e
-IsSerialStart formats (StartDeclaration ds) = All (λ d. IfSome d.initial IsSerial) ds
+abbrev pub IsSerialStart : ResolvedStartTree → Type 0
+IsSerialStart StartNothing = Unit {0}
+IsSerialStart (StartExpression e) = IsSerialEffect e
+IsSerialStart (StartDeclaration ds) = All (λ d. IfSome d.initial IsSerial) ds
 
 abbrev mutual
-  pub IsSerialStatement : List (List ℕ) → ResolvedStatementTree → Type 0
-  IsSerialStatement formats (Declaration first ds) = All (λ d. IfSome d.initial IsSerial) ds
-  IsSerialStatement formats (Block first items) = AreSerialStatements formats items
-  IsSerialStatement formats (Empty first) = Unit {0}
-  IsSerialStatement formats (Expression first e) = IsSerialEffect formats e
-  IsSerialStatement formats (If first c s) = IsSerial c × IsSerialStatement formats s
-  IsSerialStatement formats (IfElse first c s t) = IsSerial c × IsSerialStatement formats s × IsSerialStatement formats t
-  IsSerialStatement formats (While first c s) = IsSerial c × IsSerialStatement formats s
-  IsSerialStatement formats (Do first s c) = IsSerialStatement formats s × IsSerial c
-  IsSerialStatement formats (For first start c step s) =
-      IsSerialStart formats start × IfSome c IsSerial × IfSome step (IsSerialEffect formats) × IsSerialStatement formats s
-  IsSerialStatement formats (Return first e) = IfSome e IsSerial
-  IsSerialStatement formats (Break first) = Unit {0}
-  IsSerialStatement formats (Continue first) = Unit {0}
-  IsSerialStatement formats _ = ⊥
+  pub IsSerialStatement : ResolvedStatementTree → Type 0
+  IsSerialStatement (Declaration first ds) = All (λ d. IfSome d.initial IsSerial) ds
+  IsSerialStatement (Block first items) = AreSerialStatements items
+  IsSerialStatement (Empty first) = Unit {0}
+  IsSerialStatement (Expression first e) = IsSerialEffect e
+  IsSerialStatement (If first c s) = IsSerial c × IsSerialStatement s
+  IsSerialStatement (IfElse first c s t) = IsSerial c × IsSerialStatement s × IsSerialStatement t
+  IsSerialStatement (While first c s) = IsSerial c × IsSerialStatement s
+  IsSerialStatement (Do first s c) = IsSerialStatement s × IsSerial c
+  IsSerialStatement (For first start c step s) =
+      IsSerialStart start × IfSome c IsSerial × IfSome step IsSerialEffect × IsSerialStatement s
+  IsSerialStatement (Return first e) = IfSome e IsSerial
+  IsSerialStatement (Break first) = Unit {0}
+  IsSerialStatement (Continue first) = Unit {0}
+  IsSerialStatement _ = ⊥
 
-  pub AreSerialStatements : List (List ℕ) → ResolvedStatementsTree → Type 0
-  AreSerialStatements formats NoStatements = Unit {0}
-  AreSerialStatements formats (Statement s rest) = IsSerialStatement formats s × AreSerialStatements formats rest
+  pub AreSerialStatements : ResolvedStatementsTree → Type 0
+  AreSerialStatements NoStatements = Unit {0}
+  AreSerialStatements (Statement s rest) = IsSerialStatement s × AreSerialStatements rest

@@ -1,6 +1,8 @@
 //! Laws of the serial meaning.
 
-ghost use Rattle.om_meaning.specs.Laws.{ElementGivesOld, PostfixGivesOld, SerialMeaning, StatementMeans, ValueMeans};
+ghost use Rattle.om_meaning.specs.Laws.{ElementGivesOld, IntsStay, PostfixGivesOld, SerialMeaning, StatementMeans, ValueMeans};
+
+use om_rows::laws::{formats_are_numbered, function_bodies};
 
 /// The code of an expression gives its value, in the world that the expression leaves, or meets its fault.
 pub fn value_means()
@@ -17,10 +19,18 @@ pub fn statement_means()
 /// and are out of them, it does neither within n instructions; and it ends and faults nowhere else.
 pub fn serial_meaning()
     ensures { SerialMeaning }
-{}
+{
+    function_bodies();
+    formats_are_numbered();
+}
 
 /// The value of `x++`, `x--`, `a[j]++` and `a[j]--` is the old one, where that is an int.
 pub fn postfix_gives_old()
     ensures variable { PostfixGivesOld }
     ensures element { ElementGivesOld }
+{}
+
+/// From variables that hold ints an expression leaves an int, and variables that hold ints.
+pub fn ints_stay()
+    ensures { IntsStay }
 {}

@@ -1,5 +1,7 @@
 -- What the code of every tree is.
-use Rattle.std.specs.Prelude.{◌≡◌, ◌<◌, ◌≤◌, ◌^◌, ℕ, ◌+◌, List, All, length, is_some}
+use Rattle.std.specs.Prelude.{◌≡◌, ◌<◌, ◌≤◌, ◌^◌, ℕ, ◌+◌, List, [], true, Some, All, IsSomeAnd, length, is_some, slice_get}
+use Rattle.std.specs.List.{list_any}
+use Rattle.std.specs.Str.{bytes_eq}
 use Rattle.om_code.specs.declared.fault.CodeFault.{CodeFault}
 use Rattle.om_code.specs.declared.fault.CodeFault.TheVariants.{Memory, TooHigh}
 use Rattle.om_code.specs.declared.raw.Line.{Line}
@@ -8,10 +10,11 @@ use Rattle.om_code.specs.Validity.{HasOneHeight, StaysInside, IsLow, IsValid, Br
 use Rattle.om_resolved.specs.Beside.{TreeAtomicsAssign, TreeCopiesBehind}
 use Rattle.om_resolved.specs.ResolvedTree.{ResolvedExpressionTree, ResolvedStatementTree, ResolvedFunctionTree, ResolvedTree}
 use Rattle.om_resolved.specs.Whole.{IsWholeTree}
-use Rattle.om_rows.specs.Bodies.{Numbers, BodyTree}
-use Rattle.om_rows.specs.Code.{body_row, IsCodeOf}
+use Rattle.om_rows.specs.Bodies.{Numbers, BodyTree, FunctionBody, called_body}
+use Rattle.om_rows.specs.Code.{body_row, IsBodyOf, IsCodeOf}
 use Rattle.om_rows.specs.Coded.{ValueHasCode, EffectHasCode, StatementHasCode, TreeHasCode}
 use Rattle.om_rows.specs.Expressions.{value, effect}
+use Rattle.om_rows.specs.Mentions.{format_mention, formats_of, tree_mentioned}
 use Rattle.om_rows.specs.Rows.{Site}
 use Rattle.om_rows.specs.Sizes.{value_size, effect_size, statement_size}
 use Rattle.om_rows.specs.Statements.{Jumps, statement}
@@ -67,6 +70,20 @@ abbrev pub CodeFaults : Type 0
 CodeFaults =
     (tree : ResolvedTree) (raw : Raw) → IsWholeTree tree → TreeCopiesBehind tree → IsCodeOf tree raw →
     AreNumbered raw → (fault : CodeFault) → Breaks fault raw → MayBreak fault
+
+-- The body of a function, by its number, is the code of that function.
+abbrev pub FunctionBodies : Type 0
+FunctionBodies =
+    (tree : ResolvedTree) (raw : Raw) → IsCodeOf tree raw →
+    (k : ℕ) (f : ResolvedFunctionTree) → slice_get tree.functions k ≡ Some f →
+    (n : Numbers) × IsSomeAnd (slice_get raw.bodies (called_body tree.functions k))
+    (IsBodyOf tree raw (record { function = f; tree = FunctionBody; outer = []; numbers = n }))
+
+-- Each format that a program mentions has a number.
+abbrev pub FormatsAreNumbered : Type 0
+FormatsAreNumbered =
+    (tree : ResolvedTree) →
+    All (λ format. list_any (bytes_eq format) (formats_of tree) ≡ true) (tree_mentioned format_mention tree)
 
 -- What has code by the rows is what has code.
 abbrev pub RowsHaveCode : Type 0
