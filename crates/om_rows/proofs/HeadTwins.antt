@@ -18,13 +18,13 @@ use Rattle.om_resolved.specs.declared.resolved.LocalVariable.{LocalVariable}
 use Rattle.om_resolved.specs.declared.resolved.StandAlone as alone
 use Rattle.om_resolved.specs.declared.resolved.StandAlone.TheVariants as alones
 use Rattle.om_resolved.specs.declared.resolved.Variable as variables
-use Rattle.om_resolved.specs.ResolvedTree.{ResolvedExpressionTree, ResolvedDeclaratorTree, ResolvedClauseTree, ClauseValue, Shared, Copied, ResolvedLoopTree, ResolvedUpdateTree, ResolvedStartTree, StartNothing, StartExpression, StartDeclaration, ResolvedStatementTree, Declaration, Block, Empty, Expression, If, IfElse, While, Do, For, Return, Break, Continue, Parallel, Task, Loop, Sections, Section, Construct, Update, StandAlone, ResolvedStatementsTree, NoStatements, Statement}
+use Rattle.om_resolved.specs.ResolvedTree.{ResolvedExpressionTree, ResolvedDeclaratorTree, ResolvedClauseTree, ClauseValue, Shared, Copied, ResolvedLoopTree, ResolvedUpdateTree, ResolvedStartTree, StartNothing, StartExpression, StartDeclaration, ResolvedStatementTree, Declaration, Block, Empty, Expression, If, IfElse, While, Do, For, Return, Break, Continue, Parallel, Task, Loop, Sections, Construct, Update, StandAlone, ResolvedStatementsTree, NoStatements, Statement, ResolvedPartsTree, NoParts, Part}
 use Rattle.om_rows.specs.Bodies.{Numbers, next_pick, behind, behind_all}
 use Rattle.om_rows.specs.Expressions.{constant, value, effect}
 use Rattle.om_rows.specs.Operators.{comparison_of, side_of, update_of}
 use Rattle.om_rows.specs.Rows.{Site, Row, given, perhaps, each, unless}
 use Rattle.om_rows.specs.Slots.{FirstCopy, slot}
-use Rattle.om_rows.specs.Statements.{Jumps, nowhere, in_loop, in_iteration, jump, declared, declarator, start, test, returned, copy_start, clause_start, starts, reduction_start, clause_reduction_start, reduction_starts, combined, clause_combined, reductions, clause_value, given_copies, load_original, barrier, worksharing_end, alone_row, filter_row, single_row, masked_row, critical_row, assignment_row, updated, update_row, group_row, construct_row, loop_row, loop_rest, sections_row, parallel_row, task_row, begins_part, part_end, part_begin, parts_end, statement, statements, parts}
+use Rattle.om_rows.specs.Statements.{Jumps, nowhere, in_loop, in_iteration, jump, declared, declarator, start, test, returned, copy_start, clause_start, starts, reduction_start, clause_reduction_start, reduction_starts, combined, clause_combined, reductions, clause_value, given_copies, load_original, barrier, worksharing_end, alone_row, filter_row, single_row, masked_row, critical_row, assignment_row, updated, update_row, group_row, construct_row, loop_row, loop_rest, sections_row, parallel_row, task_row, with_place, no_place, statement, statements, parts}
 use Rattle.om_rows.proofs.Twins.{Alike, twin_end, twin_jump, twin_next, twin_within, twin_as, twin_more, twin_part, twin_here, twin_closed}
 use Rattle.om_rows.proofs.ExpressionTwins as expressions
 use Rattle.om_rows.proofs.ExpressionTwins.{with_code}

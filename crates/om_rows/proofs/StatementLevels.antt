@@ -14,13 +14,13 @@ use Rattle.om_resolved.specs.declared.resolved.LocalVariable.{LocalVariable}
 use Rattle.om_resolved.specs.declared.resolved.StandAlone as alone
 use Rattle.om_resolved.specs.declared.resolved.StandAlone.TheVariants as alones
 use Rattle.om_resolved.specs.declared.resolved.Variable as variables
-use Rattle.om_resolved.specs.ResolvedTree.{ResolvedExpressionTree, ResolvedDeclaratorTree, ResolvedClauseTree, ClauseValue, Shared, Copied, ResolvedLoopTree, ResolvedUpdateTree, ResolvedStartTree, StartNothing, StartExpression, StartDeclaration, ResolvedStatementTree, Declaration, Block, Empty, Expression, If, IfElse, While, Do, For, Return, Break, Continue, Parallel, Task, Loop, Sections, Section, Construct, Update, StandAlone, ResolvedStatementsTree, NoStatements, Statement}
+use Rattle.om_resolved.specs.ResolvedTree.{ResolvedExpressionTree, ResolvedDeclaratorTree, ResolvedClauseTree, ClauseValue, Shared, Copied, ResolvedLoopTree, ResolvedUpdateTree, ResolvedStartTree, StartNothing, StartExpression, StartDeclaration, ResolvedStatementTree, Declaration, Block, Empty, Expression, If, IfElse, While, Do, For, Return, Break, Continue, Parallel, Task, Loop, Sections, Construct, Update, StandAlone, ResolvedStatementsTree, NoStatements, Statement, ResolvedPartsTree, NoParts, Part}
 use Rattle.om_rows.specs.Bodies.{Numbers, next_pick, behind}
 use Rattle.om_rows.specs.Expressions.{value, effect}
 use Rattle.om_rows.specs.Operators.{comparison_of, side_of, update_of}
 use Rattle.om_rows.specs.Rows.{Site, Row, part, ◌▸◌, given, perhaps, each}
 use Rattle.om_rows.specs.Slots.{FirstCopy}
-use Rattle.om_rows.specs.Statements.{Jumps, nowhere, in_loop, in_iteration, jump, declared, declarator, start, test, returned, copy_start, clause_start, starts, reduction_start, clause_reduction_start, reduction_starts, combined, clause_combined, reductions, clause_value, given_copies, load_original, barrier, worksharing_end, alone_row, filter_row, single_row, masked_row, critical_row, updated, update_row, assignment_row, group_row, loop_row, loop_rest, sections_row, parallel_row, task_row, begins_part, part_end, part_begin, parts_end, statement, statements, parts}
+use Rattle.om_rows.specs.Statements.{Jumps, nowhere, in_loop, in_iteration, jump, declared, declarator, start, test, returned, copy_start, clause_start, starts, reduction_start, clause_reduction_start, reduction_starts, combined, clause_combined, reductions, clause_value, given_copies, load_original, barrier, worksharing_end, alone_row, filter_row, single_row, masked_row, critical_row, updated, update_row, assignment_row, group_row, loop_row, loop_rest, sections_row, parallel_row, task_row, with_place, no_place, statement, statements, parts}
 use Rattle.om_rows.proofs.Levels.{Levels, Each, IsAt, nothing, level_end, level_out, level_ins, level_next, level_either, level_jump, level_stop, level_within, level_as, level_more, level_free, level_part, level_here, level_closed}
 use Rattle.om_rows.proofs.ExpressionLevels as expressions
 
