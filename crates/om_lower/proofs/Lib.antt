@@ -1,3 +1,11 @@
-pub mod Cutting
-pub mod Frames
-pub mod Serial
+pub mod Lists
+pub mod Firsts
+pub mod Taken
+pub mod Sizes
+pub mod Rooms
+pub mod Views
+pub mod Heights
+pub mod Standing
+pub mod Bodies
+pub mod Valid
+pub mod Lowered

@@ -1,10 +1,11 @@
 //! Lowering: a resolved tree to its code, and what the code still knows of the source.
 #![tactic(auto)]
 
-mod directives;
-mod emission;
-mod frames;
-mod functions;
-mod heights;
+mod emit;
+mod height;
+pub mod laws;
+pub mod limit;
 pub mod look;
-pub mod texts;
+pub mod lower;
+mod slots;
+mod untaken;
