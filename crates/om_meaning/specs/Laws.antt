@@ -21,7 +21,7 @@ use Rattle.om_rows.specs.Mentions.{IsTextOf, format_mention, mentioned}
 use Rattle.om_rows.specs.Rows.{Site}
 use Rattle.om_rows.specs.Slots.{place_of}
 use Rattle.om_rows.specs.Statements.{Jumps, statement}
-use Rattle.om_meaning.specs.Ints.{HasInts, HoldsInts, LeavesInts}
+use Rattle.om_meaning.specs.Ints.{HasInts, HoldsInts, LeavesInts, StatementHasInts, FlowLeavesInts}
 use Rattle.om_meaning.specs.Meaning as flows
 use Rattle.om_meaning.specs.Meaning.{Flow, Failed, OutOfTurns, then_do, value_of, effect_of, meaning, meanings}
 use Rattle.om_meaning.specs.Running.{frame, world_of, run, ended, Ends, Gives, Does}
@@ -108,3 +108,8 @@ ElementGivesOld =
 -- Where variables hold ints and constants are ints, each value is an int, and variables hold ints behind it.
 abbrev pub IntsStay : Type 0
 IntsStay = (at : Layout) (e : ResolvedExpressionTree) (w : World) → HasInts e → HoldsInts w → LeavesInts (value_of at e w)
+
+-- The same of a statement, wherever it goes on and whatever it returns.
+abbrev pub IntsStayBehind : Type 0
+IntsStayBehind =
+    (at : Layout) (x : ResolvedStatementTree) (n : ℕ) (w : World) → StatementHasInts x → HoldsInts w → FlowLeavesInts (meaning at x n w)

@@ -1,6 +1,6 @@
 //! Laws of the serial meaning.
 
-ghost use Rattle.om_meaning.specs.Laws.{ElementGivesOld, IntsStay, PostfixGivesOld, SerialMeaning, StatementMeans, ValueMeans};
+ghost use Rattle.om_meaning.specs.Laws.{ElementGivesOld, IntsStay, IntsStayBehind, PostfixGivesOld, SerialMeaning, StatementMeans, ValueMeans};
 
 use om_rows::laws::{formats_are_numbered, function_bodies};
 
@@ -30,7 +30,9 @@ pub fn postfix_gives_old()
     ensures element { ElementGivesOld }
 {}
 
-/// From variables that hold ints an expression leaves an int, and variables that hold ints.
+/// From variables that hold ints an expression leaves an int, and variables that hold ints; so does a statement,
+/// wherever it goes on.
 pub fn ints_stay()
-    ensures { IntsStay }
+    ensures expression { IntsStay }
+    ensures statement { IntsStayBehind }
 {}
