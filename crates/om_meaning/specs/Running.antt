@@ -78,4 +78,5 @@ Does raw body is_main n c q jumps s (Broke w) = JumpsTo raw body c jumps.over s 
 Does raw body is_main n c q jumps s (Continued w) = JumpsTo raw body c jumps.next s w
 Does raw body is_main n c q jumps s (flows.Returned v w) = Ends raw body c (ended is_main v) w
 Does raw body is_main n c q jumps s (Failed f w) = Ends raw body c (Faulted f) w
-Does raw body is_main n c q jumps s OutOfTurns = (j : ℕ) × (f : Frame) × (n ≤ j) × (run raw body j c ≡ frames.Onward f)
+Does raw body is_main n c q jumps s OutOfTurns =
+    (j : ℕ) × (f : Frame) × (n ≤ j) × (run raw body j c ≡ frames.Onward f)

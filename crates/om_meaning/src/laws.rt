@@ -14,9 +14,11 @@ pub fn statement_means()
     ensures { StatementMeans }
 {}
 
-/// The code of a function without calls and directives ends where the function's meaning ends, with its value, its
-/// globals and its output. It faults where that faults, with its fault and its output. Where loops have only n turns
-/// and are out of them, it does neither within n instructions; and it ends and faults nowhere else.
+/// The code of a function without calls and directives does what the function means.
+///
+/// It ends where the meaning ends, with its value, its globals and its output. It faults where that faults, with
+/// its fault and its output. Where loops have only n turns and are out of them, it does neither within n
+/// instructions. And it ends and faults nowhere else.
 pub fn serial_meaning()
     ensures { SerialMeaning }
 {
@@ -30,8 +32,9 @@ pub fn postfix_gives_old()
     ensures element { ElementGivesOld }
 {}
 
-/// From variables that hold ints an expression leaves an int, and variables that hold ints; so does a statement,
-/// wherever it goes on.
+/// From variables that hold ints an expression leaves an int, and variables that hold ints.
+///
+/// So does a statement, wherever it goes on.
 pub fn ints_stay()
     ensures expression { IntsStay }
     ensures statement { IntsStayBehind }
