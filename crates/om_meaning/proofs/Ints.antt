@@ -1,6 +1,6 @@
 -- Each value is an int, and what is stored is one.
-use Rattle.std.proofs.Common.{◌≡◌, ℕ, zero, suc, ◌+◌, ◌<◌, ◌≤◌, ◌^◌, ℤ, pos, negsuc, Bool, true, false, List, [], ◌∷◌, Option, Some, None, refl, sym, ap, ◌∙◌, subst, arith}
-use Rattle.std.specs.Prelude.{Result, Ok, Err, nat_lt, nat_eq, not, int_div, int_rem, unsigned_abs, int_lt, int_le, ◌+ℤ◌, ◌-ℤ◌, ◌*ℤ◌, neg_ℤ, ◌&&◌, if◌then◌else◌}
+use Rattle.std.proofs.Common.{◌≡◌, ℕ, zero, suc, ◌<◌, ◌≤◌, ◌^◌, ℤ, pos, negsuc, Bool, true, false, Option, Some, None, refl, arith}
+use Rattle.std.specs.Prelude.{Result, Ok, Err, nat_eq, not, int_div, int_rem, unsigned_abs, ◌+ℤ◌, ◌-ℤ◌, ◌*ℤ◌, neg_ℤ, ◌&&◌, if◌then◌else◌}
 use Rattle.std.specs.Ordering.{int_eq}
 use Rattle.std.proofs.lemmas.Bool.{ltb-true, lt-ltb}
 use Rattle.std.proofs.lemmas.Int.{rem_below}
@@ -12,17 +12,16 @@ use Rattle.om_code.specs.declared.instruction.BinaryOperator as machine
 use Rattle.om_code.specs.declared.instruction.BinaryOperator.TheVariants as binary
 use Rattle.om_code.specs.declared.instruction.Place.{Place}
 use Rattle.om_code.specs.declared.instruction.Place.TheVariants as place
-use Rattle.om_code.specs.declared.instruction.UnaryOperator as unary_type
 use Rattle.om_code.specs.declared.instruction.UnaryOperator.TheVariants as unary
 use Rattle.om_code.specs.Arithmetic.{is_int, in_range, divided, remaining, truth, operate, operate_on_one}
-use Rattle.om_code.specs.Frames.{index_in, with_cell}
+use Rattle.om_code.specs.Frames.{index_in}
 use Rattle.om_resolved.specs.declared.resolved.UnaryOperator.{UnaryOperator}
 use Rattle.om_resolved.specs.declared.resolved.UnaryOperator.TheVariants as unaries
 use Rattle.om_resolved.specs.ResolvedTree.{ResolvedExpressionTree, Constant, Variable, Element, Call, ThreadNumber, TeamSize, Print, Unary, Binary, Conditional, Assign, AssignElement, Postfix, PostfixElement}
 use Rattle.om_rows.specs.Operators.{BinaryForm, Both, Either, Plain, form_of, compound_of, step_of, undo_of}
 use Rattle.om_meaning.specs.Ints.{IsInt, HoldsInt, HoldsInts, LeavesInts, HasInts}
 use Rattle.om_meaning.specs.Laws.{IntsStay}
-use Rattle.om_meaning.specs.Meaning.{is_zero, truth_of, unary_value, binary_value, assigned, load_element, store_element, element_assigned, undone, one, value_of}
+use Rattle.om_meaning.specs.Meaning.{is_zero, unary_value, binary_value, assigned, load_element, store_element, element_assigned, undone, one, value_of}
 use Rattle.om_meaning.specs.Worlds.{World, Layout, Outcome, Got, Faulty, with_value, result, held, with_held, found, put_into, load, store, at_index}
 
 -- ---- operators

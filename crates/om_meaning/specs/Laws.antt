@@ -1,5 +1,5 @@
 -- The code of the relation does what expressions and statements mean.
-use Rattle.std.specs.Prelude.{◌≡◌, ◌≢◌, ℕ, ℤ, pos, Bool, true, Option, None, Some, List, [], All, IsSomeAnd, slice_get}
+use Rattle.std.specs.Prelude.{◌≡◌, ◌≢◌, ℕ, ℤ, Bool, true, Option, None, Some, List, [], All, IsSomeAnd, slice_get}
 use Rattle.std.specs.List.{AllZip, list_any}
 use Rattle.std.specs.Str.{bytes_eq}
 use Rattle.om_code.specs.declared.frame.Cell.TheVariants as cell
@@ -26,7 +26,7 @@ use Rattle.om_meaning.specs.Meaning as flows
 use Rattle.om_meaning.specs.Meaning.{Flow, Failed, OutOfTurns, then_do, value_of, effect_of, meaning, meanings}
 use Rattle.om_meaning.specs.Running.{frame, world_of, run, ended, Ends, Gives, Does}
 use Rattle.om_meaning.specs.Serial.{IsSerial, IsSerialStatement, AreSerialStatements}
-use Rattle.om_meaning.specs.Worlds.{World, Layout, Outcome, Got, with_value, held}
+use Rattle.om_meaning.specs.Worlds.{World, Layout, Got, with_value, held}
 
 -- where a body has these variables, by their slots, and how many cells its tables give them
 abbrev pub layout_of : Raw → Body → (variables : List ℕ) → Layout

@@ -1,6 +1,5 @@
 -- A frame that runs alone, instruction by instruction, and what its run says.
-use Rattle.std.specs.Prelude.{◌≡◌, ℕ, zero, suc, ◌<◌, ◌≤◌, ℤ, pos, Bool, true, false, Option, None, Some, List, [], ◌∷◌}
-use Rattle.om_code.specs.declared.frame.Fault.{Fault}
+use Rattle.std.specs.Prelude.{◌≡◌, ℕ, zero, suc, ◌<◌, ◌≤◌, ℤ, pos, Bool, true, false, Option, None, Some, List, ◌∷◌}
 use Rattle.om_code.specs.declared.frame.Operand.{Operand}
 use Rattle.om_code.specs.declared.frame.Operand.TheVariants as operand
 use Rattle.om_code.specs.declared.raw.Body.{Body}

@@ -2,7 +2,6 @@
 -- in a loop, a canonical loop
 -- has one of the four comparisons, and an `atomic` that reads or writes is about an expression statement.
 use Rattle.std.specs.Prelude.{◌≡◌, Bool, true, false, All, Any, IfSome, IsSome}
-use Rattle.om_resolved.specs.declared.resolved.ConstructKind.{ConstructKind}
 use Rattle.om_resolved.specs.declared.resolved.ConstructKind.TheVariants as constructs
 use Rattle.om_resolved.specs.Formats.{pieces_of}
 use Rattle.om_resolved.specs.Uses.{is_main_function}
