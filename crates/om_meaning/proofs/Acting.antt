@@ -1,5 +1,5 @@
 -- What each instruction makes of a frame is what the meaning says of its world.
-use Rattle.std.proofs.Common.{◌≡◌, ℕ, zero, suc, ◌+◌, ℤ, pos, Bool, true, false, List, [], ◌∷◌, Option, Some, None, refl, sym, ap, ◌∙◌, arith}
+use Rattle.std.proofs.Common.{◌≡◌, ℕ, ◌+◌, ℤ, true, false, List, Option, Some, None, refl, ap, ◌∙◌}
 use Rattle.std.specs.Prelude.{Result, Ok, Err}
 use Rattle.om_code.specs.declared.frame.Cell.{Cell}
 use Rattle.om_code.specs.declared.frame.Cell.TheVariants as cell
@@ -13,7 +13,7 @@ use Rattle.om_code.specs.declared.instruction.Place.TheVariants as place
 use Rattle.om_code.specs.declared.instruction.UnaryOperator as unary
 use Rattle.om_code.specs.declared.raw.Raw.{Raw}
 use Rattle.om_code.specs.declared.raw.Slot.{Slot}
-use Rattle.om_code.specs.declared.serial.Touch.TheVariants.{Nothing, Reads, Writes}
+use Rattle.om_code.specs.declared.serial.Touch.TheVariants.{Reads, Writes}
 use Rattle.om_code.specs.Arithmetic.{operate, operate_on_one}
 use Rattle.om_code.specs.Frames as frames
 use Rattle.om_code.specs.Frames.{FrameTurn, Faulted, act, acted, turned, decided, gives, loaded, stored, kept, reads, writes, cells_in, index_in}

@@ -1,9 +1,8 @@
 -- A run and a meaning agree in both directions.
-use Rattle.std.proofs.Common.{◌≡◌, ℕ, zero, suc, ◌+◌, ◌<◌, ◌≤◌, ℤ, pos, Bool, true, false, List, [], ◌∷◌, length, Option, Some, None, refl, sym, ap, ◌∙◌, subst, ⊎_elim, arith}
+use Rattle.std.proofs.Common.{◌≡◌, ℕ, zero, suc, ◌<◌, ◌≤◌, ℤ, Bool, true, false, List, [], ◌∷◌, Option, Some, None, refl, sym, ◌∙◌, subst, ⊎_elim, arith}
 use Rattle.std.specs.Prelude.{All, IsSomeAnd, slice_get}
 use Rattle.std.specs.List.{flat_map}
 use Rattle.std.proofs.lemmas.Bool.{cases_lt}
-use Rattle.om_code.specs.declared.frame.Fault.{Fault}
 use Rattle.om_code.specs.declared.instruction.Instr.TheVariants as i
 use Rattle.om_code.specs.declared.raw.Body.{Body}
 use Rattle.om_code.specs.declared.raw.Raw.{Raw}
@@ -20,7 +19,7 @@ use Rattle.om_rows.specs.Statements.{nowhere}
 use Rattle.om_meaning.specs.Laws.{layout_of, source, IsOver, Agrees, Behaves, SerialMeaning}
 use Rattle.om_meaning.specs.Meaning as flows
 use Rattle.om_meaning.specs.Meaning.{Flow, Broke, Continued, Failed, OutOfTurns, then_do, meanings}
-use Rattle.om_meaning.specs.Running.{frame, world_of, on_from, run, ended, Comes, Ends, Does}
+use Rattle.om_meaning.specs.Running.{frame, on_from, run, ended, Comes, Ends, Does}
 use Rattle.om_meaning.specs.Worlds.{World}
 use Rattle.om_meaning.proofs.Spoken.{AreSpoken, Found, front, back, all_spoken}
 use Rattle.om_meaning.proofs.Statements as statements

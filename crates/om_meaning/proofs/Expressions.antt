@@ -1,15 +1,14 @@
 -- The code of an expression does what the expression means.
-use Rattle.std.proofs.Common.{◌≡◌, ℕ, zero, suc, ◌+◌, ℤ, pos, Bool, true, false, List, [], ◌∷◌, ◌++◌, length, Option, Some, None, refl, sym, ap, ◌∙◌, subst, arith}
+use Rattle.std.proofs.Common.{◌≡◌, ℕ, ◌+◌, ℤ, pos, Bool, true, false, List, Option, Some, None, refl, sym, ap, ◌∙◌}
 use Rattle.std.specs.Prelude.{slice_get, not, if◌then◌else◌}
 use Rattle.om_code.specs.declared.frame.Operand.{Operand}
 use Rattle.om_code.specs.declared.instruction.BinaryOperator as machine
 use Rattle.om_code.specs.declared.instruction.Instr.{Instr}
 use Rattle.om_code.specs.declared.instruction.Instr.TheVariants as i
-use Rattle.om_code.specs.declared.instruction.Place.{Place}
 use Rattle.om_code.specs.declared.instruction.UnaryOperator.TheVariants as unary
 use Rattle.om_code.specs.declared.raw.Body.{Body}
 use Rattle.om_code.specs.declared.raw.Raw.{Raw}
-use Rattle.om_code.specs.Arithmetic.{operate, operate_on_one, truth}
+use Rattle.om_code.specs.Arithmetic.{operate, truth}
 use Rattle.om_code.specs.Frames as frames
 use Rattle.om_code.specs.Frames.{Frame, cells_in}
 use Rattle.om_resolved.specs.declared.resolved.UnaryOperator.{UnaryOperator}
@@ -22,11 +21,11 @@ use Rattle.om_rows.specs.Rows.{Site, Row, end, ins, part, here, ◌▸◌}
 use Rattle.om_rows.specs.Slots.{place}
 use Rattle.om_meaning.specs.Meaning as means
 use Rattle.om_meaning.specs.Meaning.{is_zero, truth_of, unary_value, binary_value, load_element, store_element, value_of}
-use Rattle.om_meaning.specs.Running.{frame, with_int, Leads, Ends, Gives, Drops}
+use Rattle.om_meaning.specs.Running.{frame, with_int, Leads, Gives, Drops}
 use Rattle.om_meaning.specs.Serial.{IsSerial}
-use Rattle.om_meaning.specs.Worlds.{World, Layout, Outcome, Got, Faulty, with_value, result, load, store}
+use Rattle.om_meaning.specs.Worlds.{World, Outcome, Got, Faulty, with_value, result, load, store}
 use Rattle.om_meaning.specs.Laws.{layout_of}
-use Rattle.om_meaning.proofs.Acting.{turn_on, unary_acts, binary_acts, load_acts, load_element_acts, store_keeps, store_drops, store_element_keeps, store_element_drops}
+use Rattle.om_meaning.proofs.Acting.{unary_acts, binary_acts, load_acts, load_element_acts, store_keeps, store_drops, store_element_keeps, store_element_drops}
 use Rattle.om_meaning.proofs.Stepping as steps
 
 module _ (raw : Raw) (body : Body) (at : Site) (same : at.code ≡ body.code) where

@@ -1,17 +1,15 @@
 -- Runs of statements, put together from those of their parts.
-use Rattle.std.proofs.Common.{◌≡◌, ℕ, zero, suc, ◌+◌, ◌<◌, ◌≤◌, ℤ, pos, Bool, true, false, List, [], ◌∷◌, Option, Some, None, refl, sym, ap, ◌∙◌, subst, arith}
-use Rattle.std.specs.Prelude.{slice_get, if◌then◌else◌}
-use Rattle.om_code.specs.declared.frame.Fault.{Fault}
+use Rattle.std.proofs.Common.{◌≡◌, ℕ, zero, suc, ◌+◌, ◌≤◌, ℤ, Bool, true, false, List, Option, Some, None, refl, sym, ◌∙◌, subst, arith}
+use Rattle.std.specs.Prelude.{if◌then◌else◌}
 use Rattle.om_code.specs.declared.frame.Operand.{Operand}
 use Rattle.om_code.specs.declared.instruction.Instr.TheVariants as i
 use Rattle.om_code.specs.declared.raw.Body.{Body}
 use Rattle.om_code.specs.declared.raw.Raw.{Raw}
-use Rattle.om_code.specs.Frames as frames
 use Rattle.om_code.specs.Frames.{Frame, FrameTurn}
 use Rattle.om_rows.specs.Statements.{Jumps, in_loop}
 use Rattle.om_meaning.specs.Meaning as flows
 use Rattle.om_meaning.specs.Meaning.{is_zero, Flow, Broke, Continued, Failed, OutOfTurns, flow_value, then_do, after_turn, turns, turns_first, tested}
-use Rattle.om_meaning.specs.Running.{frame, run, with_int, Leads, Comes, Ends, Gives, Drops, JumpsTo, Does}
+use Rattle.om_meaning.specs.Running.{frame, with_int, Leads, Comes, Ends, Gives, Drops, JumpsTo, Does}
 use Rattle.om_meaning.specs.Worlds.{World, Outcome, Got, Faulty}
 use Rattle.om_meaning.proofs.Stepping as steps
 

@@ -1,6 +1,6 @@
 -- Each value is an int, and what is stored is one.
-use Rattle.std.proofs.Common.{◌≡◌, ℕ, zero, suc, ◌+◌, ◌<◌, ◌≤◌, ◌^◌, ℤ, pos, negsuc, Bool, true, false, List, [], ◌∷◌, Option, Some, None, refl, sym, ap, ◌∙◌, subst, arith}
-use Rattle.std.specs.Prelude.{Result, Ok, Err, nat_lt, nat_eq, not, int_div, int_rem, unsigned_abs, int_lt, int_le, ◌+ℤ◌, ◌-ℤ◌, ◌*ℤ◌, neg_ℤ, ◌&&◌, if◌then◌else◌}
+use Rattle.std.proofs.Common.{◌≡◌, ℕ, zero, suc, ◌<◌, ◌≤◌, ◌^◌, ℤ, pos, negsuc, Bool, true, false, Option, Some, None, refl, arith}
+use Rattle.std.specs.Prelude.{Result, Ok, Err, nat_eq, not, int_div, int_rem, unsigned_abs, ◌+ℤ◌, ◌-ℤ◌, ◌*ℤ◌, neg_ℤ, ◌&&◌, if◌then◌else◌}
 use Rattle.std.specs.Ordering.{int_eq}
 use Rattle.std.proofs.lemmas.Bool.{ltb-true, lt-ltb}
 use Rattle.std.proofs.lemmas.Int.{rem_below}
@@ -12,17 +12,16 @@ use Rattle.om_code.specs.declared.instruction.BinaryOperator as machine
 use Rattle.om_code.specs.declared.instruction.BinaryOperator.TheVariants as binary
 use Rattle.om_code.specs.declared.instruction.Place.{Place}
 use Rattle.om_code.specs.declared.instruction.Place.TheVariants as place
-use Rattle.om_code.specs.declared.instruction.UnaryOperator as unary_type
 use Rattle.om_code.specs.declared.instruction.UnaryOperator.TheVariants as unary
 use Rattle.om_code.specs.Arithmetic.{is_int, in_range, divided, remaining, truth, operate, operate_on_one}
-use Rattle.om_code.specs.Frames.{index_in, with_cell}
+use Rattle.om_code.specs.Frames.{index_in}
 use Rattle.om_resolved.specs.declared.resolved.UnaryOperator.{UnaryOperator}
 use Rattle.om_resolved.specs.declared.resolved.UnaryOperator.TheVariants as unaries
 use Rattle.om_resolved.specs.ResolvedTree.{ResolvedExpressionTree, Constant, Variable, Element, Call, ThreadNumber, TeamSize, Print, Unary, Binary, Conditional, Assign, AssignElement, Postfix, PostfixElement}
 use Rattle.om_rows.specs.Operators.{BinaryForm, Both, Either, Plain, form_of, compound_of, step_of, undo_of}
 use Rattle.om_meaning.specs.Ints.{IsInt, HoldsInt, HoldsInts, LeavesInts, HasInts}
 use Rattle.om_meaning.specs.Laws.{IntsStay}
-use Rattle.om_meaning.specs.Meaning.{is_zero, truth_of, unary_value, binary_value, assigned, load_element, store_element, element_assigned, undone, one, value_of}
+use Rattle.om_meaning.specs.Meaning.{is_zero, unary_value, binary_value, assigned, load_element, store_element, element_assigned, undone, one, value_of}
 use Rattle.om_meaning.specs.Worlds.{World, Layout, Outcome, Got, Faulty, with_value, result, held, with_held, found, put_into, load, store, at_index}
 
 -- ---- operators
@@ -123,7 +122,7 @@ put_ints (place.Slot g) k v w int h (place.Slot n) m = chosen (nat_eq n g && nat
     chosen false = h (place.Slot n) m
 put_ints (place.Slot g) k v w int h (place.Global n) m = h (place.Global n) m
 
-store_ints : (at : Place) (k : ℕ) (v : ℤ) (w : World) → IsInt v → HoldsInts w → LeavesInts (store at k v w)
+pub store_ints : (at : Place) (k : ℕ) (v : ℤ) (w : World) → IsInt v → HoldsInts w → LeavesInts (store at k v w)
 unfolding store
 store_ints at k v w int h = cell_by (held w at k)
   where
@@ -149,7 +148,7 @@ store_element_ints at cells n v w int h = index_by (index_in cells n)
 -- ---- expressions
 
 -- from a world of ints it leaves ints
-abbrev Stays : (World → Outcome) → Type 0
+abbrev pub Stays : (World → Outcome) → Type 0
 Stays f = (w : World) → HoldsInts w → LeavesInts (f w)
 
 unary_ints : (o : UnaryOperator) (v : ℤ) (w : World) → IsInt v → HoldsInts w → LeavesInts (unary_value o v w)
@@ -165,13 +164,13 @@ binary_ints Either a b ha hb =
 binary_ints (Plain o) a b ha hb =
     with_ints_of a _ ha (λ x u int h. with_ints_of (b u) _ (hb u h) (λ y t int h. result_ints (operate o x y) t (operate_int o x y int) h))
 
-assigned_ints : (at : Place) (o : Option machine.BinaryOperator) (e : World → Outcome) → Stays e → Stays (λ w. assigned at o e w)
+pub assigned_ints : (at : Place) (o : Option machine.BinaryOperator) (e : World → Outcome) → Stays e → Stays (λ w. assigned at o e w)
 assigned_ints at None e he w h = with_ints_of (e w) _ (he w h) (λ v u int h. store_ints at 0 v u int h)
 assigned_ints at (Some o) e he w h =
     with_ints_of (load at 0 w) _ (load_ints at 0 w h) (λ x u int h. with_ints_of (e u) _ (he u h) (λ y t int h.
     with_ints_of (result (operate o x y) t) _ (result_ints (operate o x y) t (operate_int o x y int) h) (λ z s int h. store_ints at 0 z s int h)))
 
-element_assigned_ints : (at : Place) (cells : ℕ) (j : World → Outcome) (o : Option machine.BinaryOperator) (e : World → Outcome) → Stays j → Stays e
+pub element_assigned_ints : (at : Place) (cells : ℕ) (j : World → Outcome) (o : Option machine.BinaryOperator) (e : World → Outcome) → Stays j → Stays e
     → Stays (λ w. element_assigned at cells j o e w)
 element_assigned_ints at cells j None e hj he w h =
     with_ints_of (j w) _ (hj w h) (λ n u int h. with_ints_of (e u) _ (he u h) (λ v t int h. store_element_ints at cells n v t int h))
@@ -180,7 +179,7 @@ element_assigned_ints at cells j (Some o) e hj he w h =
     with_ints_of (e t) _ (he t h) (λ y s int h. with_ints_of (result (operate o x y) s) _ (result_ints (operate o x y) s (operate_int o x y int) h)
     (λ z r int h. store_element_ints at cells n z r int h))))
 
-one_ints : Stays one
+pub one_ints : Stays one
 one_ints w h = (refl, h)
 
 undone_ints : (o : machine.BinaryOperator) (r : Outcome) → LeavesInts r → LeavesInts (undone o r)

@@ -8,3 +8,4 @@ pub mod Behaving
 pub mod Postfix
 pub mod Spoken
 pub mod Ints
+pub mod FlowInts

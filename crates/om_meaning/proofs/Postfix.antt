@@ -1,8 +1,7 @@
 -- What a postfix operator did with its 1 and then undid is the old value.
-use Rattle.std.proofs.Common.{◌≡◌, ℕ, ◌+◌, ℤ, pos, Bool, true, false, Option, Some, None, refl, sym, ap, ◌∙◌, subst, arith}
+use Rattle.std.proofs.Common.{◌≡◌, ℕ, ℤ, pos, Bool, true, false, Option, Some, refl, sym, ap, ◌∙◌, arith}
 use Rattle.std.proofs.lemmas.Int.{ints}
 use Rattle.std.specs.Prelude.{◌+ℤ◌, ◌-ℤ◌, Result, Ok, Err, if◌then◌else◌}
-use Rattle.om_code.specs.declared.frame.Cell.{Cell}
 use Rattle.om_code.specs.declared.frame.Cell.TheVariants as cell
 use Rattle.om_code.specs.declared.frame.Fault.{Fault}
 use Rattle.om_code.specs.declared.frame.Fault.TheVariants as fault
@@ -11,12 +10,10 @@ use Rattle.om_code.specs.Arithmetic.{is_int, in_range, operate}
 use Rattle.om_code.specs.Frames.{index_in}
 use Rattle.om_tree.specs.declared.tree.PostfixOperator.{PostfixOperator}
 use Rattle.om_tree.specs.declared.tree.PostfixOperator.TheVariants as postfixes
-use Rattle.om_resolved.specs.declared.resolved.Variable.{Variable}
-use Rattle.om_resolved.specs.ResolvedTree.{ResolvedExpressionTree}
 use Rattle.om_rows.specs.Operators.{step_of, undo_of}
 use Rattle.om_meaning.specs.Laws.{PostfixGivesOld, ElementGivesOld}
-use Rattle.om_meaning.specs.Meaning.{undone, load_element, store_element, one, value_of}
-use Rattle.om_meaning.specs.Worlds.{World, Layout, Outcome, Got, Faulty, with_value, result, held, with_held, found, put_into, load, store, at_index}
+use Rattle.om_meaning.specs.Meaning.{undone, load_element, store_element, one}
+use Rattle.om_meaning.specs.Worlds.{World, Outcome, Got, with_value, result, held, with_held, found, put_into, load, store, at_index}
 
 ok_of : (b : Bool) (x z : ℤ) → (if b then Ok x else Err fault.Overflow) ≡ Ok z → x ≡ z
 ok_of true x z e = cc e

@@ -1,11 +1,11 @@
 -- What has a meaning here, where each format of `printf` is among these.
-use Rattle.std.proofs.Common.{◌≡◌, ℕ, Bool, true, false, List, [], ◌∷◌, ◌++◌, Option, Some, None, refl}
+use Rattle.std.proofs.Common.{◌≡◌, ℕ, true, List, [], ◌∷◌, ◌++◌, Option, Some, None}
 use Rattle.std.specs.Prelude.{All, IfSome}
-use Rattle.std.specs.List.{flat_map, list_any}
+use Rattle.std.specs.List.{list_any}
 use Rattle.std.specs.Str.{bytes_eq}
 use Rattle.std.proofs.lemmas.List.Elements.{All-nil, All-cons, All-head, All-tail}
-use Rattle.om_resolved.specs.ResolvedTree.{ResolvedExpressionTree, Constant, Variable, Element, Call, ThreadNumber, TeamSize, Unary, Binary, Conditional, Assign, AssignElement, Postfix, PostfixElement, Print, ValuesTree, NoValues, Value, ResolvedDeclaratorTree, ResolvedStartTree, StartNothing, StartExpression, StartDeclaration, ResolvedStatementTree, Declaration, Block, Empty, Expression, If, IfElse, While, Do, For, Return, Break, Continue, Parallel, Task, Loop, Sections, Construct, Update, StandAlone, ResolvedStatementsTree, NoStatements, Statement}
-use Rattle.om_rows.specs.Mentions.{expression_formats, values_formats, format_mention, perhaps_mentioned, declarator_mentioned, start_mentioned, mentioned, all_mentioned}
+use Rattle.om_resolved.specs.ResolvedTree.{ResolvedExpressionTree, Constant, Variable, Element, Call, ThreadNumber, TeamSize, Unary, Binary, Conditional, Assign, AssignElement, Postfix, PostfixElement, Print, ResolvedStartTree, StartNothing, StartExpression, StartDeclaration, ResolvedStatementTree, Declaration, Block, Empty, Expression, If, IfElse, While, Do, For, Return, Break, Continue, Parallel, Task, Loop, Sections, Construct, Update, StandAlone, ResolvedStatementsTree, NoStatements, Statement}
+use Rattle.om_rows.specs.Mentions.{expression_formats, values_formats, format_mention, perhaps_mentioned, start_mentioned, mentioned, all_mentioned}
 use Rattle.om_meaning.specs.Serial.{IsSerial, AreSerial, IsSerialEffect, IsSerialStart, IsSerialStatement, AreSerialStatements}
 
 -- an expression whose value nothing uses

@@ -1,5 +1,5 @@
 -- The code of a statement does what the statement means.
-use Rattle.std.proofs.Common.{◌≡◌, ℕ, zero, suc, ◌+◌, ◌≤◌, ℤ, pos, Bool, true, false, List, [], ◌∷◌, length, Option, Some, None, refl, sym, ap, ◌∙◌, subst, arith}
+use Rattle.std.proofs.Common.{◌≡◌, ℕ, suc, ◌+◌, ℤ, pos, Bool, true, false, List, [], ◌∷◌, length, Option, Some, None, refl, sym, ap, ◌∙◌, subst, arith}
 use Rattle.std.specs.Prelude.{slice_get, All, IfSome, if◌then◌else◌}
 use Rattle.std.specs.List.{AllZip, list_any}
 use Rattle.std.specs.Str.{bytes_eq}
@@ -14,10 +14,10 @@ use Rattle.om_resolved.specs.declared.resolved.LocalVariable.{LocalVariable}
 use Rattle.om_resolved.specs.declared.resolved.Variable.TheVariants as named
 use Rattle.om_resolved.specs.ResolvedTree.{ResolvedExpressionTree, Constant, Variable, Element, Call, ThreadNumber, TeamSize, Print, Unary, Binary, Conditional, Assign, AssignElement, Postfix, PostfixElement, ValuesTree, NoValues, Value, ResolvedDeclaratorTree, ResolvedStartTree, StartNothing, StartExpression, StartDeclaration, ResolvedStatementTree, Declaration, Block, Empty, Expression, If, IfElse, While, Do, For, Return, Break, Continue, Parallel, Task, Loop, Sections, Construct, Update, StandAlone, ResolvedStatementsTree, NoStatements, Statement}
 use Rattle.om_rows.specs.Bodies.{Numbers, behind}
-use Rattle.om_rows.specs.Expressions.{value_count, constant, printed, value, values, effect}
+use Rattle.om_rows.specs.Expressions.{value_count, constant, value, values, effect}
 use Rattle.om_rows.specs.Mentions.{IsTextOf}
 use Rattle.om_rows.specs.Operators.{compound_of, step_of}
-use Rattle.om_rows.specs.Rows.{Site, Row, end, ins, part, ◌▸◌, given, perhaps, each}
+use Rattle.om_rows.specs.Rows.{Site, end, ins, part, ◌▸◌, given, perhaps, each}
 use Rattle.om_rows.specs.Slots.{place, slot}
 use Rattle.om_rows.specs.Statements.{Jumps, in_loop, jump, declared, declarator, start, test, returned, statement, statements}
 use Rattle.om_rows.specs.Tables.{number_in}

@@ -1,17 +1,16 @@
 -- Runs of a frame, put together from turns.
-use Rattle.std.proofs.Common.{◌≡◌, ℕ, zero, suc, ◌+◌, ◌<◌, ◌≤◌, ℤ, pos, Bool, true, false, List, [], ◌∷◌, Option, Some, None, refl, sym, ap, ◌∙◌, subst, arith}
+use Rattle.std.proofs.Common.{◌≡◌, ℕ, suc, ◌+◌, ℤ, Bool, true, false, List, Some, refl, sym, ap, ◌∙◌, subst, arith}
 use Rattle.std.specs.Prelude.{slice_get, if◌then◌else◌}
 use Rattle.om_code.specs.declared.frame.Fault.{Fault}
 use Rattle.om_code.specs.declared.frame.Operand.{Operand}
 use Rattle.om_code.specs.declared.instruction.Instr.{Instr}
 use Rattle.om_code.specs.declared.instruction.Instr.TheVariants as i
 use Rattle.om_code.specs.declared.raw.Body.{Body}
-use Rattle.om_code.specs.declared.raw.Line.{Line}
 use Rattle.om_code.specs.declared.raw.Raw.{Raw}
 use Rattle.om_code.specs.Frames as frames
 use Rattle.om_code.specs.Frames.{Frame, FrameTurn, Faulted, frame_turn, turn_at, acted, act}
 use Rattle.om_meaning.specs.Meaning.{is_zero}
-use Rattle.om_meaning.specs.Running.{frame, world_of, on_from, run, with_int, Leads, Comes, Ends, Gives, Drops}
+use Rattle.om_meaning.specs.Running.{frame, world_of, on_from, run, with_int, Leads, Ends, Gives, Drops}
 use Rattle.om_meaning.specs.Worlds.{World, Outcome, Got, Faulty, with_value}
 use Rattle.om_meaning.proofs.Acting.{Pushed, Dropped, turn_on}
 

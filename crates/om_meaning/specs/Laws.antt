@@ -1,5 +1,5 @@
 -- The code of the relation does what expressions and statements mean.
-use Rattle.std.specs.Prelude.{◌≡◌, ◌≢◌, ℕ, ℤ, pos, Bool, true, Option, None, Some, List, [], All, IsSomeAnd, slice_get}
+use Rattle.std.specs.Prelude.{◌≡◌, ◌≢◌, ℕ, ℤ, Bool, true, Option, None, Some, List, [], All, IsSomeAnd, slice_get}
 use Rattle.std.specs.List.{AllZip, list_any}
 use Rattle.std.specs.Str.{bytes_eq}
 use Rattle.om_code.specs.declared.frame.Cell.TheVariants as cell
@@ -21,18 +21,19 @@ use Rattle.om_rows.specs.Mentions.{IsTextOf, format_mention, mentioned}
 use Rattle.om_rows.specs.Rows.{Site}
 use Rattle.om_rows.specs.Slots.{place_of}
 use Rattle.om_rows.specs.Statements.{Jumps, statement}
-use Rattle.om_meaning.specs.Ints.{HasInts, HoldsInts, LeavesInts}
+use Rattle.om_meaning.specs.Ints.{HasInts, HoldsInts, LeavesInts, StatementHasInts, FlowLeavesInts}
 use Rattle.om_meaning.specs.Meaning as flows
 use Rattle.om_meaning.specs.Meaning.{Flow, Failed, OutOfTurns, then_do, value_of, effect_of, meaning, meanings}
 use Rattle.om_meaning.specs.Running.{frame, world_of, run, ended, Ends, Gives, Does}
 use Rattle.om_meaning.specs.Serial.{IsSerial, IsSerialStatement, AreSerialStatements}
-use Rattle.om_meaning.specs.Worlds.{World, Layout, Outcome, Got, with_value, held}
+use Rattle.om_meaning.specs.Worlds.{World, Layout, Got, with_value, held}
 
 -- where a body has these variables, by their slots, and how many cells its tables give them
 abbrev pub layout_of : Raw → Body → (variables : List ℕ) → Layout
 layout_of raw body variables = record { place = place_of variables; cells = cells_in raw body.slots }
 
--- From where its code begins, on any operands, a frame comes to where the code ends with the expression's value on them,
+-- From where its code begins, on any operands, a frame comes to where the code ends with the expression's
+-- value on them,
 -- or meets the expression's fault.
 abbrev pub ValueMeans : Type 0
 ValueMeans =
@@ -40,12 +41,14 @@ ValueMeans =
     (e : ResolvedExpressionTree) (l p q : ℕ) (s : List Operand) (w : World) → IsSerial e → value at l e p q →
     Gives raw body (frame p s w) q s (value_of (layout_of raw body at.slots) e w)
 
--- The same of a statement: it goes on where its code ends, where its loop ends or where that goes on, or it ends its body.
+-- The same of a statement: it goes on where its code ends, where its loop ends or where that goes on, or it
+-- ends its body.
 abbrev pub StatementMeans : Type 0
 StatementMeans =
     (raw : Raw) (body : Body) (at : Site) → at.code ≡ body.code → AllZip IsTextOf at.formats raw.texts →
     (x : ResolvedStatementTree) (m : Numbers) (n : ℕ) (jumps : Jumps) (p q : ℕ) (s : List Operand) (w : World) →
-    IsSerialStatement x → All (λ format. list_any (bytes_eq format) at.formats ≡ true) (mentioned format_mention x) →
+    IsSerialStatement x →
+    All (λ format. list_any (bytes_eq format) at.formats ≡ true) (mentioned format_mention x) →
     statement at m x jumps p q →
     Does raw body at.is_main n (frame p s w) q jumps s (meaning (layout_of raw body at.slots) x n w)
 
@@ -72,15 +75,19 @@ pub record Behaves (raw : Raw) (body : Body) (is_main : Bool) (means : ℕ → W
   pub ends : (w : World) (n : ℕ) (v : Option ℤ) (u : World) → means n w ≡ flows.Returned v u →
       Ends raw body (frame 0 [] w) (ended is_main v) u
   -- where the meaning faults, it faults so
-  pub faults : (w : World) (n : ℕ) (x : Fault) (u : World) → means n w ≡ Failed x u → Ends raw body (frame 0 [] w) (Faulted x) u
+  pub faults : (w : World) (n : ℕ) (x : Fault) (u : World) → means n w ≡ Failed x u →
+      Ends raw body (frame 0 [] w) (Faulted x) u
   -- where loops are out of n turns, it goes on for n instructions
-  pub goes_on : (w : World) (n : ℕ) → means n w ≡ OutOfTurns → (f : Frame) × (run raw body n (frame 0 [] w) ≡ frames.Onward f)
+  pub goes_on : (w : World) (n : ℕ) → means n w ≡ OutOfTurns →
+      (f : Frame) × (run raw body n (frame 0 [] w) ≡ frames.Onward f)
   -- where it is over after n instructions, the meaning with n turns ends or faults so
-  pub only : (w : World) (n : ℕ) (t : FrameTurn) → IsOver t → run raw body n (frame 0 [] w) ≡ t → Agrees is_main (means n w) t
+  pub only : (w : World) (n : ℕ) (t : FrameTurn) → IsOver t → run raw body n (frame 0 [] w) ≡ t →
+      Agrees is_main (means n w) t
   -- it lacks nothing
   pub never_stuck : (w : World) (n : ℕ) → run raw body n (frame 0 [] w) ≢ Stuck
 
--- The body of each function without calls and directives, run by the frame machine, behaves as the function means.
+-- The body of each function without calls and directives, run by the frame machine, behaves as the function
+-- means.
 abbrev pub SerialMeaning : Type 0
 SerialMeaning =
     (tree : ResolvedTree) (raw : Raw) → IsCodeOf tree raw →
@@ -107,4 +114,12 @@ ElementGivesOld =
 
 -- Where variables hold ints and constants are ints, each value is an int, and variables hold ints behind it.
 abbrev pub IntsStay : Type 0
-IntsStay = (at : Layout) (e : ResolvedExpressionTree) (w : World) → HasInts e → HoldsInts w → LeavesInts (value_of at e w)
+IntsStay =
+    (at : Layout) (e : ResolvedExpressionTree) (w : World) → HasInts e → HoldsInts w →
+    LeavesInts (value_of at e w)
+
+-- The same of a statement, wherever it goes on and whatever it returns.
+abbrev pub IntsStayBehind : Type 0
+IntsStayBehind =
+    (at : Layout) (x : ResolvedStatementTree) (n : ℕ) (w : World) → StatementHasInts x → HoldsInts w →
+    FlowLeavesInts (meaning at x n w)

@@ -1,6 +1,5 @@
 -- A frame that runs alone, instruction by instruction, and what its run says.
-use Rattle.std.specs.Prelude.{◌≡◌, ℕ, zero, suc, ◌<◌, ◌≤◌, ℤ, pos, Bool, true, false, Option, None, Some, List, [], ◌∷◌}
-use Rattle.om_code.specs.declared.frame.Fault.{Fault}
+use Rattle.std.specs.Prelude.{◌≡◌, ℕ, zero, suc, ◌<◌, ◌≤◌, ℤ, pos, Bool, true, false, Option, None, Some, List, ◌∷◌}
 use Rattle.om_code.specs.declared.frame.Operand.{Operand}
 use Rattle.om_code.specs.declared.frame.Operand.TheVariants as operand
 use Rattle.om_code.specs.declared.raw.Body.{Body}
@@ -78,4 +77,5 @@ Does raw body is_main n c q jumps s (Broke w) = JumpsTo raw body c jumps.over s 
 Does raw body is_main n c q jumps s (Continued w) = JumpsTo raw body c jumps.next s w
 Does raw body is_main n c q jumps s (flows.Returned v w) = Ends raw body c (ended is_main v) w
 Does raw body is_main n c q jumps s (Failed f w) = Ends raw body c (Faulted f) w
-Does raw body is_main n c q jumps s OutOfTurns = (j : ℕ) × (f : Frame) × (n ≤ j) × (run raw body j c ≡ frames.Onward f)
+Does raw body is_main n c q jumps s OutOfTurns =
+    (j : ℕ) × (f : Frame) × (n ≤ j) × (run raw body j c ≡ frames.Onward f)

@@ -1,5 +1,5 @@
 -- What a body works on, and what an expression makes of it: its value or a fault.
-use Rattle.std.specs.Prelude.{◌≡◌, ℕ, ◌+◌, ℤ, pos, Bool, true, false, not, Option, None, Some, Result, Ok, Err, List, [], ◌∷◌, ◌++◌, option_map, unwrap_or, nat_eq, if◌then◌else◌}
+use Rattle.std.specs.Prelude.{ℕ, ℤ, Option, None, Some, Result, Ok, Err, List, [], ◌∷◌, ◌++◌, option_map, unwrap_or, nat_eq, if◌then◌else◌}
 use Rattle.std.specs.Fmt.{signed_decimal}
 use Rattle.om_code.specs.declared.frame.Cell.{Cell}
 use Rattle.om_code.specs.declared.frame.Cell.TheVariants as cell
@@ -7,7 +7,7 @@ use Rattle.om_code.specs.declared.frame.Fault.{Fault}
 use Rattle.om_code.specs.declared.frame.Fault.TheVariants as fault
 use Rattle.om_code.specs.declared.instruction.Place.{Place}
 use Rattle.om_code.specs.declared.instruction.Place.TheVariants as place
-use Rattle.om_code.specs.Frames.{with_cell, index_in}
+use Rattle.om_code.specs.Frames.{with_cell}
 use Rattle.om_resolved.specs.declared.resolved.Variable.{Variable}
 use Rattle.om_resolved.specs.Formats.{Piece, Bytes, Value, pieces_of}
 

@@ -1,6 +1,6 @@
 //! Laws of the serial meaning.
 
-ghost use Rattle.om_meaning.specs.Laws.{ElementGivesOld, IntsStay, PostfixGivesOld, SerialMeaning, StatementMeans, ValueMeans};
+ghost use Rattle.om_meaning.specs.Laws.{ElementGivesOld, IntsStay, IntsStayBehind, PostfixGivesOld, SerialMeaning, StatementMeans, ValueMeans};
 
 use om_rows::laws::{formats_are_numbered, function_bodies};
 
@@ -14,9 +14,11 @@ pub fn statement_means()
     ensures { StatementMeans }
 {}
 
-/// The code of a function without calls and directives ends where the function's meaning ends, with its value, its
-/// globals and its output. It faults where that faults, with its fault and its output. Where loops have only n turns
-/// and are out of them, it does neither within n instructions; and it ends and faults nowhere else.
+/// The code of a function without calls and directives does what the function means.
+///
+/// It ends where the meaning ends, with its value, its globals and its output. It faults where that faults, with
+/// its fault and its output. Where loops have only n turns and are out of them, it does neither within n
+/// instructions. And it ends and faults nowhere else.
 pub fn serial_meaning()
     ensures { SerialMeaning }
 {
@@ -31,6 +33,9 @@ pub fn postfix_gives_old()
 {}
 
 /// From variables that hold ints an expression leaves an int, and variables that hold ints.
+///
+/// So does a statement, wherever it goes on.
 pub fn ints_stay()
-    ensures { IntsStay }
+    ensures expression { IntsStay }
+    ensures statement { IntsStayBehind }
 {}

@@ -25,14 +25,17 @@ OneCode = (tree : ResolvedTree) (raw other : Raw) → IsCodeOf tree raw → IsCo
 
 -- Code keeps to its body and its levels.
 pub record IsLevel (picks : List (List ℕ)) (code : List Line) : Type 0 where
-  -- whichever way an instruction is reached, as many operands stand below it, and those that it takes are there
+  -- whichever way an instruction is reached, as many operands stand below it, and those that it takes are
+  -- there
   pub one_height : HasOneHeight picks code
   -- it begins in its body and goes on in it, if that has fewer than 2^32 instructions
   pub inside : length code < 2 ^ 32 → StaysInside picks code
 
 -- The bodies of a tree's code are level, whatever the tree is.
 abbrev pub CodeIsLevel : Type 0
-CodeIsLevel = (tree : ResolvedTree) (raw : Raw) → IsCodeOf tree raw → All (λ body. IsLevel raw.picks body.code) raw.bodies
+CodeIsLevel =
+    (tree : ResolvedTree) (raw : Raw) → IsCodeOf tree raw →
+    All (λ body. IsLevel raw.picks body.code) raw.bodies
 
 -- The code of one body is level, whatever else the program has.
 abbrev pub BodyIsLevel : Type 0
@@ -90,10 +93,12 @@ abbrev pub RowsHaveCode : Type 0
 RowsHaveCode = (tree : ResolvedTree) (raw : Raw) → IsCodeOf tree raw → TreeHasCode tree
 
 abbrev pub ValueRowsHaveCode : Type 0
-ValueRowsHaveCode = (at : Site) (l : ℕ) (e : ResolvedExpressionTree) (p q : ℕ) → value at l e p q → ValueHasCode e
+ValueRowsHaveCode =
+    (at : Site) (l : ℕ) (e : ResolvedExpressionTree) (p q : ℕ) → value at l e p q → ValueHasCode e
 
 abbrev pub EffectRowsHaveCode : Type 0
-EffectRowsHaveCode = (at : Site) (l : ℕ) (e : ResolvedExpressionTree) (p q : ℕ) → effect at l e p q → EffectHasCode e
+EffectRowsHaveCode =
+    (at : Site) (l : ℕ) (e : ResolvedExpressionTree) (p q : ℕ) → effect at l e p q → EffectHasCode e
 
 abbrev pub StatementRowsHaveCode : Type 0
 StatementRowsHaveCode =
@@ -102,10 +107,14 @@ StatementRowsHaveCode =
 
 -- The code of a part has as many instructions as the part tells.
 abbrev pub ValueSizes : Type 0
-ValueSizes = (at : Site) (l : ℕ) (e : ResolvedExpressionTree) (p q : ℕ) → value at l e p q → q ≡ p + value_size e
+ValueSizes =
+    (at : Site) (l : ℕ) (e : ResolvedExpressionTree) (p q : ℕ) → value at l e p q → q ≡ p + value_size e
 
 abbrev pub EffectSizes : Type 0
-EffectSizes = (at : Site) (l : ℕ) (e : ResolvedExpressionTree) (p q : ℕ) → effect at l e p q → q ≡ p + effect_size e
+EffectSizes =
+    (at : Site) (l : ℕ) (e : ResolvedExpressionTree) (p q : ℕ) → effect at l e p q → q ≡ p + effect_size e
 
 abbrev pub StatementSizes : Type 0
-StatementSizes = (at : Site) (n : Numbers) (s : ResolvedStatementTree) (jumps : Jumps) (p q : ℕ) → statement at n s jumps p q → q ≡ p + statement_size s
+StatementSizes =
+    (at : Site) (n : Numbers) (s : ResolvedStatementTree) (jumps : Jumps) (p q : ℕ) →
+    statement at n s jumps p q → q ≡ p + statement_size s
