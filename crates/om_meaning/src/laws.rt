@@ -26,7 +26,7 @@ pub fn serial_meaning()
     formats_are_numbered();
 }
 
-/// The value of `x++`, `x--`, `a[j]++` and `a[j]--` is the old one, where that is an int.
+/// The value of `x++`, `x--`, `a[j]++` and `a[j]--` is the old one, where variables hold ints.
 pub fn postfix_gives_old()
     ensures variable { PostfixGivesOld }
     ensures element { ElementGivesOld }
