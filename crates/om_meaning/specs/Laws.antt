@@ -44,7 +44,8 @@ ValueMeans =
 abbrev pub StatementMeans : Type 0
 StatementMeans =
     (raw : Raw) (body : Body) (at : Site) → at.code ≡ body.code → AllZip IsTextOf at.formats raw.texts →
-    (x : ResolvedStatementTree) (m : Numbers) (n : ℕ) (jumps : Jumps) (p q : ℕ) (s : List Operand) (w : World) →
+    (x : ResolvedStatementTree) (m : Numbers) (n : ℕ) (jumps : Jumps)
+    (p q : ℕ) (s : List Operand) (w : World) →
     IsSerialStatement x →
     All (λ format. list_any (bytes_eq format) at.formats ≡ true) (mentioned format_mention x) →
     statement at m x jumps p q →
@@ -100,7 +101,8 @@ abbrev pub PostfixGivesOld : Type 0
 PostfixGivesOld =
     (at : Layout) (x : Variable) (operator : PostfixOperator) (w : World) → HoldsInts w →
     value_of at (Postfix x operator) w
-    ≡ with_value (load (at.place x) 0 w) (λ old u. with_value (effect_of at (Postfix x operator) w) (λ z t. Got old t))
+    ≡ with_value (load (at.place x) 0 w) (λ old u.
+    with_value (effect_of at (Postfix x operator) w) (λ z t. Got old t))
 
 -- The same of an element, behind its index.
 abbrev pub ElementGivesOld : Type 0
@@ -108,7 +110,8 @@ ElementGivesOld =
     (at : Layout) (a : Variable) (j : ResolvedExpressionTree) (operator : PostfixOperator) (w : World) →
     HasInts j → HoldsInts w →
     value_of at (PostfixElement a j operator) w
-    ≡ with_value (value_of at j w) (λ n u. with_value (load_element (at.place a) (at.cells (at.place a)) n u) (λ old s.
+    ≡ with_value (value_of at j w) (λ n u.
+    with_value (load_element (at.place a) (at.cells (at.place a)) n u) (λ old s.
     with_value (effect_of at (PostfixElement a j operator) w) (λ z t. Got old t)))
 
 -- ---- ints
