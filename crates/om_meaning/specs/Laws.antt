@@ -30,17 +30,15 @@ use Rattle.om_meaning.specs.Worlds.{World, Layout, Got, with_value, load}
 abbrev pub layout_of : Raw → Body → (variables : List ℕ) → Layout
 layout_of raw body variables = record { place = place_of variables; cells = cells_in raw body.slots }
 
--- From where its code begins, on any operands, a frame comes to where the code ends with the expression's
--- value on them,
--- or meets the expression's fault.
+-- From where its code begins, on any operands, a frame comes to where the code ends, with the expression's
+-- value on them, or meets the expression's fault.
 abbrev pub ValueMeans : Type 0
 ValueMeans =
     (raw : Raw) (body : Body) (at : Site) → at.code ≡ body.code →
     (e : ResolvedExpressionTree) (l p q : ℕ) (s : List Operand) (w : World) → IsSerial e → value at l e p q →
     Gives raw body (frame p s w) q s (value_of (layout_of raw body at.slots) e w)
 
--- The same of a statement: it goes on where its code ends, where its loop ends or where that goes on, or it
--- ends its body.
+-- The same of a statement: it goes on behind its code, or as a jump of its loop does, or ends its body.
 abbrev pub StatementMeans : Type 0
 StatementMeans =
     (raw : Raw) (body : Body) (at : Site) → at.code ≡ body.code → AllZip IsTextOf at.formats raw.texts →
@@ -85,8 +83,7 @@ pub record Behaves (raw : Raw) (body : Body) (is_main : Bool) (means : ℕ → W
   -- it lacks nothing
   pub never_stuck : (w : World) (n : ℕ) → run raw body n (frame 0 [] w) ≢ Stuck
 
--- The body of each function without calls and directives, run by the frame machine, behaves as the function
--- means.
+-- The body of each function without calls and directives, run by the frame machine, does what it means.
 abbrev pub SerialMeaning : Type 0
 SerialMeaning =
     (tree : ResolvedTree) (raw : Raw) → IsCodeOf tree raw →
