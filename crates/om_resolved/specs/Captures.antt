@@ -10,7 +10,7 @@ use Rattle.om_resolved.specs.declared.resolved.Taking.{Taking}
 use Rattle.om_resolved.specs.declared.resolved.Taking.TheVariants as takings
 use Rattle.om_resolved.specs.declared.resolved.Variable as variables
 use Rattle.om_resolved.specs.declared.resolved.Variable.TheVariants as named
-use Rattle.om_resolved.specs.ResolvedTree.{ResolvedExpressionTree, Constant, Variable, Element, Call, ThreadNumber, TeamSize, Print, Unary, Binary, Conditional, Assign, AssignElement, Postfix, PostfixElement, ValuesTree, NoValues, Value, ResolvedDeclaratorTree, ResolvedClauseTree, ClauseValue, Shared, Copied, ResolvedStartTree, StartNothing, StartExpression, StartDeclaration, ResolvedUpdateTree, ResolvedStatementTree, Declaration, Block, Empty, Expression, If, IfElse, While, Do, For, Return, Break, Continue, Parallel, Task, Loop, Sections, Section, Construct, Update, StandAlone, ResolvedStatementsTree, NoStatements, Statement}
+use Rattle.om_resolved.specs.ResolvedTree.{ResolvedExpressionTree, Constant, Variable, Element, Call, ThreadNumber, TeamSize, Print, Unary, Binary, Conditional, Assign, AssignElement, Postfix, PostfixElement, ValuesTree, NoValues, Value, ResolvedDeclaratorTree, ResolvedClauseTree, ClauseValue, Shared, Copied, ResolvedStartTree, StartNothing, StartExpression, StartDeclaration, ResolvedUpdateTree, ResolvedStatementTree, Declaration, Block, Empty, Expression, If, IfElse, While, Do, For, Return, Break, Continue, Parallel, Task, Loop, Sections, Construct, Update, StandAlone, ResolvedStatementsTree, NoStatements, Statement, ResolvedPartsTree, NoParts, Part}
 
 -- ---- the variables of the function that a part uses, in the order of the text
 
@@ -94,8 +94,7 @@ unfoldable mutual
   statement_uses (Parallel at clauses captures s) = flat_map clause_uses clauses ++ map captured_variable captures
   statement_uses (Task at clauses captures s) = flat_map clause_uses clauses ++ map captured_variable captures
   statement_uses (Loop at clauses nowait l s) = flat_map clause_uses clauses ++ (expression_uses l.from ++ (expression_uses l.to ++ statement_uses s))
-  statement_uses (Sections at clauses nowait items) = flat_map clause_uses clauses ++ statements_uses items
-  statement_uses (Section s) = statement_uses s
+  statement_uses (Sections at clauses nowait parts) = flat_map clause_uses clauses ++ parts_uses parts
   statement_uses (Construct at kind clauses s) = flat_map clause_uses clauses ++ statement_uses s
   statement_uses (Update at u) = update_uses u
   statement_uses (StandAlone at directive) = stand_alone_uses directive
@@ -103,6 +102,10 @@ unfoldable mutual
   pub statements_uses : ResolvedStatementsTree → List ℕ
   statements_uses NoStatements = []
   statements_uses (Statement s rest) = statement_uses s ++ statements_uses rest
+
+  pub parts_uses : ResolvedPartsTree → List ℕ
+  parts_uses NoParts = []
+  parts_uses (Part items rest) = statements_uses items ++ parts_uses rest
 
 -- ---- what a region takes
 

@@ -102,8 +102,7 @@ mutual
     Parallel : Span → List ResolvedClauseTree → List Capture → ResolvedStatementTree → ResolvedStatementTree
     Task : Span → List ResolvedClauseTree → List Capture → ResolvedStatementTree → ResolvedStatementTree
     Loop : Span → List ResolvedClauseTree → (nowait : Bool) → ResolvedLoopTree → ResolvedStatementTree → ResolvedStatementTree
-    Sections : Span → List ResolvedClauseTree → (nowait : Bool) → ResolvedStatementsTree → ResolvedStatementTree
-    Section : ResolvedStatementTree → ResolvedStatementTree
+    Sections : Span → List ResolvedClauseTree → (nowait : Bool) → ResolvedPartsTree → ResolvedStatementTree
     Construct : Span → ConstructKind → List ResolvedClauseTree → ResolvedStatementTree → ResolvedStatementTree
     Update : Span → ResolvedUpdateTree → ResolvedStatementTree
     StandAlone : Span → alone.StandAlone → ResolvedStatementTree
@@ -113,10 +112,20 @@ mutual
     NoStatements : ResolvedStatementsTree
     Statement : ResolvedStatementTree → ResolvedStatementsTree → ResolvedStatementsTree
 
+  -- the parts of `sections`, each with its statements
+  pub data ResolvedPartsTree : Type 0 where
+    NoParts : ResolvedPartsTree
+    Part : ResolvedStatementsTree → ResolvedPartsTree → ResolvedPartsTree
+
 -- these statements
 abbrev pub statements : List ResolvedStatementTree → ResolvedStatementsTree
 statements [] = NoStatements
 statements (s ∷ rest) = Statement s (statements rest)
+
+-- parts with these statements
+abbrev pub parts : List ResolvedStatementsTree → ResolvedPartsTree
+parts [] = NoParts
+parts (items ∷ rest) = Part items (parts rest)
 
 -- a function (C17 6.9.1), with the byte of its name, its first token, whether it returns an `int`, and the line of its closing brace
 pub record ResolvedFunctionTree : Type 0 where

@@ -9,12 +9,13 @@ use Rattle.om_resolved.specs.declared.resolved.ResolvedExpression.TheOpen.{Resol
 use Rattle.om_resolved.specs.declared.resolved.ResolvedFunction.{ResolvedFunction}
 use Rattle.om_resolved.specs.declared.resolved.ResolvedLoop.{ResolvedLoop}
 use Rattle.om_resolved.specs.declared.resolved.ResolvedUpdate.{ResolvedUpdate}
+use Rattle.om_resolved.specs.declared.resolved.ResolvedPart.{ResolvedPart, ResolvedPart-F, fold-ResolvedPart}
 use Rattle.om_resolved.specs.declared.resolved.ResolvedStart.{ResolvedStart}
 use Rattle.om_resolved.specs.declared.resolved.ResolvedStart.TheVariants as starts
 use Rattle.om_resolved.specs.declared.resolved.ResolvedStatement.{ResolvedStatement, fold-ResolvedStatement}
 use Rattle.om_resolved.specs.declared.resolved.ResolvedStatement.TheOpen.{ResolvedStatement-F}
 use Rattle.om_resolved.specs.ResolvedTree as trees
-use Rattle.om_resolved.specs.ResolvedTree.{ResolvedExpressionTree, ResolvedDeclaratorTree, ResolvedClauseTree, ResolvedLoopTree, ResolvedUpdateTree, ResolvedStartTree, ResolvedStatementTree, ResolvedFunctionTree, ResolvedTree}
+use Rattle.om_resolved.specs.ResolvedTree.{ResolvedExpressionTree, ResolvedDeclaratorTree, ResolvedClauseTree, ResolvedLoopTree, ResolvedUpdateTree, ResolvedStartTree, ResolvedStatementTree, ResolvedStatementsTree, ResolvedFunctionTree, ResolvedTree}
 
 -- one layer of an expression, whose parts are trees already
 abbrev pub expression_layer : ResolvedExpression-F ResolvedExpressionTree → ResolvedExpressionTree
@@ -72,7 +73,7 @@ view_resolved_start (starts.Expression e) = trees.StartExpression (view_resolved
 view_resolved_start (starts.Declaration ds) = trees.StartDeclaration (map view_resolved_declarator ds.items)
 
 -- one layer of a statement, whose parts are trees already
-abbrev pub statement_layer : ResolvedStatement-F ResolvedStatementTree → ResolvedStatementTree
+abbrev pub statement_layer : ResolvedStatement-F ResolvedStatementTree ResolvedStatementsTree → ResolvedStatementTree
 statement_layer (ResolvedStatement-F.Declaration at ds) = trees.Declaration at (map view_resolved_declarator ds.items)
 statement_layer (ResolvedStatement-F.Block at items) = trees.Block at (trees.statements items.items)
 statement_layer (ResolvedStatement-F.Empty at) = trees.Empty at
@@ -89,15 +90,22 @@ statement_layer (ResolvedStatement-F.Continue at) = trees.Continue at
 statement_layer (ResolvedStatement-F.Parallel at clauses captures s) = trees.Parallel at (map view_resolved_clause clauses.items) captures s.value
 statement_layer (ResolvedStatement-F.Task at clauses captures s) = trees.Task at (map view_resolved_clause clauses.items) captures s.value
 statement_layer (ResolvedStatement-F.Loop at clauses nowait l s) = trees.Loop at (map view_resolved_clause clauses.items) nowait (view_resolved_loop l) s.value
-statement_layer (ResolvedStatement-F.Sections at clauses nowait items) = trees.Sections at (map view_resolved_clause clauses.items) nowait (trees.statements items.items)
-statement_layer (ResolvedStatement-F.Section s) = trees.Section s.value
+statement_layer (ResolvedStatement-F.Sections at clauses nowait parts) = trees.Sections at (map view_resolved_clause clauses.items) nowait (trees.parts parts.items)
 statement_layer (ResolvedStatement-F.Construct at kind clauses s) = trees.Construct at kind (map view_resolved_clause clauses.items) s.value
 statement_layer (ResolvedStatement-F.Update at u) = trees.Update at (view_resolved_update u)
 statement_layer (ResolvedStatement-F.StandAlone at directive) = trees.StandAlone at directive
 
+-- the same of a part of `sections`
+abbrev pub part_layer : ResolvedPart-F ResolvedStatementTree ResolvedStatementsTree → ResolvedStatementsTree
+part_layer part = trees.statements part.items.items
+
 -- a statement without boxes and capacities
 abbrev pub view_resolved_statement : ResolvedStatement → ResolvedStatementTree
-view_resolved_statement = fold-ResolvedStatement ResolvedStatementTree statement_layer
+view_resolved_statement = fold-ResolvedStatement ResolvedStatementTree ResolvedStatementsTree statement_layer part_layer
+
+-- the statements of a part of `sections`
+abbrev pub view_resolved_part : ResolvedPart → ResolvedStatementsTree
+view_resolved_part = fold-ResolvedPart ResolvedStatementTree ResolvedStatementsTree statement_layer part_layer
 
 abbrev pub view_resolved_function : ResolvedFunction → ResolvedFunctionTree
 view_resolved_function f = record {

@@ -5,7 +5,7 @@ use Rattle.om_resolved.specs.declared.resolved.StandAlone as alone
 use Rattle.om_resolved.specs.declared.resolved.StandAlone.TheVariants as alones
 use Rattle.om_resolved.specs.declared.resolved.Variable as variables
 use Rattle.om_resolved.specs.declared.resolved.Variable.TheVariants as named
-use Rattle.om_resolved.specs.ResolvedTree.{ResolvedExpressionTree, Constant, Variable, Element, Call, ThreadNumber, TeamSize, Print, Unary, Binary, Conditional, Assign, AssignElement, Postfix, PostfixElement, ValuesTree, NoValues, Value, ResolvedDeclaratorTree, ResolvedClauseTree, ClauseValue, Shared, Copied, ResolvedStartTree, StartNothing, StartExpression, StartDeclaration, ResolvedUpdateTree, ResolvedStatementTree, Declaration, Block, Empty, Expression, If, IfElse, While, Do, For, Return, Break, Continue, Parallel, Task, Loop, Sections, Section, Construct, Update, StandAlone, ResolvedStatementsTree, NoStatements, Statement, ResolvedFunctionTree, ResolvedTree}
+use Rattle.om_resolved.specs.ResolvedTree.{ResolvedExpressionTree, Constant, Variable, Element, Call, ThreadNumber, TeamSize, Print, Unary, Binary, Conditional, Assign, AssignElement, Postfix, PostfixElement, ValuesTree, NoValues, Value, ResolvedDeclaratorTree, ResolvedClauseTree, ClauseValue, Shared, Copied, ResolvedStartTree, StartNothing, StartExpression, StartDeclaration, ResolvedUpdateTree, ResolvedStatementTree, Declaration, Block, Empty, Expression, If, IfElse, While, Do, For, Return, Break, Continue, Parallel, Task, Loop, Sections, Construct, Update, StandAlone, ResolvedStatementsTree, NoStatements, Statement, ResolvedPartsTree, NoParts, Part, ResolvedFunctionTree, ResolvedTree}
 
 -- a global is one of so many
 abbrev pub IsVariable : ℕ → variables.Variable → Type 0
@@ -81,8 +81,7 @@ abbrev mutual
   StatementUsesVariables globals (Task at clauses captures s) = ClausesUseVariables globals clauses × StatementUsesVariables globals s
   StatementUsesVariables globals (Loop at clauses nowait l s) =
       ClausesUseVariables globals clauses × UsesVariables globals l.from × UsesVariables globals l.to × StatementUsesVariables globals s
-  StatementUsesVariables globals (Sections at clauses nowait items) = ClausesUseVariables globals clauses × StatementsUseVariables globals items
-  StatementUsesVariables globals (Section s) = StatementUsesVariables globals s
+  StatementUsesVariables globals (Sections at clauses nowait parts) = ClausesUseVariables globals clauses × PartsUseVariables globals parts
   StatementUsesVariables globals (Construct at kind clauses s) = ClausesUseVariables globals clauses × StatementUsesVariables globals s
   StatementUsesVariables globals (Update at u) = UpdateUsesVariables globals u
   StatementUsesVariables globals (StandAlone at directive) = StandAloneUsesVariables globals directive
@@ -90,6 +89,10 @@ abbrev mutual
   pub StatementsUseVariables : ℕ → ResolvedStatementsTree → Type 0
   StatementsUseVariables globals NoStatements = Unit {0}
   StatementsUseVariables globals (Statement s rest) = StatementUsesVariables globals s × StatementsUseVariables globals rest
+
+  pub PartsUseVariables : ℕ → ResolvedPartsTree → Type 0
+  PartsUseVariables globals NoParts = Unit {0}
+  PartsUseVariables globals (Part items rest) = StatementsUseVariables globals items × PartsUseVariables globals rest
 
 abbrev pub FunctionUsesVariables : ℕ → ResolvedFunctionTree → Type 0
 FunctionUsesVariables globals function = StatementsUseVariables globals function.body

@@ -22,7 +22,7 @@ use Rattle.om_resolved.specs.declared.resolved.Variable as variables
 use Rattle.om_resolved.specs.declared.resolved.Variable.TheVariants as named
 use Rattle.om_resolved.specs.Captures.{captured_variable, taken_variables}
 use Rattle.om_resolved.specs.Formats.{IsFormat}
-use Rattle.om_resolved.specs.ResolvedTree.{ResolvedExpressionTree, Constant, Variable, Element, Call, ThreadNumber, TeamSize, Print, Unary, Binary, Conditional, Assign, AssignElement, Postfix, PostfixElement, ValuesTree, NoValues, Value, ResolvedDeclaratorTree, ResolvedClauseTree, ClauseValue, Shared, Copied, ResolvedLoopTree, ResolvedStartTree, StartNothing, StartExpression, StartDeclaration, ResolvedUpdateTree, ResolvedStatementTree, Declaration, Block, Empty, Expression, If, IfElse, While, Do, For, Return, Break, Continue, Parallel, Task, Loop, Sections, Section, Construct, Update, StandAlone, ResolvedStatementsTree, NoStatements, Statement, ResolvedFunctionTree, ResolvedTree}
+use Rattle.om_resolved.specs.ResolvedTree.{ResolvedExpressionTree, Constant, Variable, Element, Call, ThreadNumber, TeamSize, Print, Unary, Binary, Conditional, Assign, AssignElement, Postfix, PostfixElement, ValuesTree, NoValues, Value, ResolvedDeclaratorTree, ResolvedClauseTree, ClauseValue, Shared, Copied, ResolvedLoopTree, ResolvedStartTree, StartNothing, StartExpression, StartDeclaration, ResolvedUpdateTree, ResolvedStatementTree, Declaration, Block, Empty, Expression, If, IfElse, While, Do, For, Return, Break, Continue, Parallel, Task, Loop, Sections, Construct, Update, StandAlone, ResolvedStatementsTree, NoStatements, Statement, ResolvedPartsTree, NoParts, Part, ResolvedFunctionTree, ResolvedTree}
 
 -- ---- what stands round a part
 
@@ -281,17 +281,15 @@ abbrev pub after_item : Around → ResolvedStatementTree → Around
 after_item around (Declaration at ds) = after_declarators around ds
 after_item around _ = around
 
--- how many parts of `sections` begin in items
-abbrev pub part_count : ResolvedStatementsTree → ℕ
-part_count NoStatements = 0
-part_count (Statement (Section s) rest) = part_count rest + 1
-part_count (Statement s rest) = part_count rest
+-- how many parts `sections` has
+abbrev pub part_count : ResolvedPartsTree → ℕ
+part_count NoParts = 0
+part_count (Part items rest) = part_count rest + 1
 
--- one item at least, and the first begins a part
-abbrev pub BeginsPart : ResolvedStatementsTree → Type 0
-BeginsPart NoStatements = ⊥
-BeginsPart (Statement (Section s) rest) = Unit {0}
-BeginsPart (Statement s rest) = ⊥
+-- one statement at least
+abbrev pub HasItem : ResolvedStatementsTree → Type 0
+HasItem NoStatements = ⊥
+HasItem (Statement s rest) = Unit {0}
 
 abbrev mutual
   pub IsWholeStatement : Around → ResolvedStatementTree → Type 0
@@ -317,9 +315,8 @@ abbrev mutual
       AreWholeClauses around of_task clauses × IsRegion at.start clauses captures s × IsWholeStatement (within around clauses) s
   IsWholeStatement around (Loop at clauses nowait l s) =
       AreWholeClauses around of_worksharing clauses × IsWholeLoop around l × IsWholeStatement (iterated around clauses l) s
-  IsWholeStatement around (Sections at clauses nowait items) =
-      AreWholeClauses around of_worksharing clauses × BeginsPart items × (part_count items ≤ 256) × AreWholeItems (within around clauses) items
-  IsWholeStatement around (Section s) = IsWholeStatement around s
+  IsWholeStatement around (Sections at clauses nowait parts) =
+      AreWholeClauses around of_worksharing clauses × (1 ≤ part_count parts) × (part_count parts ≤ 256) × AreWholeParts (within around clauses) parts
   IsWholeStatement around (Construct at kind clauses s) = AreWholeClauses around (of_construct kind) clauses × IsWholeStatement (within around clauses) s
   IsWholeStatement around (Update at u) = IsWholeUpdate (within around []) u
   IsWholeStatement around (StandAlone at directive) = IsWholeAlone around directive
@@ -328,6 +325,11 @@ abbrev mutual
   pub AreWholeItems : Around → ResolvedStatementsTree → Type 0
   AreWholeItems around NoStatements = Unit {0}
   AreWholeItems around (Statement s rest) = IsWholeStatement around s × AreWholeItems (after_item around s) rest
+
+  -- the parts of `sections`, none of which is empty
+  pub AreWholeParts : Around → ResolvedPartsTree → Type 0
+  AreWholeParts around NoParts = Unit {0}
+  AreWholeParts around (Part items rest) = HasItem items × AreWholeItems around items × AreWholeParts around rest
 
 -- ---- a whole source
 

@@ -2,13 +2,13 @@
 
 ghost use Rattle.std.specs.Prelude.{◌≡◌, ◌++◌, [], OnOk, fold, map, nat_eq, option_map};
 ghost use Rattle.std.specs.List.{flat_map, list_any};
-ghost use Rattle.om_resolved.specs.Captures.{captured_variable, clause_uses, copy_uses, declarator_uses, expression_uses, perhaps_uses, stand_alone_uses, start_uses, statement_uses, statements_uses, update_uses, values_uses, variable_uses, with_use};
+ghost use Rattle.om_resolved.specs.Captures.{captured_variable, clause_uses, copy_uses, declarator_uses, expression_uses, perhaps_uses, stand_alone_uses, start_uses, parts_uses, statement_uses, statements_uses, update_uses, values_uses, variable_uses, with_use};
 ghost use Rattle.om_resolved.specs.ResolvedTree as trees;
-ghost use Rattle.om_resolved.specs.ResolvedView.{view_resolved_clause, view_resolved_declarator, view_resolved_expression, view_resolved_start, view_resolved_statement, view_resolved_update};
+ghost use Rattle.om_resolved.specs.ResolvedView.{view_resolved_clause, view_resolved_declarator, view_resolved_expression, view_resolved_part, view_resolved_start, view_resolved_statement, view_resolved_update};
 
 use crate::resolved::{
     Capture, CopyKind, ResolvedClause, ResolvedDeclarator, ResolvedExpression, ResolvedLoop,
-    ResolvedStart, ResolvedStatement, ResolvedUpdate, StandAlone, Variable,
+    ResolvedPart, ResolvedStart, ResolvedStatement, ResolvedUpdate, StandAlone, Variable,
 };
 use indexmap::IndexSet;
 use std::alloc::{AllocError, Global};
@@ -350,11 +350,10 @@ pub fn take_statement(
             take_bounds(found, start, clauses.as_slice(), repeated)?;
             take_statement(found, start, body)
         }
-        ResolvedStatement::Sections(_, clauses, _, items) => {
+        ResolvedStatement::Sections(_, clauses, _, parts) => {
             take_clauses(found, start, clauses.as_slice())?;
-            take_statements(found, start, items.as_slice())
+            take_parts(found, start, parts.as_slice())
         }
-        ResolvedStatement::Section(first) => take_statement(found, start, first),
         ResolvedStatement::Construct(_, _, clauses, body) => {
             take_clauses(found, start, clauses.as_slice())?;
             take_statement(found, start, body)
@@ -376,6 +375,18 @@ fn take_statements(
 {
     for item in items {
         take_statement(found, start, item)?;
+    }
+    Ok(())
+}
+
+/// Notes what the parts of `sections` use.
+#[tactic(auto, unfolding(crate::specs::Captures::parts_uses))]
+#[cycle(statement)]
+fn take_parts(found: &mut Found, start: u32, parts: &[ResolvedPart]) -> Result<(), AllocError>
+    ensures { OnOk result (found.new ≡ fold (with_use start) found.old (parts_uses (trees.parts (map view_resolved_part parts.now)))) }
+{
+    for part in parts {
+        take_statements(found, start, part.items.as_slice())?;
     }
     Ok(())
 }

@@ -230,8 +230,16 @@ pub enum StandAlone {
     Flush(Seq<Variable>),
 }
 
+/// A part of `sections` (OpenMP API 5.2, section 11.3): one statement at least.
+#[derive(Drop)]
+#[cycle(statement)]
+pub struct ResolvedPart {
+    pub items: Vec<ResolvedStatement>,
+}
+
 /// A statement (C17 6.8), with the span of its first token.
 #[derive(Drop)]
+#[cycle(statement)]
 pub enum ResolvedStatement {
     Declaration(Span, Vec<ResolvedDeclarator>),
     Block(Span, Vec<ResolvedStatement>),
@@ -258,10 +266,8 @@ pub enum ResolvedStatement {
     Task(Span, Vec<ResolvedClause>, Seq<Capture>, Box<ResolvedStatement>),
     /// `for`, whether it is `nowait`, its loop and what that repeats.
     Loop(Span, Vec<ResolvedClause>, bool, ResolvedLoop, Box<ResolvedStatement>),
-    /// `sections`, whether it is `nowait`, and its items: a part begins with each [`Self::Section`].
-    Sections(Span, Vec<ResolvedClause>, bool, Vec<ResolvedStatement>),
-    /// The first item of a part of `sections`.
-    Section(Box<ResolvedStatement>),
+    /// `sections`, whether it is `nowait`, and its parts.
+    Sections(Span, Vec<ResolvedClause>, bool, Vec<ResolvedPart>),
     Construct(Span, ConstructKind, Vec<ResolvedClause>, Box<ResolvedStatement>),
     /// `atomic` that updates, with its statement.
     Update(Span, ResolvedUpdate),

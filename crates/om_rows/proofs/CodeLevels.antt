@@ -1,27 +1,26 @@
 -- The code of a tree keeps to its bodies and its levels.
-use Rattle.std.proofs.Common.{◌≡◌, ℕ, zero, suc, ◌+◌, ◌<◌, ◌≤◌, Bool, true, false, List, [], ◌∷◌, ◌++◌, length, Option, Some, None, refl, sym, ap, ◌∙◌, subst, ⊎_elim, arith, length-append}
-use Rattle.std.specs.Prelude.{slice_get, slice_index_or, Contains, All}
+use Rattle.std.proofs.Common.{◌≡◌, ℕ, zero, suc, ◌+◌, ◌<◌, ◌≤◌, Bool, true, false, List, [], ◌∷◌, ◌++◌, length, Some, refl, sym, ap, ◌∙◌, subst, ⊎_elim, arith, length-append}
+use Rattle.std.specs.Prelude.{slice_get, Contains, All}
 use Rattle.std.specs.List.{AllZip}
 use Rattle.std.proofs.lemmas.Bool.{cases_lt}
 use Rattle.std.proofs.lemmas.List.Elements.{All-cons}
 use Rattle.std.proofs.lemmas.Option.{get_or_from_slice_get, slice_get_within}
-use Rattle.om_code.specs.declared.instruction.Barrier.TheVariants as barriers
 use Rattle.om_code.specs.declared.instruction.Instr.{Instr}
 use Rattle.om_code.specs.declared.instruction.Instr.TheVariants as i
 use Rattle.om_code.specs.declared.raw.Body.{Body}
 use Rattle.om_code.specs.declared.raw.Line.{Line}
 use Rattle.om_code.specs.declared.raw.Raw.{Raw}
-use Rattle.om_code.specs.Validity.{HasOneHeight, StaysInside}
+use Rattle.om_code.specs.Validity.{HasOneHeight}
 use Rattle.om_code.specs.Ways.{pops, pushes, successors, Way, starts, follows}
 use Rattle.om_resolved.specs.declared.resolved.ConstructKind.TheVariants as constructs
-use Rattle.om_resolved.specs.ResolvedTree.{ResolvedExpressionTree, ResolvedStatementTree, Declaration, Block, Empty, Expression, If, IfElse, While, Do, For, Return, Break, Continue, Parallel, Task, Loop, Sections, Section, Construct, Update, StandAlone, ResolvedStatementsTree, NoStatements, Statement, ResolvedFunctionTree, ResolvedTree}
-use Rattle.om_rows.specs.Bodies.{Numbers, next_pick, behind, BodyTree, BodySite, FunctionBody, ParallelBody, TaskBody, bodies_of}
-use Rattle.om_rows.specs.Code.{body_row, last_instruction, site_of, IsBodyOf, IsCodeOf}
+use Rattle.om_resolved.specs.ResolvedTree.{ResolvedStatementTree, Declaration, Block, Empty, Expression, If, IfElse, While, Do, For, Return, Break, Continue, Parallel, Task, Loop, Sections, Construct, Update, StandAlone, ResolvedStatementsTree, NoStatements, Statement, ResolvedPartsTree, NoParts, Part, ResolvedFunctionTree, ResolvedTree}
+use Rattle.om_rows.specs.Bodies.{Numbers, next_pick, behind, behind_all, BodyTree, BodySite, FunctionBody, ParallelBody, TaskBody, bodies_of}
+use Rattle.om_rows.specs.Code.{body_row, last_instruction, site_of, IsBodyOf}
 use Rattle.om_rows.specs.Expressions.{effect}
 use Rattle.om_rows.specs.Laws.{CodeIsLevel, IsLevel}
 use Rattle.om_rows.specs.Operators.{comparison_of}
-use Rattle.om_rows.specs.Rows.{Site, Row, part, ◌▸◌}
-use Rattle.om_rows.specs.Statements.{Jumps, nowhere, in_loop, in_iteration, test, clause_value, given_copies, loop_rest, begins_part, part_end, part_begin, parts_end, statement, statements, parts}
+use Rattle.om_rows.specs.Rows.{Site, Row, ins, part, here, ◌▸◌}
+use Rattle.om_rows.specs.Statements.{Jumps, nowhere, in_loop, in_iteration, test, clause_value, given_copies, loop_rest, with_place, no_place, statement, statements, parts}
 use Rattle.om_rows.proofs.Levels.{Levels, Each, HasAt, IsAt, IsFine, nothing, level_end, level_ins, level_next, level_either, level_jump, level_within, level_as, level_more, level_free, level_part, level_here, level_closed}
 use Rattle.om_rows.proofs.StatementLevels as heads
 
@@ -49,23 +48,14 @@ module _ (at : Site) where
   abbrev Begin : List ℕ → ℕ → List ℕ → Type 0
   Begin places h hs = Each (λ to. IsAt hs to h) places
 
-  part_end_levels : (l grab : ℕ) (opened : Bool) → heads.Steady at (Label grab) (heads.none at) (part_end at l grab opened)
-  part_end_levels l grab true h p q r = level_jump {next = h} r refl (omega arith) (omega arith) (λ hs n. n) level_end
-  part_end_levels l grab false h p q r = level_end r
+  no_place_levels : (grab : ℕ) (places : List ℕ) → heads.Steady at (Label grab) (Begin places) (no_place places)
+  no_place_levels grab [] h p q r = level_as (level_end r) (λ hs g. tt)
+  no_place_levels grab (x ∷ xs) h p q r = absurd r
 
-  parts_end_levels : (l grab : ℕ) (opened : Bool) (places : List ℕ) → heads.Steady at (Label grab) (Begin places) (parts_end at l grab opened places)
-  parts_end_levels l grab opened [] h p q r = level_as (part_end_levels l grab opened h p q r) (λ hs g. tt)
-  parts_end_levels l grab opened (x ∷ xs) h p q r = absurd r
-
-  part_begin_levels : (l grab : ℕ) (begins opened : Bool) (places : List ℕ) (rest : Bool → List ℕ → Row)
-      → ((o : Bool) (ps : List ℕ) → heads.Steady at (Label grab) (Begin ps) (rest o ps))
-      → heads.Steady at (Label grab) (Begin places) (part_begin at l grab begins opened places rest)
-  part_begin_levels l grab false opened places rest f h p q r = f opened places h p q r
-  part_begin_levels l grab true opened [] rest f h p q r = absurd r
-  part_begin_levels l grab true opened (x ∷ xs) rest f h p q r =
-      level_as
-      (level_within r (λ hs n. n) (part_end_levels l grab opened h p) (λ m r. level_here r (λ r. f true xs h m q r)))
-      (λ hs g. g.1)
+  with_place_levels : {N : ℕ → List ℕ → Type 0} (places : List ℕ) (row : ℕ → List ℕ → Row)
+      → ((x : ℕ) (xs : List ℕ) → heads.Steady at N (Begin (x ∷ xs)) (row x xs)) → heads.Steady at N (Begin places) (with_place places row)
+  with_place_levels [] row f h p q r = absurd r
+  with_place_levels (x ∷ xs) row f h p q r = f x xs h p q r
 
   mutual
     pub statement_levels : (s : ResolvedStatementTree) (n : Numbers) (j : Jumps) → heads.Steady at (Room j) (heads.none at) (statement at n s j)
@@ -128,19 +118,18 @@ module _ (at : Site) where
         (λ comparison. heads.loop_levels at first.line clauses nowait loop (λ next. statement at n s (in_iteration next)) comparison
         (λ next h p q r. level_more (statement_levels s n (in_iteration next) h p q r) (λ hs k. (tt, k))))
         h p q r)
-    statement_levels (Sections first clauses nowait items) n j h p q r =
+    statement_levels (Sections first clauses nowait sections) n j h p q r =
         level_closed {L = λ hs. IsAt hs r.1 h × IsAt hs r.2 h × Begin r.0 h hs}
         (level_part r.4 (heads.starts_levels at first.line clauses h p) (λ m u.
         level_next {next = h} h u refl (omega arith) (omega arith) (λ u.
         level_here u (λ u.
         level_either {next = h} h u refl (omega arith) (omega arith) (λ hs k. k.1.1) (λ u.
         level_pick r.0 u r.3 (λ hs k. k.1.2) (λ u.
-        level_within u (λ hs k. k.1.0) (parts_levels items (next_pick n) first.line r.1 false r.0 h (m + 1 + 1 + 1)) (λ m u.
+        level_within u (λ hs k. k.1.0) (parts_levels sections (next_pick n) first.line r.1 r.0 h (m + 1 + 1 + 1)) (λ m u.
         level_here u (λ u.
         level_part u (heads.reductions_levels at first.line clauses h m) (λ m u.
         level_free (heads.end_levels at first.line nowait h m q u))))))))))
         (λ hs g. (g.0, g.1.1.0, g.1.0)) (λ hs g. tt)
-    statement_levels (Section s) n j h p q r = statement_levels s n j h p q r
     statement_levels (Construct first (constructs.Single nowait) clauses s) n j h p q r =
         level_free (heads.single_levels at first.line nowait clauses (statement at n s nowhere) (λ h p q r. level_more (statement_levels s n nowhere h p q r) (λ hs k. (tt, tt))) h p q r)
     statement_levels (Construct first constructs.Masked clauses s) n j h p q r =
@@ -158,16 +147,18 @@ module _ (at : Site) where
     statements_levels (Statement s rest) n j h p q r =
         level_as (level_within r (λ hs k. k) (statement_levels s n j h p) (λ m r. statements_levels rest (behind n s) j h m q r)) (λ hs g. tt)
 
-    pub parts_levels : (items : ResolvedStatementsTree) (n : Numbers) (l grab : ℕ) (opened : Bool) (places : List ℕ)
-        → heads.Steady at (Label grab) (Begin places) (parts at n l grab items opened places)
-    parts_levels NoStatements n l grab opened places h p q r = parts_end_levels l grab opened places h p q r
-    parts_levels (Statement s rest) n l grab opened places h p q r =
-        part_begin_levels l grab (begins_part s) opened places
-        (λ o ps. part (statement at n s nowhere) ▸ parts at (behind n s) l grab rest o ps)
-        (λ o ps h p q r.
+    pub parts_levels : (sections : ResolvedPartsTree) (n : Numbers) (l grab : ℕ) (places : List ℕ)
+        → heads.Steady at (Label grab) (Begin places) (parts at n l grab sections places)
+    parts_levels NoParts n l grab places h p q r = no_place_levels grab places h p q r
+    parts_levels (Part items rest) n l grab places h p q r =
+        with_place_levels places
+        (λ x xs. here x ▸ part (statements at n items nowhere) ▸ ins at l (i.Jump grab) ▸ parts at (behind_all n items) l grab rest xs)
+        (λ x xs h p q r.
         level_as
-        (level_within r (λ hs k. (tt, tt)) (statement_levels s n nowhere h p) (λ m r. parts_levels rest (behind n s) l grab o ps h m q r))
-        (λ hs g. g.1))
+        (level_here r (λ r.
+        level_within r (λ hs k. (tt, tt)) (statements_levels items n nowhere h p) (λ m r.
+        level_jump {next = h} r refl (omega arith) (omega arith) (λ hs k. k) (λ r. parts_levels rest (behind_all n items) l grab xs h (m + 1) q r))))
+        (λ hs g. (g.0, g.1.1)))
         h p q r
 
 -- ---- from heights to ways
@@ -272,7 +263,7 @@ last_ways : (picks : List (List ℕ)) (m : ℕ) (is_main : Bool) → successors 
 last_ways picks m true = refl
 last_ways picks m false = refl
 
-body_levels : (at : Site) (n : Numbers) (f : ResolvedFunctionTree) (tree : BodyTree) → body_row at n f tree 0 (length at.code) → IsLevel at.picks at.code
+pub body_levels : (at : Site) (n : Numbers) (f : ResolvedFunctionTree) (tree : BodyTree) → body_row at n f tree 0 (length at.code) → IsLevel at.picks at.code
 body_levels at n f FunctionBody r =
     finished at.picks at.code r.0 f.closing_line (last_instruction at.is_main)
     (level_more (statements_levels at f.body n nowhere 0 0 r.0 r.1) (λ hs k. (tt, tt)))

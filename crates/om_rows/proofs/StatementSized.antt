@@ -1,9 +1,8 @@
 -- The code of a statement has as many instructions as the statement tells.
-use Rattle.std.proofs.Common.{◌≡◌, ℕ, ◌+◌, ℤ, pos, Bool, true, false, List, [], ◌∷◌, length, Option, Some, None, refl, sym, ap, ◌∙◌, arith}
-use Rattle.std.specs.Prelude.{◌&&◌, ◌||◌}
+use Rattle.std.proofs.Common.{◌≡◌, ℕ, ◌+◌, Bool, true, false, List, [], ◌∷◌, length, Option, Some, None, arith}
 use Rattle.om_code.specs.declared.instruction.AtomicOperator.{AtomicOperator}
-use Rattle.om_code.specs.declared.instruction.BinaryOperator as machine
 use Rattle.om_code.specs.declared.instruction.Comparison.{Comparison}
+use Rattle.om_code.specs.declared.instruction.Instr.TheVariants as i
 use Rattle.om_code.specs.declared.instruction.Side.{Side}
 use Rattle.om_resolved.specs.declared.resolved.ConstructKind.TheVariants as constructs
 use Rattle.om_resolved.specs.declared.resolved.CopyKind.{CopyKind}
@@ -11,18 +10,16 @@ use Rattle.om_resolved.specs.declared.resolved.CopyKind.TheVariants as copies
 use Rattle.om_resolved.specs.declared.resolved.LocalVariable.{LocalVariable}
 use Rattle.om_resolved.specs.declared.resolved.StandAlone as alone
 use Rattle.om_resolved.specs.declared.resolved.StandAlone.TheVariants as alones
-use Rattle.om_resolved.specs.declared.resolved.UnaryOperator.{UnaryOperator}
-use Rattle.om_resolved.specs.declared.resolved.UnaryOperator.TheVariants as unaries
 use Rattle.om_resolved.specs.declared.resolved.Variable as variables
-use Rattle.om_resolved.specs.ResolvedTree.{ResolvedExpressionTree, Constant, Variable, Element, Call, ThreadNumber, TeamSize, Print, Unary, Binary, Conditional, Assign, AssignElement, Postfix, PostfixElement, ValuesTree, NoValues, Value, ResolvedDeclaratorTree, ResolvedClauseTree, ClauseValue, Shared, Copied, ResolvedLoopTree, ResolvedUpdateTree, ResolvedStartTree, StartNothing, StartExpression, StartDeclaration, ResolvedStatementTree, Declaration, Block, Empty, Expression, If, IfElse, While, Do, For, Return, Break, Continue, Parallel, Task, Loop, Sections, Section, Construct, Update, StandAlone, ResolvedStatementsTree, NoStatements, Statement}
-use Rattle.om_rows.specs.Bodies.{Numbers, next_pick, behind}
-use Rattle.om_rows.specs.Expressions.{constant, unary_row, binary_row, conditional_row, assigned, element_assigned, called, printed, value, values, effect}
-use Rattle.om_rows.specs.Operators.{BinaryForm, Both, Either, Plain, form_of, compound_of, step_of, undo_of, comparison_of, update_of, side_of}
-use Rattle.om_rows.specs.Rows.{Site, Row, part, ◌▸◌, given, perhaps, each}
-use Rattle.om_rows.specs.Sizes.{unary_size, binary_size, assigned_size, element_assigned_size, value_size, values_size, effect_size, perhaps_size, each_size, declarator_size, start_size, test_size, copy_start_size, clause_start_size, combined_size, clause_combined_size, end_size, filter_size, alone_size, update_size, assignment_size, construct_size, loop_size, jump_size, statement_size, statements_size, parts_size}
+use Rattle.om_resolved.specs.ResolvedTree.{ResolvedExpressionTree, ResolvedDeclaratorTree, ResolvedClauseTree, ClauseValue, Shared, Copied, ResolvedLoopTree, ResolvedStartTree, StartNothing, StartExpression, StartDeclaration, ResolvedStatementTree, Declaration, Block, Empty, Expression, If, IfElse, While, Do, For, Return, Break, Continue, Parallel, Task, Loop, Sections, Construct, Update, StandAlone, ResolvedStatementsTree, NoStatements, Statement, ResolvedPartsTree, NoParts, Part}
+use Rattle.om_rows.specs.Bodies.{Numbers, next_pick, behind, behind_all}
+use Rattle.om_rows.specs.Expressions.{value, effect}
+use Rattle.om_rows.specs.Operators.{comparison_of, update_of, side_of}
+use Rattle.om_rows.specs.Rows.{Site, Row, ins, part, here, ◌▸◌, given, perhaps, each}
+use Rattle.om_rows.specs.Sizes.{value_size, effect_size, perhaps_size, each_size, declarator_size, start_size, test_size, copy_start_size, clause_start_size, combined_size, clause_combined_size, end_size, filter_size, alone_size, assignment_size, loop_size, statement_size, statements_size, parts_size}
 use Rattle.om_rows.specs.Slots.{FirstCopy}
 use Rattle.om_rows.proofs.Sized as expressions
-use Rattle.om_rows.specs.Statements.{Jumps, nowhere, in_loop, in_iteration, jump, declared, declarator, start, test, returned, copy_start, clause_start, starts, combined, clause_combined, reductions, clause_value, given_copies, load_original, worksharing_end, alone_row, filter_row, updated, update_row, assignment_row, loop_rest, parallel_row, begins_part, part_end, part_begin, parts_end, statement, statements, parts}
+use Rattle.om_rows.specs.Statements.{Jumps, nowhere, in_loop, in_iteration, jump, declared, declarator, start, test, returned, copy_start, clause_start, starts, combined, clause_combined, reductions, clause_value, given_copies, load_original, worksharing_end, alone_row, filter_row, updated, assignment_row, loop_rest, parallel_row, with_place, no_place, statement, statements, parts}
 
 module _ (at : Site) where
   abbrev Has : Row → ℕ → Type 0
@@ -136,20 +133,13 @@ module _ (at : Site) where
       let a = perhaps_sized (value at l) value_size size (value_sized l) p r.0 r.1 in
       let b = loads_sized l xs r.0 r.2.0 r.2.1 in omega arith
 
-  part_end_sized : (l grab : ℕ) (opened : Bool) → Has (part_end at l grab opened) (jump_size opened)
-  part_end_sized l grab true p q r = omega arith
-  part_end_sized l grab false p q r = omega arith
+  no_place_sized : (places : List ℕ) → Has (no_place places) 0
+  no_place_sized [] p q r = omega arith
+  no_place_sized (x ∷ xs) p q r = absurd r
 
-  parts_end_sized : (l grab : ℕ) (opened : Bool) (places : List ℕ) → Has (parts_end at l grab opened places) (jump_size opened)
-  parts_end_sized l grab opened [] p q r = part_end_sized l grab opened p q r
-  parts_end_sized l grab opened (x ∷ xs) p q r = absurd r
-
-  part_begin_sized : (l grab : ℕ) (begins opened : Bool) (places : List ℕ) (rest : Bool → List ℕ → Row) (size : Bool → ℕ)
-      → ((o : Bool) (ps : List ℕ) → Has (rest o ps) (size o)) → Has (part_begin at l grab begins opened places rest) (jump_size (begins && opened) + size (begins || opened))
-  part_begin_sized l grab false opened places rest size f p q r = let a = f opened places p q r in omega arith
-  part_begin_sized l grab true opened [] rest size f p q r = absurd r
-  part_begin_sized l grab true opened (x ∷ xs) rest size f p q r =
-      let a = part_end_sized l grab opened p r.0 r.1 in let b = f true xs r.0 q r.2.1 in omega arith
+  with_place_sized : (places : List ℕ) (row : ℕ → List ℕ → Row) (size : ℕ) → ((x : ℕ) (xs : List ℕ) → Has (row x xs) size) → Has (with_place places row) size
+  with_place_sized [] row size f p q r = absurd r
+  with_place_sized (x ∷ xs) row size f p q r = f x xs p q r
 
   mutual
     pub statement_sized : (s : ResolvedStatementTree) (n : Numbers) (j : Jumps) → Has (statement at n s j) (statement_size s)
@@ -187,12 +177,11 @@ module _ (at : Site) where
         (λ comparison. loop_sized first.line clauses nowait loop (λ next. statement at n s (in_iteration next)) (statement_size s) comparison
         (λ next p q r. statement_sized s n (in_iteration next) p q r))
         p q r
-    statement_sized (Sections first clauses nowait items) n j p q r =
+    statement_sized (Sections first clauses nowait sections) n j p q r =
         let u = r.4 in let a = starts_sized first.line clauses p u.0 u.1 in
-        let v = u.2.1.1.1.1 in let b = parts_sized items (next_pick n) first.line r.1 false r.0 (u.0 + 1 + 1 + 1) v.0 v.1 in
+        let v = u.2.1.1.1.1 in let b = parts_sized sections (next_pick n) first.line r.1 r.0 (u.0 + 1 + 1 + 1) v.0 v.1 in
         let w = v.2.1 in let d = reductions_sized first.line clauses v.0 w.0 w.1 in
         let e = end_sized first.line nowait w.0 q w.2 in omega arith
-    statement_sized (Section s) n j p q r = statement_sized s n j p q r
     statement_sized (Construct first (constructs.Single nowait) clauses s) n j p q r =
         let u = r.1.1 in let a = starts_sized first.line clauses (p + 1) u.0 u.1 in
         let v = u.2 in let b = statement_sized s n nowhere u.0 v.0 v.1 in
@@ -213,12 +202,14 @@ module _ (at : Site) where
     statements_sized (Statement s rest) n j p q r =
         let a = statement_sized s n j p r.0 r.1 in let b = statements_sized rest (behind n s) j r.0 q r.2 in omega arith
 
-    pub parts_sized : (items : ResolvedStatementsTree) (n : Numbers) (l grab : ℕ) (opened : Bool) (places : List ℕ)
-        → Has (parts at n l grab items opened places) (parts_size items opened)
-    parts_sized NoStatements n l grab opened places p q r = parts_end_sized l grab opened places p q r
-    parts_sized (Statement s rest) n l grab opened places p q r =
-        let a = part_begin_sized l grab (begins_part s) opened places
-        (λ o ps. part (statement at n s nowhere) ▸ parts at (behind n s) l grab rest o ps)
-        (λ o. statement_size s + parts_size rest o)
-        (λ o ps p q r. let b = statement_sized s n nowhere p r.0 r.1 in let d = parts_sized rest (behind n s) l grab o ps r.0 q r.2 in omega arith)
-        p q r in omega arith
+    pub parts_sized : (sections : ResolvedPartsTree) (n : Numbers) (l grab : ℕ) (places : List ℕ)
+        → Has (parts at n l grab sections places) (parts_size sections)
+    parts_sized NoParts n l grab places p q r = no_place_sized places p q r
+    parts_sized (Part items rest) n l grab places p q r =
+        with_place_sized places
+        (λ x xs. here x ▸ part (statements at n items nowhere) ▸ ins at l (i.Jump grab) ▸ parts at (behind_all n items) l grab rest xs)
+        (statements_size items + 1 + parts_size rest)
+        (λ x xs p q r.
+        let u = r.1 in let a = statements_sized items n nowhere p u.0 u.1 in
+        let b = parts_sized rest (behind_all n items) l grab xs (u.0 + 1) q u.2.1 in omega arith)
+        p q r

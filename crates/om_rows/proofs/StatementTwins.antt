@@ -1,31 +1,20 @@
 -- Two codes of one statement: they are one, and so are the lists of PICK that they have.
-use Rattle.std.proofs.Common.{◌≡◌, ℕ, ◌+◌, ◌<◌, ◌≤◌, ℤ, pos, Bool, true, false, List, [], ◌∷◌, length, Option, Some, None, refl, sym, ap, ◌∙◌, ⊎_elim, arith}
-use Rattle.std.specs.Prelude.{slice_get, option_map, ◌++◌}
+use Rattle.std.proofs.Common.{◌≡◌, ℕ, ◌+◌, ◌<◌, ◌≤◌, List, [], ◌∷◌, length, Some, refl, sym, ap, ◌∙◌, ⊎_elim, arith}
+use Rattle.std.specs.Prelude.{slice_get, ◌++◌}
 use Rattle.om_resolved.specs.Uses.{is_main_function}
 use Rattle.om_lexer.specs.declared.token.Span.{Span}
 use Rattle.std.proofs.lemmas.Bool.{cases_lt}
-use Rattle.om_code.specs.declared.instruction.Barrier.{Barrier}
-use Rattle.om_code.specs.declared.instruction.Comparison.{Comparison}
-use Rattle.om_code.specs.declared.instruction.Instr.{Instr}
 use Rattle.om_code.specs.declared.instruction.Instr.TheVariants as i
 use Rattle.om_code.specs.declared.raw.Line.{Line}
 use Rattle.om_resolved.specs.declared.resolved.Capture.{Capture}
-use Rattle.om_resolved.specs.declared.resolved.ConstructKind.{ConstructKind}
 use Rattle.om_resolved.specs.declared.resolved.ConstructKind.TheVariants as constructs
-use Rattle.om_resolved.specs.declared.resolved.CopyKind.{CopyKind}
-use Rattle.om_resolved.specs.declared.resolved.CopyKind.TheVariants as copies
-use Rattle.om_resolved.specs.declared.resolved.LocalVariable.{LocalVariable}
-use Rattle.om_resolved.specs.declared.resolved.StandAlone as alone
-use Rattle.om_resolved.specs.declared.resolved.StandAlone.TheVariants as alones
-use Rattle.om_resolved.specs.declared.resolved.Variable as variables
-use Rattle.om_resolved.specs.ResolvedTree.{ResolvedExpressionTree, ResolvedDeclaratorTree, ResolvedClauseTree, ClauseValue, Shared, Copied, ResolvedLoopTree, ResolvedUpdateTree, ResolvedStartTree, StartNothing, StartExpression, StartDeclaration, ResolvedStatementTree, Declaration, Block, Empty, Expression, If, IfElse, While, Do, For, Return, Break, Continue, Parallel, Task, Loop, Sections, Section, Construct, Update, StandAlone, ResolvedStatementsTree, NoStatements, Statement, ResolvedFunctionTree}
-use Rattle.om_rows.specs.Bodies.{Numbers, next_body, next_pick, behind, behind_all, BodySite, FunctionBody, ParallelBody, TaskBody, variables_of, region_variables, regions, all_regions}
+use Rattle.om_resolved.specs.ResolvedTree.{ResolvedClauseTree, ResolvedStatementTree, Declaration, Block, Empty, Expression, If, IfElse, While, Do, For, Return, Break, Continue, Parallel, Task, Loop, Sections, Construct, Update, StandAlone, ResolvedStatementsTree, NoStatements, Statement, ResolvedPartsTree, NoParts, Part, ResolvedFunctionTree}
+use Rattle.om_rows.specs.Bodies.{Numbers, next_body, next_pick, behind, behind_all, behind_parts, BodySite, ParallelBody, TaskBody, variables_of, region_variables, regions, all_regions, parts_regions}
 use Rattle.om_rows.specs.Code.{body_row}
-use Rattle.om_rows.specs.Expressions.{constant, value, effect}
+use Rattle.om_rows.specs.Expressions.{effect}
 use Rattle.om_rows.specs.Operators.{comparison_of}
-use Rattle.om_rows.specs.Rows.{Site, Row, part, ◌▸◌, given, perhaps, each, unless}
-use Rattle.om_rows.specs.Slots.{FirstCopy, slot}
-use Rattle.om_rows.specs.Statements.{Jumps, nowhere, in_loop, in_iteration, jump, declared, declarator, start, test, returned, copy_start, clause_start, starts, reduction_start, clause_reduction_start, reduction_starts, combined, clause_combined, reductions, clause_value, given_copies, load_original, barrier, worksharing_end, alone_row, filter_row, single_row, masked_row, critical_row, assignment_row, updated, update_row, group_row, construct_row, loop_row, loop_rest, sections_row, parallel_row, task_row, begins_part, part_end, part_begin, parts_end, statement, statements, parts}
+use Rattle.om_rows.specs.Rows.{Site, Row, ins, part, here, ◌▸◌}
+use Rattle.om_rows.specs.Statements.{Jumps, nowhere, in_loop, in_iteration, test, clause_value, given_copies, assignment_row, loop_rest, with_place, no_place, statement, statements, parts}
 use Rattle.om_rows.proofs.Twins.{Alike, twin_end, twin_jump, twin_next, twin_within, twin_as, twin_more, twin_free, twin_part, twin_here, twin_closed}
 use Rattle.om_rows.proofs.HeadTwins as heads
 use Rattle.om_rows.proofs.ExpressionTwins as expressions
@@ -100,38 +89,27 @@ module _ (functions : List ResolvedFunctionTree) (formats locks picks picks' : L
     abbrev pub Twins : List Line → List Line → Type 0 → Type 0 → Row → Row → Type 0
     Twins code code' needs gives r t = (p p' q q' : ℕ) → r p q → t p' q' → Alike code code' needs gives p q p' q'
 
-    parts_end_twin : (base : Site) (code code' : List Line) (l grab grab' : ℕ) (opened : Bool) (places places' : List ℕ)
-        → Twins code code' (grab ≡ grab') (places ≡ places')
-        (parts_end (with_code base code picks) l grab opened places) (parts_end (with_code base code' picks') l grab' opened places')
-    parts_end_twin base code code' l grab grab' true [] [] p p' q q' r t = twin_as (twin_jump r t (λ k. ap i.Jump k) twin_end) (λ g. refl)
-    parts_end_twin base code code' l grab grab' false [] [] p p' q q' r t = twin_as (twin_end r t) (λ g. refl)
-    parts_end_twin base code code' l grab grab' opened (x ∷ xs) places' p p' q q' r t = absurd r
-    parts_end_twin base code code' l grab grab' opened [] (y ∷ ys) p p' q q' r t = absurd t
+    no_place_twin : {N : Type 0} (code code' : List Line) (places places' : List ℕ) → Twins code code' N (places ≡ places') (no_place places) (no_place places')
+    no_place_twin code code' [] [] p p' q q' r t = twin_as (twin_end r t) (λ g. refl)
+    no_place_twin code code' (x ∷ xs) places' p p' q q' r t = absurd r
+    no_place_twin code code' [] (y ∷ ys) p p' q q' r t = absurd t
 
-    part_end_twin : (base : Site) (code code' : List Line) (l grab grab' : ℕ) (opened : Bool)
-        → Twins code code' (grab ≡ grab') (Unit {0}) (part_end (with_code base code picks) l grab opened) (part_end (with_code base code' picks') l grab' opened)
-    part_end_twin base code code' l grab grab' true p p' q q' r t = twin_jump r t (λ k. ap i.Jump k) twin_end
-    part_end_twin base code code' l grab grab' false p p' q q' r t = twin_end r t
+    with_place_twin : {N H : Type 0} (code code' : List Line) (places places' : List ℕ) (row row' : ℕ → List ℕ → Row)
+        → ((x y : ℕ) (xs ys : List ℕ) → Twins code code' N ((x ≡ y) × (xs ≡ ys) × H) (row x xs) (row' y ys))
+        → Twins code code' N ((places ≡ places') × H) (with_place places row) (with_place places' row')
+    with_place_twin code code' [] places' row row' h p p' q q' r t = absurd r
+    with_place_twin code code' (x ∷ xs) [] row row' h p p' q q' r t = absurd t
+    with_place_twin code code' (x ∷ xs) (y ∷ ys) row row' h p p' q q' r t = twin_as (h x y xs ys p p' q q' r t) (λ g. (cc (g.0, g.1), g.2))
 
-    part_begin_twin : {H : Type 0} (base : Site) (code code' : List Line) (l grab grab' : ℕ) (begins opened : Bool) (places places' : List ℕ) (rest rest' : Bool → List ℕ → Row)
-        → ((o : Bool) (ps ps' : List ℕ) → Twins code code' (grab ≡ grab') ((ps ≡ ps') × H) (rest o ps) (rest' o ps'))
-        → Twins code code' (grab ≡ grab') ((places ≡ places') × H)
-        (part_begin (with_code base code picks) l grab begins opened places rest) (part_begin (with_code base code' picks') l grab' begins opened places' rest')
-    part_begin_twin base code code' l grab grab' false opened places places' rest rest' h p p' q q' r t = h opened places places' p p' q q' r t
-    part_begin_twin base code code' l grab grab' true opened [] places' rest rest' h p p' q q' r t = absurd r
-    part_begin_twin base code code' l grab grab' true opened (x ∷ xs) [] rest rest' h p p' q q' r t = absurd t
-    part_begin_twin base code code' l grab grab' true opened (x ∷ xs) (y ∷ ys) rest rest' h p p' q q' r t =
-        twin_as
-        (twin_within r t (λ n. n) (part_end_twin base code code' l grab grab' opened p p') (λ m m' r t.
-        twin_here r t (λ r t. h true xs ys m m' q q' r t)))
-        (λ g. (cc (g.1.0, g.1.1.0), g.1.1.1))
-
-    -- the bodies of regions given, the lists of a statement, of statements
+    -- the bodies of regions given, the lists of a statement, of statements, of parts
     abbrev pub Covers-in : List ℕ → Numbers → ResolvedStatementTree → Type 0
     Covers-in outer n s = HaveCodes (regions f outer n s) → Covered n.picks (behind n s).picks
 
     abbrev pub Covers-all : List ℕ → Numbers → ResolvedStatementsTree → Type 0
     Covers-all outer n items = HaveCodes (all_regions f outer n items) → Covered n.picks (behind_all n items).picks
+
+    abbrev pub Covers-parts : List ℕ → Numbers → ResolvedPartsTree → Type 0
+    Covers-parts outer n sections = HaveCodes (parts_regions f outer n sections) → Covered n.picks (behind_parts n sections).picks
 
     own : {N X : Type 0} {code code' : List Line} {p p' q q' : ℕ} (n : Numbers) → Alike code code' N (Unit {0}) p q p' q' → Alike code code' N (X → Covered n.picks n.picks) p q p' q'
     own n a = twin_as a (λ g h. covers_none n.picks)
@@ -164,7 +142,7 @@ module _ (functions : List ResolvedFunctionTree) (formats locks picks picks' : L
         let r = h.one in let t = h.other in (twin 0 0 r.0 t.0 r.1 t.1).given refl inner
 
     mutual
-      unfolding regions all_regions
+      unfolding regions all_regions parts_regions
 
       pub statement_twin : (s : ResolvedStatementTree) (n : Numbers) (outer : List ℕ) (base : Site) (code code' : List Line) (j j' : Jumps)
           → Twins code code' (Same j j') (Covers-in outer n s)
@@ -255,7 +233,7 @@ module _ (functions : List ResolvedFunctionTree) (formats locks picks picks' : L
           (λ next next' p p' q q' r t. twin_more (statement_twin s n outer base code code' (in_iteration next) (in_iteration next') p p' q q' r t) (λ k. (refl, ap Some k))))
           p p' q q' r t)
           (λ k. tt)
-      statement_twin (Sections first clauses nowait items) n outer base code code' j j' p p' q q' r t =
+      statement_twin (Sections first clauses nowait sections) n outer base code code' j j' p p' q q' r t =
           twin_closed {L = (r.0 ≡ t.0) × (r.1 ≡ t.1) × (r.2 ≡ t.2)}
           (twin_part r.4 t.4 (heads.starts_twin base code code' picks picks' first.line clauses p p') (λ m m' u v.
           twin_jump u v (λ k. ap (λ z. i.Sections (length z)) k.1.0) (λ u v.
@@ -263,13 +241,12 @@ module _ (functions : List ResolvedFunctionTree) (formats locks picks picks' : L
           twin_jump u v (λ k. ap i.Grab k.1.2) (λ u v.
           twin_next u v (λ u v.
           twin_within u v (λ k. k.1.1)
-          (parts_twin items (next_pick n) outer base code code' first.line r.1 t.1 false r.0 t.0 (m + 1 + 1 + 1) (m' + 1 + 1 + 1)) (λ m m' u v.
+          (parts_twin sections (next_pick n) outer base code code' first.line r.1 t.1 r.0 t.0 (m + 1 + 1 + 1) (m' + 1 + 1 + 1)) (λ m m' u v.
           twin_here u v (λ u v.
           twin_part u v (heads.reductions_twin base code code' picks picks' first.line clauses m m') (λ m m' u v.
           twin_more (heads.end_twin base code code' picks picks' first.line nowait m m' q q' u v) (λ k. tt))))))))))
           (λ g. (g.1.0.0, g.0, g.1.1.0))
-          (λ g h. covers_join n.picks (n.picks + 1) (behind_all (next_pick n) items).picks (covers_one n.picks (r.3 ∙ ap Some g.1.0.0 ∙ sym t.3)) (g.1.0.1 h))
-      statement_twin (Section s) n outer base code code' j j' p p' q q' r t = statement_twin s n outer base code code' j j' p p' q q' r t
+          (λ g h. covers_join n.picks (n.picks + 1) (behind_parts (next_pick n) sections).picks (covers_one n.picks (r.3 ∙ ap Some g.1.0.0 ∙ sym t.3)) (g.1.0.1 h))
       statement_twin (Construct first (constructs.Single nowait) clauses s) n outer base code code' j j' p p' q q' r t =
           twin_more
           (heads.single_twin base code code' picks picks' first.line nowait clauses
@@ -317,23 +294,28 @@ module _ (functions : List ResolvedFunctionTree) (formats locks picks picks' : L
           (g.0 (front (regions f outer n s) (all_regions f outer (behind n s) rest) h))
           (g.1 (back (regions f outer n s) (all_regions f outer (behind n s) rest) h)))
 
-      pub parts_twin : (items : ResolvedStatementsTree) (n : Numbers) (outer : List ℕ) (base : Site) (code code' : List Line) (l grab grab' : ℕ) (opened : Bool) (places places' : List ℕ)
-          → Twins code code' (grab ≡ grab') ((places ≡ places') × Covers-all outer n items)
-          (parts (with_code base code picks) n l grab items opened places) (parts (with_code base code' picks') n l grab' items opened places')
-      parts_twin NoStatements n outer base code code' l grab grab' opened places places' p p' q q' r t =
-          twin_as (parts_end_twin base code code' l grab grab' opened places places' p p' q q' r t) (λ g. (g, λ h. covers_none n.picks))
-      parts_twin (Statement s rest) n outer base code code' l grab grab' opened places places' p p' q q' r t =
-          part_begin_twin base code code' l grab grab' (begins_part s) opened places places'
-          (λ o ps. part (statement (with_code base code picks) n s nowhere) ▸ parts (with_code base code picks) (behind n s) l grab rest o ps)
-          (λ o ps. part (statement (with_code base code' picks') n s nowhere) ▸ parts (with_code base code' picks') (behind n s) l grab' rest o ps)
-          (λ o ps ps' p p' q q' r t.
+      pub parts_twin : (sections : ResolvedPartsTree) (n : Numbers) (outer : List ℕ) (base : Site) (code code' : List Line) (l grab grab' : ℕ) (places places' : List ℕ)
+          → Twins code code' (grab ≡ grab') ((places ≡ places') × Covers-parts outer n sections)
+          (parts (with_code base code picks) n l grab sections places) (parts (with_code base code' picks') n l grab' sections places')
+      parts_twin NoParts n outer base code code' l grab grab' places places' p p' q q' r t =
+          twin_as (no_place_twin code code' places places' p p' q q' r t) (λ g. (g, λ h. covers_none n.picks))
+      parts_twin (Part items rest) n outer base code code' l grab grab' places places' p p' q q' r t =
+          with_place_twin code code' places places'
+          (λ x xs. here x ▸ part (statements (with_code base code picks) n items nowhere) ▸ ins (with_code base code picks) l (i.Jump grab)
+          ▸ parts (with_code base code picks) (behind_all n items) l grab rest xs)
+          (λ x xs. here x ▸ part (statements (with_code base code' picks') n items nowhere) ▸ ins (with_code base code' picks') l (i.Jump grab')
+          ▸ parts (with_code base code' picks') (behind_all n items) l grab' rest xs)
+          (λ x y xs ys p p' q q' r t.
           twin_as
-          (twin_within r t (λ k. (refl, refl)) (statement_twin s n outer base code code' nowhere nowhere p p') (λ m m' r t.
-          parts_twin rest (behind n s) outer base code code' l grab grab' o ps ps' m m' q q' r t))
+          (twin_here r t (λ r t.
+          twin_within r t (λ k. (refl, refl)) (statements_twin items n outer base code code' nowhere nowhere p p') (λ m m' r t.
+          twin_jump r t (λ k. ap i.Jump k) (λ r t.
+          parts_twin rest (behind_all n items) outer base code code' l grab grab' xs ys (m + 1) (m' + 1) q q' r t))))
           (λ g. (
-            g.1.0,
-            λ h. covers_join n.picks (behind n s).picks (behind_all (behind n s) rest).picks
-                (g.0 (front (regions f outer n s) (all_regions f outer (behind n s) rest) h))
-                (g.1.1 (back (regions f outer n s) (all_regions f outer (behind n s) rest) h)),
+            g.0,
+            g.1.1.0,
+            λ h. covers_join n.picks (behind_all n items).picks (behind_parts (behind_all n items) rest).picks
+                (g.1.0 (front (all_regions f outer n items) (parts_regions f outer (behind_all n items) rest) h))
+                (g.1.1.1 (back (all_regions f outer n items) (parts_regions f outer (behind_all n items) rest) h)),
           )))
           p p' q q' r t

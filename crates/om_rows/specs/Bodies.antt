@@ -1,11 +1,10 @@
 -- The bodies of a program: those of functions, of `parallel` and of `task`, numbered together from 0 by the places where they begin.
-use Rattle.std.specs.Prelude.{ℕ, ◌+◌, List, [], ◌∷◌, ◌++◌, Bool, map, take, nat_eq}
+use Rattle.std.specs.Prelude.{ℕ, ◌+◌, List, [], ◌∷◌, ◌++◌, map, take, nat_eq}
 use Rattle.std.specs.List.{flat_map}
-use Rattle.om_code.specs.declared.raw.Slot.{Slot}
 use Rattle.om_lexer.specs.declared.token.Span.{Span}
 use Rattle.om_resolved.specs.declared.resolved.Capture.{Capture}
-use Rattle.om_resolved.specs.ResolvedTree.{ResolvedClauseTree, ResolvedStatementTree, Declaration, Block, Empty, Expression, If, IfElse, While, Do, For, Return, Break, Continue, Parallel, Task, Loop, Sections, Section, Construct, Update, StandAlone, ResolvedStatementsTree, NoStatements, Statement, ResolvedFunctionTree, ResolvedTree}
-use Rattle.om_rows.specs.Slots.{parameter_sight, region_clause_sights, statement_sights, statements_sights, slot_of, slot_with, Extent, FirstCopy, first_copies, by_slots}
+use Rattle.om_resolved.specs.ResolvedTree.{ResolvedClauseTree, ResolvedStatementTree, Declaration, Block, Empty, Expression, If, IfElse, While, Do, For, Return, Break, Continue, Parallel, Task, Loop, Sections, Construct, Update, StandAlone, ResolvedStatementsTree, NoStatements, Statement, ResolvedPartsTree, NoParts, Part, ResolvedFunctionTree, ResolvedTree}
+use Rattle.om_rows.specs.Slots.{parameter_sight, region_clause_sights, statement_sights, statements_sights}
 use Rattle.om_rows.specs.Tables.{table_of}
 
 -- ---- numbers
@@ -39,8 +38,7 @@ abbrev mutual
   behind n (Parallel at clauses captures s) = behind (next_body n) s
   behind n (Task at clauses captures s) = behind (next_body n) s
   behind n (Loop at clauses nowait l s) = behind n s
-  behind n (Sections at clauses nowait items) = behind_all (next_pick n) items
-  behind n (Section s) = behind n s
+  behind n (Sections at clauses nowait parts) = behind_parts (next_pick n) parts
   behind n (Construct at kind clauses s) = behind n s
   behind n (Update at u) = n
   behind n (StandAlone at directive) = n
@@ -48,6 +46,10 @@ abbrev mutual
   pub behind_all : Numbers → ResolvedStatementsTree → Numbers
   behind_all n NoStatements = n
   behind_all n (Statement s rest) = behind_all (behind n s) rest
+
+  pub behind_parts : Numbers → ResolvedPartsTree → Numbers
+  behind_parts n NoParts = n
+  behind_parts n (Part items rest) = behind_parts (behind_all n items) rest
 
 -- the numbers behind a function, and behind functions
 abbrev pub behind_function : Numbers → ResolvedFunctionTree → Numbers
@@ -118,8 +120,7 @@ unfoldable mutual
       record { function = f; tree = TaskBody at clauses captures s; outer = outer; numbers = next_body n }
       ∷ regions f (region_variables clauses s) (next_body n) s
   regions f outer n (Loop at clauses nowait l s) = regions f outer n s
-  regions f outer n (Sections at clauses nowait items) = all_regions f outer (next_pick n) items
-  regions f outer n (Section s) = regions f outer n s
+  regions f outer n (Sections at clauses nowait parts) = parts_regions f outer (next_pick n) parts
   regions f outer n (Construct at kind clauses s) = regions f outer n s
   regions f outer n (Update at u) = []
   regions f outer n (StandAlone at directive) = []
@@ -127,6 +128,10 @@ unfoldable mutual
   pub all_regions : ResolvedFunctionTree → List ℕ → Numbers → ResolvedStatementsTree → List BodySite
   all_regions f outer n NoStatements = []
   all_regions f outer n (Statement s rest) = regions f outer n s ++ all_regions f outer (behind n s) rest
+
+  pub parts_regions : ResolvedFunctionTree → List ℕ → Numbers → ResolvedPartsTree → List BodySite
+  parts_regions f outer n NoParts = []
+  parts_regions f outer n (Part items rest) = all_regions f outer n items ++ parts_regions f outer (behind_all n items) rest
 
 -- the body of a function, and those in it
 abbrev pub function_bodies : Numbers → ResolvedFunctionTree → List BodySite

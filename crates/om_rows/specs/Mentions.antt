@@ -8,7 +8,7 @@ use Rattle.om_resolved.specs.declared.resolved.ConstructKind.{ConstructKind}
 use Rattle.om_resolved.specs.declared.resolved.ConstructKind.TheVariants as constructs
 use Rattle.om_resolved.specs.Formats.{Piece, Bytes, Value, pieces_of}
 use Rattle.om_resolved.specs.ResolvedTree as trees
-use Rattle.om_resolved.specs.ResolvedTree.{ResolvedExpressionTree, Constant, Variable, Element, Call, ThreadNumber, TeamSize, Print, Unary, Binary, Conditional, Assign, AssignElement, Postfix, PostfixElement, ValuesTree, NoValues, ResolvedDeclaratorTree, ResolvedClauseTree, ClauseValue, Shared, Copied, ResolvedLoopTree, ResolvedUpdateTree, ResolvedStartTree, StartNothing, StartExpression, StartDeclaration, ResolvedStatementTree, Declaration, Block, Empty, Expression, If, IfElse, While, Do, For, Return, Break, Continue, Parallel, Task, Loop, Sections, Section, Construct, Update, StandAlone, ResolvedStatementsTree, NoStatements, Statement, ResolvedFunctionTree, ResolvedTree}
+use Rattle.om_resolved.specs.ResolvedTree.{ResolvedExpressionTree, Constant, Variable, Element, Call, ThreadNumber, TeamSize, Print, Unary, Binary, Conditional, Assign, AssignElement, Postfix, PostfixElement, ValuesTree, NoValues, ResolvedDeclaratorTree, ResolvedClauseTree, ClauseValue, Shared, Copied, ResolvedLoopTree, ResolvedUpdateTree, ResolvedStartTree, StartNothing, StartExpression, StartDeclaration, ResolvedStatementTree, Declaration, Block, Empty, Expression, If, IfElse, While, Do, For, Return, Break, Continue, Parallel, Task, Loop, Sections, Construct, Update, StandAlone, ResolvedStatementsTree, NoStatements, Statement, ResolvedPartsTree, NoParts, Part, ResolvedFunctionTree, ResolvedTree}
 use Rattle.om_rows.specs.Slots.{Extent, extent_of}
 use Rattle.om_rows.specs.Tables.{table_of}
 
@@ -59,8 +59,7 @@ unfoldable mutual
   mentioned m (Parallel at clauses captures s) = flat_map (clause_mentioned m) clauses ++ mentioned m s
   mentioned m (Task at clauses captures s) = flat_map (clause_mentioned m) clauses ++ mentioned m s
   mentioned m (Loop at clauses nowait l s) = flat_map (clause_mentioned m) clauses ++ (loop_mentioned m l ++ mentioned m s)
-  mentioned m (Sections at clauses nowait items) = flat_map (clause_mentioned m) clauses ++ all_mentioned m items
-  mentioned m (Section s) = mentioned m s
+  mentioned m (Sections at clauses nowait parts) = flat_map (clause_mentioned m) clauses ++ parts_mentioned m parts
   mentioned m (Construct at kind clauses s) = m.by_construct kind ++ (flat_map (clause_mentioned m) clauses ++ mentioned m s)
   mentioned m (Update at u) = update_mentioned m u
   mentioned m (StandAlone at directive) = []
@@ -68,6 +67,10 @@ unfoldable mutual
   pub all_mentioned : {A : Type 0} → Mention A → ResolvedStatementsTree → List A
   all_mentioned m NoStatements = []
   all_mentioned m (Statement s rest) = mentioned m s ++ all_mentioned m rest
+
+  pub parts_mentioned : {A : Type 0} → Mention A → ResolvedPartsTree → List A
+  parts_mentioned m NoParts = []
+  parts_mentioned m (Part items rest) = all_mentioned m items ++ parts_mentioned m rest
 
 abbrev pub function_mentioned : {A : Type 0} → Mention A → ResolvedFunctionTree → List A
 function_mentioned m f = all_mentioned m f.body

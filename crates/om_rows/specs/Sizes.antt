@@ -1,7 +1,6 @@
 -- How many instructions the code of a part of the tree has.
-use Rattle.std.specs.Prelude.{ℕ, ◌+◌, List, [], ◌∷◌, Option, None, Some, Bool, true, false, ◌&&◌, ◌||◌, length, sum_by}
+use Rattle.std.specs.Prelude.{ℕ, ◌+◌, List, [], ◌∷◌, Option, None, Some, Bool, true, false, length}
 use Rattle.om_code.specs.declared.instruction.BinaryOperator as machine
-use Rattle.om_resolved.specs.declared.resolved.Capture.{Capture}
 use Rattle.om_resolved.specs.declared.resolved.ConstructKind.{ConstructKind}
 use Rattle.om_resolved.specs.declared.resolved.ConstructKind.TheVariants as constructs
 use Rattle.om_resolved.specs.declared.resolved.CopyKind.{CopyKind}
@@ -10,9 +9,9 @@ use Rattle.om_resolved.specs.declared.resolved.StandAlone as alone
 use Rattle.om_resolved.specs.declared.resolved.StandAlone.TheVariants as alones
 use Rattle.om_resolved.specs.declared.resolved.UnaryOperator.{UnaryOperator}
 use Rattle.om_resolved.specs.declared.resolved.UnaryOperator.TheVariants as unaries
-use Rattle.om_resolved.specs.ResolvedTree.{ResolvedExpressionTree, Constant, Variable, Element, Call, ThreadNumber, TeamSize, Print, Unary, Binary, Conditional, Assign, AssignElement, Postfix, PostfixElement, ValuesTree, NoValues, Value, ResolvedDeclaratorTree, ResolvedClauseTree, ClauseValue, Shared, Copied, ResolvedLoopTree, ResolvedUpdateTree, ResolvedStartTree, StartNothing, StartExpression, StartDeclaration, ResolvedStatementTree, Declaration, Block, Empty, Expression, If, IfElse, While, Do, For, Return, Break, Continue, Parallel, Task, Loop, Sections, Section, Construct, Update, StandAlone, ResolvedStatementsTree, NoStatements, Statement}
+use Rattle.om_resolved.specs.ResolvedTree.{ResolvedExpressionTree, Constant, Variable, Element, Call, ThreadNumber, TeamSize, Print, Unary, Binary, Conditional, Assign, AssignElement, Postfix, PostfixElement, ValuesTree, NoValues, Value, ResolvedDeclaratorTree, ResolvedClauseTree, ClauseValue, Shared, Copied, ResolvedLoopTree, ResolvedUpdateTree, ResolvedStartTree, StartNothing, StartExpression, StartDeclaration, ResolvedStatementTree, Declaration, Block, Empty, Expression, If, IfElse, While, Do, For, Return, Break, Continue, Parallel, Task, Loop, Sections, Construct, Update, StandAlone, ResolvedStatementsTree, NoStatements, Statement, ResolvedPartsTree, NoParts, Part}
 use Rattle.om_rows.specs.Operators.{BinaryForm, Both, Either, Plain, form_of, compound_of}
-use Rattle.om_rows.specs.Statements.{begins_part, clause_value, given_copies}
+use Rattle.om_rows.specs.Statements.{clause_value, given_copies}
 
 abbrev pub unary_size : UnaryOperator → ℕ → ℕ
 unary_size unaries.Plus e = e
@@ -135,11 +134,6 @@ loop_size clauses nowait loop body =
     value_size loop.from + value_size loop.to + each_size clause_start_size clauses + 3 + body + 1
     + each_size clause_combined_size clauses + end_size nowait
 
--- JMP G behind a part
-abbrev pub jump_size : Bool → ℕ
-jump_size true = 1
-jump_size false = 0
-
 abbrev mutual
   pub statement_size : ResolvedStatementTree → ℕ
   statement_size (Declaration first ds) = each_size declarator_size ds
@@ -159,9 +153,8 @@ abbrev mutual
       perhaps_size value_size (clause_value clauses) + length (given_copies clauses captures s) + 1
   statement_size (Task first clauses captures s) = length (given_copies clauses captures s) + 1
   statement_size (Loop first clauses nowait loop s) = loop_size clauses nowait loop (statement_size s)
-  statement_size (Sections first clauses nowait items) =
-      each_size clause_start_size clauses + 3 + parts_size items false + each_size clause_combined_size clauses + end_size nowait
-  statement_size (Section s) = statement_size s
+  statement_size (Sections first clauses nowait parts) =
+      each_size clause_start_size clauses + 3 + parts_size parts + each_size clause_combined_size clauses + end_size nowait
   statement_size (Construct first kind clauses s) = construct_size kind clauses s (statement_size s)
   statement_size (Update first u) = update_size u
   statement_size (StandAlone first directive) = alone_size directive
@@ -170,8 +163,7 @@ abbrev mutual
   statements_size NoStatements = 0
   statements_size (Statement s rest) = statement_size s + statements_size rest
 
-  -- the items of `sections`, behind an item of a part or before the first
-  pub parts_size : ResolvedStatementsTree → (opened : Bool) → ℕ
-  parts_size NoStatements opened = jump_size opened
-  parts_size (Statement s rest) opened =
-      jump_size (begins_part s && opened) + statement_size s + parts_size rest (begins_part s || opened)
+  -- the parts of `sections`, with JMP G behind each
+  pub parts_size : ResolvedPartsTree → ℕ
+  parts_size NoParts = 0
+  parts_size (Part items rest) = statements_size items + 1 + parts_size rest

@@ -1,7 +1,7 @@
 -- The slots of a body. They are numbered as its text is read: parameters, then, at first sight, each declared name, each copy that a
 -- clause, an iteration variable or a task makes, and in the body of a `parallel` or a `task` each variable of the function from
 -- outside that it uses or combines. The data clauses of a `parallel` or a `task` belong to its body.
-use Rattle.std.specs.Prelude.{ℕ, ◌+◌, List, [], ◌∷◌, ◌++◌, Option, None, Some, Bool, true, false, map, nat_eq, length, if◌then◌else◌}
+use Rattle.std.specs.Prelude.{ℕ, List, [], ◌∷◌, ◌++◌, Option, None, Some, Bool, true, false, map, nat_eq, length, if◌then◌else◌}
 use Rattle.std.specs.List.{flat_map, list_any}
 use Rattle.om_code.specs.declared.instruction.Place.{Place}
 use Rattle.om_code.specs.declared.instruction.Place.TheVariants as places
@@ -17,7 +17,7 @@ use Rattle.om_resolved.specs.declared.resolved.Taking.TheVariants as takings
 use Rattle.om_resolved.specs.declared.resolved.Variable as variables
 use Rattle.om_resolved.specs.declared.resolved.Variable.TheVariants as named
 use Rattle.om_resolved.specs.Captures.{variable_uses, expression_uses, perhaps_uses, clause_uses, captured_variable, stand_alone_uses, update_uses}
-use Rattle.om_resolved.specs.ResolvedTree.{ResolvedDeclaratorTree, ResolvedClauseTree, ClauseValue, Shared, Copied, ResolvedLoopTree, ResolvedStartTree, StartNothing, StartExpression, StartDeclaration, ResolvedStatementTree, Declaration, Block, Empty, Expression, If, IfElse, While, Do, For, Return, Break, Continue, Parallel, Task, Loop, Sections, Section, Construct, Update, StandAlone, ResolvedStatementsTree, NoStatements, Statement}
+use Rattle.om_resolved.specs.ResolvedTree.{ResolvedDeclaratorTree, ResolvedClauseTree, ClauseValue, Shared, Copied, ResolvedLoopTree, ResolvedStartTree, StartNothing, StartExpression, StartDeclaration, ResolvedStatementTree, Declaration, Block, Empty, Expression, If, IfElse, While, Do, For, Return, Break, Continue, Parallel, Task, Loop, Sections, Construct, Update, StandAlone, ResolvedStatementsTree, NoStatements, Statement, ResolvedPartsTree, NoParts, Part}
 use Rattle.om_rows.specs.Rows.{Site}
 use Rattle.om_rows.specs.Tables.{number_in}
 
@@ -80,8 +80,7 @@ unfoldable mutual
   statement_sights (Parallel at clauses captures s) = region_uses clauses captures
   statement_sights (Task at clauses captures s) = region_uses clauses captures
   statement_sights (Loop at clauses nowait l s) = flat_map clause_sights clauses ++ (loop_sights l ++ statement_sights s)
-  statement_sights (Sections at clauses nowait items) = flat_map clause_sights clauses ++ statements_sights items
-  statement_sights (Section s) = statement_sights s
+  statement_sights (Sections at clauses nowait parts) = flat_map clause_sights clauses ++ parts_sights parts
   statement_sights (Construct at kind clauses s) = flat_map clause_sights clauses ++ statement_sights s
   statement_sights (Update at u) = update_uses u
   statement_sights (StandAlone at directive) = stand_alone_uses directive
@@ -89,6 +88,10 @@ unfoldable mutual
   pub statements_sights : ResolvedStatementsTree → List ℕ
   statements_sights NoStatements = []
   statements_sights (Statement s rest) = statement_sights s ++ statements_sights rest
+
+  pub parts_sights : ResolvedPartsTree → List ℕ
+  parts_sights NoParts = []
+  parts_sights (Part items rest) = statements_sights items ++ parts_sights rest
 
 abbrev pub parameter_sight : LocalVariable → ℕ
 parameter_sight parameter = parameter.at

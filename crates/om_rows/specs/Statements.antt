@@ -1,7 +1,7 @@
 -- The code of statements and directives, row by row as the table of lowering has it. An instruction has the line of the first token of
 -- its statement, or of its `if`, `while`, `do` or `for`, and those of a directive have the directive's, but for a loop's bounds. All those of
 -- an `atomic` have the directive's.
-use Rattle.std.specs.Prelude.{◌≡◌, ℕ, ◌+◌, ℤ, pos, List, [], ◌∷◌, Option, None, Some, Bool, true, false, length, is_some, slice_get}
+use Rattle.std.specs.Prelude.{◌≡◌, ℕ, pos, List, [], ◌∷◌, Option, None, Some, Bool, true, false, length, is_some, slice_get}
 use Rattle.std.specs.Str.{bytes_eq}
 use Rattle.om_code.specs.declared.instruction.AtomicOperator.{AtomicOperator}
 use Rattle.om_code.specs.declared.instruction.Barrier.{Barrier}
@@ -9,7 +9,6 @@ use Rattle.om_code.specs.declared.instruction.Barrier.TheVariants as barriers
 use Rattle.om_code.specs.declared.instruction.Comparison.{Comparison}
 use Rattle.om_code.specs.declared.instruction.Instr.TheVariants as i
 use Rattle.om_code.specs.declared.instruction.Side.{Side}
-use Rattle.om_lexer.specs.declared.token.Span.{Span}
 use Rattle.om_resolved.specs.declared.resolved.Capture.{Capture}
 use Rattle.om_resolved.specs.declared.resolved.ConstructKind.{ConstructKind}
 use Rattle.om_resolved.specs.declared.resolved.ConstructKind.TheVariants as constructs
@@ -20,13 +19,13 @@ use Rattle.om_resolved.specs.declared.resolved.StandAlone as alone
 use Rattle.om_resolved.specs.declared.resolved.StandAlone.TheVariants as alones
 use Rattle.om_resolved.specs.declared.resolved.Variable as variables
 use Rattle.om_resolved.specs.declared.resolved.Variable.TheVariants as named
-use Rattle.om_resolved.specs.ResolvedTree.{ResolvedExpressionTree, ResolvedDeclaratorTree, ResolvedClauseTree, ClauseValue, Shared, Copied, ResolvedLoopTree, ResolvedUpdateTree, ResolvedStartTree, StartNothing, StartExpression, StartDeclaration, ResolvedStatementTree, Declaration, Block, Empty, Expression, If, IfElse, While, Do, For, Return, Break, Continue, Parallel, Task, Loop, Sections, Section, Construct, Update, StandAlone, ResolvedStatementsTree, NoStatements, Statement}
-use Rattle.om_rows.specs.Bodies.{Numbers, next_pick, behind, region_variables}
+use Rattle.om_resolved.specs.ResolvedTree.{ResolvedExpressionTree, ResolvedDeclaratorTree, ResolvedClauseTree, ClauseValue, Shared, Copied, ResolvedLoopTree, ResolvedUpdateTree, ResolvedStartTree, StartNothing, StartExpression, StartDeclaration, ResolvedStatementTree, Declaration, Block, Empty, Expression, If, IfElse, While, Do, For, Return, Break, Continue, Parallel, Task, Loop, Sections, Construct, Update, StandAlone, ResolvedStatementsTree, NoStatements, Statement, ResolvedPartsTree, NoParts, Part}
+use Rattle.om_rows.specs.Bodies.{Numbers, next_pick, behind, behind_all, region_variables}
 use Rattle.om_rows.specs.Expressions.{constant, value, effect}
 use Rattle.om_rows.specs.Mentions.{lock_name}
 use Rattle.om_rows.specs.Operators.{comparison_of, form_with, identity_of, reduction_of, side_of, update_of}
 use Rattle.om_rows.specs.Rows.{Site, Row, end, never, ins, part, here, ◌▸◌, given, perhaps, each, unless}
-use Rattle.om_rows.specs.Slots.{FirstCopy, first_copies, by_slots, place, slot, slot_of}
+use Rattle.om_rows.specs.Slots.{FirstCopy, first_copies, by_slots, place, slot}
 use Rattle.om_rows.specs.Tables.{number_in}
 
 -- where `break` and `continue` go; outside of a loop nowhere
@@ -233,26 +232,15 @@ task_row at l body copies = part (each (load_original at l) copies) ▸ ins at l
 
 -- ---- the parts of `sections`
 
--- a part begins with this item
-abbrev pub begins_part : ResolvedStatementTree → Bool
-begins_part (Section s) = true
-begins_part _ = false
+-- the next place is that of a part
+abbrev pub with_place : List ℕ → (ℕ → List ℕ → Row) → Row
+with_place [] row = never
+with_place (place ∷ places) row = row place places
 
--- the part before, if there is one, goes on with the next section
-abbrev pub part_end : Site → ℕ → ℕ → (opened : Bool) → Row
-part_end at l grab true = jump at l grab
-part_end at l grab false = end
-
--- the next place is that of a part that begins here, if one does
-abbrev pub part_begin : Site → ℕ → ℕ → (begins : Bool) → (opened : Bool) → List ℕ → (Bool → List ℕ → Row) → Row
-part_begin at l grab false opened places rest = rest opened places
-part_begin at l grab true opened [] rest = never
-part_begin at l grab true opened (place ∷ places) rest = part (part_end at l grab opened) ▸ here place ▸ rest true places
-
--- behind the last part
-abbrev pub parts_end : Site → ℕ → ℕ → (opened : Bool) → List ℕ → Row
-parts_end at l grab opened [] = part_end at l grab opened
-parts_end at l grab opened (place ∷ places) = never
+-- there is no further part
+abbrev pub no_place : List ℕ → Row
+no_place [] = end
+no_place (place ∷ places) = never
 
 -- ---- statements; the numbers are those of the next body and the next list of PICK in it
 
@@ -284,9 +272,8 @@ abbrev mutual
   statement at n (Task first clauses captures s) jumps = task_row at first.line n.bodies (given_copies clauses captures s)
   statement at n (Loop first clauses nowait loop s) jumps =
       loop_row at first.line clauses nowait loop (λ next. statement at n s (in_iteration next))
-  statement at n (Sections first clauses nowait items) jumps =
-      sections_row at first.line n.picks clauses nowait (λ places grab. parts at (next_pick n) first.line grab items false places)
-  statement at n (Section s) jumps = statement at n s jumps
+  statement at n (Sections first clauses nowait sections) jumps =
+      sections_row at first.line n.picks clauses nowait (λ places grab. parts at (next_pick n) first.line grab sections places)
   statement at n (Construct first kind clauses s) jumps = construct_row at first.line kind clauses s (statement at n s nowhere)
   statement at n (Update first u) jumps = update_row at first.line u
   statement at n (StandAlone first directive) jumps = alone_row at first.line directive
@@ -296,9 +283,9 @@ abbrev mutual
   statements at n NoStatements jumps = end
   statements at n (Statement s rest) jumps = part (statement at n s jumps) ▸ statements at (behind n s) rest jumps
 
-  -- the items of `sections`, whose parts begin at these places
-  pub parts : Site → Numbers → ℕ → ℕ → ResolvedStatementsTree → (opened : Bool) → List ℕ → Row
-  parts at n l grab NoStatements opened places = parts_end at l grab opened places
-  parts at n l grab (Statement s rest) opened places =
-      part_begin at l grab (begins_part s) opened places (λ opened places.
-      part (statement at n s nowhere) ▸ parts at (behind n s) l grab rest opened places)
+  -- the parts of `sections`, which begin at these places; behind each one goes on with the next section
+  pub parts : Site → Numbers → ℕ → ℕ → ResolvedPartsTree → List ℕ → Row
+  parts at n l grab NoParts places = no_place places
+  parts at n l grab (Part items rest) places =
+      with_place places (λ place places.
+      here place ▸ part (statements at n items nowhere) ▸ ins at l (i.Jump grab) ▸ parts at (behind_all n items) l grab rest places)
