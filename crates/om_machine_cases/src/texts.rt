@@ -1,17 +1,16 @@
 //! Replies, values and objects in words.
 
 use om_cells::{Blocked, Control, Entry, Task, Val};
-use om_code::frame::{Cell, Fault};
+use om_code::frame::Cell;
 use om_code::program::Program;
 use om_events::{Record, text_of};
 use om_foot::{Name, Obj};
 use om_task::plan::line;
-use om_undo::{RollReply, StepReply, Taken, UndoReply};
+use om_undo::{RollReply, StepReply, UndoReply};
 use std::alloc::{AllocError, Global};
-use std::test::Fail;
 
 /// The text of bytes; a line end is shown as `/`.
-pub(crate) fn on_one_line(alloc: Global, bytes: &[u8]) -> Result<String, AllocError> {
+fn on_one_line(alloc: Global, bytes: &[u8]) -> Result<String, AllocError> {
     let mut text = String::new(alloc);
     for byte in bytes {
         text.push(if *byte == b'\n' {
@@ -30,22 +29,30 @@ pub(crate) fn name_text(alloc: Global, name: &Name) -> Result<String, AllocError
     on_one_line(alloc, bytes.as_slice())
 }
 
-/// The text of an event record.
-pub(crate) fn record_text(alloc: Global, event: &Record) -> Result<String, AllocError> {
-    let mut bytes = Vec::new(alloc);
-    text_of(event, &mut bytes)?;
-    on_one_line(alloc, bytes.as_slice())
+/// Adds an item to a list in words.
+pub(crate) fn add(text: &mut String, item: &str) -> Result<(), AllocError> {
+    if !text.is_empty() {
+        text.push_str(", ")?;
+    }
+    text.push_str(item)
 }
 
-/// What stands behind a line where a step ended with a fault.
-fn fault_text(alloc: Global, fault: Option<Fault>) -> Result<String, AllocError> {
-    match fault {
-        Some(fault) => {
-            let number = fault.number();
-            format!(in alloc; " fault F{number}")
-        }
-        None => Ok(String::new(alloc)),
+/// A step in words, as `#4 worker 0 line 3`.
+fn entry_text(alloc: Global, serial: u64, worker: u8, line: u32) -> Result<String, AllocError> {
+    format!(in alloc; "#{serial} worker {worker} line {line}")
+}
+
+/// The entries of a history.
+pub(crate) fn entries_text(alloc: Global, entries: &[Entry]) -> Result<String, AllocError> {
+    if entries.is_empty() {
+        return String::from_str(alloc, "no steps");
     }
+    let mut text = String::new(alloc);
+    for entry in entries {
+        let item = entry_text(alloc, entry.serial, entry.worker, entry.line)?;
+        add(&mut text, item.as_str())?;
+    }
+    Ok(text)
 }
 
 /// Why a step can't be taken now, as `blocked B2 by 0`.
@@ -65,14 +72,24 @@ pub(crate) fn step_text(alloc: Global, worker: u8, reply: StepReply) -> Result<S
         StepReply::Done {
             serial,
             line,
-            fault,
+            fault: None,
+        } => entry_text(alloc, serial, worker, line),
+        StepReply::Done {
+            serial,
+            line,
+            fault: Some(fault),
         } => {
-            let fault = fault_text(alloc, fault)?;
-            format!(in alloc; "#{serial} worker {worker} line {line}{fault}")
+            let number = fault.number();
+            format!(in alloc; "#{serial} worker {worker} line {line} fault F{number}")
         }
         StepReply::Blocked(why) => blocked_text(alloc, why),
         StepReply::Ended => String::from_str(alloc, "ended"),
     }
+}
+
+/// A step that was taken out, in words.
+fn undone_text(alloc: Global, serial: u64, worker: u8, line: u32) -> Result<String, AllocError> {
+    format!(in alloc; "undone #{serial} worker {worker} line {line}")
 }
 
 /// What an undo of a worker answers.
@@ -83,9 +100,7 @@ pub(crate) fn undo_text(
     reply: UndoReply,
 ) -> Result<String, AllocError> {
     match reply {
-        UndoReply::Undone { serial, line } => {
-            format!(in alloc; "undone #{serial} worker {worker} line {line}")
-        }
+        UndoReply::Undone { serial, line } => undone_text(alloc, serial, worker, line),
         UndoReply::Conflict {
             serial,
             worker,
@@ -98,62 +113,21 @@ pub(crate) fn undo_text(
     }
 }
 
-/// An entry that a roll took out, as an undo of it is answered.
-fn taken_text(alloc: Global, taken: &Taken) -> Result<String, AllocError> {
-    let serial = taken.serial;
-    let worker = taken.worker;
-    let line = taken.line;
-    format!(in alloc; "undone #{serial} worker {worker} line {line}")
-}
-
 /// What a roll of the entry with a serial answers.
 pub(crate) fn roll_text(
     alloc: Global,
     serial: u64,
     reply: &RollReply,
 ) -> Result<String, AllocError> {
-    match reply {
-        RollReply::Rolled(members) => {
-            let mut text = String::new(alloc);
-            for taken in members.as_slice() {
-                add(&mut text, taken_text(alloc, taken)?.as_str())?;
-            }
-            Ok(text)
-        }
-        RollReply::NoEntry => format!(in alloc; "no step #{serial}"),
-    }
-}
-
-/// Adds an item to a list in words.
-pub(crate) fn add(text: &mut String, item: &str) -> Result<(), AllocError> {
-    if !text.is_empty() {
-        text.push_str(", ")?;
-    }
-    text.push_str(item)
-}
-
-/// The entries of a history.
-pub(crate) fn entries_text(alloc: Global, entries: &[Entry]) -> Result<String, AllocError> {
+    let RollReply::Rolled(members) = reply else {
+        return format!(in alloc; "no step #{serial}");
+    };
     let mut text = String::new(alloc);
-    for entry in entries {
-        let serial = entry.serial;
-        let worker = entry.worker;
-        let line = entry.line;
-        let item = format!(in alloc; "#{serial} worker {worker} line {line}")?;
+    for taken in members.as_slice() {
+        let item = undone_text(alloc, taken.serial, taken.worker, taken.line)?;
         add(&mut text, item.as_str())?;
     }
-    if text.is_empty() {
-        text.push_str("no steps")?;
-    }
     Ok(text)
-}
-
-/// The index of a cell behind the name of its array; nothing where the variable is a scalar.
-fn index_text(alloc: Global, length: Option<u32>, index: u32) -> Result<String, AllocError> {
-    match length {
-        Some(_) => format!(in alloc; "[{index}]"),
-        None => Ok(String::new(alloc)),
-    }
 }
 
 /// A cell of a global variable, as `global x` or `global a[2]`.
@@ -167,8 +141,10 @@ fn global_text(
         return String::from_str(alloc, "no global");
     };
     let name = on_one_line(alloc, global.name.as_slice())?;
-    let index = index_text(alloc, global.length, index)?;
-    format!(in alloc; "global {name}{index}")
+    match global.length {
+        Some(_) => format!(in alloc; "global {name}[{index}]"),
+        None => format!(in alloc; "global {name}"),
+    }
 }
 
 /// A lock, as `lock a`; the unnamed one is `lock -`.
@@ -196,11 +172,7 @@ fn numbered(alloc: Global, word: &str, name: &Name, number: u64) -> Result<Strin
 }
 
 /// An object, as in a refused undo.
-pub(crate) fn object_text(
-    alloc: Global,
-    program: &Program,
-    object: &Obj,
-) -> Result<String, AllocError> {
+fn object_text(alloc: Global, program: &Program, object: &Obj) -> Result<String, AllocError> {
     match object {
         Obj::Control(worker) => format!(in alloc; "control {worker}"),
         Obj::Cell {
@@ -268,14 +240,16 @@ fn cell_text(alloc: Global, cell: Cell) -> Result<String, AllocError> {
     }
 }
 
-/// Event records, a line for each.
-pub(crate) fn records_text(alloc: Global, records: &[Record]) -> Result<String, AllocError> {
-    let mut text = String::new(alloc);
+/// Event records, with `; ` between them.
+fn records_text(alloc: Global, records: &[Record]) -> Result<String, AllocError> {
+    let mut bytes = Vec::new(alloc);
     for event in records {
-        text.push_str(record_text(alloc, event)?.as_str())?;
-        text.push('\n')?;
+        if !bytes.is_empty() {
+            bytes.extend_from_slice(b"; ")?;
+        }
+        text_of(event, &mut bytes)?;
     }
-    Ok(text)
+    on_one_line(alloc, bytes.as_slice())
 }
 
 /// What an object holds.

@@ -1,7 +1,7 @@
 //! Programs from texts: their tables, their bodies, and the instructions in these.
 //!
-//! The blocks of a text have an empty line between them. The first one has the tables, where there are any, a line
-//! for each item:
+//! The blocks of a text have an empty line between them. The first one has the tables, where there are any, a
+//! line for each item:
 //!
 //! ```text
 //! global x            a scalar
@@ -10,6 +10,7 @@
 //! lock                the unnamed critical region; `lock a` has the name `a`
 //! text n = %d         what PRINT writes; a line end follows
 //! pick region A B     where the sections begin: the labels A and B of the body `region`
+//! main 1              the number of the body that runs first, if it is not `main`
 //! ```
 //!
 //! Each further block is a body: its name, its slots, and the slots that are given values. `main` runs first.
@@ -19,35 +20,31 @@
 //! 4: LOAD $0; CONST 2; BIN <; JZ @E; LOAD $0; RET; @E; RETN
 //! ```
 //!
-//! Before the colon stands the source line of the instructions behind it. `@E` alone is the label E of the next
-//! instruction. `$0` is the slot of number 0; any other variable is a global.
+//! Before the colon stands the source line of the instructions behind it. `@E` alone is the label E of the
+//! next instruction. `$0` is the slot of number 0 and `#0` the global of number 0; any other variable is a
+//! global by its name.
 
+use crate::fault::CaseFault;
 use crate::instructions::{Scope, instruction_of};
+use crate::words::{first_word, number};
 use om_code::program::Program;
 use om_code::raw::{Body, GlobalVariable, Line, Piece, Raw, Slot, Source};
 use om_code::validate::validate;
 use om_seq::Seq;
 use std::alloc::{AllocError, Global};
-use std::test::Fail;
-use thiserror::Error;
-
-/// A text is no program.
-#[derive(Clone, Copy, Debug, Drop, PartialEq, Eq, Error)]
-#[error("no such word, name or label")]
-pub(crate) struct UnknownWord;
 
 /// The program of a text.
-pub(crate) fn program_of(alloc: Global, text: &str) -> Result<Program, Fail> {
+pub(crate) fn program_of(alloc: Global, text: &str) -> Result<Program, CaseFault> {
     Ok(validate(alloc, raw_of(alloc, text)?)?)
 }
 
 /// The same without a check of its code.
-pub(crate) fn raw_of(alloc: Global, text: &str) -> Result<Raw, Fail> {
-    let (tables, code) = parts(text.trim()).ok_or(UnknownWord)?;
+pub(crate) fn raw_of(alloc: Global, text: &str) -> Result<Raw, CaseFault> {
+    let (tables, code) = parts(text.trim()).ok_or(CaseFault::Unknown)?;
     let bodies: Vec<&str> = code.split("\n\n").collect(alloc)?;
     let bodies = bodies.as_slice();
-    let names = names_of(alloc, bodies)?;
-    let globals = globals_of(alloc, tables)?;
+    let names = names_of(alloc, code, "body ")?;
+    let globals = names_of(alloc, tables, "global ")?;
     let scope = Scope {
         globals: globals.as_slice(),
         bodies: names.as_slice(),
@@ -56,7 +53,7 @@ pub(crate) fn raw_of(alloc: Global, text: &str) -> Result<Raw, Fail> {
     Ok(Raw {
         globals: variables(alloc, tables)?,
         bodies: bodies_of(alloc, bodies, scope)?,
-        main: scope.body("main").ok_or(UnknownWord)?,
+        main: main_of(tables, scope)?,
         texts: texts(alloc, tables)?,
         picks: picks(alloc, tables, bodies, scope)?,
         locks: locks(alloc, tables)?,
@@ -71,6 +68,14 @@ fn parts(text: &str) -> Option<(&str, &str)> {
     text.split_once("\n\n")
 }
 
+/// The number of the body that runs first.
+fn main_of(tables: &str, scope: Scope<'_>) -> Result<u32, CaseFault> {
+    match tables.lines().find_map(|line| line.strip_prefix("main ")) {
+        Some(main) => number(main),
+        None => scope.body("main").ok_or(CaseFault::Unknown),
+    }
+}
+
 /// The lines of a block that begin with a word, each without it.
 fn items<'a>(alloc: Global, block: &'a str, word: &str) -> Result<Vec<&'a str>, AllocError> {
     let mut items = Vec::new(alloc);
@@ -82,24 +87,10 @@ fn items<'a>(alloc: Global, block: &'a str, word: &str) -> Result<Vec<&'a str>, 
     Ok(items)
 }
 
-/// The first word of a text, or nothing.
-fn first_word(text: &str) -> &str {
-    text.split_whitespace().next().unwrap_or("")
-}
-
-/// The names of the bodies, by their numbers.
-fn names_of<'a>(alloc: Global, bodies: &[&'a str]) -> Result<Vec<&'a str>, AllocError> {
+/// The first words of the items of a block, by their numbers.
+fn names_of<'a>(alloc: Global, block: &'a str, word: &str) -> Result<Vec<&'a str>, AllocError> {
     let mut names = Vec::new(alloc);
-    for body in bodies {
-        names.push(first_word(body.strip_prefix("body").unwrap_or(body)))?;
-    }
-    Ok(names)
-}
-
-/// The names of the globals, by their numbers.
-fn globals_of<'a>(alloc: Global, tables: &'a str) -> Result<Vec<&'a str>, AllocError> {
-    let mut names = Vec::new(alloc);
-    for item in &items(alloc, tables, "global ")? {
+    for item in &items(alloc, block, word)? {
         names.push(first_word(item))?;
     }
     Ok(names)
@@ -111,7 +102,7 @@ fn bytes(alloc: Global, text: &str) -> Result<Seq<u8>, AllocError> {
 }
 
 /// The global variables of the tables.
-fn variables(alloc: Global, tables: &str) -> Result<Seq<GlobalVariable>, Fail> {
+fn variables(alloc: Global, tables: &str) -> Result<Seq<GlobalVariable>, CaseFault> {
     let mut variables = Seq::new(alloc);
     for item in &items(alloc, tables, "global ")? {
         variables.push(variable(alloc, item)?)?;
@@ -120,25 +111,17 @@ fn variables(alloc: Global, tables: &str) -> Result<Seq<GlobalVariable>, Fail> {
 }
 
 /// The global variable of an item, as `x`, `x = 3` or `a 5`.
-fn variable(alloc: Global, item: &str) -> Result<GlobalVariable, Fail> {
-    let name = bytes(alloc, first_word(item))?;
-    let (length, initial) = match item.split_once(" = ") {
-        Some((_, initial)) => (None, initial.parse()?),
-        None => (length_of(item)?, 0),
+fn variable(alloc: Global, item: &str) -> Result<GlobalVariable, CaseFault> {
+    let (head, initial) = item.split_once(" = ").unwrap_or((item, "0"));
+    let length = match head.split_once(' ') {
+        Some((_, length)) => Some(number(length)?),
+        None => None,
     };
     Ok(GlobalVariable {
-        name,
+        name: bytes(alloc, first_word(head))?,
         length,
-        initial,
+        initial: number(initial)?,
     })
-}
-
-/// The length of an array, as behind its name; `None` where nothing stands there.
-fn length_of(item: &str) -> Result<Option<u32>, Fail> {
-    match item.split_once(' ') {
-        Some((_, length)) => Ok(Some(length.parse()?)),
-        None => Ok(None),
-    }
 }
 
 /// The names of the critical regions of the tables.
@@ -178,27 +161,27 @@ fn picks(
     tables: &str,
     bodies: &[&str],
     scope: Scope<'_>,
-) -> Result<Seq<Seq<u32>>, Fail> {
+) -> Result<Seq<Seq<u32>>, CaseFault> {
     let mut picks = Seq::new(alloc);
     for item in &items(alloc, tables, "pick ")? {
-        let body = scope.body(first_word(item)).ok_or(UnknownWord)?;
-        let code = bodies.get(body as usize).ok_or(UnknownWord)?;
+        let body = scope.body(first_word(item)).ok_or(CaseFault::Unknown)?;
+        let code = bodies.get(body as usize).ok_or(CaseFault::Unknown)?;
         picks.push(targets(alloc, item, Scope { code, ..scope })?)?;
     }
     Ok(picks)
 }
 
 /// The places of labels, which stand behind the name of their body.
-fn targets(alloc: Global, labels: &str, scope: Scope<'_>) -> Result<Seq<u32>, Fail> {
+fn targets(alloc: Global, labels: &str, scope: Scope<'_>) -> Result<Seq<u32>, CaseFault> {
     let mut targets = Seq::new(alloc);
     for label in labels.split_whitespace().skip(1) {
-        targets.push(scope.place_of(label).ok_or(UnknownWord)?)?;
+        targets.push(scope.place_of(label).ok_or(CaseFault::Unknown)?)?;
     }
     Ok(targets)
 }
 
 /// The bodies of these blocks.
-fn bodies_of(alloc: Global, blocks: &[&str], scope: Scope<'_>) -> Result<Seq<Body>, Fail> {
+fn bodies_of(alloc: Global, blocks: &[&str], scope: Scope<'_>) -> Result<Seq<Body>, CaseFault> {
     let mut bodies = Seq::new(alloc);
     for block in blocks {
         bodies.push(body_of(alloc, block, scope)?)?;
@@ -207,8 +190,8 @@ fn bodies_of(alloc: Global, blocks: &[&str], scope: Scope<'_>) -> Result<Seq<Bod
 }
 
 /// The body of a block.
-fn body_of(alloc: Global, block: &str, scope: Scope<'_>) -> Result<Body, Fail> {
-    let (header, code) = block.split_once('\n').ok_or(UnknownWord)?;
+fn body_of(alloc: Global, block: &str, scope: Scope<'_>) -> Result<Body, CaseFault> {
+    let (header, code) = block.split_once('\n').ok_or(CaseFault::Unknown)?;
     let (slots, given) = header.split_once(" given").unwrap_or((header, ""));
     Ok(Body {
         code: code_of(alloc, Scope { code, ..scope })?,
@@ -218,7 +201,7 @@ fn body_of(alloc: Global, block: &str, scope: Scope<'_>) -> Result<Body, Fail> {
 }
 
 /// The slots of a header, behind the word `body` and the name: `own`, `own[4]`, `outer:0` or `outer:0[4]`.
-fn slots_of(alloc: Global, header: &str) -> Result<Seq<Slot>, Fail> {
+fn slots_of(alloc: Global, header: &str) -> Result<Seq<Slot>, CaseFault> {
     let mut slots = Seq::new(alloc);
     for word in header.split_whitespace().skip(2) {
         slots.push(slot_of(word)?)?;
@@ -227,37 +210,39 @@ fn slots_of(alloc: Global, header: &str) -> Result<Seq<Slot>, Fail> {
 }
 
 /// The slot of a word.
-fn slot_of(word: &str) -> Result<Slot, Fail> {
+fn slot_of(word: &str) -> Result<Slot, CaseFault> {
     let (home, cells) = match word.split_once('[') {
-        Some((home, cells)) => (home, cells.trim_end_matches(']').parse()?),
+        Some((home, cells)) => (home, number(cells.trim_end_matches(']'))?),
         None => (word, 1),
     };
     let source = match home.strip_prefix("outer:") {
-        Some(number) => Source::Outer(number.parse()?),
+        Some(outer) => Source::Outer(number(outer)?),
         None => Source::Own,
     };
     Ok(Slot { cells, source })
 }
 
 /// The slots to which values are given.
-fn given_of(alloc: Global, numbers: &str) -> Result<Seq<u32>, Fail> {
+fn given_of(alloc: Global, numbers: &str) -> Result<Seq<u32>, CaseFault> {
     let mut given = Seq::new(alloc);
-    for number in numbers.split_whitespace() {
-        given.push(number.parse()?)?;
+    for slot in numbers.split_whitespace() {
+        given.push(number(slot)?)?;
     }
     Ok(given)
 }
 
 /// The instructions of a body's text.
-fn code_of(alloc: Global, scope: Scope<'_>) -> Result<Seq<Line>, Fail> {
+fn code_of(alloc: Global, scope: Scope<'_>) -> Result<Seq<Line>, CaseFault> {
     let mut code = Seq::new(alloc);
     for text in scope.code.lines() {
-        let (line, instructions) = text.split_once(':').ok_or(UnknownWord)?;
-        let line = line.trim().parse()?;
+        let (line, instructions) = text.split_once(':').ok_or(CaseFault::Unknown)?;
+        let line = number(line.trim())?;
         for item in instructions.split(';').map(str::trim) {
             if !item.is_empty() && !item.starts_with('@') {
                 let words: Vec<&str> = item.split_whitespace().collect(alloc)?;
-                let instruction = instruction_of(scope, words.as_slice()).ok_or(UnknownWord)?;
+                let instruction = instruction_of(scope, words.as_slice()).ok_or(
+                    CaseFault::Unknown,
+                )?;
                 code.push(Line { instruction, line })?;
             }
         }

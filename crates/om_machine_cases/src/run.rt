@@ -1,34 +1,20 @@
 //! A machine with the commands of a script.
 //!
 //! Where a call is refused memory, the run finds that nothing has changed and makes the call again. So a
-//! test answers the same whichever one request of the machine is refused.
+//! case is answered the same whichever one request of the machine is refused.
 
 ghost use Rattle.std.specs.Prelude.{◌≡◌, ◌≤◌, ◌<◌, ◌+◌, ◌^◌};
 
-use crate::assembly::{UnknownWord, program_of};
-use crate::texts::{
-    add, entries_text, name_text, object_text, roll_text, step_text, undo_text, value_text,
-};
+use crate::assembly::program_of;
+use crate::fault::CaseFault;
+use crate::texts::{add, entries_text, name_text, roll_text, step_text, undo_text, value_text};
 use om_cells::{Choice, Control, Entry, Val};
 use om_foot::{Name, Obj};
 use om_undo::{Machine, StepReply, UndoReply};
 use std::alloc::{AllocError, Global};
-use std::test::Fail;
-use thiserror::Error;
 
 /// How many steps are asked for, at most.
 const MOST_CALLS: u64 = 1 << 40;
-
-/// What a machine must not answer.
-#[derive(Clone, Copy, Debug, Drop, PartialEq, Eq, Error)]
-pub(crate) enum WrongCall {
-    #[error("too many calls, or no such worker")]
-    OutOfRange,
-    #[error("changed though out of memory")]
-    Changed,
-    #[error("a step or an undo was not done")]
-    NotDone,
-}
 
 /// A machine, and how many steps were asked of it at most.
 #[derive(Drop)]
@@ -62,15 +48,16 @@ fn take_back(machine: &mut Machine, worker: u8) -> UndoReply
 
 impl Run {
     /// The run of a program's text, with 1 to 32 workers.
-    pub(crate) fn of(alloc: Global, text: &str, workers: u8) -> Result<Run, Fail> {
+    pub(crate) fn of(alloc: Global, text: &str, workers: u8) -> Result<Run, CaseFault> {
         if workers < 1 || workers > 32 {
-            return Err(WrongCall::OutOfRange.into());
+            return Err(CaseFault::OutOfRange);
         }
         let machine = Machine::new(alloc, program_of(alloc, text)?, workers)?;
         Ok(Run { machine, calls: 0 })
     }
 
-    /// What the last steps of a machine can have changed: its history's end, its workers, their records, its output.
+    /// What the last steps of a machine can have changed: its history's end, its workers, their records, its
+    /// output.
     fn shown(&self, alloc: Global) -> Result<String, AllocError> {
         let entries = self.entries(alloc)?;
         let behind = entries.len().saturating_sub(1);
@@ -91,24 +78,24 @@ impl Run {
         alloc: Global,
         worker: u8,
         choice: Choice,
-    ) -> Result<Result<StepReply, AllocError>, WrongCall> {
+    ) -> Result<StepReply, CaseFault> {
         if worker >= self.machine.workers() || self.calls >= MOST_CALLS {
-            return Err(WrongCall::OutOfRange);
+            return Err(CaseFault::OutOfRange);
         }
         self.calls += 1;
-        Ok(take_step(&mut self.machine, alloc, worker, choice))
+        Ok(take_step(&mut self.machine, alloc, worker, choice)?)
     }
 
     /// What a step answers. Where it was refused memory, it has changed nothing, and is made again.
-    fn made(&mut self, alloc: Global, worker: u8, choice: Choice) -> Result<StepReply, Fail> {
+    fn made(&mut self, alloc: Global, worker: u8, choice: Choice) -> Result<StepReply, CaseFault> {
         let before = self.shown(alloc)?;
-        if let Ok(reply) = self.attempt(alloc, worker, choice)? {
+        if let Ok(reply) = self.attempt(alloc, worker, choice) {
             return Ok(reply);
         }
         if self.shown(alloc)? != before {
-            return Err(WrongCall::Changed.into());
+            return Err(CaseFault::Changed);
         }
-        Ok(self.attempt(alloc, worker, choice)??)
+        self.attempt(alloc, worker, choice)
     }
 
     /// A worker's step, in words.
@@ -117,15 +104,15 @@ impl Run {
         alloc: Global,
         worker: u8,
         choice: Choice,
-    ) -> Result<String, Fail> {
+    ) -> Result<String, CaseFault> {
         let reply = self.made(alloc, worker, choice)?;
         Ok(step_text(alloc, worker, reply)?)
     }
 
     /// What a step would answer.
-    fn foretold(&self, alloc: Global, worker: u8, choice: Choice) -> Result<StepReply, Fail> {
+    fn foretold(&self, alloc: Global, worker: u8, choice: Choice) -> Result<StepReply, CaseFault> {
         if worker >= self.machine.workers() {
-            return Err(WrongCall::OutOfRange.into());
+            return Err(CaseFault::OutOfRange);
         }
         match self.machine.peek(alloc, worker, choice) {
             Ok(reply) => Ok(reply),
@@ -133,48 +120,68 @@ impl Run {
         }
     }
 
-    /// What a step would answer, in words.
-    pub(crate) fn peek(&self, alloc: Global, worker: u8, choice: Choice) -> Result<String, Fail> {
-        let reply = self.foretold(alloc, worker, choice)?;
+    /// What a worker's next step would answer, in words.
+    pub(crate) fn peek(&self, alloc: Global, worker: u8) -> Result<String, CaseFault> {
+        let reply = self.foretold(alloc, worker, Choice::Next)?;
         Ok(step_text(alloc, worker, reply)?)
     }
 
     /// An undo, in words.
-    pub(crate) fn undo(&mut self, alloc: Global, worker: u8) -> Result<String, Fail> {
+    pub(crate) fn undo(&mut self, alloc: Global, worker: u8) -> Result<String, CaseFault> {
         if worker >= self.machine.workers() {
-            return Err(WrongCall::OutOfRange.into());
+            return Err(CaseFault::OutOfRange);
         }
         let reply = take_back(&mut self.machine, worker);
         Ok(undo_text(alloc, self.machine.program(), worker, reply)?)
     }
 
     /// A roll, in words.
-    pub(crate) fn roll(&mut self, alloc: Global, serial: u64) -> Result<String, Fail> {
+    pub(crate) fn roll(&mut self, alloc: Global, serial: u64) -> Result<String, CaseFault> {
         let before = self.shown(alloc)?;
-        let reply = match self.machine.roll(alloc, serial) {
-            Ok(reply) => reply,
-            Err(_) => {
-                if self.shown(alloc)? != before {
-                    return Err(WrongCall::Changed.into());
-                }
-                self.machine.roll(alloc, serial)?
-            }
-        };
+        if let Ok(reply) = self.machine.roll(alloc, serial) {
+            return Ok(roll_text(alloc, serial, &reply)?);
+        }
+        if self.shown(alloc)? != before {
+            return Err(CaseFault::Changed);
+        }
+        let reply = self.machine.roll(alloc, serial)?;
         Ok(roll_text(alloc, serial, &reply)?)
     }
 
-    /// Takes a worker's next step, and answers whether it was done.
-    pub(crate) fn advance(&mut self, alloc: Global, worker: u8) -> Result<bool, Fail> {
-        match self.attempt(alloc, worker, Choice::Next)?? {
-            StepReply::Done { .. } => Ok(true),
-            StepReply::Blocked(_) | StepReply::Ended => Ok(false),
+    /// Lets each of the first workers take a step, in so many rounds. Answers whether each step was done.
+    pub(crate) fn forwards(
+        &mut self,
+        alloc: Global,
+        workers: u8,
+        rounds: u32,
+    ) -> Result<bool, CaseFault> {
+        for _ in 0..rounds {
+            for worker in 0..workers {
+                let reply = self.attempt(alloc, worker, Choice::Next)?;
+                if !matches!(reply, StepReply::Done { .. }) {
+                    return Ok(false);
+                }
+            }
         }
+        Ok(true)
     }
 
-    /// Takes a worker's last step back, and answers whether it was done.
-    pub(crate) fn go_back(&mut self, worker: u8) -> Result<bool, Fail> {
+    /// Takes the steps of so many rounds back, the last one first. Answers whether each was undone.
+    pub(crate) fn backwards(&mut self, workers: u8, rounds: u32) -> Result<bool, CaseFault> {
+        for _ in 0..rounds {
+            for worker in (0..workers).rev() {
+                if !self.goes_back(worker)? {
+                    return Ok(false);
+                }
+            }
+        }
+        Ok(true)
+    }
+
+    /// Takes a worker's last step back, and answers whether it was undone.
+    fn goes_back(&mut self, worker: u8) -> Result<bool, CaseFault> {
         if worker >= self.machine.workers() {
-            return Err(WrongCall::OutOfRange.into());
+            return Err(CaseFault::OutOfRange);
         }
         match take_back(&mut self.machine, worker) {
             UndoReply::Undone { .. } => Ok(true),
@@ -182,8 +189,19 @@ impl Run {
         }
     }
 
+    /// How often a copy of the control of worker 0 says that it runs, of so many copies.
+    pub(crate) fn copies(&self, alloc: Global, most: u32) -> Result<u32, AllocError> {
+        let mut copies = 0_u32;
+        for _ in 0..most {
+            if let Val::Control(Control::Running(_)) = self.value(alloc, &Obj::Control(0))? {
+                copies = copies.saturating_add(1);
+            }
+        }
+        Ok(copies)
+    }
+
     /// What an object holds.
-    pub(crate) fn value(&self, alloc: Global, object: &Obj) -> Result<Val, AllocError> {
+    fn value(&self, alloc: Global, object: &Obj) -> Result<Val, AllocError> {
         match self.machine.look(alloc, object) {
             Ok(value) => Ok(value),
             Err(_) => self.machine.look(alloc, object),
@@ -245,19 +263,12 @@ impl Run {
         u32::try_from(at).ok()
     }
 
-    /// Whether a step would be done.
-    fn can(&self, alloc: Global, worker: u8, choice: Choice) -> Result<bool, Fail> {
-        match self.foretold(alloc, worker, choice)? {
-            StepReply::Done { .. } => Ok(true),
-            StepReply::Blocked(_) | StepReply::Ended => Ok(false),
-        }
-    }
-
     /// The start of the first ready task that a worker can start.
-    fn start_of(&self, alloc: Global, worker: u8) -> Result<Option<Choice>, Fail> {
+    fn start_of(&self, alloc: Global, worker: u8) -> Result<Option<Choice>, CaseFault> {
         for name in &self.ready(alloc)? {
             let start = Choice::Start(*name);
-            if self.can(alloc, worker, start)? {
+            let reply = self.foretold(alloc, worker, start)?;
+            if matches!(reply, StepReply::Done { .. }) {
                 return Ok(Some(start));
             }
         }
@@ -265,9 +276,10 @@ impl Run {
     }
 
     /// The move of the lowest worker that has one: its next instruction, else the start of a task.
-    fn next_move(&self, alloc: Global) -> Result<Option<(u8, Choice)>, Fail> {
+    fn next_move(&self, alloc: Global) -> Result<Option<(u8, Choice)>, CaseFault> {
         for worker in 0..self.machine.workers() {
-            if self.can(alloc, worker, Choice::Next)? {
+            let reply = self.foretold(alloc, worker, Choice::Next)?;
+            if matches!(reply, StepReply::Done { .. }) {
                 return Ok(Some((worker, Choice::Next)));
             }
             if let Some(start) = self.start_of(alloc, worker)? {
@@ -278,7 +290,7 @@ impl Run {
     }
 
     /// Makes moves, at most so many, until none is left or one ends with a fault.
-    pub(crate) fn run(&mut self, alloc: Global, most: u32) -> Result<String, Fail> {
+    pub(crate) fn run(&mut self, alloc: Global, most: u32) -> Result<String, CaseFault> {
         for made in 0..most {
             let Some((worker, choice)) = self.next_move(alloc)? else {
                 return Ok(format!(in alloc; "ran {made} {}", self.end(alloc)?)?);
@@ -296,7 +308,7 @@ impl Run {
     }
 
     /// Whether the program has ended where no move is left.
-    fn end(&self, alloc: Global) -> Result<&'static str, Fail> {
+    fn end(&self, alloc: Global) -> Result<&'static str, AllocError> {
         match self.value(alloc, &Obj::Control(0))? {
             Val::Control(Control::Ended(_)) => Ok("ended"),
             _ => Ok("stuck"),

@@ -22,10 +22,14 @@ impl Scope<'_> {
         number_of(self.bodies, name)
     }
 
-    /// The variable of a word: `$0` is the slot of number 0, any other a global.
+    /// The variable of a word: `$0` is the slot of number 0, `#0` the global of number 0, any other a
+    /// global by its name.
     fn place(&self, word: &str) -> Option<Place> {
-        match word.strip_prefix('$') {
-            Some(slot) => Some(Place::Slot(slot.parse().ok()?)),
+        if let Some(slot) = word.strip_prefix('$') {
+            return Some(Place::Slot(slot.parse().ok()?));
+        }
+        match word.strip_prefix('#') {
+            Some(global) => Some(Place::Global(global.parse().ok()?)),
             None => Some(Place::Global(number_of(self.globals, word)?)),
         }
     }
@@ -77,7 +81,7 @@ fn count(words: &[&str], at: usize) -> Option<u16> {
 /// The instruction of these words.
 pub(crate) fn instruction_of(scope: Scope<'_>, words: &[&str]) -> Option<Instr> {
     let (first, rest) = words.split_first()?;
-    plain(first)
+    meant(&PLAIN, first)
         .or_else(|| on_place(scope, first, rest))
         .or_else(|| to_target(scope, first, rest))
         .or_else(|| on_body(scope, first, rest))
@@ -112,11 +116,6 @@ const PLAIN: [(&str, Instr); 18] = [
 fn meant<T: Copy>(table: &[(&str, T)], word: &str) -> Option<T> {
     let (_, meaning) = table.iter().find(|(name, _)| *name == word)?;
     Some(*meaning)
-}
-
-/// An instruction of one word.
-fn plain(first: &str) -> Option<Instr> {
-    meant(&PLAIN, first)
 }
 
 /// An instruction on a variable.
