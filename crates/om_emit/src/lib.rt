@@ -1,0 +1,8 @@
+//! Writes the code of expressions.
+//!
+//! While code is written, a jump names a label. What a part promises speaks of every finished
+//! program that agrees with what was written, so promises compose item by item, as rows do.
+#![tactic(auto)]
+
+pub mod draft;
+pub mod expression;
