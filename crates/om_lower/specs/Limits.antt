@@ -9,7 +9,7 @@ use Rattle.om_lexer.specs.declared.fault.FaultCode.TheVariants.{TooMany}
 use Rattle.om_lexer.specs.declared.fault.SourceFault.{SourceFault}
 use Rattle.om_resolved.specs.ResolvedTree.{ResolvedFunctionTree, ResolvedTree}
 use Rattle.om_resolved.specs.Uses.{is_main_function}
-use Rattle.om_rows.specs.Bodies.{BodySite, behind_functions, bodies_from, first_numbers, function_bodies, variables_of}
+use Rattle.om_rows.specs.Bodies.{BodySite, behind_functions, bodies_from, bodies_of, first_numbers, function_bodies, variables_of}
 use Rattle.om_rows.specs.Code.{body_row, slots_of}
 use Rattle.om_tables.specs.Names.{names_in, site_with}
 
@@ -42,6 +42,10 @@ pub record IsWithin (tree : ResolvedTree) (b : BodySite) : Type 0 where
   pub is_code : IsCodeAt tree picks b code
   pub short : length code ≤ 65536
   pub low : IsLow picks code
+
+-- no body of a tree passes a limit
+abbrev pub AreWithin : ResolvedTree → Type 0
+AreWithin tree = All (λ b. IsWithin tree b) (bodies_of tree)
 
 -- a limit is passed
 pub data IsOver (tree : ResolvedTree) (b : BodySite) : Type 0 where

@@ -7,4 +7,6 @@ mod frames;
 mod functions;
 mod heights;
 pub mod look;
+pub mod lower;
+mod program;
 pub mod texts;

@@ -1,0 +1,100 @@
+//! From a resolved tree to its code.
+
+ghost use Rattle.std.specs.Prelude.{◌≡◌, ◌≢◌, ◌<◌, [], All, IfErr, IfOk, IfSome, OnOk, None, Some, length};
+ghost use Rattle.om_lexer.specs.Faults.{no_memory};
+ghost use Rattle.om_lower.specs.Directives.{first_directive};
+ghost use Rattle.om_lower.specs.Heights.{AreLevel};
+ghost use Rattle.om_lower.specs.Limits.{AreWithin, IsTooMany};
+ghost use Rattle.om_lower.specs.Made.{IsLowered, IsOverAt};
+ghost use Rattle.om_lower.specs.Refusals.{IsRefusedTree, too_many};
+ghost use Rattle.om_resolved.specs.ResolvedView.{view_resolved, view_resolved_function};
+ghost use Rattle.om_resolved.specs.Whole.{IsWholeTree};
+ghost use Rattle.om_rows.specs.Code.{IsCodeOf};
+ghost use Rattle.om_rows.specs.Coded.{TreeHasCode};
+ghost use Rattle.om_tables.specs.Tables.{IsTablesOf};
+
+use crate::directives::first_directive;
+use crate::functions::{Lowered, Whole, lower_functions};
+use crate::heights::first_high;
+use crate::program::program_of;
+use om_code::program::Program;
+use om_lexer::{FaultCode, SourceFault};
+use om_resolved::{Resolved, ResolvedFunction};
+use om_rows::laws::{body_is_level, whole_has_code};
+use om_tables::tables_of;
+use std::alloc::{AllocError, Global};
+
+/// The program whose bodies are the code of the tree's functions.
+///
+/// Refusals:
+/// - S0 at byte 0: no memory.
+/// - S3 at the first directive of the text: its code is not written yet.
+/// - S11 at a function's name: a body of it has more than 256 slots, more than 4,096 cells of its own, more than
+///   65,536 instructions, or more than 256 operands at once. Of several such functions the first is named.
+pub fn lower(alloc: Global, resolved: &Resolved) -> Result<Program, SourceFault>
+    requires { IsWholeTree (view_resolved resolved.now) }
+    ensures code { IfOk result (λ program. IsCodeOf (view_resolved resolved.now) program) }
+    ensures supported { OnOk result (first_directive (view_resolved resolved.now) ≡ None) }
+    ensures within { OnOk result (AreWithin (view_resolved resolved.now)) }
+    ensures refused { IfErr result (λ fault. fault ≢ no_memory → IsRefusedTree (view_resolved resolved.now) fault) }
+{
+    if let Some(at) = first_directive(resolved) {
+        return Err(SourceFault {
+            code: FaultCode::Syntax,
+            at: at.start,
+        });
+    }
+    whole_has_code();
+    lower_serial(alloc, resolved)
+}
+
+/// The program of a tree without directives.
+fn lower_serial(alloc: Global, resolved: &Resolved) -> Result<Program, SourceFault>
+    requires whole { IsWholeTree (view_resolved resolved.now) }
+    requires has_code { TreeHasCode (view_resolved resolved.now) }
+    requires serial { first_directive (view_resolved resolved.now) ≡ None }
+    ensures code { IfOk result (λ program. IsCodeOf (view_resolved resolved.now) program) }
+    ensures within { OnOk result (AreWithin (view_resolved resolved.now)) }
+    ensures refused { IfErr result (λ fault. fault ≢ no_memory → IsTooMany (view_resolved resolved.now) fault) }
+{
+    let tables = tables_of(alloc, resolved)?;
+    let whole = Whole {
+        alloc,
+        resolved,
+        tables: &tables,
+    };
+    let lowered = lower_functions(&whole)?;
+    if let Some(index) = over_at(&whole, &lowered)? {
+        return Err(too_many(&resolved.functions.as_slice()[index]));
+    }
+    let Lowered { functions, .. } = lowered;
+    let program = program_of(&whole, functions)?;
+    Ok(program)
+}
+
+/// The first function that passes a limit, if one does.
+fn over_at(whole: &Whole<'_>, lowered: &Lowered) -> Result<Option<usize>, AllocError>
+    requires { IsLowered (view_resolved whole.now.resolved.now) lowered.now.functions.items lowered.now.is_whole }
+    ensures over { IfOk result (λ index. IsOverAt lowered.now.functions.items lowered.now.is_whole index) }
+    ensures within { IfOk result (λ index. IfSome index (λ index. index < length whole.now.resolved.now.functions.items)) }
+{
+    body_is_level();
+    let functions = lowered.functions.as_slice();
+    if let Some(index) = first_high(whole.alloc, &[], functions)? {
+        return Ok(Some(index));
+    }
+    if lowered.is_whole {
+        return Ok(None);
+    }
+    Ok(Some(functions.len()))
+}
+
+/// S11 at the function's name.
+fn too_many(function: &ResolvedFunction) -> SourceFault
+    ensures { result ≡ too_many (view_resolved_function function.now) }
+{
+    SourceFault {
+        code: FaultCode::TooMany,
+        at: function.name_at,
+    }
+}
