@@ -9,7 +9,7 @@ use Rattle.om_lower.specs.Directives.{directive_among, function_directive}
 use Rattle.om_lower.specs.Heights.{AreLevel, AreLow, IsLevelBody}
 use Rattle.om_lower.specs.Limits.{AreWithin, IsWithin}
 use Rattle.om_lower.specs.Made.{AreFunctions, AreMade, IsLowered, IsMade}
-use Rattle.om_lower.proofs.Functions.{side_by_side, within_functions}
+use Rattle.om_lower.proofs.FunctionBodies.{side_by_side, within_functions}
 use Rattle.om_lower.proofs.Serial.{or_first, or_second, plain_all}
 use Rattle.om_resolved.specs.Beside.{AtomicAssigns, CopiesBehind, EverywhereIn}
 use Rattle.om_resolved.specs.ResolvedTree.{ResolvedFunctionTree, ResolvedTree}

@@ -1,9 +1,10 @@
 -- Formats, cut piece by piece.
-use Rattle.std.proofs.Common.{◌≡◌, ℕ, List, [], ◌∷◌, ◌++◌, map, refl, ap}
+use Rattle.std.proofs.Common.{◌≡◌, ℕ, Bool, true, false, List, [], ◌∷◌, ◌++◌, Option, None, Some, map, option_map, if◌then◌else◌, refl, sym, ap}
 use Rattle.std.proofs.lemmas.List.{append_assoc}
 use Rattle.om_code.specs.declared.raw.Piece as texts
 use Rattle.om_code.specs.declared.raw.Piece.TheVariants as pieces
-use Rattle.om_lower.specs.Texts.{with_run}
+use Rattle.om_lower.specs.declared.texts.Cut.{Cut}
+use Rattle.om_lower.specs.Texts.{behind_cut, with_run}
 use Rattle.om_resolved.specs.Formats.{Piece, Bytes, Value, with_byte}
 use Rattle.om_rows.specs.Mentions.{text_piece}
 
@@ -22,3 +23,23 @@ run_byte (first ∷ run) byte (Value ∷ rest) = refl
 pub run_value : (run : List ℕ) (rest : List texts.Piece) → with_run run (pieces.Value ∷ rest) ≡ with_run run [] ++ pieces.Value ∷ rest
 run_value [] rest = refl
 run_value (first ∷ run) rest = refl
+
+on_option : {A B C : Type 0} (f : A → C) (g : B → C) (h : A → B) (x : Option A) → ((a : A) → g (h a) ≡ f a) → option_map g (option_map h x) ≡ option_map f x
+on_option f g h None same = refl
+on_option f g h (Some a) same = ap (λ c. Some c) (same a)
+
+-- what a byte behind a `%` comes to
+pub value_or : (old new : Cut) (is : Bool) (some other : Option (List Piece)) → is ≡ true → ((rest : List Piece) → behind_cut new rest ≡ behind_cut old (Value ∷ rest))
+    → option_map (behind_cut old) (if is then option_map (λ pieces. Value ∷ pieces) some else other) ≡ option_map (behind_cut new) some
+value_or old new true some other is same = on_option (behind_cut new) (behind_cut old) (λ pieces. Value ∷ pieces) some (λ rest. sym (same rest))
+value_or old new false some other is same = cc
+
+pub byte_or : (old new : Cut) (byte : ℕ) (is : Bool) (some other : Option (List Piece)) → is ≡ true
+    → ((rest : List Piece) → behind_cut new rest ≡ behind_cut old (with_byte byte rest))
+    → option_map (behind_cut old) (if is then option_map (with_byte byte) some else other) ≡ option_map (behind_cut new) some
+byte_or old new byte true some other is same = on_option (behind_cut new) (behind_cut old) (with_byte byte) some (λ rest. sym (same rest))
+byte_or old new byte false some other is same = cc
+
+pub not_this : {A : Type 0} (is : Bool) (some other : A) → is ≡ false → (if is then some else other) ≡ other
+not_this true some other is = cc
+not_this false some other is = refl

@@ -1,6 +1,10 @@
+pub mod Searches
 pub mod Cutting
-pub mod Frames
+pub mod SlotTables
 pub mod Serial
-pub mod Functions
+pub mod Items
+pub mod High
+pub mod Coding
+pub mod FunctionBodies
 pub mod Refusing
 pub mod Assembled

@@ -6,9 +6,9 @@ use Rattle.om_lower.specs.Heights.{AreLow, IsFirst}
 use Rattle.om_lower.specs.Limits.{IsOver, IsTooMany, IsWithin}
 use Rattle.om_lower.specs.Made.{AreFunctions, IsLowered, IsOverAt, StopsUnless}
 use Rattle.om_lower.specs.Refusals.{too_many}
-use Rattle.om_lower.proofs.Functions.{first_functions, made_at, over_high, within_functions}
+use Rattle.om_lower.proofs.FunctionBodies.{first_functions, made_at, over_high, within_functions}
 use Rattle.om_resolved.specs.ResolvedTree.{ResolvedFunctionTree, ResolvedTree}
-use Rattle.om_rows.specs.Bodies.{Numbers, behind_functions, bodies_from, first_numbers, function_bodies}
+use Rattle.om_rows.specs.Bodies.{Numbers, behind_function, behind_functions, bodies_from, first_numbers, function_bodies}
 
 parted : {A : Type 0} (xs : List A) (k : ℕ) (x : A) → slice_get xs k ≡ Some x → xs ≡ take k xs ++ x ∷ drop (suc k) xs
 parted [] k x at = cc
@@ -24,7 +24,7 @@ taken_long (x ∷ xs) (suc k) lt = ap suc (taken_long xs k (let below : k < leng
 pub functions_long : (tree : ResolvedTree) (n : Numbers) (fs : List ResolvedFunctionTree) (lists : List (List Body)) → AreFunctions tree [] n fs lists → length lists ≤ length fs
 functions_long tree n fs [] made = omega arith
 functions_long tree n [] (bodies ∷ lists) made = absurd made
-functions_long tree n (f ∷ fs) (bodies ∷ lists) made = let rest = functions_long tree _ fs lists made.1 in omega (arith, rest)
+functions_long tree n (f ∷ fs) (bodies ∷ lists) made = let rest = functions_long tree (behind_function n f) fs lists made.1 in omega (arith, rest)
 
 named : (tree : ResolvedTree) (k : ℕ) (function : ResolvedFunctionTree) → slice_get tree.functions k ≡ Some function
     → All (λ b. IsWithin tree b) (bodies_from first_numbers (take k tree.functions))
@@ -47,7 +47,7 @@ by_height tree lists index function made first at =
     let within = within_functions tree first_numbers tree.functions (take index lists) (first_functions tree first_numbers tree.functions lists index made) first.before in
     named tree index function at
       (subst (λ k. All (λ b. IsWithin tree b) (bodies_from first_numbers (take k tree.functions))) (taken_long lists index first.within) within)
-      (over_high tree _ first.bodies (made_at tree first_numbers tree.functions lists index function first.bodies made first.there at) first.high)
+      (over_high tree (function_bodies (behind_functions first_numbers (take index tree.functions)) function) first.bodies (made_at tree first_numbers tree.functions lists index function first.bodies made first.there at) first.high)
 
 by_stop : (tree : ResolvedTree) (lists : List (List Body)) (is_whole : Bool) (index : ℕ) (function : ResolvedFunctionTree)
     → AreFunctions tree [] first_numbers tree.functions lists → StopsUnless is_whole tree lists → is_whole ≡ false → index ≡ length lists

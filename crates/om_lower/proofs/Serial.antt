@@ -74,3 +74,33 @@ mutual
         copies = (first.copies, others.copies);
         atomics = (first.atomics, others.atomics);
       }
+
+mutual
+  own_none : (s : ResolvedStatementTree) → directive_in s ≡ None → (n : Numbers) → own_picks n s ≡ []
+  own_none (Declaration at ds) none n = refl
+  own_none (Block at items) none n = no_picks items none n
+  own_none (Empty at) none n = refl
+  own_none (Expression at e) none n = refl
+  own_none (If at c s) none n = own_none s none n
+  own_none (IfElse at c s t) none n =
+      ap (λ found. found ++ own_picks (behind n s) t) (own_none s (or_first (directive_in s) (directive_in t) none) n)
+      ∙ own_none t (or_second (directive_in s) (directive_in t) none) (behind n s)
+  own_none (While at c s) none n = own_none s none n
+  own_none (Do at s c) none n = own_none s none n
+  own_none (For at start condition step s) none n = own_none s none n
+  own_none (Return at value) none n = refl
+  own_none (Break at) none n = refl
+  own_none (Continue at) none n = refl
+  own_none (Parallel at clauses captures s) none n = cc
+  own_none (Task at clauses captures s) none n = cc
+  own_none (Loop at clauses nowait l s) none n = cc
+  own_none (Sections at clauses nowait parts) none n = cc
+  own_none (Construct at kind clauses s) none n = cc
+  own_none (Update at u) none n = cc
+  own_none (StandAlone at directive) none n = cc
+
+  pub no_picks : (items : ResolvedStatementsTree) → directive_among items ≡ None → (n : Numbers) → all_own_picks n items ≡ []
+  no_picks NoStatements none n = refl
+  no_picks (Statement s rest) none n =
+      ap (λ found. found ++ all_own_picks (behind n s) rest) (own_none s (or_first (directive_in s) (directive_among rest) none) n)
+      ∙ no_picks rest (or_second (directive_in s) (directive_among rest) none) (behind n s)

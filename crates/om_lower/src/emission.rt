@@ -39,6 +39,5 @@ pub fn function_body(
     ensures row { IfOk result (λ made. (picks : List (List ℕ)) → ListsStand made.lists.items picks → body_row (site_with (names_of scope.now) made.code picks) (numbers_of numbers) (view_resolved_function function.now) FunctionBody 0 (length made.code)) }
     ensures lists { IfOk result (λ made. map (λ list. list.number) made.lists.items ≡ body_picks (numbers_of numbers) (view_resolved_function function.now) FunctionBody) }
 {
-    let _ = (alloc, scope, numbers, function);
     Err(AllocError)
 }

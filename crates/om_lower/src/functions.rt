@@ -28,6 +28,7 @@ use std::alloc::{AllocError, Global};
 pub const INSTRUCTION_LIMIT: usize = 65_536;
 
 /// A program that is lowered: its tree, and the tables of that.
+#[derive(Drop)]
 pub(crate) struct Whole<'a> {
     pub(crate) alloc: Global,
     pub(crate) resolved: &'a Resolved,
@@ -92,6 +93,7 @@ fn lower_function(
     Ok(Some(bodies))
 }
 
+#[tactic(auto, using(crate::proofs::Coding::fits_frame))]
 /// The slots of a function's own body; `None` where it passes a limit.
 fn function_frame(
     alloc: Global,
@@ -102,7 +104,9 @@ fn function_frame(
         IfOk result (λ frame. FitsFrame variables.now slots frame) }
 {
     let extents = extents_of(alloc, function)?;
-    frame_of(alloc, &extents, &Variables::new(alloc), &[], variables)
+    let outer = Variables::new(alloc);
+    let frame = frame_of(alloc, &extents, &outer, &[], variables)?;
+    Ok(frame)
 }
 
 /// The code of a function's own body; `None` where it has too many instructions.
@@ -133,5 +137,5 @@ fn function_code(
 pub(crate) fn is_main(function: &ResolvedFunction) -> bool
     ensures { result ≡ is_main_function (view_resolved_function function.now) }
 {
-    function.name.as_slice() == b"main"
+    function.name.as_slice() == b"main".as_slice()
 }

@@ -22,7 +22,7 @@ use om_code::raw::{self, Body, Piece, Raw};
 use om_resolved::{GlobalVariable, Resolved, ResolvedFunction};
 use om_rows::laws::code_is_valid;
 use om_seq::Seq;
-use om_tables::{Tables, Texts};
+use om_tables::{Scope, Texts, Variables};
 use std::alloc::{AllocError, Global};
 
 /// The program of a tree, whose functions have these bodies.
@@ -58,7 +58,7 @@ fn raw_of(whole: &Whole<'_>, functions: Vec<Seq<Body>>) -> Result<Raw, AllocErro
     let globals = copy_globals(alloc, whole.resolved.globals.as_slice())?;
     let texts = texts_of(alloc, &whole.tables.formats)?;
     let locks = copy_texts(alloc, &whole.tables.locks)?;
-    let main = main_body(whole.resolved, whole.tables);
+    let main = main_body(whole);
     Ok(Raw {
         globals,
         bodies,
@@ -158,22 +158,33 @@ fn copy_global(alloc: Global, global: &GlobalVariable) -> Result<raw::GlobalVari
 }
 
 /// The number of the body of `main`.
-fn main_body(resolved: &Resolved, tables: &Tables) -> u32
-    requires tables { IsTablesOf (view_resolved resolved.now) tables.now }
-    requires main { Any (λ function. is_main_function function ≡ true) (view_resolved resolved.now).functions }
-    ensures { let tree = view_resolved resolved.now in
+fn main_body(whole: &Whole<'_>) -> u32
+    requires tables { IsTablesOf (view_resolved whole.now.resolved.now) whole.now.tables.now }
+    requires main { Any (λ function. is_main_function function ≡ true) (view_resolved whole.now.resolved.now).functions }
+    ensures { let tree = view_resolved whole.now.resolved.now in
         option_map (called_body tree.functions) (position is_main_function tree.functions) ≡ Some result }
 {
+    let main = main_of(whole.resolved);
+    let variables = Variables::new(whole.alloc);
+    let scope = Scope::new(whole.resolved, whole.tables, &variables, true);
+    scope.called_body(main)
+}
+
+#[tactic(auto, using(crate::proofs::Searches::position_none, crate::proofs::Searches::position_map))]
+/// The index of `main`.
+fn main_of(resolved: &Resolved) -> usize
+    requires { Any (λ function. is_main_function function ≡ true) (view_resolved resolved.now).functions }
+    ensures { position is_main_function (view_resolved resolved.now).functions ≡ Some result }
+{
     match index_of_main(resolved.functions.as_slice()) {
-        Some(index) => tables.bodies[index],
+        Some(index) => index,
         None => unreachable!(),
     }
 }
 
 /// The index of the first function named `main`.
 fn index_of_main(functions: &[ResolvedFunction]) -> Option<usize>
-    ensures index { result ≡ position (λ function. is_main_function (view_resolved_function function)) functions.now }
-    ensures within { IfSome result (λ index. index < length functions.now) }
+    ensures { result ≡ position (λ function. is_main_function (view_resolved_function function)) functions.now }
 {
     functions.iter().position(is_main)
 }

@@ -46,6 +46,7 @@ fn cut_format(alloc: Global, cut: &mut Cut, format: &[u8]) -> Result<bool, Alloc
     Ok(true)
 }
 
+#[tactic(auto, unfolding(om_resolved::specs::Formats::pieces_of), using(crate::proofs::Cutting::byte_or, crate::proofs::Cutting::not_this))]
 /// Cuts what begins with a byte, and answers what is behind it; `None` where no format goes on so.
 fn cut_next<'a>(
     alloc: Global,
@@ -63,6 +64,7 @@ fn cut_next<'a>(
     Ok(Some(rest))
 }
 
+#[tactic(auto, unfolding(om_resolved::specs::Formats::converted), using(crate::proofs::Cutting::value_or, crate::proofs::Cutting::byte_or, crate::proofs::Cutting::not_this))]
 /// Cuts what begins behind a `%`.
 fn cut_converted<'a>(
     alloc: Global,

@@ -3,4 +3,4 @@ use Rattle.om_lower.specs.Heights.{AreLow}
 use Rattle.om_lower.proofs.heights.first_high.Given as goal
 
 abbrev pub invariant-loop-index : goal.invariant-loop-index
-invariant-loop-index l = All (λ bodies. AreLow l.picks bodies) (take l.index-index l.functions)
+invariant-loop-index l = All (λ bodies. AreLow l.picks bodies) (take l.index l.functions)

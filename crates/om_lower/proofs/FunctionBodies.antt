@@ -1,5 +1,5 @@
 -- The bodies of functions, function by function.
-use Rattle.std.proofs.Common.{◌≡◌, ◌<◌, ◌≤◌, ◌⊎◌, inl, inr, ℕ, zero, suc, ◌+◌, Bool, true, false, List, [], ◌∷◌, ◌++◌, Option, None, Some, All, Any, length, take, drop, slice_get, slice_index_or, get_or, map, refl, sym, ap, subst, ◌∙◌, arith}
+use Rattle.std.proofs.Common.{◌≡◌, ◌<◌, ◌≤◌, ◌⊎◌, inl, inr, ℕ, zero, suc, ◌+◌, Bool, true, false, List, [], ◌∷◌, ◌++◌, Option, None, Some, All, Any, length, take, drop, slice_get, slice_index_or, refl, sym, ap, subst, ◌∙◌, arith}
 use Rattle.std.proofs.lemmas.List.Elements.{All-nil, All-cons, All-head, All-tail, All-append}
 use Rattle.std.specs.List.{AllZip, flat_map}
 use Rattle.om_code.specs.declared.raw.Body.{Body}
@@ -126,10 +126,3 @@ side_by_side tree n (f ∷ fs) [] made long = cc
 side_by_side tree n (f ∷ fs) (bodies ∷ lists) made long =
     zip_append (λ b body. IsMade tree [] b body) (function_bodies n f) (bodies_from (behind_function n f) fs) bodies (flat_map (λ bodies. bodies) lists)
       made.0 (side_by_side tree (behind_function n f) fs lists made.1 (let shorter : length lists ≡ length fs = omega (arith, long) in shorter))
-
--- ---- the item of a slice where a loop stands
-
-pub item_at : {A B : Type 0} (view : A → B) (xs : List A) (k : ℕ) (x : A) → k < length xs → x ≡ get_or xs k x → slice_get (map view xs) k ≡ Some (view x)
-item_at view [] k x lt is = let none : ⊥ = omega (arith, lt) in absurd none
-item_at view (y ∷ xs) zero x lt is = ap (λ z. Some (view z)) (sym is)
-item_at view (y ∷ xs) (suc k) x lt is = item_at view xs k x (let below : k < length xs = omega (arith, lt) in below) is
