@@ -1,6 +1,5 @@
 -- The code of a function's own body, as it was emitted.
-use Rattle.std.proofs.Common.{◌≡◌, ◌<◌, ◌≤◌, ◌⊎◌, inl, inr, ℕ, zero, suc, Bool, List, [], ◌∷◌, ◌++◌, Option, None, Some, Contains, Any, length, map, slice_get, nat_lt, true, false, refl, sym, ap, subst, ◌∙◌, arith}
-use Rattle.std.proofs.lemmas.Bool.Decides.{nat_tests}
+use Rattle.std.proofs.Common.{◌≡◌, ◌<◌, ◌≤◌, ◌⊎◌, inl, inr, ℕ, zero, suc, Bool, List, [], ◌∷◌, ◌++◌, Option, None, Some, Contains, Any, length, map, slice_get, take, ◌+◌, false, refl, sym, ap, subst, ◌∙◌, arith}
 use Rattle.om_code.specs.declared.raw.Body.{Body}
 use Rattle.om_code.specs.declared.raw.Line.{Line}
 use Rattle.om_code.specs.declared.raw.Slot.{Slot}
@@ -9,13 +8,14 @@ use Rattle.om_lower.specs.Directives.{directive_among}
 use Rattle.om_lower.specs.Emitted.{ListsStand}
 use Rattle.om_lower.specs.Frames.{FitsFrame}
 use Rattle.om_lower.specs.Limits.{HasRoom, IsCodeAt, IsOver, frame_cells, long, many_cells, many_slots}
-use Rattle.om_lower.specs.Made.{AreMade, FitsCode, FitsFunction, IsMade, function_site}
+use Rattle.om_lower.specs.Made.{AreFunctions, AreMade, FitsCode, FitsFunction, IsLowered, IsMade, function_site}
 use Rattle.om_lower.proofs.SlotTables.{slots_same}
+use Rattle.om_lower.proofs.FunctionBodies.{next_numbers, pushed}
 use Rattle.om_lower.proofs.Serial.{plain_all, no_picks}
 use Rattle.om_resolved.specs.declared.resolved.Capture.{Capture}
 use Rattle.om_resolved.specs.ResolvedTree.{ResolvedFunctionTree, ResolvedTree}
 use Rattle.om_resolved.specs.Uses.{is_main_function}
-use Rattle.om_rows.specs.Bodies.{BodySite, FunctionBody, Numbers, all_regions, function_bodies, function_variables, next_body, variables_of}
+use Rattle.om_rows.specs.Bodies.{BodySite, FunctionBody, Numbers, behind_function, behind_functions, first_numbers, function_bodies, function_variables, next_body, variables_of}
 use Rattle.om_rows.specs.Code.{body_row, given_of, slots_of}
 use Rattle.om_rows.specs.Mentions.{extents_of}
 use Rattle.om_rows.specs.Slots.{Extent, cells_in, parameter_sight, slot_of, slot_with}
@@ -107,8 +107,52 @@ made_body tree n f variables code slots given serial same frame fits given_same 
 
 -- ---- the limit on instructions
 
-pub over_limit : (count : ℕ) (code : List Line) → nat_lt 65536 count ≡ true → count ≡ length code → 65536 < length code
-over_limit count code more same = grind (arith, nat_tests, more, same)
+pub over_limit : (count : ℕ) (code : List Line) → 65536 < count → count ≡ length code → 65536 < length code
+over_limit count code more same = subst (λ n. 65536 < n) same more
 
-pub within_limit : (count : ℕ) (code : List Line) → nat_lt 65536 count ≡ false → count ≡ length code → length code ≤ 65536
-within_limit count code less same = grind (arith, nat_tests, less, same)
+pub within_limit : (count : ℕ) (code : List Line) → count ≤ 65536 → count ≡ length code → length code ≤ 65536
+within_limit count code less same = subst (λ n. n ≤ 65536) same less
+
+-- ---- function by function
+
+get_within : {A : Type 0} (xs : List A) (k : ℕ) (x : A) → slice_get xs k ≡ Some x → k < length xs
+get_within [] k x at = cc
+get_within (y ∷ xs) zero x at = omega arith
+get_within (y ∷ xs) (suc k) x at = let below = get_within xs k x at in omega (arith, below)
+
+pub stopped : (tree : ResolvedTree) (lists : List (List Body)) (k : ℕ) (f : ResolvedFunctionTree) (n : Numbers)
+    → AreFunctions tree [] first_numbers tree.functions lists → length lists ≡ k → n ≡ behind_functions first_numbers (take k tree.functions)
+    → slice_get tree.functions k ≡ Some f → FitsFunction tree n f None → IsLowered tree lists false
+stopped tree lists k f n made long same at fits =
+    let there : slice_get tree.functions (length lists) ≡ Some f = subst (λ i. slice_get tree.functions i ≡ Some f) (sym long) at in
+    let here : n ≡ behind_functions first_numbers (take (length lists) tree.functions) =
+          same ∙ ap (λ i. behind_functions first_numbers (take i tree.functions)) (sym long) in
+    record {
+      made = made;
+      stops = record {
+        within = get_within tree.functions (length lists) f there;
+        function = f;
+        there = there;
+        over = subst (λ m. Any (λ b. IsOver tree b) (function_bodies m f)) here fits;
+      };
+    }
+
+push_long : {A : Type 0} (xs : List A) (x : A) → length (xs ++ x ∷ []) ≡ length xs + 1
+push_long [] x = refl
+push_long (y ∷ xs) x = let rest = push_long xs x in omega (arith, rest)
+
+pub one_more : (tree : ResolvedTree) (lists new : List (List Body)) (k : ℕ) (f : ResolvedFunctionTree) (n m : Numbers) (bodies : List Body)
+    → AreFunctions tree [] first_numbers tree.functions lists → length lists ≡ k → n ≡ behind_functions first_numbers (take k tree.functions)
+    → slice_get tree.functions k ≡ Some f → FitsFunction tree n f (Some bodies) → new ≡ lists ++ bodies ∷ [] → m ≡ behind_function n f
+    → AreFunctions tree [] first_numbers tree.functions new × (length new ≡ k + 1) × (m ≡ behind_functions first_numbers (take (k + 1) tree.functions))
+one_more tree lists new k f n m bodies made long same at fits added behind =
+    let there : slice_get tree.functions (length lists) ≡ Some f = subst (λ i. slice_get tree.functions i ≡ Some f) (sym long) at in
+    let here : n ≡ behind_functions first_numbers (take (length lists) tree.functions) =
+          same ∙ ap (λ i. behind_functions first_numbers (take i tree.functions)) (sym long) in
+    let more = subst (λ m. AreMade tree [] (function_bodies m f) bodies) here fits in
+    let all = pushed tree first_numbers tree.functions lists f bodies made there more in
+    let next : suc k ≡ k + 1 = omega arith in
+    (subst (λ all. AreFunctions tree [] first_numbers tree.functions all) (sym added) all,
+     ap length added ∙ push_long lists bodies ∙ ap (λ i. i + 1) long,
+     behind ∙ ap (λ m. behind_function m f) same ∙ sym (next_numbers first_numbers tree.functions k f at)
+       ∙ ap (λ i. behind_functions first_numbers (take i tree.functions)) next)

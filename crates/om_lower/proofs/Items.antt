@@ -1,5 +1,5 @@
 -- The item of a list where a loop stands.
-use Rattle.std.proofs.Common.{◌≡◌, ◌<◌, ◌≤◌, ℕ, zero, suc, ◌+◌, List, [], ◌∷◌, ◌++◌, Some, All, length, map, take, slice_get, get_or, refl, sym, ap, subst, ◌∙◌, arith}
+use Rattle.std.proofs.Common.{◌≡◌, ◌<◌, ◌≤◌, ℕ, zero, suc, ◌+◌, List, [], ◌∷◌, ◌++◌, Option, None, Some, IfSome, IsSome, All, length, map, take, slice_get, get_or, refl, sym, ap, subst, ◌∙◌, arith}
 use Rattle.std.proofs.lemmas.List.Elements.{All-nil, All-cons, All-head, All-tail}
 use Rattle.std.specs.List.{AllZip}
 
@@ -46,3 +46,23 @@ all_taken P [] k le all = All-nil P
 all_taken P (x ∷ xs) zero le all = let none : ⊥ = omega (arith, le) in absurd none
 all_taken P (x ∷ xs) (suc k) le all =
     All-cons P x xs (All-head P x (take k xs) all) (all_taken P xs k (let below : length xs ≤ k = omega (arith, le) in below) (All-tail P x (take k xs) all))
+
+-- a list to which the next item is added
+pub pushed_in : {A : Type 0} (xs ys new : List A) (k : ℕ) (x : A) → new ≡ ys ++ x ∷ [] → ys ≡ take k xs → slice_get xs k ≡ Some x → new ≡ take (k + 1) xs
+pushed_in xs ys new k x added same at =
+    let next : suc k ≡ k + 1 = omega arith in
+    added ∙ ap (λ all. all ++ x ∷ []) same ∙ sym (take_pushed xs k x at) ∙ ap (λ n. take n xs) next
+
+pub zip_in : {A B : Type 0} (R : A → B → Type 0) (xs : List A) (ys new : List B) (k : ℕ) (y : B) → k < length xs → new ≡ ys ++ y ∷ [] → AllZip R (take k xs) ys
+    → IfSome (slice_get xs k) (λ x. R x y) → AllZip R (take (k + 1) xs) new
+zip_in R xs ys new k y lt added zip r = go (slice_get xs k) refl r (there xs k lt)
+  where
+    there : {A : Type 0} (xs : List A) (k : ℕ) → k < length xs → IsSome (slice_get xs k)
+    there [] k lt = let none : ⊥ = omega (arith, lt) in absurd none
+    there (x ∷ xs) zero lt = tt
+    there (x ∷ xs) (suc k) lt = there xs k (let below : k < length xs = omega (arith, lt) in below)
+    go : (found : Option A) → slice_get xs k ≡ found → IfSome found (λ x. R x y) → IsSome found → AllZip R (take (k + 1) xs) new
+    go None at r some = absurd some
+    go (Some x) at r some =
+        let next : suc k ≡ k + 1 = omega arith in
+        subst (λ n. AllZip R (take n xs) new) next (subst (λ all. AllZip R (take (suc k) xs) all) (sym added) (zip_next R xs ys k x y at zip r))
