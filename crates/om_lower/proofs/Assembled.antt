@@ -27,7 +27,7 @@ level_bodies law tree (b ∷ sites) [] made = absurd made
 level_bodies law tree (b ∷ sites) (body ∷ bodies) made =
     let one = made.0 in
     All-cons (λ body. IsLevelBody [] body) body bodies (record { level = law _ b.numbers b.function b.tree (one.code []); short = one.short })
-      (level_bodies law tree sites bodies made.1)
+    (level_bodies law tree sites bodies made.1)
 
 pub level_functions : (law : BodyIsLevel) (tree : ResolvedTree) (n : Numbers) (fs : List ResolvedFunctionTree) (lists : List (List Body))
     → AreFunctions tree [] n fs lists → All (λ bodies. AreLevel [] bodies) lists
@@ -40,7 +40,7 @@ pub low_flat : (lists : List (List Body)) → All (λ bodies. AreLow [] bodies) 
 low_flat [] low = All-nil (λ body. IsLow [] body.code)
 low_flat (bodies ∷ lists) low =
     All-append (λ body. IsLow [] body.code) bodies (flat_map (λ bodies. bodies) lists)
-      (All-head (λ bodies. AreLow [] bodies) bodies lists low) (low_flat lists (All-tail (λ bodies. AreLow [] bodies) bodies lists low))
+    (All-head (λ bodies. AreLow [] bodies) bodies lists low) (low_flat lists (All-tail (λ bodies. AreLow [] bodies) bodies lists low))
 
 -- ---- numbers
 
@@ -71,15 +71,15 @@ pub serial_copies : (fs : List ResolvedFunctionTree) → function_directive fs �
 serial_copies [] none = All-nil (λ function. EverywhereIn CopiesBehind function.body)
 serial_copies (f ∷ fs) none =
     All-cons (λ function. EverywhereIn CopiesBehind function.body) f fs
-      ((plain_all f.body (or_first (directive_among f.body) (function_directive fs) none)).copies)
-      (serial_copies fs (or_second (directive_among f.body) (function_directive fs) none))
+    ((plain_all f.body (or_first (directive_among f.body) (function_directive fs) none)).copies)
+    (serial_copies fs (or_second (directive_among f.body) (function_directive fs) none))
 
 pub serial_atomics : (fs : List ResolvedFunctionTree) → function_directive fs ≡ None → All (λ function. EverywhereIn AtomicAssigns function.body) fs
 serial_atomics [] none = All-nil (λ function. EverywhereIn AtomicAssigns function.body)
 serial_atomics (f ∷ fs) none =
     All-cons (λ function. EverywhereIn AtomicAssigns function.body) f fs
-      ((plain_all f.body (or_first (directive_among f.body) (function_directive fs) none)).atomics)
-      (serial_atomics fs (or_second (directive_among f.body) (function_directive fs) none))
+    ((plain_all f.body (or_first (directive_among f.body) (function_directive fs) none)).atomics)
+    (serial_atomics fs (or_second (directive_among f.body) (function_directive fs) none))
 
 pub serial_picks : (fs : List ResolvedFunctionTree) (n : Numbers) → function_directive fs ≡ None → (behind_functions n fs).picks ≡ n.picks
 serial_picks [] n none = refl
@@ -117,4 +117,4 @@ take_all (x ∷ xs) (suc k) same = ap (λ rest. x ∷ rest) (take_all xs k (let 
 pub all_within : (tree : ResolvedTree) (lists : List (List Body)) → IsLowered tree lists true → All (λ bodies. AreLow [] bodies) lists → AreWithin tree
 all_within tree lists lowered low =
     subst (λ fs. All (λ b. IsWithin tree b) (bodies_from first_numbers fs)) (take_all tree.functions (length lists) lowered.stops)
-      (within_functions tree first_numbers tree.functions lists lowered.made low)
+    (within_functions tree first_numbers tree.functions lists lowered.made low)

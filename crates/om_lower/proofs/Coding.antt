@@ -59,8 +59,8 @@ pub fits_frame : (one other : List Extent) (outer : List ℕ) (captures : List C
     → FitsFrame variables (map (slot_with one outer captures) variables) frame → FitsFrame variables (map (slot_with other [] []) variables) frame
 fits_frame one other outer captures variables frame same none_round none_taken fits =
     fits_same one other variables frame same
-      (subst (λ all. FitsFrame variables (map (slot_with one [] all) variables) frame) none_taken
-        (subst (λ round. FitsFrame variables (map (slot_with one round captures) variables) frame) none_round fits))
+    (subst (λ all. FitsFrame variables (map (slot_with one [] all) variables) frame) none_taken
+    (subst (λ round. FitsFrame variables (map (slot_with one round captures) variables) frame) none_round fits))
 
 -- a function has one body, where it has no regions
 one_body : (n : Numbers) (f : ResolvedFunctionTree) → directive_among f.body ≡ None → function_bodies n f ≡ function_site n f ∷ []
@@ -123,10 +123,10 @@ get_within (y ∷ xs) (suc k) x at = let below = get_within xs k x at in omega (
 pub stopped : (tree : ResolvedTree) (lists : List (List Body)) (k : ℕ) (f : ResolvedFunctionTree) (n : Numbers)
     → AreFunctions tree [] first_numbers tree.functions lists → length lists ≡ k → n ≡ behind_functions first_numbers (take k tree.functions)
     → slice_get tree.functions k ≡ Some f → FitsFunction tree n f None → IsLowered tree lists false
-stopped tree lists k f n made long same at fits =
-    let there : slice_get tree.functions (length lists) ≡ Some f = subst (λ i. slice_get tree.functions i ≡ Some f) (sym long) at in
+stopped tree lists k f n made count same at fits =
+    let there : slice_get tree.functions (length lists) ≡ Some f = subst (λ i. slice_get tree.functions i ≡ Some f) (sym count) at in
     let here : n ≡ behind_functions first_numbers (take (length lists) tree.functions) =
-          same ∙ ap (λ i. behind_functions first_numbers (take i tree.functions)) (sym long) in
+    same ∙ ap (λ i. behind_functions first_numbers (take i tree.functions)) (sym count) in
     record {
       made = made;
       stops = record {
@@ -145,14 +145,15 @@ pub one_more : (tree : ResolvedTree) (lists new : List (List Body)) (k : ℕ) (f
     → AreFunctions tree [] first_numbers tree.functions lists → length lists ≡ k → n ≡ behind_functions first_numbers (take k tree.functions)
     → slice_get tree.functions k ≡ Some f → FitsFunction tree n f (Some bodies) → new ≡ lists ++ bodies ∷ [] → m ≡ behind_function n f
     → AreFunctions tree [] first_numbers tree.functions new × (length new ≡ k + 1) × (m ≡ behind_functions first_numbers (take (k + 1) tree.functions))
-one_more tree lists new k f n m bodies made long same at fits added behind =
-    let there : slice_get tree.functions (length lists) ≡ Some f = subst (λ i. slice_get tree.functions i ≡ Some f) (sym long) at in
+one_more tree lists new k f n m bodies made count same at fits added behind =
+    let there : slice_get tree.functions (length lists) ≡ Some f = subst (λ i. slice_get tree.functions i ≡ Some f) (sym count) at in
     let here : n ≡ behind_functions first_numbers (take (length lists) tree.functions) =
-          same ∙ ap (λ i. behind_functions first_numbers (take i tree.functions)) (sym long) in
+    same ∙ ap (λ i. behind_functions first_numbers (take i tree.functions)) (sym count) in
     let more = subst (λ m. AreMade tree [] (function_bodies m f) bodies) here fits in
     let all = pushed tree first_numbers tree.functions lists f bodies made there more in
-    let next : suc k ≡ k + 1 = omega arith in
-    (subst (λ all. AreFunctions tree [] first_numbers tree.functions all) (sym added) all,
-     ap length added ∙ push_long lists bodies ∙ ap (λ i. i + 1) long,
-     behind ∙ ap (λ m. behind_function m f) same ∙ sym (next_numbers first_numbers tree.functions k f at)
-       ∙ ap (λ i. behind_functions first_numbers (take i tree.functions)) next)
+    let next : suc k ≡ k + 1 = omega arith in (
+      subst (λ all. AreFunctions tree [] first_numbers tree.functions all) (sym added) all,
+      ap length added ∙ push_long lists bodies ∙ ap (λ i. i + 1) count,
+      behind ∙ ap (λ m. behind_function m f) same ∙ sym (next_numbers first_numbers tree.functions k f at)
+          ∙ ap (λ i. behind_functions first_numbers (take i tree.functions)) next,
+    )

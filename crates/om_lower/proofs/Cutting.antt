@@ -1,11 +1,11 @@
 -- Formats, cut piece by piece.
-use Rattle.std.proofs.Common.{◌≡◌, ℕ, Bool, true, false, List, [], ◌∷◌, ◌++◌, Option, None, Some, map, option_map, if◌then◌else◌, refl, sym, ap}
+use Rattle.std.proofs.Common.{◌≡◌, ℕ, Bool, true, false, List, [], ◌∷◌, ◌++◌, Option, None, Some, length, map, option_map, if◌then◌else◌, refl, sym, ap, ◌∙◌}
 use Rattle.std.proofs.lemmas.List.{append_assoc}
 use Rattle.om_code.specs.declared.raw.Piece as texts
 use Rattle.om_code.specs.declared.raw.Piece.TheVariants as pieces
 use Rattle.om_lower.specs.declared.texts.Cut.{Cut}
-use Rattle.om_lower.specs.Texts.{behind_cut, with_run}
-use Rattle.om_resolved.specs.Formats.{Piece, Bytes, Value, with_byte}
+use Rattle.om_lower.specs.Texts.{behind_cut, cut_behind, with_run}
+use Rattle.om_resolved.specs.Formats.{Piece, Bytes, Value, pieces_of, with_byte}
 use Rattle.om_rows.specs.Mentions.{text_piece}
 
 -- a byte can be written with those before it, or with what is behind it
@@ -43,3 +43,17 @@ byte_or old new byte false some other is same = cc
 pub not_this : {A : Type 0} (is : Bool) (some other : A) → is ≡ false → (if is then some else other) ≡ other
 not_this true some other is = cc
 not_this false some other is = refl
+
+nothing_left : (left : List ℕ) → length left ≡ 0 → left ≡ []
+nothing_left [] none = refl
+nothing_left (byte ∷ left) none = cc
+
+at_end : (cut : Cut) → cut_behind cut [] ≡ Some (cut.pieces.items ++ with_run cut.run.items [])
+unfolding pieces_of
+at_end cut = refl
+
+-- all of a format is cut
+pub cut_whole : (old cut new : Cut) (format left : List ℕ) → cut_behind cut left ≡ cut_behind old format → length left ≡ 0
+    → new.pieces.items ≡ cut.pieces.items ++ with_run cut.run.items [] → cut_behind old format ≡ Some new.pieces.items
+cut_whole old cut new format left same none flushed =
+    sym same ∙ ap (λ rest. cut_behind cut rest) (nothing_left left none) ∙ at_end cut ∙ ap (λ pieces. Some pieces) (sym flushed)

@@ -67,8 +67,8 @@ within_made tree (b ∷ sites) [] made low = absurd made
 within_made tree (b ∷ sites) (body ∷ bodies) made low =
     let one = made.0 in
     All-cons (λ b. IsWithin tree b) b sites
-      (record { room = one.room; picks = []; code = body.code; is_code = one.code []; short = one.short; low = All-head (λ x. IsLow [] x.code) body bodies low })
-      (within_made tree sites bodies made.1 (All-tail (λ x. IsLow [] x.code) body bodies low))
+    (record { room = one.room; picks = []; code = body.code; is_code = one.code []; short = one.short; low = All-head (λ x. IsLow [] x.code) body bodies low })
+    (within_made tree sites bodies made.1 (All-tail (λ x. IsLow [] x.code) body bodies low))
 
 pub within_functions : (tree : ResolvedTree) (n : Numbers) (fs : List ResolvedFunctionTree) (lists : List (List Body)) → AreFunctions tree [] n fs lists
     → All (λ bodies. AreLow [] bodies) lists → All (λ b. IsWithin tree b) (bodies_from n (take (length lists) fs))
@@ -76,8 +76,8 @@ within_functions tree n fs [] made low = All-nil (λ b. IsWithin tree b)
 within_functions tree n [] (bodies ∷ lists) made low = absurd made
 within_functions tree n (f ∷ fs) (bodies ∷ lists) made low =
     All-append (λ b. IsWithin tree b) (function_bodies n f) (bodies_from (behind_function n f) (take (length lists) fs))
-      (within_made tree (function_bodies n f) bodies made.0 (All-head (λ bodies. AreLow [] bodies) bodies lists low))
-      (within_functions tree (behind_function n f) fs lists made.1 (All-tail (λ bodies. AreLow [] bodies) bodies lists low))
+    (within_made tree (function_bodies n f) bodies made.0 (All-head (λ bodies. AreLow [] bodies) bodies lists low))
+    (within_functions tree (behind_function n f) fs lists made.1 (All-tail (λ bodies. AreLow [] bodies) bodies lists low))
 
 pub first_functions : (tree : ResolvedTree) (n : Numbers) (fs : List ResolvedFunctionTree) (lists : List (List Body)) (k : ℕ) → AreFunctions tree [] n fs lists
     → AreFunctions tree [] n fs (take k lists)
@@ -94,7 +94,7 @@ made_at tree n fs [] k f bodies made there at = cc
 made_at tree n [] (first ∷ lists) k f bodies made there at = absurd made
 made_at tree n (g ∷ fs) (first ∷ lists) zero f bodies made there at =
     subst (λ h. AreMade tree [] (function_bodies n h) bodies) (some_same g f at)
-      (subst (λ all. AreMade tree [] (function_bodies n g) all) (some_same first bodies there) made.0)
+    (subst (λ all. AreMade tree [] (function_bodies n g) all) (some_same first bodies there) made.0)
 made_at tree n (g ∷ fs) (first ∷ lists) (suc k) f bodies made there at = made_at tree (behind_function n g) fs lists k f bodies made.1 there at
 
 over_at : (tree : ResolvedTree) (sites : List BodySite) (bodies : List Body) (k : ℕ) (body : Body) → AreMade tree [] sites bodies
@@ -125,4 +125,4 @@ side_by_side tree n [] (bodies ∷ lists) made long = absurd made
 side_by_side tree n (f ∷ fs) [] made long = cc
 side_by_side tree n (f ∷ fs) (bodies ∷ lists) made long =
     zip_append (λ b body. IsMade tree [] b body) (function_bodies n f) (bodies_from (behind_function n f) fs) bodies (flat_map (λ bodies. bodies) lists)
-      made.0 (side_by_side tree (behind_function n f) fs lists made.1 (let shorter : length lists ≡ length fs = omega (arith, long) in shorter))
+    made.0 (side_by_side tree (behind_function n f) fs lists made.1 (let shorter : length lists ≡ length fs = omega (arith, long) in shorter))

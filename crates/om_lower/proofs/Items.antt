@@ -1,5 +1,5 @@
 -- The item of a list where a loop stands.
-use Rattle.std.proofs.Common.{◌≡◌, ◌<◌, ◌≤◌, ℕ, zero, suc, ◌+◌, List, [], ◌∷◌, ◌++◌, Option, None, Some, IfSome, IsSome, All, length, map, take, slice_get, get_or, refl, sym, ap, subst, ◌∙◌, arith}
+use Rattle.std.proofs.Common.{◌≡◌, ◌<◌, ◌≤◌, ℕ, zero, suc, ◌+◌, List, [], ◌∷◌, ◌++◌, Some, IfSome, All, length, map, take, slice_get, get_or, refl, sym, ap, subst, ◌∙◌, arith}
 use Rattle.std.proofs.lemmas.List.Elements.{All-nil, All-cons, All-head, All-tail}
 use Rattle.std.specs.List.{AllZip}
 
@@ -53,16 +53,15 @@ pushed_in xs ys new k x added same at =
     let next : suc k ≡ k + 1 = omega arith in
     added ∙ ap (λ all. all ++ x ∷ []) same ∙ sym (take_pushed xs k x at) ∙ ap (λ n. take n xs) next
 
+item_there : {A : Type 0} (xs : List A) (k : ℕ) → k < length xs → (x : A) × (slice_get xs k ≡ Some x)
+item_there [] k lt = let none : ⊥ = omega (arith, lt) in absurd none
+item_there (x ∷ xs) zero lt = (x, refl)
+item_there (x ∷ xs) (suc k) lt = item_there xs k (let below : k < length xs = omega (arith, lt) in below)
+
 pub zip_in : {A B : Type 0} (R : A → B → Type 0) (xs : List A) (ys new : List B) (k : ℕ) (y : B) → k < length xs → new ≡ ys ++ y ∷ [] → AllZip R (take k xs) ys
     → IfSome (slice_get xs k) (λ x. R x y) → AllZip R (take (k + 1) xs) new
-zip_in R xs ys new k y lt added zip r = go (slice_get xs k) refl r (there xs k lt)
-  where
-    there : {A : Type 0} (xs : List A) (k : ℕ) → k < length xs → IsSome (slice_get xs k)
-    there [] k lt = let none : ⊥ = omega (arith, lt) in absurd none
-    there (x ∷ xs) zero lt = tt
-    there (x ∷ xs) (suc k) lt = there xs k (let below : k < length xs = omega (arith, lt) in below)
-    go : (found : Option A) → slice_get xs k ≡ found → IfSome found (λ x. R x y) → IsSome found → AllZip R (take (k + 1) xs) new
-    go None at r some = absurd some
-    go (Some x) at r some =
-        let next : suc k ≡ k + 1 = omega arith in
-        subst (λ n. AllZip R (take n xs) new) next (subst (λ all. AllZip R (take (suc k) xs) all) (sym added) (zip_next R xs ys k x y at zip r))
+zip_in R xs ys new k y lt added zip r =
+    let there = item_there xs k lt in
+    let next : suc k ≡ k + 1 = omega arith in
+    let with_y = zip_next R xs ys k there.0 y there.1 zip (subst (λ found. IfSome found (λ x. R x y)) there.1 r) in
+    subst (λ n. AllZip R (take n xs) new) next (subst (λ all. AllZip R (take (suc k) xs) all) (sym added) with_y)

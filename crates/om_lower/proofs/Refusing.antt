@@ -46,8 +46,8 @@ by_height : (tree : ResolvedTree) (lists : List (List Body)) (index : ℕ) (func
 by_height tree lists index function made first at =
     let within = within_functions tree first_numbers tree.functions (take index lists) (first_functions tree first_numbers tree.functions lists index made) first.before in
     named tree index function at
-      (subst (λ k. All (λ b. IsWithin tree b) (bodies_from first_numbers (take k tree.functions))) (taken_long lists index first.within) within)
-      (over_high tree (function_bodies (behind_functions first_numbers (take index tree.functions)) function) first.bodies (made_at tree first_numbers tree.functions lists index function first.bodies made first.there at) first.high)
+    (subst (λ k. All (λ b. IsWithin tree b) (bodies_from first_numbers (take k tree.functions))) (taken_long lists index first.within) within)
+    (over_high tree (function_bodies (behind_functions first_numbers (take index tree.functions)) function) first.bodies (made_at tree first_numbers tree.functions lists index function first.bodies made first.there at) first.high)
 
 by_stop : (tree : ResolvedTree) (lists : List (List Body)) (is_whole : Bool) (index : ℕ) (function : ResolvedFunctionTree)
     → AreFunctions tree [] first_numbers tree.functions lists → StopsUnless is_whole tree lists → is_whole ≡ false → index ≡ length lists
@@ -57,7 +57,7 @@ by_stop tree lists false index function made stops unwhole behind low at =
     let there : slice_get tree.functions (length lists) ≡ Some function = subst (λ k. slice_get tree.functions k ≡ Some function) behind at in
     let same : stops.function ≡ function = some_same stops.function function (sym stops.there ∙ there) in
     named tree (length lists) function there (within_functions tree first_numbers tree.functions lists made low)
-      (subst (λ f. Any (λ b. IsOver tree b) (function_bodies (behind_functions first_numbers (take (length lists) tree.functions)) f)) same stops.over)
+    (subst (λ f. Any (λ b. IsOver tree b) (function_bodies (behind_functions first_numbers (take (length lists) tree.functions)) f)) same stops.over)
   where
     some_same : {A : Type 0} (x y : A) → Some x ≡ Some y → x ≡ y
     some_same x y e = cc
