@@ -3,7 +3,7 @@ ghost use Rattle.std.specs.Prelude.{◌≢◌, IfOk, IfErr};
 ghost use Rattle.om_lexer.specs.Faults.{no_memory};
 ghost use Rattle.om_tree.specs.View.{view_unit};
 ghost use Rattle.om_resolved.specs.ResolvedView.{view_resolved};
-ghost use Rattle.om_resolved.specs.Uses.{IsResolved};
+ghost use Rattle.om_resolved.specs.Whole.{IsWholeTree};
 ghost use Rattle.om_shell.specs.Verdict.{IsTreeOfSource, IsResolutionOfSource, IsProgramOf, IsRefused};
 
 use om_code::program::Program;
@@ -27,7 +27,7 @@ fn tree_of(alloc: Global, source: &[u8]) -> Result<Unit, SourceFault>
 // The tree of a source, with its names resolved.
 fn resolution_of(alloc: Global, source: &[u8]) -> Result<Resolved, SourceFault>
     ensures resolution { IfOk result (λ resolved. IsResolutionOfSource source.now (view_resolved resolved)) }
-    ensures is_resolved { IfOk result (λ resolved. IsResolved (view_resolved resolved)) }
+    ensures whole { IfOk result (λ resolved. IsWholeTree (view_resolved resolved)) }
     ensures refused { IfErr result (λ fault. fault ≢ no_memory → IsRefused source.now fault) }
 {
     let unit = tree_of(alloc, source)?;
