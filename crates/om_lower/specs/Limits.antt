@@ -1,68 +1,65 @@
--- How much room the code of a function takes, and which functions take too much.
-use Rattle.std.specs.Prelude.{ℕ, List, Bool, false, ◌||◌, nat_lt, length}
-use Rattle.std.specs.List.{flat_map}
-use Rattle.om_lexer.specs.declared.fault.FaultCode.TheVariants as faults
+-- The limits on bodies, and which functions pass them.
+use Rattle.std.specs.Prelude.{◌≡◌, ◌<◌, ◌≤◌, ℕ, List, ◌∷◌, ◌++◌, All, Any, length, map, sum}
+use Rattle.om_code.specs.declared.raw.Line.{Line}
+use Rattle.om_code.specs.declared.raw.Slot.{Slot}
+use Rattle.om_code.specs.declared.raw.Source.{Source}
+use Rattle.om_code.specs.declared.raw.Source.TheVariants.{Own, Outer}
+use Rattle.om_code.specs.Validity.{IsLow}
+use Rattle.om_lexer.specs.declared.fault.FaultCode.TheVariants.{TooMany}
 use Rattle.om_lexer.specs.declared.fault.SourceFault.{SourceFault}
-use Rattle.om_lower.specs.Heights.{region_height, statements_height}
-use Rattle.om_lower.specs.Slots.{function_slots, has_too_many, region_slots}
-use Rattle.om_lower.specs.Written.{body_of}
-use Rattle.om_scope.specs.Faults.{breach_if}
-use Rattle.om_resolved.specs.ResolvedTree.{ResolvedStatementTree, Declaration, Block, Empty, Expression, If, IfElse, While, Do, For, Return, Break, Continue, Parallel, Task, Loop, Sections, Construct, Update, StandAlone, ResolvedStatementsTree, NoStatements, Statement, ResolvedPartsTree, NoParts, Part, ResolvedFunctionTree, ResolvedTree}
+use Rattle.om_resolved.specs.ResolvedTree.{ResolvedFunctionTree, ResolvedTree}
+use Rattle.om_resolved.specs.Uses.{is_main_function}
+use Rattle.om_rows.specs.Bodies.{BodySite, behind_functions, bodies_from, bodies_of, first_numbers, function_bodies, variables_of}
+use Rattle.om_rows.specs.Code.{body_row, slots_of}
+use Rattle.om_tables.specs.Names.{names_in, site_with}
 
--- whether a body with these slots and this height has more than 256 slots, 4,096 cells or 256 operands at once
-abbrev pub is_too_large : (slots : List ℕ) → (height : ℕ) → Bool
-is_too_large slots height = has_too_many slots || nat_lt 256 height
+-- the cells that a frame has of its own for a slot
+abbrev pub cells_at : Source → (cells : ℕ) → ℕ
+cells_at Own cells = cells
+cells_at (Outer number) cells = 0
 
--- whether a `parallel` or a `task` in a statement has a body that is too large
-unfoldable mutual
-  pub has_large_region : ResolvedStatementTree → Bool
-  has_large_region (Declaration at ds) = false
-  has_large_region (Block at items) = have_large_region items
-  has_large_region (Empty at) = false
-  has_large_region (Expression at e) = false
-  has_large_region (If at c s) = has_large_region s
-  has_large_region (IfElse at c s t) = has_large_region s || has_large_region t
-  has_large_region (While at c s) = has_large_region s
-  has_large_region (Do at s c) = has_large_region s
-  has_large_region (For at start condition step s) = has_large_region s
-  has_large_region (Return at value) = false
-  has_large_region (Break at) = false
-  has_large_region (Continue at) = false
-  has_large_region (Parallel at clauses captures s) = is_too_large (region_slots clauses captures s) (region_height clauses s) || has_large_region s
-  has_large_region (Task at clauses captures s) = is_too_large (region_slots clauses captures s) (region_height clauses s) || has_large_region s
-  has_large_region (Loop at clauses nowait l s) = has_large_region s
-  has_large_region (Sections at clauses nowait parts) = parts_have_large_region parts
-  has_large_region (Construct at kind clauses s) = has_large_region s
-  has_large_region (Update at u) = false
-  has_large_region (StandAlone at directive) = false
+abbrev pub own_cells : Slot → ℕ
+own_cells slot = cells_at slot.source slot.cells
 
-  pub have_large_region : ResolvedStatementsTree → Bool
-  have_large_region NoStatements = false
-  have_large_region (Statement s rest) = has_large_region s || have_large_region rest
+abbrev pub frame_cells : List Slot → ℕ
+frame_cells slots = sum (map own_cells slots)
 
-  pub parts_have_large_region : ResolvedPartsTree → Bool
-  parts_have_large_region NoParts = false
-  parts_have_large_region (Part items rest) = have_large_region items || parts_have_large_region rest
+-- this is the code of a body, in a program with these lists of PICK
+abbrev pub IsCodeAt : ResolvedTree → (picks : List (List ℕ)) → BodySite → List Line → Type 0
+IsCodeAt tree picks b code =
+    body_row (site_with (names_in tree (variables_of b) (is_main_function b.function)) code picks) b.numbers b.function b.tree 0 (length code)
 
--- whether a body in the text of a function is too large: its own, or that of a `parallel` or a `task`
-abbrev pub has_large_body : ResolvedFunctionTree → Bool
-has_large_body function = is_too_large (function_slots function) (statements_height function.body) || have_large_region function.body
+-- at most 256 slots, and 4,096 cells of its own
+pub record HasRoom (b : BodySite) : Type 0 where
+  pub slots : length (variables_of b) ≤ 256
+  pub cells : frame_cells (slots_of b) ≤ 4096
 
--- S11 at the function's name
-abbrev pub body_breaches : ResolvedFunctionTree → List SourceFault
-body_breaches function = breach_if (has_large_body function) faults.TooMany function.name_at
+-- and code of at most 65,536 instructions, with at most 256 operands at once
+pub record IsWithin (tree : ResolvedTree) (b : BodySite) : Type 0 where
+  pub room : HasRoom b
+  pub picks : List (List ℕ)
+  pub code : List Line
+  pub is_code : IsCodeAt tree picks b code
+  pub short : length code ≤ 65536
+  pub low : IsLow picks code
 
--- of all functions, in the order of the text
-abbrev pub limit_breaches : ResolvedTree → List SourceFault
-limit_breaches tree = flat_map body_breaches tree.functions
+-- no body of a tree passes a limit
+abbrev pub AreWithin : ResolvedTree → Type 0
+AreWithin tree = All (λ b. IsWithin tree b) (bodies_of tree)
 
--- how many instructions a function has
-abbrev pub function_size : ResolvedFunctionTree → ℕ
-function_size function = length (body_of function).code
+-- a limit is passed
+pub data IsOver (tree : ResolvedTree) (b : BodySite) : Type 0 where
+  many_slots : 256 < length (variables_of b) → IsOver tree b
+  many_cells : 4096 < frame_cells (slots_of b) → IsOver tree b
+  long : (picks : List (List ℕ)) (code : List Line) → IsCodeAt tree picks b code → 65536 < length code → IsOver tree b
+  high : (picks : List (List ℕ)) (code : List Line) → IsCodeAt tree picks b code → ¬ (IsLow picks code) → IsOver tree b
 
--- S11 at the function's name: more than 65,536 instructions
-abbrev pub size_breaches : ResolvedFunctionTree → List SourceFault
-size_breaches function = breach_if (nat_lt 65536 (function_size function)) faults.TooMany function.name_at
-
-abbrev pub length_breaches : ResolvedTree → List SourceFault
-length_breaches tree = flat_map size_breaches tree.functions
+-- S11 at the name of the first function that has a body which passes a limit
+pub record IsTooMany (tree : ResolvedTree) (fault : SourceFault) : Type 0 where
+  pub before : List ResolvedFunctionTree
+  pub function : ResolvedFunctionTree
+  pub after : List ResolvedFunctionTree
+  pub functions : tree.functions ≡ before ++ function ∷ after
+  pub within : All (λ b. IsWithin tree b) (bodies_from first_numbers before)
+  pub over : Any (λ b. IsOver tree b) (function_bodies (behind_functions first_numbers before) function)
+  pub is : fault ≡ record { code = TooMany; at = function.name_at }

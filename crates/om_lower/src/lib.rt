@@ -1,11 +1,12 @@
 //! Lowering: a resolved tree to its code, and what the code still knows of the source.
 #![tactic(auto)]
 
-mod emit;
-mod height;
-pub mod laws;
-pub mod limit;
+mod directives;
+mod emission;
+mod frames;
+mod functions;
+mod heights;
 pub mod look;
 pub mod lower;
-mod slots;
-mod untaken;
+mod program;
+pub mod texts;

@@ -1,5 +1,5 @@
 -- What a source comes to: its program, or its refusal.
-use Rattle.std.specs.Prelude.{◌≡◌, ◌⊎◌, ℕ, List, [], Some, Result, Ok, Err}
+use Rattle.std.specs.Prelude.{◌≡◌, ◌⊎◌, ℕ, List, [], None, Some, Result, Ok, Err}
 use Rattle.om_code.specs.declared.raw.Raw.{Raw}
 use Rattle.om_lexer.specs.declared.fault.FaultCode.TheVariants.{Syntax, TooDeep, UnknownDirective, BadClause}
 use Rattle.om_lexer.specs.declared.fault.SourceFault.{SourceFault}
@@ -14,8 +14,10 @@ use Rattle.om_scope.specs.Breaches.{breaches_of}
 use Rattle.om_scope.specs.Faults.{first_of}
 use Rattle.om_resolved.specs.ResolvedTree.{ResolvedTree}
 use Rattle.om_scope.specs.UnitResolution.{resolution_of}
-use Rattle.om_lower.specs.Breaches.{code_breaches}
-use Rattle.om_lower.specs.Code.{IsCodeOf}
+use Rattle.om_lower.specs.Directives.{first_directive}
+use Rattle.om_lower.specs.Limits.{AreWithin}
+use Rattle.om_lower.specs.Refusals.{IsRefusedTree}
+use Rattle.om_rows.specs.Code.{IsCodeOf}
 
 -- the source has tokens, and they a tree within the limits whose `atomic` constructs have one of their forms
 pub record IsTreeOfSource (source : List ℕ) (tree : UnitTree) : Type 0 where
@@ -32,11 +34,12 @@ pub record IsResolutionOfSource (source : List ℕ) (resolved : ResolvedTree) : 
   pub no_breach : breaches_of tree ≡ []
   pub resolves : resolution_of tree ≡ Some resolved
 
--- and the resolution has its code: all its forms are taken, within the limits of code
+-- and the program is the code of the resolution, which is supported and within the limits of code
 pub record IsProgramOf (source : List ℕ) (program : Raw) : Type 0 where
   pub resolved : ResolvedTree
   pub has_resolution : IsResolutionOfSource source resolved
-  pub no_breach : code_breaches resolved ≡ []
+  pub supported : first_directive resolved ≡ None
+  pub within : AreWithin resolved
   pub code : IsCodeOf resolved program
 
 -- no tree has these tokens, a limit is passed at this place, or a directive is refused there
@@ -51,7 +54,7 @@ pub data IsRefused (source : List ℕ) (fault : SourceFault) : Type 0 where
   by_lexer : IsFault source fault.code fault.at → IsRefused source fault
   by_parser : (tokens : List Token) → IsTokens source tokens → IsSyntaxFault tokens fault → IsRefused source fault
   by_names : (tree : UnitTree) → IsTreeOfSource source tree → first_of (breaches_of tree) ≡ Some fault → IsRefused source fault
-  by_code : (resolved : ResolvedTree) → IsResolutionOfSource source resolved → first_of (code_breaches resolved) ≡ Some fault → IsRefused source fault
+  by_code : (resolved : ResolvedTree) → IsResolutionOfSource source resolved → IsRefusedTree resolved fault → IsRefused source fault
 
 -- what a source comes to
 abbrev pub IsVerdict : List ℕ → Result Raw SourceFault → Type 0

@@ -1,8 +1,9 @@
-use Rattle.om_lower.proofs.Firsts.{none_behind, first_behind}
+use Rattle.std.proofs.Common.{sym, ◌∙◌}
+use Rattle.om_resolved.specs.ResolvedView.{view_resolved}
+use Rattle.om_lower.proofs.Assembled.{serial_atomics}
 use Rattle.om_lower.proofs.lower.lower.Goals as goal
 
-pub returns-clause-no_breach : goal.returns-clause-no_breach
-returns-clause-no_breach c = none_behind c.lower_within.result _ _ c.in_ok-check_limits.ensures c.lower_within.ensures.no_breach
-
-pub returns-clause-first_breach : goal.returns-clause-first_breach
-returns-clause-first_breach c = first_behind c.lower_within.result _ _ c.in_ok-check_limits.ensures c.lower_within.ensures.first_breach
+pub lower_serial-requires-clause-has_code : goal.lower_serial-requires-clause-has_code
+lower_serial-requires-clause-has_code c =
+    let tree = view_resolved c.args.resolved.now in
+    c.whole_has_code.ensures tree c.requires (serial_atomics tree.functions (sym c.first_directive.ensures ∙ c.in_default.is))

@@ -1,0 +1,36 @@
+-- What PRINT writes for a format, as it is cut piece by piece.
+use Rattle.std.specs.Prelude.{ℕ, Bool, true, false, List, [], ◌∷◌, ◌++◌, Option, None, Some, map, option_map}
+use Rattle.om_code.specs.declared.raw.Piece as texts
+use Rattle.om_code.specs.declared.raw.Piece.TheVariants as pieces
+use Rattle.om_lower.specs.declared.texts.Cut.{Cut}
+use Rattle.om_resolved.specs.Formats.{Piece, pieces_of}
+use Rattle.om_rows.specs.Mentions.{text_piece}
+
+-- a format as PRINT writes it, if it is one
+abbrev pub text_of : List ℕ → Option (List texts.Piece)
+text_of format = option_map (map text_piece) (pieces_of format)
+
+-- bytes that are written before pieces
+abbrev pub with_run : List ℕ → List texts.Piece → List texts.Piece
+with_run [] rest = rest
+with_run (byte ∷ run) [] = pieces.Bytes (byte ∷ run) ∷ []
+with_run (byte ∷ run) (pieces.Bytes bytes ∷ rest) = pieces.Bytes (byte ∷ (run ++ bytes)) ∷ rest
+with_run (byte ∷ run) (pieces.Value ∷ rest) = pieces.Bytes (byte ∷ run) ∷ pieces.Value ∷ rest
+
+-- what was cut, and then the rest
+abbrev pub behind_cut : Cut → List Piece → List texts.Piece
+behind_cut cut rest = cut.pieces.items ++ with_run cut.run.items (map text_piece rest)
+
+-- where the rest of a format is cut behind what was
+abbrev pub cut_behind : Cut → List ℕ → Option (List texts.Piece)
+cut_behind cut format = option_map (behind_cut cut) (pieces_of format)
+
+-- what is left of a format, if it goes on
+abbrev pub cut_on : Cut → Option (List ℕ) → Option (List texts.Piece)
+cut_on cut None = None
+cut_on cut (Some rest) = cut_behind cut rest
+
+-- the pieces, where all of it was cut
+abbrev pub cut_pieces : Cut → (is_whole : Bool) → Option (List texts.Piece)
+cut_pieces cut true = Some cut.pieces.items
+cut_pieces cut false = None

@@ -1,0 +1,190 @@
+//! The program of a tree whose functions are lowered.
+
+ghost use Rattle.std.specs.Prelude.{◌≡◌, ◌≤◌, ◌<◌, [], All, Any, IfOk, IfSome, IsSome, None, Some, length, map, option_map, position, slice_get, true};
+ghost use Rattle.std.specs.List.{AllZip, flat_map};
+ghost use Rattle.om_lower.specs.Directives.{first_directive};
+ghost use Rattle.om_lower.specs.Heights.{AreLow};
+ghost use Rattle.om_lower.specs.Made.{IsLowered};
+ghost use Rattle.om_resolved.specs.Formats.{pieces_of};
+ghost use Rattle.om_resolved.specs.ResolvedView.{view_resolved, view_resolved_function};
+ghost use Rattle.om_resolved.specs.Uses.{is_main_function};
+ghost use Rattle.om_resolved.specs.Whole.{IsWholeTree};
+ghost use Rattle.om_rows.specs.Bodies.{called_body};
+ghost use Rattle.om_rows.specs.Code.{IsCodeOf, global_of};
+ghost use Rattle.om_rows.specs.Coded.{TreeHasCode};
+ghost use Rattle.om_rows.specs.Mentions.{IsTextOf};
+ghost use Rattle.om_tables.specs.Tables.{IsTablesOf};
+
+use crate::functions::{Whole, is_main};
+use crate::texts::text_of;
+use om_code::program::Program;
+use om_code::raw::{self, Body, Piece, Raw};
+use om_resolved::{GlobalVariable, Resolved, ResolvedFunction};
+use om_rows::laws::code_is_valid;
+use om_seq::Seq;
+use om_tables::{Scope, Texts, Variables};
+use std::alloc::{AllocError, Global};
+
+/// The program of a tree, whose functions have these bodies.
+pub(crate) fn program_of(
+    whole: &Whole<'_>,
+    functions: Vec<Seq<Body>>,
+) -> Result<Program, AllocError>
+    requires tables { IsTablesOf (view_resolved whole.now.resolved.now) whole.now.tables.now }
+    requires whole { IsWholeTree (view_resolved whole.now.resolved.now) }
+    requires has_code { TreeHasCode (view_resolved whole.now.resolved.now) }
+    requires serial { first_directive (view_resolved whole.now.resolved.now) ≡ None }
+    requires lowered { IsLowered (view_resolved whole.now.resolved.now) functions.items true }
+    requires low { All (λ bodies. AreLow [] bodies) functions.items }
+    ensures { IfOk result (λ program. IsCodeOf (view_resolved whole.now.resolved.now) program) }
+{
+    code_is_valid();
+    let raw = raw_of(whole, functions)?;
+    Ok(Program::of(raw))
+}
+
+/// The code of a program, in one value.
+fn raw_of(whole: &Whole<'_>, functions: Vec<Seq<Body>>) -> Result<Raw, AllocError>
+    requires tables { IsTablesOf (view_resolved whole.now.resolved.now) whole.now.tables.now }
+    requires has_code { TreeHasCode (view_resolved whole.now.resolved.now) }
+    requires serial { first_directive (view_resolved whole.now.resolved.now) ≡ None }
+    requires lowered { IsLowered (view_resolved whole.now.resolved.now) functions.items true }
+    ensures code { IfOk result (λ raw. IsCodeOf (view_resolved whole.now.resolved.now) raw) }
+    ensures bodies { IfOk result (λ raw. raw.bodies ≡ flat_map (λ bodies. bodies) functions.items) }
+    ensures picks { IfOk result (λ raw. raw.picks ≡ []) }
+{
+    let alloc = whole.alloc;
+    let bodies = flattened(alloc, functions)?;
+    let globals = copy_globals(alloc, whole.resolved.globals.as_slice())?;
+    let texts = texts_of(alloc, &whole.tables.formats)?;
+    let locks = copy_texts(alloc, &whole.tables.locks)?;
+    let main = main_body(whole);
+    Ok(Raw {
+        globals,
+        bodies,
+        main,
+        texts,
+        picks: Seq::new(alloc),
+        locks,
+    })
+}
+
+/// The bodies of functions, one behind the other.
+fn flattened(alloc: Global, functions: Vec<Seq<Body>>) -> Result<Seq<Body>, AllocError>
+    ensures { IfOk result (λ bodies. bodies ≡ flat_map (λ bodies. bodies) functions.items) }
+{
+    let mut functions = functions;
+    let mut all = Seq::new(alloc);
+    while let Some(mut bodies) = functions.pop() {
+        bodies.append(all)?;
+        all = bodies;
+    }
+    Ok(all)
+}
+
+/// What PRINT writes for each format.
+fn texts_of(alloc: Global, formats: &Texts) -> Result<Seq<Seq<Piece>>, AllocError>
+    requires { All (λ format. IsSome (pieces_of format)) formats.now }
+    ensures { IfOk result (λ texts. AllZip IsTextOf formats.now texts) }
+{
+    let mut texts = Vec::new(alloc);
+    for number in 0..formats.len() {
+        texts.push(text_at(alloc, formats, number)?)?;
+    }
+    Ok(Seq::of(texts))
+}
+
+/// What PRINT writes for the format of this number.
+fn text_at(alloc: Global, formats: &Texts, number: usize) -> Result<Seq<Piece>, AllocError>
+    requires there { number < length formats.now }
+    requires formats { All (λ format. IsSome (pieces_of format)) formats.now }
+    ensures { IfOk result (λ text. IfSome (slice_get formats.now number) (λ format. IsTextOf format text)) }
+{
+    let Some(format) = formats.text(number) else {
+        unreachable!();
+    };
+    match text_of(alloc, format)? {
+        Some(text) => Ok(text),
+        None => unreachable!(),
+    }
+}
+
+/// Texts, in the order of their numbers.
+fn copy_texts(alloc: Global, texts: &Texts) -> Result<Seq<Seq<u8>>, AllocError>
+    ensures { IfOk result (λ copied. copied ≡ texts.now) }
+{
+    let mut copied = Vec::new(alloc);
+    for number in 0..texts.len() {
+        copied.push(copy_text(alloc, texts, number)?)?;
+    }
+    Ok(Seq::of(copied))
+}
+
+/// The text of this number.
+fn copy_text(alloc: Global, texts: &Texts, number: usize) -> Result<Seq<u8>, AllocError>
+    requires { number < length texts.now }
+    ensures { IfOk result (λ text. slice_get texts.now number ≡ Some text) }
+{
+    let Some(text) = texts.text(number) else {
+        unreachable!();
+    };
+    Ok(Seq::of(text.to_vec(alloc)?))
+}
+
+/// The global variables of the code.
+fn copy_globals(
+    alloc: Global,
+    globals: &[GlobalVariable],
+) -> Result<Seq<raw::GlobalVariable>, AllocError>
+    ensures { IfOk result (λ copied. copied ≡ map global_of globals.now) }
+{
+    let mut copied = Vec::new(alloc);
+    for global in globals {
+        copied.push(copy_global(alloc, global)?)?;
+    }
+    Ok(Seq::of(copied))
+}
+
+/// A global variable of the code.
+fn copy_global(alloc: Global, global: &GlobalVariable) -> Result<raw::GlobalVariable, AllocError>
+    ensures { IfOk result (λ copied. copied ≡ global_of global.now) }
+{
+    let name = global.name.as_slice().to_vec(alloc)?;
+    Ok(raw::GlobalVariable {
+        name: Seq::of(name),
+        length: global.length,
+        initial: global.initial,
+    })
+}
+
+/// The number of the body of `main`.
+fn main_body(whole: &Whole<'_>) -> u32
+    requires tables { IsTablesOf (view_resolved whole.now.resolved.now) whole.now.tables.now }
+    requires main { Any (λ function. is_main_function function ≡ true) (view_resolved whole.now.resolved.now).functions }
+    ensures { let tree = view_resolved whole.now.resolved.now in
+        option_map (called_body tree.functions) (position is_main_function tree.functions) ≡ Some result }
+{
+    let main = main_of(whole.resolved);
+    let variables = Variables::new(whole.alloc);
+    let scope = Scope::new(whole.resolved, whole.tables, &variables, true);
+    scope.called_body(main)
+}
+
+#[tactic(auto, using(crate::proofs::Searches::position_none, crate::proofs::Searches::position_map))]
+/// The index of `main`.
+fn main_of(resolved: &Resolved) -> usize
+    requires { Any (λ function. is_main_function function ≡ true) (view_resolved resolved.now).functions }
+    ensures { position is_main_function (view_resolved resolved.now).functions ≡ Some result }
+{
+    match index_of_main(resolved.functions.as_slice()) {
+        Some(index) => index,
+        None => unreachable!(),
+    }
+}
+
+/// The index of the first function named `main`.
+fn index_of_main(functions: &[ResolvedFunction]) -> Option<usize>
+    ensures { result ≡ position (λ function. is_main_function (view_resolved_function function)) functions.now }
+{
+    functions.iter().position(is_main)
+}

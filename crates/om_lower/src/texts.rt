@@ -1,0 +1,121 @@
+//! What PRINT writes for the formats of a program.
+
+ghost use Rattle.std.specs.Prelude.{◌≡◌, ◌∷◌, ◌++◌, ◌≤◌, [], OnOk, IfOk, IfSome, List, length, option_map};
+ghost use Rattle.om_lower.specs.Texts.{behind_cut, cut_behind, cut_on, cut_pieces, text_of, with_run};
+ghost use Rattle.om_resolved.specs.Formats as formats;
+
+use om_code::raw::Piece;
+use om_seq::Seq;
+use std::alloc::{AllocError, Global};
+
+/// The pieces that were cut, and the bytes behind them that no piece has yet.
+#[derive(Drop)]
+struct Cut {
+    pieces: Vec<Piece>,
+    run: Vec<u8>,
+}
+
+/// A format of `printf` in its pieces (C17 7.21.6.1); `None` where it is none.
+pub fn text_of(alloc: Global, format: &[u8]) -> Result<Option<Seq<Piece>>, AllocError>
+    ensures { IfOk result (λ text. text ≡ text_of format.now) }
+{
+    let mut cut = Cut {
+        pieces: Vec::new(alloc),
+        run: Vec::new(alloc),
+    };
+    if cut_format(alloc, &mut cut, format)? {
+        let Cut { pieces, .. } = cut;
+        Ok(Some(Seq::of(pieces)))
+    } else {
+        Ok(None)
+    }
+}
+
+/// Cuts a whole format behind what was cut, if it is one.
+fn cut_format(alloc: Global, cut: &mut Cut, format: &[u8]) -> Result<bool, AllocError>
+    ensures { IfOk result (λ is_whole. cut_behind cut.old format.now ≡ cut_pieces cut.new is_whole) }
+{
+    let mut left = format;
+    while let Some((byte, rest)) = left.split_first() {
+        let Some(next) = cut_next(alloc, cut, *byte, rest)? else {
+            return Ok(false);
+        };
+        left = next;
+    }
+    flush(alloc, cut)?;
+    Ok(true)
+}
+
+#[tactic(auto, unfolding(om_resolved::specs::Formats::pieces_of), using(crate::proofs::Cutting::byte_or, crate::proofs::Cutting::not_this))]
+/// Cuts what begins with a byte, and answers what is behind it; `None` where no format goes on so.
+fn cut_next<'a>(
+    alloc: Global,
+    cut: &mut Cut,
+    byte: u8,
+    rest: &'a [u8],
+) -> Result<Option<&'a [u8]>, AllocError>
+    ensures same { IfOk result (λ left. cut_behind cut.old (byte ∷ rest.now) ≡ cut_on cut.new (option_map (λ next. next.now) left)) }
+    ensures shorter { IfOk result (λ left. IfSome left (λ next. length next.now ≤ length rest.now)) }
+{
+    if byte == b'%' {
+        return cut_converted(alloc, cut, rest);
+    }
+    add_byte(cut, byte)?;
+    Ok(Some(rest))
+}
+
+#[tactic(auto, unfolding(om_resolved::specs::Formats::converted), using(crate::proofs::Cutting::value_or, crate::proofs::Cutting::byte_or, crate::proofs::Cutting::not_this))]
+/// Cuts what begins behind a `%`.
+fn cut_converted<'a>(
+    alloc: Global,
+    cut: &mut Cut,
+    rest: &'a [u8],
+) -> Result<Option<&'a [u8]>, AllocError>
+    ensures shorter { IfOk result (λ left. IfSome left (λ next. length next.now ≤ length rest.now)) }
+    ensures same { IfOk result (λ left. option_map (behind_cut cut.old) (formats.converted rest.now) ≡ cut_on cut.new (option_map (λ next. next.now) left)) }
+{
+    let Some((byte, behind)) = rest.split_first() else {
+        return Ok(None);
+    };
+    if *byte == b'd' {
+        add_value(alloc, cut)?;
+        return Ok(Some(behind));
+    }
+    if *byte == b'%' {
+        add_byte(cut, *byte)?;
+        return Ok(Some(behind));
+    }
+    Ok(None)
+}
+
+/// Adds a byte that is written.
+#[tactic(auto, using(crate::proofs::Cutting::run_byte))]
+fn add_byte(cut: &mut Cut, byte: u8) -> Result<(), AllocError>
+    ensures { OnOk result ((rest : List formats.Piece) → behind_cut cut.new rest ≡ behind_cut cut.old (formats.with_byte byte rest)) }
+{
+    cut.run.push(byte)?;
+    Ok(())
+}
+
+/// Adds a value that is written in decimal.
+#[tactic(auto, using(crate::proofs::Cutting::run_value))]
+fn add_value(alloc: Global, cut: &mut Cut) -> Result<(), AllocError>
+    ensures { OnOk result ((rest : List formats.Piece) → behind_cut cut.new rest ≡ behind_cut cut.old (formats.Value ∷ rest)) }
+{
+    flush(alloc, cut)?;
+    cut.pieces.push(Piece::Value)?;
+    Ok(())
+}
+
+/// Makes a piece of the bytes that have none yet, if there are any.
+fn flush(alloc: Global, cut: &mut Cut) -> Result<(), AllocError>
+    ensures pieces { OnOk result (cut.new.pieces.items ≡ cut.old.pieces.items ++ with_run cut.old.run.items []) }
+    ensures run { OnOk result (cut.new.run.items ≡ []) }
+{
+    if cut.run.is_empty() {
+        return Ok(());
+    }
+    let run = std::mem::replace(&mut cut.run, Vec::new(alloc));
+    cut.pieces.push(Piece::Bytes(Seq::of(run)))?;
+    Ok(())
+}
