@@ -5,6 +5,7 @@ use Rattle.om_lower.specs.Directives.{directive_in, directive_among, function_di
 use Rattle.om_resolved.specs.Beside.{AtomicAssigns, CopiesBehind, Everywhere, EverywhereIn}
 use Rattle.om_resolved.specs.ResolvedTree.{ResolvedStatementTree, Declaration, Block, Empty, Expression, If, IfElse, While, Do, For, Return, Break, Continue, Parallel, Task, Loop, Sections, Construct, Update, StandAlone, ResolvedStatementsTree, NoStatements, Statement, ResolvedFunctionTree}
 use Rattle.om_rows.specs.Bodies.{BodySite, Numbers, all_regions, behind, behind_all, parts_regions, regions}
+use Rattle.om_statements.specs.Plain.{HasNoSections, HaveNoSections}
 use Rattle.om_tables.specs.Picks.{all_own_picks, own_picks}
 
 -- where the first of two is none, neither is one
@@ -104,3 +105,34 @@ mutual
   no_picks (Statement s rest) none n =
       ap (λ found. found ++ all_own_picks (behind n s) rest) (own_none s (or_first (directive_in s) (directive_among rest) none) n)
       ∙ no_picks rest (or_second (directive_in s) (directive_among rest) none) (behind n s)
+
+-- nor is there a `sections`
+mutual
+  no_sections_in : (s : ResolvedStatementTree) → directive_in s ≡ None → HasNoSections s
+  no_sections_in (Declaration at ds) none = tt
+  no_sections_in (Block at items) none = no_sections items none
+  no_sections_in (Empty at) none = tt
+  no_sections_in (Expression at e) none = tt
+  no_sections_in (If at c s) none = no_sections_in s none
+  no_sections_in (IfElse at c s t) none =
+      (no_sections_in s (or_first (directive_in s) (directive_in t) none), no_sections_in t (or_second (directive_in s) (directive_in t) none))
+  no_sections_in (While at c s) none = no_sections_in s none
+  no_sections_in (Do at s c) none = no_sections_in s none
+  no_sections_in (For at start condition step s) none = no_sections_in s none
+  no_sections_in (Return at value) none = tt
+  no_sections_in (Break at) none = tt
+  no_sections_in (Continue at) none = tt
+  no_sections_in (Parallel at clauses captures s) none = cc
+  no_sections_in (Task at clauses captures s) none = cc
+  no_sections_in (Loop at clauses nowait l s) none = cc
+  no_sections_in (Sections at clauses nowait parts) none = cc
+  no_sections_in (Construct at kind clauses s) none = cc
+  no_sections_in (Update at u) none = cc
+  no_sections_in (StandAlone at directive) none = cc
+
+  pub no_sections : (items : ResolvedStatementsTree) → directive_among items ≡ None → HaveNoSections items
+  no_sections NoStatements none = tt
+  no_sections (Statement s rest) none = (
+    no_sections_in s (or_first (directive_in s) (directive_among rest) none),
+    no_sections rest (or_second (directive_in s) (directive_among rest) none),
+  )
