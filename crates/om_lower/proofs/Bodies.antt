@@ -2,19 +2,23 @@
 use Rattle.std.proofs.Common.{◌≡◌, ℕ, zero, suc, ◌<◌, ◌≤◌, List, [], ◌∷◌, Option, Some, None, Bool, true, false, map, length, refl, sym, ap, ◌∙◌, subst, arith}
 use Rattle.std.specs.Prelude.{slice_get}
 use Rattle.std.proofs.lemmas.List.{length-map}
+use Rattle.om_code.specs.declared.instruction.Instr.{Instr}
 use Rattle.om_code.specs.declared.raw.Line.{Line}
 use Rattle.om_emit.specs.declared.draft.Pick.{Pick}
 use Rattle.om_emit.specs.Drafts.{Labels, Puts, Written, known, moved, nothing, place_in, settled, settled_code}
 use Rattle.om_emit.specs.Emits.{Finished, Fits, Goes, Part, site}
-use Rattle.om_emit.specs.Writing.{goes_as, goes_end, goes_part, goes_put}
-use Rattle.om_resolved.specs.ResolvedTree.{ResolvedFunctionTree}
+use Rattle.om_emit.specs.Writing.{goes_end, goes_part, goes_put}
+use Rattle.om_resolved.specs.ResolvedTree.{ResolvedFunctionTree, ResolvedStatementsTree}
 use Rattle.om_rows.specs.Bodies.{FunctionBody, Numbers}
 use Rattle.om_rows.specs.Code.{body_row, last_instruction}
 use Rattle.om_rows.specs.Rows.{end, ins, part}
 use Rattle.om_rows.specs.Statements.{nowhere, statements}
 use Rattle.om_statements.specs.declared.spot.JumpLabels.{JumpLabels}
+use Rattle.om_statements.specs.declared.spot.Spot.{Spot}
 use Rattle.om_statements.specs.Emits.{EmitsStatements, jumps_at}
+use Rattle.om_tables.specs.declared.numbers.Numbers as tables
 use Rattle.om_tables.specs.Names.{Names, site_with}
+use Rattle.om_tables.specs.Numbering.{numbers_of}
 
 -- outside of loops
 abbrev pub no_jumps : JumpLabels
@@ -57,7 +61,7 @@ body_goes names n f written final emitted put =
     nothing written final (omega arith) emitted
     (goes_put names 0 f.closing_line (last_instruction names.is_main) (λ done at. end) written final final put (goes_end 0 final))
 
-pub body_stands : (names : Names) (n : Numbers) (f : ResolvedFunctionTree) (written final : Written) (code : List Line) (picks : List (List ℕ))
+body_stands : (names : Names) (n : Numbers) (f : ResolvedFunctionTree) (written final : Written) (code : List Line) (picks : List (List ℕ))
     → EmitsStatements names n f.body no_jumps nothing written → Puts f.closing_line (last_instruction names.is_main) written final
     → code ≡ settled_code final
     → body_row (site_with names code picks) n f FunctionBody 0 (length code)
@@ -71,3 +75,17 @@ body_stands names n f written final code picks emitted put same =
     let long : length final.code ≡ length (settled_code final) = sym (length-map final.code (settled at)) in
     let whole = subst (λ q. body_row (site_with names (settled_code final) picks) n f FunctionBody 0 q) long closed in
     subst (λ c. body_row (site_with names c picks) n f FunctionBody 0 (length c)) (sym same) whole
+
+-- the same, as the parts of it were made
+pub body_made : (names : Names) (f : ResolvedFunctionTree) (numbers : tables.Numbers) (spot : Spot) (items : ResolvedStatementsTree) (last : Instr)
+    (start written final : Written) (code : List Line) (picks : List (List ℕ))
+    → spot ≡ record { numbers = numbers; jumps = no_jumps } → items ≡ f.body → last ≡ last_instruction names.is_main → start ≡ nothing
+    → EmitsStatements names (numbers_of spot.numbers) items spot.jumps start written → Puts f.closing_line last written final
+    → code ≡ settled_code final
+    → body_row (site_with names code picks) (numbers_of numbers) f FunctionBody 0 (length code)
+body_made names f numbers spot items last start written final code picks same_spot same_items same_last same_start emitted put same =
+    let outside = subst (λ s. EmitsStatements names (numbers_of s.numbers) items s.jumps start written) same_spot emitted in
+    let whole = subst (λ all. EmitsStatements names (numbers_of numbers) all no_jumps start written) same_items outside in
+    let first = subst (λ d. EmitsStatements names (numbers_of numbers) f.body no_jumps d written) same_start whole in
+    let closed = subst (λ x. Puts f.closing_line x written final) same_last put in
+    body_stands names (numbers_of numbers) f written final code picks first closed same
