@@ -25,7 +25,8 @@ has_code (x ∷ es) zero e lt is h = subst (λ z. ValueHasCode (view_resolved_ex
 has_code (x ∷ es) (suc k) e lt is h = has_code es k e (omega arith) is h.1
 
 -- one value more
-pub emits_next : (names : Names) (l : ℕ) (es : List ResolvedExpression) (k n : ℕ) (e : ResolvedExpression) (a b c : Written)
+pub emits_next : (names : Names) (l : ℕ) (es : List ResolvedExpression) (k n : ℕ) (e : ResolvedExpression)
+    (a b c : Written)
     → k < length es → e ≡ get_or es k e → n ≤ length a.places
     → EmitsValue names l (view_resolved_expression e) a b
     → Goes n (λ done at. values (site names done) l (listed (drop (k + 1) es))) b c
@@ -36,5 +37,6 @@ emits_next names l es k n e a b c lt is le h g =
     ∙ ap (λ x. trees.Value (view_resolved_expression x) (listed (drop (suc k) es))) (sym is)
     ∙ ap (λ j. trees.Value (view_resolved_expression e) (listed (drop j es))) (sym (add-one k)) in
     subst (λ z. Goes n (λ done at. values (site names done) l z) a c) (sym here)
-    (goes_part n (λ done at. value (site names done) l (view_resolved_expression e)) (λ done at. values (site names done) l (listed (drop (k + 1) es)))
+    (goes_part n (λ done at. value (site names done) l (view_resolved_expression e)) (λ done at. values
+    (site names done) l (listed (drop (k + 1) es)))
     a b c le h g)

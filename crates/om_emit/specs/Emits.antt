@@ -1,4 +1,5 @@
--- What is promised of code that is written: whatever finished program agrees with it, the row of the part stands there.
+-- What is promised of code that is written: whatever finished program agrees with it, the row of the part
+-- stands there.
 use Rattle.std.specs.Prelude.{◌≡◌, ◌<◌, ◌≤◌, ℕ, List, Some, length, map, slice_get}
 use Rattle.om_code.specs.declared.raw.Line.{Line}
 use Rattle.om_resolved.specs.ResolvedTree.{ResolvedExpressionTree, ValuesTree}
@@ -25,11 +26,14 @@ Part = Finished → Labels → Row
 
 -- ---- what was written
 
--- what is finished agrees with what was written from this place on, and with each place of a label that is known
+-- what is finished agrees with what was written from this place on, and with each place of a label that is
+-- known
 pub record Fits (done : Finished) (at : Labels) (p : ℕ) (d : Written) : Type 0 where
-  pub code : (k : ℕ) (x : Line) → p ≤ k → slice_get d.code k ≡ Some x → slice_get done.code k ≡ Some (settled at x)
+  pub code : (k : ℕ) (x : Line) → p ≤ k → slice_get d.code k ≡ Some x
+      → slice_get done.code k ≡ Some (settled at x)
   pub places : (l x : ℕ) → slice_get d.places l ≡ Some (Some x) → at l ≡ x
-  pub picks : (k : ℕ) (x : Pick) → slice_get d.picks k ≡ Some x → slice_get done.picks x.number ≡ Some (map at x.labels)
+  pub picks : (k : ℕ) (x : Pick) → slice_get d.picks k ≡ Some x
+      → slice_get done.picks x.number ≡ Some (map at x.labels)
 
 -- what was written stands, and labels keep a place that is known
 pub record Grows (old new : Written) : Type 0 where
@@ -41,7 +45,8 @@ pub record Grows (old new : Written) : Type 0 where
 -- a row is written behind what was
 pub record Writes (r : Part) (old new : Written) : Type 0 where
   pub grows : Grows old new
-  pub stands : (done : Finished) (at : Labels) → Fits done at (length old.code) new → r done at (length old.code) (length new.code)
+  pub stands : (done : Finished) (at : Labels) → Fits done at (length old.code) new
+      → r done at (length old.code) (length new.code)
 
 -- the labels below this number stay as they are, and so do the lists of PICKs
 pub record Keeps (n : ℕ) (old new : Written) : Type 0 where

@@ -61,12 +61,14 @@ element_rest at l keeps a (Some operator) e =
     ▸ ins at l (i.Binary operator) ▸ ins at l (i.StoreElement (place at a) keeps) ▸ end
 
 -- behind the index of `a[j] = e` and `a[j] op= e`
-abbrev pub assignment_rest : Site → ℕ → Bool → variables.Variable → AssignOperator → ResolvedExpressionTree → Row
+abbrev pub assignment_rest : Site → ℕ → Bool → variables.Variable → AssignOperator
+    → ResolvedExpressionTree → Row
 assignment_rest at l keeps a operator e = element_rest at l keeps a (compound_of operator) (value at l e)
 
 -- behind the index of `a[j]++` and `a[j]--`, without and with their value
 abbrev pub stepped_rest : Site → ℕ → Bool → variables.Variable → PostfixOperator → Row
-stepped_rest at l keeps a operator = element_rest at l keeps a (Some (step_of operator)) (constant at l (pos 1))
+stepped_rest at l keeps a operator =
+    element_rest at l keeps a (Some (step_of operator)) (constant at l (pos 1))
 
 abbrev pub postfix_rest : Site → ℕ → variables.Variable → PostfixOperator → Row
 postfix_rest at l a operator = part (stepped_rest at l true a operator) ▸ undone at l (undo_of operator)

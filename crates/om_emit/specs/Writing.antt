@@ -1,4 +1,5 @@
--- How a row is written from the left, an item at a time: what is written first, and what whoever goes on writes behind it.
+-- How a row is written from the left, an item at a time: what is written first, and what whoever goes on
+-- writes behind it.
 use Rattle.std.proofs.Common.{◌≡◌, ℕ, zero, suc, ◌+◌, ◌<◌, ◌≤◌, List, [], ◌∷◌, ◌++◌, map, length, Option, Some, None, refl, sym, ap, ◌∙◌, subst, arith, length-append}
 use Rattle.std.specs.Prelude.{slice_get, slice_set}
 use Rattle.std.proofs.lemmas.Option.{slice_get_within}
@@ -21,12 +22,14 @@ get_seam : {A : Type 0} → (xs : List A) (y : A) (ys : List A) → slice_get (x
 get_seam [] y ys = refl
 get_seam (x ∷ xs) y ys = get_seam xs y ys
 
-set_same : {A : Type 0} → (xs : List A) (k : ℕ) (y x : A) → slice_get xs k ≡ Some x → slice_get (slice_set xs k y) k ≡ Some y
+set_same : {A : Type 0} → (xs : List A) (k : ℕ) (y x : A) → slice_get xs k ≡ Some x
+    → slice_get (slice_set xs k y) k ≡ Some y
 set_same [] k y x h = cc
 set_same (z ∷ xs) zero y x h = refl
 set_same (z ∷ xs) (suc k) y x h = set_same xs k y x h
 
-set_other : {A : Type 0} → (xs : List A) (k l : ℕ) (y : A) → (k ≡ l → ⊥) → slice_get (slice_set xs k y) l ≡ slice_get xs l
+set_other : {A : Type 0} → (xs : List A) (k l : ℕ) (y : A) → (k ≡ l → ⊥)
+    → slice_get (slice_set xs k y) l ≡ slice_get xs l
 set_other [] k l y h = refl
 set_other (z ∷ xs) zero zero y h = absurd (h refl)
 set_other (z ∷ xs) zero (suc l) y h = refl
@@ -49,18 +52,30 @@ grows_on a b c f g = record {
 }
 
 keeps_on : (n : ℕ) (a b c : Written) → Keeps n a b → Keeps n b c → Keeps n a c
-keeps_on n a b c f g = record { picks = g.picks ∙ f.picks; more = omega (arith, f.more, g.more); same = λ l h. g.same l h ∙ f.same l h }
+keeps_on n a b c f g = record {
+  picks = g.picks
+      ∙ f.picks;
+  more = omega (arith, f.more, g.more);
+  same = λ l h. g.same l h ∙ f.same l h;
+}
 
 -- what fits the later draft fits the earlier one
-fits_back : (done : Finished) (at : Labels) (p : ℕ) (b c : Written) → Grows b c → Fits done at p c → Fits done at p b
+fits_back : (done : Finished) (at : Labels) (p : ℕ) (b c : Written) → Grows b c → Fits done at p c
+    → Fits done at p b
 fits_back done at p b c g f = record {
   code = λ k x le e. f.code k x le (g.code k (slice_get_within b.code k x e) ∙ e);
   places = λ l x e. f.places l x (g.places l x e);
   picks = λ k x e. f.picks k x (g.picks k x e);
 }
 
-fits_from : (done : Finished) (at : Labels) (p q : ℕ) (c : Written) → p ≤ q → Fits done at p c → Fits done at q c
-fits_from done at p q c le f = record { code = λ k x h e. f.code k x (omega arith) e; places = f.places; picks = f.picks }
+fits_from : (done : Finished) (at : Labels) (p q : ℕ) (c : Written) → p ≤ q → Fits done at p c
+    → Fits done at q c
+fits_from done at p q c le f = record {
+  code = λ k x h e. f.code k x (omega arith) e;
+  places =
+      f.places;
+  picks = f.picks;
+}
 
 -- ---- no instruction is added
 
@@ -111,10 +126,16 @@ grows_put l x a b h = record {
 }
 
 keeps_put : (n l : ℕ) (x : Instr) (a b : Written) → Puts l x a b → Keeps n a b
-keeps_put n l x a b h = record { picks = h.picks; more = omega (arith, ap length h.places); same = λ m lt. ap (λ s. slice_get s m) h.places }
+keeps_put n l x a b h = record {
+  picks = h.picks;
+  more = omega (arith, ap length h.places);
+  same =
+      λ m lt. ap (λ s. slice_get s m) h.places;
+}
 
 -- an instruction
-pub goes_put : (names : Names) (n l : ℕ) (x : Instr) (r : Part) (a b c : Written) → Puts l x a b → Goes n r b c
+pub goes_put : (names : Names) (n l : ℕ) (x : Instr) (r : Part) (a b c : Written) → Puts l x a b
+    → Goes n r b c
     → Goes n (λ done at. ins (site names done) l (moved at x) (r done at)) a c
 goes_put names n l x r a b c h g = record {
   writes = record { grows = grows_on a b c (grows_put l x a b h) g.writes.grows; stands = stands };
@@ -131,7 +152,8 @@ goes_put names n l x r a b c h g = record {
         rw h.code (get_seam a.code (record { instruction = x; line = l }) []) in (
           f.code (length a.code) (record { instruction = x; line = l }) (omega arith)
               (g.writes.grows.code (length a.code) (omega (arith, len)) ∙ mine),
-          subst (λ p. r done at p (length c.code)) len (g.writes.stands done at (fits_from done at _ _ c (omega (arith, len)) f)),
+          subst (λ p. r done at p (length c.code)) len (g.writes.stands done at (fits_from done at _ _ c
+              (omega (arith, len)) f)),
         )
 
 -- a whole part
@@ -146,7 +168,12 @@ goes_part n r s a b c le e g = record {
       g.writes.stands done at (fits_from done at _ _ c e.writes.grows.longer f),
     );
   };
-  keeps = keeps_on n a b c (record { picks = e.keeps.picks; more = e.keeps.more; same = λ l h. e.keeps.same l (omega arith) }) g.keeps;
+  keeps = keeps_on n a b c (record {
+    picks = e.keeps.picks;
+    more = e.keeps.more;
+    same =
+        λ l h. e.keeps.same l (omega arith);
+  }) g.keeps;
 }
 
 -- a label gets its place
@@ -157,7 +184,11 @@ goes_here n label r a b c le h g =
     record {
       writes = record {
         grows = kept.writes.grows;
-        stands = λ done at f. (f.places label (length a.code) (g.writes.grows.places label (length a.code) mine), kept.writes.stands done at f);
+        stands = λ done at f. (
+          f.places label (length a.code) (g.writes.grows.places label
+              (length a.code) mine),
+          kept.writes.stands done at f,
+        );
       };
       keeps = kept.keeps;
     }
@@ -169,7 +200,8 @@ goes_here n label r a b c le h g =
     placed l x e =
         ap (λ s. slice_get s l) h.places
         ∙ set_other a.places label l (Some (length a.code)) (λ (q : label ≡ l).
-        let f : slice_get a.places l ≡ Some None = subst (λ m. slice_get a.places m ≡ Some None) q h.free in cc)
+        let f : slice_get a.places l ≡ Some None =
+        subst (λ m. slice_get a.places m ≡ Some None) q h.free in cc)
         ∙ e
 
     noted : Notes n a b
@@ -180,18 +212,21 @@ goes_here n label r a b c le h g =
       keeps = record {
         picks = h.picks;
         more = omega (arith, ap length h.places, set_length a.places label (Some (length a.code)));
-        same = λ l lt. ap (λ s. slice_get s l) h.places ∙ set_other a.places label l (Some (length a.code)) (λ e. omega arith);
+        same = λ l lt. ap (λ s. slice_get s l) h.places
+            ∙ set_other a.places label l (Some (length a.code)) (λ e. omega arith);
       };
     }
 
 -- a new label
-pub goes_fresh : (n label : ℕ) (r : Part) (a b c : Written) → n ≤ length a.places → Fresh label a b → Goes n r b c → Goes n r a c
+pub goes_fresh : (n label : ℕ) (r : Part) (a b c : Written) → n ≤ length a.places → Fresh label a b
+    → Goes n r b c → Goes n r a c
 goes_fresh n label r a b c le h g = goes_noted n r a b c noted g
   where
     noted : Notes n a b
     noted = record {
       code = h.code;
-      places = λ l x e. rw h.places (get_left a.places (None ∷ []) l (slice_get_within a.places l (Some x) e) ∙ e);
+      places = λ l x e. rw h.places (get_left a.places (None ∷ []) l (slice_get_within a.places l
+          (Some x) e) ∙ e);
       picks = λ k x e. ap (λ s. slice_get s k) h.picks ∙ e;
       keeps = record {
         picks = h.picks;
@@ -201,7 +236,8 @@ goes_fresh n label r a b c le h g = goes_noted n r a b c noted g
     }
 
 -- another form of the row, as with names for its labels
-pub goes_as : (n : ℕ) (r s : Part) (a c : Written) → ((done : Finished) (at : Labels) (p q : ℕ) → r done at p q → s done at p q)
+pub goes_as : (n : ℕ) (r s : Part) (a c : Written) → ((done : Finished) (at : Labels) (p q : ℕ)
+    → r done at p q → s done at p q)
     → Goes n r a c → Goes n s a c
 goes_as n r s a c f g = record {
   writes = record { grows = g.writes.grows; stands = λ done at h. f done at _ _ (g.writes.stands done at h) };
@@ -213,13 +249,17 @@ goes_as n r s a c f g = record {
 pub free_new : (label : ℕ) (a b : Written) → Fresh label a b → slice_get b.places label ≡ Some None
 free_new label a b h = rw (h.places, h.is) (get_seam a.places None [])
 
-pub free_fresh : (label other : ℕ) (a b : Written) → Fresh other a b → slice_get a.places label ≡ Some None → slice_get b.places label ≡ Some None
-free_fresh label other a b h f = rw h.places (get_left a.places (None ∷ []) label (slice_get_within a.places label None f) ∙ f)
+pub free_fresh : (label other : ℕ) (a b : Written) → Fresh other a b
+    → slice_get a.places label ≡ Some None → slice_get b.places label ≡ Some None
+free_fresh label other a b h f =
+    rw h.places (get_left a.places (None ∷ []) label (slice_get_within a.places label None f) ∙ f)
 
-pub free_put : (label l : ℕ) (x : Instr) (a b : Written) → Puts l x a b → slice_get a.places label ≡ Some None → slice_get b.places label ≡ Some None
+pub free_put : (label l : ℕ) (x : Instr) (a b : Written) → Puts l x a b
+    → slice_get a.places label ≡ Some None → slice_get b.places label ≡ Some None
 free_put label l x a b h f = ap (λ s. slice_get s label) h.places ∙ f
 
-pub free_part : (label : ℕ) (r : Part) (a b : Written) → Emits r a b → slice_get a.places label ≡ Some None → slice_get b.places label ≡ Some None
+pub free_part : (label : ℕ) (r : Part) (a b : Written) → Emits r a b
+    → slice_get a.places label ≡ Some None → slice_get b.places label ≡ Some None
 free_part label r a b e f = e.keeps.same label (slice_get_within a.places label None f) ∙ f
 
 pub free_define : (label other : ℕ) (a b : Written) → (other ≡ label → ⊥) → Defines other a b

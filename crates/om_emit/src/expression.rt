@@ -41,7 +41,8 @@ pub fn value(
     e: &ResolvedExpression,
 ) -> Result<(), AllocError>
     requires coded { ValueHasCode (view_resolved_expression e.now) }
-    ensures { OnOk result (EmitsValue (names_of scope.now) line (view_resolved_expression e.now) draft.old draft.new) }
+    ensures { let tree = view_resolved_expression e.now in
+        OnOk result (EmitsValue (names_of scope.now) line tree draft.old draft.new) }
 {
     match e {
         ResolvedExpression::Constant(number) => draft.put(line, Instr::Constant(*number)),
@@ -319,7 +320,8 @@ pub(crate) fn assign_element(
 ) -> Result<(), AllocError>
     requires { ValueHasCode (view_resolved_expression e.now) }
     ensures { let tree = view_resolved_expression e.now in
-        let row = λ (at : Site). rows.assignment_rest at line target.keeps target.variable target.operator tree in
+        let row =
+        λ (at : Site). rows.assignment_rest at line target.keeps target.variable target.operator tree in
         OnOk result (EmitsRow (names_of scope.now) row draft.old draft.new) }
 {
     match compound_of(target.operator) {

@@ -37,7 +37,8 @@ pub(crate) fn load(
     line: u32,
     variable: Variable,
 ) -> Result<(), AllocError>
-    ensures { let place = place_of (names_of scope.now).slots variable in OnOk result (Puts line (i.Load place) draft.old draft.new) }
+    ensures { let place = place_of (names_of scope.now).slots variable in
+        OnOk result (Puts line (i.Load place) draft.old draft.new) }
 {
     let place = scope.place(variable);
     draft.put(line, Instr::Load(place))
@@ -93,7 +94,8 @@ pub(crate) fn unary_end(
     line: u32,
     operator: UnaryOperator,
 ) -> Result<(), AllocError>
-    ensures { (names : Names) → OnOk result (EmitsRow names (λ at. rows.unary_rest at line operator) draft.old draft.new) }
+    ensures { (names : Names)
+        → OnOk result (EmitsRow names (λ at. rows.unary_rest at line operator) draft.old draft.new) }
 {
     match operator {
         UnaryOperator::Plus => Ok(()),
@@ -132,7 +134,8 @@ pub(crate) fn step_element(
     line: u32,
     target: Stepped,
 ) -> Result<(), AllocError>
-    ensures { let row = λ (at : Site). rows.stepped_rest at line target.keeps target.variable target.operator in
+    ensures { let row =
+        λ (at : Site). rows.stepped_rest at line target.keeps target.variable target.operator in
         OnOk result (EmitsRow (names_of scope.now) row draft.old draft.new) }
 {
     draft.put(line, Instr::Duplicate)?;
@@ -161,7 +164,8 @@ pub(crate) fn postfix(
     variable: Variable,
     operator: PostfixOperator,
 ) -> Result<(), AllocError>
-    ensures { OnOk result (EmitsValue (names_of scope.now) line (trees.Postfix variable operator) draft.old draft.new) }
+    ensures { let tree = trees.Postfix variable operator in
+        OnOk result (EmitsValue (names_of scope.now) line tree draft.old draft.new) }
 {
     let target = Stepped {
         variable,
@@ -181,7 +185,8 @@ pub(crate) fn postfix_element(
     array: Variable,
     operator: PostfixOperator,
 ) -> Result<(), AllocError>
-    ensures { OnOk result (EmitsRow (names_of scope.now) (λ at. rows.postfix_rest at line array operator) draft.old draft.new) }
+    ensures { let row = λ (at : Site). rows.postfix_rest at line array operator in
+        OnOk result (EmitsRow (names_of scope.now) row draft.old draft.new) }
 {
     let target = Stepped {
         variable: array,

@@ -28,7 +28,8 @@ pub fn effect(
     e: &ResolvedExpression,
 ) -> Result<(), AllocError>
     requires { EffectHasCode (view_resolved_expression e.now) }
-    ensures { OnOk result (EmitsEffect (names_of scope.now) line (view_resolved_expression e.now) draft.old draft.new) }
+    ensures { let tree = view_resolved_expression e.now in
+        OnOk result (EmitsEffect (names_of scope.now) line tree draft.old draft.new) }
 {
     match e {
         ResolvedExpression::Assign(variable, operator, e) => {

@@ -10,5 +10,7 @@ use Rattle.om_emit.proofs.expression.+expression.Given as goal
 abbrev pub invariant-values-loop-e : goal.invariant-values-loop-e
 invariant-values-loop-e l =
     (length l.fn.draft.places ≤ length l.draft.places)
-    × ((c : Written) → Goes (length l.fn.draft.places) (λ done at. values (site (names_of l.scope) done) l.line (listed (drop l.e-index l.es))) l.draft c
-    → Goes (length l.fn.draft.places) (λ done at. values (site (names_of l.scope) done) l.line (listed l.es)) l.fn.draft c)
+    × ((c : Written) → Goes (length l.fn.draft.places) (λ done at. values (site (names_of l.scope) done) l.line
+    (listed (drop l.e-index l.es))) l.draft c
+    → Goes (length l.fn.draft.places) (λ done at. values (site (names_of l.scope) done) l.line
+    (listed l.es)) l.fn.draft c)

@@ -11,4 +11,5 @@ pub returns : goal.returns
 returns c =
     let names = names_of c.args.scope.now in
     emits_then (λ done at. stepped_rest (site names done) c.args.line true c.args.array c.args.operator)
-    (λ done at. undone (site names done) c.args.line (undo_of c.args.operator)) _ _ _ c.in_ok-step_element.ensures (c.in_ok-undo.ensures names)
+    (λ done at. undone (site names done) c.args.line (undo_of c.args.operator)) _ _ _ c.in_ok-step_element.ensures
+    (c.in_ok-undo.ensures names)

@@ -5,4 +5,5 @@ use Rattle.om_emit.proofs.unused.popped.Goals as goal
 
 pub returns : goal.returns
 returns c =
-    emits_popped (names_of c.args.scope.now) c.args.line (view_resolved_expression c.args.e.now) _ _ _ c.in_ok-value.ensures c.in_ok-put.ensures
+    emits_popped (names_of c.args.scope.now) c.args.line
+    (view_resolved_expression c.args.e.now) _ _ _ c.in_ok-value.ensures c.in_ok-put.ensures
