@@ -1,5 +1,5 @@
 -- The code of a function's body, once all of it is written.
-use Rattle.std.proofs.Common.{◌≡◌, ℕ, zero, suc, ◌<◌, ◌≤◌, List, [], ◌∷◌, Option, Some, None, Bool, true, false, map, length, refl, sym, ap, ◌∙◌, subst, arith}
+use Rattle.std.proofs.Common.{◌≡◌, ℕ, zero, suc, List, [], ◌∷◌, Some, None, Bool, true, false, map, length, refl, sym, ap, subst, arith}
 use Rattle.std.specs.Prelude.{slice_get}
 use Rattle.std.proofs.lemmas.List.{length-map}
 use Rattle.om_code.specs.declared.instruction.Instr.{Instr}
@@ -24,7 +24,8 @@ use Rattle.om_tables.specs.Numbering.{numbers_of}
 abbrev pub no_jumps : JumpLabels
 no_jumps = record { over = None; next = None }
 
-get_map : {A B : Type 0} → (f : A → B) (xs : List A) (k : ℕ) (x : A) → slice_get xs k ≡ Some x → slice_get (map f xs) k ≡ Some (f x)
+get_map : {A B : Type 0} → (f : A → B) (xs : List A) (k : ℕ) (x : A) → slice_get xs k ≡ Some x
+    → slice_get (map f xs) k ≡ Some (f x)
 get_map f [] k x at = cc
 get_map f (y ∷ xs) zero x at = cc
 get_map f (y ∷ xs) (suc k) x at = get_map f xs k x at
@@ -53,39 +54,54 @@ body_part names n f done at =
     (ins (site names done) f.closing_line (moved at (last_instruction names.is_main)) end)
 
 body_goes : (names : Names) (n : Numbers) (f : ResolvedFunctionTree) (written final : Written)
-    → EmitsStatements names n f.body no_jumps nothing written → Puts f.closing_line (last_instruction names.is_main) written final
+    → EmitsStatements names n f.body no_jumps nothing written
+    → Puts f.closing_line (last_instruction names.is_main) written final
     → Goes 0 (body_part names n f) nothing final
 body_goes names n f written final emitted put =
     goes_part 0 (λ done at. statements (site names done) n f.body (jumps_at at no_jumps))
     (λ done at. ins (site names done) f.closing_line (moved at (last_instruction names.is_main)) end)
     nothing written final (omega arith) emitted
-    (goes_put names 0 f.closing_line (last_instruction names.is_main) (λ done at. end) written final final put (goes_end 0 final))
+    (goes_put names 0 f.closing_line (last_instruction names.is_main)
+    (λ done at. end) written final final put (goes_end 0 final))
 
-body_stands : (names : Names) (n : Numbers) (f : ResolvedFunctionTree) (written final : Written) (code : List Line) (picks : List (List ℕ))
-    → EmitsStatements names n f.body no_jumps nothing written → Puts f.closing_line (last_instruction names.is_main) written final
+body_stands : (names : Names) (n : Numbers) (f : ResolvedFunctionTree) (written final : Written)
+    (code : List Line) (picks : List (List ℕ))
+    → EmitsStatements names n f.body no_jumps nothing written
+    → Puts f.closing_line (last_instruction names.is_main) written final
     → code ≡ settled_code final
     → body_row (site_with names code picks) n f FunctionBody 0 (length code)
 body_stands names n f written final code picks emitted put same =
     let at : Labels = place_in final.places in
     let done : Finished = record { code = settled_code final; picks = picks } in
     let goes = body_goes names n f written final emitted put in
-    let row : body_part names n f done at 0 (length final.code) = goes.writes.stands done at (settled_fits final picks goes.keeps.picks) in
-    let closed = subst (λ last. part (statements (site names done) n f.body nowhere) (ins (site names done) f.closing_line last end) 0 (length final.code))
+    let row : body_part names n f done at 0 (length final.code) =
+    goes.writes.stands done at (settled_fits final picks goes.keeps.picks) in
+    let closed = subst (λ last.
+    part (statements (site names done) n f.body nowhere)
+    (ins (site names done) f.closing_line last end) 0 (length final.code))
     (moved_last at names.is_main) row in
     let long : length final.code ≡ length (settled_code final) = sym (length-map final.code (settled at)) in
-    let whole = subst (λ q. body_row (site_with names (settled_code final) picks) n f FunctionBody 0 q) long closed in
+    let whole = subst (λ q.
+    body_row (site_with names (settled_code final) picks) n f FunctionBody 0 q) long closed in
     subst (λ c. body_row (site_with names c picks) n f FunctionBody 0 (length c)) (sym same) whole
 
 -- the same, as the parts of it were made
-pub body_made : (names : Names) (f : ResolvedFunctionTree) (numbers : tables.Numbers) (spot : Spot) (items : ResolvedStatementsTree) (last : Instr)
+pub body_made : (names : Names) (f : ResolvedFunctionTree) (numbers : tables.Numbers) (spot : Spot)
+    (items : ResolvedStatementsTree) (last : Instr)
     (start written final : Written) (code : List Line) (picks : List (List ℕ))
-    → spot ≡ record { numbers = numbers; jumps = no_jumps } → items ≡ f.body → last ≡ last_instruction names.is_main → start ≡ nothing
-    → EmitsStatements names (numbers_of spot.numbers) items spot.jumps start written → Puts f.closing_line last written final
+    → spot ≡ record { numbers = numbers; jumps = no_jumps } → items ≡ f.body
+    → last ≡ last_instruction names.is_main → start ≡ nothing
+    → EmitsStatements names (numbers_of spot.numbers) items spot.jumps start written
+    → Puts f.closing_line last written final
     → code ≡ settled_code final
     → body_row (site_with names code picks) (numbers_of numbers) f FunctionBody 0 (length code)
-body_made names f numbers spot items last start written final code picks same_spot same_items same_last same_start emitted put same =
-    let outside = subst (λ s. EmitsStatements names (numbers_of s.numbers) items s.jumps start written) same_spot emitted in
-    let whole = subst (λ all. EmitsStatements names (numbers_of numbers) all no_jumps start written) same_items outside in
-    let first = subst (λ d. EmitsStatements names (numbers_of numbers) f.body no_jumps d written) same_start whole in
+body_made names f numbers spot items last start written final code picks same_spot same_items same_last
+    same_start emitted put same =
+    let outside = subst (λ s.
+    EmitsStatements names (numbers_of s.numbers) items s.jumps start written) same_spot emitted in
+    let whole = subst (λ all.
+    EmitsStatements names (numbers_of numbers) all no_jumps start written) same_items outside in
+    let first = subst (λ d.
+    EmitsStatements names (numbers_of numbers) f.body no_jumps d written) same_start whole in
     let closed = subst (λ x. Puts f.closing_line x written final) same_last put in
     body_stands names (numbers_of numbers) f written final code picks first closed same

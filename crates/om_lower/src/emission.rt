@@ -50,8 +50,13 @@ pub fn function_body(
 ) -> Result<Emitted, AllocError>
     requires code { BodyHasCode (view_resolved_function function.now) FunctionBody }
     requires serial { directive_among (view_resolved_function function.now).body ≡ None }
-    ensures row { IfOk result (λ made. (picks : List (List ℕ)) → ListsStand made.lists.items picks → body_row (site_with (names_of scope.now) made.code picks) (numbers_of numbers) (view_resolved_function function.now) FunctionBody 0 (length made.code)) }
-    ensures lists { IfOk result (λ made. map (λ list. list.number) made.lists.items ≡ body_picks (numbers_of numbers) (view_resolved_function function.now) FunctionBody) }
+    ensures row { let seen = view_resolved_function function.now in
+        IfOk result (λ made. (picks : List (List ℕ)) → ListsStand made.lists.items picks
+        → body_row (site_with (names_of scope.now) made.code picks) (numbers_of numbers) seen FunctionBody
+        0 (length made.code)) }
+    ensures lists { let seen = view_resolved_function function.now in
+        IfOk result (λ made. map (λ list. list.number) made.lists.items
+        ≡ body_picks (numbers_of numbers) seen FunctionBody) }
 {
     let mut draft = Draft::new(alloc);
     let spot = Spot::outside(numbers);
