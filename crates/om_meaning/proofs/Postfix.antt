@@ -1,7 +1,8 @@
 -- What a postfix operator did with its 1 and then undid is the old value.
-use Rattle.std.proofs.Common.{◌≡◌, ℕ, ℤ, pos, Bool, true, false, Option, Some, refl, sym, ap, ◌∙◌, arith}
+use Rattle.std.proofs.Common.{◌≡◌, ℕ, ℤ, pos, Bool, true, false, Option, Some, None, refl, sym, ap, ◌∙◌, arith}
 use Rattle.std.proofs.lemmas.Int.{ints}
 use Rattle.std.specs.Prelude.{◌+ℤ◌, ◌-ℤ◌, Result, Ok, Err, if◌then◌else◌}
+use Rattle.om_code.specs.declared.frame.Cell.{Cell}
 use Rattle.om_code.specs.declared.frame.Cell.TheVariants as cell
 use Rattle.om_code.specs.declared.frame.Fault.{Fault}
 use Rattle.om_code.specs.declared.frame.Fault.TheVariants as fault
@@ -11,9 +12,11 @@ use Rattle.om_code.specs.Frames.{index_in}
 use Rattle.om_tree.specs.declared.tree.PostfixOperator.{PostfixOperator}
 use Rattle.om_tree.specs.declared.tree.PostfixOperator.TheVariants as postfixes
 use Rattle.om_rows.specs.Operators.{step_of, undo_of}
+use Rattle.om_meaning.specs.Ints.{HoldsInt, HoldsInts, LeavesInts}
 use Rattle.om_meaning.specs.Laws.{PostfixGivesOld, ElementGivesOld}
-use Rattle.om_meaning.specs.Meaning.{undone, load_element, store_element, one}
-use Rattle.om_meaning.specs.Worlds.{World, Outcome, Got, with_value, result, held, with_held, found, put_into, load, store, at_index}
+use Rattle.om_meaning.specs.Meaning.{undone, load_element, store_element, one, value_of}
+use Rattle.om_meaning.specs.Worlds.{World, Outcome, Got, Faulty, with_value, result, held, with_held, found, put_into, load, store, at_index}
+use Rattle.om_meaning.proofs.Ints.{value_ints}
 
 ok_of : (b : Bool) (x z : ℤ) → (if b then Ok x else Err fault.Overflow) ≡ Ok z → x ≡ z
 ok_of true x z e = cc e
@@ -58,26 +61,47 @@ loaded o at k old w there int =
     ∙ ap (λ c. with_value (with_value (found c w) (λ x u. with_value (one u) (λ y t. with_value (result (operate (step_of o) x y) t) (λ z s. store at k z s)))) (λ z u. Got old u))
     (sym there)
 
+-- the load, the sum and the store
+abbrev steps_on : PostfixOperator → Place → ℕ → World → Outcome
+steps_on o at k w =
+    with_value (load at k w) (λ x u. with_value (one u) (λ y t. with_value (result (operate (step_of o) x y) t) (λ z s. store at k z s)))
+
+-- whatever the cell holds
+cell_old : (o : PostfixOperator) (at : Place) (k : ℕ) (w : World) (c : Cell) → held w at k ≡ c → HoldsInt c
+    → undone (undo_of o) (steps_on o at k w) ≡ with_value (load at k w) (λ old u. with_value (steps_on o at k w) (λ z t. Got old t))
+unfolding load
+cell_old o at k w (cell.Int old) there int =
+    loaded o at k old w there int ∙ ap (λ c. with_value (found c w) (λ y u. with_value (steps_on o at k w) (λ z t. Got y t))) (sym there)
+cell_old o at k w cell.Unset there int =
+    ap (λ c. undone (undo_of o) (with_value (found c w) (λ x u. with_value (one u) (λ y t. with_value (result (operate (step_of o) x y) t) (λ z s. store at k z s))))) there
+    ∙ ap (λ c. with_value (found c w) (λ y u. with_value (steps_on o at k w) (λ z t. Got y t))) (sym there)
+cell_old o at k w cell.Dead there int =
+    ap (λ c. undone (undo_of o) (with_value (found c w) (λ x u. with_value (one u) (λ y t. with_value (result (operate (step_of o) x y) t) (λ z s. store at k z s))))) there
+    ∙ ap (λ c. with_value (found c w) (λ y u. with_value (steps_on o at k w) (λ z t. Got y t))) (sym there)
+
 pub postfix_gives_old : PostfixGivesOld
-postfix_gives_old at x o w old there int = loaded o (at.place x) 0 old w there int
+postfix_gives_old at x o w h = cell_old o (at.place x) 0 w (held w (at.place x) 0) refl (h (at.place x) 0)
 
 -- an element, behind its index
-abbrev stepped : PostfixOperator → Place → ℕ → ℤ → World → Outcome
-stepped o at cells n u =
-    with_value (load_element at cells n u) (λ x t. with_value (one t) (λ y s. with_value (result (operate (step_of o) x y) s) (λ z r. store_element at cells n z r)))
-
 abbrev by_index : PostfixOperator → Place → World → Option ℕ → Outcome
 by_index o at w i =
     with_value (at_index i w (λ m. load at m w)) (λ x t. with_value (one t) (λ y s. with_value (result (operate (step_of o) x y) s)
     (λ z r. at_index i r (λ m. store at m z r))))
 
-element_loaded : (o : PostfixOperator) (at : Place) (cells : ℕ) (n : ℤ) (k : ℕ) (old : ℤ) (w : World) → index_in cells n ≡ Some k → held w at k ≡ cell.Int old
-    → is_int old ≡ true → undone (undo_of o) (stepped o at cells n w) ≡ with_value (stepped o at cells n w) (λ z u. Got old u)
-element_loaded o at cells n k old w inside there int =
-    ap (λ i. undone (undo_of o) (by_index o at w i)) inside ∙ loaded o at k old w there int ∙ ap (λ i. with_value (by_index o at w i) (λ z u. Got old u)) (sym inside)
+index_old : (o : PostfixOperator) (at : Place) (w : World) (i : Option ℕ) → HoldsInts w
+    → undone (undo_of o) (by_index o at w i) ≡ with_value (at_index i w (λ m. load at m w)) (λ old u. with_value (by_index o at w i) (λ z t. Got old t))
+index_old o at w None h = refl
+index_old o at w (Some k) h = cell_old o at k w (held w at k) refl (h at k)
+
+abbrev stepped : PostfixOperator → Place → ℕ → ℤ → World → Outcome
+stepped o at cells n u =
+    with_value (load_element at cells n u) (λ x t. with_value (one t) (λ y s. with_value (result (operate (step_of o) x y) s) (λ z r. store_element at cells n z r)))
+
+outcome_old : (o : PostfixOperator) (at : Place) (cells : ℕ) (r : Outcome) → LeavesInts r
+    → undone (undo_of o) (with_value r (λ n u. stepped o at cells n u))
+    ≡ with_value r (λ n u. with_value (load_element at cells n u) (λ old s. with_value (with_value r (λ n u. stepped o at cells n u)) (λ z t. Got old t)))
+outcome_old o at cells (Got n u) h = index_old o at u (index_in cells n) h.1
+outcome_old o at cells (Faulty x u) h = refl
 
 pub element_gives_old : ElementGivesOld
-element_gives_old at a j o w u n old k is inside there int =
-    ap (λ r. undone (undo_of o) (with_value r (λ m t. stepped o (at.place a) (at.cells (at.place a)) m t))) is
-    ∙ element_loaded o (at.place a) (at.cells (at.place a)) n k old u inside there int
-    ∙ ap (λ r. with_value (with_value r (λ m t. stepped o (at.place a) (at.cells (at.place a)) m t)) (λ z t. Got old t)) (sym is)
+element_gives_old at a j o w ints h = outcome_old o (at.place a) (at.cells (at.place a)) (value_of at j w) (value_ints at j ints w h)

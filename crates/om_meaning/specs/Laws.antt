@@ -2,12 +2,10 @@
 use Rattle.std.specs.Prelude.{◌≡◌, ◌≢◌, ℕ, ℤ, Bool, true, Option, None, Some, List, [], All, IsSomeAnd, slice_get}
 use Rattle.std.specs.List.{AllZip, list_any}
 use Rattle.std.specs.Str.{bytes_eq}
-use Rattle.om_code.specs.declared.frame.Cell.TheVariants as cell
 use Rattle.om_code.specs.declared.frame.Fault.{Fault}
 use Rattle.om_code.specs.declared.frame.Operand.{Operand}
 use Rattle.om_code.specs.declared.raw.Body.{Body}
 use Rattle.om_code.specs.declared.raw.Raw.{Raw}
-use Rattle.om_code.specs.Arithmetic.{is_int}
 use Rattle.om_code.specs.Frames as frames
 use Rattle.om_code.specs.Frames.{Frame, FrameTurn, Faulted, Stuck, cells_in, index_in}
 use Rattle.om_tree.specs.declared.tree.PostfixOperator.{PostfixOperator}
@@ -23,30 +21,29 @@ use Rattle.om_rows.specs.Slots.{place_of}
 use Rattle.om_rows.specs.Statements.{Jumps, statement}
 use Rattle.om_meaning.specs.Ints.{HasInts, HoldsInts, LeavesInts, StatementHasInts, FlowLeavesInts}
 use Rattle.om_meaning.specs.Meaning as flows
-use Rattle.om_meaning.specs.Meaning.{Flow, Failed, OutOfTurns, then_do, value_of, effect_of, meaning, meanings}
+use Rattle.om_meaning.specs.Meaning.{Flow, Failed, OutOfTurns, then_do, value_of, effect_of, load_element, meaning, meanings}
 use Rattle.om_meaning.specs.Running.{frame, world_of, run, ended, Ends, Gives, Does}
 use Rattle.om_meaning.specs.Serial.{IsSerial, IsSerialStatement, AreSerialStatements}
-use Rattle.om_meaning.specs.Worlds.{World, Layout, Got, with_value, held}
+use Rattle.om_meaning.specs.Worlds.{World, Layout, Got, with_value, load}
 
 -- where a body has these variables, by their slots, and how many cells its tables give them
 abbrev pub layout_of : Raw → Body → (variables : List ℕ) → Layout
 layout_of raw body variables = record { place = place_of variables; cells = cells_in raw body.slots }
 
--- From where its code begins, on any operands, a frame comes to where the code ends with the expression's
--- value on them,
--- or meets the expression's fault.
+-- From where its code begins, on any operands, a frame comes to where the code ends, with the expression's
+-- value on them, or meets the expression's fault.
 abbrev pub ValueMeans : Type 0
 ValueMeans =
     (raw : Raw) (body : Body) (at : Site) → at.code ≡ body.code →
     (e : ResolvedExpressionTree) (l p q : ℕ) (s : List Operand) (w : World) → IsSerial e → value at l e p q →
     Gives raw body (frame p s w) q s (value_of (layout_of raw body at.slots) e w)
 
--- The same of a statement: it goes on where its code ends, where its loop ends or where that goes on, or it
--- ends its body.
+-- The same of a statement: it goes on behind its code, or as a jump of its loop does, or ends its body.
 abbrev pub StatementMeans : Type 0
 StatementMeans =
     (raw : Raw) (body : Body) (at : Site) → at.code ≡ body.code → AllZip IsTextOf at.formats raw.texts →
-    (x : ResolvedStatementTree) (m : Numbers) (n : ℕ) (jumps : Jumps) (p q : ℕ) (s : List Operand) (w : World) →
+    (x : ResolvedStatementTree) (m : Numbers) (n : ℕ) (jumps : Jumps)
+    (p q : ℕ) (s : List Operand) (w : World) →
     IsSerialStatement x →
     All (λ format. list_any (bytes_eq format) at.formats ≡ true) (mentioned format_mention x) →
     statement at m x jumps p q →
@@ -86,8 +83,7 @@ pub record Behaves (raw : Raw) (body : Body) (is_main : Bool) (means : ℕ → W
   -- it lacks nothing
   pub never_stuck : (w : World) (n : ℕ) → run raw body n (frame 0 [] w) ≢ Stuck
 
--- The body of each function without calls and directives, run by the frame machine, behaves as the function
--- means.
+-- The body of each function without calls and directives, run by the frame machine, does what it means.
 abbrev pub SerialMeaning : Type 0
 SerialMeaning =
     (tree : ResolvedTree) (raw : Raw) → IsCodeOf tree raw →
@@ -97,20 +93,25 @@ SerialMeaning =
 
 -- ---- the old value of `x++` and its like (C17 6.5.2.4p2)
 
--- It does what it does as a statement, and its value is the int that the variable held.
+-- It does what it does as a statement, and its value is what the variable held.
 abbrev pub PostfixGivesOld : Type 0
 PostfixGivesOld =
-    (at : Layout) (x : Variable) (operator : PostfixOperator) (w : World) (old : ℤ) →
-    held w (at.place x) 0 ≡ cell.Int old → is_int old ≡ true →
-    value_of at (Postfix x operator) w ≡ with_value (effect_of at (Postfix x operator) w) (λ z u. Got old u)
+    (at : Layout) (x : Variable) (operator : PostfixOperator) (w : World) → HoldsInts w →
+    value_of at (Postfix x operator) w
+    ≡ with_value (load (at.place x) 0 w) (λ old u.
+    with_value (effect_of at (Postfix x operator) w) (λ z t. Got old t))
 
--- The same of an element, by the value of its index.
+-- The same of an element, behind its index.
 abbrev pub ElementGivesOld : Type 0
 ElementGivesOld =
-    (at : Layout) (a : Variable) (j : ResolvedExpressionTree) (operator : PostfixOperator) (w u : World) (n old : ℤ) (k : ℕ) →
-    value_of at j w ≡ Got n u → index_in (at.cells (at.place a)) n ≡ Some k →
-    held u (at.place a) k ≡ cell.Int old → is_int old ≡ true →
-    value_of at (PostfixElement a j operator) w ≡ with_value (effect_of at (PostfixElement a j operator) w) (λ z t. Got old t)
+    (at : Layout) (a : Variable) (j : ResolvedExpressionTree) (operator : PostfixOperator) (w : World) →
+    HasInts j → HoldsInts w →
+    value_of at (PostfixElement a j operator) w
+    ≡ with_value (value_of at j w) (λ n u.
+    with_value (load_element (at.place a) (at.cells (at.place a)) n u) (λ old s.
+    with_value (effect_of at (PostfixElement a j operator) w) (λ z t. Got old t)))
+
+-- ---- ints
 
 -- Where variables hold ints and constants are ints, each value is an int, and variables hold ints behind it.
 abbrev pub IntsStay : Type 0

@@ -1,8 +1,8 @@
--- What expressions and statements mean that one thread carries out, without calls and directives (C17 6.5, 6.8).
--- Nothing here knows code.
+-- What expressions and statements mean that one thread carries out, without calls and directives (C17 6.5 and
+-- 6.8). Nothing here knows code.
 --
--- C17 leaves the order of many evaluations open. Here it is from left to right. An assignment takes its index, then
--- its value, and then stores; a compound one takes its index, the old value, and then the other value.
+-- C17 leaves the order of many evaluations open. Here it is from left to right. An assignment takes its index,
+-- then its value, and then stores; a compound one takes its index, the old value, and then the other value.
 use Rattle.std.specs.Prelude.{ℕ, zero, suc, ℤ, pos, Bool, not, Option, None, Some, List, [], ◌∷◌, if◌then◌else◌}
 use Rattle.std.specs.Ordering.{int_eq}
 use Rattle.om_code.specs.declared.frame.Fault.{Fault}

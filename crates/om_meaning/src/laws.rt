@@ -16,8 +16,8 @@ pub fn statement_means()
 
 /// The code of a function without calls and directives does what the function means.
 ///
-/// It ends where the meaning ends, with its value, its globals and its output. It faults where that faults, with
-/// its fault and its output. Where loops have only n turns and are out of them, it does neither within n
+/// It ends where the meaning ends, with its value, its globals and its output. It faults where that faults,
+/// with its fault and its output. Where loops have only n turns and are out of them, it does neither within n
 /// instructions. And it ends and faults nowhere else.
 pub fn serial_meaning()
     ensures { SerialMeaning }
@@ -26,7 +26,7 @@ pub fn serial_meaning()
     formats_are_numbered();
 }
 
-/// The value of `x++`, `x--`, `a[j]++` and `a[j]--` is the old one, where that is an int.
+/// The value of `x++`, `x--`, `a[j]++` and `a[j]--` is the old one, where variables hold ints.
 pub fn postfix_gives_old()
     ensures variable { PostfixGivesOld }
     ensures element { ElementGivesOld }

@@ -1,3 +1,4 @@
 pub mod Meant
 pub mod Scopes
+pub mod Values
 pub mod Walks

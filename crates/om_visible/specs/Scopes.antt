@@ -4,7 +4,7 @@
 -- a closing brace belongs to the block that it closes. A parameter is in scope in the whole of its function. A copy is in scope from the
 -- first instruction of its start to the last of its construct, and the variable that a loop's iterations have from LOOP. Private and
 -- firstprivate copies of a `parallel` or a `task` are in scope in the whole of its body.
-use Rattle.std.specs.Prelude.{ℕ, ◌+◌, List, [], ◌∷◌, ◌++◌, None, Some, map, length, reverse, Bool}
+use Rattle.std.specs.Prelude.{ℕ, ◌+◌, List, [], ◌∷◌, ◌++◌, Option, None, Some, map, length, reverse, Bool}
 use Rattle.std.specs.List.{flat_map}
 use Rattle.om_resolved.specs.declared.resolved.ConstructKind.{ConstructKind}
 use Rattle.om_resolved.specs.declared.resolved.ConstructKind.TheVariants as constructs
@@ -42,7 +42,7 @@ abbrev pub ◌then◌ : (ℕ → Found) → (ℕ → Found) → ℕ → Found
 }
 
 abbrev pub closed_at : (body to : ℕ) → Opened → Scope
-closed_at body to v = record { body = body; name = v.name; variable = v.variable; from = v.from; to = to }
+closed_at body to v = record { body = body; name = v.name; variable = v.variable; length = v.length; from = v.from; to = to }
 
 -- the end of a block, a loop or a construct: all that it opened is closed, the last one first
 abbrev pub ending : (body to : ℕ) → Found → Found
@@ -54,12 +54,16 @@ ending body to found = record {
 
 -- Below, p is the place of the first instruction of a part.
 
+abbrev pub opened_with : Option ℕ → ℕ → LocalVariable → Opened
+opened_with length p variable = record { name = variable.name; variable = variable.at; length = length; from = p }
+
+-- parameters and copies are no arrays
 abbrev pub opened_at : ℕ → LocalVariable → Opened
-opened_at p variable = record { name = variable.name; variable = variable.at; from = p }
+opened_at p variable = opened_with None p variable
 
 abbrev pub declared : ℕ → List ResolvedDeclaratorTree → List Opened
 declared p [] = []
-declared p (d ∷ ds) = opened_at p d.variable ∷ declared (p + declarator_size d) ds
+declared p (d ∷ ds) = opened_with d.length p d.variable ∷ declared (p + declarator_size d) ds
 
 abbrev pub start_declared : ℕ → ResolvedStartTree → List Opened
 start_declared p StartNothing = []

@@ -4,7 +4,7 @@ ghost use Rattle.std.specs.Prelude.{◌≡◌, ◌+◌, IfOk, OnOk, length, map,
 ghost use Rattle.om_resolved.specs.ResolvedTree as trees;
 ghost use Rattle.om_resolved.specs.ResolvedView.{view_resolved, view_resolved_function, view_resolved_statement};
 ghost use Rattle.om_rows.specs.Sizes.{statements_size};
-ghost use Rattle.om_visible.specs.Meant.{around_in, found_of, innermost, is_visible, local_at, local_in, meant};
+ghost use Rattle.om_visible.specs.Meant.{around_in, innermost, is_visible, local_at, local_in, meant};
 ghost use Rattle.om_visible.specs.Scopes.{function_body_names, function_names, functions_names, opened_at, opening, tree_names};
 ghost use Rattle.om_visible.specs.Walks.{Added, Walked};
 
@@ -13,6 +13,7 @@ use crate::walk::{Around, BodyNames, Scope, Walk, close, open, skip};
 use om_resolved::{LocalVariable, Resolved, ResolvedFunction};
 use om_tables::function_variables;
 use std::alloc::{AllocError, Global};
+use std::marker::Model;
 
 /// Where the variable of a function that a name means has its cells, in a body.
 #[derive(Clone, Copy, PartialEq, Eq)]
@@ -21,8 +22,15 @@ pub enum Local {
     NotLocal,
     /// It means one that this body does not have: no part of it uses that variable.
     Absent,
-    /// In the slot of this number.
-    At(usize),
+    /// It means the one of this slot, with so many elements where it is an array.
+    At { slot: usize, length: Option<u32> },
+}
+
+/// A variable of a function, and how many elements it has where it is an array.
+#[derive(Clone, Copy)]
+pub(crate) struct Named {
+    pub(crate) variable: u32,
+    pub(crate) length: Option<u32>,
 }
 
 /// The names of a program's bodies: which variable each one means, at which instructions.
@@ -32,21 +40,30 @@ pub struct Names {
     bodies: Vec<BodyNames>,
 }
 
+impl Model for Names {
+    ghost use Rattle.om_visible.specs.Scopes.{Found};
+    ghost use Rattle.om_visible.specs.Values.{found_with};
+
+    ghost Value = { Found };
+
+    ghost view = { λ n. found_with n.closed.items n.bodies.items };
+}
+
 impl Names {
     /// What a name means at an instruction of a body (C17 6.2.1): the innermost variable of the
     /// function that is in scope there. It takes no memory.
     pub fn local_at(&self, body: u32, place: u32, name: &[u8]) -> Local
-        ensures { result ≡ local_at (found_of self.now) body place name.now }
+        ensures { result ≡ local_at self.now body place name.now }
     {
         let at = Around { body, place };
-        let variable = meant(
+        let named = meant(
             self.closed.as_slice(),
             self.bodies.as_slice(),
             self.bodies.len(),
             at,
             name,
         );
-        local_in(self.bodies.as_slice(), body, variable)
+        local_in(self.bodies.as_slice(), body, named)
     }
 }
 
@@ -59,12 +76,15 @@ fn is_visible(scope: &Scope, at: Around, name: &[u8]) -> bool
 }
 
 /// The first of these variables that is in scope at an instruction under this name.
-fn innermost(scopes: &[Scope], at: Around, name: &[u8]) -> Option<u32>
+fn innermost(scopes: &[Scope], at: Around, name: &[u8]) -> Option<Named>
     ensures { result ≡ innermost at.body at.place name.now scopes.now }
 {
     for scope in scopes {
         if is_visible(scope, at, name) {
-            return Some(scope.variable);
+            return Some(Named {
+                variable: scope.variable,
+                length: scope.length,
+            });
         }
     }
     None
@@ -87,14 +107,14 @@ fn meant(
     steps: usize,
     at: Around,
     name: &[u8],
-) -> Option<u32>
+) -> Option<Named>
     ensures { result ≡ meant steps scopes.now bodies.now at.body at.place name.now }
 {
     let Some(left) = steps.checked_sub(1) else {
         return None;
     };
     match innermost(scopes, at, name) {
-        Some(variable) => Some(variable),
+        Some(named) => Some(named),
         None => match around_in(bodies, at.body) {
             None => None,
             Some(around) => meant(scopes, bodies, left, around, name),
@@ -110,17 +130,20 @@ fn slot_in(variables: &[u32], variable: u32) -> Option<usize>
 }
 
 /// Where a variable has its cells in a body.
-fn local_in(bodies: &[BodyNames], body: u32, variable: Option<u32>) -> Local
-    ensures { result ≡ local_in (slice_get bodies.now body) variable }
+fn local_in(bodies: &[BodyNames], body: u32, named: Option<Named>) -> Local
+    ensures { result ≡ local_in (slice_get bodies.now body) named }
 {
-    let Some(variable) = variable else {
+    let Some(named) = named else {
         return Local::NotLocal;
     };
     match bodies.get(body as usize) {
         None => Local::Absent,
-        Some(names) => match slot_in(names.variables.as_slice(), variable) {
+        Some(names) => match slot_in(names.variables.as_slice(), named.variable) {
             None => Local::Absent,
-            Some(slot) => Local::At(slot),
+            Some(slot) => Local::At {
+                slot,
+                length: named.length,
+            },
         },
     }
 }
@@ -177,7 +200,7 @@ fn add_functions(walk: &mut Walk, functions: &[ResolvedFunction]) -> Result<(), 
 
 /// The names of a program, for the debugger's questions. Its only error is out of memory.
 pub fn names_of(alloc: Global, tree: &Resolved) -> Result<Names, AllocError>
-    ensures { IfOk result (λ names. found_of names ≡ tree_names (view_resolved tree.now)) }
+    ensures { IfOk result (λ names. names ≡ tree_names (view_resolved tree.now)) }
 {
     let mut walk = Walk {
         alloc,

@@ -5,7 +5,7 @@ ghost use Rattle.om_resolved.specs.ResolvedView.{view_resolved_clause, view_reso
 ghost use Rattle.om_rows.specs.Bodies.{region_variables};
 ghost use Rattle.om_rows.specs.Sizes.{clause_combined_size, clause_start_size, declarator_size, each_size, effect_size, perhaps_size, start_size, test_size, value_size};
 ghost use Rattle.om_rows.specs.Statements.{given_copies};
-ghost use Rattle.om_visible.specs.Scopes.{clause_copies, clause_region_copies, clause_region_start, copied, declared, nothing, opened_at, opening, region_copied, region_from, region_start, start_declared, task_clause, task_copied};
+ghost use Rattle.om_visible.specs.Scopes.{clause_copies, clause_region_copies, clause_region_start, copied, declared, nothing, opened_at, opened_with, opening, region_copied, region_from, region_start, start_declared, task_clause, task_copied};
 ghost use Rattle.om_visible.specs.Walks.{BeginsRegion, Closes, ClosesLast, Walked};
 
 use crate::size::{
@@ -24,6 +24,8 @@ use std::alloc::{AllocError, Global};
 pub(crate) struct Opened {
     pub(crate) name: Seq<u8>,
     pub(crate) variable: u32,
+    /// How many elements it has, where it is an array.
+    pub(crate) length: Option<u32>,
     /// The place of the first instruction in its scope.
     pub(crate) from: u32,
 }
@@ -35,6 +37,8 @@ pub(crate) struct Scope {
     pub(crate) body: u32,
     pub(crate) name: Seq<u8>,
     pub(crate) variable: u32,
+    /// How many elements it has, where it is an array.
+    pub(crate) length: Option<u32>,
     /// The place of the first instruction in it.
     pub(crate) from: u32,
     /// The place behind the last one.
@@ -71,14 +75,27 @@ pub(crate) struct Walk {
     pub(crate) bodies: Vec<BodyNames>,
 }
 
-/// Begins the scope of a variable.
+/// Begins the scope of a variable that is no array.
 pub(crate) fn open(walk: &mut Walk, variable: &LocalVariable, from: u32) -> Result<(), AllocError>
     ensures { OnOk result (Walked walk.old walk.new 0 (λ k. opening (opened_at from variable.now ∷ []))) }
+{
+    open_with(walk, None, variable, from)
+}
+
+/// Begins the scope of a variable.
+fn open_with(
+    walk: &mut Walk,
+    length: Option<u32>,
+    variable: &LocalVariable,
+    from: u32,
+) -> Result<(), AllocError>
+    ensures { OnOk result (Walked walk.old walk.new 0 (λ k. opening (opened_with length from variable.now ∷ []))) }
 {
     let name = Seq::of(Vec::from_slice(walk.alloc, variable.name.as_slice())?);
     walk.opened.push(Opened {
         name,
         variable: variable.at,
+        length,
         from,
     })?;
     Ok(())
@@ -95,6 +112,7 @@ fn close_last(walk: &mut Walk) -> Result<(), AllocError>
         body: walk.body,
         name: opened.name,
         variable: opened.variable,
+        length: opened.length,
         from: opened.from,
         to: walk.place,
     };
@@ -168,10 +186,10 @@ pub(crate) fn skip_step(
 
 /// Adds a declared variable.
 fn add_declarator(walk: &mut Walk, declarator: &ResolvedDeclarator) -> Result<(), AllocError>
-    ensures { OnOk result (Walked walk.old walk.new (declarator_size (view_resolved_declarator declarator.now)) (λ k. opening (opened_at walk.old.place declarator.now.variable ∷ []))) }
+    ensures { OnOk result (Walked walk.old walk.new (declarator_size (view_resolved_declarator declarator.now)) (λ k. opening (opened_with declarator.now.length walk.old.place declarator.now.variable ∷ []))) }
 {
     let from = walk.place;
-    open(walk, &declarator.variable, from)?;
+    open_with(walk, declarator.length, &declarator.variable, from)?;
     skip_perhaps(walk, &declarator.initial)?;
     skip(walk, 1)
 }
