@@ -1,9 +1,9 @@
 //! What the front end makes, as texts.
 
-pub mod operators;
-pub mod regions;
-pub mod tokens;
-pub mod tree;
+pub(crate) mod operators;
+pub(crate) mod regions;
+pub(crate) mod tokens;
+pub(crate) mod tree;
 
 use std::alloc::{AllocError, Global};
 

@@ -1,11 +1,11 @@
 //! Tokens, each as `LINE:START-END KIND`.
 
-use crate::front_end::refusal;
+use crate::verdicts::refusal;
 use om_lexer::{Token, TokenKind, lex};
 use std::alloc::{AllocError, Global};
 
 /// The tokens of a source, or its refusal.
-pub fn tokens_of(alloc: Global, source: &[u8]) -> Result<String, AllocError> {
+pub(crate) fn tokens_of(alloc: Global, source: &[u8]) -> Result<String, AllocError> {
     match lex(alloc, source) {
         Ok(tokens) => tokens_text(alloc, tokens.as_slice()),
         Err(fault) => refusal(alloc, fault),

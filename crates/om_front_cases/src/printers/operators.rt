@@ -2,7 +2,7 @@
 
 use om_tree::{AssignOperator, BinaryOperator, PostfixOperator, PrefixOperator};
 
-pub fn binary_mark(operator: BinaryOperator) -> &'static str {
+pub(crate) fn binary_mark(operator: BinaryOperator) -> &'static str {
     match operator {
         BinaryOperator::Or => "||",
         BinaryOperator::And => "&&",
@@ -20,7 +20,7 @@ pub fn binary_mark(operator: BinaryOperator) -> &'static str {
     }
 }
 
-pub fn assign_mark(operator: AssignOperator) -> &'static str {
+pub(crate) fn assign_mark(operator: AssignOperator) -> &'static str {
     match operator {
         AssignOperator::Set => "=",
         AssignOperator::Add => "+=",
@@ -31,7 +31,7 @@ pub fn assign_mark(operator: AssignOperator) -> &'static str {
     }
 }
 
-pub fn prefix_mark(operator: PrefixOperator) -> &'static str {
+pub(crate) fn prefix_mark(operator: PrefixOperator) -> &'static str {
     match operator {
         PrefixOperator::Plus => "+",
         PrefixOperator::Minus => "-",
@@ -41,7 +41,7 @@ pub fn prefix_mark(operator: PrefixOperator) -> &'static str {
     }
 }
 
-pub fn postfix_mark(operator: PostfixOperator) -> &'static str {
+pub(crate) fn postfix_mark(operator: PostfixOperator) -> &'static str {
     match operator {
         PostfixOperator::Increment => "++",
         PostfixOperator::Decrement => "--",

@@ -4,7 +4,7 @@ use std::alloc::{AllocError, Global};
 
 /// So many times `open`, then `middle`, then as many times `close`, with what stands before and behind all.
 #[derive(Clone, Copy)]
-pub struct Nest<'a> {
+pub(crate) struct Nest<'a> {
     pub front: &'a str,
     pub count: u32,
     pub open: &'a str,
@@ -13,17 +13,16 @@ pub struct Nest<'a> {
     pub back: &'a str,
 }
 
-/// The nest that `FRONT|COUNT|OPEN|MIDDLE|CLOSE|BACK` stands for.
-pub fn nest_of(text: &str) -> Option<Nest<'_>> {
-    let (front, rest) = text.split_once('|')?;
-    let (count, rest) = rest.split_once('|')?;
-    let (open, rest) = rest.split_once('|')?;
-    let (middle, rest) = rest.split_once('|')?;
-    let (close, back) = rest.split_once('|')?;
-    let count = count.parse().ok()?;
+/// The nest that `FRONT|COUNT|OPEN|MIDDLE|CLOSE|BACK` stands for; `None` where no count stands there.
+pub(crate) fn nest_of(text: &str) -> Option<Nest<'_>> {
+    let (front, rest) = cut(text, '|');
+    let (count, rest) = cut(rest, '|');
+    let (open, rest) = cut(rest, '|');
+    let (middle, rest) = cut(rest, '|');
+    let (close, back) = cut(rest, '|');
     Some(Nest {
         front,
-        count,
+        count: count.parse().ok()?,
         open,
         middle,
         close,
@@ -31,8 +30,13 @@ pub fn nest_of(text: &str) -> Option<Nest<'_>> {
     })
 }
 
+/// What stands before and behind a character; nothing behind, where a text does not have it.
+pub(crate) fn cut(text: &str, mark: char) -> (&str, &str) {
+    text.split_once(mark).unwrap_or((text, ""))
+}
+
 /// The source of a nest.
-pub fn source_of(alloc: Global, nest: Nest<'_>) -> Result<String, AllocError> {
+pub(crate) fn source_of(alloc: Global, nest: Nest<'_>) -> Result<String, AllocError> {
     let text = nested(alloc, nest.count, nest.open, nest.middle, nest.close)?;
     let text = text.as_str();
     let front = nest.front;
@@ -41,7 +45,7 @@ pub fn source_of(alloc: Global, nest: Nest<'_>) -> Result<String, AllocError> {
 }
 
 /// So many times `open`, then `middle`, then as many times `close`.
-pub fn nested(
+pub(crate) fn nested(
     alloc: Global,
     count: u32,
     open: &str,

@@ -6,7 +6,11 @@ use om_resolved::{
 use std::alloc::{AllocError, Global};
 
 /// The constructs of the functions of a source, the outer before the inner: `WORD( CLAUSES ) CAPTURES;`.
-pub fn regions_text(alloc: Global, source: &str, whole: &Resolved) -> Result<String, AllocError> {
+pub(crate) fn regions_text(
+    alloc: Global,
+    source: &str,
+    whole: &Resolved,
+) -> Result<String, AllocError> {
     let mut text = String::new(alloc);
     let mut waiting = Vec::new(alloc);
     for function in whole.functions.as_slice() {
@@ -48,7 +52,6 @@ fn push_parts<'a>(
         ResolvedStatement::Construct(_, _, _, body) => Ok(waiting.push(body)?),
         ResolvedStatement::Block(_, items) => push_all(waiting, items.as_slice()),
         ResolvedStatement::If(_, _, then) => Ok(waiting.push(then)?),
-        ResolvedStatement::Section(first) => Ok(waiting.push(first)?),
         _ => Ok(()),
     }
 }
@@ -96,8 +99,8 @@ fn add_construct(
     text.push_str(" )")
 }
 
-/// Adds what a clause copies: `-` stands behind a private name, `=` behind a firstprivate one and `+` behind one that is
-/// reduced.
+/// Adds what a clause copies: `-` stands behind a private name, `=` behind a firstprivate one and `+` behind
+/// one that is reduced.
 fn add_clause(
     alloc: Global,
     text: &mut String,

@@ -11,7 +11,7 @@ use om_tree::{
 use std::alloc::{AllocError, Global};
 
 /// The items of a source, and the byte where it ends.
-pub fn unit_text(alloc: Global, unit: &Unit) -> Result<String, AllocError> {
+pub(crate) fn unit_text(alloc: Global, unit: &Unit) -> Result<String, AllocError> {
     let mut text = String::new(alloc);
     for item in &unit.items {
         add_item(alloc, &mut text, item)?;
@@ -23,7 +23,7 @@ pub fn unit_text(alloc: Global, unit: &Unit) -> Result<String, AllocError> {
 }
 
 /// The statements of the last function of a source.
-pub fn body_text(alloc: Global, unit: &Unit) -> Result<String, AllocError> {
+pub(crate) fn body_text(alloc: Global, unit: &Unit) -> Result<String, AllocError> {
     let mut text = String::new(alloc);
     if let Some(Item::Function(function)) = unit.items.as_slice().last() {
         add_statements(alloc, &mut text, function.body.items.as_slice())?;
