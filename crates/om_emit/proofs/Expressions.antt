@@ -1,23 +1,23 @@
 -- The code of expressions, row by row.
-use Rattle.std.proofs.Common.{◌≡◌, ◌≤◌, ◌<◌, ℕ, ◌+◌, ℤ, pos, Bool, true, List, length, Option, Some, None, refl, sym, ap, subst, arith}
+use Rattle.std.proofs.Common.{◌≡◌, ℕ, Bool, List, length, Option, Some, None, subst, arith}
 use Rattle.om_code.specs.declared.instruction.BinaryOperator as machine
 use Rattle.om_code.specs.declared.instruction.Instr.{Instr}
 use Rattle.om_code.specs.declared.instruction.Instr.TheVariants as i
 use Rattle.om_emit.specs.declared.expression.Target.{Target}
 use Rattle.om_emit.specs.declared.single.Stepped.{Stepped}
-use Rattle.om_emit.specs.Drafts.{Labels, Written, moved, Puts, Fresh, Defines}
-use Rattle.om_emit.specs.Emits.{Finished, Part, site, Goes, Emits, EmitsEffect, EmitsRow, EmitsValue, EmitsValues}
+use Rattle.om_emit.specs.Drafts.{Written, moved, Puts}
+use Rattle.om_emit.specs.Emits.{Part, site, Emits, EmitsEffect, EmitsRow, EmitsValue, EmitsValues}
 use Rattle.om_emit.specs.Rests.{assignment, assignment_rest, binary_rest, call, element_rest, popped, postfix_rest, print, stepped_rest, unary_rest}
-use Rattle.om_emit.specs.Writing.{goes_end, goes_put, goes_part, goes_here, goes_fresh, goes_as, fresh_length, put_length, define_length}
+use Rattle.om_emit.specs.Writing.{goes_end, goes_put, goes_part, put_length}
 use Rattle.om_emit.proofs.Singles.{emits_one, emits_then, emits_as}
 use Rattle.om_resolved.specs.declared.resolved.UnaryOperator.{UnaryOperator}
 use Rattle.om_resolved.specs.declared.resolved.UnaryOperator.TheVariants as unaries
 use Rattle.om_resolved.specs.declared.resolved.Variable as variables
-use Rattle.om_resolved.specs.ResolvedTree.{ResolvedExpressionTree, Element, Call, Unary, Binary, Conditional, AssignElement, PostfixElement, ValuesTree}
+use Rattle.om_resolved.specs.ResolvedTree.{ResolvedExpressionTree, Element, Call, Unary, Binary, PostfixElement, ValuesTree}
 use Rattle.om_rows.specs.Bodies.{called_body}
-use Rattle.om_rows.specs.Expressions.{assigned, binary_row, element_assigned, unary_row, undone, value, values, value_count}
+use Rattle.om_rows.specs.Expressions.{assigned, binary_row, element_assigned, unary_row, value, values, value_count}
 use Rattle.om_rows.specs.Operators.{BinaryForm, Both, Either, Plain, form_of, compound_of}
-use Rattle.om_rows.specs.Rows.{Site, Row, end, ins, part, here, ◌▸◌}
+use Rattle.om_rows.specs.Rows.{Site, Row, end, ins, part, ◌▸◌}
 use Rattle.om_rows.specs.Slots.{place_of}
 use Rattle.om_rows.specs.Tables.{number_in}
 use Rattle.std.specs.Str.{bytes_eq}

@@ -1,5 +1,5 @@
 -- The code of expressions that jump, row by row.
-use Rattle.std.proofs.Common.{◌≡◌, ◌≤◌, ℕ, ◌+◌, pos, length, arith}
+use Rattle.std.proofs.Common.{ℕ, pos, length, arith}
 use Rattle.om_code.specs.declared.instruction.Instr.TheVariants as i
 use Rattle.om_emit.specs.Drafts.{Written, Puts, Fresh, Defines}
 use Rattle.om_emit.specs.Emits.{Part, site, EmitsRow, EmitsValue}

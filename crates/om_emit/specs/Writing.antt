@@ -1,13 +1,12 @@
 -- How a row is written from the left, an item at a time: what is written first, and what whoever goes on
 -- writes behind it.
-use Rattle.std.proofs.Common.{◌≡◌, ℕ, zero, suc, ◌+◌, ◌<◌, ◌≤◌, List, [], ◌∷◌, ◌++◌, map, length, Option, Some, None, refl, sym, ap, ◌∙◌, subst, arith, length-append}
+use Rattle.std.proofs.Common.{◌≡◌, ℕ, zero, suc, ◌+◌, ◌<◌, ◌≤◌, List, [], ◌∷◌, ◌++◌, length, Some, None, refl, ap, ◌∙◌, subst, arith, length-append}
 use Rattle.std.specs.Prelude.{slice_get, slice_set}
 use Rattle.std.proofs.lemmas.Option.{slice_get_within}
 use Rattle.om_code.specs.declared.instruction.Instr.{Instr}
-use Rattle.om_code.specs.declared.raw.Line.{Line}
-use Rattle.om_emit.specs.Drafts.{Labels, Written, moved, settled, Puts, Fresh, Defines}
+use Rattle.om_emit.specs.Drafts.{Labels, Written, moved, Puts, Fresh, Defines}
 use Rattle.om_emit.specs.declared.draft.Pick.{Pick}
-use Rattle.om_emit.specs.Emits.{Finished, Part, site, Fits, Grows, Writes, Keeps, Goes, Emits}
+use Rattle.om_emit.specs.Emits.{Finished, Part, site, Fits, Grows, Keeps, Goes, Emits}
 use Rattle.om_tables.specs.Names.{Names}
 use Rattle.om_rows.specs.Rows.{end, ins, part, here}
 

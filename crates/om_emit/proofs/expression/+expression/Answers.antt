@@ -1,8 +1,7 @@
-use Rattle.std.proofs.Common.{◌≡◌, ◌≤◌, ◌<◌, ◌+◌, ℕ, get_or, length, map, drop, rules, refl, ap, sym, ◌∙◌, subst, arith, true}
+use Rattle.std.proofs.Common.{◌≡◌, ◌≤◌, get_or, rules, ap, sym, ◌∙◌, arith, true}
 use denote.Param.Weighed.{at_most, most}
 use Rattle.std.proofs.lemmas.Result.{on_ok_weaker}
 use Rattle.om_code.specs.declared.instruction.Instr.TheVariants as i
-use Rattle.om_emit.specs.declared.expression.Target.{Target}
 use Rattle.om_emit.specs.Forms.{form}
 use Rattle.om_emit.specs.Writing.{fresh_length, free_new, free_fresh, free_put, free_part, free_define}
 use Rattle.om_emit.proofs.Arguments.{listed, counted, has_code, emits_next}
@@ -13,7 +12,6 @@ use Rattle.om_emit.proofs.Views.{view_constant, view_variable, view_thread_numbe
 use Rattle.om_resolved.specs.ResolvedTree as trees
 use Rattle.om_resolved.specs.ResolvedView.{view_resolved_expression}
 use Rattle.om_resolved.proofs.resolved.ResolvedExpression.TheLaws.{the_size}
-use Rattle.om_rows.specs.Coded.{ValueHasCode}
 use Rattle.om_rows.specs.Expressions.{value}
 use Rattle.om_rows.specs.Operators.{Both, Either, Plain, form_of, compound_of}
 use Rattle.om_rows.specs.Slots.{place_of}

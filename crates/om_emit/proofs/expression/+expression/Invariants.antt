@@ -1,4 +1,4 @@
-use Rattle.std.proofs.Common.{ℕ, ◌≤◌, length, drop}
+use Rattle.std.proofs.Common.{◌≤◌, length, drop}
 use Rattle.om_emit.specs.Drafts.{Written}
 use Rattle.om_emit.specs.Emits.{Goes, site}
 use Rattle.om_emit.proofs.Arguments.{listed}

@@ -1,4 +1,4 @@
-use Rattle.std.proofs.Common.{◌≡◌, pos, Some, false, ap, sym, ◌∙◌}
+use Rattle.std.proofs.Common.{pos, Some, false, ap, sym, ◌∙◌}
 use Rattle.std.proofs.lemmas.Result.{on_ok_weaker}
 use Rattle.om_emit.proofs.Arguments.{listed}
 use Rattle.om_emit.proofs.Expressions.{effect_is, emits_dropped_call, emits_element_assigned, stepped_is, target_is}
