@@ -30,7 +30,7 @@ emits_two names l x y a b c h j =
 pub goes_less : (n m : ℕ) (r : Part) (a c : Written) → n ≤ m → Goes m r a c → Goes n r a c
 goes_less n m r a c le g = record {
   writes = g.writes;
-  keeps = record { more = g.keeps.more; same = λ l lt. g.keeps.same l (omega arith) };
+  keeps = record { picks = g.keeps.picks; more = g.keeps.more; same = λ l lt. g.keeps.same l (omega arith) };
 }
 
 pub emits_then : (r s : Part) (a b c : Written) → Emits r a b → Emits s b c → Emits (λ done at. part (r done at) (s done at)) a c

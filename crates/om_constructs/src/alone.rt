@@ -11,7 +11,7 @@ use crate::barrier::barrier;
 use crate::operator::{side_of, update_of};
 use om_code::instruction::{Barrier, Instr};
 use om_emit::draft::Draft;
-use om_emit::expression::{effect, value};
+use om_emit::{effect, value};
 use om_resolved::{ResolvedStatement, ResolvedUpdate, StandAlone};
 use om_tables::Scope;
 use std::alloc::AllocError;

@@ -13,7 +13,7 @@ use crate::barrier::worksharing_end;
 use crate::clause::{clause_value, starts};
 use om_code::instruction::Instr;
 use om_emit::draft::Draft;
-use om_emit::expression::value;
+use om_emit::value;
 use om_resolved::{ConstructKind, ResolvedClause};
 use om_tables::Scope;
 use std::alloc::AllocError;

@@ -12,7 +12,7 @@ ghost use Rattle.om_tables.specs.Scopes.{names_of};
 
 use om_code::instruction::Instr;
 use om_emit::draft::Draft;
-use om_emit::expression::{effect, value};
+use om_emit::{effect, value};
 use om_resolved::{ResolvedDeclarator, ResolvedExpression, ResolvedStart, Variable};
 use om_tables::Scope;
 use std::alloc::AllocError;

@@ -14,7 +14,7 @@ ghost use Rattle.om_tables.specs.Scopes.{names_of};
 use crate::clause::clause_value;
 use om_code::instruction::Instr;
 use om_emit::draft::Draft;
-use om_emit::expression::value;
+use om_emit::value;
 use om_resolved::ResolvedClause;
 use om_tables::{FirstCopy, Scope};
 use std::alloc::AllocError;

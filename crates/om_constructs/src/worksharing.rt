@@ -12,7 +12,7 @@ use crate::labels::LoopLabels;
 use crate::operator::{comparison_of, form_with};
 use om_code::instruction::Instr;
 use om_emit::draft::Draft;
-use om_emit::expression::value;
+use om_emit::value;
 use om_resolved::{ResolvedClause, ResolvedLoop};
 use om_tables::Scope;
 use std::alloc::AllocError;

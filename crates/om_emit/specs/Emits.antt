@@ -1,4 +1,5 @@
--- What is promised of code that is written: whatever finished program agrees with it, the row of the part stands there.
+-- What is promised of code that is written: whatever finished program agrees with it, the row of the part
+-- stands there.
 use Rattle.std.specs.Prelude.{◌≡◌, ◌<◌, ◌≤◌, ℕ, List, Some, length, map, slice_get}
 use Rattle.om_code.specs.declared.raw.Line.{Line}
 use Rattle.om_resolved.specs.ResolvedTree.{ResolvedExpressionTree, ValuesTree}
@@ -25,11 +26,14 @@ Part = Finished → Labels → Row
 
 -- ---- what was written
 
--- what is finished agrees with what was written from this place on, and with each place of a label that is known
+-- what is finished agrees with what was written from this place on, and with each place of a label that is
+-- known
 pub record Fits (done : Finished) (at : Labels) (p : ℕ) (d : Written) : Type 0 where
-  pub code : (k : ℕ) (x : Line) → p ≤ k → slice_get d.code k ≡ Some x → slice_get done.code k ≡ Some (settled at x)
+  pub code : (k : ℕ) (x : Line) → p ≤ k → slice_get d.code k ≡ Some x
+      → slice_get done.code k ≡ Some (settled at x)
   pub places : (l x : ℕ) → slice_get d.places l ≡ Some (Some x) → at l ≡ x
-  pub picks : (k : ℕ) (x : Pick) → slice_get d.picks k ≡ Some x → slice_get done.picks x.number ≡ Some (map at x.labels)
+  pub picks : (k : ℕ) (x : Pick) → slice_get d.picks k ≡ Some x
+      → slice_get done.picks x.number ≡ Some (map at x.labels)
 
 -- what was written stands, and labels keep a place that is known
 pub record Grows (old new : Written) : Type 0 where
@@ -41,10 +45,12 @@ pub record Grows (old new : Written) : Type 0 where
 -- a row is written behind what was
 pub record Writes (r : Part) (old new : Written) : Type 0 where
   pub grows : Grows old new
-  pub stands : (done : Finished) (at : Labels) → Fits done at (length old.code) new → r done at (length old.code) (length new.code)
+  pub stands : (done : Finished) (at : Labels) → Fits done at (length old.code) new
+      → r done at (length old.code) (length new.code)
 
--- the labels below this number stay as they are
+-- the labels below this number stay as they are, and so do the lists of PICKs
 pub record Keeps (n : ℕ) (old new : Written) : Type 0 where
+  pub picks : new.picks ≡ old.picks
   pub more : length old.places ≤ length new.places
   pub same : (l : ℕ) → l < n → slice_get new.places l ≡ slice_get old.places l
 
@@ -57,13 +63,17 @@ pub record Goes (n : ℕ) (r : Part) (old new : Written) : Type 0 where
 abbrev pub Emits : Part → Written → Written → Type 0
 Emits r old new = Goes (length old.places) r old new
 
--- ---- the parts of expressions
+-- a row that names no label from before it
+abbrev pub EmitsRow : Names → (Site → Row) → Written → Written → Type 0
+EmitsRow names row = Emits (λ done at. row (site names done))
+
+-- ---- expressions
 
 abbrev pub EmitsValue : Names → ℕ → ResolvedExpressionTree → Written → Written → Type 0
-EmitsValue names l e = Emits (λ done at. value (site names done) l e)
+EmitsValue names l e = EmitsRow names (λ at. value at l e)
 
 abbrev pub EmitsValues : Names → ℕ → ValuesTree → Written → Written → Type 0
-EmitsValues names l es = Emits (λ done at. values (site names done) l es)
+EmitsValues names l es = EmitsRow names (λ at. values at l es)
 
 abbrev pub EmitsEffect : Names → ℕ → ResolvedExpressionTree → Written → Written → Type 0
-EmitsEffect names l e = Emits (λ done at. effect (site names done) l e)
+EmitsEffect names l e = EmitsRow names (λ at. effect at l e)

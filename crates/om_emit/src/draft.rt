@@ -1,6 +1,6 @@
 //! Code that is being written, with labels in place of the targets of jumps.
 
-ghost use Rattle.std.specs.Prelude.{◌≡◌, IfOk, OnOk, None, Some, length, slice_get};
+ghost use Rattle.std.specs.Prelude.{◌≡◌, IfOk, OnOk, None, Some, slice_get};
 ghost use Rattle.om_emit.specs.Drafts.{Defines, Fresh, Lists, Puts, moved, nothing, place_in, settled, settled_code};
 
 use om_code::instruction::Instr;
@@ -100,13 +100,6 @@ impl Draft {
             code.push(settled(places, *line))?;
         }
         Ok(Seq::of(code))
-    }
-
-    /// How many lists of PICKs there are.
-    pub fn pick_count(&self) -> usize
-        ensures { result ≡ length self.now.picks }
-    {
-        self.picks.len()
     }
 }
 

@@ -5,4 +5,10 @@
 #![tactic(auto)]
 
 pub mod draft;
-pub mod expression;
+mod expression;
+mod operator;
+mod single;
+mod unused;
+
+pub use expression::{value, values};
+pub use unused::effect;

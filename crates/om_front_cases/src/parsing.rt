@@ -1,5 +1,9 @@
 //! What the parser is asked.
 
+ghost use Rattle.std.specs.Prelude.{IfOk};
+ghost use Rattle.om_tree.specs.Formed.{IsUnit};
+ghost use Rattle.om_tree.specs.View.{view_unit};
+
 use crate::nest::{Nest, nest_of, nested, source_of};
 use crate::printers::tree::{body_text, unit_text};
 use crate::verdicts::{refusal, refusal_behind, unknown, verdict};
@@ -34,8 +38,10 @@ fn other_answer(alloc: Global, question: &str, source: &str) -> Result<String, A
     }
 }
 
-/// The tree of a source.
-pub(crate) fn parsed(alloc: Global, source: &str) -> Result<Unit, SourceFault> {
+/// The tree of a source, which is well-formed.
+pub(crate) fn parsed(alloc: Global, source: &str) -> Result<Unit, SourceFault>
+    ensures { IfOk result (λ unit. IsUnit (view_unit unit)) }
+{
     let tokens = lex(alloc, source.as_bytes())?;
     parse(alloc, tokens.as_slice())
 }

@@ -20,24 +20,31 @@ run_byte (first ∷ run) byte (Bytes bytes ∷ rest) =
 run_byte (first ∷ run) byte (Value ∷ rest) = refl
 
 -- a value ends the bytes before it
-pub run_value : (run : List ℕ) (rest : List texts.Piece) → with_run run (pieces.Value ∷ rest) ≡ with_run run [] ++ pieces.Value ∷ rest
+pub run_value : (run : List ℕ) (rest : List texts.Piece)
+    → with_run run (pieces.Value ∷ rest) ≡ with_run run [] ++ pieces.Value ∷ rest
 run_value [] rest = refl
 run_value (first ∷ run) rest = refl
 
-on_option : {A B C : Type 0} (f : A → C) (g : B → C) (h : A → B) (x : Option A) → ((a : A) → g (h a) ≡ f a) → option_map g (option_map h x) ≡ option_map f x
+on_option : {A B C : Type 0} (f : A → C) (g : B → C) (h : A → B) (x : Option A) → ((a : A) → g (h a) ≡ f a)
+    → option_map g (option_map h x) ≡ option_map f x
 on_option f g h None same = refl
 on_option f g h (Some a) same = ap (λ c. Some c) (same a)
 
 -- what a byte behind a `%` comes to
-pub value_or : (old new : Cut) (is : Bool) (some other : Option (List Piece)) → is ≡ true → ((rest : List Piece) → behind_cut new rest ≡ behind_cut old (Value ∷ rest))
-    → option_map (behind_cut old) (if is then option_map (λ pieces. Value ∷ pieces) some else other) ≡ option_map (behind_cut new) some
-value_or old new true some other is same = on_option (behind_cut new) (behind_cut old) (λ pieces. Value ∷ pieces) some (λ rest. sym (same rest))
+pub value_or : (old new : Cut) (is : Bool) (some other : Option (List Piece)) → is ≡ true
+    → ((rest : List Piece) → behind_cut new rest ≡ behind_cut old (Value ∷ rest))
+    → option_map (behind_cut old) (if is then option_map (λ pieces. Value ∷ pieces) some else other)
+    ≡ option_map (behind_cut new) some
+value_or old new true some other is same =
+    on_option (behind_cut new) (behind_cut old) (λ pieces. Value ∷ pieces) some (λ rest. sym (same rest))
 value_or old new false some other is same = cc
 
 pub byte_or : (old new : Cut) (byte : ℕ) (is : Bool) (some other : Option (List Piece)) → is ≡ true
     → ((rest : List Piece) → behind_cut new rest ≡ behind_cut old (with_byte byte rest))
-    → option_map (behind_cut old) (if is then option_map (with_byte byte) some else other) ≡ option_map (behind_cut new) some
-byte_or old new byte true some other is same = on_option (behind_cut new) (behind_cut old) (with_byte byte) some (λ rest. sym (same rest))
+    → option_map (behind_cut old) (if is then option_map (with_byte byte) some else other) ≡ option_map
+    (behind_cut new) some
+byte_or old new byte true some other is same =
+    on_option (behind_cut new) (behind_cut old) (with_byte byte) some (λ rest. sym (same rest))
 byte_or old new byte false some other is same = cc
 
 pub not_this : {A : Type 0} (is : Bool) (some other : A) → is ≡ false → (if is then some else other) ≡ other
@@ -53,7 +60,10 @@ unfolding pieces_of
 at_end cut = refl
 
 -- all of a format is cut
-pub cut_whole : (old cut new : Cut) (format left : List ℕ) → cut_behind cut left ≡ cut_behind old format → length left ≡ 0
-    → new.pieces.items ≡ cut.pieces.items ++ with_run cut.run.items [] → cut_behind old format ≡ Some new.pieces.items
+pub cut_whole : (old cut new : Cut) (format left : List ℕ) → cut_behind cut left ≡ cut_behind old format
+    → length left ≡ 0
+    → new.pieces.items ≡ cut.pieces.items ++ with_run cut.run.items []
+    → cut_behind old format ≡ Some new.pieces.items
 cut_whole old cut new format left same none flushed =
-    sym same ∙ ap (λ rest. cut_behind cut rest) (nothing_left left none) ∙ at_end cut ∙ ap (λ pieces. Some pieces) (sym flushed)
+    sym same ∙ ap (λ rest. cut_behind cut rest) (nothing_left left none) ∙ at_end cut
+    ∙ ap (λ pieces. Some pieces) (sym flushed)

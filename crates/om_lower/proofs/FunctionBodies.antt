@@ -1,5 +1,5 @@
 -- The bodies of functions, function by function.
-use Rattle.std.proofs.Common.{◌≡◌, ◌<◌, ◌≤◌, ◌⊎◌, inl, inr, ℕ, zero, suc, ◌+◌, Bool, true, false, List, [], ◌∷◌, ◌++◌, Option, None, Some, All, Any, length, take, drop, slice_get, slice_index_or, refl, sym, ap, subst, ◌∙◌, arith}
+use Rattle.std.proofs.Common.{◌≡◌, ◌<◌, ℕ, zero, suc, List, [], ◌∷◌, ◌++◌, None, Some, All, Any, length, take, slice_get, slice_index_or, refl, sym, ap, subst, arith}
 use Rattle.std.proofs.lemmas.List.Elements.{All-nil, All-cons, All-head, All-tail, All-append}
 use Rattle.std.specs.List.{AllZip, flat_map}
 use Rattle.om_code.specs.declared.raw.Body.{Body}
@@ -21,7 +21,8 @@ all_behind P (x ∷ xs) ys all = all_behind P xs ys (All-tail P x (xs ++ ys) all
 
 pub all_front : {A : Type 0} (P : A → Type 0) (xs ys : List A) → All P (xs ++ ys) → All P xs
 all_front P [] ys all = All-nil P
-all_front P (x ∷ xs) ys all = All-cons P x xs (All-head P x (xs ++ ys) all) (all_front P xs ys (All-tail P x (xs ++ ys) all))
+all_front P (x ∷ xs) ys all =
+    All-cons P x xs (All-head P x (xs ++ ys) all) (all_front P xs ys (All-tail P x (xs ++ ys) all))
 
 any_here : {A : Type 0} (P : A → Type 0) (x : A) (xs : List A) → P x → Any P (x ∷ xs)
 any_here P x xs p = (0, x, omega arith, refl, p)
@@ -31,63 +32,91 @@ any_behind P x xs any = (suc any.0, any.1, let lt = any.2 in omega (arith, lt), 
 
 -- ---- one function more
 
-pub next_numbers : (n : Numbers) (fs : List ResolvedFunctionTree) (k : ℕ) (f : ResolvedFunctionTree) → slice_get fs k ≡ Some f
+pub next_numbers : (n : Numbers) (fs : List ResolvedFunctionTree) (k : ℕ) (f : ResolvedFunctionTree)
+    → slice_get fs k ≡ Some f
     → behind_functions n (take (suc k) fs) ≡ behind_function (behind_functions n (take k fs)) f
 next_numbers n [] k f at = cc
 next_numbers n (g ∷ fs) zero f at = ap (λ h. behind_function n h) (some_same g f at)
 next_numbers n (g ∷ fs) (suc k) f at = next_numbers (behind_function n g) fs k f at
 
-pub pushed : (tree : ResolvedTree) (n : Numbers) (fs : List ResolvedFunctionTree) (lists : List (List Body)) (f : ResolvedFunctionTree) (bodies : List Body)
+pub pushed : (tree : ResolvedTree) (n : Numbers) (fs : List ResolvedFunctionTree) (lists : List (List Body))
+    (f : ResolvedFunctionTree) (bodies : List Body)
     → AreFunctions tree [] n fs lists → slice_get fs (length lists) ≡ Some f
-    → AreMade tree [] (function_bodies (behind_functions n (take (length lists) fs)) f) bodies → AreFunctions tree [] n fs (lists ++ bodies ∷ [])
+    → AreMade tree [] (function_bodies (behind_functions n (take (length lists) fs)) f) bodies
+    → AreFunctions tree [] n fs (lists ++ bodies ∷ [])
 pushed tree n [] lists f bodies made at more = cc
-pushed tree n (g ∷ fs) [] f bodies made at more = (subst (λ h. AreMade tree [] (function_bodies n h) bodies) (sym (some_same g f at)) more, tt)
-pushed tree n (g ∷ fs) (first ∷ lists) f bodies made at more = (made.0, pushed tree (behind_function n g) fs lists f bodies made.1 at more)
+pushed tree n (g ∷ fs) [] f bodies made at more =
+    (subst (λ h. AreMade tree [] (function_bodies n h) bodies) (sym (some_same g f at)) more, tt)
+pushed tree n (g ∷ fs) (first ∷ lists) f bodies made at more =
+    (made.0, pushed tree (behind_function n g) fs lists f bodies made.1 at more)
 
-pub function_holds : (P : BodySite → Type 0) (n : Numbers) (fs : List ResolvedFunctionTree) (k : ℕ) (f : ResolvedFunctionTree)
-    → All P (bodies_from n fs) → slice_get fs k ≡ Some f → P (function_site (behind_functions n (take k fs)) f)
+pub function_holds : (P : BodySite → Type 0) (n : Numbers) (fs : List ResolvedFunctionTree) (k : ℕ)
+    (f : ResolvedFunctionTree)
+    → All P (bodies_from n fs) → slice_get fs k ≡ Some f
+    → P (function_site (behind_functions n (take k fs)) f)
 function_holds P n [] k f all at = cc
-function_holds P n (g ∷ fs) zero f all at = subst (λ h. P (function_site n h)) (some_same g f at) (All-head P _ _ all)
+function_holds P n (g ∷ fs) zero f all at =
+    subst (λ h. P (function_site n h)) (some_same g f at) (All-head P _ _ all)
 function_holds P n (g ∷ fs) (suc k) f all at =
-    function_holds P (behind_function n g) fs k f (all_behind P (function_bodies n g) (bodies_from (behind_function n g) fs) all) at
+    function_holds P (behind_function n g) fs k f
+    (all_behind P (function_bodies n g) (bodies_from (behind_function n g) fs) all) at
 
-pub function_serial : (fs : List ResolvedFunctionTree) (k : ℕ) (f : ResolvedFunctionTree) → function_directive fs ≡ None → slice_get fs k ≡ Some f
+pub function_serial : (fs : List ResolvedFunctionTree) (k : ℕ) (f : ResolvedFunctionTree)
+    → function_directive fs ≡ None → slice_get fs k ≡ Some f
     → directive_among f.body ≡ None
 function_serial [] k f none at = cc
 function_serial (g ∷ fs) zero f none at =
-    subst (λ h. directive_among h.body ≡ None) (some_same g f at) (or_first (directive_among g.body) (function_directive fs) none)
-function_serial (g ∷ fs) (suc k) f none at = function_serial fs k f (or_second (directive_among g.body) (function_directive fs) none) at
+    subst (λ h. directive_among h.body ≡ None) (some_same g f at)
+    (or_first (directive_among g.body) (function_directive fs) none)
+function_serial (g ∷ fs) (suc k) f none at =
+    function_serial fs k f (or_second (directive_among g.body) (function_directive fs) none) at
 
 -- ---- what holds of them
 
-pub within_made : (tree : ResolvedTree) (sites : List BodySite) (bodies : List Body) → AreMade tree [] sites bodies → AreLow [] bodies → All (λ b. IsWithin tree b) sites
+pub within_made : (tree : ResolvedTree) (sites : List BodySite) (bodies : List Body)
+    → AreMade tree [] sites bodies → AreLow [] bodies → All (λ b. IsWithin tree b) sites
 within_made tree [] [] made low = All-nil (λ b. IsWithin tree b)
 within_made tree [] (body ∷ bodies) made low = absurd made
 within_made tree (b ∷ sites) [] made low = absurd made
 within_made tree (b ∷ sites) (body ∷ bodies) made low =
     let one = made.0 in
     All-cons (λ b. IsWithin tree b) b sites
-    (record { room = one.room; picks = []; code = body.code; is_code = one.code []; short = one.short; low = All-head (λ x. IsLow [] x.code) body bodies low })
+    (record {
+      room = one.room;
+      picks = [];
+      code = body.code;
+      is_code = one.code [];
+      short = one.short;
+      low = All-head (λ x. IsLow [] x.code) body bodies low;
+    })
     (within_made tree sites bodies made.1 (All-tail (λ x. IsLow [] x.code) body bodies low))
 
-pub within_functions : (tree : ResolvedTree) (n : Numbers) (fs : List ResolvedFunctionTree) (lists : List (List Body)) → AreFunctions tree [] n fs lists
-    → All (λ bodies. AreLow [] bodies) lists → All (λ b. IsWithin tree b) (bodies_from n (take (length lists) fs))
+pub within_functions : (tree : ResolvedTree) (n : Numbers) (fs : List ResolvedFunctionTree)
+    (lists : List (List Body)) → AreFunctions tree [] n fs lists
+    → All (λ bodies. AreLow [] bodies) lists
+    → All (λ b. IsWithin tree b) (bodies_from n (take (length lists) fs))
 within_functions tree n fs [] made low = All-nil (λ b. IsWithin tree b)
 within_functions tree n [] (bodies ∷ lists) made low = absurd made
 within_functions tree n (f ∷ fs) (bodies ∷ lists) made low =
-    All-append (λ b. IsWithin tree b) (function_bodies n f) (bodies_from (behind_function n f) (take (length lists) fs))
-    (within_made tree (function_bodies n f) bodies made.0 (All-head (λ bodies. AreLow [] bodies) bodies lists low))
-    (within_functions tree (behind_function n f) fs lists made.1 (All-tail (λ bodies. AreLow [] bodies) bodies lists low))
+    All-append (λ b. IsWithin tree b) (function_bodies n f)
+    (bodies_from (behind_function n f) (take (length lists) fs))
+    (within_made tree (function_bodies n f) bodies made.0
+    (All-head (λ bodies. AreLow [] bodies) bodies lists low))
+    (within_functions tree (behind_function n f) fs lists made.1
+    (All-tail (λ bodies. AreLow [] bodies) bodies lists low))
 
-pub first_functions : (tree : ResolvedTree) (n : Numbers) (fs : List ResolvedFunctionTree) (lists : List (List Body)) (k : ℕ) → AreFunctions tree [] n fs lists
+pub first_functions : (tree : ResolvedTree) (n : Numbers) (fs : List ResolvedFunctionTree)
+    (lists : List (List Body)) (k : ℕ) → AreFunctions tree [] n fs lists
     → AreFunctions tree [] n fs (take k lists)
 first_functions tree n fs [] zero made = tt
 first_functions tree n fs [] (suc k) made = tt
 first_functions tree n fs (bodies ∷ lists) zero made = tt
 first_functions tree n [] (bodies ∷ lists) (suc k) made = absurd made
-first_functions tree n (f ∷ fs) (bodies ∷ lists) (suc k) made = (made.0, first_functions tree (behind_function n f) fs lists k made.1)
+first_functions tree n (f ∷ fs) (bodies ∷ lists) (suc k) made =
+    (made.0, first_functions tree (behind_function n f) fs lists k made.1)
 
-pub made_at : (tree : ResolvedTree) (n : Numbers) (fs : List ResolvedFunctionTree) (lists : List (List Body)) (k : ℕ) (f : ResolvedFunctionTree) (bodies : List Body)
+pub made_at : (tree : ResolvedTree) (n : Numbers) (fs : List ResolvedFunctionTree) (lists : List (List Body))
+    (k : ℕ) (f : ResolvedFunctionTree) (bodies : List Body)
     → AreFunctions tree [] n fs lists → slice_get lists k ≡ Some bodies → slice_get fs k ≡ Some f
     → AreMade tree [] (function_bodies (behind_functions n (take k fs)) f) bodies
 made_at tree n fs [] k f bodies made there at = cc
@@ -95,34 +124,45 @@ made_at tree n [] (first ∷ lists) k f bodies made there at = absurd made
 made_at tree n (g ∷ fs) (first ∷ lists) zero f bodies made there at =
     subst (λ h. AreMade tree [] (function_bodies n h) bodies) (some_same g f at)
     (subst (λ all. AreMade tree [] (function_bodies n g) all) (some_same first bodies there) made.0)
-made_at tree n (g ∷ fs) (first ∷ lists) (suc k) f bodies made there at = made_at tree (behind_function n g) fs lists k f bodies made.1 there at
+made_at tree n (g ∷ fs) (first ∷ lists) (suc k) f bodies made there at =
+    made_at tree (behind_function n g) fs lists k f bodies made.1 there at
 
-over_at : (tree : ResolvedTree) (sites : List BodySite) (bodies : List Body) (k : ℕ) (body : Body) → AreMade tree [] sites bodies
-    → k < length bodies → slice_index_or bodies k body ≡ body → ¬ (IsLow [] body.code) → Any (λ b. IsOver tree b) sites
+over_at : (tree : ResolvedTree) (sites : List BodySite) (bodies : List Body) (k : ℕ) (body : Body)
+    → AreMade tree [] sites bodies
+    → k < length bodies → slice_index_or bodies k body ≡ body → ¬ (IsLow [] body.code)
+    → Any (λ b. IsOver tree b) sites
 over_at tree sites [] k body made lt at high_code = let none : ⊥ = omega (arith, lt) in absurd none
 over_at tree [] (first ∷ bodies) k body made lt at high_code = absurd made
 over_at tree (b ∷ sites) (first ∷ bodies) zero body made lt at high_code =
     let one = made.0 in
-    any_here (λ b. IsOver tree b) b sites (high [] first.code (one.code []) (subst (λ x. ¬ (IsLow [] x.code)) (sym at) high_code))
+    any_here (λ b. IsOver tree b) b sites
+    (high [] first.code (one.code []) (subst (λ x. ¬ (IsLow [] x.code)) (sym at) high_code))
 over_at tree (b ∷ sites) (first ∷ bodies) (suc k) body made lt at high_code =
-    any_behind (λ b. IsOver tree b) b sites (over_at tree sites bodies k body made.1 (let below : k < length bodies = omega (arith, lt) in below) at high_code)
+    any_behind (λ b. IsOver tree b) b sites
+    (over_at tree sites bodies k body made.1
+    (let below : k < length bodies = omega (arith, lt) in below) at high_code)
 
-pub over_high : (tree : ResolvedTree) (sites : List BodySite) (bodies : List Body) → AreMade tree [] sites bodies → IsHigh [] bodies → Any (λ b. IsOver tree b) sites
+pub over_high : (tree : ResolvedTree) (sites : List BodySite) (bodies : List Body)
+    → AreMade tree [] sites bodies → IsHigh [] bodies → Any (λ b. IsOver tree b) sites
 over_high tree sites bodies made any = over_at tree sites bodies any.0 any.1 made any.2 any.3 any.4
 
 -- ---- side by side
 
-zip_append : {A B : Type 0} (R : A → B → Type 0) (xs ys : List A) (us vs : List B) → AllZip R xs us → AllZip R ys vs → AllZip R (xs ++ ys) (us ++ vs)
+zip_append : {A B : Type 0} (R : A → B → Type 0) (xs ys : List A) (us vs : List B) → AllZip R xs us
+    → AllZip R ys vs → AllZip R (xs ++ ys) (us ++ vs)
 zip_append R [] ys [] vs one other = other
 zip_append R [] ys (u ∷ us) vs one other = absurd one
 zip_append R (x ∷ xs) ys [] vs one other = absurd one
 zip_append R (x ∷ xs) ys (u ∷ us) vs one other = (one.0, zip_append R xs ys us vs one.1 other)
 
-pub side_by_side : (tree : ResolvedTree) (n : Numbers) (fs : List ResolvedFunctionTree) (lists : List (List Body)) → AreFunctions tree [] n fs lists
+pub side_by_side : (tree : ResolvedTree) (n : Numbers) (fs : List ResolvedFunctionTree)
+    (lists : List (List Body)) → AreFunctions tree [] n fs lists
     → length lists ≡ length fs → AreMade tree [] (bodies_from n fs) (flat_map (λ bodies. bodies) lists)
 side_by_side tree n [] [] made long = tt
 side_by_side tree n [] (bodies ∷ lists) made long = absurd made
 side_by_side tree n (f ∷ fs) [] made long = cc
 side_by_side tree n (f ∷ fs) (bodies ∷ lists) made long =
-    zip_append (λ b body. IsMade tree [] b body) (function_bodies n f) (bodies_from (behind_function n f) fs) bodies (flat_map (λ bodies. bodies) lists)
-    made.0 (side_by_side tree (behind_function n f) fs lists made.1 (let shorter : length lists ≡ length fs = omega (arith, long) in shorter))
+    zip_append (λ b body. IsMade tree [] b body) (function_bodies n f)
+    (bodies_from (behind_function n f) fs) bodies (flat_map (λ bodies. bodies) lists)
+    made.0 (side_by_side tree (behind_function n f) fs lists made.1
+    (let shorter : length lists ≡ length fs = omega (arith, long) in shorter))

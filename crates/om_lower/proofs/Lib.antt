@@ -2,6 +2,7 @@ pub mod Searches
 pub mod Cutting
 pub mod SlotTables
 pub mod Serial
+pub mod Bodies
 pub mod Items
 pub mod High
 pub mod Coding

@@ -1,7 +1,6 @@
 -- Which function is named where a limit is passed.
-use Rattle.std.proofs.Common.{◌≡◌, ◌<◌, ◌≤◌, ◌⊎◌, inl, inr, ℕ, zero, suc, Bool, true, false, List, [], ◌∷◌, ◌++◌, Option, None, Some, All, Any, length, take, drop, slice_get, refl, sym, ap, subst, ◌∙◌, arith}
+use Rattle.std.proofs.Common.{◌≡◌, ◌<◌, ◌≤◌, inl, inr, ℕ, zero, suc, Bool, true, false, List, [], ◌∷◌, ◌++◌, Some, All, Any, length, take, drop, slice_get, refl, sym, ap, subst, ◌∙◌, arith}
 use Rattle.om_code.specs.declared.raw.Body.{Body}
-use Rattle.om_lexer.specs.declared.fault.SourceFault.{SourceFault}
 use Rattle.om_lower.specs.Heights.{AreLow, IsFirst}
 use Rattle.om_lower.specs.Limits.{IsOver, IsTooMany, IsWithin}
 use Rattle.om_lower.specs.Made.{AreFunctions, IsLowered, IsOverAt, StopsUnless}
@@ -10,7 +9,8 @@ use Rattle.om_lower.proofs.FunctionBodies.{first_functions, made_at, over_high, 
 use Rattle.om_resolved.specs.ResolvedTree.{ResolvedFunctionTree, ResolvedTree}
 use Rattle.om_rows.specs.Bodies.{Numbers, behind_function, behind_functions, bodies_from, first_numbers, function_bodies}
 
-parted : {A : Type 0} (xs : List A) (k : ℕ) (x : A) → slice_get xs k ≡ Some x → xs ≡ take k xs ++ x ∷ drop (suc k) xs
+parted : {A : Type 0} (xs : List A) (k : ℕ) (x : A) → slice_get xs k ≡ Some x
+    → xs ≡ take k xs ++ x ∷ drop (suc k) xs
 parted [] k x at = cc
 parted (y ∷ xs) zero x at = let same : y ≡ x = cc in ap (λ z. z ∷ xs) same
 parted (y ∷ xs) (suc k) x at = ap (λ all. y ∷ all) (parted xs k x at)
@@ -19,16 +19,21 @@ taken_long : {A : Type 0} (xs : List A) (k : ℕ) → k < length xs → length (
 taken_long [] zero lt = refl
 taken_long [] (suc k) lt = let none : ⊥ = omega (arith, lt) in absurd none
 taken_long (x ∷ xs) zero lt = refl
-taken_long (x ∷ xs) (suc k) lt = ap suc (taken_long xs k (let below : k < length xs = omega (arith, lt) in below))
+taken_long (x ∷ xs) (suc k) lt =
+    ap suc (taken_long xs k (let below : k < length xs = omega (arith, lt) in below))
 
-pub functions_long : (tree : ResolvedTree) (n : Numbers) (fs : List ResolvedFunctionTree) (lists : List (List Body)) → AreFunctions tree [] n fs lists → length lists ≤ length fs
+pub functions_long : (tree : ResolvedTree) (n : Numbers) (fs : List ResolvedFunctionTree)
+    (lists : List (List Body)) → AreFunctions tree [] n fs lists → length lists ≤ length fs
 functions_long tree n fs [] made = omega arith
 functions_long tree n [] (bodies ∷ lists) made = absurd made
-functions_long tree n (f ∷ fs) (bodies ∷ lists) made = let rest = functions_long tree (behind_function n f) fs lists made.1 in omega (arith, rest)
+functions_long tree n (f ∷ fs) (bodies ∷ lists) made = let rest =
+    functions_long tree (behind_function n f) fs lists made.1 in omega (arith, rest)
 
-named : (tree : ResolvedTree) (k : ℕ) (function : ResolvedFunctionTree) → slice_get tree.functions k ≡ Some function
+named : (tree : ResolvedTree) (k : ℕ) (function : ResolvedFunctionTree)
+    → slice_get tree.functions k ≡ Some function
     → All (λ b. IsWithin tree b) (bodies_from first_numbers (take k tree.functions))
-    → Any (λ b. IsOver tree b) (function_bodies (behind_functions first_numbers (take k tree.functions)) function)
+    → Any (λ b. IsOver tree b)
+    (function_bodies (behind_functions first_numbers (take k tree.functions)) function)
     → IsTooMany tree (too_many function)
 named tree k function at within over = record {
   before = take k tree.functions;
@@ -41,28 +46,44 @@ named tree k function at within over = record {
 }
 
 by_height : (tree : ResolvedTree) (lists : List (List Body)) (index : ℕ) (function : ResolvedFunctionTree)
-    → AreFunctions tree [] first_numbers tree.functions lists → IsFirst [] lists index → slice_get tree.functions index ≡ Some function
+    → AreFunctions tree [] first_numbers tree.functions lists → IsFirst [] lists index
+    → slice_get tree.functions index ≡ Some function
     → IsTooMany tree (too_many function)
 by_height tree lists index function made first at =
-    let within = within_functions tree first_numbers tree.functions (take index lists) (first_functions tree first_numbers tree.functions lists index made) first.before in
+    let within = within_functions tree first_numbers tree.functions (take index lists)
+    (first_functions tree first_numbers tree.functions lists index made) first.before in
     named tree index function at
-    (subst (λ k. All (λ b. IsWithin tree b) (bodies_from first_numbers (take k tree.functions))) (taken_long lists index first.within) within)
-    (over_high tree (function_bodies (behind_functions first_numbers (take index tree.functions)) function) first.bodies (made_at tree first_numbers tree.functions lists index function first.bodies made first.there at) first.high)
+    (subst (λ k. All (λ b. IsWithin tree b) (bodies_from first_numbers (take k tree.functions)))
+    (taken_long lists index first.within) within)
+    (over_high tree (function_bodies (behind_functions first_numbers (take index tree.functions)) function)
+    first.bodies (made_at tree first_numbers tree.functions lists index function first.bodies made
+    first.there at) first.high)
 
-by_stop : (tree : ResolvedTree) (lists : List (List Body)) (is_whole : Bool) (index : ℕ) (function : ResolvedFunctionTree)
-    → AreFunctions tree [] first_numbers tree.functions lists → StopsUnless is_whole tree lists → is_whole ≡ false → index ≡ length lists
-    → All (λ bodies. AreLow [] bodies) lists → slice_get tree.functions index ≡ Some function → IsTooMany tree (too_many function)
+by_stop : (tree : ResolvedTree) (lists : List (List Body)) (is_whole : Bool) (index : ℕ)
+    (function : ResolvedFunctionTree)
+    → AreFunctions tree [] first_numbers tree.functions lists → StopsUnless is_whole tree lists
+    → is_whole ≡ false → index ≡ length lists
+    → All (λ bodies. AreLow [] bodies) lists → slice_get tree.functions index ≡ Some function
+    → IsTooMany tree (too_many function)
 by_stop tree lists true index function made stops unwhole behind low at = cc
 by_stop tree lists false index function made stops unwhole behind low at =
-    let there : slice_get tree.functions (length lists) ≡ Some function = subst (λ k. slice_get tree.functions k ≡ Some function) behind at in
+    let there : slice_get tree.functions (length lists) ≡ Some function =
+    subst (λ k. slice_get tree.functions k ≡ Some function) behind at in
     let same : stops.function ≡ function = some_same stops.function function (sym stops.there ∙ there) in
-    named tree (length lists) function there (within_functions tree first_numbers tree.functions lists made low)
-    (subst (λ f. Any (λ b. IsOver tree b) (function_bodies (behind_functions first_numbers (take (length lists) tree.functions)) f)) same stops.over)
+    named tree (length lists) function there
+    (within_functions tree first_numbers tree.functions lists made low)
+    (subst (λ f. Any (λ b. IsOver tree b)
+    (function_bodies (behind_functions first_numbers (take (length lists) tree.functions)) f)) same
+    stops.over)
   where
     some_same : {A : Type 0} (x y : A) → Some x ≡ Some y → x ≡ y
     some_same x y e = cc
 
-pub refused : (tree : ResolvedTree) (lists : List (List Body)) (is_whole : Bool) (index : ℕ) (function : ResolvedFunctionTree)
-    → IsLowered tree lists is_whole → IsOverAt lists is_whole (Some index) → slice_get tree.functions index ≡ Some function → IsTooMany tree (too_many function)
-refused tree lists is_whole index function lowered (inl first) at = by_height tree lists index function lowered.made first at
-refused tree lists is_whole index function lowered (inr stop) at = by_stop tree lists is_whole index function lowered.made lowered.stops stop.0 stop.1 stop.2 at
+pub refused : (tree : ResolvedTree) (lists : List (List Body)) (is_whole : Bool) (index : ℕ)
+    (function : ResolvedFunctionTree)
+    → IsLowered tree lists is_whole → IsOverAt lists is_whole (Some index)
+    → slice_get tree.functions index ≡ Some function → IsTooMany tree (too_many function)
+refused tree lists is_whole index function lowered (inl first) at =
+    by_height tree lists index function lowered.made first at
+refused tree lists is_whole index function lowered (inr stop) at =
+    by_stop tree lists is_whole index function lowered.made lowered.stops stop.0 stop.1 stop.2 at

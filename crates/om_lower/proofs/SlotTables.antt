@@ -1,13 +1,15 @@
 -- The slots of a frame.
-use Rattle.std.proofs.Common.{◌≡◌, ℕ, List, [], ◌∷◌, ◌++◌, map, refl, ap, ◌∙◌, sym}
-use Rattle.om_code.specs.declared.raw.Slot.{Slot}
+use Rattle.std.proofs.Common.{◌≡◌, ℕ, List, [], ◌∷◌, map, refl, ap, ◌∙◌}
 use Rattle.om_resolved.specs.declared.resolved.Capture.{Capture}
 use Rattle.om_rows.specs.Slots.{Extent, cells_in, slot_with, source_of}
 
 -- two tables in which each variable has as many cells
 pub slots_same : (one other : List Extent) (outer : List ℕ) (captures : List Capture) (variables : List ℕ)
-    → ((variable : ℕ) → cells_in one variable ≡ cells_in other variable) → map (slot_with one outer captures) variables ≡ map (slot_with other outer captures) variables
+    → ((variable : ℕ) → cells_in one variable ≡ cells_in other variable)
+    → map (slot_with one outer captures) variables ≡ map (slot_with other outer captures) variables
 slots_same one other outer captures [] same = refl
 slots_same one other outer captures (variable ∷ rest) same =
-    ap (λ cells. record { cells = cells; source = source_of outer captures variable } ∷ map (slot_with one outer captures) rest) (same variable)
-    ∙ ap (λ slots. slot_with other outer captures variable ∷ slots) (slots_same one other outer captures rest same)
+    ap (λ cells. record { cells = cells; source = source_of outer captures variable } ∷ map
+    (slot_with one outer captures) rest) (same variable)
+    ∙ ap (λ slots. slot_with other outer captures variable ∷ slots)
+    (slots_same one other outer captures rest same)

@@ -6,4 +6,5 @@ use Rattle.om_lower.specs.Limits.{frame_cells}
 -- these slots, at most 256 of them with at most 4,096 cells, or none where a limit is passed
 abbrev pub FitsFrame : (variables : List ℕ) → (slots : List Slot) → Option (List Slot) → Type 0
 FitsFrame variables slots None = (256 < length variables) ⊎ (4096 < frame_cells slots)
-FitsFrame variables slots (Some frame) = (frame ≡ slots) × (length variables ≤ 256) × (frame_cells slots ≤ 4096)
+FitsFrame variables slots (Some frame) = (frame ≡ slots) × (length variables ≤ 256)
+    × (frame_cells slots ≤ 4096)

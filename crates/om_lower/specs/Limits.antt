@@ -27,7 +27,8 @@ frame_cells slots = sum (map own_cells slots)
 -- this is the code of a body, in a program with these lists of PICK
 abbrev pub IsCodeAt : ResolvedTree → (picks : List (List ℕ)) → BodySite → List Line → Type 0
 IsCodeAt tree picks b code =
-    body_row (site_with (names_in tree (variables_of b) (is_main_function b.function)) code picks) b.numbers b.function b.tree 0 (length code)
+    body_row (site_with (names_in tree (variables_of b) (is_main_function b.function)) code picks) b.numbers
+    b.function b.tree 0 (length code)
 
 -- at most 256 slots, and 4,096 cells of its own
 pub record HasRoom (b : BodySite) : Type 0 where
@@ -51,8 +52,10 @@ AreWithin tree = All (λ b. IsWithin tree b) (bodies_of tree)
 pub data IsOver (tree : ResolvedTree) (b : BodySite) : Type 0 where
   many_slots : 256 < length (variables_of b) → IsOver tree b
   many_cells : 4096 < frame_cells (slots_of b) → IsOver tree b
-  long : (picks : List (List ℕ)) (code : List Line) → IsCodeAt tree picks b code → 65536 < length code → IsOver tree b
-  high : (picks : List (List ℕ)) (code : List Line) → IsCodeAt tree picks b code → ¬ (IsLow picks code) → IsOver tree b
+  long : (picks : List (List ℕ)) (code : List Line) → IsCodeAt tree picks b code → 65536 < length code
+      → IsOver tree b
+  high : (picks : List (List ℕ)) (code : List Line) → IsCodeAt tree picks b code → ¬ (IsLow picks code)
+      → IsOver tree b
 
 -- S11 at the name of the first function that has a body which passes a limit
 pub record IsTooMany (tree : ResolvedTree) (fault : SourceFault) : Type 0 where

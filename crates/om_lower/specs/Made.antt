@@ -21,10 +21,12 @@ abbrev pub AreMade : ResolvedTree → (picks : List (List ℕ)) → List BodySit
 AreMade tree picks sites bodies = AllZip (λ b body. IsMade tree picks b body) sites bodies
 
 -- the bodies of the first functions, function by function
-abbrev pub AreFunctions : ResolvedTree → (picks : List (List ℕ)) → Numbers → List ResolvedFunctionTree → List (List Body) → Type 0
+abbrev pub AreFunctions : ResolvedTree → (picks : List (List ℕ)) → Numbers → List ResolvedFunctionTree
+    → List (List Body) → Type 0
 AreFunctions tree picks n fs [] = Unit {0}
 AreFunctions tree picks n [] (bodies ∷ rest) = ⊥
-AreFunctions tree picks n (f ∷ fs) (bodies ∷ rest) = AreMade tree picks (function_bodies n f) bodies × AreFunctions tree picks (behind_function n f) fs rest
+AreFunctions tree picks n (f ∷ fs) (bodies ∷ rest) = AreMade tree picks (function_bodies n f) bodies
+    × AreFunctions tree picks (behind_function n f) fs rest
 
 -- the body of a function that begins with these numbers
 abbrev pub function_site : Numbers → ResolvedFunctionTree → BodySite
@@ -45,7 +47,8 @@ pub record Stops (tree : ResolvedTree) (functions : List (List Body)) : Type 0 w
   pub within : length functions < length tree.functions
   pub function : ResolvedFunctionTree
   pub there : slice_get tree.functions (length functions) ≡ Some function
-  pub over : Any (λ b. IsOver tree b) (function_bodies (behind_functions first_numbers (take (length functions) tree.functions)) function)
+  pub over : Any (λ b. IsOver tree b)
+      (function_bodies (behind_functions first_numbers (take (length functions) tree.functions)) function)
 
 -- all functions have bodies, or those up to the first that passes a limit
 abbrev pub StopsUnless : (is_whole : Bool) → ResolvedTree → List (List Body) → Type 0
@@ -60,4 +63,5 @@ pub record IsLowered (tree : ResolvedTree) (functions : List (List Body)) (is_wh
 abbrev pub IsOverAt : (functions : List (List Body)) → (is_whole : Bool) → Option ℕ → Type 0
 IsOverAt functions is_whole None = (is_whole ≡ true) × All (λ bodies. AreLow [] bodies) functions
 IsOverAt functions is_whole (Some index) =
-    IsFirst [] functions index ⊎ ((is_whole ≡ false) × (index ≡ length functions) × All (λ bodies. AreLow [] bodies) functions)
+    IsFirst [] functions index ⊎
+    ((is_whole ≡ false) × (index ≡ length functions) × All (λ bodies. AreLow [] bodies) functions)

@@ -49,7 +49,8 @@ pub(crate) fn lower_functions(whole: &Whole<'_>) -> Result<Lowered, AllocError>
     requires tables { IsTablesOf (view_resolved whole.now.resolved.now) whole.now.tables.now }
     requires has_code { TreeHasCode (view_resolved whole.now.resolved.now) }
     requires serial { first_directive (view_resolved whole.now.resolved.now) ≡ None }
-    ensures { IfOk result (λ made. IsLowered (view_resolved whole.now.resolved.now) made.functions.items made.is_whole) }
+    ensures { let tree = view_resolved whole.now.resolved.now in
+        IfOk result (λ made. IsLowered tree made.functions.items made.is_whole) }
 {
     let mut functions = Vec::new(whole.alloc);
     let mut numbers = Numbers::first();
@@ -79,7 +80,8 @@ fn lower_function(
     requires has_code { BodyHasCode (view_resolved_function function.now) bodies.FunctionBody }
     requires serial { directive_among (view_resolved_function function.now).body ≡ None }
     ensures { let tree = view_resolved_function function.now in
-        IfOk result (λ made. FitsFunction (view_resolved whole.now.resolved.now) (numbers_of numbers) tree made) }
+        IfOk result (λ made.
+        FitsFunction (view_resolved whole.now.resolved.now) (numbers_of numbers) tree made) }
 {
     let variables = function_variables(whole.alloc, function)?;
     let Some(slots) = function_frame(whole.alloc, function, &variables)? else {
@@ -100,7 +102,8 @@ fn function_frame(
     function: &ResolvedFunction,
     variables: &Variables,
 ) -> Result<Option<Seq<Slot>>, AllocError>
-    ensures { let slots = map (slot_with (extents_of (view_resolved_function function.now)) [] []) variables.now in
+    ensures { let extents = extents_of (view_resolved_function function.now) in
+        let slots = map (slot_with extents [] []) variables.now in
         IfOk result (λ frame. FitsFrame variables.now slots frame) }
 {
     let extents = extents_of(alloc, function)?;

@@ -8,7 +8,8 @@ use om_code::program::Program;
 use om_code::raw::GlobalVariable;
 
 /// The source line of the instruction at a place of a body, counted from 1: that of the first token of its
-/// statement, and for the end of a function that of its closing brace. 0 where there is no such body or place.
+/// statement, and for the end of a function that of its closing brace. 0 where there is no such body
+/// or place.
 pub fn line_of(program: &Program, body: u32, at: u32) -> u32
     ensures { result ≡ line_at program.now body at }
 {

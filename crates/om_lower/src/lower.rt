@@ -29,14 +29,16 @@ use std::alloc::{AllocError, Global};
 /// Refusals:
 /// - S0 at byte 0: no memory.
 /// - S3 at the first directive of the text: its code is not written yet.
-/// - S11 at a function's name: a body of it has more than 256 slots, more than 4,096 cells of its own, more than
-///   65,536 instructions, or more than 256 operands at once. Of several such functions the first is named.
+/// - S11 at a function's name: a body of it has more than 256 slots, more than 4,096 cells of its
+///   own, more than 65,536 instructions, or more than 256 operands at once. Of several such functions
+///   the first is named.
 pub fn lower(alloc: Global, resolved: &Resolved) -> Result<Program, SourceFault>
     requires { IsWholeTree (view_resolved resolved.now) }
     ensures code { IfOk result (λ program. IsCodeOf (view_resolved resolved.now) program) }
     ensures supported { OnOk result (first_directive (view_resolved resolved.now) ≡ None) }
     ensures within { OnOk result (AreWithin (view_resolved resolved.now)) }
-    ensures refused { IfErr result (λ fault. fault ≢ no_memory → IsRefusedTree (view_resolved resolved.now) fault) }
+    ensures refused { let tree = view_resolved resolved.now in
+        IfErr result (λ fault. fault ≢ no_memory → IsRefusedTree tree fault) }
 {
     if let Some(at) = first_directive(resolved) {
         return Err(SourceFault {
@@ -55,7 +57,8 @@ fn lower_serial(alloc: Global, resolved: &Resolved) -> Result<Program, SourceFau
     requires serial { first_directive (view_resolved resolved.now) ≡ None }
     ensures code { IfOk result (λ program. IsCodeOf (view_resolved resolved.now) program) }
     ensures within { OnOk result (AreWithin (view_resolved resolved.now)) }
-    ensures refused { IfErr result (λ fault. fault ≢ no_memory → IsTooMany (view_resolved resolved.now) fault) }
+    ensures refused { let tree = view_resolved resolved.now in
+        IfErr result (λ fault. fault ≢ no_memory → IsTooMany tree fault) }
 {
     let tables = tables_of(alloc, resolved)?;
     let whole = Whole {
@@ -74,9 +77,11 @@ fn lower_serial(alloc: Global, resolved: &Resolved) -> Result<Program, SourceFau
 
 /// The first function that passes a limit, if one does.
 fn over_at(whole: &Whole<'_>, lowered: &Lowered) -> Result<Option<usize>, AllocError>
-    requires { IsLowered (view_resolved whole.now.resolved.now) lowered.now.functions.items lowered.now.is_whole }
+    requires { let tree = view_resolved whole.now.resolved.now in
+        IsLowered tree lowered.now.functions.items lowered.now.is_whole }
     ensures over { IfOk result (λ index. IsOverAt lowered.now.functions.items lowered.now.is_whole index) }
-    ensures within { IfOk result (λ index. IfSome index (λ index. index < length whole.now.resolved.now.functions.items)) }
+    ensures within { let count = length whole.now.resolved.now.functions.items in
+        IfOk result (λ index. IfSome index (λ index. index < count)) }
 {
     body_is_level();
     let functions = lowered.functions.as_slice();

@@ -160,7 +160,8 @@ fn copy_global(alloc: Global, global: &GlobalVariable) -> Result<raw::GlobalVari
 /// The number of the body of `main`.
 fn main_body(whole: &Whole<'_>) -> u32
     requires tables { IsTablesOf (view_resolved whole.now.resolved.now) whole.now.tables.now }
-    requires main { Any (λ function. is_main_function function ≡ true) (view_resolved whole.now.resolved.now).functions }
+    requires main { let tree = view_resolved whole.now.resolved.now in
+        Any (λ function. is_main_function function ≡ true) tree.functions }
     ensures { let tree = view_resolved whole.now.resolved.now in
         option_map (called_body tree.functions) (position is_main_function tree.functions) ≡ Some result }
 {
@@ -184,7 +185,8 @@ fn main_of(resolved: &Resolved) -> usize
 
 /// The index of the first function named `main`.
 fn index_of_main(functions: &[ResolvedFunction]) -> Option<usize>
-    ensures { result ≡ position (λ function. is_main_function (view_resolved_function function)) functions.now }
+    ensures { result
+        ≡ position (λ function. is_main_function (view_resolved_function function)) functions.now }
 {
     functions.iter().position(is_main)
 }

@@ -54,7 +54,8 @@ fn cut_next<'a>(
     byte: u8,
     rest: &'a [u8],
 ) -> Result<Option<&'a [u8]>, AllocError>
-    ensures same { IfOk result (λ left. cut_behind cut.old (byte ∷ rest.now) ≡ cut_on cut.new (option_map (λ next. next.now) left)) }
+    ensures same { IfOk result (λ left.
+        cut_behind cut.old (byte ∷ rest.now) ≡ cut_on cut.new (option_map (λ next. next.now) left)) }
     ensures shorter { IfOk result (λ left. IfSome left (λ next. length next.now ≤ length rest.now)) }
 {
     if byte == b'%' {
@@ -72,7 +73,8 @@ fn cut_converted<'a>(
     rest: &'a [u8],
 ) -> Result<Option<&'a [u8]>, AllocError>
     ensures shorter { IfOk result (λ left. IfSome left (λ next. length next.now ≤ length rest.now)) }
-    ensures same { IfOk result (λ left. option_map (behind_cut cut.old) (formats.converted rest.now) ≡ cut_on cut.new (option_map (λ next. next.now) left)) }
+    ensures same { IfOk result (λ left. option_map (behind_cut cut.old) (formats.converted rest.now)
+        ≡ cut_on cut.new (option_map (λ next. next.now) left)) }
 {
     let Some((byte, behind)) = rest.split_first() else {
         return Ok(None);
@@ -91,7 +93,8 @@ fn cut_converted<'a>(
 /// Adds a byte that is written.
 #[tactic(auto, using(crate::proofs::Cutting::run_byte))]
 fn add_byte(cut: &mut Cut, byte: u8) -> Result<(), AllocError>
-    ensures { OnOk result ((rest : List formats.Piece) → behind_cut cut.new rest ≡ behind_cut cut.old (formats.with_byte byte rest)) }
+    ensures { OnOk result ((rest : List formats.Piece)
+        → behind_cut cut.new rest ≡ behind_cut cut.old (formats.with_byte byte rest)) }
 {
     cut.run.push(byte)?;
     Ok(())
@@ -100,7 +103,8 @@ fn add_byte(cut: &mut Cut, byte: u8) -> Result<(), AllocError>
 /// Adds a value that is written in decimal.
 #[tactic(auto, using(crate::proofs::Cutting::run_value))]
 fn add_value(alloc: Global, cut: &mut Cut) -> Result<(), AllocError>
-    ensures { OnOk result ((rest : List formats.Piece) → behind_cut cut.new rest ≡ behind_cut cut.old (formats.Value ∷ rest)) }
+    ensures { OnOk result ((rest : List formats.Piece)
+        → behind_cut cut.new rest ≡ behind_cut cut.old (formats.Value ∷ rest)) }
 {
     flush(alloc, cut)?;
     cut.pieces.push(Piece::Value)?;
@@ -109,7 +113,8 @@ fn add_value(alloc: Global, cut: &mut Cut) -> Result<(), AllocError>
 
 /// Makes a piece of the bytes that have none yet, if there are any.
 fn flush(alloc: Global, cut: &mut Cut) -> Result<(), AllocError>
-    ensures pieces { OnOk result (cut.new.pieces.items ≡ cut.old.pieces.items ++ with_run cut.old.run.items []) }
+    ensures pieces { OnOk result (
+        cut.new.pieces.items ≡ cut.old.pieces.items ++ with_run cut.old.run.items []) }
     ensures run { OnOk result (cut.new.run.items ≡ []) }
 {
     if cut.run.is_empty() {

@@ -37,6 +37,7 @@ goes_then n m j r s a b c le lj e g = record {
     );
   };
   keeps = record {
+    picks = g.keeps.picks ∙ e.keeps.picks;
     more = omega (arith, e.keeps.more, g.keeps.more);
     same = λ l lt. g.keeps.same l (omega arith) ∙ e.keeps.same l (omega arith);
   };

@@ -6,6 +6,7 @@ ghost use Rattle.om_resolved.specs.ResolvedView.{view_resolved_statement};
 ghost use Rattle.om_rows.specs.Bodies as rows;
 ghost use Rattle.om_rows.specs.Coded.{StatementHasCode, StatementsHaveCode};
 ghost use Rattle.om_statements.specs.Emits.{EmitsStatement, EmitsStatements};
+ghost use Rattle.om_statements.specs.Plain.{HasNoSections, HaveNoSections};
 ghost use Rattle.om_tables.specs.Numbering.{numbers_of};
 ghost use Rattle.om_tables.specs.Scopes.{names_of};
 
@@ -19,12 +20,14 @@ use om_constructs::region::{fork, load_originals, spawn, team_size};
 use om_constructs::repeated::{begin_do, begin_for, begin_while, end_do, end_for, end_loop};
 use om_constructs::worksharing::{begin_worksharing, end_worksharing};
 use om_emit::draft::Draft;
-use om_emit::expression::effect;
+use om_emit::effect;
 use om_resolved::{ConstructKind, ResolvedStatement};
 use om_tables::{Numbers, Scope, behind, given_copies};
 use std::alloc::{AllocError, Global};
 
 /// Writes the code of a statement, and gives the numbers behind it.
+///
+/// Its only error is out of memory. What is in it has code, and is no `sections`.
 #[cycle(statement)]
 pub fn statement(
     alloc: Global,
@@ -33,7 +36,8 @@ pub fn statement(
     spot: Spot,
     tree: &ResolvedStatement,
 ) -> Result<Numbers, AllocError>
-    requires { StatementHasCode (is_some spot.jumps.over) (is_some spot.jumps.next) (view_resolved_statement tree.now) }
+    requires code { StatementHasCode (is_some spot.jumps.over) (is_some spot.jumps.next) (view_resolved_statement tree.now) }
+    requires plain { HasNoSections (view_resolved_statement tree.now) }
     ensures behind { IfOk result (λ after. numbers_of after ≡ rows.behind (numbers_of spot.numbers) (view_resolved_statement tree.now)) }
     ensures emitted { let seen = view_resolved_statement tree.now in
         OnOk result (EmitsStatement (names_of scope.now) (numbers_of spot.numbers) seen spot.jumps draft.old draft.new) }
@@ -125,7 +129,7 @@ pub fn statement(
             end_worksharing(draft, scope, at.line, clauses.as_slice(), *nowait)?;
             Ok(after)
         }
-        ResolvedStatement::Sections(_, _, _, _) => Err(AllocError),
+        ResolvedStatement::Sections(_, _, _, _) => unreachable!(),
         ResolvedStatement::Construct(at, kind, clauses, body) => {
             if let ConstructKind::Atomic = kind {
                 assignment(draft, scope, at.line, body)?;
@@ -158,7 +162,8 @@ pub fn statements(
     spot: Spot,
     items: &[ResolvedStatement],
 ) -> Result<Numbers, AllocError>
-    requires { StatementsHaveCode (is_some spot.jumps.over) (is_some spot.jumps.next) (trees.statements (map view_resolved_statement items.now)) }
+    requires code { StatementsHaveCode (is_some spot.jumps.over) (is_some spot.jumps.next) (trees.statements (map view_resolved_statement items.now)) }
+    requires plain { HaveNoSections (trees.statements (map view_resolved_statement items.now)) }
     ensures behind { let all = trees.statements (map view_resolved_statement items.now) in
         IfOk result (λ after. numbers_of after ≡ rows.behind_all (numbers_of spot.numbers) all) }
     ensures emitted { let all = trees.statements (map view_resolved_statement items.now) in

@@ -6,4 +6,5 @@ use Rattle.om_lower.proofs.directives.+statement.Given as goal
 
 abbrev pub invariant-directive_among-loop-item : goal.invariant-directive_among-loop-item
 invariant-directive_among-loop-item l =
-    directive_among (trees.statements (map view_resolved_statement (drop l.item-index l.items))) ≡ directive_among (trees.statements (map view_resolved_statement l.items))
+    directive_among (trees.statements (map view_resolved_statement (drop l.item-index l.items)))
+    ≡ directive_among (trees.statements (map view_resolved_statement l.items))

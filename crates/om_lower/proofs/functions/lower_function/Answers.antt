@@ -14,7 +14,8 @@ returns-in_default-2 c =
     let tree = view_resolved c.args.whole.now.resolved.now in
     let f = view_resolved_function c.args.function.now in
     let n = numbers_of c.args.numbers in
-    over_code tree n f c.requires.serial (subst (λ code. FitsCode tree (function_site n f) code) c.in_default-2.is c.in_ok-code.ensures)
+    over_code tree n f c.requires.serial
+    (subst (λ code. FitsCode tree (function_site n f) code) c.in_default-2.is c.in_ok-code.ensures)
 
 pub returns : goal.returns
 returns c =
@@ -24,7 +25,9 @@ returns c =
     let variables = c.in_ok-variables.variables in
     let slots = map (slot_with (extents_of f) [] []) variables in
     subst (λ bodies. AreMade tree [] (function_bodies n f) bodies) (sym c.in_ok-bodies.ensures)
-    (made_body tree n f variables c.in-Some-2.code c.in-Some.slots c.in_ok-given.given c.requires.serial c.in_ok-variables.ensures
+    (made_body tree n f variables c.in-Some-2.code c.in-Some.slots c.in_ok-given.given c.requires.serial
+    c.in_ok-variables.ensures
     (subst (λ frame. FitsFrame variables slots frame) c.in-Some.is c.in_ok-slots.ensures)
     (subst (λ code. FitsCode tree (function_site n f) code) c.in-Some-2.is c.in_ok-code.ensures)
-    (c.in_ok-given.ensures ∙ ap (λ all. map (slot_of variables) (map parameter_sight all)) c.as_slice.ensures))
+    (c.in_ok-given.ensures
+    ∙ ap (λ all. map (slot_of variables) (map parameter_sight all)) c.as_slice.ensures))

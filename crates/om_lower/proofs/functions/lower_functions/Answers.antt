@@ -1,4 +1,4 @@
-use Rattle.std.proofs.Common.{◌≡◌, ◌+◌, Some, map, slice_get, subst}
+use Rattle.std.proofs.Common.{◌≡◌, Some, map, slice_get, subst}
 use Rattle.om_lower.specs.Made.{FitsFunction}
 use Rattle.om_resolved.specs.ResolvedView.{view_resolved, view_resolved_function}
 use Rattle.om_rows.specs.Bodies.{first_numbers}
@@ -12,20 +12,26 @@ use Rattle.om_lower.proofs.functions.lower_functions.Goals as goal
 pub lower_function-requires-clause-has_code : goal.lower_function-requires-clause-has_code
 lower_function-requires-clause-has_code c =
     let tree = view_resolved c.args.whole.now.resolved.now in
-    function_holds (λ b. BodyHasCode b.function b.tree) first_numbers tree.functions c.loop-function.function-index
+    function_holds (λ b.
+    BodyHasCode b.function b.tree) first_numbers tree.functions c.loop-function.function-index
     (view_resolved_function c.function-item.result) c.requires.has_code.bodies (
-    subst (λ items. slice_get (map view_resolved_function items) c.loop-function.function-index ≡ Some (view_resolved_function c.function-item.result))
+    subst (λ items. slice_get (map view_resolved_function items) c.loop-function.function-index ≡ Some
+    (view_resolved_function c.function-item.result))
     c.as_slice-function-items.ensures.value
-    (item_at view_resolved_function c.as_slice-function-items.result.now c.loop-function.function-index c.function-item.result
+    (item_at view_resolved_function c.as_slice-function-items.result.now c.loop-function.function-index
+    c.function-item.result
     c.loop-function-test.true c.function-item.is))
 
 pub lower_function-requires-clause-serial : goal.lower_function-requires-clause-serial
 lower_function-requires-clause-serial c =
     let tree = view_resolved c.args.whole.now.resolved.now in
-    function_serial tree.functions c.loop-function.function-index (view_resolved_function c.function-item.result) c.requires.serial (
-    subst (λ items. slice_get (map view_resolved_function items) c.loop-function.function-index ≡ Some (view_resolved_function c.function-item.result))
+    function_serial tree.functions c.loop-function.function-index
+    (view_resolved_function c.function-item.result) c.requires.serial (
+    subst (λ items. slice_get (map view_resolved_function items) c.loop-function.function-index ≡ Some
+    (view_resolved_function c.function-item.result))
     c.as_slice-function-items.ensures.value
-    (item_at view_resolved_function c.as_slice-function-items.result.now c.loop-function.function-index c.function-item.result
+    (item_at view_resolved_function c.as_slice-function-items.result.now c.loop-function.function-index
+    c.function-item.result
     c.loop-function-test.true c.function-item.is))
 
 pub returns-in_default : goal.returns-in_default
@@ -35,9 +41,11 @@ returns-in_default c =
     let n = numbers_of c.loop-function.numbers in
     stopped tree c.loop-function.functions.items c.loop-function.function-index f n
     c.loop-function.invariant.0 c.loop-function.invariant.1 c.loop-function.invariant.2 (
-    subst (λ items. slice_get (map view_resolved_function items) c.loop-function.function-index ≡ Some (view_resolved_function c.function-item.result))
+    subst (λ items. slice_get (map view_resolved_function items) c.loop-function.function-index ≡ Some
+    (view_resolved_function c.function-item.result))
     c.as_slice-function-items.ensures.value
-    (item_at view_resolved_function c.as_slice-function-items.result.now c.loop-function.function-index c.function-item.result
+    (item_at view_resolved_function c.as_slice-function-items.result.now c.loop-function.function-index
+    c.function-item.result
     c.loop-function-test.true c.function-item.is))
     (subst (λ bodies. FitsFunction tree n f bodies) c.in_default.is c.in_ok-bodies.ensures)
 
@@ -46,10 +54,14 @@ loop-function-preserved c =
     let tree = view_resolved c.args.whole.now.resolved.now in
     let f = view_resolved_function c.function-item.result in
     let n = numbers_of c.loop-function.numbers in
-    one_more tree c.loop-function.functions.items c.push.new.self.items c.loop-function.function-index f n (numbers_of c.in_ok-numbers.numbers) c.in-Some.bodies
+    one_more tree c.loop-function.functions.items c.push.new.self.items c.loop-function.function-index f n
+    (numbers_of c.in_ok-numbers.numbers) c.in-Some.bodies
     c.loop-function.invariant.0 c.loop-function.invariant.1 c.loop-function.invariant.2 (
-    subst (λ items. slice_get (map view_resolved_function items) c.loop-function.function-index ≡ Some (view_resolved_function c.function-item.result))
+    subst (λ items. slice_get (map view_resolved_function items) c.loop-function.function-index ≡ Some
+    (view_resolved_function c.function-item.result))
     c.as_slice-function-items.ensures.value
-    (item_at view_resolved_function c.as_slice-function-items.result.now c.loop-function.function-index c.function-item.result
+    (item_at view_resolved_function c.as_slice-function-items.result.now c.loop-function.function-index
+    c.function-item.result
     c.loop-function-test.true c.function-item.is))
-    (subst (λ bodies. FitsFunction tree n f bodies) c.in-Some.is c.in_ok-bodies.ensures) c.in_ok-push.ensures.items c.in_ok-numbers.ensures
+    (subst (λ bodies. FitsFunction tree n f bodies) c.in-Some.is c.in_ok-bodies.ensures)
+    c.in_ok-push.ensures.items c.in_ok-numbers.ensures

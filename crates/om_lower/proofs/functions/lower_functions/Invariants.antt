@@ -1,4 +1,4 @@
-use Rattle.std.proofs.Common.{◌≡◌, [], length, map, take}
+use Rattle.std.proofs.Common.{◌≡◌, [], length, take}
 use Rattle.om_lower.specs.Made.{AreFunctions}
 use Rattle.om_resolved.specs.ResolvedView.{view_resolved}
 use Rattle.om_rows.specs.Bodies.{behind_functions, first_numbers}

@@ -6,4 +6,5 @@ use Rattle.om_lower.proofs.lower.lower.Goals as goal
 pub lower_serial-requires-clause-has_code : goal.lower_serial-requires-clause-has_code
 lower_serial-requires-clause-has_code c =
     let tree = view_resolved c.args.resolved.now in
-    c.whole_has_code.ensures tree c.requires (serial_atomics tree.functions (sym c.first_directive.ensures ∙ c.in_default.is))
+    c.whole_has_code.ensures tree c.requires
+    (serial_atomics tree.functions (sym c.first_directive.ensures ∙ c.in_default.is))

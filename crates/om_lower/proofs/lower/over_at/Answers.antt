@@ -9,4 +9,5 @@ pub first_high-requires : goal.first_high-requires
 first_high-requires c =
     let tree = view_resolved c.args.whole.now.resolved.now in
     subst (λ lists. All (λ bodies. AreLevel [] bodies) lists) (sym c.as_slice-functions.ensures.value)
-    (level_functions c.body_is_level.ensures tree first_numbers tree.functions c.args.lowered.now.functions.items c.requires.made)
+    (level_functions c.body_is_level.ensures tree first_numbers tree.functions
+    c.args.lowered.now.functions.items c.requires.made)

@@ -6,4 +6,5 @@ abbrev pub decreases-loop-bodies : goal.decreases-loop-bodies
 decreases-loop-bodies l = length l.functions.items
 
 abbrev pub invariant-loop-bodies : goal.invariant-loop-bodies
-invariant-loop-bodies l = flat_map (λ bodies. bodies) l.functions.items ++ l.all ≡ flat_map (λ bodies. bodies) l.fn.functions.items
+invariant-loop-bodies l =
+    flat_map (λ bodies. bodies) l.functions.items ++ l.all ≡ flat_map (λ bodies. bodies) l.fn.functions.items

@@ -1,4 +1,4 @@
-use Rattle.std.proofs.Common.{◌≡◌, arith, refl, length, map, option_map, sym, ap, ◌∙◌}
+use Rattle.std.proofs.Common.{◌≡◌, arith, refl, length, map, option_map, sym, ap, subst, ◌∙◌}
 use Rattle.std.proofs.lemmas.List.{drop_all}
 use Rattle.std.specs.Prelude.{is_some}
 use Rattle.om_rows.specs.Statements.{clause_value}
@@ -8,6 +8,7 @@ use Rattle.om_resolved.specs.ResolvedView.{view_resolved_clause, view_resolved_e
 use Rattle.om_rows.specs.Bodies as rows
 use Rattle.om_tables.specs.Numbering.{numbers_of}
 use Rattle.om_tables.specs.Scopes.{names_of}
+use Rattle.om_statements.specs.Plain.{HaveNoSections}
 use Rattle.om_statements.proofs.Going.{free_emits}
 use Rattle.om_statements.proofs.Lists.{left_item, left_next, no_atomic, numbers_are, onward_begin, onward_done, spot_is, statement_is}
 use Rattle.om_statements.proofs.Views.{view_break, view_construct, view_continue, view_do, view_for, view_if, view_if_else, view_loop, view_parallel, view_stand_alone, view_task, view_while}
@@ -123,17 +124,19 @@ statement-returns-in_ok-end_construct-in-Construct t c =
 
 pub statements-loop-item-init : goal.statements-loop-item-init
 statements-loop-item-init t c =
-    (c.requires, refl, onward_begin _ _ _ _ _)
+    (c.requires.code, c.requires.plain, refl, onward_begin _ _ _ _ _)
 
 pub statements-loop-item-preserved : goal.statements-loop-item-preserved
 statements-loop-item-preserved t c =
-    left_next _ _ _ (names_of c.args.scope.now) c.args.spot.jumps _ _ _ _ _ _ _ _ _ _ (left_item c.args.items.now c.loop-item.item-index c.item-item.result c.loop-item-test.true c.item-item.is)
+    let here = left_item c.args.items.now c.loop-item.item-index c.item-item.result c.loop-item-test.true c.item-item.is in
+    let next = left_next _ _ _ (names_of c.args.scope.now) c.args.spot.jumps _ _ _ _ _ _ _ _ _ _ here
     (c.in_ok-after.ensures.behind ∙ ap (λ x. rows.behind (numbers_of x.numbers) (view_resolved_statement c.item-item.result)) c.behind-here.ensures)
-    (spot_is (names_of c.args.scope.now) _ _ _ _ _ c.behind-here.ensures c.in_ok-after.ensures.emitted) c.loop-item.invariant.0 c.loop-item.invariant.1 c.loop-item.invariant.2
+    (spot_is (names_of c.args.scope.now) _ _ _ _ _ c.behind-here.ensures c.in_ok-after.ensures.emitted) c.loop-item.invariant.0 c.loop-item.invariant.2 c.loop-item.invariant.3 in
+    (next.0, (subst HaveNoSections here c.loop-item.invariant.1).1, next.1, next.2)
 
 pub statements-returns-clause-emitted : goal.statements-returns-clause-emitted
 statements-returns-clause-emitted t c =
-    onward_done _ (names_of c.args.scope.now) c.args.spot.jumps _ _ _ _ _ _ (ap (λ xs. trees.statements (map view_resolved_statement xs)) (drop_all c.loop-item.item-index c.args.items.now c.loop-item-test.false)) c.loop-item.invariant.2
+    onward_done _ (names_of c.args.scope.now) c.args.spot.jumps _ _ _ _ _ _ (ap (λ xs. trees.statements (map view_resolved_statement xs)) (drop_all c.loop-item.item-index c.args.items.now c.loop-item-test.false)) c.loop-item.invariant.3
 
 pub statement-returns-in_ok-after-in-Parallel-clause-emitted : goal.statement-returns-in_ok-after-in-Parallel-clause-emitted
 statement-returns-in_ok-after-in-Parallel-clause-emitted t c =
