@@ -1,58 +1,62 @@
 #!/usr/bin/env python3
-"""machine.py TESTS: how fast the machine steps and undoes, by the tests `pace` of om_machine_tests.
+"""machine.py PROGRAM: how fast the machine steps and undoes, by cases of om_machine_cases.
 
-TESTS is what `rt test` leaves of that crate, crates/om_machine_tests/out/om_machine_tests_tests. Each test is run alone, three
-times, on one core; the time of a test without steps is taken off. The differences give steps and undos a second, of one
-worker and of four; what a step costs below one frame and below 900 frames; and what a copy of the control costs there.
-A test that does not pass ends the script with status 1.
+PROGRAM is what `rt run` leaves of that crate, crates/om_machine_cases/out/om_machine_cases. It is given one case at a time, three
+times, on one core; the time of a case without steps is taken off. The differences give steps and undos a second, of one worker
+and of four; what a step costs below one frame and below 900 frames; and what a copy of the control costs there. A case that is
+answered wrongly ends the script with status 1.
 """
-import os, subprocess, sys, time
+import os, sys
+from timing import seconds, words
 
 STEPS = 20000
 STEPS_BELOW = 1000
+HERE = os.path.dirname(os.path.abspath(__file__))
 
 
-def seconds(tests, name, times=3):
-    """The best time of some runs of a test."""
-    best = None
-    for _ in range(times):
-        begin = time.monotonic()
-        done = subprocess.run([tests, name], stdout=subprocess.DEVNULL)
-        taken = time.monotonic() - begin
-        if done.returncode != 0:
-            sys.exit(f"{name} ended with status {done.returncode}")
-        best = taken if best is None else min(best, taken)
-    return best
+def programs():
+    """The programs of the crate's own cases, by their titles."""
+    with open(os.path.join(HERE, "../crates/om_machine_cases/stdin")) as f:
+        sections = [section.split("\n", 1) for section in f.read().split("\n== ")]
+    return {head.removeprefix("program "): text for head, text in sections if head.startswith("program ")}
 
 
-def pace(tests, name, count, without):
-    """How many of these a second: the test with so many of them, and one that is the same without them."""
-    return count / max(seconds(tests, name) - without, 1e-9)
+def case(text, workers, commands):
+    """The input of one case: a program, and commands, each of which is to answer `done` or what stands behind its `=>`."""
+    lines = "".join(command + ("\n" if "=>" in command else " => done\n") for command in commands)
+    return f"Pace.\n\n== program of it\n{text}\n== case pace by {workers} workers\n{lines}".encode()
 
 
-def below(tests, frames):
-    """The microseconds of a step, and of a copy of the control, below so many frames."""
-    reached = seconds(tests, f"pace::counting_begins_below_{frames}")
-    step = seconds(tests, f"pace::steps_below_{frames}") - reached
-    copy = seconds(tests, f"pace::copies_below_{frames}") - reached
+def rates(program, text, workers, first, rounds):
+    """The steps and the undos a second of so many workers."""
+    idle = seconds(program, case(text, workers, first))
+    steps = first + [f"forwards {workers} {rounds}"]
+    forwards = seconds(program, case(text, workers, steps))
+    both = seconds(program, case(text, workers, steps + [f"backwards {workers} {rounds}"]))
+    return STEPS / max(forwards - idle, 1e-9), STEPS / max(both - forwards, 1e-9)
+
+
+def below(program, text, steps):
+    """The microseconds of a step, and of a copy of the control, where the counting begins after so many steps."""
+    reach = [f"forwards 1 {steps}"]
+    idle = seconds(program, case(text, 1, reach))
+    step = seconds(program, case(text, 1, reach + [f"forwards 1 {STEPS_BELOW}"])) - idle
+    copy = seconds(program, case(text, 1, reach + [f"copies {STEPS_BELOW} => {STEPS_BELOW}"])) - idle
     return step / STEPS_BELOW * 1e6, copy / STEPS_BELOW * 1e6
 
 
 def main():
-    if len(sys.argv) != 2:
-        sys.exit(__doc__)
-    tests = os.path.abspath(sys.argv[1])
-    if hasattr(os, "sched_setaffinity"):
-        os.sched_setaffinity(0, {min(os.sched_getaffinity(0))})
-    idle = seconds(tests, "seq::items_go_in_and_come_out")
-    for workers, steps, undos in (("one worker", "one_worker_steps", "one_worker_steps_and_undoes"),
-                                  ("four workers", "four_workers_step", "four_workers_step_and_undo")):
-        forwards = seconds(tests, f"pace::{steps}")
-        print(f"{workers}: {STEPS / max(forwards - idle, 1e-9):,.0f} steps a second, "
-              f"{pace(tests, f'pace::{undos}', STEPS, forwards):,.0f} undos a second")
-    for frames in ("one_frame", "900_frames"):
-        step, copy = below(tests, frames)
-        print(f"below {frames.replace('_', ' ')}: {step:.2f} us a step, {copy:.2f} us a copy of the control")
+    program, _ = words(__doc__, 0)
+    texts = programs()
+    one = texts["Counts in a global."]
+    four = texts["Each member of a team counts in a cell of its own, and in an element of a global array."]
+    for name, text, workers, first in (("one worker", one, 1, ["forwards 1 0"]), ("four workers", four, 4, ["forwards 1 1"])):
+        steps, undos = rates(program, text, workers, first, STEPS // workers)
+        print(f"{name}: {steps:,.0f} steps a second, {undos:,.0f} undos a second")
+    deep = texts["`main` calls `f(899)`, which calls itself down to `f(0)`; there it counts in a global."]
+    for name, text, steps in (("one frame", texts["`main` calls `f`, which counts in a global."], 4), ("900 frames", deep, 5398)):
+        step, copy = below(program, text, steps)
+        print(f"below {name}: {step:.2f} us a step, {copy:.2f} us a copy of the control")
 
 
 if __name__ == "__main__":

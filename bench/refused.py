@@ -1,15 +1,13 @@
 #!/usr/bin/env python3
 """refused.py PROGRAM [INPUT]: each request for memory, each read and each write of a run is refused in turn.
-refused.py TESTS --test NAME: each request for memory of one test is refused in turn.
-refused.py TESTS --again NAME: the same of a test that makes a refused call of the machine again.
+refused.py CASES --case TITLE: each request for memory of one case is refused in turn.
 
 INPUT is the standard input (the stored run, crates/ompback/stdin, if not given). A small library is compiled with cc and
 loaded before the C library; it refuses the N-th call of one kind. Of each such run three things are wanted: that it ends,
 that it ends with status 3 and the right fault on standard error (or as the whole run does, where nothing was lost), and
 that what it wrote is a beginning of what the whole run writes.
-TESTS is what `rt test` leaves of a crate, as crates/om_front_tests/out/om_front_tests_tests, and NAME a test of it that passes, and
-gives back the refusals out of memory that it meets. Of each run it is wanted that it ends with that refusal, at byte 0.
-With --again it passes where the machine was refused, since that has changed nothing; else it ends out of memory.
+CASES is a program that judges cases, as crates/om_front_cases/out/om_front_cases, and TITLE that of a section of its crate's
+stdin. Each of its runs ends as the whole run does, or out of memory: an answer that changes in place of that is wrong.
 The last line counts the runs; the status is 1 where one of them is wrong.
 """
 import itertools, os, subprocess, sys, tempfile
@@ -55,8 +53,7 @@ ssize_t write(int fd, const void *from, size_t size) {
 }
 """
 FAULTS = {"REFUSE_MEMORY": b"H5\n", "REFUSE_GROWTH": b"H5\n", "REFUSE_READ": b"H3\n", "REFUSE_WRITE": b"H4\n"}
-WANTS_MEMORY = b"error: SourceFault { code: Memory, at: 0 }\n"
-OUT_OF_MEMORY = (b"error: AllocError\n", b"error: AllocFailed", b"error: Memory\n")
+OUT_OF_MEMORY = b"Error: memory allocation failed\n"
 
 
 def run(command, text, environment):
@@ -108,21 +105,30 @@ def ends_well(kind, whole, got):
     return got == whole or (got[0] == 3 and got[2] == FAULTS[kind] and whole[1].startswith(got[1]))
 
 
-def wants_memory(_kind, whole, got):
-    """Whether a test that passes otherwise ends with the refusal out of memory."""
-    return whole[0] == 0 and got[0] == 101 and got[2].startswith(WANTS_MEMORY)
+def is_judged_or_wants_memory(_kind, whole, got):
+    """Whether a case is judged as it is otherwise, or ends out of memory before it is."""
+    return got == whole or (whole[0] == 0 and got == (1, b"", OUT_OF_MEMORY))
 
 
-def passes_or_wants_memory(_kind, whole, got):
-    """Whether a test passes as it does otherwise, or ends out of memory."""
-    return got == whole or (whole[0] == 0 and got[0] == 101 and got[2].startswith(OUT_OF_MEMORY))
+def case_of(program, title):
+    """The input of the section of a title, with the last program before it."""
+    with open(os.path.join(os.path.dirname(program), "../stdin"), "rb") as f:
+        sections = f.read().split(b"\n== ")[1:]
+    last = []
+    for section in sections:
+        head, _, _ = section.partition(b"\n")
+        if head.startswith(b"program "):
+            last = [section]
+        elif head.endswith(b" " + title.encode()):
+            return b"".join(b"\n== " + part for part in last + [section])
+    sys.exit(f"no section {title!r}")
 
 
 def main():
     words = [os.path.abspath(sys.argv[1])] + sys.argv[2:] if len(sys.argv) > 1 else []
-    is_right = {"--test": wants_memory, "--again": passes_or_wants_memory}
-    if len(words) == 3 and words[1] in is_right:
-        sys.exit(count_runs([words[0], words[2]], b"", ["REFUSE_MEMORY", "REFUSE_GROWTH"], is_right[words[1]]))
+    if len(words) == 3 and words[1] == "--case":
+        case = case_of(words[0], words[2])
+        sys.exit(count_runs([words[0]], case, ["REFUSE_MEMORY", "REFUSE_GROWTH"], is_judged_or_wants_memory))
     if len(words) not in (1, 2):
         sys.exit(__doc__)
     here = os.path.dirname(os.path.abspath(__file__))

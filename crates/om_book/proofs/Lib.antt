@@ -1,0 +1,5 @@
+pub mod Growing
+pub mod Rolls
+pub mod Counting
+pub mod Pigeons
+pub mod Answering

@@ -1,0 +1,5 @@
+pub mod Runs
+pub mod Journals
+pub mod Books
+pub mod Seats
+pub mod Standing

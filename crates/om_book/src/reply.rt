@@ -1,0 +1,73 @@
+//! What the machine answers to a call.
+
+ghost use Rattle.std.specs.Prelude.{◌≡◌, IfOk};
+
+use om_cells::{Entry, Val};
+use om_foot::Name;
+use om_history::{RollReply, StepReply, Taken, UndoReply};
+use om_same::Same;
+use om_seq::Seq;
+use std::alloc::{AllocError, Global};
+
+/// What is answered to a command: to each kind its own kind of reply.
+#[derive(Drop)]
+pub enum Reply {
+    Step(StepReply),
+    Undo(UndoReply),
+    Roll(RollReply),
+    /// What the object holds.
+    Value(Val),
+    /// The names of the tasks that are ready to be begun, ascending.
+    Ready(Seq<Name>),
+    /// The entries that stand in the history, in their order.
+    Entries(Seq<Entry>),
+}
+
+impl Reply {
+    /// A copy; its only error is out of memory.
+    pub fn copy(&self, alloc: Global) -> Result<Reply, AllocError>
+        ensures { IfOk result (λ reply. reply ≡ self.now) }
+    {
+        match self {
+            Reply::Step(reply) => Ok(Reply::Step(*reply)),
+            Reply::Undo(reply) => Ok(Reply::Undo(*reply)),
+            Reply::Roll(reply) => Ok(Reply::Roll(copy_roll(alloc, reply)?)),
+            Reply::Value(value) => Ok(Reply::Value(value.copy(alloc)?)),
+            Reply::Ready(names) => Ok(Reply::Ready(Seq::of(Vec::from_slice(
+                alloc,
+                names.as_slice(),
+            )?))),
+            Reply::Entries(entries) => Ok(Reply::Entries(Seq::of(Vec::from_slice(
+                alloc,
+                entries.as_slice(),
+            )?))),
+        }
+    }
+}
+
+/// A copy of a roll's reply; its only error is out of memory.
+fn copy_roll(alloc: Global, reply: &RollReply) -> Result<RollReply, AllocError>
+    ensures { IfOk result (λ copy. copy ≡ reply.now) }
+{
+    match reply {
+        RollReply::Rolled(taken) => {
+            let taken: Vec<Taken> = Vec::from_slice(alloc, taken.as_slice())?;
+            Ok(RollReply::Rolled(Seq::of(taken)))
+        }
+        RollReply::NoEntry => Ok(RollReply::NoEntry),
+    }
+}
+
+impl Same for Reply {
+    fn is_same(&self, other: &Reply) -> bool {
+        match (self, other) {
+            (Reply::Step(one), Reply::Step(two)) => one.is_same(two),
+            (Reply::Undo(one), Reply::Undo(two)) => one.is_same(two),
+            (Reply::Roll(one), Reply::Roll(two)) => one.is_same(two),
+            (Reply::Value(one), Reply::Value(two)) => one.is_same(two),
+            (Reply::Ready(one), Reply::Ready(two)) => one.is_same(two),
+            (Reply::Entries(one), Reply::Entries(two)) => one.is_same(two),
+            _ => false,
+        }
+    }
+}

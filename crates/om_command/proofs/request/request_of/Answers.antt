@@ -1,0 +1,11 @@
+use Rattle.std.proofs.Common.{rules}
+use Rattle.om_command.specs.Commands.{request_of}
+use Rattle.om_command.proofs.request.request_of.Goals as goal
+
+pub returns-then-line-gt-LONGEST_LINE-clause-asked : goal.returns-then-line-gt-LONGEST_LINE-clause-asked
+unfolding request_of
+returns-then-line-gt-LONGEST_LINE-clause-asked c = search rules
+
+pub returns-clause-asked : goal.returns-clause-asked
+unfolding request_of
+returns-clause-asked c = search rules

@@ -1,0 +1,127 @@
+//! What a line asks for.
+
+ghost use Rattle.std.specs.Prelude.{◌≡◌, map, IfOk, IfSome};
+ghost use Rattle.om_command.specs.Commands.{command_of, start_of, print_of, alone, taken, request_in, request_of, HasWorkerBelow, AsksWorkerBelow};
+ghost use Rattle.om_command.specs.Words.{words_of};
+
+use crate::arguments::{
+    one_count, one_number, one_variable, one_worker, variable_of, worker, worker_and_task,
+};
+use crate::command::{Command, CommandFault, Request};
+use crate::verb::{Verb, verb_of};
+use std::alloc::{AllocError, Global};
+
+// How many bytes a line has at most, its end not counted.
+const LONGEST_LINE: usize = 1024;
+
+// The words of a line, which spaces part.
+fn words(alloc: Global, line: &[u8]) -> Result<Vec<&[u8]>, AllocError>
+    ensures { IfOk result (λ words. map (λ word. word.now) words.items ≡ words_of line.now) }
+{
+    line.split(|byte| *byte == b' ')
+        .filter(|word| !word.is_empty())
+        .collect(alloc)
+}
+
+// `start`, with the words behind it.
+fn start(alloc: Global, workers: u8, words: &[&[u8]]) -> Result<Option<Command>, AllocError>
+    ensures asked { IfOk result (λ command. command ≡ start_of workers (map (λ word. word.now) words.now)) }
+    ensures in_range { IfOk result (λ command. IfSome command (HasWorkerBelow workers)) }
+{
+    match worker_and_task(alloc, workers, words)? {
+        Some((worker, task)) => Ok(Some(Command::Start { worker, task })),
+        None => Ok(None),
+    }
+}
+
+// `print`, with the words behind it.
+fn print(alloc: Global, workers: u8, words: &[&[u8]]) -> Result<Option<Command>, AllocError>
+    ensures asked { IfOk result (λ command. command ≡ print_of workers (map (λ word. word.now) words.now)) }
+    ensures in_range { IfOk result (λ command. IfSome command (HasWorkerBelow workers)) }
+{
+    match words {
+        [first, second] => {
+            let Some(worker) = worker(workers, first) else {
+                return Ok(None);
+            };
+            let variable = variable_of(alloc, second)?;
+            Ok(variable.map(|variable| Command::PrintLocal { worker, variable }))
+        }
+        _ => Ok(one_variable(alloc, words)?.map(|variable| Command::Print(variable))),
+    }
+}
+
+// A command without arguments.
+fn alone(command: Command, words: &[&[u8]]) -> Option<Command>
+    ensures { result ≡ alone command (map (λ word. word.now) words.now) }
+{
+    if words.is_empty() {
+        Some(command)
+    } else {
+        None
+    }
+}
+
+// What a verb asks for with the words behind it; `None` where they are not what it takes.
+fn command_by(
+    alloc: Global,
+    verb: Verb,
+    workers: u8,
+    words: &[&[u8]],
+) -> Result<Option<Command>, AllocError>
+    ensures asked { IfOk result (λ command. command ≡ command_of verb workers (map (λ word. word.now) words.now)) }
+    ensures in_range { IfOk result (λ command. IfSome command (HasWorkerBelow workers)) }
+{
+    match verb {
+        Verb::Step => Ok(one_worker(workers, words).map(|worker| Command::Step(worker))),
+        Verb::Start => start(alloc, workers, words),
+        Verb::Undo => Ok(one_worker(workers, words).map(|worker| Command::Undo(worker))),
+        Verb::Next => Ok(one_worker(workers, words).map(|worker| Command::Next(worker))),
+        Verb::Back => Ok(one_worker(workers, words).map(|worker| Command::Back(worker))),
+        Verb::Print => print(alloc, workers, words),
+        Verb::Where => Ok(one_worker(workers, words).map(|worker| Command::Where(worker))),
+        Verb::History => Ok(alone(Command::History, words)),
+        Verb::Events => Ok(one_worker(workers, words).map(|worker| Command::Events(worker))),
+        Verb::Output => Ok(alone(Command::Output, words)),
+        Verb::Tasks => Ok(alone(Command::Tasks, words)),
+        Verb::Break => Ok(one_number(words).map(|line| Command::Break(line))),
+        Verb::Watch => Ok(one_variable(alloc, words)?.map(|variable| Command::Watch(variable))),
+        Verb::Delete => Ok(one_number(words).map(|line| Command::Delete(line))),
+        Verb::Run => Ok(one_count(words).map(|steps| Command::Run(steps))),
+        Verb::Free => Ok(one_number(words).map(|rounds| Command::Free(rounds))),
+        Verb::Roll => Ok(one_number(words).map(|serial| Command::Roll(serial))),
+        Verb::Quit => Ok(alone(Command::Quit, words)),
+    }
+}
+
+// What words ask for.
+fn request_in(alloc: Global, workers: u8, words: &[&[u8]]) -> Result<Request, AllocError>
+    ensures asked { IfOk result (λ request. request ≡ request_in workers (map (λ word. word.now) words.now)) }
+    ensures in_range { IfOk result (AsksWorkerBelow workers) }
+{
+    match words {
+        [] => Ok(Request::Nothing),
+        [word, words @ ..] => match verb_of(word) {
+            Some(verb) => match command_by(alloc, verb, workers, words)? {
+                Some(command) => Ok(Request::Command(command)),
+                None => Ok(Request::Fault(CommandFault::BadArgument)),
+            },
+            None => Ok(Request::Fault(CommandFault::UnknownCommand)),
+        },
+    }
+}
+
+/// What a line asks for, where there are so many workers.
+///
+/// A line has at most 1,024 bytes. Words are parted by spaces, and a number has one to ten digits.
+/// What is wrong with a line is an answer; the only error is out of memory.
+pub fn request_of(alloc: Global, workers: u8, line: &[u8]) -> Result<Request, AllocError>
+    ensures asked { IfOk result (λ request. request ≡ request_of workers line.now) }
+    ensures in_range { IfOk result (AsksWorkerBelow workers) }
+{
+    if line.len() > LONGEST_LINE {
+        return Ok(Request::Fault(CommandFault::BadArgument));
+    }
+    let words = words(alloc, line)?;
+    request_in(alloc, workers, &words)
+}

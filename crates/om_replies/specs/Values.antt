@@ -1,0 +1,19 @@
+-- The texts of values.
+use Rattle.std.specs.Prelude.{List, ℕ, ◌++◌, codes}
+use Rattle.std.specs.Fmt.{signed_decimal}
+use Rattle.om_code.specs.declared.raw.Raw.{Raw}
+use Rattle.om_code.specs.declared.frame.Cell.{Cell}
+use Rattle.om_code.specs.declared.frame.Cell.TheVariants as cell
+use Rattle.om_cells.specs.declared.value.Val.{Val}
+use Rattle.om_cells.specs.Values.{cell_in}
+use Rattle.om_replies.specs.declared.value.GlobalCell.{GlobalCell}
+use Rattle.om_replies.specs.Objects.{variable_text}
+
+abbrev pub cell_text : Cell → List ℕ
+cell_text (cell.Int n) = signed_decimal n
+cell_text cell.Unset = codes "unset"
+cell_text cell.Dead = codes "dead"
+
+-- `x = 3`, `a[2] = 0`
+abbrev pub print_text : Raw → GlobalCell → Val → List ℕ
+print_text program global value = variable_text program global ++ codes " = " ++ cell_text (cell_in value) ++ codes "\n"

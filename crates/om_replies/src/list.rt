@@ -1,0 +1,121 @@
+//! Replies of many lines.
+
+ghost use Rattle.std.specs.Prelude.{◌≡◌, ◌++◌, OnOk};
+ghost use Rattle.om_replies.specs.Lists.{joined, entry_line, history_text, event_line, events_text, output_text, task_text, no_tasks_text, taken_line, roll_text};
+
+use crate::number::push_number;
+use crate::step::push_entry;
+use om_cells::Entry;
+use om_events::{Record, text_of};
+use om_foot::Name;
+use om_history::{RollReply, Taken};
+use std::alloc::AllocError;
+
+fn push_entry_line(text: &mut Vec<u8>, entry: &Entry) -> Result<(), AllocError>
+    ensures { OnOk result (text.new.items ≡ text.old.items ++ entry_line entry.now) }
+{
+    push_entry(text, entry.serial, entry.worker, entry.line)?;
+    text.extend_from_slice(b"\n")
+}
+
+fn push_entries(text: &mut Vec<u8>, entries: &[Entry]) -> Result<(), AllocError>
+    ensures { OnOk result (text.new.items ≡ text.old.items ++ joined entry_line entries.now) }
+{
+    for entry in entries {
+        push_entry_line(text, entry)?;
+    }
+    Ok(())
+}
+
+/// Appends the steps that stand, each on a line, in their order.
+pub fn push_history(text: &mut Vec<u8>, entries: &[Entry]) -> Result<(), AllocError>
+    ensures { OnOk result (text.new.items ≡ text.old.items ++ history_text entries.now) }
+{
+    match entries {
+        [] => text.extend_from_slice(b"no steps\n"),
+        [_, ..] => push_entries(text, entries),
+    }
+}
+
+fn push_event_line(text: &mut Vec<u8>, event: &Record) -> Result<(), AllocError>
+    ensures { OnOk result (text.new.items ≡ text.old.items ++ event_line event.now) }
+{
+    text_of(event, text)?;
+    text.extend_from_slice(b"\n")
+}
+
+fn push_event_lines(text: &mut Vec<u8>, events: &[Record]) -> Result<(), AllocError>
+    ensures { OnOk result (text.new.items ≡ text.old.items ++ joined event_line events.now) }
+{
+    for event in events {
+        push_event_line(text, event)?;
+    }
+    Ok(())
+}
+
+/// Appends event records, each on a line, in their order.
+pub fn push_events(text: &mut Vec<u8>, events: &[Record]) -> Result<(), AllocError>
+    ensures { OnOk result (text.new.items ≡ text.old.items ++ events_text events.now) }
+{
+    push_event_lines(text, events)
+}
+
+/// Appends how many bytes the program printed, and these.
+pub fn push_output(text: &mut Vec<u8>, bytes: &[u8]) -> Result<(), AllocError>
+    ensures { OnOk result (text.new.items ≡ text.old.items ++ output_text bytes.now) }
+{
+    text.extend_from_slice(b"output ")?;
+    push_number(text, bytes.len())?;
+    text.extend_from_slice(b" bytes\n")?;
+    text.extend_from_slice(bytes)?;
+    text.extend_from_slice(b"\n")
+}
+
+/// Appends a task that is ready, and the line of its directive.
+pub fn push_task(text: &mut Vec<u8>, name: &Name, line: u32) -> Result<(), AllocError>
+    ensures { OnOk result (text.new.items ≡ text.old.items ++ task_text name.now line) }
+{
+    text.extend_from_slice(b"ready ")?;
+    name.text(text)?;
+    text.extend_from_slice(b" line ")?;
+    push_number(text, line)?;
+    text.extend_from_slice(b"\n")
+}
+
+/// Appends that no task is ready.
+pub fn push_no_tasks(text: &mut Vec<u8>) -> Result<(), AllocError>
+    ensures { OnOk result (text.new.items ≡ text.old.items ++ no_tasks_text) }
+{
+    text.extend_from_slice(b"no tasks\n")
+}
+
+fn push_taken_line(text: &mut Vec<u8>, taken: &Taken) -> Result<(), AllocError>
+    ensures { OnOk result (text.new.items ≡ text.old.items ++ taken_line taken.now) }
+{
+    text.extend_from_slice(b"undone ")?;
+    push_entry(text, taken.serial, taken.worker, taken.line)?;
+    text.extend_from_slice(b"\n")
+}
+
+fn push_members(text: &mut Vec<u8>, members: &[Taken]) -> Result<(), AllocError>
+    ensures { OnOk result (text.new.items ≡ text.old.items ++ joined taken_line members.now) }
+{
+    for taken in members {
+        push_taken_line(text, taken)?;
+    }
+    Ok(())
+}
+
+/// Appends the reply to a roll: the steps that it took out, the latest first.
+pub fn push_roll(text: &mut Vec<u8>, serial: u64, reply: &RollReply) -> Result<(), AllocError>
+    ensures { OnOk result (text.new.items ≡ text.old.items ++ roll_text serial reply.now) }
+{
+    match reply {
+        RollReply::Rolled(members) => push_members(text, members.as_slice()),
+        RollReply::NoEntry => {
+            text.extend_from_slice(b"no step #")?;
+            push_number(text, serial)?;
+            text.extend_from_slice(b"\n")
+        }
+    }
+}

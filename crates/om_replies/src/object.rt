@@ -1,0 +1,163 @@
+//! The texts of objects, as a reply names them.
+ghost use Rattle.std.specs.Prelude.{◌≡◌, ◌++◌, decimal, OnOk, codes};
+ghost use Rattle.om_foot.specs.Names.{name_text};
+ghost use Rattle.om_replies.specs.Objects.{cell_place_text, index_text, length_of, lock_text, name_of, object_text, place_text, variable_text};
+
+use crate::number::push_number;
+use crate::value::GlobalCell;
+use om_code::program::Program;
+use om_foot::{Name, Obj};
+use std::alloc::AllocError;
+
+/// Appends the text of an object, which names a global or a critical region by its name.
+pub(crate) fn push_object(
+    text: &mut Vec<u8>,
+    program: &Program,
+    object: &Obj,
+) -> Result<(), AllocError>
+    ensures { OnOk result (text.new.items ≡ text.old.items ++ object_text program.now object.now) }
+{
+    match object {
+        Obj::Control(worker) => push_worker(text, b"control ", *worker),
+        Obj::Cell {
+            task,
+            frame,
+            slot,
+            index,
+        } => push_cell_place(text, task, *frame, *slot, *index),
+        Obj::Global { variable, index } => push_global(
+            text,
+            program,
+            GlobalCell {
+                variable: *variable,
+                index: *index,
+            },
+        ),
+        Obj::Task(task) => push_named(text, b"task ", task),
+        Obj::Kids(task) => push_named(text, b"children ", task),
+        Obj::Pending { team, phase } => push_place(text, b"pending ", team, *phase),
+        Obj::Arrived { team, number } => push_place(text, b"arrived ", team, u64::from(*number)),
+        Obj::Work { team, region } => push_place(text, b"work ", team, *region),
+        Obj::Lock(lock) => push_lock(text, program, *lock),
+        Obj::Group(group) => push_named(text, b"group ", group),
+        Obj::Output => text.extend_from_slice(b"output"),
+        Obj::Events(worker) => push_worker(text, b"events ", *worker),
+    }
+}
+
+// What one worker has alone.
+fn push_worker(text: &mut Vec<u8>, kind: &[u8], worker: u8) -> Result<(), AllocError>
+    ensures { OnOk result (text.new.items ≡ text.old.items ++ (kind.now ++ decimal worker)) }
+{
+    text.extend_from_slice(kind)?;
+    push_number(text, worker)
+}
+
+// What is named as a task or a team.
+fn push_named(text: &mut Vec<u8>, kind: &[u8], name: &Name) -> Result<(), AllocError>
+    ensures { OnOk result (text.new.items ≡ text.old.items ++ (kind.now ++ name_text name.now)) }
+{
+    text.extend_from_slice(kind)?;
+    name.text(text)
+}
+
+// What has a number in a team.
+fn push_place(text: &mut Vec<u8>, kind: &[u8], team: &Name, number: u64) -> Result<(), AllocError>
+    ensures { OnOk result (text.new.items ≡ text.old.items ++ (kind.now ++ place_text team.now number)) }
+{
+    push_named(text, kind, team)?;
+    text.extend_from_slice(b" ")?;
+    push_number(text, number)
+}
+
+// A cell of a local variable.
+fn push_cell_place(
+    text: &mut Vec<u8>,
+    task: &Name,
+    frame: u64,
+    slot: u32,
+    index: u32,
+) -> Result<(), AllocError>
+    ensures { OnOk result (text.new.items ≡ text.old.items ++ (codes "cell " ++ cell_place_text task.now frame slot index)) }
+{
+    push_named(text, b"cell ", task)?;
+    text.extend_from_slice(b"/")?;
+    push_number(text, frame)?;
+    text.extend_from_slice(b"/")?;
+    push_number(text, slot)?;
+    text.extend_from_slice(b"/")?;
+    push_number(text, index)
+}
+
+/// Appends a cell of a global as the source writes it: `x`, or `a[2]`.
+pub(crate) fn push_variable(
+    text: &mut Vec<u8>,
+    program: &Program,
+    cell: GlobalCell,
+) -> Result<(), AllocError>
+    ensures { OnOk result (text.new.items ≡ text.old.items ++ variable_text program.now cell) }
+{
+    push_name(text, program, cell.variable)?;
+    push_index(text, length_in(program, cell.variable), cell.index)
+}
+
+// A cell of a global.
+fn push_global(text: &mut Vec<u8>, program: &Program, cell: GlobalCell) -> Result<(), AllocError>
+    ensures { OnOk result (text.new.items ≡ text.old.items ++ (codes "global " ++ variable_text program.now cell)) }
+{
+    text.extend_from_slice(b"global ")?;
+    push_variable(text, program, cell)
+}
+
+// The name of a global, which is empty where the program has no such global.
+fn push_name(text: &mut Vec<u8>, program: &Program, global: u32) -> Result<(), AllocError>
+    ensures { OnOk result (text.new.items ≡ text.old.items ++ name_of program.now global) }
+{
+    match program.globals().get(global as usize) {
+        Some(variable) => text.extend_from_slice(variable.name.as_slice()),
+        None => Ok(()),
+    }
+}
+
+// The length of a global, where it is an array.
+fn length_in(program: &Program, global: u32) -> Option<u32>
+    ensures { result ≡ length_of program.now global }
+{
+    program.globals().get(global as usize)?.length
+}
+
+// The index of an array's cell; a scalar has none.
+fn push_index(text: &mut Vec<u8>, length: Option<u32>, index: u32) -> Result<(), AllocError>
+    ensures { OnOk result (text.new.items ≡ text.old.items ++ index_text length index) }
+{
+    match length {
+        Some(_) => {
+            text.extend_from_slice(b"[")?;
+            push_number(text, index)?;
+            text.extend_from_slice(b"]")
+        }
+        None => Ok(()),
+    }
+}
+
+// A critical region, `-` where it is the unnamed one.
+fn push_lock(text: &mut Vec<u8>, program: &Program, lock: u32) -> Result<(), AllocError>
+    ensures { OnOk result (text.new.items ≡ text.old.items ++ object_text program.now (Obj.Lock lock)) }
+{
+    text.extend_from_slice(b"lock ")?;
+    match program.raw().locks.as_slice().get(lock as usize) {
+        Some(name) => push_lock_name(text, name.as_slice()),
+        None => Ok(()),
+    }
+}
+
+// The name of a critical region.
+fn push_lock_name(text: &mut Vec<u8>, name: &[u8]) -> Result<(), AllocError>
+    ensures { OnOk result (text.new.items ≡ text.old.items ++ lock_text (Some name.now)) }
+{
+    if name.is_empty() {
+        text.extend_from_slice(b"-")
+    } else {
+        text.extend_from_slice(name)
+    }
+}

@@ -1,0 +1,141 @@
+//! The replies to steps and undos, and to lines that are refused.
+ghost use Rattle.std.specs.Prelude.{◌≡◌, ◌++◌, decimal, OnOk, codes};
+ghost use Rattle.om_replies.specs.Objects.{object_text};
+ghost use Rattle.om_replies.specs.Steps.{entry_text, fault_text, blocker_text, step_text, undo_text, command_fault_text, full_text};
+
+use crate::number::push_number;
+use crate::object::push_object;
+use om_cells::Blocked;
+use om_code::frame::Fault;
+use om_code::program::Program;
+use om_command::CommandFault;
+use om_foot::Obj;
+use om_history::{StepReply, UndoReply};
+use std::alloc::AllocError;
+
+// `#S worker W line L`
+pub(crate) fn push_entry(
+    text: &mut Vec<u8>,
+    serial: u64,
+    worker: u8,
+    line: u32,
+) -> Result<(), AllocError>
+    ensures { OnOk result (text.new.items ≡ text.old.items ++ entry_text serial worker line) }
+{
+    text.extend_from_slice(b"#")?;
+    push_number(text, serial)?;
+    text.extend_from_slice(b" worker ")?;
+    push_number(text, worker)?;
+    text.extend_from_slice(b" line ")?;
+    push_number(text, line)
+}
+
+// ` fault F1`, where there is a fault.
+pub(crate) fn push_fault(text: &mut Vec<u8>, fault: Option<Fault>) -> Result<(), AllocError>
+    ensures { OnOk result (text.new.items ≡ text.old.items ++ fault_text fault) }
+{
+    match fault {
+        Some(fault) => {
+            text.extend_from_slice(b" fault F")?;
+            push_number(text, fault.number())
+        }
+        None => Ok(()),
+    }
+}
+
+// The worker that holds the lock, or has to be idle.
+fn push_blocker(text: &mut Vec<u8>, why: Blocked) -> Result<(), AllocError>
+    ensures { OnOk result (text.new.items ≡ text.old.items ++ blocker_text why) }
+{
+    match why {
+        Blocked::Critical(worker) | Blocked::Busy(worker) => {
+            text.extend_from_slice(b" by ")?;
+            push_number(text, worker)
+        }
+        _ => Ok(()),
+    }
+}
+
+/// Appends the reply to a step.
+pub fn push_step(text: &mut Vec<u8>, worker: u8, reply: StepReply) -> Result<(), AllocError>
+    ensures { OnOk result (text.new.items ≡ text.old.items ++ step_text worker reply) }
+{
+    match reply {
+        StepReply::Done {
+            serial,
+            line,
+            fault,
+        } => {
+            push_entry(text, serial, worker, line)?;
+            push_fault(text, fault)?;
+            text.extend_from_slice(b"\n")
+        }
+        StepReply::Blocked(why) => {
+            text.extend_from_slice(b"blocked B")?;
+            push_number(text, why.number())?;
+            push_blocker(text, why)?;
+            text.extend_from_slice(b"\n")
+        }
+        StepReply::Ended => text.extend_from_slice(b"ended\n"),
+    }
+}
+
+// The first later step that an undo conflicts with, and where.
+fn push_conflict(
+    text: &mut Vec<u8>,
+    program: &Program,
+    serial: u64,
+    worker: u8,
+    object: &Obj,
+) -> Result<(), AllocError>
+    ensures { OnOk result (text.new.items ≡ text.old.items ++ (codes "refused by #" ++ decimal serial ++ codes " worker " ++ decimal worker ++ codes " on " ++ object_text program.now object.now ++ codes "\n")) }
+{
+    text.extend_from_slice(b"refused by #")?;
+    push_number(text, serial)?;
+    text.extend_from_slice(b" worker ")?;
+    push_number(text, worker)?;
+    text.extend_from_slice(b" on ")?;
+    push_object(text, program, object)?;
+    text.extend_from_slice(b"\n")
+}
+
+/// Appends the reply to an undo.
+pub fn push_undo(
+    text: &mut Vec<u8>,
+    program: &Program,
+    worker: u8,
+    reply: &UndoReply,
+) -> Result<(), AllocError>
+    ensures { OnOk result (text.new.items ≡ text.old.items ++ undo_text program.now worker reply.now) }
+{
+    match reply {
+        UndoReply::Undone { serial, line } => {
+            text.extend_from_slice(b"undone ")?;
+            push_entry(text, *serial, worker, *line)?;
+            text.extend_from_slice(b"\n")
+        }
+        UndoReply::Conflict {
+            serial,
+            worker,
+            object,
+        } => push_conflict(text, program, *serial, *worker, object),
+        UndoReply::Nothing => text.extend_from_slice(b"nothing to undo\n"),
+    }
+}
+
+/// Appends the reply to a line that is no command.
+pub fn push_command_fault(text: &mut Vec<u8>, fault: CommandFault) -> Result<(), AllocError>
+    ensures { OnOk result (text.new.items ≡ text.old.items ++ command_fault_text fault) }
+{
+    match fault {
+        CommandFault::UnknownCommand => text.extend_from_slice(b"H1 unknown command\n"),
+        CommandFault::BadArgument => text.extend_from_slice(b"H2 bad argument\n"),
+    }
+}
+
+/// Appends the reply to a command that needs a record beyond those that the journal takes.
+pub fn push_full(text: &mut Vec<u8>) -> Result<(), AllocError>
+    ensures { OnOk result (text.new.items ≡ text.old.items ++ full_text) }
+{
+    text.extend_from_slice(b"full\n")
+}

@@ -1,0 +1,59 @@
+//! The values of variables.
+
+ghost use Rattle.std.specs.Prelude.{◌≡◌, ◌++◌, OnOk};
+ghost use Rattle.om_replies.specs.Objects.{variable_text};
+ghost use Rattle.om_replies.specs.Values.{cell_text, print_text};
+
+use crate::number::push_number;
+use crate::object::push_variable;
+use om_cells::Val;
+use om_code::frame::Cell;
+use om_code::program::Program;
+use om_foot::Obj;
+use std::alloc::AllocError;
+
+/// A cell of a global variable.
+#[derive(Clone, Copy)]
+pub struct GlobalCell {
+    /// The variable's number in its program.
+    pub variable: u32,
+    /// The index in it, 0 for a scalar.
+    pub index: u32,
+}
+
+impl GlobalCell {
+    /// The object that it is.
+    pub fn object(self) -> Obj
+        ensures { result ≡ Obj.Global self.variable self.index }
+    {
+        Obj::Global {
+            variable: self.variable,
+            index: self.index,
+        }
+    }
+}
+
+fn push_cell(text: &mut Vec<u8>, cell: Cell) -> Result<(), AllocError>
+    ensures { OnOk result (text.new.items ≡ text.old.items ++ cell_text cell) }
+{
+    match cell {
+        Cell::Int(number) => push_number(text, number),
+        Cell::Unset => text.extend_from_slice(b"unset"),
+        Cell::Dead => text.extend_from_slice(b"dead"),
+    }
+}
+
+/// Appends the value of a cell of a global variable: `x = 3`, `a[2] = 0`.
+pub fn push_print(
+    text: &mut Vec<u8>,
+    program: &Program,
+    cell: GlobalCell,
+    value: &Val,
+) -> Result<(), AllocError>
+    ensures { OnOk result (text.new.items ≡ text.old.items ++ print_text program.now cell value.now) }
+{
+    push_variable(text, program, cell)?;
+    text.extend_from_slice(b" = ")?;
+    push_cell(text, value.cell())?;
+    text.extend_from_slice(b"\n")
+}

@@ -1,0 +1,43 @@
+//! Whether what two objects hold is the same.
+
+use crate::same::Same;
+use om_cells::{Ready, Task, Val};
+
+impl Same for Ready {
+    fn is_same(&self, other: &Ready) -> bool {
+        self.body == other.body
+            && self.line == other.line
+            && self.homes.is_same(&other.homes)
+            && self.team.is_same(&other.team)
+            && self.phase == other.phase
+            && self.group.is_same(&other.group)
+    }
+}
+
+impl Same for Task {
+    fn is_same(&self, other: &Task) -> bool {
+        match (self, other) {
+            (Task::Absent, Task::Absent) => true,
+            (Task::Ready(one), Task::Ready(two)) => one.is_same(two),
+            (Task::Running(one), Task::Running(two)) => *one == *two,
+            (Task::Done, Task::Done) => true,
+            _ => false,
+        }
+    }
+}
+
+impl Same for Val {
+    fn is_same(&self, other: &Val) -> bool {
+        match (self, other) {
+            (Val::Control(one), Val::Control(two)) => one.is_same(two),
+            (Val::Cell(one), Val::Cell(two)) => one.is_same(two),
+            (Val::Task(one), Val::Task(two)) => one.is_same(two),
+            (Val::Count(one), Val::Count(two)) => *one == *two,
+            (Val::Number(one), Val::Number(two)) => *one == *two,
+            (Val::Lock(one), Val::Lock(two)) => one.is_same(two),
+            (Val::Output(one), Val::Output(two)) => one.is_same(two),
+            (Val::Events(one), Val::Events(two)) => one.is_same(two),
+            _ => false,
+        }
+    }
+}
