@@ -12,7 +12,7 @@ use Rattle.om_tree.specs.declared.tree.BinaryOperator.TheVariants as binaries
 use Rattle.om_resolved.specs.declared.resolved.GlobalVariable.{GlobalVariable}
 use Rattle.om_resolved.specs.declared.resolved.Variable.TheVariants as named
 use Rattle.om_scope.specs.Faults.{breach_if, goes_first, with_breach, perhaps_with}
-use Rattle.om_resolved.specs.ResolvedTree.{ResolvedExpressionTree, Constant, Variable, Element, Call, ThreadNumber, TeamSize, Print, Unary, Binary, Conditional, Assign, AssignElement, Postfix, PostfixElement, ResolvedStatementTree, Declaration, Block, Empty, Expression, If, IfElse, While, Do, For, Return, Break, Continue, Parallel, Task, Loop, Sections, Section, Construct, Update, StandAlone, ResolvedFunctionTree, ResolvedTree, statements}
+use Rattle.om_resolved.specs.ResolvedTree.{ResolvedExpressionTree, Constant, Variable, Element, Call, ThreadNumber, TeamSize, Print, Unary, Binary, Conditional, Assign, AssignElement, Postfix, PostfixElement, ResolvedStatementTree, Declaration, Block, Empty, Expression, If, IfElse, While, Do, For, Return, Break, Continue, Parallel, Task, Loop, Sections, Construct, Update, StandAlone, ResolvedFunctionTree, ResolvedTree, statements}
 use Rattle.om_resolved.specs.Uses.{is_main_function}
 use Rattle.om_lower.specs.Code.{listed, statements_of}
 use Rattle.om_lower.specs.Untaken.{takes_expression, takes_effect, takes_statement, statement_first, statement_untaken, function_untaken, with_global, untaken_breaches}
@@ -114,7 +114,6 @@ taken_statement (Parallel at clauses captures s) t = cc
 taken_statement (Task at clauses captures s) t = cc
 taken_statement (Loop at clauses nowait l s) t = cc
 taken_statement (Sections at clauses nowait items) t = cc
-taken_statement (Section s) t = cc
 taken_statement (Construct at kind clauses s) t = cc
 taken_statement (Update at u) t = cc
 taken_statement (StandAlone at directive) t = cc

@@ -10,7 +10,7 @@ use Rattle.om_resolved.specs.declared.resolved.ConstructKind.TheVariants as cons
 use Rattle.om_resolved.specs.declared.resolved.CopyKind.{CopyKind}
 use Rattle.om_resolved.specs.declared.resolved.CopyKind.TheVariants as copies
 use Rattle.om_lower.specs.Slots.{capture_cells}
-use Rattle.om_resolved.specs.ResolvedTree.{ResolvedExpressionTree, Constant, Variable, Element, Call, ThreadNumber, TeamSize, Print, Unary, Binary, Conditional, Assign, AssignElement, Postfix, PostfixElement, ValuesTree, NoValues, Value, ResolvedDeclaratorTree, ResolvedClauseTree, ClauseValue, Shared, Copied, ResolvedLoopTree, ResolvedStartTree, StartNothing, StartExpression, StartDeclaration, ResolvedUpdateTree, ResolvedStatementTree, Declaration, Block, Empty, Expression, If, IfElse, While, Do, For, Return, Break, Continue, Parallel, Task, Loop, Sections, Section, Construct, Update, StandAlone, ResolvedStatementsTree, NoStatements, Statement}
+use Rattle.om_resolved.specs.ResolvedTree.{ResolvedExpressionTree, Constant, Variable, Element, Call, ThreadNumber, TeamSize, Print, Unary, Binary, Conditional, Assign, AssignElement, Postfix, PostfixElement, ValuesTree, NoValues, Value, ResolvedDeclaratorTree, ResolvedClauseTree, ClauseValue, Shared, Copied, ResolvedLoopTree, ResolvedStartTree, StartNothing, StartExpression, StartDeclaration, ResolvedUpdateTree, ResolvedStatementTree, Declaration, Block, Empty, Expression, If, IfElse, While, Do, For, Return, Break, Continue, Parallel, Task, Loop, Sections, Construct, Update, StandAlone, ResolvedStatementsTree, NoStatements, Statement, ResolvedPartsTree, NoParts, Part}
 
 -- ---- expressions
 
@@ -152,8 +152,7 @@ unfoldable mutual
   statement_height (Parallel at clauses captures s) = given_height clauses captures
   statement_height (Task at clauses captures s) = given_height clauses captures
   statement_height (Loop at clauses nowait l s) = max (loop_height clauses l) (statement_height s)
-  statement_height (Sections at clauses nowait items) = max (starts_height false clauses) (statements_height items)
-  statement_height (Section s) = statement_height s
+  statement_height (Sections at clauses nowait parts) = max (starts_height false clauses) (parts_height parts)
   statement_height (Construct at kind clauses s) = max (entry_height kind clauses) (statement_height s)
   statement_height (Update at u) = update_height u
   statement_height (StandAlone at directive) = 0
@@ -161,6 +160,10 @@ unfoldable mutual
   pub statements_height : ResolvedStatementsTree → ℕ
   statements_height NoStatements = 0
   statements_height (Statement s rest) = max (statement_height s) (statements_height rest)
+
+  pub parts_height : ResolvedPartsTree → ℕ
+  parts_height NoParts = 0
+  parts_height (Part items rest) = max (statements_height items) (parts_height rest)
 
 -- of the body of a `parallel` or a `task`
 abbrev pub region_height : List ResolvedClauseTree → ResolvedStatementTree → ℕ

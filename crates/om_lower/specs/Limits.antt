@@ -7,7 +7,7 @@ use Rattle.om_lower.specs.Heights.{region_height, statements_height}
 use Rattle.om_lower.specs.Slots.{function_slots, has_too_many, region_slots}
 use Rattle.om_lower.specs.Written.{body_of}
 use Rattle.om_scope.specs.Faults.{breach_if}
-use Rattle.om_resolved.specs.ResolvedTree.{ResolvedStatementTree, Declaration, Block, Empty, Expression, If, IfElse, While, Do, For, Return, Break, Continue, Parallel, Task, Loop, Sections, Section, Construct, Update, StandAlone, ResolvedStatementsTree, NoStatements, Statement, ResolvedFunctionTree, ResolvedTree}
+use Rattle.om_resolved.specs.ResolvedTree.{ResolvedStatementTree, Declaration, Block, Empty, Expression, If, IfElse, While, Do, For, Return, Break, Continue, Parallel, Task, Loop, Sections, Construct, Update, StandAlone, ResolvedStatementsTree, NoStatements, Statement, ResolvedPartsTree, NoParts, Part, ResolvedFunctionTree, ResolvedTree}
 
 -- whether a body with these slots and this height has more than 256 slots, 4,096 cells or 256 operands at once
 abbrev pub is_too_large : (slots : List ℕ) → (height : ℕ) → Bool
@@ -31,8 +31,7 @@ unfoldable mutual
   has_large_region (Parallel at clauses captures s) = is_too_large (region_slots clauses captures s) (region_height clauses s) || has_large_region s
   has_large_region (Task at clauses captures s) = is_too_large (region_slots clauses captures s) (region_height clauses s) || has_large_region s
   has_large_region (Loop at clauses nowait l s) = has_large_region s
-  has_large_region (Sections at clauses nowait items) = have_large_region items
-  has_large_region (Section s) = has_large_region s
+  has_large_region (Sections at clauses nowait parts) = parts_have_large_region parts
   has_large_region (Construct at kind clauses s) = has_large_region s
   has_large_region (Update at u) = false
   has_large_region (StandAlone at directive) = false
@@ -40,6 +39,10 @@ unfoldable mutual
   pub have_large_region : ResolvedStatementsTree → Bool
   have_large_region NoStatements = false
   have_large_region (Statement s rest) = has_large_region s || have_large_region rest
+
+  pub parts_have_large_region : ResolvedPartsTree → Bool
+  parts_have_large_region NoParts = false
+  parts_have_large_region (Part items rest) = have_large_region items || parts_have_large_region rest
 
 -- whether a body in the text of a function is too large: its own, or that of a `parallel` or a `task`
 abbrev pub has_large_body : ResolvedFunctionTree → Bool

@@ -5,7 +5,7 @@ use Rattle.om_resolved.specs.declared.resolved.Capture.{Capture}
 use Rattle.om_resolved.specs.declared.resolved.LocalVariable.{LocalVariable}
 use Rattle.om_resolved.specs.declared.resolved.Taking.{Taking}
 use Rattle.om_resolved.specs.declared.resolved.Taking.TheVariants as takings
-use Rattle.om_resolved.specs.ResolvedTree.{ResolvedDeclaratorTree, ResolvedClauseTree, ClauseValue, Shared, Copied, ResolvedStartTree, StartNothing, StartExpression, StartDeclaration, ResolvedStatementTree, Declaration, Block, Empty, Expression, If, IfElse, While, Do, For, Return, Break, Continue, Parallel, Task, Loop, Sections, Section, Construct, Update, StandAlone, ResolvedStatementsTree, NoStatements, Statement, ResolvedFunctionTree}
+use Rattle.om_resolved.specs.ResolvedTree.{ResolvedDeclaratorTree, ResolvedClauseTree, ClauseValue, Shared, Copied, ResolvedStartTree, StartNothing, StartExpression, StartDeclaration, ResolvedStatementTree, Declaration, Block, Empty, Expression, If, IfElse, While, Do, For, Return, Break, Continue, Parallel, Task, Loop, Sections, Construct, Update, StandAlone, ResolvedStatementsTree, NoStatements, Statement, ResolvedPartsTree, NoParts, Part, ResolvedFunctionTree}
 
 abbrev pub cells_of : Option ℕ → ℕ
 cells_of None = 1
@@ -54,8 +54,7 @@ unfoldable mutual
   statement_slots (Parallel at clauses captures s) = []
   statement_slots (Task at clauses captures s) = []
   statement_slots (Loop at clauses nowait l s) = flat_map clause_slots clauses ++ (1 ∷ statement_slots s)
-  statement_slots (Sections at clauses nowait items) = flat_map clause_slots clauses ++ statements_slots items
-  statement_slots (Section s) = statement_slots s
+  statement_slots (Sections at clauses nowait parts) = flat_map clause_slots clauses ++ parts_slots parts
   statement_slots (Construct at kind clauses s) = flat_map clause_slots clauses ++ statement_slots s
   statement_slots (Update at u) = []
   statement_slots (StandAlone at directive) = []
@@ -63,6 +62,10 @@ unfoldable mutual
   pub statements_slots : ResolvedStatementsTree → List ℕ
   statements_slots NoStatements = []
   statements_slots (Statement s rest) = statement_slots s ++ statements_slots rest
+
+  pub parts_slots : ResolvedPartsTree → List ℕ
+  parts_slots NoParts = []
+  parts_slots (Part items rest) = statements_slots items ++ parts_slots rest
 
 -- of the body of a function
 abbrev pub function_slots : ResolvedFunctionTree → List ℕ

@@ -13,7 +13,7 @@ use Rattle.om_resolved.specs.declared.resolved.GlobalVariable.{GlobalVariable}
 use Rattle.om_resolved.specs.declared.resolved.Variable as variables
 use Rattle.om_resolved.specs.declared.resolved.Variable.TheVariants as named
 use Rattle.om_scope.specs.Faults.{breach_if, perhaps_with}
-use Rattle.om_resolved.specs.ResolvedTree.{ResolvedExpressionTree, Constant, Variable, Binary, Assign, ResolvedStatementTree, Declaration, Block, Empty, Expression, If, IfElse, While, Do, For, Return, Break, Continue, Parallel, Task, Loop, Sections, Section, Construct, Update, StandAlone, ResolvedFunctionTree, ResolvedTree}
+use Rattle.om_resolved.specs.ResolvedTree.{ResolvedExpressionTree, Constant, Variable, Binary, Assign, ResolvedStatementTree, Declaration, Block, Empty, Expression, If, IfElse, While, Do, For, Return, Break, Continue, Parallel, Task, Loop, Sections, Construct, Update, StandAlone, ResolvedFunctionTree, ResolvedTree}
 use Rattle.om_resolved.specs.Uses.{is_main_function}
 
 abbrev pub takes_variable : variables.Variable → Bool
@@ -66,7 +66,6 @@ statement_first (Parallel at clauses captures s) = at
 statement_first (Task at clauses captures s) = at
 statement_first (Loop at clauses nowait l s) = at
 statement_first (Sections at clauses nowait items) = at
-statement_first (Section s) = statement_first s
 statement_first (Construct at kind clauses s) = at
 statement_first (Update at u) = at
 statement_first (StandAlone at directive) = at

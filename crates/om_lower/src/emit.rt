@@ -50,7 +50,6 @@ fn emit_statement(code: &mut Vec<Line>, statement: &ResolvedStatement) -> Result
         ResolvedStatement::Task(_, _, _, _) => Ok(()),
         ResolvedStatement::Loop(_, _, _, _, _) => Ok(()),
         ResolvedStatement::Sections(_, _, _, _) => Ok(()),
-        ResolvedStatement::Section(_) => Ok(()),
         ResolvedStatement::Construct(_, _, _, _) => Ok(()),
         ResolvedStatement::Update(_, _) => Ok(()),
         ResolvedStatement::StandAlone(_, _) => Ok(()),

@@ -1,14 +1,14 @@
 //! How many operands code has on its stack at once, against a limit.
 
 ghost use Rattle.std.specs.Prelude.{◌≡◌, ◌≤◌, ◌↔◌, ◌-◌, IsTrue, SomeIff, map, option_map};
-ghost use Rattle.om_lower.specs.Heights.{captures_operands, clause_operands, clause_start_height, clause_value_height, clause_values_height, clauses_operands, copy_height, copy_operands, declarators_height, entry_height, given_height, left_below, loop_height, old_below, operand_height, perhaps_height, region_height, start_height, starts_height, statement_height, statements_height, update_height, values_height};
+ghost use Rattle.om_lower.specs.Heights.{captures_operands, clause_operands, clause_start_height, clause_value_height, clause_values_height, clauses_operands, copy_height, copy_operands, declarators_height, entry_height, given_height, left_below, loop_height, old_below, operand_height, parts_height, perhaps_height, region_height, start_height, starts_height, statement_height, statements_height, update_height, values_height};
 ghost use Rattle.om_resolved.specs.ResolvedTree as trees;
-ghost use Rattle.om_resolved.specs.ResolvedView.{view_resolved_clause, view_resolved_declarator, view_resolved_expression, view_resolved_loop, view_resolved_start, view_resolved_statement, view_resolved_update};
+ghost use Rattle.om_resolved.specs.ResolvedView.{view_resolved_clause, view_resolved_declarator, view_resolved_expression, view_resolved_loop, view_resolved_part, view_resolved_start, view_resolved_statement, view_resolved_update};
 
 use crate::slots::taken_cells;
 use om_resolved::{
     Capture, ConstructKind, CopyKind, ResolvedClause, ResolvedDeclarator, ResolvedExpression,
-    ResolvedLoop, ResolvedStart, ResolvedStatement, ResolvedUpdate,
+    ResolvedLoop, ResolvedPart, ResolvedStart, ResolvedStatement, ResolvedUpdate,
 };
 use om_tree::{AssignOperator, BinaryOperator};
 
@@ -325,10 +325,9 @@ pub(crate) fn statement_fits(statement: &ResolvedStatement, room: u32) -> bool
         ResolvedStatement::Loop(_, clauses, _, repeated, body) => {
             loop_fits(clauses.as_slice(), repeated, room) && statement_fits(body, room)
         }
-        ResolvedStatement::Sections(_, clauses, _, items) => {
-            starts_fit(false, clauses.as_slice(), room) && statements_fit(items.as_slice(), room)
+        ResolvedStatement::Sections(_, clauses, _, parts) => {
+            starts_fit(false, clauses.as_slice(), room) && parts_fit(parts.as_slice(), room)
         }
-        ResolvedStatement::Section(first) => statement_fits(first, room),
         ResolvedStatement::Construct(_, kind, clauses, body) => {
             entry_fits(kind, clauses.as_slice(), room) && statement_fits(body, room)
         }
@@ -345,6 +344,20 @@ pub(crate) fn statements_fit(items: &[ResolvedStatement], room: u32) -> bool
 {
     for item in items {
         if !statement_fits(item, room) {
+            return false;
+        }
+    }
+    true
+}
+
+/// Whether this many operands are enough for each of these parts of `sections`.
+#[tactic(auto, unfolding(crate::specs::Heights::parts_height))]
+#[cycle(statement)]
+fn parts_fit(parts: &[ResolvedPart], room: u32) -> bool
+    ensures { IsTrue result ↔ (parts_height (trees.parts (map view_resolved_part parts.now)) ≤ room) }
+{
+    for part in parts {
+        if !statements_fit(part.items.as_slice(), room) {
             return false;
         }
     }

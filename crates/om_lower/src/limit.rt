@@ -4,18 +4,20 @@ ghost use Rattle.std.specs.Prelude.{◌≡◌, [], ◌∷◌, true, map};
 ghost use Rattle.std.specs.List.{flat_map};
 ghost use Rattle.om_lexer.specs.declared.fault.FaultCode.TheVariants.{TooMany};
 ghost use Rattle.om_lower.specs.Heights.{region_height};
-ghost use Rattle.om_lower.specs.Limits.{body_breaches, has_large_body, has_large_region, have_large_region, is_too_large, limit_breaches};
+ghost use Rattle.om_lower.specs.Limits.{body_breaches, has_large_body, has_large_region, have_large_region, is_too_large, limit_breaches, parts_have_large_region};
 ghost use Rattle.om_lower.specs.Slots.{region_slots};
 ghost use Rattle.om_scope.specs.Checks.{ChecksExactly};
 ghost use Rattle.om_scope.specs.Faults.{breach_if};
 ghost use Rattle.om_resolved.specs.ResolvedTree as trees;
-ghost use Rattle.om_resolved.specs.ResolvedView.{view_resolved, view_resolved_clause, view_resolved_function, view_resolved_statement};
+ghost use Rattle.om_resolved.specs.ResolvedView.{view_resolved, view_resolved_clause, view_resolved_function, view_resolved_part, view_resolved_statement};
 
 use crate::height::{region_fits, statements_fit};
 use crate::slots::{function_passes, region_passes};
 use om_code::program::OPERAND_LIMIT;
 use om_lexer::{FaultCode, SourceFault};
-use om_resolved::{Capture, Resolved, ResolvedClause, ResolvedFunction, ResolvedStatement};
+use om_resolved::{
+    Capture, Resolved, ResolvedClause, ResolvedFunction, ResolvedPart, ResolvedStatement,
+};
 
 /// How many slots a body may have.
 pub const SLOT_LIMIT: u32 = 256;
@@ -112,8 +114,7 @@ fn has_large_region(statement: &ResolvedStatement) -> bool
             is_large_region(clauses.as_slice(), captures.as_slice(), body) || has_large_region(body)
         }
         ResolvedStatement::Loop(_, _, _, _, body) => has_large_region(body),
-        ResolvedStatement::Sections(_, _, _, items) => have_large_region(items.as_slice()),
-        ResolvedStatement::Section(first) => has_large_region(first),
+        ResolvedStatement::Sections(_, _, _, parts) => parts_have_large_region(parts.as_slice()),
         ResolvedStatement::Construct(_, _, _, body) => has_large_region(body),
         ResolvedStatement::Update(_, _) => false,
         ResolvedStatement::StandAlone(_, _) => false,
@@ -128,6 +129,20 @@ fn have_large_region(items: &[ResolvedStatement]) -> bool
 {
     for item in items {
         if has_large_region(item) {
+            return true;
+        }
+    }
+    false
+}
+
+/// Whether a region in one of these parts of `sections` has a body that is too large.
+#[tactic(auto, unfolding(crate::specs::Limits::parts_have_large_region))]
+#[cycle(statement)]
+fn parts_have_large_region(parts: &[ResolvedPart]) -> bool
+    ensures { result ≡ parts_have_large_region (trees.parts (map view_resolved_part parts.now)) }
+{
+    for part in parts {
+        if have_large_region(part.items.as_slice()) {
             return true;
         }
     }

@@ -3,14 +3,14 @@
 ghost use Rattle.std.specs.Prelude.{◌≡◌, fold, map};
 ghost use Rattle.std.specs.List.{flat_map};
 ghost use Rattle.om_lower.specs.Rooms.{is_passed, whole_room, with_slot};
-ghost use Rattle.om_lower.specs.Slots.{capture_cells, cells_of, clause_slots, declared_cells, function_slots, has_too_many, parameter_cells, region_slots, start_slots, statement_slots, statements_slots, taken_cells};
+ghost use Rattle.om_lower.specs.Slots.{capture_cells, cells_of, clause_slots, declared_cells, function_slots, has_too_many, parameter_cells, parts_slots, region_slots, start_slots, statement_slots, statements_slots, taken_cells};
 ghost use Rattle.om_resolved.specs.ResolvedTree as trees;
-ghost use Rattle.om_resolved.specs.ResolvedView.{view_resolved_clause, view_resolved_declarator, view_resolved_function, view_resolved_start, view_resolved_statement};
+ghost use Rattle.om_resolved.specs.ResolvedView.{view_resolved_clause, view_resolved_declarator, view_resolved_function, view_resolved_part, view_resolved_start, view_resolved_statement};
 
 use crate::limit::{CELL_LIMIT, SLOT_LIMIT};
 use om_resolved::{
-    Capture, LocalVariable, ResolvedClause, ResolvedDeclarator, ResolvedFunction, ResolvedStart,
-    ResolvedStatement, Taking,
+    Capture, LocalVariable, ResolvedClause, ResolvedDeclarator, ResolvedFunction, ResolvedPart,
+    ResolvedStart, ResolvedStatement, Taking,
 };
 
 /// What is left of the limits on slots and cells, one more than may still come: 0 where a limit is
@@ -189,11 +189,10 @@ fn add_statement(room: &mut Room, statement: &ResolvedStatement)
             room.add(1);
             add_statement(room, body);
         }
-        ResolvedStatement::Sections(_, clauses, _, items) => {
+        ResolvedStatement::Sections(_, clauses, _, parts) => {
             add_copies(room, clauses.as_slice());
-            add_statements(room, items.as_slice());
+            add_parts(room, parts.as_slice());
         }
-        ResolvedStatement::Section(first) => add_statement(room, first),
         ResolvedStatement::Construct(_, _, clauses, body) => {
             add_copies(room, clauses.as_slice());
             add_statement(room, body);
@@ -211,5 +210,16 @@ fn add_statements(room: &mut Room, items: &[ResolvedStatement])
 {
     for item in items {
         add_statement(room, item);
+    }
+}
+
+/// Adds what the parts of `sections` declare and copy.
+#[tactic(auto, unfolding(crate::specs::Slots::parts_slots))]
+#[cycle(statement)]
+fn add_parts(room: &mut Room, parts: &[ResolvedPart])
+    ensures { room.new ≡ fold with_slot room.old (parts_slots (trees.parts (map view_resolved_part parts.now))) }
+{
+    for part in parts {
+        add_statements(room, part.items.as_slice());
     }
 }

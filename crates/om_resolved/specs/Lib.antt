@@ -4,3 +4,4 @@ pub mod Formats
 pub mod Captures
 pub mod Whole
 pub mod Uses
+pub mod Beside

@@ -264,7 +264,7 @@ last_ways : (picks : List (List ℕ)) (m : ℕ) (is_main : Bool) → successors 
 last_ways picks m true = refl
 last_ways picks m false = refl
 
-body_levels : (at : Site) (n : Numbers) (f : ResolvedFunctionTree) (tree : BodyTree) → body_row at n f tree 0 (length at.code) → IsLevel at.picks at.code
+pub body_levels : (at : Site) (n : Numbers) (f : ResolvedFunctionTree) (tree : BodyTree) → body_row at n f tree 0 (length at.code) → IsLevel at.picks at.code
 body_levels at n f FunctionBody r =
     finished at.picks at.code r.0 f.closing_line (last_instruction at.is_main)
     (level_more (statements_levels at f.body n nowhere 0 0 r.0 r.1) (λ hs k. (tt, tt)))

@@ -11,3 +11,14 @@ pub mod Named
 pub mod NamedExpressions
 pub mod Sized
 pub mod StatementSized
+pub mod WholeCode
+pub mod RowsCode
+pub mod WholeMentions
+pub mod TreeCode
+pub mod NamedStatements
+pub mod Positions
+pub mod NamedBodies
+pub mod Placed
+pub mod Given
+pub mod KnownBodies
+pub mod Valid

@@ -44,7 +44,7 @@ pub record Program (tree : ResolvedTree) (raw : Raw) (at : Site) (slots : List S
   pub calls : (f count : ℕ) → IsSomeAnd (slice_get tree.functions f) (λ function. length function.parameters ≡ count)
       → IsKnownBody raw.bodies [] (called_body at.functions f) count
 
-same_nat : (x : ℕ) → nat_eq x x ≡ true
+pub same_nat : (x : ℕ) → nat_eq x x ≡ true
 same_nat x = eq-eqb x x refl
 
 pub same_bytes : (x : List ℕ) → bytes_eq x x ≡ true

@@ -1,11 +1,16 @@
 -- What the code of every tree is.
-use Rattle.std.specs.Prelude.{◌≡◌, ◌<◌, ◌^◌, ℕ, ◌+◌, List, All, length}
+use Rattle.std.specs.Prelude.{◌≡◌, ◌<◌, ◌≤◌, ◌^◌, ℕ, ◌+◌, List, All, length, is_some}
+use Rattle.om_code.specs.declared.fault.CodeFault.{CodeFault}
+use Rattle.om_code.specs.declared.fault.CodeFault.TheVariants.{Memory, TooHigh}
 use Rattle.om_code.specs.declared.raw.Line.{Line}
 use Rattle.om_code.specs.declared.raw.Raw.{Raw}
-use Rattle.om_code.specs.Validity.{HasOneHeight, StaysInside}
-use Rattle.om_resolved.specs.ResolvedTree.{ResolvedExpressionTree, ResolvedStatementTree, ResolvedTree}
-use Rattle.om_rows.specs.Bodies.{Numbers}
-use Rattle.om_rows.specs.Code.{IsCodeOf}
+use Rattle.om_code.specs.Validity.{HasOneHeight, StaysInside, IsLow, IsValid, Breaks}
+use Rattle.om_resolved.specs.Beside.{TreeAtomicsAssign, TreeCopiesBehind}
+use Rattle.om_resolved.specs.ResolvedTree.{ResolvedExpressionTree, ResolvedStatementTree, ResolvedFunctionTree, ResolvedTree}
+use Rattle.om_resolved.specs.Whole.{IsWholeTree}
+use Rattle.om_rows.specs.Bodies.{Numbers, BodyTree}
+use Rattle.om_rows.specs.Code.{body_row, IsCodeOf}
+use Rattle.om_rows.specs.Coded.{ValueHasCode, EffectHasCode, StatementHasCode, TreeHasCode}
 use Rattle.om_rows.specs.Expressions.{value, effect}
 use Rattle.om_rows.specs.Rows.{Site}
 use Rattle.om_rows.specs.Sizes.{value_size, effect_size, statement_size}
@@ -25,6 +30,58 @@ pub record IsLevel (picks : List (List ℕ)) (code : List Line) : Type 0 where
 -- The bodies of a tree's code are level, whatever the tree is.
 abbrev pub CodeIsLevel : Type 0
 CodeIsLevel = (tree : ResolvedTree) (raw : Raw) → IsCodeOf tree raw → All (λ body. IsLevel raw.picks body.code) raw.bodies
+
+-- The code of one body is level, whatever else the program has.
+abbrev pub BodyIsLevel : Type 0
+BodyIsLevel =
+    (at : Site) (n : Numbers) (f : ResolvedFunctionTree) (tree : BodyTree) →
+    body_row at n f tree 0 (length at.code) → IsLevel at.picks at.code
+
+-- A whole tree has code, if each `atomic` that reads or writes is about an assignment.
+abbrev pub WholeHasCode : Type 0
+WholeHasCode = (tree : ResolvedTree) → IsWholeTree tree → TreeAtomicsAssign tree → TreeHasCode tree
+
+-- Places and slots have numbers of 32 bits.
+pub record AreNumbered (raw : Raw) : Type 0 where
+  pub code : All (λ body. length body.code < 2 ^ 32) raw.bodies
+  pub slots : All (λ body. length body.slots ≤ 2 ^ 32) raw.bodies
+
+-- No way in a body has more than 256 operands.
+abbrev pub AreLow : Raw → Type 0
+AreLow raw = All (λ body. IsLow raw.picks body.code) raw.bodies
+
+-- The code of a whole tree is valid, if its places and slots have numbers and its operands are few enough.
+abbrev pub CodeIsValid : Type 0
+CodeIsValid =
+    (tree : ResolvedTree) (raw : Raw) → IsWholeTree tree → TreeCopiesBehind tree → IsCodeOf tree raw →
+    AreNumbered raw → AreLow raw → IsValid raw
+
+-- Why such code can be refused: out of memory, or too many operands.
+abbrev pub MayBreak : CodeFault → Type 0
+MayBreak Memory = Unit {0}
+MayBreak TooHigh = Unit {0}
+MayBreak _ = ⊥
+
+-- Of the rules of valid code it can break that on too many operands alone.
+abbrev pub CodeFaults : Type 0
+CodeFaults =
+    (tree : ResolvedTree) (raw : Raw) → IsWholeTree tree → TreeCopiesBehind tree → IsCodeOf tree raw →
+    AreNumbered raw → (fault : CodeFault) → Breaks fault raw → MayBreak fault
+
+-- What has code by the rows is what has code.
+abbrev pub RowsHaveCode : Type 0
+RowsHaveCode = (tree : ResolvedTree) (raw : Raw) → IsCodeOf tree raw → TreeHasCode tree
+
+abbrev pub ValueRowsHaveCode : Type 0
+ValueRowsHaveCode = (at : Site) (l : ℕ) (e : ResolvedExpressionTree) (p q : ℕ) → value at l e p q → ValueHasCode e
+
+abbrev pub EffectRowsHaveCode : Type 0
+EffectRowsHaveCode = (at : Site) (l : ℕ) (e : ResolvedExpressionTree) (p q : ℕ) → effect at l e p q → EffectHasCode e
+
+abbrev pub StatementRowsHaveCode : Type 0
+StatementRowsHaveCode =
+    (at : Site) (n : Numbers) (s : ResolvedStatementTree) (jumps : Jumps) (p q : ℕ) →
+    statement at n s jumps p q → StatementHasCode (is_some jumps.over) (is_some jumps.next) s
 
 -- The code of a part has as many instructions as the part tells.
 abbrev pub ValueSizes : Type 0

@@ -9,3 +9,4 @@ pub mod Statements
 pub mod Code
 pub mod Sizes
 pub mod Laws
+pub mod Coded

@@ -1,6 +1,6 @@
 //! Laws of the code of a tree, whoever made it.
 
-ghost use Rattle.om_rows.specs.Laws.{CodeIsLevel, EffectSizes, OneCode, StatementSizes, ValueSizes};
+ghost use Rattle.om_rows.specs.Laws.{BodyIsLevel, CodeFaults, CodeIsLevel, CodeIsValid, EffectRowsHaveCode, EffectSizes, OneCode, RowsHaveCode, StatementRowsHaveCode, StatementSizes, ValueRowsHaveCode, ValueSizes, WholeHasCode};
 
 /// A tree has one code.
 pub fn one_code()
@@ -11,6 +11,33 @@ pub fn one_code()
 /// as many operands stand below it, and those that it takes are there.
 pub fn code_is_level()
     ensures { CodeIsLevel }
+{}
+
+/// The same of one body alone, for whoever makes the code body by body.
+pub fn body_is_level()
+    ensures { BodyIsLevel }
+{}
+
+/// A whole tree has code, if each `atomic` that reads or writes is about an assignment.
+pub fn whole_has_code()
+    ensures { WholeHasCode }
+{}
+
+/// Only what has code has rows that hold.
+pub fn rows_have_code()
+    ensures tree { RowsHaveCode }
+    ensures value { ValueRowsHaveCode }
+    ensures effect { EffectRowsHaveCode }
+    ensures statement { StatementRowsHaveCode }
+{}
+
+/// The code of a whole tree is valid where no body has more than 2^32 places or slots, and no way more than
+/// 256 operands; else only the rule on operands is broken.
+///
+/// So whoever finds such code refused has too many operands in it, or is out of memory.
+pub fn code_is_valid()
+    ensures valid { CodeIsValid }
+    ensures faults { CodeFaults }
 {}
 
 /// The code of an expression or a statement has as many instructions as the tree tells.

@@ -1,6 +1,5 @@
 -- What a block declares is forgotten behind it.
-use Rattle.std.specs.Prelude.{if◌then◌else◌}
-use Rattle.std.proofs.Common.{◌≡◌, ℕ, ◌+◌, ◌≤◌, Bool, true, false, arith, List, [], ◌∷◌, ◌++◌, Option, None, Some, refl, ap, ◌∙◌}
+use Rattle.std.proofs.Common.{◌≡◌, ℕ, List, [], ◌∷◌, ◌++◌, Option, None, Some, refl, ap, ◌∙◌}
 use Rattle.om_lexer.specs.declared.fault.SourceFault.{SourceFault}
 use Rattle.om_tree.specs.Tree.{DeclaratorTree, ForStartTree, Nothing, StartExpression, StartDeclaration, StatementTree, LocalDeclaration, Block, Empty, Expression, If, IfElse, While, Do, For, Return, Break, Continue, Construct, StandAlone, Sections, Section, StatementsTree, NoStatements, Statement}
 use Rattle.om_pragma.specs.declared.name.Name as names
@@ -16,8 +15,8 @@ use Rattle.om_scope.specs.Scopes.{Scope, Scopes, inside, outside, plain, within,
 use Rattle.om_scope.specs.Perhaps.{◌>>=◌}
 use Rattle.om_resolved.specs.ResolvedTree as resolved
 use Rattle.om_resolved.specs.ResolvedTree.{ResolvedStatementTree, ResolvedStatementsTree}
-use Rattle.om_scope.specs.StatementResolution.{part_of, resolved_part, resolved_parts, resolved_statement, resolved_statements}
-use Rattle.om_scope.specs.StatementRules.{after_for_start, after_statement, after_statements, part_breaches, begins_part, parts_behind, sections_breaches, statement_breaches, statements_breaches}
+use Rattle.om_scope.specs.StatementResolution.{resolved_statement, resolved_statements}
+use Rattle.om_scope.specs.StatementRules.{after_for_start, after_statement, after_statements, part_breaches, parts_behind, sections_breaches, statement_breaches, statements_breaches}
 use Rattle.om_scope.proofs.Firsts.{first_of_left}
 use Rattle.om_scope.proofs.Statements.{Made, made_step, made_whole}
 
@@ -97,13 +96,6 @@ pub statements_step : (scopes state : Scopes) (flow : Flow) (all : StatementsTre
 unfolding statements_breaches
 statements_step scopes state flow all s rest left whole = left ∙ ap (λ here. here ++ statements_breaches (after_statement state s) flow rest) whole
 
-pub parts_behind_le : (before : ℕ) (s : StatementTree) (index : ℕ) → before ≤ index → parts_behind before s ≤ index + 1
-parts_behind_le before s index le = go (begins_part before s)
-  where
-    go : (b : Bool) → (if b then before + 1 else before) ≤ index + 1
-    go true = omega (arith, le)
-    go false = omega (arith, le)
-
 pub parts_refuse : (scopes : Scopes) (flow : Flow) (before : ℕ) (all : StatementsTree) (s : StatementTree) (rest : StatementsTree) (fault : SourceFault)
     → sections_breaches scopes flow 0 all ≡ sections_breaches scopes flow before (Statement s rest) → Refuses (part_breaches scopes flow before s) fault
     → Refuses (sections_breaches scopes flow 0 all) fault
@@ -127,18 +119,7 @@ statements_made state parallel s rest whole made t left one = made_step whole _ 
     same None = refl
     same (Some t) = refl
 
-pub parts_made : (scopes : Scopes) (parallel : Option ℕ) (before : ℕ) (s : StatementTree) (rest : StatementsTree) (whole : Option ResolvedStatementsTree) (made : List ResolvedStatementTree) (t : ResolvedStatementTree)
-    → Made whole (resolved_parts scopes parallel before (Statement s rest)) made → resolved_part scopes parallel before s ≡ Some t
-    → Made whole (resolved_parts scopes parallel (parts_behind before s) rest) (made ++ t ∷ [])
-unfolding resolved_parts
-parts_made scopes parallel before s rest whole made t left one = made_step whole _ made t (part_of (begins_part before s)) (resolved_statement (inside scopes) parallel s) left one
-
 pub statements_whole : (state : Scopes) (parallel : Option ℕ) (whole : Option ResolvedStatementsTree) (made : List ResolvedStatementTree)
     → Made whole (resolved_statements state parallel NoStatements) made → whole ≡ Some (resolved.statements made)
 unfolding resolved_statements
 statements_whole state parallel whole made left = made_whole whole made left
-
-pub parts_whole : (scopes : Scopes) (parallel : Option ℕ) (before : ℕ) (whole : Option ResolvedStatementsTree) (made : List ResolvedStatementTree)
-    → Made whole (resolved_parts scopes parallel before NoStatements) made → whole ≡ Some (resolved.statements made)
-unfolding resolved_parts
-parts_whole scopes parallel before whole made left = made_whole whole made left

@@ -20,11 +20,11 @@ use Rattle.om_scope.specs.Loops.{Loop}
 use Rattle.om_scope.specs.Perhaps.{perhaps, each}
 use Rattle.om_scope.specs.Resolution.{resolved_expression, variable_named}
 use Rattle.om_resolved.specs.ResolvedTree as resolved
-use Rattle.om_resolved.specs.ResolvedTree.{ResolvedExpressionTree, ResolvedClauseTree, ResolvedLoopTree, ResolvedStatementTree, ResolvedStatementsTree}
+use Rattle.om_resolved.specs.ResolvedTree.{ResolvedExpressionTree, ResolvedClauseTree, ResolvedLoopTree, ResolvedStatementTree, ResolvedStatementsTree, ResolvedPartsTree}
 use Rattle.om_scope.specs.Scopes.{Scopes, declarators_of, after_local}
 use Rattle.om_scope.specs.Sharing.{is_parallel}
 use Rattle.om_scope.specs.StatementResolution.{resolved_initial, resolved_declarator, resolved_declarators, clause_of, resolved_listed, kind_of, resolved_clause, resolved_clauses, resolved_item, has_nowait, parallel_of, construct_of, loop_construct_of, sections_construct_of, bounds_scopes, resolved_loop, resolved_start, resolved_perhaps, flushed, resolved_alone}
-use Rattle.om_resolved.specs.Uses.{IsVariable, UsesVariables, PerhapsUsesVariables, DeclaratorsUseVariables, StartUsesVariables, ClauseUsesVariables, ClausesUseVariables, StatementUsesVariables, StatementsUseVariables}
+use Rattle.om_resolved.specs.Uses.{IsVariable, UsesVariables, PerhapsUsesVariables, DeclaratorsUseVariables, StartUsesVariables, ClauseUsesVariables, ClausesUseVariables, StatementUsesVariables, PartsUseVariables}
 use Rattle.om_scope.proofs.ExpressionUses.{expression_uses}
 use Rattle.om_scope.proofs.GlobalsBelow.{Below, named_below, below_after_local, below_found}
 use Rattle.om_scope.proofs.UpdateUses.{atomic_uses}
@@ -112,10 +112,10 @@ loop_construct_uses n d cs l body hc from to h =
     if_either (StatementUsesVariables n) (is_parallel (traits_of d.name).region) (parallel_of d cs (resolved.Loop d.hash [] true l body)) (resolved.Loop d.hash cs (has_nowait d) l body)
     (hc, (All-nil (ClauseUsesVariables n), from, to, h)) (hc, from, to, h)
 
-pub sections_construct_uses : (n : ℕ) (d : Directive ExpressionTree) (cs : List ResolvedClauseTree) (items : ResolvedStatementsTree)
-    → ClausesUseVariables n cs → StatementsUseVariables n items → StatementUsesVariables n (sections_construct_of d cs items)
-sections_construct_uses n d cs items hc h =
-    if_either (StatementUsesVariables n) (is_parallel (traits_of d.name).region) (parallel_of d cs (resolved.Sections d.hash [] true items)) (resolved.Sections d.hash cs (has_nowait d) items)
+pub sections_construct_uses : (n : ℕ) (d : Directive ExpressionTree) (cs : List ResolvedClauseTree) (parts : ResolvedPartsTree)
+    → ClausesUseVariables n cs → PartsUseVariables n parts → StatementUsesVariables n (sections_construct_of d cs parts)
+sections_construct_uses n d cs parts hc h =
+    if_either (StatementUsesVariables n) (is_parallel (traits_of d.name).region) (parallel_of d cs (resolved.Sections d.hash [] true parts)) (resolved.Sections d.hash cs (has_nowait d) parts)
     (hc, (All-nil (ClauseUsesVariables n), h)) (hc, h)
 
 pub loop_uses : (n : ℕ) (scopes : Scopes) (schedule : ResolvedSchedule) (found : Loop) → Below n scopes → IfSome (resolved_loop scopes schedule found) (λ l. UsesVariables n l.from × UsesVariables n l.to)

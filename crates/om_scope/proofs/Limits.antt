@@ -34,7 +34,7 @@ has_cells (Some array) h = by array.size.value h
     by (suc n) h = omega arith
 
 -- what a global adds to the cells: one at least, and the limit holds behind it
-global_fits : (scopes : Scopes) (d : DeclaratorTree) → global_breaches scopes d ≡ [] → (1 ≤ cells_of d.array) × (scopes.cells + cells_of d.array ≤ 65536)
+pub global_fits : (scopes : Scopes) (d : DeclaratorTree) → global_breaches scopes d ≡ [] → (1 ≤ cells_of d.array) × (scopes.cells + cells_of d.array ≤ 65536)
 global_fits scopes d none =
     let named = front (global_name_breaches scopes d) (initial_breaches d.initializer) none in
     let too_many = breach_if (nat_lt GLOBAL_CELL_LIMIT (scopes.cells + cells_of d.array)) faults.TooMany d.name.span.start in
@@ -76,7 +76,7 @@ items_fit (item ∷ items) scopes fits none =
 abbrev pub all_defined : Scopes → ℕ
 all_defined scopes = length scopes.defined
 
-prototype_defined : (scopes : Scopes) (head : HeadTree) → (after_prototype scopes head).defined ≡ scopes.defined
+pub prototype_defined : (scopes : Scopes) (head : HeadTree) → (after_prototype scopes head).defined ≡ scopes.defined
 prototype_defined scopes head = by (is_declared scopes head.name.text)
   where
     by : (test : Bool) → (cond test scopes (with_function scopes head.name.text (signature_of head))).defined ≡ scopes.defined
@@ -107,7 +107,7 @@ function_counts scopes f none =
       above (FUNCTION_LIMIT + length predeclared) (length scopes.defined) room,
     )
 
-globals_defined : (ds : List DeclaratorTree) (scopes : Scopes) → (after_globals scopes ds).defined ≡ scopes.defined
+pub globals_defined : (ds : List DeclaratorTree) (scopes : Scopes) → (after_globals scopes ds).defined ≡ scopes.defined
 globals_defined [] scopes = refl
 globals_defined (d ∷ ds) scopes = globals_defined ds (after_global scopes d)
 

@@ -1,5 +1,5 @@
 -- Steps that all give something give something together.
-use Rattle.std.proofs.Common.{◌≡◌, List, [], ◌∷◌, Option, None, Some, refl}
+use Rattle.std.proofs.Common.{◌≡◌, List, [], ◌∷◌, Option, None, Some, option_map, refl}
 use Rattle.std.specs.Prelude.{IsSome}
 use Rattle.std.specs.List.{flat_map}
 use Rattle.om_lexer.specs.declared.fault.SourceFault.{SourceFault}
@@ -10,6 +10,10 @@ use Rattle.om_scope.proofs.Unbroken.{front, back}
 pub some_then : {A B : Type 0} (o : Option A) (f : A → Option B) → IsSome o → ((x : A) → IsSome (f x)) → IsSome (o >>= f)
 some_then None f h next = cc
 some_then (Some x) f h next = next x
+
+pub some_mapped : {A B : Type 0} (o : Option A) (f : A → B) → IsSome o → IsSome (option_map f o)
+some_mapped None f h = cc
+some_mapped (Some x) f h = refl
 
 -- of parts without a breach
 module _ {S X Y : Type 0} (breaches : S → X → List SourceFault) (after : S → X → S) where

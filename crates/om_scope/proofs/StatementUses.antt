@@ -1,24 +1,29 @@
 -- A resolved statement uses globals that there are.
-use Rattle.std.proofs.Common.{ℕ, Bool, Option, Some}
+use Rattle.std.proofs.Common.{ℕ, Bool, true, false, Option, Some, option_map}
 use Rattle.std.specs.Prelude.{IfSome, not}
 use Rattle.om_tree.specs.Tree.{StatementTree, LocalDeclaration, Block, Empty, Expression, If, IfElse, While, Do, For, Return, Break, Continue, Construct, StandAlone, Sections, Section, StatementsTree, NoStatements, Statement}
 use Rattle.om_scope.specs.DirectiveRules.{in_construct, parallel_in, traits_of}
+use Rattle.om_scope.specs.Grouping.{Grouped, grouped, parts_of}
 use Rattle.om_scope.specs.Loops.{Loop, loop_in}
 use Rattle.om_scope.specs.Resolution.{resolved_expression}
-use Rattle.om_resolved.specs.ResolvedTree as resolved
 use Rattle.om_resolved.specs.ResolvedTree.{ResolvedLoopTree, ResolvedStatementTree}
 use Rattle.om_scope.specs.Scopes.{Scopes, inside, declarators_of}
-use Rattle.om_scope.specs.StatementResolution.{resolved_declarators, resolved_clauses, resolved_loop, resolved_start, resolved_perhaps, schedule_of, part_of, resolved_statement, resolved_statements, resolved_repeated, resolved_parts, resolved_plain_construct, resolved_loop_construct}
+use Rattle.om_scope.specs.StatementResolution.{resolved_declarators, resolved_clauses, resolved_loop, resolved_start, resolved_perhaps, schedule_of, resolved_statement, resolved_statements, resolved_repeated, resolved_parts, resolved_plain_construct, resolved_loop_construct}
 use Rattle.om_scope.specs.Updates.{statement_side}
 use Rattle.om_scope.specs.StatementRules.{after_for_start, after_statement, begins_part, in_loop, parts_behind, round_bounds}
-use Rattle.om_resolved.specs.Uses.{UsesVariables, PerhapsUsesVariables, DeclaratorsUseVariables, StartUsesVariables, ClausesUseVariables, StatementUsesVariables, StatementsUseVariables}
+use Rattle.om_resolved.specs.Uses.{UsesVariables, PerhapsUsesVariables, DeclaratorsUseVariables, StartUsesVariables, ClausesUseVariables, StatementUsesVariables, StatementsUseVariables, PartsUseVariables}
 use Rattle.om_scope.proofs.ClauseUses.{perhaps_uses, declarators_use, start_uses, clauses_use, construct_uses, loop_construct_uses, sections_construct_uses, loop_uses, alone_uses}
 use Rattle.om_scope.proofs.ExpressionUses.{expression_uses}
 use Rattle.om_scope.proofs.GlobalsBelow.{Below, below_inside, below_construct, below_bounds, below_in_loop, below_start, below_statement}
-use Rattle.om_scope.proofs.Steps.{if_then, if_any, if_either}
+use Rattle.om_scope.proofs.Steps.{if_then, if_any, if_either, if_mapped}
 
-part_uses : (n : ℕ) (begins : Bool) (s : ResolvedStatementTree) → StatementUsesVariables n s → StatementUsesVariables n (part_of begins s)
-part_uses n begins s h = if_either (StatementUsesVariables n) begins (resolved.Section s) s h h
+-- what the items of `sections` use
+abbrev GroupUses : ℕ → Grouped → Type 0
+GroupUses n items = StatementsUseVariables n items.front × PartsUseVariables n items.parts
+
+group_uses : (n : ℕ) (begins : Bool) (s : ResolvedStatementTree) (rest : Grouped) → StatementUsesVariables n s → GroupUses n rest → GroupUses n (grouped begins s rest)
+group_uses n true s rest h others = (tt, ((h, others.0), others.1))
+group_uses n false s rest h others = ((h, others.0), others.1)
 
 -- what both bounds of a loop use
 abbrev LoopUsesVariables : ℕ → ResolvedLoopTree → Type 0
@@ -72,8 +77,10 @@ mutual
   statement_uses n scopes parallel (StandAlone d) h = alone_uses n scopes d d.name h
   statement_uses n scopes parallel (Sections d left parts right) h =
       if_then (ClausesUseVariables n) (StatementUsesVariables n) (resolved_clauses scopes d.clauses) _ (clauses_use n scopes d.clauses h) (λ cs hcs.
-      if_then (StatementsUseVariables n) (StatementUsesVariables n) (resolved_parts (in_construct d scopes) (parallel_in d parallel) 0 parts) _
-      (parts_use n (in_construct d scopes) (parallel_in d parallel) 0 parts (below_construct n d scopes h)) (λ items hi. sections_construct_uses n d cs items hcs hi))
+      if_then (PartsUseVariables n) (StatementUsesVariables n) (option_map parts_of (resolved_parts (in_construct d scopes) (parallel_in d parallel) 0 parts)) _
+      (if_mapped (GroupUses n) (PartsUseVariables n) (resolved_parts (in_construct d scopes) (parallel_in d parallel) 0 parts) parts_of
+      (parts_use n (in_construct d scopes) (parallel_in d parallel) 0 parts (below_construct n d scopes h)) (λ items hi. hi.1))
+      (λ made hm. sections_construct_uses n d cs made hcs hm))
   statement_uses n scopes parallel (Section d s) h = statement_uses n (inside scopes) parallel s (below_inside n scopes h)
 
   pub statements_use : (n : ℕ) (scopes : Scopes) (parallel : Option ℕ) (ss : StatementsTree) → Below n scopes → IfSome (resolved_statements scopes parallel ss) (StatementsUseVariables n)
@@ -101,9 +108,9 @@ mutual
   repeated_uses n scopes parallel found (Sections d left parts right) h = tt
   repeated_uses n scopes parallel found (Section d s) h = tt
 
-  parts_use : (n : ℕ) (scopes : Scopes) (parallel : Option ℕ) (before : ℕ) (parts : StatementsTree) → Below n scopes → IfSome (resolved_parts scopes parallel before parts) (StatementsUseVariables n)
-  parts_use n scopes parallel before NoStatements h = tt
+  parts_use : (n : ℕ) (scopes : Scopes) (parallel : Option ℕ) (before : ℕ) (parts : StatementsTree) → Below n scopes → IfSome (resolved_parts scopes parallel before parts) (GroupUses n)
+  parts_use n scopes parallel before NoStatements h = (tt, tt)
   parts_use n scopes parallel before (Statement s rest) h =
-      if_then (StatementUsesVariables n) (StatementsUseVariables n) (resolved_statement (inside scopes) parallel s) _ (statement_uses n (inside scopes) parallel s (below_inside n scopes h)) (λ t ht.
-      if_then (StatementsUseVariables n) (StatementsUseVariables n) (resolved_parts scopes parallel (parts_behind before s) rest) _
-      (parts_use n scopes parallel (parts_behind before s) rest h) (λ ts hts. (part_uses n (begins_part before s) t ht, hts)))
+      if_then (StatementUsesVariables n) (GroupUses n) (resolved_statement (inside scopes) parallel s) _ (statement_uses n (inside scopes) parallel s (below_inside n scopes h)) (λ t ht.
+      if_then (GroupUses n) (GroupUses n) (resolved_parts scopes parallel (parts_behind before s) rest) _
+      (parts_use n scopes parallel (parts_behind before s) rest h) (λ items hi. group_uses n (begins_part before s) t items ht hi))

@@ -1,5 +1,5 @@
 -- A statement without a breach has a resolution.
-use Rattle.std.proofs.Common.{◌≡◌, ℕ, true, false, cond, not, List, [], ◌++◌, Option, None, Some, is_some, refl}
+use Rattle.std.proofs.Common.{◌≡◌, ℕ, true, false, cond, not, List, [], ◌++◌, Option, None, Some, is_some, option_map, refl}
 use Rattle.std.specs.Prelude.{IsSome, nat_le, ◌&&◌}
 use Rattle.om_lexer.specs.declared.fault.FaultCode.TheVariants as faults
 use Rattle.om_lexer.specs.declared.fault.SourceFault.{SourceFault}
@@ -10,6 +10,7 @@ use Rattle.om_scope.specs.declared.statement.TheConstants.{SECTION_LIMIT}
 use Rattle.om_scope.specs.DirectiveRules.{constructing, directive_breaches, flush_breaches, in_construct, parallel_in, traits_of}
 use Rattle.om_scope.specs.ExpressionRules.{expression_breaches}
 use Rattle.om_scope.specs.Faults.{breach_if, with_breach}
+use Rattle.om_scope.specs.Grouping.{parts_of}
 use Rattle.om_scope.specs.Loops.{Loop, loop_in}
 use Rattle.om_scope.specs.Places.{statement_start}
 use Rattle.om_scope.specs.Resolution.{resolved_expression}
@@ -18,7 +19,7 @@ use Rattle.om_scope.specs.StatementResolution.{resolved_declarators, resolved_cl
 use Rattle.om_scope.specs.StatementRules.{jump_breaches, return_breaches, perhaps_breaches, for_start_breaches, after_for_start, for_turn_breaches, looping, round_bounds, found_breaches, bounds_breaches, in_loop, continuing, after_statement, begins_part, parts_behind, statement_breaches, statements_breaches, body_breaches, sections_breaches}
 use Rattle.om_scope.proofs.ClausesResolve.{has_declarators, has_start, has_perhaps, has_returned, has_clauses, has_loop, has_alone}
 use Rattle.om_scope.proofs.ExpressionsResolve.{has_expression}
-use Rattle.om_scope.proofs.SomeSteps.{some_then}
+use Rattle.om_scope.proofs.SomeSteps.{some_then, some_mapped}
 use Rattle.om_scope.proofs.Unbroken.{front, back, by_test, never_placed}
 
 -- what a construct for a loop has where it has none of its parts lacks a breach
@@ -104,7 +105,8 @@ mutual
       let others = sections_breaches (in_construct d scopes) (constructing d flow) 0 parts in
       let items = has_parts (in_construct d scopes) (constructing d flow) (parallel_in d parallel) 0 parts (back own others whole) in
       some_then (resolved_clauses scopes d.clauses) _ (has_clauses scopes flow d (front own others whole)) (λ cs.
-      some_then (resolved_parts (in_construct d scopes) (parallel_in d parallel) 0 parts) _ items (λ x. refl))
+      some_then (option_map parts_of (resolved_parts (in_construct d scopes) (parallel_in d parallel) 0 parts)) _
+      (some_mapped (resolved_parts (in_construct d scopes) (parallel_in d parallel) 0 parts) parts_of items) (λ x. refl))
   has_statement scopes flow parallel (Section d s) whole = has_statement (inside scopes) flow parallel s whole
 
   pub has_statements : (scopes : Scopes) (flow : Flow) (parallel : Option ℕ) (ss : StatementsTree) → statements_breaches scopes flow ss ≡ [] → IsSome (resolved_statements scopes parallel ss)

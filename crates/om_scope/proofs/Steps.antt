@@ -1,5 +1,5 @@
 -- What is true of all that steps give of which each may give nothing.
-use Rattle.std.proofs.Common.{◌≡◌, Bool, true, false, cond, List, [], ◌∷◌, All, Option, None, Some, subst}
+use Rattle.std.proofs.Common.{◌≡◌, Bool, true, false, cond, List, [], ◌∷◌, All, Option, None, Some, option_map, subst}
 use Rattle.std.specs.Prelude.{IfSome}
 use Rattle.std.specs.Option.{option_or}
 use Rattle.std.proofs.lemmas.List.Elements.{All-nil, All-cons, All-append}
@@ -9,6 +9,16 @@ use Rattle.om_scope.specs.Perhaps.{◌>>=◌, each, each_along, all_of}
 pub if_then : {A B : Type 0} (P : A → Type 0) (Q : B → Type 0) (o : Option A) (f : A → Option B) → IfSome o P → ((x : A) → P x → IfSome (f x) Q) → IfSome (o >>= f) Q
 if_then P Q None f h next = tt
 if_then P Q (Some x) f h next = next x h
+
+-- of what is made of it
+pub if_mapped : {A B : Type 0} (P : A → Type 0) (Q : B → Type 0) (o : Option A) (f : A → B) → IfSome o P → ((x : A) → P x → Q (f x)) → IfSome (option_map f o) Q
+if_mapped P Q None f h next = tt
+if_mapped P Q (Some x) f h next = next x h
+
+-- three at once
+pub if_three : {A : Type 0} (P Q R : A → Type 0) (o : Option A) → IfSome o P → IfSome o Q → IfSome o R → IfSome o (λ x. P x × Q x × R x)
+if_three P Q R None hp hq hr = tt
+if_three P Q R (Some x) hp hq hr = (hp, hq, hr)
 
 -- of whatever is given
 pub if_any : {A : Type 0} (o : Option A) → IfSome o (λ x. Unit {0})

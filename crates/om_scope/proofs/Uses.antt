@@ -86,7 +86,7 @@ items_use (item ∷ items) scopes n h total =
 abbrev HasMain : List ItemTree → List ResolvedFunctionTree → Type 0
 HasMain items functions = list_any is_main_function functions ≡ list_any is_main items
 
-function_name : (scopes : Scopes) (f : FunctionTree) → IfSome (resolved_function scopes f) (λ x. x.name ≡ f.head.name.text)
+pub function_name : (scopes : Scopes) (f : FunctionTree) → IfSome (resolved_function scopes f) (λ x. x.name ≡ f.head.name.text)
 unfolding resolved_function
 function_name scopes f =
     let own = resolved_inside (after_function scopes f.head) f in
@@ -118,7 +118,7 @@ main_there : (test : Bool) (at : ℕ) → breach_if (not test) faults.NoMain at 
 main_there true at e = refl
 main_there false at e = cc
 
-abbrev tree_of : UnitTree → List ResolvedFunctionTree → ResolvedTree
+abbrev pub tree_of : UnitTree → List ResolvedFunctionTree → ResolvedTree
 tree_of unit functions = record { globals = flat_map globals_of unit.items; functions = functions }
 
 -- what resolving promises of the tree that it gives

@@ -10,7 +10,6 @@ use Rattle.om_scope.specs.declared.symbols.Meaning.{Meaning}
 use Rattle.om_scope.specs.declared.symbols.Meaning.TheVariants as meanings
 use Rattle.om_scope.specs.declared.symbols.Signature.{Signature}
 use Rattle.om_scope.specs.Scopes.{Scopes, meaning_outside}
-use Rattle.om_tree.specs.Tree.{StatementTree, Block, If, IfElse, While, Do, For, Construct, Sections, Section, StatementsTree, NoStatements, Statement}
 
 -- the function of a name that has this signature
 pub record IsDefinition (name : List ℕ) (signature : Signature) (function : ResolvedFunctionTree) : Type 0 where
@@ -43,21 +42,3 @@ pub record Agrees (around : Around) (flow : Flow) : Type 0 where
   pub continues : around.continues ≡ flow.may_continue
   pub returns : around.returns ≡ flow.returns
   pub in_construct : around.in_construct ≡ flow.in_construct
-
-unfoldable mutual
-  -- a statement that neither is a `sections` nor holds one
-  pub HasNoSections : StatementTree → Type 0
-  HasNoSections (Block left items right) = HaveNoSections items
-  HasNoSections (If at c s) = HasNoSections s
-  HasNoSections (IfElse at c s other t) = HasNoSections s × HasNoSections t
-  HasNoSections (While at c s) = HasNoSections s
-  HasNoSections (Do at s again c semicolon) = HasNoSections s
-  HasNoSections (For h s) = HasNoSections s
-  HasNoSections (Construct d s) = HasNoSections s
-  HasNoSections (Sections d left parts right) = ⊥
-  HasNoSections (Section d s) = ⊥
-  HasNoSections _ = Unit {0}
-
-  pub HaveNoSections : StatementsTree → Type 0
-  HaveNoSections NoStatements = Unit {0}
-  HaveNoSections (Statement s rest) = HasNoSections s × HaveNoSections rest

@@ -1,11 +1,13 @@
 -- What every resolution is.
 use Rattle.std.specs.Prelude.{◌≡◌, ℕ, Bool, List, [], Option, Some, IsSome, IfSome, fold, option_map, slice_get}
 use Rattle.std.specs.List.{flat_map}
-use Rattle.om_tree.specs.Formed.{AreStatements}
+use Rattle.om_tree.specs.Formed.{AreStatements, IsUnit}
 use Rattle.om_tree.specs.Tree.{ExpressionTree, StatementsTree, ItemTree, UnitTree}
-use Rattle.om_resolved.specs.Whole.{Around, IsWhole, AreWholeItems}
+use Rattle.om_resolved.specs.Beside.{TreeAtomicsAssign}
+use Rattle.om_tree.specs.Sizes.{AtomicsHaveForms}
+use Rattle.om_resolved.specs.Whole.{Around, IsWhole, AreWholeItems, IsWholeTree}
 use Rattle.om_scope.specs.ExpressionRules.{expression_breaches}
-use Rattle.om_scope.specs.Knowing.{Agrees, HaveNoSections, Knows}
+use Rattle.om_scope.specs.Knowing.{Agrees, Knows}
 use Rattle.om_scope.specs.Resolution.{resolved_expression}
 use Rattle.om_resolved.specs.declared.resolved.Variable.TheVariants as variables
 use Rattle.om_scope.specs.declared.symbols.Meaning.TheVariants as meanings
@@ -38,5 +40,13 @@ UnbrokenExpressionsAreWhole =
 abbrev pub UnbrokenStatementsAreWhole : Type 0
 UnbrokenStatementsAreWhole =
     (around : Around) (scopes : Scopes) (flow : Flow) (parallel : Option ℕ) (ss : StatementsTree)
-    → Knows around scopes → Agrees around flow → AreStatements ss → HaveNoSections ss → statements_breaches scopes flow ss ≡ []
+    → Knows around scopes → Agrees around flow → AreStatements ss → statements_breaches scopes flow ss ≡ []
     → IfSome (resolved_statements scopes parallel ss) (AreWholeItems around)
+
+-- A well-formed source without a breach resolves to a whole tree.
+abbrev pub UnbrokenTreesAreWhole : Type 0
+UnbrokenTreesAreWhole = (unit : UnitTree) → IsUnit unit → breaches_of unit ≡ [] → IfSome (resolution_of unit) IsWholeTree
+
+-- Each `atomic` that reads or writes resolves to one of an assignment, where the source has the forms of `atomic`.
+abbrev pub AtomicsAssign : Type 0
+AtomicsAssign = (unit : UnitTree) → AtomicsHaveForms unit → IfSome (resolution_of unit) TreeAtomicsAssign

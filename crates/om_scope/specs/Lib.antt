@@ -18,6 +18,7 @@ pub mod Resolution
 pub mod TargetViews
 pub mod UpdateViews
 pub mod Updates
+pub mod Grouping
 pub mod StatementResolution
 pub mod Parts
 pub mod UnitResolution

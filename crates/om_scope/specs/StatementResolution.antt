@@ -29,12 +29,13 @@ use Rattle.om_resolved.specs.declared.resolved.StandAlone.TheVariants as alones
 use Rattle.om_resolved.specs.declared.resolved.Variable.{Variable}
 use Rattle.om_resolved.specs.Captures.{captures_of, listed_variables, taken_by_parallel, taken_by_task}
 use Rattle.om_scope.specs.DirectiveRules.{in_construct, names_in, parallel_in, traits_of}
+use Rattle.om_scope.specs.Grouping.{Grouped, no_items, grouped, parts_of}
 use Rattle.om_scope.specs.Loops.{Loop, loop_in}
 use Rattle.om_scope.specs.Perhaps.{◌>>=◌, perhaps, each, each_along, all_of}
 use Rattle.om_scope.specs.Places.{expression_first, statement_first}
 use Rattle.om_scope.specs.Resolution.{resolved_expression, variable_named}
 use Rattle.om_resolved.specs.ResolvedTree as resolved
-use Rattle.om_resolved.specs.ResolvedTree.{ResolvedDeclaratorTree, ResolvedClauseTree, ResolvedLoopTree, ResolvedStartTree, ResolvedUpdateTree, ResolvedStatementTree, ResolvedStatementsTree}
+use Rattle.om_resolved.specs.ResolvedTree.{ResolvedDeclaratorTree, ResolvedClauseTree, ResolvedLoopTree, ResolvedStartTree, ResolvedUpdateTree, ResolvedStatementTree, ResolvedStatementsTree, ResolvedPartsTree}
 use Rattle.om_scope.specs.Scopes.{Scopes, inside, declarators_of, after_local}
 use Rattle.om_scope.specs.Sharing.{is_parallel}
 use Rattle.om_scope.specs.Updates.{statement_side, update_of}
@@ -168,11 +169,11 @@ loop_construct_of d cs l body =
     else resolved.Loop d.hash cs (has_nowait d) l body
 
 -- the same of a `parallel sections`
-abbrev pub sections_construct_of : Directive ExpressionTree → List ResolvedClauseTree → ResolvedStatementsTree → ResolvedStatementTree
-sections_construct_of d cs items =
+abbrev pub sections_construct_of : Directive ExpressionTree → List ResolvedClauseTree → ResolvedPartsTree → ResolvedStatementTree
+sections_construct_of d cs parts =
     if is_parallel (traits_of d.name).region
-    then parallel_of d cs (resolved.Sections d.hash [] true items)
-    else resolved.Sections d.hash cs (has_nowait d) items
+    then parallel_of d cs (resolved.Sections d.hash [] true parts)
+    else resolved.Sections d.hash cs (has_nowait d) parts
 
 -- ---- canonical loops
 
@@ -228,10 +229,6 @@ resolved_alone scopes d (directives.Critical s name) = Some (resolved.Empty d.ha
 resolved_alone scopes d (directives.Atomic s) = Some (resolved.Empty d.hash)
 resolved_alone scopes d (directives.Task s) = Some (resolved.Empty d.hash)
 
--- an item of `sections` that begins a part
-abbrev pub part_of : Bool → ResolvedStatementTree → ResolvedStatementTree
-part_of begins s = if begins then resolved.Section s else s
-
 -- in the innermost `parallel` that begins there
 unfoldable mutual
   pub resolved_statement : Scopes → Option ℕ → StatementTree → Option ResolvedStatementTree
@@ -273,10 +270,10 @@ unfoldable mutual
       loop_in s >>= λ found. resolved_loop (round_bounds d scopes) (schedule_of d.clauses) found >>= λ l.
       resolved_repeated (in_construct d scopes) (parallel_in d parallel) found s >>= λ body. Some (loop_construct_of d cs l body))
   resolved_statement scopes parallel (StandAlone d) = resolved_alone scopes d d.name
-  resolved_statement scopes parallel (Sections d left parts right) = do
+  resolved_statement scopes parallel (Sections d left items right) = do
     cs ← resolved_clauses scopes d.clauses
-    items ← resolved_parts (in_construct d scopes) (parallel_in d parallel) 0 parts
-    Some (sections_construct_of d cs items)
+    parts ← option_map parts_of (resolved_parts (in_construct d scopes) (parallel_in d parallel) 0 items)
+    Some (sections_construct_of d cs parts)
   resolved_statement scopes parallel (Section d s) = resolved_statement (inside scopes) parallel s
 
   -- of the items of a block, in their order
@@ -307,16 +304,12 @@ unfoldable mutual
   resolved_repeated scopes parallel found (Section d s) = Some (resolved.Empty (statement_first (Section d s)))
 
   -- of the items of `sections`, behind so many parts
-  pub resolved_parts : Scopes → Option ℕ → ℕ → StatementsTree → Option ResolvedStatementsTree
-  resolved_parts scopes parallel before NoStatements = Some resolved.NoStatements
+  pub resolved_parts : Scopes → Option ℕ → ℕ → StatementsTree → Option Grouped
+  resolved_parts scopes parallel before NoStatements = Some no_items
   resolved_parts scopes parallel before (Statement s rest) = do
     t ← resolved_statement (inside scopes) parallel s
-    ts ← resolved_parts scopes parallel (parts_behind before s) rest
-    Some (resolved.Statement (part_of (begins_part before s) t) ts)
-
--- of an item of `sections` behind so many parts
-abbrev pub resolved_part : Scopes → Option ℕ → ℕ → StatementTree → Option ResolvedStatementTree
-resolved_part scopes parallel before s = resolved_statement (inside scopes) parallel s >>= λ item. Some (part_of (begins_part before s) item)
+    items ← resolved_parts scopes parallel (parts_behind before s) rest
+    Some (grouped (begins_part before s) t items)
 
 -- of a construct that is for any statement
 abbrev pub resolved_plain_construct : Scopes → Option ℕ → Directive ExpressionTree → StatementTree → Option ResolvedStatementTree
@@ -337,10 +330,10 @@ resolved_construct scopes parallel d s =
     if not (traits_of d.name).takes_loop then resolved_plain_construct scopes parallel d s else resolved_loop_construct scopes parallel d (loop_in s) s
 
 abbrev pub resolved_sections : Scopes → Option ℕ → Directive ExpressionTree → StatementsTree → Option ResolvedStatementTree
-resolved_sections scopes parallel d parts = do
+resolved_sections scopes parallel d items = do
   cs ← resolved_clauses scopes d.clauses
-  items ← resolved_parts (in_construct d scopes) (parallel_in d parallel) 0 parts
-  Some (sections_construct_of d cs items)
+  parts ← option_map parts_of (resolved_parts (in_construct d scopes) (parallel_in d parallel) 0 items)
+  Some (sections_construct_of d cs parts)
 
 -- of a `for`
 abbrev pub resolved_for : Scopes → Option ℕ → ForHeadTree → StatementTree → Option ResolvedStatementTree

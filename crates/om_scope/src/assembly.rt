@@ -7,9 +7,10 @@ ghost use Rattle.om_pragma.specs.Expressions.{map_clause, map_item};
 ghost use Rattle.om_pragma.specs.Questions.{atomic_kind};
 ghost use Rattle.om_scope.specs.Checks.{Checks};
 ghost use Rattle.om_scope.specs.Parts.{with_around};
-ghost use Rattle.om_resolved.specs.ResolvedTree.{ResolvedClauseTree, ResolvedStatementTree, statements};
-ghost use Rattle.om_resolved.specs.ResolvedView.{view_resolved_clause, view_resolved_loop, view_resolved_statement};
-ghost use Rattle.om_scope.specs.StatementResolution.{atomic_of, clause_schedule, construct_of, critical_name, has_default, has_nowait, loop_construct_of, parallel_of, part_of, plain_schedule, schedule_in, schedule_of, sections_construct_of, task_of};
+ghost use Rattle.om_resolved.specs.ResolvedTree as resolved;
+ghost use Rattle.om_resolved.specs.ResolvedTree.{ResolvedClauseTree, ResolvedStatementTree};
+ghost use Rattle.om_resolved.specs.ResolvedView.{view_resolved_clause, view_resolved_loop, view_resolved_part, view_resolved_statement};
+ghost use Rattle.om_scope.specs.StatementResolution.{atomic_of, clause_schedule, construct_of, critical_name, has_default, has_nowait, loop_construct_of, parallel_of, plain_schedule, schedule_in, schedule_of, sections_construct_of, task_of};
 
 use crate::construct::traits_of;
 use crate::declaration::copy_of;
@@ -20,8 +21,8 @@ use om_pragma::{
     AtomicKind, Clause, ClauseItem, ClauseKind, Directive, DirectiveName, Schedule, ScheduleKind,
 };
 use om_resolved::{
-    Capture, ConstructKind, ResolvedClause, ResolvedLoop, ResolvedSchedule, ResolvedStatement,
-    Side, captures_of_parallel, captures_of_task,
+    Capture, ConstructKind, ResolvedClause, ResolvedLoop, ResolvedPart, ResolvedSchedule,
+    ResolvedStatement, Side, captures_of_parallel, captures_of_task,
 };
 use om_seq::Seq;
 use om_tree::{Expression, Name};
@@ -251,34 +252,23 @@ pub fn loop_construct_of(
     Ok(ResolvedStatement::Loop(at, clauses, nowait, repeated, body))
 }
 
-/// A construct of parts, with their items.
+/// A construct of parts.
 pub fn sections_construct_of(
     alloc: Global,
     directive: &Directive<Expression>,
     clauses: Vec<ResolvedClause>,
-    items: Vec<ResolvedStatement>,
+    parts: Vec<ResolvedPart>,
 ) -> Result<ResolvedStatement, SourceFault>
     ensures checked { Checks result [] }
-    ensures made { IfOk result (λ found. view_resolved_statement found ≡ sections_construct_of (view_directive directive.now) (map view_resolved_clause clauses.items) (statements (map view_resolved_statement items.items))) }
+    ensures made { IfOk result (λ found. view_resolved_statement found ≡ sections_construct_of (view_directive directive.now) (map view_resolved_clause clauses.items) (resolved.parts (map view_resolved_part parts.items))) }
 {
     let at = directive.hash;
     if is_parallel(traits_of(&directive.name).region) {
-        let inner = ResolvedStatement::Sections(at, Vec::new(alloc), true, items);
+        let inner = ResolvedStatement::Sections(at, Vec::new(alloc), true, parts);
         return Ok(parallel_of(alloc, directive, clauses, inner)?);
     }
     let nowait = has_nowait(directive);
-    Ok(ResolvedStatement::Sections(at, clauses, nowait, items))
-}
-
-/// An item of `sections`, which begins a part or not.
-pub fn part_of(begins: bool, item: Box<ResolvedStatement>) -> ResolvedStatement
-    ensures { view_resolved_statement result ≡ part_of begins (view_resolved_statement item.value) }
-{
-    if begins {
-        ResolvedStatement::Section(item)
-    } else {
-        Box::into_inner(item)
-    }
+    Ok(ResolvedStatement::Sections(at, clauses, nowait, parts))
 }
 
 /// What a clause `schedule` asks for.

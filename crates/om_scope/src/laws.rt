@@ -1,6 +1,6 @@
 //! Laws of resolving, for every tree.
 
-ghost use Rattle.om_scope.specs.Laws.{NumbersNameGlobals, UnbrokenExpressionsAreWhole, UnbrokenStatementsAreWhole, UnbrokenTreesResolve};
+ghost use Rattle.om_scope.specs.Laws.{AtomicsAssign, NumbersNameGlobals, UnbrokenExpressionsAreWhole, UnbrokenStatementsAreWhole, UnbrokenTreesAreWhole, UnbrokenTreesResolve};
 
 /// A name that means a variable is the name of that very global among those declared before.
 pub fn numbers_name_globals()
@@ -19,7 +19,17 @@ pub fn unbroken_expressions_are_whole()
     ensures { UnbrokenExpressionsAreWhole }
 {}
 
-/// So do the well-formed statements of a block, where none of them is or holds a `sections`.
+/// So do the well-formed statements of a block.
 pub fn unbroken_statements_are_whole()
     ensures { UnbrokenStatementsAreWhole }
+{}
+
+/// A well-formed source that breaks no rule resolves to a whole tree.
+pub fn unbroken_trees_are_whole()
+    ensures { UnbrokenTreesAreWhole }
+{}
+
+/// An `atomic` that reads or writes is about an assignment, where the source has the forms of `atomic`.
+pub fn atomics_assign()
+    ensures { AtomicsAssign }
 {}

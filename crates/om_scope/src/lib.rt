@@ -13,6 +13,7 @@ mod fault;
 mod flow;
 mod function;
 mod globals;
+mod grouping;
 mod kept;
 pub mod laws;
 mod listed;

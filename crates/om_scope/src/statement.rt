@@ -6,18 +6,19 @@ ghost use Rattle.om_tree.specs.View.{view_declaration, view_expression, view_for
 ghost use Rattle.om_scope.specs.Checks.{Checks, ChecksExactly};
 ghost use Rattle.om_scope.specs.DirectiveRules.{directive_breaches, flush_breaches, in_construct, in_kind};
 ghost use Rattle.om_scope.specs.ExpressionRules.{expression_breaches};
+ghost use Rattle.om_scope.specs.Grouping.{parts_of};
 ghost use Rattle.om_scope.specs.LoopViews.{view_loop};
 ghost use Rattle.om_scope.specs.Loops.{loop_in};
 ghost use Rattle.om_scope.specs.Parts.{resolved_declaration, resolved_effect, resolved_return, round_listed};
 ghost use Rattle.om_scope.specs.Places.{statement_first};
 ghost use Rattle.om_resolved.specs.ResolvedTree as resolved;
-ghost use Rattle.om_resolved.specs.ResolvedView.{view_resolved_clause, view_resolved_expression, view_resolved_loop, view_resolved_start, view_resolved_statement};
+ghost use Rattle.om_resolved.specs.ResolvedView.{view_resolved_clause, view_resolved_expression, view_resolved_loop, view_resolved_part, view_resolved_start, view_resolved_statement};
 ghost use Rattle.om_scope.specs.Scopes.{after_locals, declarators_of, inside};
-ghost use Rattle.om_scope.specs.StatementResolution.{resolved_alone, resolved_part, resolved_clauses, resolved_construct, resolved_for, resolved_loop, resolved_loop_construct, resolved_parts, resolved_perhaps, resolved_plain_construct, resolved_repeated, resolved_sections, resolved_start, resolved_statement, resolved_statements, schedule_of};
-ghost use Rattle.om_scope.specs.StatementRules.{after_for_start, after_statement, for_start_breaches, for_turn_breaches, after_statements, for_breaches, looping, body_breaches, continuing, found_breaches, in_loop, loop_construct_breaches, jump_breaches, construct_breaches, plain_construct_breaches, part_breaches, begins_part, has_section, parts_behind, sections_breaches, sections_construct_breaches, locals_breaches, round_bounds, stand_alone_breaches, perhaps_breaches, return_breaches, statement_breaches, statements_breaches};
+ghost use Rattle.om_scope.specs.StatementResolution.{resolved_alone, resolved_clauses, resolved_construct, resolved_for, resolved_loop, resolved_loop_construct, resolved_parts, resolved_perhaps, resolved_plain_construct, resolved_repeated, resolved_sections, resolved_start, resolved_statement, resolved_statements, schedule_of};
+ghost use Rattle.om_scope.specs.StatementRules.{after_for_start, after_statement, for_start_breaches, for_turn_breaches, after_statements, for_breaches, looping, body_breaches, continuing, found_breaches, in_loop, loop_construct_breaches, jump_breaches, construct_breaches, plain_construct_breaches, part_breaches, sections_breaches, sections_construct_breaches, locals_breaches, round_bounds, stand_alone_breaches, perhaps_breaches, return_breaches, statement_breaches, statements_breaches};
 
 use crate::assembly::{
-    Setting, construct_of, loop_construct_of, part_of, schedule_of, sections_construct_of,
+    Setting, construct_of, loop_construct_of, schedule_of, sections_construct_of,
 };
 use crate::bounds::{enter_loop, resolve_loop};
 use crate::canonical::{Loop, loop_in};
@@ -27,6 +28,7 @@ use crate::directive::{resolve_directive, resolve_flush};
 use crate::expression::{boxed_expression, misplaced, unboxed};
 use crate::fault::{loop_fault, refuse_if};
 use crate::flow::Flow;
+use crate::grouping::{add_item, begins_part};
 use crate::kept::{add, boxed};
 use crate::listed::Listed;
 use crate::place::{expression_first, statement_first, statement_start};
@@ -35,8 +37,8 @@ use crate::update::statement_side;
 use om_lexer::{FaultCode, SourceFault, Span};
 use om_pragma::{Directive, DirectiveName};
 use om_resolved::{
-    ResolvedClause, ResolvedExpression, ResolvedLoop, ResolvedSchedule, ResolvedStart,
-    ResolvedStatement, StandAlone,
+    ResolvedClause, ResolvedExpression, ResolvedLoop, ResolvedPart, ResolvedSchedule,
+    ResolvedStart, ResolvedStatement, StandAlone,
 };
 use om_tree::{Declaration, Expression, ForHead, ForStart, Statement};
 use std::alloc::{AllocError, Global};
@@ -446,8 +448,8 @@ fn resolve_statement(
             resolve_construct(alloc, symbols, flow, directive, body)
         }
         Statement::StandAlone(directive) => resolve_stand_alone(alloc, symbols, flow, directive),
-        Statement::Sections(directive, _, parts, _) => {
-            resolve_sections(alloc, symbols, flow, directive, parts.as_slice())
+        Statement::Sections(directive, _, items, _) => {
+            resolve_sections(alloc, symbols, flow, directive, items.as_slice())
         }
         Statement::Section(_, first) => {
             let first = resolve_body(alloc, symbols, flow, first)?;
@@ -594,107 +596,62 @@ fn resolve_sections(
     symbols: &mut Symbols,
     flow: Flow,
     directive: &Directive<Expression>,
-    parts: &[Statement],
+    items: &[Statement],
 ) -> Result<ResolvedStatement, SourceFault>
-    ensures checked { Checks result (sections_construct_breaches symbols.old flow (view_directive directive.now) (statements (map view_statement parts.now))) }
+    ensures checked { Checks result (sections_construct_breaches symbols.old flow (view_directive directive.now) (statements (map view_statement items.now))) }
     ensures in_scope { OnOk result (symbols.new ≡ symbols.old) }
-    ensures resolved { IfOk result (λ found. resolved_sections symbols.old flow.parallel (view_directive directive.now) (statements (map view_statement parts.now)) ≡ Some (view_resolved_statement found)) }
+    ensures resolved { IfOk result (λ found. resolved_sections symbols.old flow.parallel (view_directive directive.now) (statements (map view_statement items.now)) ≡ Some (view_resolved_statement found)) }
 {
     let inside = constructing(directive, flow);
     let clauses = enter_construct(alloc, symbols, flow, directive)?;
-    let items = resolve_parts(alloc, symbols, inside, parts)?;
+    let parts = resolve_parts(alloc, symbols, inside, items)?;
     symbols.leave();
-    sections_construct_of(alloc, directive, clauses, items)
+    sections_construct_of(alloc, directive, clauses, parts)
 }
 
-/// Whether an item of `sections`, behind so many parts, begins a part.
-fn begins_part(before: usize, item: &Statement) -> bool
-    ensures { result ≡ begins_part before (view_statement item.now) }
-{
-    before == 0 || has_section(item)
-}
-
-/// Whether `section` stands before an item.
-fn has_section(item: &Statement) -> bool
-    ensures { result ≡ has_section (view_statement item.now) }
-{
-    match item {
-        Statement::Declaration(_) => false,
-        Statement::Block(..) => false,
-        Statement::Empty(_) => false,
-        Statement::Expression(..) => false,
-        Statement::If(..) => false,
-        Statement::IfElse(..) => false,
-        Statement::While(..) => false,
-        Statement::Do(..) => false,
-        Statement::For(..) => false,
-        Statement::Return(..) => false,
-        Statement::Break(..) => false,
-        Statement::Continue(..) => false,
-        Statement::Construct(..) => false,
-        Statement::StandAlone(_) => false,
-        Statement::Sections(..) => false,
-        Statement::Section(..) => true,
-    }
-}
-
-/// How many parts have begun behind an item.
-fn parts_behind(before: usize, item: &Statement) -> usize
-    requires { before < 18446744073709551615 }
-    ensures { result ≡ parts_behind before (view_statement item.now) }
-{
-    if begins_part(before, item) {
-        before + 1
-    } else {
-        before
-    }
-}
-
-/// The items of `sections`.
+/// The parts of `sections`, by their items.
 #[tactic(auto, unfolding(crate::specs::StatementRules::sections_breaches, crate::specs::StatementResolution::resolved_parts))]
 #[cycle(statement)]
 fn resolve_parts(
     alloc: Global,
     symbols: &mut Symbols,
     flow: Flow,
-    parts: &[Statement],
-) -> Result<Vec<ResolvedStatement>, SourceFault>
-    ensures checked { Checks result (sections_breaches symbols.old flow 0 (statements (map view_statement parts.now))) }
+    items: &[Statement],
+) -> Result<Vec<ResolvedPart>, SourceFault>
+    ensures checked { Checks result (sections_breaches symbols.old flow 0 (statements (map view_statement items.now))) }
     ensures in_scope { OnOk result (symbols.new ≡ symbols.old) }
-    ensures resolved { IfOk result (λ found. resolved_parts symbols.old flow.parallel 0 (statements (map view_statement parts.now)) ≡ Some (resolved.statements (map view_resolved_statement found.items))) }
+    ensures resolved { IfOk result (λ found. option_map parts_of (resolved_parts symbols.old flow.parallel 0 (statements (map view_statement items.now))) ≡ Some (resolved.parts (map view_resolved_part found.items))) }
 {
-    let mut before = 0;
-    let mut items = Vec::new(alloc);
-    for part in parts {
-        let found = resolve_part(alloc, symbols, flow, before, part);
-        add(&mut items, found)?;
-        before = parts_behind(before, part);
+    let mut parts = Vec::new(alloc);
+    for item in items {
+        let begins = begins_part(parts.len(), item);
+        let found = resolve_item(alloc, symbols, flow, parts.len(), item);
+        add_item(alloc, &mut parts, begins, found)?;
     }
-    Ok(items)
+    Ok(parts)
 }
 
 /// An item of `sections` behind so many parts: S11 where it begins one too many.
 #[tactic(auto, using(crate::proofs::Firsts::first_of_left))]
 #[cycle(statement)]
-fn resolve_part(
+fn resolve_item(
     alloc: Global,
     symbols: &mut Symbols,
     flow: Flow,
     before: usize,
-    part: &Statement,
-) -> Result<ResolvedStatement, SourceFault>
-    ensures checked { Checks result (part_breaches symbols.old flow before (view_statement part.now)) }
+    item: &Statement,
+) -> Result<Box<ResolvedStatement>, SourceFault>
+    ensures checked { Checks result (part_breaches symbols.old flow before (view_statement item.now)) }
     ensures in_scope { OnOk result (symbols.new ≡ symbols.old) }
-    ensures resolved { let tree = view_statement part.now in
-        IfOk result (λ found. resolved_part symbols.old flow.parallel before tree ≡ Some (view_resolved_statement found)) }
+    ensures resolved { let tree = view_statement item.now in
+        IfOk result (λ found. resolved_statement (inside symbols.old) flow.parallel tree ≡ Some (view_resolved_statement found.value)) }
 {
     refuse_if(
-        begins_part(before, part) && SECTION_LIMIT <= before,
+        begins_part(before, item) && SECTION_LIMIT <= before,
         FaultCode::TooMany,
-        statement_start(part),
+        statement_start(item),
     )?;
-    let item = resolve_body(alloc, symbols, flow, part)?;
-    Ok(part_of(begins_part(before, part), item))
+    resolve_body(alloc, symbols, flow, item)
 }
 
 /// The items of a block, in a scope of their own.

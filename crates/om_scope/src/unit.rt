@@ -3,6 +3,8 @@
 ghost use Rattle.std.specs.Prelude.{◌≡◌, ◌≢◌, ◌++◌, [], OnOk, IfOk, IfErr, Some, map, option_map};
 ghost use Rattle.std.specs.List.{flat_map, list_any};
 ghost use Rattle.om_lexer.specs.Faults.{no_memory};
+ghost use Rattle.om_tree.specs.Formed.{IsUnit};
+ghost use Rattle.om_tree.specs.Sizes.{AtomicsHaveForms};
 ghost use Rattle.om_tree.specs.View.{view_item, view_unit};
 ghost use Rattle.om_scope.specs.Breaches.{breaches_of, is_main, main_breaches};
 ghost use Rattle.om_scope.specs.Checks.{Checks, ChecksExactly};
@@ -12,7 +14,9 @@ ghost use Rattle.om_resolved.specs.ResolvedView.{view_resolved, view_resolved_fu
 ghost use Rattle.om_scope.specs.Scopes.{after_definition, after_item, definitions_of, file_scope, nothing_declared};
 ghost use Rattle.om_scope.specs.UnitResolution.{globals_of, item_functions, items_resolution, resolution_of};
 ghost use Rattle.om_scope.specs.UnitRules.{item_breaches, items_breaches};
+ghost use Rattle.om_resolved.specs.Beside.{TreeAtomicsAssign};
 ghost use Rattle.om_resolved.specs.Uses.{IsResolved};
+ghost use Rattle.om_resolved.specs.Whole.{IsWholeTree};
 
 use crate::function::{check_prototype, resolve_function};
 use crate::globals::declare_globals;
@@ -189,6 +193,8 @@ pub fn resolve(alloc: Global, unit: Unit) -> Result<Resolved, SourceFault>
     ensures no_breach { OnOk result (breaches_of (view_unit unit) ≡ []) }
     ensures resolved { IfOk result (λ resolved. resolution_of (view_unit unit) ≡ Some (view_resolved resolved)) }
     ensures is_resolved { IfOk result (λ resolved. IsResolved (view_resolved resolved)) }
+    ensures whole { IsUnit (view_unit unit) → IfOk result (λ resolved. IsWholeTree (view_resolved resolved)) }
+    ensures atomics_assign { AtomicsHaveForms (view_unit unit) → IfOk result (λ resolved. TreeAtomicsAssign (view_resolved resolved)) }
     ensures first_breach { IfErr result (λ fault. fault ≢ no_memory → first_of (breaches_of (view_unit unit)) ≡ Some fault) }
 {
     let resolved = resolve_items(alloc, unit.items.as_slice())?;

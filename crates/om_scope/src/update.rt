@@ -270,7 +270,6 @@ fn update_of(side: Side, statement: ResolvedStatement) -> Option<ResolvedUpdate>
         ResolvedStatement::Task(_, _, _, _) => None,
         ResolvedStatement::Loop(_, _, _, _, _) => None,
         ResolvedStatement::Sections(_, _, _, _) => None,
-        ResolvedStatement::Section(_) => None,
         ResolvedStatement::Construct(_, _, _, _) => None,
         ResolvedStatement::Update(_, _) => None,
         ResolvedStatement::StandAlone(_, _) => None,

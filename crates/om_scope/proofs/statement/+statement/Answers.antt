@@ -1,18 +1,20 @@
-use Rattle.std.proofs.Common.{◌≡◌, Some, map, option_map, ap, sym, ◌∙◌}
+use Rattle.std.proofs.Common.{◌≡◌, Some, length, map, option_map, ap, sym, ◌∙◌, arith}
 use Rattle.std.proofs.lemmas.List.{drop_all}
 use Rattle.std.proofs.lemmas.Result.{err_from_is_err_and}
 use Rattle.om_tree.specs.View.{view_directive, view_for_start, view_statement}
 use Rattle.om_scope.specs.LoopViews.{view_loop}
 use Rattle.om_scope.specs.Loops.{loop_in}
-use Rattle.om_resolved.specs.ResolvedView.{view_resolved_statement}
+use Rattle.om_resolved.specs.ResolvedView.{view_resolved_part, view_resolved_statement}
+use Rattle.om_scope.specs.Grouping.{with_item}
 use Rattle.om_scope.specs.Scopes.{outside}
 use Rattle.om_scope.specs.StatementResolution.{resolved_statement}
 use Rattle.om_scope.specs.StatementRules.{after_for_start, after_statement, after_statements}
-use Rattle.om_scope.proofs.Blocks.{block_outside, body_outside, construct_outside, for_outside, parts_behind_le, parts_made, parts_refuse, parts_step, parts_whole, statements_made, statements_refuse, statements_step, statements_whole}
+use Rattle.om_scope.proofs.Blocks.{block_outside, body_outside, construct_outside, for_outside, parts_refuse, parts_step, statements_made, statements_refuse, statements_step, statements_whole}
 use Rattle.om_scope.proofs.Constructs.{view_construct}
 use Rattle.om_scope.proofs.Founds.{ok_anyway, ok_then}
 use Rattle.om_scope.proofs.Fronts.{bounds_refuse}
-use Rattle.om_scope.proofs.Items.{drop-item, map-push}
+use Rattle.om_scope.proofs.MadeParts.{grouped_count, grouped_step, grouped_whole}
+use Rattle.om_scope.proofs.Items.{drop-item, length-map, map-push}
 use Rattle.om_scope.proofs.statement.+statement.Goals as goal
 
 pub resolve_statement-returns-in-Construct-clause-resolved : goal.resolve_statement-returns-in-Construct-clause-resolved
@@ -70,33 +72,40 @@ resolve_loop_construct-returns-in_err-clauses-in-Some-clause-checked t c =
     let same : loop_in (view_statement c.args.body.now) ≡ Some (view_loop c.in-Some.found) = sym c.loop_in.ensures ∙ ap (option_map view_loop) c.in-Some.is in
     rw (p.1, p.2, same) (bounds_refuse c.args.symbols.now c.args.flow (view_directive c.args.directive.now) (view_loop c.in-Some.found) (view_statement c.args.body.now) _ c.in_err-clauses-in-Some.ensures.checked)
 
-pub resolve_parts-returns-in_err-add-clause-checked : goal.resolve_parts-returns-in_err-add-clause-checked
-resolve_parts-returns-in_err-add-clause-checked t c =
-    let p = err_from_is_err_and c.from_residual.result c.from_residual.ensures.1 in
-    let here = ap (map view_statement) (drop-item c.args.parts.now c.loop-part.part-index c.part-item.result c.loop-part-test.true c.part-item.is) in
-    let left = rw here at c.loop-part.invariant in
-    let checked = rw left.1 at c.resolve_part-found.ensures.checked in
-    rw (p.1, p.2) (parts_refuse _ _ _ _ _ _ _ left.0 (c.in_err-add.ensures.checked _ checked))
-
-pub resolve_parts-loop-part-preserved : goal.resolve_parts-loop-part-preserved
-resolve_parts-loop-part-preserved t c =
-    let here = ap (map view_statement) (drop-item c.args.parts.now c.loop-part.part-index c.part-item.result c.loop-part-test.true c.part-item.is) in
-    let left = rw here at c.loop-part.invariant in
-    let added = c.in_ok-add.ensures.added in
-    let checked = rw (left.1, added.1) at c.resolve_part-found.ensures.checked in
-    let behind = rw added.1 at c.resolve_part-found.ensures.in_scope in
-    let found = rw (left.1, added.1) at c.resolve_part-found.ensures.resolved in
-    let made = ap (map view_resolved_statement) added.2 ∙ map-push view_resolved_statement c.loop-part.items.items added.0 in
-    rw (c.parts_behind-before.ensures, made) (parts_step _ _ _ _ _ _ left.0 checked, behind ∙ left.1, parts_behind_le _ _ _ left.2, parts_made _ _ _ _ _ _ _ _ left.3 found)
-
 pub resolve_statements-returns-clause-resolved : goal.resolve_statements-returns-clause-resolved
 resolve_statements-returns-clause-resolved t c =
     let none = ap (map view_statement) (drop_all c.loop-item.item-index c.args.items.now c.loop-item-test.false) in
     let left = rw none at c.loop-item.invariant in
     statements_whole _ _ _ _ left.2
 
+pub resolve_parts-returns-in_err-add_item-clause-checked : goal.resolve_parts-returns-in_err-add_item-clause-checked
+resolve_parts-returns-in_err-add_item-clause-checked t c =
+    let p = err_from_is_err_and c.from_residual.result c.from_residual.ensures.1 in
+    let here = ap (map view_statement) (drop-item c.args.items.now c.loop-item.item-index c.item-item.result c.loop-item-test.true c.item-item.is) in
+    let left = rw here at c.loop-item.invariant in
+    let count : c.len-in-loop-item.result ≡ length (map view_resolved_part c.loop-item.parts.items) =
+    omega (arith, c.len-in-loop-item.ensures, c.loop-item.parts.ok.0, length-map view_resolved_part c.loop-item.parts.items) in
+    let checked = rw (left.1, count) at c.resolve_item-found.ensures.checked in
+    rw (p.1, p.2) (parts_refuse _ _ _ _ _ _ _ left.0 (c.in_err-add_item.ensures.checked _ checked))
+
+pub resolve_parts-loop-item-preserved : goal.resolve_parts-loop-item-preserved
+resolve_parts-loop-item-preserved t c =
+    let here = ap (map view_statement) (drop-item c.args.items.now c.loop-item.item-index c.item-item.result c.loop-item-test.true c.item-item.is) in
+    let left = rw here at c.loop-item.invariant in
+    let made = map view_resolved_part c.loop-item.parts.items in
+    let as_many = length-map view_resolved_part c.loop-item.parts.items in
+    let count : c.len-in-loop-item.result ≡ length made = omega (arith, c.len-in-loop-item.ensures, c.loop-item.parts.ok.0, as_many) in
+    let before : c.len.result ≡ length made = omega (arith, c.len.ensures, c.loop-item.parts.ok.0, as_many) in
+    let begun = rw before at c.begins_part-begins.ensures in
+    let added = c.in_ok-add_item.ensures.added in
+    let checked = rw (left.1, count, added.1) at c.resolve_item-found.ensures.checked in
+    let behind = rw added.1 at c.resolve_item-found.ensures.in_scope in
+    let found = rw (left.1, added.1) at c.resolve_item-found.ensures.resolved in
+    let grown = added.2 ∙ ap (λ begins. with_item begins (view_resolved_statement added.0.value) made) begun in
+    rw (grown, grouped_count (view_resolved_statement added.0.value) made _) (parts_step _ _ _ _ _ _ left.0 checked, behind ∙ left.1, grouped_step _ _ _ _ _ _ _ left.2 found)
+
 pub resolve_parts-returns-clause-resolved : goal.resolve_parts-returns-clause-resolved
 resolve_parts-returns-clause-resolved t c =
-    let none = ap (map view_statement) (drop_all c.loop-part.part-index c.args.parts.now c.loop-part-test.false) in
-    let left = rw none at c.loop-part.invariant in
-    parts_whole _ _ _ _ _ left.3
+    let none = ap (map view_statement) (drop_all c.loop-item.item-index c.args.items.now c.loop-item-test.false) in
+    let left = rw none at c.loop-item.invariant in
+    grouped_whole _ _ _ _ _ left.2

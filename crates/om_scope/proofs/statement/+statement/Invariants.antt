@@ -1,9 +1,10 @@
-use Rattle.std.proofs.Common.{◌≡◌, ◌≤◌, map, drop}
+use Rattle.std.proofs.Common.{◌≡◌, length, map, drop}
 use Rattle.om_tree.specs.Tree.{statements}
 use Rattle.om_tree.specs.View.{view_statement}
-use Rattle.om_resolved.specs.ResolvedView.{view_resolved_statement}
+use Rattle.om_resolved.specs.ResolvedView.{view_resolved_part, view_resolved_statement}
 use Rattle.om_scope.specs.StatementResolution.{resolved_parts, resolved_statements}
 use Rattle.om_scope.specs.StatementRules.{after_statements, sections_breaches, statements_breaches}
+use Rattle.om_scope.proofs.MadeParts.{MadeParts}
 use Rattle.om_scope.proofs.Statements.{Made}
 use Rattle.om_scope.proofs.statement.+statement.Given as goal
 
@@ -17,12 +18,12 @@ invariant-resolve_statements-loop-item l =
     × (after_statements l.fn.symbols all ≡ after_statements l.symbols left)
     × Made (resolved_statements l.fn.symbols parallel (statements all)) (resolved_statements l.symbols parallel (statements left)) (map view_resolved_statement l.resolved.items)
 
-abbrev pub invariant-resolve_parts-loop-part : goal.invariant-resolve_parts-loop-part
-invariant-resolve_parts-loop-part l =
-    let all = map view_statement l.parts in
-    let left = map view_statement (drop l.part-index l.parts) in
+abbrev pub invariant-resolve_parts-loop-item : goal.invariant-resolve_parts-loop-item
+invariant-resolve_parts-loop-item l =
+    let all = map view_statement l.items in
+    let left = map view_statement (drop l.item-index l.items) in
     let parallel = l.flow.parallel in
-    (sections_breaches l.fn.symbols l.flow 0 (statements all) ≡ sections_breaches l.fn.symbols l.flow l.before (statements left))
+    let made = map view_resolved_part l.parts.items in
+    (sections_breaches l.fn.symbols l.flow 0 (statements all) ≡ sections_breaches l.fn.symbols l.flow (length made) (statements left))
     × (l.symbols ≡ l.fn.symbols)
-    × (l.before ≤ l.part-index)
-    × Made (resolved_parts l.fn.symbols parallel 0 (statements all)) (resolved_parts l.fn.symbols parallel l.before (statements left)) (map view_resolved_statement l.items.items)
+    × MadeParts (resolved_parts l.fn.symbols parallel 0 (statements all)) (resolved_parts l.fn.symbols parallel (length made) (statements left)) made
