@@ -1,12 +1,13 @@
 //! What is asked of lowering.
 
-use crate::resolving::resolved;
+use crate::parsing::parsed;
 use crate::verdicts::{refusal, unknown, verdict};
 use om_code::instruction::{BinaryOperator, Instr, Place};
 use om_code::program::Program;
 use om_lexer::SourceFault;
 use om_lower::look::{global_named, line_of};
 use om_lower::lower::lower;
+use om_scope::resolve;
 use std::alloc::{AllocError, Global};
 
 /// What is answered of a source.
@@ -15,7 +16,8 @@ pub(crate) fn answer(alloc: Global, question: &str, source: &str) -> Result<Stri
         b"verdict" => verdict(alloc, lowered(alloc, source)),
         b"code" | b"end" | b"globals" => found(alloc, question, source),
         b"laws" => {
-            om_lower::laws::one_code();
+            om_rows::laws::one_code();
+            om_rows::laws::code_is_level();
             String::from_str(alloc, "called")
         }
         _ => unknown(alloc),
@@ -24,7 +26,8 @@ pub(crate) fn answer(alloc: Global, question: &str, source: &str) -> Result<Stri
 
 /// The program of a source.
 fn lowered(alloc: Global, source: &str) -> Result<Program, SourceFault> {
-    lower(alloc, &resolved(alloc, source)?)
+    let resolved = resolve(alloc, parsed(alloc, source)?)?;
+    lower(alloc, &resolved)
 }
 
 /// What a program is asked, or the refusal of its source.

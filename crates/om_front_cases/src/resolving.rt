@@ -20,7 +20,7 @@ pub(crate) fn answer(alloc: Global, question: &str, source: &str) -> Result<Stri
 }
 
 /// The resolved tree of a source.
-pub(crate) fn resolved(alloc: Global, source: &str) -> Result<Resolved, SourceFault> {
+fn resolved(alloc: Global, source: &str) -> Result<Resolved, SourceFault> {
     resolve(alloc, parsed(alloc, source)?)
 }
 

@@ -81,8 +81,8 @@ fn parent(alloc: Global, text: &str) -> Result<String, CaseFault> {
     }
 }
 
-/// The access of a word, as `read1`: of global variable 1.
-fn access_of(word: &str) -> Result<Access, CaseFault> {
+/// The mode and the global variable of a word, as `read1`.
+fn mode_of(word: &str) -> Result<(Mode, u32), CaseFault> {
     let (mode, variable) = word
         .split_at_checked(word.len().saturating_sub(1))
         .ok_or(CaseFault::Unknown)?;
@@ -92,35 +92,39 @@ fn access_of(word: &str) -> Result<Access, CaseFault> {
         b"add" => Mode::Add,
         _ => return Err(CaseFault::Unknown),
     };
-    Ok(Access {
-        object: Obj::Global {
-            variable: number(variable)?,
-            index: 0,
-        },
+    Ok((mode, number(variable)?))
+}
+
+/// The access that the word at a place of a footprint stands for.
+fn access(words: &[&str], at: usize) -> Result<(Mode, u32), CaseFault> {
+    mode_of(word_at(words, at)?)
+}
+
+/// The global variable on which two accesses conflict with one or two others.
+fn found(first: [(Mode, u32); 2], second: (Mode, u32), third: Option<(Mode, u32)>) -> Option<u32> {
+    let of = |(mode, variable): (Mode, u32)| Access {
+        object: Obj::Global { variable, index: 0 },
         mode,
-    })
-}
-
-/// The footprint of words.
-fn footprint(alloc: Global, words: &[&str]) -> Result<Vec<Access>, CaseFault> {
-    let mut footprint = Vec::new(alloc);
-    for word in words {
-        footprint.push(access_of(word)?)?;
+    };
+    let [one, two] = first;
+    let found = match third {
+        Some(third) => conflict(&[of(one), of(two)], &[of(second), of(third)]),
+        None => conflict(&[of(one), of(two)], &[of(second)]),
+    };
+    match found {
+        Some(Obj::Global { variable, .. }) => Some(variable),
+        _ => None,
     }
-    Ok(footprint)
 }
 
-/// The object on which two footprints conflict, between which stands `|`.
+/// The global variable on which two footprints conflict, between which stands `|`: one of two accesses, and
+/// one of one or two.
 fn conflict_of(alloc: Global, words: &[&str]) -> Result<String, CaseFault> {
-    let bar = words.iter().position(|word| *word == "|");
-    let (first, second) = words
-        .split_at_checked(bar.ok_or(CaseFault::Unknown)?)
-        .ok_or(CaseFault::Unknown)?;
-    let first = footprint(alloc, first)?;
-    let second = footprint(alloc, second.get(1..).unwrap_or(&[]))?;
-    match conflict(first.as_slice(), second.as_slice()) {
-        Some(Obj::Global { variable, .. }) => Ok(format!(in alloc; "global {variable}")?),
-        Some(_) => Ok(String::from_str(alloc, "another object")?),
+    let first = [access(words, 0)?, access(words, 1)?];
+    let second = access(words, 3)?;
+    let third = access(words, 4).ok();
+    match found(first, second, third) {
+        Some(variable) => Ok(format!(in alloc; "global {variable}")?),
         None => Ok(String::from_str(alloc, "none")?),
     }
 }

@@ -22,7 +22,9 @@ use std::alloc::Global;
 pub(crate) struct Report {
     /// A line for each case, and the total.
     pub text: String,
-    /// How many cases are wrong.
+    /// How many cases there are.
+    pub cases: u64,
+    /// How many of them are wrong.
     pub wrong: u64,
 }
 
@@ -45,24 +47,27 @@ impl<'a> Section<'a> {
 
 /// Judges the cases of an input.
 pub(crate) fn judge(alloc: Global, input: &str) -> Result<Report, CaseFault> {
-    let mut program = "";
-    let mut cases = 0_u64;
     let mut report = Report {
         text: String::new(alloc),
+        cases: 0,
         wrong: 0,
     };
-    for text in input.split("\n== ").skip(1) {
-        let section = Section::of(text);
-        if section.kind == "program" {
-            program = section.text;
-        } else {
-            cases = cases.saturating_add(1);
-            add_case(alloc, &mut report, program, section)?;
-        }
+    for block in input.split("\n== program ").skip(1) {
+        add_block(alloc, &mut report, block)?;
     }
-    let total = format!(in alloc; "{cases} cases, {} wrong\n", report.wrong)?;
+    let total = format!(in alloc; "{} cases, {} wrong\n", report.cases, report.wrong)?;
     report.text.push_str(total.as_str())?;
     Ok(report)
+}
+
+/// Adds the lines of the cases behind a program, which stands below its title.
+fn add_block(alloc: Global, report: &mut Report, block: &str) -> Result<(), CaseFault> {
+    let (program, _) = block.split_once("\n== ").unwrap_or((block, ""));
+    let (_, program) = program.split_once('\n').unwrap_or((program, ""));
+    for text in block.split("\n== ").skip(1) {
+        add_case(alloc, report, program, Section::of(text))?;
+    }
+    Ok(())
 }
 
 /// Adds the line of a case. Where a case can't be judged, it is wrong; being out of memory ends the report.
@@ -72,6 +77,7 @@ fn add_case(
     program: &str,
     section: Section<'_>,
 ) -> Result<(), CaseFault> {
+    report.cases = report.cases.saturating_add(1);
     let wrong = match judged(alloc, program, section) {
         Ok(wrong) => wrong,
         Err(CaseFault::Memory) => return Err(CaseFault::Memory),

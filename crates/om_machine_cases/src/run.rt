@@ -126,17 +126,12 @@ impl Run {
         Ok(step_text(alloc, worker, reply)?)
     }
 
-    /// What an undo answers.
-    fn undone(&mut self, worker: u8) -> Result<UndoReply, CaseFault> {
+    /// An undo, in words.
+    pub(crate) fn undo(&mut self, alloc: Global, worker: u8) -> Result<String, CaseFault> {
         if worker >= self.machine.workers() {
             return Err(CaseFault::OutOfRange);
         }
-        Ok(take_back(&mut self.machine, worker))
-    }
-
-    /// An undo, in words.
-    pub(crate) fn undo(&mut self, alloc: Global, worker: u8) -> Result<String, CaseFault> {
-        let reply = self.undone(worker)?;
+        let reply = take_back(&mut self.machine, worker);
         Ok(undo_text(alloc, self.machine.program(), worker, reply)?)
     }
 
@@ -175,12 +170,23 @@ impl Run {
     pub(crate) fn backwards(&mut self, workers: u8, rounds: u32) -> Result<bool, CaseFault> {
         for _ in 0..rounds {
             for worker in (0..workers).rev() {
-                if !matches!(self.undone(worker)?, UndoReply::Undone { .. }) {
+                if !self.goes_back(worker)? {
                     return Ok(false);
                 }
             }
         }
         Ok(true)
+    }
+
+    /// Takes a worker's last step back, and answers whether it was undone.
+    fn goes_back(&mut self, worker: u8) -> Result<bool, CaseFault> {
+        if worker >= self.machine.workers() {
+            return Err(CaseFault::OutOfRange);
+        }
+        match take_back(&mut self.machine, worker) {
+            UndoReply::Undone { .. } => Ok(true),
+            UndoReply::Conflict { .. } | UndoReply::Nothing => Ok(false),
+        }
     }
 
     /// How often a copy of the control of worker 0 says that it runs, of so many copies.

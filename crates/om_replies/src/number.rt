@@ -5,7 +5,7 @@ use itoa::{Buffer, Integer};
 use std::alloc::AllocError;
 
 /// Appends a number in decimal, with a `-` before it where it is below 0.
-pub(crate) fn push_number<I: Integer>(text: &mut Vec<u8>, number: I) -> Result<(), AllocError>
+pub fn push_number<I: Integer>(text: &mut Vec<u8>, number: I) -> Result<(), AllocError>
     ensures { OnOk result (text.new.items ≡ text.old.items ++ I.text number) }
 {
     let mut buffer = Buffer::new();

@@ -1,12 +1,12 @@
 -- The operand heights of an expression's code.
-use Rattle.std.proofs.Common.{◌≡◌, ℕ, ◌+◌, ℤ, pos, Bool, true, false, List, Option, Some, None, refl, sym, ap, ◌∙◌, arith}
+use Rattle.std.proofs.Common.{ℕ, ◌+◌, ℤ, pos, Bool, true, false, List, Option, Some, None, refl, arith}
 use Rattle.om_code.specs.declared.instruction.BinaryOperator as machine
 use Rattle.om_resolved.specs.declared.resolved.UnaryOperator.{UnaryOperator}
 use Rattle.om_resolved.specs.declared.resolved.UnaryOperator.TheVariants as unaries
 use Rattle.om_resolved.specs.declared.resolved.Variable as variables
 use Rattle.om_resolved.specs.ResolvedTree.{ResolvedExpressionTree, Constant, Variable, Element, Call, ThreadNumber, TeamSize, Print, Unary, Binary, Conditional, Assign, AssignElement, Postfix, PostfixElement, ValuesTree, NoValues, Value}
 use Rattle.om_rows.specs.Expressions.{value_count, constant, unary_row, binary_row, conditional_row, assigned, element_assigned, called, printed, value, values, effect}
-use Rattle.om_rows.specs.Operators.{BinaryForm, Both, Either, Plain, form_of, compound_of, step_of, undo_of}
+use Rattle.om_rows.specs.Operators.{BinaryForm, Both, Either, Plain, form_of, compound_of, step_of}
 use Rattle.om_rows.specs.Rows.{Site, Row}
 use Rattle.om_rows.proofs.Levels.{Levels, IsAt, nothing, level_end, level_out, level_next, level_either, level_jump, level_part, level_here, level_closed}
 

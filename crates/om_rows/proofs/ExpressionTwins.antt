@@ -1,17 +1,16 @@
 -- Two codes of one expression.
-use Rattle.std.proofs.Common.{◌≡◌, ℕ, ◌+◌, ℤ, pos, Bool, true, false, List, Option, Some, None, refl, sym, ap, ◌∙◌, arith}
+use Rattle.std.proofs.Common.{◌≡◌, ℕ, ◌+◌, ℤ, pos, Bool, true, false, List, Option, Some, None, ap}
 use Rattle.om_code.specs.declared.instruction.BinaryOperator as machine
-use Rattle.om_code.specs.declared.instruction.Instr.{Instr}
 use Rattle.om_code.specs.declared.instruction.Instr.TheVariants as i
 use Rattle.om_code.specs.declared.raw.Line.{Line}
 use Rattle.om_resolved.specs.declared.resolved.UnaryOperator.{UnaryOperator}
 use Rattle.om_resolved.specs.declared.resolved.UnaryOperator.TheVariants as unaries
 use Rattle.om_resolved.specs.declared.resolved.Variable as variables
 use Rattle.om_resolved.specs.ResolvedTree.{ResolvedExpressionTree, Constant, Variable, Element, Call, ThreadNumber, TeamSize, Print, Unary, Binary, Conditional, Assign, AssignElement, Postfix, PostfixElement, ValuesTree, NoValues, Value}
-use Rattle.om_rows.specs.Expressions.{constant, unary_row, binary_row, conditional_row, assigned, element_assigned, undone, called, printed, value, values, effect}
-use Rattle.om_rows.specs.Operators.{BinaryForm, Both, Either, Plain, form_of, compound_of, step_of, undo_of}
+use Rattle.om_rows.specs.Expressions.{constant, unary_row, binary_row, conditional_row, assigned, element_assigned, called, printed, value, values, effect}
+use Rattle.om_rows.specs.Operators.{BinaryForm, Both, Either, Plain, form_of, compound_of, step_of}
 use Rattle.om_rows.specs.Rows.{Site, Row}
-use Rattle.om_rows.proofs.Twins.{Alike, twin_end, twin_jump, twin_next, twin_within, twin_as, twin_part, twin_here, twin_closed}
+use Rattle.om_rows.proofs.Twins.{Alike, twin_end, twin_jump, twin_next, twin_part, twin_here, twin_closed}
 
 -- a site with this code
 abbrev pub with_code : Site → List Line → List (List ℕ) → Site

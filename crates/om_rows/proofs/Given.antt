@@ -1,23 +1,20 @@
 -- The slots of a body: each has its cells, those that are shared are in the body round it, and those that values are given to are its own.
-use Rattle.std.proofs.Common.{◌≡◌, ℕ, zero, suc, ◌+◌, ◌<◌, ◌≤◌, Bool, true, false, List, [], ◌∷◌, ◌++◌, length, Option, Some, None, refl, sym, ap, ◌∙◌, subst, ⊎_elim, arith}
+use Rattle.std.proofs.Common.{◌≡◌, ℕ, ◌<◌, ◌≤◌, Bool, true, false, List, [], ◌∷◌, ◌++◌, Option, Some, refl, sym, ap, ◌∙◌, subst, arith}
 use Rattle.std.specs.Prelude.{slice_get, map, option_map, nat_eq, nat_lt, not, ◌&&◌, ◌||◌, fold, All, IsSomeAnd, if◌then◌else◌}
 use Rattle.std.specs.List.{flat_map, list_any}
 use Rattle.std.proofs.lemmas.Bool.{eqb-true, eq-eqb, ltb-true}
-use Rattle.std.proofs.lemmas.List.Elements.{All-nil, All-cons, All-head, All-tail, All-append, All-map}
+use Rattle.std.proofs.lemmas.List.Elements.{All-nil, All-cons, All-head, All-tail, All-append}
 use Rattle.std.proofs.lemmas.List.Folds.{list_any-append}
 use Rattle.std.proofs.lemmas.Option.{slice_get-map}
 use Rattle.om_code.specs.declared.raw.Slot.{Slot}
-use Rattle.om_code.specs.declared.raw.Source.{Source}
 use Rattle.om_code.specs.declared.raw.Source.TheVariants.{Own, Outer}
 use Rattle.om_code.specs.Validity.{FitsOuter, IsGiven}
 use Rattle.om_resolved.specs.declared.resolved.Capture.{Capture}
-use Rattle.om_resolved.specs.declared.resolved.CopyKind.{CopyKind}
 use Rattle.om_resolved.specs.declared.resolved.CopyKind.TheVariants as copies
 use Rattle.om_resolved.specs.declared.resolved.Taking.{Taking}
 use Rattle.om_resolved.specs.declared.resolved.Taking.TheVariants as takings
-use Rattle.om_resolved.specs.declared.resolved.Variable as variables
 use Rattle.om_resolved.specs.Beside.{IsCopyBehind}
-use Rattle.om_resolved.specs.Captures.{captured_variable, is_further, with_use, listed_uses, listed_variables, taken_variables, statement_uses}
+use Rattle.om_resolved.specs.Captures.{captured_variable, with_use, listed_uses, listed_variables, taken_variables, statement_uses}
 use Rattle.om_resolved.specs.ResolvedTree.{ResolvedClauseTree, ClauseValue, Shared, Copied, ResolvedStatementTree}
 use Rattle.om_rows.specs.Slots.{Extent, cells_in, is_shared, shares, source_of, slot_of, slot_with, FirstCopy, clause_first, capture_first, taken_first, first_copies, first_copy_at, by_slots}
 use Rattle.om_rows.proofs.Named.{number_found, Has}

@@ -1,30 +1,23 @@
 -- Two codes of the heads, clauses and ends of one statement, and of a construct round one part.
-use Rattle.std.proofs.Common.{◌≡◌, ℕ, ◌+◌, ◌<◌, ◌≤◌, ℤ, pos, Bool, true, false, List, [], ◌∷◌, length, Option, Some, None, refl, sym, ap, ◌∙◌, ⊎_elim, arith}
-use Rattle.std.specs.Prelude.{slice_get, option_map}
-use Rattle.std.proofs.lemmas.Bool.{cases_lt}
+use Rattle.std.proofs.Common.{◌≡◌, ℕ, ◌+◌, Bool, true, false, List, [], ◌∷◌, Option, Some, None, ap}
 use Rattle.om_code.specs.declared.instruction.Barrier.{Barrier}
 use Rattle.om_code.specs.declared.instruction.Comparison.{Comparison}
-use Rattle.om_code.specs.declared.instruction.Instr.{Instr}
 use Rattle.om_code.specs.declared.instruction.Instr.TheVariants as i
 use Rattle.om_code.specs.declared.instruction.AtomicOperator.{AtomicOperator}
 use Rattle.om_code.specs.declared.instruction.Side.{Side}
 use Rattle.om_code.specs.declared.raw.Line.{Line}
-use Rattle.om_resolved.specs.declared.resolved.Capture.{Capture}
-use Rattle.om_resolved.specs.declared.resolved.ConstructKind.{ConstructKind}
-use Rattle.om_resolved.specs.declared.resolved.ConstructKind.TheVariants as constructs
 use Rattle.om_resolved.specs.declared.resolved.CopyKind.{CopyKind}
 use Rattle.om_resolved.specs.declared.resolved.CopyKind.TheVariants as copies
 use Rattle.om_resolved.specs.declared.resolved.LocalVariable.{LocalVariable}
 use Rattle.om_resolved.specs.declared.resolved.StandAlone as alone
 use Rattle.om_resolved.specs.declared.resolved.StandAlone.TheVariants as alones
 use Rattle.om_resolved.specs.declared.resolved.Variable as variables
-use Rattle.om_resolved.specs.ResolvedTree.{ResolvedExpressionTree, ResolvedDeclaratorTree, ResolvedClauseTree, ClauseValue, Shared, Copied, ResolvedLoopTree, ResolvedUpdateTree, ResolvedStartTree, StartNothing, StartExpression, StartDeclaration, ResolvedStatementTree, Declaration, Block, Empty, Expression, If, IfElse, While, Do, For, Return, Break, Continue, Parallel, Task, Loop, Sections, Construct, Update, StandAlone, ResolvedStatementsTree, NoStatements, Statement, ResolvedPartsTree, NoParts, Part}
-use Rattle.om_rows.specs.Bodies.{Numbers, next_pick, behind, behind_all}
-use Rattle.om_rows.specs.Expressions.{constant, value, effect}
-use Rattle.om_rows.specs.Operators.{comparison_of, side_of, update_of}
+use Rattle.om_resolved.specs.ResolvedTree.{ResolvedExpressionTree, ResolvedDeclaratorTree, ResolvedClauseTree, ClauseValue, Shared, Copied, ResolvedLoopTree, ResolvedUpdateTree, ResolvedStartTree, StartNothing, StartExpression, StartDeclaration}
+use Rattle.om_rows.specs.Expressions.{value, effect}
+use Rattle.om_rows.specs.Operators.{side_of, update_of}
 use Rattle.om_rows.specs.Rows.{Site, Row, given, perhaps, each, unless}
 use Rattle.om_rows.specs.Slots.{FirstCopy, slot}
-use Rattle.om_rows.specs.Statements.{Jumps, nowhere, in_loop, in_iteration, jump, declared, declarator, start, test, returned, copy_start, clause_start, starts, reduction_start, clause_reduction_start, reduction_starts, combined, clause_combined, reductions, clause_value, given_copies, load_original, barrier, worksharing_end, alone_row, filter_row, single_row, masked_row, critical_row, assignment_row, updated, update_row, group_row, construct_row, loop_row, loop_rest, sections_row, parallel_row, task_row, with_place, no_place, statement, statements, parts}
+use Rattle.om_rows.specs.Statements.{jump, declared, declarator, start, test, returned, copy_start, clause_start, starts, reduction_start, clause_reduction_start, reduction_starts, combined, clause_combined, reductions, clause_value, load_original, barrier, worksharing_end, alone_row, filter_row, single_row, masked_row, critical_row, updated, update_row, group_row, loop_rest, parallel_row, task_row}
 use Rattle.om_rows.proofs.Twins.{Alike, twin_end, twin_jump, twin_next, twin_within, twin_as, twin_more, twin_part, twin_here, twin_closed}
 use Rattle.om_rows.proofs.ExpressionTwins as expressions
 use Rattle.om_rows.proofs.ExpressionTwins.{with_code}

@@ -1,35 +1,33 @@
 -- What the code of a whole tree names exists.
-use Rattle.std.proofs.Common.{◌≡◌, ℕ, zero, suc, ◌+◌, ◌*◌, ◌^◌, ◌<◌, ◌≤◌, Bool, true, false, List, [], ◌∷◌, ◌++◌, length, Option, Some, None, refl, sym, ap, ◌∙◌, subst, arith}
+use Rattle.std.proofs.Common.{◌≡◌, ℕ, zero, suc, ◌^◌, ◌≤◌, Bool, true, false, List, [], ◌∷◌, ◌++◌, length, Option, Some, None, refl, sym, ap, ◌∙◌, subst, arith}
 use Rattle.std.specs.Prelude.{slice_get, map, nat_eq, All, IsSomeAnd}
 use Rattle.std.specs.List.{AllZip, flat_map, list_any}
 use Rattle.std.specs.Str.{bytes_eq}
 use Rattle.std.proofs.lemmas.List.{length-map}
 use Rattle.std.proofs.lemmas.Option.{slice_get_within}
-use Rattle.std.proofs.lemmas.List.Elements.{All-nil, All-cons, All-head, All-tail, All-append, All-map}
-use Rattle.om_code.specs.declared.instruction.Barrier.TheVariants as barriers
+use Rattle.std.proofs.lemmas.List.Elements.{All-nil, All-cons, All-head, All-tail, All-map}
 use Rattle.om_code.specs.declared.raw.Body.{Body}
 use Rattle.om_code.specs.declared.raw.Line.{Line}
 use Rattle.om_code.specs.declared.raw.Raw.{Raw}
 use Rattle.om_code.specs.declared.raw.Slot.{Slot}
 use Rattle.om_code.specs.Validity.{FitsOuter, CanBegin, IsKnownBody, IsKnown, IsGiven, NamesKnown}
 use Rattle.om_resolved.specs.declared.resolved.LocalVariable.{LocalVariable}
-use Rattle.om_resolved.specs.Captures.{captured_variable}
 use Rattle.om_resolved.specs.ResolvedTree.{ResolvedFunctionTree, ResolvedTree}
-use Rattle.om_resolved.specs.Whole.{within, of_parallel, of_task}
+use Rattle.om_resolved.specs.Whole.{within, of_parallel}
 use Rattle.om_rows.specs.Bodies.{Numbers, first_numbers, called_body, BodyTree, FunctionBody, ParallelBody, TaskBody, BodySite, variables_of, region_variables, function_variables, bodies_of}
-use Rattle.om_rows.specs.Code.{body_row, last_instruction, given_variables, captures_of, slots_of, given_of, site_of, IsBodyOf, IsCodeOf}
-use Rattle.om_rows.specs.Mentions.{extents_of}
+use Rattle.om_rows.specs.Code.{last_instruction, given_variables, captures_of, slots_of, given_of, site_of, IsBodyOf, IsCodeOf}
+use Rattle.om_rows.specs.Mentions.{extents_of, format_mention, formats_of, tree_mentioned}
+use Rattle.om_rows.specs.Laws.{FunctionBodies, FormatsAreNumbered}
 use Rattle.om_rows.specs.Rows.{Site}
 use Rattle.om_rows.specs.Slots.{FirstCopy, parameter_sight, region_clause_sights, statement_sights, statements_sights, slot_of, slot_with, source_of, cells_in, shares, first_copies}
 use Rattle.om_rows.specs.Statements.{nowhere, given_copies}
-use Rattle.om_rows.specs.Tables.{table_of}
-use Rattle.om_rows.proofs.Given.{cells_there, slot_is, given_own, fits_round, first_unshared, IsUnshared, IsOrdered, ordered, has_itself}
+use Rattle.om_rows.proofs.Given.{cells_there, given_own, fits_round, first_unshared, IsUnshared, IsOrdered, ordered, has_itself}
 use Rattle.om_rows.proofs.Named.{Named, named_end, named_ins, named_part, Has, has_front, has_back, table_has}
 use Rattle.om_rows.proofs.NamedBodies as parts
 use Rattle.om_rows.proofs.NamedBodies.{Bodies}
-use Rattle.om_rows.proofs.NamedExpressions.{Program, same_nat}
+use Rattle.om_rows.proofs.NamedExpressions.{Program, same_bytes, same_nat}
 use Rattle.om_rows.proofs.NamedStatements as heads
-use Rattle.om_rows.proofs.Placed.{IsPlaced, IsWholeRegion}
+use Rattle.om_rows.proofs.Placed.{IsPlaced}
 use Rattle.om_rows.proofs.Positions.{function_body_there, stands_whole}
 
 -- what stands beside the k-th of one list in the other
@@ -210,3 +208,18 @@ module _ (tree : ResolvedTree) (raw : Raw) (code : IsCodeOf tree raw) where
       All-cons (λ body. IsKnown raw body) x xs
       (known_site b.function b.tree b.outer b.numbers x zip.0 (All-head (IsPlaced tree) b bs p) (All-head (λ (body : Body). length body.slots ≤ 2 ^ 32) x xs small))
       (all_known bs xs zip.1 (All-tail (IsPlaced tree) b bs p) (All-tail (λ (body : Body). length body.slots ≤ 2 ^ 32) x xs small))
+
+pub function_bodies : FunctionBodies
+function_bodies tree raw code k f e =
+    let m = function_body_there tree.functions k f first_numbers (bodies_of tree) (stands_whole (bodies_of tree)) e in
+    let b : BodySite = record { function = f; tree = FunctionBody; outer = []; numbers = m.0 } in
+    let body = there tree raw code (called_body tree.functions k) b m.1 in
+    (m.0, subst (λ z. IsSomeAnd z (IsBodyOf tree raw b)) (sym body.1) body.2)
+
+has_all : (table xs : List (List ℕ)) → Has bytes_eq table xs → All (λ x. list_any (bytes_eq x) table ≡ true) xs
+has_all table [] h = All-nil (λ x. list_any (bytes_eq x) table ≡ true)
+has_all table (x ∷ xs) h = All-cons (λ x. list_any (bytes_eq x) table ≡ true) x xs h.0 (has_all table xs h.1)
+
+pub formats_are_numbered : FormatsAreNumbered
+formats_are_numbered tree =
+    has_all (formats_of tree) (tree_mentioned format_mention tree) (table_has bytes_eq same_bytes (tree_mentioned format_mention tree))

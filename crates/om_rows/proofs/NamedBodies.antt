@@ -1,6 +1,6 @@
 -- What the code of statements and bodies names exists.
-use Rattle.std.proofs.Common.{◌≡◌, ℕ, ◌+◌, ◌<◌, Bool, true, false, List, [], ◌∷◌, ◌++◌, length, Option, Some, None, refl, sym, ap, ◌∙◌, subst, arith}
-use Rattle.std.specs.Prelude.{slice_get, map, nat_eq, is_some, All}
+use Rattle.std.proofs.Common.{◌≡◌, ℕ, ◌+◌, ◌<◌, true, List, [], ◌∷◌, ◌++◌, length, Option, Some, refl, sym, ap, ◌∙◌, subst, arith}
+use Rattle.std.specs.Prelude.{slice_get, map, nat_eq}
 use Rattle.std.specs.List.{flat_map, list_any}
 use Rattle.std.specs.Str.{bytes_eq}
 use Rattle.std.proofs.lemmas.List.{length-map}
@@ -16,17 +16,17 @@ use Rattle.om_resolved.specs.ResolvedTree.{ResolvedExpressionTree, ResolvedDecla
 use Rattle.om_resolved.specs.Whole.{Around, IsWhole, repeated, after_start, after_item, after_declarators, declared, within, iterated, of_parallel, of_task, of_worksharing, of_construct, IsWholeStatement, AreWholeItems, AreWholeParts}
 use Rattle.om_rows.specs.Bodies.{Numbers, next_body, next_pick, behind, behind_all, BodySite, ParallelBody, TaskBody, region_variables, regions, all_regions, parts_regions, bodies_of}
 use Rattle.om_rows.specs.Code.{captures_of, given_of}
-use Rattle.om_rows.specs.Expressions.{value, effect}
+use Rattle.om_rows.specs.Expressions.{value}
 use Rattle.om_rows.specs.Mentions.{format_mention, lock_mention, perhaps_mentioned, start_mentioned, clause_mentioned, loop_mentioned, mentioned, all_mentioned, parts_mentioned, lock_name}
 use Rattle.om_rows.specs.Operators.{comparison_of, side_of, update_of}
 use Rattle.om_rows.specs.Rows.{Site, Row, ins, part, here, ◌▸◌}
-use Rattle.om_rows.specs.Slots.{FirstCopy, slot_of, start_sights, clause_sights, loop_sights, region_uses, statement_sights, statements_sights, parts_sights}
+use Rattle.om_rows.specs.Slots.{FirstCopy, slot_of, start_sights, clause_sights, loop_sights, statement_sights, statements_sights, parts_sights}
 use Rattle.om_rows.specs.Statements.{Jumps, nowhere, in_loop, in_iteration, clause_value, given_copies, lock_number, with_place, no_place, assignment_row, statement, statements, parts}
 use Rattle.om_rows.proofs.Named.{Named, named_end, named_ins, named_part, number_found, Has, has_front, has_back}
 use Rattle.om_rows.proofs.NamedExpressions as expressions
 use Rattle.om_rows.proofs.NamedExpressions.{Program}
 use Rattle.om_rows.proofs.NamedStatements as heads
-use Rattle.om_rows.proofs.Positions.{StandsAt, stands_front, stands_back, stands_head, stands_tail, regions_long, all_regions_long}
+use Rattle.om_rows.proofs.Positions.{StandsAt, stands_front, stands_back, stands_head, regions_long, all_regions_long}
 
 -- what the code of a body can count on beside that: its program's locks and lists, and the bodies that it makes
 pub record Bodies (tree : ResolvedTree) (raw : Raw) (at : Site) (slots : List Slot) (f : ResolvedFunctionTree) : Type 0 where

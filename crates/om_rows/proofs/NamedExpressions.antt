@@ -1,16 +1,14 @@
 -- What the code of an expression names exists.
-use Rattle.std.proofs.Common.{◌≡◌, ℕ, ◌+◌, ◌<◌, ◌≤◌, ℤ, pos, Bool, true, false, List, [], ◌∷◌, ◌++◌, length, Option, Some, None, refl, sym, ap, ◌∙◌, subst, zero, suc, arith}
+use Rattle.std.proofs.Common.{◌≡◌, ℕ, ◌+◌, ◌<◌, ℤ, pos, Bool, true, false, List, [], ◌∷◌, ◌++◌, length, Option, Some, None, refl, sym, ap, ◌∙◌, subst, zero, suc, arith}
 use Rattle.std.specs.Prelude.{slice_get, map, option_map, nat_eq, IsSomeAnd}
 use Rattle.std.specs.List.{AllZip, list_any}
 use Rattle.std.specs.Str.{bytes_eq}
-use Rattle.std.proofs.lemmas.Bool.{eqb-true, eq-eqb}
+use Rattle.std.proofs.lemmas.Bool.{eq-eqb}
 use Rattle.std.proofs.lemmas.List.{length-map}
 use Rattle.std.proofs.lemmas.Option.{slice_get_within}
 use Rattle.std.proofs.lemmas.Slice.Eq.{bytes_eq-Decides}
 use Rattle.om_code.specs.declared.instruction.BinaryOperator as machine
-use Rattle.om_code.specs.declared.instruction.Place.TheVariants as places
 use Rattle.om_code.specs.declared.raw.Piece as texts
-use Rattle.om_code.specs.declared.raw.Piece.TheVariants as pieces
 use Rattle.om_code.specs.declared.raw.Raw.{Raw}
 use Rattle.om_code.specs.declared.raw.Slot.{Slot}
 use Rattle.om_code.specs.Validity.{IsKnownPlace, IsKnownText, IsKnownBody}
@@ -25,14 +23,14 @@ use Rattle.om_resolved.specs.Captures.{variable_uses, expression_uses, values_us
 use Rattle.om_resolved.specs.Formats as formats
 use Rattle.om_resolved.specs.Formats.{Piece, Bytes, pieces_of, IsFormat}
 use Rattle.om_resolved.specs.ResolvedTree.{ResolvedExpressionTree, Constant, Variable, Element, Call, ThreadNumber, TeamSize, Print, Unary, Binary, Conditional, Assign, AssignElement, Postfix, PostfixElement, ValuesTree, NoValues, Value, ResolvedFunctionTree, ResolvedTree}
-use Rattle.om_resolved.specs.Whole.{Around, IsAmong, IsInScope, IsWhole, AreWhole, IsCalled, count_of, shape_of}
+use Rattle.om_resolved.specs.Whole.{Around, IsInScope, IsWhole, AreWhole, IsCalled, count_of, shape_of}
 use Rattle.om_rows.specs.Bodies.{called_body}
 use Rattle.om_rows.specs.Code.{global_of}
-use Rattle.om_rows.specs.Expressions.{value_count, constant, unary_row, binary_row, conditional_row, assigned, element_assigned, called, printed, value, values, effect}
+use Rattle.om_rows.specs.Expressions.{value_count, constant, unary_row, binary_row, conditional_row, assigned, element_assigned, called, value, values, effect}
 use Rattle.om_rows.specs.Mentions.{expression_formats, values_formats, IsTextOf, text_piece}
-use Rattle.om_rows.specs.Operators.{BinaryForm, Both, Either, Plain, form_of, compound_of, step_of, undo_of}
+use Rattle.om_rows.specs.Operators.{BinaryForm, Both, Either, Plain, form_of, compound_of, step_of}
 use Rattle.om_rows.specs.Rows.{Site, Row}
-use Rattle.om_rows.specs.Slots.{place, place_of, slot_of}
+use Rattle.om_rows.specs.Slots.{place, slot_of}
 use Rattle.om_rows.specs.Tables.{number_in}
 use Rattle.om_rows.proofs.Named.{Named, named_end, named_ins, named_part, number_found, Has, has_front, has_back}
 

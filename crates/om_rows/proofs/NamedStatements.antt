@@ -1,12 +1,10 @@
 -- What the code of declarations, clauses and constructs names exists.
-use Rattle.std.proofs.Common.{◌≡◌, ℕ, ◌+◌, ◌<◌, ◌≤◌, ℤ, pos, Bool, true, false, List, [], ◌∷◌, ◌++◌, length, Option, Some, None, refl, sym, ap, ◌∙◌, subst, arith}
-use Rattle.std.specs.Prelude.{slice_get, map, nat_eq, is_some, All, if◌then◌else◌}
+use Rattle.std.proofs.Common.{◌≡◌, ℕ, ◌+◌, ◌<◌, Bool, true, false, List, [], ◌∷◌, ◌++◌, length, Option, Some, None, refl, subst}
+use Rattle.std.specs.Prelude.{map, nat_eq, All, if◌then◌else◌}
 use Rattle.std.specs.List.{flat_map, list_any}
 use Rattle.std.specs.Str.{bytes_eq}
 use Rattle.std.proofs.lemmas.List.Elements.{All-nil, All-cons, All-head, All-tail, All-append}
-use Rattle.std.proofs.lemmas.Option.{slice_get_within}
 use Rattle.om_code.specs.declared.instruction.AtomicOperator.{AtomicOperator}
-use Rattle.om_code.specs.declared.instruction.Barrier.{Barrier}
 use Rattle.om_code.specs.declared.instruction.Comparison.{Comparison}
 use Rattle.om_code.specs.declared.instruction.Side.{Side}
 use Rattle.om_code.specs.declared.raw.Raw.{Raw}
@@ -23,18 +21,17 @@ use Rattle.om_resolved.specs.declared.resolved.Taking.{Taking}
 use Rattle.om_resolved.specs.declared.resolved.Taking.TheVariants as takings
 use Rattle.om_resolved.specs.declared.resolved.Variable as variables
 use Rattle.om_resolved.specs.declared.resolved.Variable.TheVariants as named
-use Rattle.om_resolved.specs.Captures.{variable_uses, expression_uses, perhaps_uses, clause_uses, captured_variable, update_uses}
-use Rattle.om_resolved.specs.ResolvedTree.{ResolvedExpressionTree, ResolvedDeclaratorTree, ResolvedClauseTree, ClauseValue, Shared, Copied, ResolvedLoopTree, ResolvedUpdateTree, ResolvedStartTree, StartNothing, StartExpression, StartDeclaration, ResolvedStatementTree, Expression, ResolvedTree}
+use Rattle.om_resolved.specs.Captures.{variable_uses, expression_uses, perhaps_uses, clause_uses, captured_variable}
+use Rattle.om_resolved.specs.ResolvedTree.{ResolvedExpressionTree, ResolvedDeclaratorTree, ResolvedClauseTree, ClauseValue, Shared, Copied, ResolvedLoopTree, ResolvedStartTree, StartNothing, StartExpression, StartDeclaration, ResolvedStatementTree, ResolvedTree}
 use Rattle.om_resolved.specs.Whole.{Around, Admitted, IsWholeIfAny, AreWholeDeclarators, IsWholeStart, IsWholeReturn, AreWholeClauses, IsWholeClause, IsWholeTarget, IsWholeUpdate, IsWholeLoop, IsWholeStatement}
 use Rattle.om_resolved.specs.Whole as whole
 use Rattle.om_rows.specs.Bodies.{region_variables}
 use Rattle.om_rows.specs.Expressions.{value, effect}
-use Rattle.om_rows.specs.Mentions.{format_mention, perhaps_mentioned, declarator_mentioned, start_mentioned, clause_mentioned, loop_mentioned, update_mentioned, lock_name}
-use Rattle.om_rows.specs.Operators.{comparison_of, side_of, update_of}
+use Rattle.om_rows.specs.Mentions.{format_mention, perhaps_mentioned, declarator_mentioned, start_mentioned, clause_mentioned}
 use Rattle.om_rows.specs.Rows.{Site, Row, given, perhaps, each}
-use Rattle.om_rows.specs.Slots.{FirstCopy, clause_first, capture_first, taken_first, first_copies, first_copy_at, by_slots, region_uses, place, slot, declarator_sights, start_sights, clause_sights, region_clause_sights, loop_sights}
-use Rattle.om_rows.specs.Statements.{jump, declared, declarator, start, test, returned, copy_start, clause_start, starts, reduction_start, clause_reduction_start, reduction_starts, combined, clause_combined, reductions, clause_value, given_copies, load_original, barrier, worksharing_end, alone_row, filter_row, single_row, masked_row, lock_number, critical_row, updated, update_row, assignment_row, group_row, loop_rest, parallel_row, task_row}
-use Rattle.om_rows.proofs.Named.{Named, named_end, named_ins, named_part, number_found, Has, has_front, has_back}
+use Rattle.om_rows.specs.Slots.{FirstCopy, clause_first, capture_first, taken_first, first_copies, first_copy_at, by_slots, region_uses, place, slot, declarator_sights, start_sights, clause_sights, region_clause_sights}
+use Rattle.om_rows.specs.Statements.{jump, declared, declarator, start, test, returned, copy_start, clause_start, starts, reduction_start, reduction_starts, combined, clause_combined, reductions, clause_value, given_copies, load_original, worksharing_end, alone_row, filter_row, single_row, masked_row, lock_number, critical_row, updated, group_row, loop_rest, parallel_row, task_row}
+use Rattle.om_rows.proofs.Named.{Named, named_end, named_ins, named_part, Has, has_front, has_back}
 use Rattle.om_rows.proofs.NamedExpressions as expressions
 use Rattle.om_rows.proofs.NamedExpressions.{Program}
 

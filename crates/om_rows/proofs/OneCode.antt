@@ -1,25 +1,22 @@
 -- A tree has one code.
-use Rattle.std.proofs.Common.{◌≡◌, ℕ, zero, suc, ◌+◌, ◌<◌, ◌≤◌, List, [], ◌∷◌, ◌++◌, length, Option, Some, None, refl, sym, ap, ◌∙◌, subst, arith}
-use Rattle.std.specs.Prelude.{slice_get, option_map}
+use Rattle.std.proofs.Common.{◌≡◌, ℕ, zero, suc, ◌<◌, List, [], ◌∷◌, length, Some, refl, sym, ◌∙◌, arith}
+use Rattle.std.specs.Prelude.{slice_get}
 use Rattle.std.specs.List.{AllZip}
 use Rattle.om_code.specs.declared.raw.Body.{Body}
 use Rattle.om_code.specs.declared.raw.Piece.{Piece}
 use Rattle.om_code.specs.declared.raw.Raw.{Raw}
 use Rattle.om_code.specs.declared.raw.Line.{Line}
-use Rattle.om_lexer.specs.declared.token.Span.{Span}
-use Rattle.om_resolved.specs.declared.resolved.Capture.{Capture}
-use Rattle.om_resolved.specs.ResolvedTree.{ResolvedClauseTree, ResolvedStatementTree, ResolvedFunctionTree, ResolvedTree}
-use Rattle.om_resolved.specs.Uses.{is_main_function}
-use Rattle.om_rows.specs.Bodies.{Numbers, next_body, behind, behind_all, BodyTree, BodySite, FunctionBody, ParallelBody, TaskBody, variables_of, variables_in, region_variables, function_variables, regions, all_regions, function_bodies, behind_function, behind_functions, bodies_from, bodies_of, first_numbers}
-use Rattle.om_rows.specs.Code.{body_row, site_of, IsBodyOf, IsCodeOf}
+use Rattle.om_resolved.specs.ResolvedTree.{ResolvedFunctionTree, ResolvedTree}
+use Rattle.om_rows.specs.Bodies.{Numbers, next_body, BodyTree, BodySite, FunctionBody, ParallelBody, TaskBody, function_variables, function_bodies, behind_function, behind_functions, bodies_from, bodies_of, first_numbers}
+use Rattle.om_rows.specs.Code.{body_row, IsBodyOf}
 use Rattle.om_rows.specs.Laws.{OneCode}
 use Rattle.om_rows.specs.Mentions.{formats_of, locks_of, IsTextOf}
 use Rattle.om_rows.specs.Rows.{Site}
-use Rattle.om_rows.specs.Statements.{nowhere, statement}
+use Rattle.om_rows.specs.Statements.{nowhere}
 use Rattle.om_rows.proofs.ExpressionTwins.{with_code}
 use Rattle.om_rows.proofs.HeadTwins as heads
 use Rattle.om_rows.proofs.StatementTwins as twins
-use Rattle.om_rows.proofs.Twins.{Alike, Agree, twin_end, twin_next, twin_within, twin_as, twin_more, twin_free, twin_part}
+use Rattle.om_rows.proofs.Twins.{Alike, Agree, twin_end, twin_next, twin_within, twin_as, twin_part}
 
 -- lists with the same at each place
 same_by_places : {A : Type 0} (xs ys : List A) → length xs ≡ length ys → ((k : ℕ) → k < length xs → slice_get xs k ≡ slice_get ys k) → xs ≡ ys

@@ -1,23 +1,21 @@
 -- Each body of a whole tree is whole, mentions what its program has, and the bodies in it stand where numbers tell.
-use Rattle.std.proofs.Common.{◌≡◌, ℕ, ◌+◌, ◌<◌, ◌≤◌, Bool, true, false, List, [], ◌∷◌, ◌++◌, length, Option, Some, None, refl, sym, ap, ◌∙◌, subst, arith}
-use Rattle.std.specs.Prelude.{slice_get, map, nat_eq, All, IfSome}
-use Rattle.std.specs.List.{flat_map, list_any}
+use Rattle.std.proofs.Common.{◌≡◌, ℕ, ◌≤◌, List, [], ◌∷◌, ◌++◌, Option, Some, None, refl, arith}
+use Rattle.std.specs.Prelude.{All, IfSome}
+use Rattle.std.specs.List.{flat_map}
 use Rattle.std.specs.Str.{bytes_eq}
 use Rattle.std.proofs.lemmas.List.Elements.{All-nil, All-cons, All-head, All-tail, All-append}
 use Rattle.om_resolved.specs.declared.resolved.Capture.{Capture}
-use Rattle.om_resolved.specs.declared.resolved.ConstructKind.{ConstructKind}
 use Rattle.om_resolved.specs.declared.resolved.ConstructKind.TheVariants as constructs
-use Rattle.om_resolved.specs.declared.resolved.GlobalVariable.{GlobalVariable}
 use Rattle.om_lexer.specs.declared.token.Span.{Span}
 use Rattle.om_resolved.specs.Beside.{Everywhere, EverywhereIn, EverywhereInParts, IsCopyBehind, CopiesBehind, TreeCopiesBehind}
-use Rattle.om_resolved.specs.ResolvedTree.{ResolvedExpressionTree, ResolvedDeclaratorTree, ResolvedClauseTree, ResolvedStartTree, StartNothing, StartExpression, StartDeclaration, ResolvedStatementTree, Declaration, Block, Empty, Expression, If, IfElse, While, Do, For, Return, Break, Continue, Parallel, Task, Loop, Sections, Construct, Update, StandAlone, ResolvedStatementsTree, NoStatements, Statement, ResolvedPartsTree, NoParts, Part, ResolvedFunctionTree, ResolvedTree}
-use Rattle.om_resolved.specs.Whole.{Around, Admitted, IsWhole, declared, after_declarators, repeated, after_start, after_item, within, iterated, of_parallel, of_task, IsRegion, AreWholeClauses, IsWholeStatement, AreWholeItems, AreWholeParts, IsWholeFunction, IsWholeTree, at_function}
+use Rattle.om_resolved.specs.ResolvedTree.{ResolvedDeclaratorTree, ResolvedClauseTree, ResolvedStartTree, StartNothing, StartExpression, StartDeclaration, ResolvedStatementTree, Declaration, Block, Empty, Expression, If, IfElse, While, Do, For, Return, Break, Continue, Parallel, Task, Loop, Sections, Construct, Update, StandAlone, ResolvedStatementsTree, NoStatements, Statement, ResolvedPartsTree, NoParts, Part, ResolvedFunctionTree, ResolvedTree}
+use Rattle.om_resolved.specs.Whole.{Around, Admitted, declared, after_declarators, repeated, after_start, after_item, within, iterated, of_parallel, of_task, IsRegion, AreWholeClauses, IsWholeStatement, AreWholeItems, AreWholeParts, IsWholeFunction, IsWholeTree, at_function}
 use Rattle.om_rows.specs.Bodies.{Numbers, next_body, next_pick, behind, behind_all, behind_function, BodyTree, FunctionBody, ParallelBody, TaskBody, BodySite, variables_of, region_variables, function_variables, regions, all_regions, parts_regions, function_bodies, bodies_from, bodies_of, first_numbers}
 use Rattle.om_rows.specs.Mentions.{Mention, format_mention, lock_mention, extent_mention, perhaps_mentioned, start_mentioned, clause_mentioned, loop_mentioned, mentioned, all_mentioned, parts_mentioned, function_mentioned, tree_mentioned, formats_of, locks_of, extents_of}
 use Rattle.om_rows.specs.Slots.{Extent, cells_of_length}
 use Rattle.om_rows.proofs.Named.{Has, has_front, has_back, table_has}
 use Rattle.om_rows.proofs.NamedExpressions.{same_bytes}
-use Rattle.om_rows.proofs.Positions.{StandsAt, stands_whole, stands_front, stands_back, stands_head, stands_tail, regions_long, all_regions_long, function_long}
+use Rattle.om_rows.proofs.Positions.{StandsAt, stands_whole, stands_front, stands_back, stands_tail, regions_long, all_regions_long, function_long}
 use Rattle.om_rows.proofs.WholeMentions.{items_all}
 
 -- a region, with what stands round it

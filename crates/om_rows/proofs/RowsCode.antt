@@ -1,5 +1,5 @@
 -- Where a row holds, its part of the tree has code.
-use Rattle.std.proofs.Common.{◌≡◌, ℕ, ◌+◌, ℤ, pos, Bool, true, false, List, [], ◌∷◌, ◌++◌, length, Option, Some, None, refl, sym, ap, ◌∙◌, subst, arith}
+use Rattle.std.proofs.Common.{◌≡◌, ℕ, ◌+◌, pos, Bool, true, false, List, [], ◌∷◌, Option, Some, None, refl}
 use Rattle.std.specs.Prelude.{All, IfSome, IsSome, is_some}
 use Rattle.std.proofs.lemmas.List.Elements.{All-nil, All-cons}
 use Rattle.om_code.specs.declared.instruction.AtomicOperator.{AtomicOperator}
@@ -7,19 +7,16 @@ use Rattle.om_code.specs.declared.instruction.BinaryOperator as machine
 use Rattle.om_code.specs.declared.instruction.Comparison.{Comparison}
 use Rattle.om_code.specs.declared.instruction.Instr.TheVariants as i
 use Rattle.om_code.specs.declared.instruction.Side.{Side}
-use Rattle.om_code.specs.declared.raw.Body.{Body}
-use Rattle.om_code.specs.declared.raw.Raw.{Raw}
-use Rattle.om_tree.specs.declared.tree.BinaryOperator.{BinaryOperator}
 use Rattle.om_resolved.specs.declared.resolved.ConstructKind.TheVariants as constructs
 use Rattle.om_resolved.specs.declared.resolved.LocalVariable.{LocalVariable}
 use Rattle.om_resolved.specs.declared.resolved.UnaryOperator.{UnaryOperator}
 use Rattle.om_resolved.specs.declared.resolved.UnaryOperator.TheVariants as unaries
 use Rattle.om_resolved.specs.declared.resolved.Variable as variables
-use Rattle.om_resolved.specs.ResolvedTree.{ResolvedExpressionTree, Constant, Variable, Element, Call, ThreadNumber, TeamSize, Print, Unary, Binary, Conditional, Assign, AssignElement, Postfix, PostfixElement, ValuesTree, NoValues, Value, ResolvedDeclaratorTree, ResolvedClauseTree, ResolvedLoopTree, ResolvedStartTree, StartNothing, StartExpression, StartDeclaration, ResolvedStatementTree, Declaration, Block, Empty, Expression, If, IfElse, While, Do, For, Return, Break, Continue, Parallel, Task, Loop, Sections, Construct, Update, StandAlone, ResolvedStatementsTree, NoStatements, Statement, ResolvedPartsTree, NoParts, Part, ResolvedFunctionTree, ResolvedTree}
+use Rattle.om_resolved.specs.ResolvedTree.{ResolvedExpressionTree, Constant, Variable, Element, Call, ThreadNumber, TeamSize, Print, Unary, Binary, Conditional, Assign, AssignElement, Postfix, PostfixElement, ValuesTree, NoValues, Value, ResolvedDeclaratorTree, ResolvedClauseTree, ResolvedLoopTree, ResolvedStartTree, StartNothing, StartExpression, StartDeclaration, ResolvedStatementTree, Declaration, Block, Empty, Expression, If, IfElse, While, Do, For, Return, Break, Continue, Parallel, Task, Loop, Sections, Construct, Update, StandAlone, ResolvedStatementsTree, NoStatements, Statement, ResolvedPartsTree, NoParts, Part, ResolvedFunctionTree}
 use Rattle.om_rows.specs.Bodies.{Numbers, next_pick, behind, behind_all, BodyTree, FunctionBody, ParallelBody, TaskBody}
 use Rattle.om_rows.specs.Code.{body_row}
-use Rattle.om_rows.specs.Coded.{ValueHasCode, ValuesHaveCode, EffectHasCode, DeclaratorHasCode, StartHasCode, LoopHasCode, AssignmentHasCode, StatementHasCode, StatementsHaveCode, PartsHaveCode, BodyHasCode}
-use Rattle.om_rows.specs.Expressions.{constant, unary_row, binary_row, conditional_row, assigned, element_assigned, value, values, effect}
+use Rattle.om_rows.specs.Coded.{ValueHasCode, ValuesHaveCode, EffectHasCode, DeclaratorHasCode, StartHasCode, AssignmentHasCode, StatementHasCode, StatementsHaveCode, PartsHaveCode, BodyHasCode}
+use Rattle.om_rows.specs.Expressions.{constant, unary_row, binary_row, assigned, element_assigned, value, values, effect}
 use Rattle.om_rows.specs.Operators.{BinaryForm, Both, Either, Plain, form_of, compound_of, step_of, comparison_of}
 use Rattle.om_rows.specs.Rows.{Site, Row, ins, part, here, ◌▸◌, given, perhaps, each}
 use Rattle.om_rows.specs.Statements.{Jumps, nowhere, in_loop, in_iteration, jump, declared, declarator, start, test, returned, clause_value, filter_row, updated, assignment_row, loop_rest, with_place, statement, statements, parts}

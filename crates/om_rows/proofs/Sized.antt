@@ -1,26 +1,14 @@
 -- The code of a part has as many instructions as the part tells.
-use Rattle.std.proofs.Common.{◌≡◌, ℕ, ◌+◌, ℤ, pos, Bool, true, false, List, [], ◌∷◌, length, Option, Some, None, refl, sym, ap, ◌∙◌, arith}
-use Rattle.om_code.specs.declared.instruction.AtomicOperator.{AtomicOperator}
+use Rattle.std.proofs.Common.{◌≡◌, ℕ, ◌+◌, pos, Bool, true, false, Option, Some, None, arith}
 use Rattle.om_code.specs.declared.instruction.BinaryOperator as machine
-use Rattle.om_code.specs.declared.instruction.Comparison.{Comparison}
-use Rattle.om_code.specs.declared.instruction.Side.{Side}
-use Rattle.om_resolved.specs.declared.resolved.ConstructKind.TheVariants as constructs
-use Rattle.om_resolved.specs.declared.resolved.CopyKind.{CopyKind}
-use Rattle.om_resolved.specs.declared.resolved.CopyKind.TheVariants as copies
-use Rattle.om_resolved.specs.declared.resolved.LocalVariable.{LocalVariable}
-use Rattle.om_resolved.specs.declared.resolved.StandAlone as alone
-use Rattle.om_resolved.specs.declared.resolved.StandAlone.TheVariants as alones
 use Rattle.om_resolved.specs.declared.resolved.UnaryOperator.{UnaryOperator}
 use Rattle.om_resolved.specs.declared.resolved.UnaryOperator.TheVariants as unaries
 use Rattle.om_resolved.specs.declared.resolved.Variable as variables
-use Rattle.om_resolved.specs.ResolvedTree.{ResolvedExpressionTree, Constant, Variable, Element, Call, ThreadNumber, TeamSize, Print, Unary, Binary, Conditional, Assign, AssignElement, Postfix, PostfixElement, ValuesTree, NoValues, Value, ResolvedDeclaratorTree, ResolvedClauseTree, ClauseValue, Shared, Copied, ResolvedLoopTree, ResolvedUpdateTree, ResolvedStartTree, StartNothing, StartExpression, StartDeclaration, ResolvedStatementTree, Declaration, Block, Empty, Expression, If, IfElse, While, Do, For, Return, Break, Continue, Parallel, Task, Loop, Sections, Construct, Update, StandAlone, ResolvedStatementsTree, NoStatements, Statement, ResolvedPartsTree, NoParts, Part}
-use Rattle.om_rows.specs.Bodies.{Numbers, next_pick, behind}
-use Rattle.om_rows.specs.Expressions.{constant, unary_row, binary_row, conditional_row, assigned, element_assigned, called, printed, value, values, effect}
-use Rattle.om_rows.specs.Operators.{BinaryForm, Both, Either, Plain, form_of, compound_of, step_of, undo_of, comparison_of, update_of, side_of}
-use Rattle.om_rows.specs.Rows.{Site, Row, part, ◌▸◌, given, perhaps, each}
-use Rattle.om_rows.specs.Sizes.{unary_size, binary_size, assigned_size, element_assigned_size, value_size, values_size, effect_size, perhaps_size, each_size, declarator_size, start_size, test_size, copy_start_size, clause_start_size, combined_size, clause_combined_size, end_size, filter_size, alone_size, update_size, assignment_size, construct_size, loop_size, statement_size, statements_size, parts_size}
-use Rattle.om_rows.specs.Slots.{FirstCopy}
-use Rattle.om_rows.specs.Statements.{Jumps, nowhere, in_loop, in_iteration, jump, declared, declarator, start, test, returned, copy_start, clause_start, starts, combined, clause_combined, reductions, clause_value, given_copies, load_original, worksharing_end, alone_row, filter_row, updated, update_row, assignment_row, loop_rest, parallel_row, with_place, no_place, statement, statements, parts}
+use Rattle.om_resolved.specs.ResolvedTree.{ResolvedExpressionTree, Constant, Variable, Element, Call, ThreadNumber, TeamSize, Print, Unary, Binary, Conditional, Assign, AssignElement, Postfix, PostfixElement, ValuesTree, NoValues, Value}
+use Rattle.om_rows.specs.Expressions.{constant, unary_row, binary_row, conditional_row, assigned, element_assigned, value, values, effect}
+use Rattle.om_rows.specs.Operators.{BinaryForm, Both, Either, Plain, form_of, compound_of, step_of}
+use Rattle.om_rows.specs.Rows.{Site, Row}
+use Rattle.om_rows.specs.Sizes.{unary_size, binary_size, assigned_size, element_assigned_size, value_size, values_size, effect_size}
 
 module _ (at : Site) where
   abbrev Has : Row → ℕ → Type 0

@@ -1,27 +1,22 @@
 -- The operand heights of a statement's code: it leaves as many operands as it finds.
-use Rattle.std.proofs.Common.{◌≡◌, ℕ, ◌+◌, ℤ, pos, Bool, true, false, List, [], ◌∷◌, length, Option, Some, None, refl, sym, ap, ◌∙◌, subst, arith}
-use Rattle.std.specs.Prelude.{slice_get, slice_index_or, is_some}
+use Rattle.std.proofs.Common.{ℕ, ◌+◌, Bool, true, false, List, [], ◌∷◌, length, Option, Some, None, refl, arith}
 use Rattle.om_code.specs.declared.instruction.AtomicOperator.{AtomicOperator}
 use Rattle.om_code.specs.declared.instruction.Barrier.{Barrier}
 use Rattle.om_code.specs.declared.instruction.Comparison.{Comparison}
-use Rattle.om_code.specs.declared.instruction.Instr.TheVariants as i
 use Rattle.om_code.specs.declared.instruction.Side.{Side}
-use Rattle.om_code.specs.Ways.{pops, successors}
-use Rattle.om_resolved.specs.declared.resolved.ConstructKind.TheVariants as constructs
 use Rattle.om_resolved.specs.declared.resolved.CopyKind.{CopyKind}
 use Rattle.om_resolved.specs.declared.resolved.CopyKind.TheVariants as copies
 use Rattle.om_resolved.specs.declared.resolved.LocalVariable.{LocalVariable}
 use Rattle.om_resolved.specs.declared.resolved.StandAlone as alone
 use Rattle.om_resolved.specs.declared.resolved.StandAlone.TheVariants as alones
 use Rattle.om_resolved.specs.declared.resolved.Variable as variables
-use Rattle.om_resolved.specs.ResolvedTree.{ResolvedExpressionTree, ResolvedDeclaratorTree, ResolvedClauseTree, ClauseValue, Shared, Copied, ResolvedLoopTree, ResolvedUpdateTree, ResolvedStartTree, StartNothing, StartExpression, StartDeclaration, ResolvedStatementTree, Declaration, Block, Empty, Expression, If, IfElse, While, Do, For, Return, Break, Continue, Parallel, Task, Loop, Sections, Construct, Update, StandAlone, ResolvedStatementsTree, NoStatements, Statement, ResolvedPartsTree, NoParts, Part}
-use Rattle.om_rows.specs.Bodies.{Numbers, next_pick, behind}
+use Rattle.om_resolved.specs.ResolvedTree.{ResolvedExpressionTree, ResolvedDeclaratorTree, ResolvedClauseTree, ClauseValue, Shared, Copied, ResolvedLoopTree, ResolvedUpdateTree, ResolvedStartTree, StartNothing, StartExpression, StartDeclaration, ResolvedStatementTree, Expression}
 use Rattle.om_rows.specs.Expressions.{value, effect}
-use Rattle.om_rows.specs.Operators.{comparison_of, side_of, update_of}
-use Rattle.om_rows.specs.Rows.{Site, Row, part, ◌▸◌, given, perhaps, each}
+use Rattle.om_rows.specs.Operators.{side_of, update_of}
+use Rattle.om_rows.specs.Rows.{Site, Row, given, perhaps, each}
 use Rattle.om_rows.specs.Slots.{FirstCopy}
-use Rattle.om_rows.specs.Statements.{Jumps, nowhere, in_loop, in_iteration, jump, declared, declarator, start, test, returned, copy_start, clause_start, starts, reduction_start, clause_reduction_start, reduction_starts, combined, clause_combined, reductions, clause_value, given_copies, load_original, barrier, worksharing_end, alone_row, filter_row, single_row, masked_row, critical_row, updated, update_row, assignment_row, group_row, loop_row, loop_rest, sections_row, parallel_row, task_row, with_place, no_place, statement, statements, parts}
-use Rattle.om_rows.proofs.Levels.{Levels, Each, IsAt, nothing, level_end, level_out, level_ins, level_next, level_either, level_jump, level_stop, level_within, level_as, level_more, level_free, level_part, level_here, level_closed}
+use Rattle.om_rows.specs.Statements.{jump, declared, declarator, start, test, returned, copy_start, clause_start, starts, reduction_start, clause_reduction_start, reduction_starts, combined, clause_combined, reductions, clause_value, load_original, barrier, worksharing_end, alone_row, filter_row, single_row, masked_row, critical_row, updated, update_row, assignment_row, group_row, loop_rest, parallel_row, task_row}
+use Rattle.om_rows.proofs.Levels.{Levels, IsAt, nothing, level_end, level_out, level_next, level_either, level_jump, level_stop, level_within, level_free, level_part, level_here, level_closed}
 use Rattle.om_rows.proofs.ExpressionLevels as expressions
 
 module _ (at : Site) where

@@ -1,6 +1,6 @@
 -- A whole tree has code, and a tree of which there is code has code.
-use Rattle.std.proofs.Common.{◌≡◌, ℕ, zero, suc, ◌+◌, ◌<◌, Bool, true, false, List, [], ◌∷◌, ◌++◌, length, Option, Some, None, refl, sym, ap, ◌∙◌, subst, arith}
-use Rattle.std.specs.Prelude.{All, Any, IsSome, IsSomeAnd, IfSome, map, option_map, position, slice_get}
+use Rattle.std.proofs.Common.{◌≡◌, ℕ, zero, suc, ◌<◌, Bool, true, List, [], ◌∷◌, ◌++◌, length, Option, Some, None, refl, sym, ap, ◌∙◌, arith}
+use Rattle.std.specs.Prelude.{All, Any, IsSome, IsSomeAnd, map, option_map, position, slice_get}
 use Rattle.std.specs.List.{AllZip}
 use Rattle.std.specs.Str.{bytes_eq}
 use Rattle.std.proofs.lemmas.List.Quantifiers.{position-Some}
@@ -9,16 +9,13 @@ use Rattle.std.proofs.lemmas.List.Elements.{All-nil, All-cons, All-append}
 use Rattle.om_code.specs.declared.raw.Body.{Body}
 use Rattle.om_code.specs.declared.raw.Piece as texts
 use Rattle.om_code.specs.declared.raw.Raw.{Raw}
-use Rattle.om_resolved.specs.declared.resolved.ConstructKind.{ConstructKind}
-use Rattle.om_resolved.specs.declared.resolved.ConstructKind.TheVariants as constructs
-use Rattle.om_resolved.specs.Beside.{TreeAtomicsAssign}
 use Rattle.om_resolved.specs.Formats.{Piece, pieces_of, IsFormat, value_count}
-use Rattle.om_resolved.specs.ResolvedTree.{ResolvedExpressionTree, Constant, Variable, Element, Call, ThreadNumber, TeamSize, Print, Unary, Binary, Conditional, Assign, AssignElement, Postfix, PostfixElement, ValuesTree, NoValues, Value, ResolvedDeclaratorTree, ResolvedFunctionTree, ResolvedTree}
+use Rattle.om_resolved.specs.ResolvedTree.{ResolvedExpressionTree, Constant, Variable, Element, Call, ThreadNumber, TeamSize, Print, Unary, Binary, Conditional, Assign, AssignElement, Postfix, PostfixElement, ValuesTree, NoValues, Value, ResolvedTree}
 use Rattle.om_resolved.specs.Uses.{is_main_function}
-use Rattle.om_resolved.specs.Whole.{Around, IsWhole, AreWhole, IsMain, IsWholeTree, count_of}
+use Rattle.om_resolved.specs.Whole.{Around, IsWhole, AreWhole, count_of}
 use Rattle.om_rows.specs.Bodies.{BodySite, bodies_of, first_numbers, called_body}
-use Rattle.om_rows.specs.Code.{site_of, IsBodyOf, IsCodeOf}
-use Rattle.om_rows.specs.Coded.{BodyHasCode, TreeHasCode}
+use Rattle.om_rows.specs.Code.{site_of, IsBodyOf}
+use Rattle.om_rows.specs.Coded.{BodyHasCode}
 use Rattle.om_rows.specs.Laws.{WholeHasCode, RowsHaveCode}
 use Rattle.om_rows.specs.Mentions.{expression_formats, values_formats, format_mention, formats_of, tree_mentioned, IsTextOf, text_piece}
 use Rattle.om_rows.proofs.RowsCode.{body_says}

@@ -1,20 +1,18 @@
 -- The code of a whole tree is valid, but for operand heights.
-use Rattle.std.proofs.Common.{◌≡◌, ℕ, zero, suc, ◌+◌, ◌*◌, ◌^◌, ◌<◌, ◌≤◌, ◌⊎◌, Bool, true, false, List, [], ◌∷◌, ◌++◌, length, Option, Some, None, refl, sym, ap, ◌∙◌, subst, ⊎_elim, arith}
-use Rattle.std.specs.Prelude.{slice_get, slice_index_or, map, codes, position, All, Any, IsSomeAnd, sum_by}
+use Rattle.std.proofs.Common.{◌≡◌, ℕ, zero, suc, ◌^◌, ◌<◌, ◌≤◌, true, false, List, [], ◌∷◌, length, Option, Some, None, sym, ap, ◌∙◌, subst, ⊎_elim, arith}
+use Rattle.std.specs.Prelude.{slice_get, map, codes, position, All, Any, IsSomeAnd, sum_by}
 use Rattle.std.specs.List.{AllByRecursion, IsDistinct}
-use Rattle.std.specs.Str.{bytes_eq}
 use Rattle.std.proofs.lemmas.List.{length-map}
 use Rattle.std.proofs.lemmas.List.Elements.{All-nil, All-cons, All-head, All-tail}
 use Rattle.std.proofs.lemmas.List.Sums.{sum_by-cons}
 use Rattle.std.proofs.lemmas.Map.Keys.{IsDistinct-head, IsDistinct-tail}
 use Rattle.std.proofs.lemmas.Option.{slice_get-get_or}
 use Rattle.std.proofs.lemmas.Slice.Eq.{bytes_eq-Decides}
-use Rattle.om_code.specs.declared.fault.CodeFault.{CodeFault}
 use Rattle.om_code.specs.declared.fault.CodeFault.TheVariants.{Memory, JumpOut, Heights, TooHigh, Unknown}
 use Rattle.om_code.specs.declared.raw.Body.{Body}
 use Rattle.om_code.specs.declared.raw.GlobalVariable as raws
 use Rattle.om_code.specs.declared.raw.Raw.{Raw}
-use Rattle.om_code.specs.Validity.{HasLength, HasTables, HasOneHeight, StaysInside, IsLow, IsKnown, IsKnownBody, IsValid, IsValidBody, Breaks}
+use Rattle.om_code.specs.Validity.{HasLength, HasTables, HasOneHeight, StaysInside, IsLow, IsKnown, IsKnownBody, IsValidBody}
 use Rattle.om_resolved.specs.declared.resolved.GlobalVariable.{GlobalVariable}
 use Rattle.om_resolved.specs.Beside.{TreeCopiesBehind}
 use Rattle.om_resolved.specs.ResolvedTree.{ResolvedFunctionTree, ResolvedTree}
@@ -22,7 +20,7 @@ use Rattle.om_resolved.specs.Uses.{is_main_function}
 use Rattle.om_resolved.specs.Whole.{cells_of, cell_count, IsMain, same_name, IsWholeTree}
 use Rattle.om_rows.specs.Bodies.{called_body, bodies_of}
 use Rattle.om_rows.specs.Code.{global_of, IsCodeOf}
-use Rattle.om_rows.specs.Laws.{IsLevel, AreNumbered, AreLow, MayBreak, CodeIsValid, CodeFaults}
+use Rattle.om_rows.specs.Laws.{IsLevel, AreNumbered, CodeIsValid, CodeFaults}
 use Rattle.om_rows.proofs.CodeLevels.{code_is_level}
 use Rattle.om_rows.proofs.KnownBodies.{calls, all_known}
 use Rattle.om_rows.proofs.Placed.{bodies_placed}

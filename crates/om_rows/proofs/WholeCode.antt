@@ -1,18 +1,16 @@
 -- A whole tree has code, if the statement of each `atomic` that reads or writes is an assignment.
-use Rattle.std.proofs.Common.{◌≡◌, ℕ, ℤ, Bool, true, false, List, [], ◌∷◌, ◌++◌, length, Option, Some, None, refl, sym, ap, ◌∙◌, subst, arith}
-use Rattle.std.specs.Prelude.{All, Any, IfSome, IsSome, IsSomeAnd, fold, if◌then◌else◌}
-use Rattle.std.specs.List.{flat_map, list_any}
+use Rattle.std.proofs.Common.{◌≡◌, ℕ, ℤ, Bool, true, false, List, [], ◌∷◌, Option, Some, None, refl, sym, ◌∙◌}
+use Rattle.std.specs.Prelude.{All, IfSome, IsSome}
 use Rattle.std.proofs.lemmas.List.Elements.{All-nil, All-cons, All-head, All-tail, All-append}
 use Rattle.om_tree.specs.declared.tree.BinaryOperator.{BinaryOperator}
 use Rattle.om_tree.specs.declared.tree.BinaryOperator.TheVariants as binaries
-use Rattle.om_resolved.specs.declared.resolved.ConstructKind.{ConstructKind}
 use Rattle.om_resolved.specs.declared.resolved.ConstructKind.TheVariants as constructs
 use Rattle.om_resolved.specs.declared.resolved.GlobalVariable.{GlobalVariable}
 use Rattle.om_resolved.specs.declared.resolved.Variable as variables
-use Rattle.om_resolved.specs.Beside.{Everywhere, EverywhereIn, EverywhereInParts, Assigns, AtomicAssigns, TreeAtomicsAssign}
-use Rattle.om_resolved.specs.ResolvedTree.{ResolvedExpressionTree, Constant, Variable, Element, Call, ThreadNumber, TeamSize, Print, Unary, Binary, Conditional, Assign, AssignElement, Postfix, PostfixElement, ValuesTree, NoValues, Value, ResolvedDeclaratorTree, ResolvedClauseTree, ClauseValue, Shared, Copied, ResolvedStartTree, StartNothing, StartExpression, StartDeclaration, ResolvedStatementTree, Declaration, Block, Empty, Expression, If, IfElse, While, Do, For, Return, Break, Continue, Parallel, Task, Loop, Sections, Construct, Update, StandAlone, ResolvedStatementsTree, NoStatements, Statement, ResolvedPartsTree, NoParts, Part, ResolvedFunctionTree, ResolvedTree}
-use Rattle.om_resolved.specs.Whole.{Around, Admitted, IsWhole, AreWhole, IsWholeIfAny, AreWholeDeclarators, after_declarators, declared, AreWholeClauses, IsWholeClause, IsStep, IsWholeStart, after_start, IsWholeReturn, IsWholeTarget, after_item, repeated, within, iterated, of_parallel, of_construct, IsWholeStatement, AreWholeItems, AreWholeParts, IsWholeTree, IsWholeFunction, at_function}
-use Rattle.om_rows.specs.Bodies.{Numbers, next_body, next_pick, behind, behind_all, behind_function, region_variables, function_variables, regions, all_regions, parts_regions, function_bodies, bodies_from, first_numbers, BodySite}
+use Rattle.om_resolved.specs.Beside.{Everywhere, EverywhereIn, EverywhereInParts, Assigns, AtomicAssigns}
+use Rattle.om_resolved.specs.ResolvedTree.{ResolvedExpressionTree, Constant, Variable, Element, Call, ThreadNumber, TeamSize, Print, Unary, Binary, Conditional, Assign, AssignElement, Postfix, PostfixElement, ValuesTree, NoValues, Value, ResolvedDeclaratorTree, ResolvedClauseTree, ClauseValue, Shared, Copied, ResolvedStartTree, StartNothing, StartExpression, StartDeclaration, ResolvedStatementTree, Declaration, Block, Empty, Expression, If, IfElse, While, Do, For, Return, Break, Continue, Parallel, Task, Loop, Sections, Construct, Update, StandAlone, ResolvedStatementsTree, NoStatements, Statement, ResolvedPartsTree, NoParts, Part, ResolvedFunctionTree}
+use Rattle.om_resolved.specs.Whole.{Around, Admitted, IsWhole, AreWhole, IsWholeIfAny, AreWholeDeclarators, after_declarators, declared, AreWholeClauses, IsWholeClause, IsStep, IsWholeStart, after_start, IsWholeReturn, IsWholeTarget, after_item, repeated, within, iterated, of_parallel, of_construct, IsWholeStatement, AreWholeItems, AreWholeParts, IsWholeFunction, at_function}
+use Rattle.om_rows.specs.Bodies.{Numbers, next_body, next_pick, behind, behind_all, behind_function, region_variables, function_variables, regions, all_regions, parts_regions, function_bodies, bodies_from, BodySite}
 use Rattle.om_rows.specs.Coded.{ValueHasCode, ValuesHaveCode, EffectHasCode, DeclaratorHasCode, StartHasCode, AssignmentHasCode, StatementHasCode, StatementsHaveCode, PartsHaveCode, BodyHasCode}
 use Rattle.om_rows.specs.Operators.{comparison_of}
 use Rattle.om_rows.specs.Statements.{clause_value}

@@ -1,5 +1,5 @@
 -- What holds of each mention in a whole expression, by each sound declarator and by each construct holds of all mentions of a whole tree.
-use Rattle.std.proofs.Common.{◌≡◌, ℕ, Bool, true, false, List, [], ◌∷◌, ◌++◌, Option, Some, None, refl, sym, ap, ◌∙◌, arith}
+use Rattle.std.proofs.Common.{Bool, true, false, List, [], ◌∷◌, ◌++◌, Option, Some, None}
 use Rattle.std.specs.Prelude.{◌≤◌, All, IfSome, fold, if◌then◌else◌}
 use Rattle.std.specs.List.{flat_map, list_any}
 use Rattle.std.proofs.lemmas.List.Elements.{All-nil, All-cons, All-head, All-tail, All-append}
@@ -8,8 +8,8 @@ use Rattle.om_resolved.specs.declared.resolved.GlobalVariable.{GlobalVariable}
 use Rattle.om_resolved.specs.declared.resolved.Variable as variables
 use Rattle.om_resolved.specs.ResolvedTree.{ResolvedExpressionTree, ResolvedDeclaratorTree, ResolvedClauseTree, ClauseValue, Shared, Copied, ResolvedStartTree, StartNothing, StartExpression, StartDeclaration, ResolvedStatementTree, Declaration, Block, Empty, Expression, If, IfElse, While, Do, For, Return, Break, Continue, Parallel, Task, Loop, Sections, Construct, Update, StandAlone, ResolvedStatementsTree, NoStatements, Statement, ResolvedPartsTree, NoParts, Part, ResolvedFunctionTree}
 use Rattle.om_resolved.specs.Whole.{Around, Admitted, IsWhole, IsWholeIfAny, AreWholeDeclarators, declared, AreWholeClauses, IsWholeClause, IsWholeStart, after_start, IsWholeReturn, IsWholeTarget, after_item, repeated, within, iterated, of_parallel, of_task, of_worksharing, of_construct, IsWholeStatement, AreWholeItems, AreWholeParts, IsWholeFunction, at_function}
-use Rattle.om_rows.specs.Mentions.{Mention, perhaps_mentioned, declarator_mentioned, start_mentioned, clause_mentioned, loop_mentioned, update_mentioned, mentioned, all_mentioned, parts_mentioned, function_mentioned}
-use Rattle.om_rows.specs.Tables.{with_sight, table_of}
+use Rattle.om_rows.specs.Mentions.{Mention, perhaps_mentioned, declarator_mentioned, start_mentioned, clause_mentioned, loop_mentioned, mentioned, all_mentioned, parts_mentioned, function_mentioned}
+use Rattle.om_rows.specs.Tables.{with_sight}
 
 -- what holds of all sights holds of their table
 pub table_all : {A : Type 0} (P : A → Type 0) (same : A → A → Bool) (sights found : List A) → All P found → All P sights → All P (fold (with_sight same) found sights)

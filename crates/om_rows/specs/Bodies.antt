@@ -1,11 +1,10 @@
 -- The bodies of a program: those of functions, of `parallel` and of `task`, numbered together from 0 by the places where they begin.
-use Rattle.std.specs.Prelude.{ℕ, ◌+◌, List, [], ◌∷◌, ◌++◌, Bool, map, take, nat_eq}
+use Rattle.std.specs.Prelude.{ℕ, ◌+◌, List, [], ◌∷◌, ◌++◌, map, take, nat_eq}
 use Rattle.std.specs.List.{flat_map}
-use Rattle.om_code.specs.declared.raw.Slot.{Slot}
 use Rattle.om_lexer.specs.declared.token.Span.{Span}
 use Rattle.om_resolved.specs.declared.resolved.Capture.{Capture}
 use Rattle.om_resolved.specs.ResolvedTree.{ResolvedClauseTree, ResolvedStatementTree, Declaration, Block, Empty, Expression, If, IfElse, While, Do, For, Return, Break, Continue, Parallel, Task, Loop, Sections, Construct, Update, StandAlone, ResolvedStatementsTree, NoStatements, Statement, ResolvedPartsTree, NoParts, Part, ResolvedFunctionTree, ResolvedTree}
-use Rattle.om_rows.specs.Slots.{parameter_sight, region_clause_sights, statement_sights, statements_sights, slot_of, slot_with, Extent, FirstCopy, first_copies, by_slots}
+use Rattle.om_rows.specs.Slots.{parameter_sight, region_clause_sights, statement_sights, statements_sights}
 use Rattle.om_rows.specs.Tables.{table_of}
 
 -- ---- numbers

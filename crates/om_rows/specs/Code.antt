@@ -1,6 +1,6 @@
 -- The code of a resolved tree: its tables, and each of its bodies, which is what the row of its part of the tree says.
-use Rattle.std.specs.Prelude.{◌≡◌, ℕ, List, [], ◌∷◌, Some, Bool, true, false, length, map, option_map, position}
-use Rattle.std.specs.List.{AllZip, flat_map}
+use Rattle.std.specs.Prelude.{◌≡◌, ℕ, List, [], Some, Bool, true, false, length, map, option_map, position}
+use Rattle.std.specs.List.{AllZip}
 use Rattle.om_code.specs.declared.instruction.Barrier.TheVariants as barriers
 use Rattle.om_code.specs.declared.instruction.Instr.{Instr}
 use Rattle.om_code.specs.declared.instruction.Instr.TheVariants as i
@@ -12,10 +12,10 @@ use Rattle.om_resolved.specs.declared.resolved.Capture.{Capture}
 use Rattle.om_resolved.specs.declared.resolved.GlobalVariable.{GlobalVariable}
 use Rattle.om_resolved.specs.Uses.{is_main_function}
 use Rattle.om_resolved.specs.ResolvedTree.{ResolvedFunctionTree, ResolvedTree}
-use Rattle.om_rows.specs.Bodies.{Numbers, BodyTree, FunctionBody, ParallelBody, TaskBody, BodySite, variables_in, variables_of, bodies_of, behind_functions, first_numbers, called_body}
+use Rattle.om_rows.specs.Bodies.{Numbers, BodyTree, FunctionBody, ParallelBody, TaskBody, BodySite, variables_of, bodies_of, behind_functions, first_numbers, called_body}
 use Rattle.om_rows.specs.Mentions.{extents_of, formats_of, locks_of, IsTextOf}
 use Rattle.om_rows.specs.Rows.{Site, Row, end, ins, part, ◌▸◌}
-use Rattle.om_rows.specs.Slots.{FirstCopy, parameter_sight, slot_of, slot_with}
+use Rattle.om_rows.specs.Slots.{parameter_sight, slot_of, slot_with}
 use Rattle.om_rows.specs.Statements.{nowhere, statement, statements, reduction_starts, reductions, given_copies}
 
 -- ---- bodies

@@ -1,7 +1,7 @@
--- Which resolved trees have code: all in which no part has the row `never`. `printf` has no value, a jump is in a loop, a canonical loop
+-- Which resolved trees have code: all in which no part has the row `never`. `printf` has no value, a jump is
+-- in a loop, a canonical loop
 -- has one of the four comparisons, and an `atomic` that reads or writes is about an expression statement.
 use Rattle.std.specs.Prelude.{◌≡◌, Bool, true, false, All, Any, IfSome, IsSome}
-use Rattle.om_resolved.specs.declared.resolved.ConstructKind.{ConstructKind}
 use Rattle.om_resolved.specs.declared.resolved.ConstructKind.TheVariants as constructs
 use Rattle.om_resolved.specs.Formats.{pieces_of}
 use Rattle.om_resolved.specs.Uses.{is_main_function}
@@ -53,7 +53,8 @@ AssignmentHasCode (Expression first e) = EffectHasCode e
 AssignmentHasCode _ = ⊥
 
 abbrev mutual
-  -- a statement, where a `break` or a `continue` can go somewhere or not; the bodies of its regions stand by themselves
+  -- a statement, where a `break` or a `continue` can go somewhere or not; the bodies of its regions stand by
+  -- themselves
   pub StatementHasCode : (breaks continues : Bool) → ResolvedStatementTree → Type 0
   StatementHasCode breaks continues (Declaration first ds) = All DeclaratorHasCode ds
   StatementHasCode breaks continues (Block first items) = StatementsHaveCode breaks continues items
@@ -69,9 +70,11 @@ abbrev mutual
   StatementHasCode breaks continues (Return first e) = IfSome e ValueHasCode
   StatementHasCode breaks continues (Break first) = breaks ≡ true
   StatementHasCode breaks continues (Continue first) = continues ≡ true
-  StatementHasCode breaks continues (Parallel first clauses captures s) = IfSome (clause_value clauses) ValueHasCode
+  StatementHasCode breaks continues (Parallel first clauses captures s) =
+      IfSome (clause_value clauses) ValueHasCode
   StatementHasCode breaks continues (Task first clauses captures s) = Unit {0}
-  StatementHasCode breaks continues (Loop first clauses nowait loop s) = LoopHasCode loop × StatementHasCode false true s
+  StatementHasCode breaks continues (Loop first clauses nowait loop s) =
+      LoopHasCode loop × StatementHasCode false true s
   StatementHasCode breaks continues (Sections first clauses nowait sections) = PartsHaveCode sections
   StatementHasCode breaks continues (Construct first constructs.Atomic clauses s) = AssignmentHasCode s
   StatementHasCode breaks continues (Construct first constructs.Masked clauses s) =

@@ -1,5 +1,7 @@
 -- What the code of every tree is.
-use Rattle.std.specs.Prelude.{◌≡◌, ◌<◌, ◌≤◌, ◌^◌, ℕ, ◌+◌, List, All, length, is_some}
+use Rattle.std.specs.Prelude.{◌≡◌, ◌<◌, ◌≤◌, ◌^◌, ℕ, ◌+◌, List, [], true, Some, All, IsSomeAnd, length, is_some, slice_get}
+use Rattle.std.specs.List.{list_any}
+use Rattle.std.specs.Str.{bytes_eq}
 use Rattle.om_code.specs.declared.fault.CodeFault.{CodeFault}
 use Rattle.om_code.specs.declared.fault.CodeFault.TheVariants.{Memory, TooHigh}
 use Rattle.om_code.specs.declared.raw.Line.{Line}
@@ -8,10 +10,11 @@ use Rattle.om_code.specs.Validity.{HasOneHeight, StaysInside, IsLow, IsValid, Br
 use Rattle.om_resolved.specs.Beside.{TreeAtomicsAssign, TreeCopiesBehind}
 use Rattle.om_resolved.specs.ResolvedTree.{ResolvedExpressionTree, ResolvedStatementTree, ResolvedFunctionTree, ResolvedTree}
 use Rattle.om_resolved.specs.Whole.{IsWholeTree}
-use Rattle.om_rows.specs.Bodies.{Numbers, BodyTree}
-use Rattle.om_rows.specs.Code.{body_row, IsCodeOf}
+use Rattle.om_rows.specs.Bodies.{Numbers, BodyTree, FunctionBody, called_body}
+use Rattle.om_rows.specs.Code.{body_row, IsBodyOf, IsCodeOf}
 use Rattle.om_rows.specs.Coded.{ValueHasCode, EffectHasCode, StatementHasCode, TreeHasCode}
 use Rattle.om_rows.specs.Expressions.{value, effect}
+use Rattle.om_rows.specs.Mentions.{format_mention, formats_of, tree_mentioned}
 use Rattle.om_rows.specs.Rows.{Site}
 use Rattle.om_rows.specs.Sizes.{value_size, effect_size, statement_size}
 use Rattle.om_rows.specs.Statements.{Jumps, statement}
@@ -22,14 +25,17 @@ OneCode = (tree : ResolvedTree) (raw other : Raw) → IsCodeOf tree raw → IsCo
 
 -- Code keeps to its body and its levels.
 pub record IsLevel (picks : List (List ℕ)) (code : List Line) : Type 0 where
-  -- whichever way an instruction is reached, as many operands stand below it, and those that it takes are there
+  -- whichever way an instruction is reached, as many operands stand below it, and those that it takes are
+  -- there
   pub one_height : HasOneHeight picks code
   -- it begins in its body and goes on in it, if that has fewer than 2^32 instructions
   pub inside : length code < 2 ^ 32 → StaysInside picks code
 
 -- The bodies of a tree's code are level, whatever the tree is.
 abbrev pub CodeIsLevel : Type 0
-CodeIsLevel = (tree : ResolvedTree) (raw : Raw) → IsCodeOf tree raw → All (λ body. IsLevel raw.picks body.code) raw.bodies
+CodeIsLevel =
+    (tree : ResolvedTree) (raw : Raw) → IsCodeOf tree raw →
+    All (λ body. IsLevel raw.picks body.code) raw.bodies
 
 -- The code of one body is level, whatever else the program has.
 abbrev pub BodyIsLevel : Type 0
@@ -68,15 +74,31 @@ CodeFaults =
     (tree : ResolvedTree) (raw : Raw) → IsWholeTree tree → TreeCopiesBehind tree → IsCodeOf tree raw →
     AreNumbered raw → (fault : CodeFault) → Breaks fault raw → MayBreak fault
 
+-- The body of a function, by its number, is the code of that function.
+abbrev pub FunctionBodies : Type 0
+FunctionBodies =
+    (tree : ResolvedTree) (raw : Raw) → IsCodeOf tree raw →
+    (k : ℕ) (f : ResolvedFunctionTree) → slice_get tree.functions k ≡ Some f →
+    (n : Numbers) × IsSomeAnd (slice_get raw.bodies (called_body tree.functions k))
+    (IsBodyOf tree raw (record { function = f; tree = FunctionBody; outer = []; numbers = n }))
+
+-- Each format that a program mentions has a number.
+abbrev pub FormatsAreNumbered : Type 0
+FormatsAreNumbered =
+    (tree : ResolvedTree) →
+    All (λ format. list_any (bytes_eq format) (formats_of tree) ≡ true) (tree_mentioned format_mention tree)
+
 -- What has code by the rows is what has code.
 abbrev pub RowsHaveCode : Type 0
 RowsHaveCode = (tree : ResolvedTree) (raw : Raw) → IsCodeOf tree raw → TreeHasCode tree
 
 abbrev pub ValueRowsHaveCode : Type 0
-ValueRowsHaveCode = (at : Site) (l : ℕ) (e : ResolvedExpressionTree) (p q : ℕ) → value at l e p q → ValueHasCode e
+ValueRowsHaveCode =
+    (at : Site) (l : ℕ) (e : ResolvedExpressionTree) (p q : ℕ) → value at l e p q → ValueHasCode e
 
 abbrev pub EffectRowsHaveCode : Type 0
-EffectRowsHaveCode = (at : Site) (l : ℕ) (e : ResolvedExpressionTree) (p q : ℕ) → effect at l e p q → EffectHasCode e
+EffectRowsHaveCode =
+    (at : Site) (l : ℕ) (e : ResolvedExpressionTree) (p q : ℕ) → effect at l e p q → EffectHasCode e
 
 abbrev pub StatementRowsHaveCode : Type 0
 StatementRowsHaveCode =
@@ -85,10 +107,14 @@ StatementRowsHaveCode =
 
 -- The code of a part has as many instructions as the part tells.
 abbrev pub ValueSizes : Type 0
-ValueSizes = (at : Site) (l : ℕ) (e : ResolvedExpressionTree) (p q : ℕ) → value at l e p q → q ≡ p + value_size e
+ValueSizes =
+    (at : Site) (l : ℕ) (e : ResolvedExpressionTree) (p q : ℕ) → value at l e p q → q ≡ p + value_size e
 
 abbrev pub EffectSizes : Type 0
-EffectSizes = (at : Site) (l : ℕ) (e : ResolvedExpressionTree) (p q : ℕ) → effect at l e p q → q ≡ p + effect_size e
+EffectSizes =
+    (at : Site) (l : ℕ) (e : ResolvedExpressionTree) (p q : ℕ) → effect at l e p q → q ≡ p + effect_size e
 
 abbrev pub StatementSizes : Type 0
-StatementSizes = (at : Site) (n : Numbers) (s : ResolvedStatementTree) (jumps : Jumps) (p q : ℕ) → statement at n s jumps p q → q ≡ p + statement_size s
+StatementSizes =
+    (at : Site) (n : Numbers) (s : ResolvedStatementTree) (jumps : Jumps) (p q : ℕ) →
+    statement at n s jumps p q → q ≡ p + statement_size s

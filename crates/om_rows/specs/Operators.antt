@@ -1,5 +1,5 @@
 -- The operators, comparisons and schedules of the language as those of the instructions.
-use Rattle.std.specs.Prelude.{ℕ, ◌-◌, ℤ, pos, negsuc, Option, None, Some}
+use Rattle.std.specs.Prelude.{ℕ, ℤ, pos, negsuc, Option, None, Some}
 use Rattle.om_code.specs.declared.instruction.AtomicOperator.{AtomicOperator}
 use Rattle.om_code.specs.declared.instruction.AtomicOperator.TheVariants as atomics
 use Rattle.om_code.specs.declared.instruction.BinaryOperator as machine

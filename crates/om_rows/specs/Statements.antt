@@ -1,7 +1,7 @@
 -- The code of statements and directives, row by row as the table of lowering has it. An instruction has the line of the first token of
 -- its statement, or of its `if`, `while`, `do` or `for`, and those of a directive have the directive's, but for a loop's bounds. All those of
 -- an `atomic` have the directive's.
-use Rattle.std.specs.Prelude.{◌≡◌, ℕ, ◌+◌, ℤ, pos, List, [], ◌∷◌, Option, None, Some, Bool, true, false, length, is_some, slice_get}
+use Rattle.std.specs.Prelude.{◌≡◌, ℕ, pos, List, [], ◌∷◌, Option, None, Some, Bool, true, false, length, is_some, slice_get}
 use Rattle.std.specs.Str.{bytes_eq}
 use Rattle.om_code.specs.declared.instruction.AtomicOperator.{AtomicOperator}
 use Rattle.om_code.specs.declared.instruction.Barrier.{Barrier}
@@ -9,7 +9,6 @@ use Rattle.om_code.specs.declared.instruction.Barrier.TheVariants as barriers
 use Rattle.om_code.specs.declared.instruction.Comparison.{Comparison}
 use Rattle.om_code.specs.declared.instruction.Instr.TheVariants as i
 use Rattle.om_code.specs.declared.instruction.Side.{Side}
-use Rattle.om_lexer.specs.declared.token.Span.{Span}
 use Rattle.om_resolved.specs.declared.resolved.Capture.{Capture}
 use Rattle.om_resolved.specs.declared.resolved.ConstructKind.{ConstructKind}
 use Rattle.om_resolved.specs.declared.resolved.ConstructKind.TheVariants as constructs
@@ -26,7 +25,7 @@ use Rattle.om_rows.specs.Expressions.{constant, value, effect}
 use Rattle.om_rows.specs.Mentions.{lock_name}
 use Rattle.om_rows.specs.Operators.{comparison_of, form_with, identity_of, reduction_of, side_of, update_of}
 use Rattle.om_rows.specs.Rows.{Site, Row, end, never, ins, part, here, ◌▸◌, given, perhaps, each, unless}
-use Rattle.om_rows.specs.Slots.{FirstCopy, first_copies, by_slots, place, slot, slot_of}
+use Rattle.om_rows.specs.Slots.{FirstCopy, first_copies, by_slots, place, slot}
 use Rattle.om_rows.specs.Tables.{number_in}
 
 -- where `break` and `continue` go; outside of a loop nowhere

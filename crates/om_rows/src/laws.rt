@@ -1,6 +1,6 @@
 //! Laws of the code of a tree, whoever made it.
 
-ghost use Rattle.om_rows.specs.Laws.{BodyIsLevel, CodeFaults, CodeIsLevel, CodeIsValid, EffectRowsHaveCode, EffectSizes, OneCode, RowsHaveCode, StatementRowsHaveCode, StatementSizes, ValueRowsHaveCode, ValueSizes, WholeHasCode};
+ghost use Rattle.om_rows.specs.Laws.{BodyIsLevel, CodeFaults, CodeIsLevel, CodeIsValid, EffectRowsHaveCode, EffectSizes, FormatsAreNumbered, FunctionBodies, OneCode, RowsHaveCode, StatementRowsHaveCode, StatementSizes, ValueRowsHaveCode, ValueSizes, WholeHasCode};
 
 /// A tree has one code.
 pub fn one_code()
@@ -38,6 +38,16 @@ pub fn rows_have_code()
 pub fn code_is_valid()
     ensures valid { CodeIsValid }
     ensures faults { CodeFaults }
+{}
+
+/// The body of a function, by its number, is the code of that function.
+pub fn function_bodies()
+    ensures { FunctionBodies }
+{}
+
+/// Each format that a program mentions has a number.
+pub fn formats_are_numbered()
+    ensures { FormatsAreNumbered }
 {}
 
 /// The code of an expression or a statement has as many instructions as the tree tells.

@@ -14,9 +14,9 @@ AreWholeLines-append xs ys p (inl none) = subst AreWholeLines (sym (ap (λ l. xs
 AreWholeLines-append xs ys p (inr q) = inr (xs ++ q.0, ap (λ l. xs ++ l) q.1 ∙ sym (append_assoc xs q.0 (10 ∷ [])))
 
 pub after_text-append : {M : Type 0} (xs ys : List ℕ) (t : Transcript M) → after_text (xs ++ ys) t ≡ after_text xs (after_text ys t)
-after_text-append xs ys t = ap (λ text. record { text = text; machine = t.machine }) (append_assoc xs ys t.text)
+after_text-append xs ys t = ap (λ text. record { text = text; view = t.view }) (append_assoc xs ys t.text)
 
-after_text-nil : {M : Type 0} (xs : List ℕ) (m : Option M) → (after_text xs (record { text = []; machine = m })).text ≡ xs
+after_text-nil : {M : Type 0} (xs : List ℕ) (m : Option M) → (after_text xs (record { text = []; view = m })).text ≡ xs
 after_text-nil xs m = append-nil xs
 
 pub Advance_none : {M : Type 0} (r w : Option (List ℕ)) (pending : List ℕ) (due : List ℕ → Transcript M) → Advance r r w w pending pending due due
@@ -74,28 +74,28 @@ Advance_answers r wa wb pa pb used la lb p e = record {
 }
 
 -- at the end of the input
-pub Done_at_end : {M : Type 0} (ra rb wa wb wc : Option (List ℕ)) (pa pb : List ℕ) (la lb : List ℕ → Transcript M) (last : Transcript M) (machine : Option M)
-    → Advance ra rb wa wb pa pb la lb → IsAtEnd rb → lb pb ≡ last → Appends wb wc last.text → machine ≡ last.machine → IsDone ra rb wa wc pa la machine
-Done_at_end ra rb wa wb wc pa pb la lb last machine p end same wrote left =
+pub Done_at_end : {M : Type 0} (ra rb wa wb wc : Option (List ℕ)) (pa pb : List ℕ) (la lb : List ℕ → Transcript M) (last : Transcript M) (view : Option M)
+    → Advance ra rb wa wb pa pb la lb → IsAtEnd rb → lb pb ≡ last → Appends wb wc last.text → view ≡ last.view → IsDone ra rb wa wc pa la view
+Done_at_end ra rb wa wb wc pa pb la lb last view p end same wrote left =
     let all : la (pa ++ p.taken) ≡ after_text p.text last = ap la p.bytes ∙ p.is pb ∙ ap (after_text p.text) same in
     record {
       taken = p.taken;
       consumes = p.consumes;
       appends = subst (λ (t : Transcript _). Appends wa wc t.text) (sym all) (Appends-trans _ _ _ _ _ p.appends wrote);
-      left = left ∙ sym (ap (λ (t : Transcript _). t.machine) all);
+      left = left ∙ sym (ap (λ (t : Transcript _). t.view) all);
       stops = inl end;
     }
 
 -- where nothing more is due, whatever comes
-pub Done_settled : {M : Type 0} (ra rb wa wb : Option (List ℕ)) (pa pb : List ℕ) (la : List ℕ → Transcript M) (machine : Option M)
-    → Advance ra rb wa wb pa pb la (λ _. record { text = []; machine = machine }) → IsDone ra rb wa wb pa la machine
-Done_settled ra rb wa wb pa pb la machine p =
-    let now : la (pa ++ p.taken) ≡ after_text p.text (record { text = []; machine = machine }) = ap la p.bytes ∙ p.is pb in
+pub Done_settled : {M : Type 0} (ra rb wa wb : Option (List ℕ)) (pa pb : List ℕ) (la : List ℕ → Transcript M) (view : Option M)
+    → Advance ra rb wa wb pa pb la (λ _. record { text = []; view = view }) → IsDone ra rb wa wb pa la view
+Done_settled ra rb wa wb pa pb la view p =
+    let now : la (pa ++ p.taken) ≡ after_text p.text (record { text = []; view = view }) = ap la p.bytes ∙ p.is pb in
     record {
       taken = p.taken;
       consumes = p.consumes;
       appends = subst (Appends wa wb) (sym (ap (λ (t : Transcript _). t.text) now ∙ append-nil p.text)) p.appends;
-      left = sym (ap (λ (t : Transcript _). t.machine) now);
+      left = sym (ap (λ (t : Transcript _). t.view) now);
       stops = inr (λ future. ap (λ l. la (l ++ future)) p.bytes ∙ ap la (append_assoc p.handled pb future) ∙ p.is (pb ++ future) ∙ sym now);
     }
 
@@ -141,18 +141,18 @@ Breaks_at_read ra rb rc wa wb pa pb bytes la lb fault p read none unended nothin
     }
 
 -- nothing was read, and what was written is due whatever comes
-pub Done_unread : {M : Type 0} (r wa wb : Option (List ℕ)) (pending : List ℕ) (transcript : Transcript M) (due : List ℕ → Transcript M) → ((bytes : List ℕ) → due bytes ≡ transcript) → Appends wa wb transcript.text → IsDone r r wa wb pending due transcript.machine
+pub Done_unread : {M : Type 0} (r wa wb : Option (List ℕ)) (pending : List ℕ) (transcript : Transcript M) (due : List ℕ → Transcript M) → ((bytes : List ℕ) → due bytes ≡ transcript) → Appends wa wb transcript.text → IsDone r r wa wb pending due transcript.view
 Done_unread r wa wb pending transcript due same wrote = record {
   taken = [];
   consumes = Consumes-nil r;
   appends = subst (λ (t : Transcript _). Appends wa wb t.text) (sym (same (pending ++ []))) wrote;
-  left = sym (ap (λ (t : Transcript _). t.machine) (same (pending ++ [])));
+  left = sym (ap (λ (t : Transcript _). t.view) (same (pending ++ [])));
   stops = inr (λ future. same (pending ++ [] ++ future) ∙ sym (same (pending ++ [])));
 }
 
-abbrev pub Done_then : {M : Type 0} (ra rb rc wa wb wc : Option (List ℕ)) (pa pb : List ℕ) (la lb : List ℕ → Transcript M) (machine : Option M)
-    → Advance ra rb wa wb pa pb la lb → IsDone rb rc wb wc pb lb machine → IsDone ra rc wa wc pa la machine
-Done_then ra rb rc wa wb wc pa pb la lb machine p q =
+abbrev pub Done_then : {M : Type 0} (ra rb rc wa wb wc : Option (List ℕ)) (pa pb : List ℕ) (la lb : List ℕ → Transcript M) (view : Option M)
+    → Advance ra rb wa wb pa pb la lb → IsDone rb rc wb wc pb lb view → IsDone ra rc wa wc pa la view
+Done_then ra rb rc wa wb wc pa pb la lb view p q =
     let all : (future : List ℕ) → la ((pa ++ (p.taken ++ q.taken)) ++ future) ≡ after_text p.text (lb ((pb ++ q.taken) ++ future)) =
     λ future. ap la (ap (λ l. l ++ future) (sym (append_assoc pa p.taken q.taken) ∙ ap (λ l. l ++ q.taken) p.bytes ∙ append_assoc p.handled pb q.taken)
     ∙ append_assoc p.handled (pb ++ q.taken) future) ∙ p.is ((pb ++ q.taken) ++ future) in
@@ -162,7 +162,7 @@ Done_then ra rb rc wa wb wc pa pb la lb machine p q =
       taken = p.taken ++ q.taken;
       consumes = Consumes-trans _ _ _ _ _ p.consumes q.consumes;
       appends = subst (λ (t : Transcript _). Appends wa wc t.text) (sym now) (Appends-trans _ _ _ _ _ p.appends q.appends);
-      left = q.left ∙ sym (ap (λ (t : Transcript _). t.machine) now);
+      left = q.left ∙ sym (ap (λ (t : Transcript _). t.view) now);
       stops = elim q.stops [ inl end ↦ inl end | inr same ↦ inr (λ future. all future ∙ ap (λ l. after_text p.text l) (same future) ∙ sym now) ];
     }
 

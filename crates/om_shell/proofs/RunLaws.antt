@@ -4,7 +4,7 @@ use Rattle.std.specs.Io.KnownBytes.{Appends, Consumes, IsAtEnd}
 use Rattle.std.proofs.KnownBytes.{Appends-nil, Consumes-trans}
 use Rattle.om_code.specs.declared.raw.Raw.{Raw}
 use Rattle.om_lexer.specs.declared.fault.SourceFault.{SourceFault}
-use Rattle.om_undo.specs.Machines.{MachineView}
+use Rattle.om_view.specs.declared.debugger.Debugger.{Debugger}
 use Rattle.om_shell.specs.declared.fault.ShellFault.{ShellFault}
 use Rattle.om_shell.specs.declared.fault.ShellFault.TheVariants.{Read, Memory}
 use Rattle.om_shell.specs.Ends.{RunsToEnd, BreaksOffRun, WritesScript}
@@ -37,11 +37,11 @@ marked_source pending source more at after p e =
     ap (λ l. source_in (parts_of l)) (ap (λ l. l ++ more) (sym (take-append-drop after pending)) ∙ append_assoc (take after pending) (drop after pending) more)
     ∙ p.source (drop after pending ++ more) ∙ sym e
 
-pub Runs_marked : (ra rb rc w wc : Option (List ℕ)) (pending source rest : List ℕ) (at after workers status : ℕ) (machine : Option MachineView) → Consumes ra rb pending → IsMarked pending at after
-    → source ≡ take at pending → rest ≡ drop after pending → Serves rb rc w wc rest workers source status machine → RunsToEnd ra rc w wc workers None status machine
-Runs_marked ra rb rc w wc pending source rest at after workers status machine read p e d q =
+pub Runs_marked : (ra rb rc w wc : Option (List ℕ)) (pending source rest : List ℕ) (at after workers status : ℕ) (view : Option Debugger) → Consumes ra rb pending → IsMarked pending at after
+    → source ≡ take at pending → rest ≡ drop after pending → Serves rb rc w wc rest workers source status view → RunsToEnd ra rc w wc workers None status view
+Runs_marked ra rb rc w wc pending source rest at after workers status view read p e d q =
     let verdict = q.verdict in
-    let done = Done_then ra rb rc w w wc [] rest (script_by verdict workers None) (due_for verdict workers source) machine (Marked_advance ra rb w pending source rest at after workers verdict read p e d) q.done in
+    let done = Done_then ra rb rc w w wc [] rest (script_by verdict workers None) (due_for verdict workers source) view (Marked_advance ra rb w pending source rest at after workers verdict read p e d) q.done in
     let same = marked_source pending source q.done.taken at after p e in
     record {
       taken = pending ++ q.done.taken;
@@ -49,7 +49,7 @@ Runs_marked ra rb rc w wc pending source rest at after workers status machine re
       judged = subst (λ l. IsVerdict l verdict) (sym same) q.judged;
       consumes = done.consumes;
       appends = done.appends;
-      machine_is = done.left;
+      view_is = done.left;
       status_is = q.status_is;
       stops = elim done.stops [
         | inl end ↦ inl end
@@ -60,9 +60,9 @@ Runs_marked ra rb rc w wc pending source rest at after workers status machine re
       ];
     }
 
-pub Runs_unmarked : (ra rb wa wb : Option (List ℕ)) (pending source : List ℕ) (at workers status : ℕ) (machine : Option MachineView) → Consumes ra rb pending → IsAtEnd rb → IsUnmarked pending at
-    → source ≡ take at pending → ServesAlone wa wb workers source status machine → RunsToEnd ra rb wa wb workers None status machine
-Runs_unmarked ra rb wa wb pending source at workers status machine read end p e q =
+pub Runs_unmarked : (ra rb wa wb : Option (List ℕ)) (pending source : List ℕ) (at workers status : ℕ) (view : Option Debugger) → Consumes ra rb pending → IsAtEnd rb → IsUnmarked pending at
+    → source ≡ take at pending → ServesAlone wa wb workers source status view → RunsToEnd ra rb wa wb workers None status view
+Runs_unmarked ra rb wa wb pending source at workers status view read end p e q =
     let verdict = q.verdict in
     let same : source_in (parts_of pending) ≡ source = p.source ∙ sym e in
     let all : script_by verdict workers None pending ≡ transcript_of verdict workers source [] =
@@ -72,21 +72,21 @@ Runs_unmarked ra rb wa wb pending source at workers status machine read end p e 
       verdict = verdict;
       judged = subst (λ l. IsVerdict l verdict) (sym same) q.judged;
       consumes = read;
-      appends = subst (λ (t : Transcript MachineView). Appends wa wb t.text) (sym all) q.appends;
-      machine_is = q.machine_is ∙ sym (ap (λ (t : Transcript MachineView). t.machine) all);
+      appends = subst (λ (t : Transcript Debugger). Appends wa wb t.text) (sym all) q.appends;
+      view_is = q.view_is ∙ sym (ap (λ (t : Transcript Debugger). t.view) all);
       status_is = q.status_is;
       stops = inl end;
     }
 
-pub Runs_given : (ra rb wa wb : Option (List ℕ)) (source : List ℕ) (workers status : ℕ) (machine : Option MachineView) → Serves ra rb wa wb [] workers source status machine
-    → RunsToEnd ra rb wa wb workers (Some source) status machine
-Runs_given ra rb wa wb source workers status machine q = record {
+pub Runs_given : (ra rb wa wb : Option (List ℕ)) (source : List ℕ) (workers status : ℕ) (view : Option Debugger) → Serves ra rb wa wb [] workers source status view
+    → RunsToEnd ra rb wa wb workers (Some source) status view
+Runs_given ra rb wa wb source workers status view q = record {
   taken = q.done.taken;
   verdict = q.verdict;
   judged = q.judged;
   consumes = q.done.consumes;
   appends = q.done.appends;
-  machine_is = q.done.left;
+  view_is = q.done.left;
   status_is = q.status_is;
   stops = elim q.done.stops [ inl end ↦ inl end | inr settled ↦ inr (record { source = λ future. refl; script = settled }) ];
 }
@@ -149,7 +149,7 @@ alone ra rb wa wb pending source at workers fault read p e other (inr q) =
       begins = inr (record {
         verdict = q.verdict;
         judged = subst (λ l. IsVerdict l q.verdict) (sym same) q.judged;
-        begins = record { rest = q.part.begins.rest; is = ap (λ (t : Transcript MachineView). t.text) all ∙ q.part.begins.is };
+        begins = record { rest = q.part.begins.rest; is = ap (λ (t : Transcript Debugger). t.text) all ∙ q.part.begins.is };
       });
       answered = λ is_read. absurd (other is_read);
     }
@@ -172,11 +172,11 @@ whole_of wa wb workers given input taken rest verdict e judged wrote same_source
 }
 
 -- what was written is the script of all that the reader had
-pub Runs_whole : (ra rb wa wb : Option (List ℕ)) (workers : ℕ) (given : Option (List ℕ)) (status : ℕ) (machine : Option MachineView) → RunsToEnd ra rb wa wb workers given status machine
+pub Runs_whole : (ra rb wa wb : Option (List ℕ)) (workers : ℕ) (given : Option (List ℕ)) (status : ℕ) (view : Option Debugger) → RunsToEnd ra rb wa wb workers given status view
     → IfSome ra (λ input. WritesScript wa wb workers given input)
-Runs_whole None rb wa wb workers given status machine p = tt
-Runs_whole (Some input) None wa wb workers given status machine p = absurd p.consumes
-Runs_whole (Some input) (Some rest) wa wb workers given status machine p =
+Runs_whole None rb wa wb workers given status view p = tt
+Runs_whole (Some input) None wa wb workers given status view p = absurd p.consumes
+Runs_whole (Some input) (Some rest) wa wb workers given status view p =
     elim p.stops [
       | inl end ↦ whole_of wa wb workers given input p.taken rest p.verdict p.consumes p.judged p.appends
           (ap (λ l. source_of given (p.taken ++ l)) end ∙ ap (source_of given) (append-nil p.taken)) (ap (λ l. script_by p.verdict workers given (p.taken ++ l)) end ∙ ap (script_by p.verdict workers given) (append-nil p.taken))

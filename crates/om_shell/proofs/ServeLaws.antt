@@ -6,13 +6,13 @@ use Rattle.om_code.specs.declared.raw.Raw.{Raw}
 use Rattle.om_lexer.specs.declared.fault.FaultCode.TheVariants.{Memory}
 use Rattle.om_lexer.specs.declared.fault.SourceFault.{SourceFault}
 use Rattle.om_lexer.specs.Faults.{no_memory}
-use Rattle.om_undo.specs.Machines.{MachineView}
+use Rattle.om_view.specs.declared.debugger.Debugger.{Debugger}
 use Rattle.om_shell.specs.declared.fault.ShellFault.{ShellFault}
 use Rattle.om_shell.specs.declared.fault.ShellFault.TheVariants.{Read}
 use Rattle.om_shell.specs.Places.{refusal_text}
 use Rattle.om_shell.specs.Progress.{AppendsPart, BreaksOff, IsDone}
-use Rattle.om_shell.specs.Replies.{due}
-use Rattle.om_shell.specs.Script.{started}
+use Rattle.om_shell.specs.Sessions.{due}
+use Rattle.om_view.specs.Views.{opened}
 use Rattle.om_shell.specs.Verdict.{IsProgramOf, IsRefused}
 use Rattle.om_shell.specs.Serving.{due_for, Serves, ServesPart, IsUntouched, ServesAlone, BreaksOffAlone}
 use Rattle.om_shell.proofs.Advances.{Advance_none, Breaks_after, Done_unread}
@@ -27,7 +27,7 @@ Serves_refused r wa wb pending workers source fault refused wrote = record {
   verdict = Err fault;
   judged = refused;
   status_is = refl;
-  done = Done_unread r wa wb pending (record { text = refusal_text source fault; machine = None }) (due_for (Err fault) workers source) (λ bytes. refl) wrote;
+  done = Done_unread r wa wb pending (record { text = refusal_text source fault; view = None }) (due_for (Err fault) workers source) (λ bytes. refl) wrote;
 }
 
 pub ServesPart_refused : (r wa wb : Option (List ℕ)) (pending : List ℕ) (workers : ℕ) (source : List ℕ) (fault : SourceFault) (e : ShellFault) → IsRefused source fault
@@ -39,12 +39,12 @@ ServesPart_refused r wa wb pending workers source fault e refused other part = r
       (Advance_none r wa pending (due_for (Err fault) workers source)) (Consumes-nil r) part.appends part.begins other;
 }
 
-pub Serves_accepted : (ra rb wa wb : Option (List ℕ)) (pending : List ℕ) (workers : ℕ) (source : List ℕ) (program : Raw) (status : ℕ) (machine : Option MachineView) → IsProgramOf source program
-    → status ≡ 0 → IsDone ra rb wa wb pending (due (started program workers)) machine → Serves ra rb wa wb pending workers source status machine
-Serves_accepted ra rb wa wb pending workers source program status machine accepted e done = record { verdict = Ok program; judged = accepted; status_is = e; done = done }
+pub Serves_accepted : (ra rb wa wb : Option (List ℕ)) (pending : List ℕ) (workers : ℕ) (source : List ℕ) (program : Raw) (status : ℕ) (view : Option Debugger) → IsProgramOf source program
+    → status ≡ 0 → IsDone ra rb wa wb pending (due (opened program workers)) view → Serves ra rb wa wb pending workers source status view
+Serves_accepted ra rb wa wb pending workers source program status view accepted e done = record { verdict = Ok program; judged = accepted; status_is = e; done = done }
 
 pub ServesPart_accepted : (ra rb wa wb : Option (List ℕ)) (pending : List ℕ) (workers : ℕ) (source : List ℕ) (program : Raw) (fault : ShellFault) → IsProgramOf source program
-    → BreaksOff ra rb wa wb pending (due (started program workers)) fault → ServesPart ra rb wa wb pending workers source fault
+    → BreaksOff ra rb wa wb pending (due (opened program workers)) fault → ServesPart ra rb wa wb pending workers source fault
 ServesPart_accepted ra rb wa wb pending workers source program fault accepted part = record { verdict = Ok program; judged = accepted; part = part }
 
 pub untouched : (r w : Option (List ℕ)) (fault : ShellFault) → fault ≢ Read → IsUntouched r r w w fault
@@ -52,7 +52,7 @@ untouched r w fault other = record { consumes = Consumes-nil r; appends = Append
 
 pub ServesAlone_refused : (wa wb : Option (List ℕ)) (workers : ℕ) (source : List ℕ) (fault : SourceFault) → IsRefused source fault
     → Appends wa wb (refusal_text source fault) → ServesAlone wa wb workers source 1 None
-ServesAlone_refused wa wb workers source fault refused wrote = record { verdict = Err fault; judged = refused; status_is = refl; appends = wrote; machine_is = refl }
+ServesAlone_refused wa wb workers source fault refused wrote = record { verdict = Err fault; judged = refused; status_is = refl; appends = wrote; view_is = refl }
 
 pub BreaksOffAlone_refused : (wa wb : Option (List ℕ)) (workers : ℕ) (source : List ℕ) (fault : SourceFault) (e : ShellFault) → IsRefused source fault
     → e ≢ Read → AppendsPart wa wb (refusal_text source fault) → BreaksOffAlone wa wb workers source e

@@ -3,7 +3,7 @@ use Rattle.std.specs.Prelude.{◌≡◌, ◌⊎◌, ℕ, false, List, [], ◌++�
 use Rattle.std.specs.Io.KnownBytes.{Consumes, Appends, IsAtEnd}
 use Rattle.om_code.specs.declared.raw.Raw.{Raw}
 use Rattle.om_lexer.specs.declared.fault.SourceFault.{SourceFault}
-use Rattle.om_undo.specs.Machines.{MachineView}
+use Rattle.om_view.specs.declared.debugger.Debugger.{Debugger}
 use Rattle.om_shell.specs.declared.fault.ShellFault.{ShellFault}
 use Rattle.om_shell.specs.declared.fault.ShellFault.TheVariants.{Read}
 use Rattle.om_shell.specs.Lines.{parts_of, has_mark}
@@ -22,15 +22,15 @@ pub record IsSettled (verdict : Result Raw SourceFault) (workers : ℕ) (given :
   pub source : (future : List ℕ) → source_of given (taken ++ future) ≡ source_of given taken
   pub script : (future : List ℕ) → script_by verdict workers given (taken ++ future) ≡ script_by verdict workers given taken
 
--- A run that came to its end: it wrote the script of the bytes that it took and nothing else, and left its machine;
+-- A run that came to its end: it wrote the script of the bytes that it took and nothing else, and left its view;
 -- and the input has ended, or nothing that could follow changes the script.
-pub record RunsToEnd (left_before left_after held_before held_after : Option (List ℕ)) (workers : ℕ) (given : Option (List ℕ)) (status : ℕ) (machine : Option MachineView) : Type 0 where
+pub record RunsToEnd (left_before left_after held_before held_after : Option (List ℕ)) (workers : ℕ) (given : Option (List ℕ)) (status : ℕ) (view : Option Debugger) : Type 0 where
   pub taken : List ℕ
   pub verdict : Result Raw SourceFault
   pub judged : IsVerdict (source_of given taken) verdict
   pub consumes : Consumes left_before left_after taken
   pub appends : Appends held_before held_after (script_by verdict workers given taken).text
-  pub machine_is : machine ≡ (script_by verdict workers given taken).machine
+  pub view_is : view ≡ (script_by verdict workers given taken).view
   pub status_is : status ≡ status_of verdict
   pub stops : IsAtEnd left_after ⊎ IsSettled verdict workers given taken
 
@@ -63,6 +63,6 @@ pub record BreaksOffRun (left_before left_after held_before held_after : Option 
 
 -- what was written is a script of the whole input
 pub record WritesScript (held_before held_after : Option (List ℕ)) (workers : ℕ) (given : Option (List ℕ)) (input : List ℕ) : Type 0 where
-  pub script : Transcript MachineView
+  pub script : Transcript Debugger
   pub is_script : IsScript workers given input script
   pub appends : Appends held_before held_after script.text

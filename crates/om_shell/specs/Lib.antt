@@ -3,9 +3,7 @@ pub mod Transcript
 pub mod Progress
 pub mod Batch
 pub mod Source
-pub mod Commands
-pub mod Objects
-pub mod Replies
+pub mod Sessions
 pub mod Places
 pub mod Verdict
 pub mod Script

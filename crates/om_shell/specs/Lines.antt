@@ -1,5 +1,5 @@
 -- How the bytes that are read fall into a source and lines, and a line into words.
-use Rattle.std.specs.Prelude.{◌≡◌, ℕ, Bool, true, false, not, List, [], ◌∷◌, ◌++◌, ◌==◌, if◌then◌else◌, codes, length, filter}
+use Rattle.std.specs.Prelude.{◌≡◌, ℕ, Bool, true, false, List, [], ◌∷◌, ◌++◌, ◌==◌, if◌then◌else◌, codes, length}
 use Rattle.std.specs.List.{slice_split, position_or_len}
 use Rattle.std.specs.Str.{bytes_eq}
 use Rattle.std.specs.Str.Lines.{strip_carriage_return, lines_of_parts}
@@ -33,7 +33,3 @@ abbrev pub has_mark : List (List ℕ) → Bool
 has_mark [] = false
 has_mark (part ∷ []) = false
 has_mark (part ∷ (next ∷ more)) = if is_mark (strip_carriage_return part) then true else has_mark (next ∷ more)
-
--- the words of a line, which spaces part
-abbrev pub words_of : List ℕ → List (List ℕ)
-words_of line = filter (λ word. not (length word == 0)) (slice_split (λ byte. byte == 32) line)

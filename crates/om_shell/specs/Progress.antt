@@ -58,11 +58,11 @@ pub record BreaksOff {M : Type 0} (left_before left_after held_before held_after
   pub begins : IsBeginning text (due (pending ++ taken)).text
   pub answered : fault ≡ Read → AnswersWholeLines (pending ++ taken) text due
 
--- What was written, and the machine, are those that are due for the bytes that were pending or taken; and the input
+-- What was written, and the view, are those that are due for the bytes that were pending or taken; and the input
 -- has ended, or nothing that follows could change what is due.
-pub record IsDone {M : Type 0} (left_before left_after held_before held_after : Option (List ℕ)) (pending : List ℕ) (due : List ℕ → Transcript M) (machine : Option M) : Type 0 where
+pub record IsDone {M : Type 0} (left_before left_after held_before held_after : Option (List ℕ)) (pending : List ℕ) (due : List ℕ → Transcript M) (view : Option M) : Type 0 where
   pub taken : List ℕ
   pub consumes : Consumes left_before left_after taken
   pub appends : Appends held_before held_after (due (pending ++ taken)).text
-  pub left : machine ≡ (due (pending ++ taken)).machine
+  pub left : view ≡ (due (pending ++ taken)).view
   pub stops : IsAtEnd left_after ⊎ ((future : List ℕ) → due (pending ++ taken ++ future) ≡ due (pending ++ taken))

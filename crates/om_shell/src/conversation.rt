@@ -1,9 +1,9 @@
 //! Lines of commands, each answered before anything more is read.
-ghost use Rattle.std.specs.Prelude.{◌≡◌, ◌<◌, ◌≤◌, ◌+◌, ◌*◌, ◌^◌, Some, false, drop, take, length, IfOk, IfErr, OnOk};
+ghost use Rattle.std.specs.Prelude.{◌≡◌, ◌≤◌, Some, false, drop, take, length, IfOk, IfErr, OnOk};
 ghost use Rattle.om_shell.specs.Lines.{HasNoLineEnd};
 ghost use Rattle.om_shell.specs.Progress.{BreaksOff, IsDone};
 ghost use Rattle.om_shell.specs.Batch.{Answers, AnswersPart};
-ghost use Rattle.om_shell.specs.Replies.{due, due_behind};
+ghost use Rattle.om_shell.specs.Sessions.{due, due_behind};
 
 use crate::fault::ShellFault;
 use crate::input::Input;
@@ -23,11 +23,9 @@ fn answer_lines<W: Write>(
 ) -> Result<(usize, bool), ShellFault>
     requires within { searched ≤ length bytes.now }
     requires known { HasNoLineEnd (take searched bytes.now) }
-    requires few_made { session.old.machine.history.made + length bytes.now < 2 ^ 63 }
-    ensures answered { IfOk result (λ r. Answers (W.contents writer.old) (W.contents writer.new) bytes.now r.0 (due session.old.machine) (due_behind r.1 session.new.machine)) }
+    ensures answered { IfOk result (λ r. Answers (W.contents writer.old) (W.contents writer.new) bytes.now r.0 (due session.old.debugger) (due_behind r.1 session.new.debugger)) }
     ensures left { IfOk result (λ r. r.1 ≡ false → HasNoLineEnd (drop r.0 bytes.now)) }
-    ensures made { IfOk result (λ r. session.new.machine.history.made ≤ session.old.machine.history.made + r.0) }
-    ensures begun_on_error { IfErr result (AnswersPart (W.contents writer.old) (W.contents writer.new) bytes.now (due session.old.machine)) }
+    ensures begun_on_error { IfErr result (AnswersPart (W.contents writer.old) (W.contents writer.new) bytes.now (due session.old.debugger)) }
 {
     let mut at = 0;
     'lines: while let Some(n) = line_end(&bytes[at..], searched) {
@@ -51,11 +49,10 @@ pub(crate) fn converse<R: Read, W: Write>(
     reader: &mut R,
     writer: &mut W,
 ) -> Result<(), ShellFault>
-    requires few_made { session.old.machine.history.made + length input.old.pending.items + 4096 * input.old.reads_left < 2 ^ 63 }
     ensures done { OnOk result (IsDone (R.remaining reader.old) (R.remaining reader.new) (W.contents writer.old) (W.contents writer.new)
-        input.old.pending.items (due session.old.machine) (Some session.new.machine)) }
+        input.old.pending.items (due session.old.debugger) (Some session.new.debugger)) }
     ensures broken_off { IfErr result (BreaksOff (R.remaining reader.old) (R.remaining reader.new) (W.contents writer.old) (W.contents writer.new)
-        input.old.pending.items (due session.old.machine)) }
+        input.old.pending.items (due session.old.debugger)) }
 {
     let mut searched = 0;
     'reads: loop {

@@ -1,7 +1,7 @@
 //! How a run ended.
 ghost use Rattle.std.specs.Prelude.{◌≡◌, None, Some};
 
-use om_undo::Machine;
+use om_view::Debugger;
 
 // The exit status after an accepted source, and after a refused one.
 const ACCEPTED: u8 = 0;
@@ -13,30 +13,30 @@ const REFUSED: u8 = 1;
 pub struct Ended {
     /// The exit status: 0, or 1 where the source was refused.
     pub status: u8,
-    /// The machine as the commands left it; `None` where the source was refused.
-    pub machine: Option<Machine>,
+    /// The debugger as the commands left it; `None` where the source was refused.
+    pub debugger: Option<Debugger>,
 }
 
 impl Ended {
     /// The end of a run of an accepted source.
-    pub(crate) fn accepted(machine: Machine) -> Ended
+    pub(crate) fn accepted(debugger: Debugger) -> Ended
         ensures status { result.status ≡ 0 }
-        ensures machine { result.machine ≡ Some machine }
+        ensures debugger { result.debugger ≡ Some debugger }
     {
         Ended {
             status: ACCEPTED,
-            machine: Some(machine),
+            debugger: Some(debugger),
         }
     }
 
     /// The end of a run of a refused source.
     pub(crate) fn refused() -> Ended
         ensures status { result.status ≡ 1 }
-        ensures machine { result.machine ≡ None }
+        ensures debugger { result.debugger ≡ None }
     {
         Ended {
             status: REFUSED,
-            machine: None,
+            debugger: None,
         }
     }
 }

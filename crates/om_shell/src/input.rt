@@ -50,7 +50,6 @@ impl Input {
         ensures ended { IfOk result (λ more. more ≡ false → IsAtEnd (R.remaining reader.new) × (self.new.pending.items ≡ self.old.pending.items)) }
         ensures failed { IfErr result (ReadFails (R.remaining reader.old) (R.remaining reader.new)) }
         ensures fewer_left { OnOk result (self.new.reads_left < self.old.reads_left) }
-        ensures room { OnOk result (length self.new.pending.items + CHUNK * self.new.reads_left ≤ length self.old.pending.items + CHUNK * self.old.reads_left) }
     {
         if self.reads_left == 0 {
             return Err(ShellFault::Read);

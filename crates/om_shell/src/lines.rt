@@ -1,10 +1,8 @@
 //! Lines of bytes, and the words of a line.
-ghost use Rattle.std.specs.Prelude.{◌≡◌, ◌==◌, ◌≤◌, take, length, map, IfOk, IfSome, IsNone, ◌<◌};
+ghost use Rattle.std.specs.Prelude.{◌≡◌, ◌==◌, ◌≤◌, take, length, IfSome, ◌<◌};
 ghost use Rattle.std.specs.List.{position};
 ghost use Rattle.std.specs.Str.Lines.{strip_carriage_return};
-ghost use Rattle.om_shell.specs.Lines.{words_of, HasNoLineEnd};
-
-use std::alloc::{AllocError, Global};
+ghost use Rattle.om_shell.specs.Lines.{HasNoLineEnd};
 
 // Where the first line feed stands.
 fn first_line_end(bytes: &[u8]) -> Option<usize>
@@ -32,13 +30,4 @@ pub(crate) fn without_carriage_return(line: &[u8]) -> &[u8]
         [front @ .., b'\r'] => front,
         _ => line,
     }
-}
-
-/// The words of a line, which spaces part.
-pub(crate) fn words(alloc: Global, line: &[u8]) -> Result<Vec<&[u8]>, AllocError>
-    ensures { IfOk result (λ words. map (λ word. word.now) words.items ≡ words_of line.now) }
-{
-    line.split(|byte| *byte == b' ')
-        .filter(|word| !word.is_empty())
-        .collect(alloc)
 }

@@ -4,8 +4,8 @@ ghost use Rattle.std.specs.Io.KnownBytes.{Appends};
 ghost use Rattle.om_lexer.specs.declared.fault.FaultCode.TheVariants.{Memory};
 ghost use Rattle.om_shell.specs.Places.{refusal_text};
 ghost use Rattle.om_shell.specs.Progress.{AppendsPart, BreaksOff, IsDone};
-ghost use Rattle.om_shell.specs.Replies.{due};
-ghost use Rattle.om_shell.specs.Script.{started};
+ghost use Rattle.om_shell.specs.Sessions.{due};
+ghost use Rattle.om_view.specs.Views.{opened};
 ghost use Rattle.om_shell.specs.Serving.{Serves, BreaksOffServing, ServesAlone, BreaksOffAlone};
 
 use crate::conversation::converse;
@@ -47,16 +47,15 @@ fn answer_commands<R: Read, W: Write>(
 ) -> Result<Ended, ShellFault>
     requires at_least_one { 0 < workers }
     requires at_most_32 { workers ≤ 32 }
-    requires few { length input.old.pending.items + 4096 * input.old.reads_left < 2 ^ 63 }
     ensures status { IfOk result (λ ended. ended.status ≡ 0) }
     ensures done { IfOk result (λ ended. IsDone (R.remaining reader.old) (R.remaining reader.new) (W.contents writer.old) (W.contents writer.new)
-        input.old.pending.items (due (started program workers)) ended.machine) }
+        input.old.pending.items (due (opened program workers)) ended.debugger) }
     ensures broken_off { IfErr result (BreaksOff (R.remaining reader.old) (R.remaining reader.new) (W.contents writer.old) (W.contents writer.new)
-        input.old.pending.items (due (started program workers))) }
+        input.old.pending.items (due (opened program workers))) }
 {
     let mut session = Session::new(alloc, program, workers).map_err(|_| ShellFault::Memory)?;
     converse(alloc, &mut session, input, reader, writer)?;
-    Ok(Ended::accepted(session.into_machine()))
+    Ok(Ended::accepted(session.into_debugger()))
 }
 
 /// Serves a source and the commands behind it.
@@ -72,9 +71,8 @@ pub(crate) fn serve<R: Read, W: Write>(
 ) -> Result<Ended, ShellFault>
     requires at_least_one { 0 < workers }
     requires at_most_32 { workers ≤ 32 }
-    requires few { length input.old.pending.items + 4096 * input.old.reads_left < 2 ^ 63 }
     ensures served { IfOk result (λ ended. Serves (R.remaining reader.old) (R.remaining reader.new) (W.contents writer.old) (W.contents writer.new)
-        input.old.pending.items workers source.now ended.status ended.machine) }
+        input.old.pending.items workers source.now ended.status ended.debugger) }
     ensures broken_off { IfErr result (BreaksOffServing (R.remaining reader.old) (R.remaining reader.new) (W.contents writer.old) (W.contents writer.new)
         input.old.pending.items workers source.now) }
 {
@@ -99,13 +97,13 @@ pub(crate) fn serve_alone<W: Write>(
 ) -> Result<Ended, ShellFault>
     requires at_least_one { 0 < workers }
     requires at_most_32 { workers ≤ 32 }
-    ensures served { IfOk result (λ ended. ServesAlone (W.contents writer.old) (W.contents writer.new) workers source.now ended.status ended.machine) }
+    ensures served { IfOk result (λ ended. ServesAlone (W.contents writer.old) (W.contents writer.new) workers source.now ended.status ended.debugger) }
     ensures broken_off { IfErr result (BreaksOffAlone (W.contents writer.old) (W.contents writer.new) workers source.now) }
 {
     match program_of(alloc, source) {
         Ok(program) => {
             let session = Session::new(alloc, program, workers).map_err(|_| ShellFault::Memory)?;
-            Ok(Ended::accepted(session.into_machine()))
+            Ok(Ended::accepted(session.into_debugger()))
         }
         Err(fault) => {
             if fault.code == FaultCode::Memory {

@@ -1,7 +1,6 @@
 //! A run: a source, and then commands, each answered before more is read.
 ghost use Rattle.std.specs.Prelude.{◌≡◌, ◌<◌, ◌≤◌, None, take, length, IfOk, IfErr, OnOk, IfSome, option_copied};
 ghost use Rattle.std.specs.Io.KnownBytes.{Appends};
-ghost use Rattle.om_undo.specs.Machines.{MachineView};
 ghost use Rattle.om_shell.specs.Ends.{RunsToEnd, BreaksOffRun, WritesScript};
 
 use crate::ended::Ended;
@@ -32,7 +31,7 @@ fn run_from_input<R: Read, W: Write>(
     requires at_least_one { 0 < workers }
     requires at_most_32 { workers ≤ 32 }
     ensures to_end { IfOk result (λ ended. RunsToEnd (R.remaining reader.old) (R.remaining reader.new) (W.contents writer.old) (W.contents writer.new)
-        workers None ended.status ended.machine) }
+        workers None ended.status ended.debugger) }
     ensures broken_off { IfErr result (BreaksOffRun (R.remaining reader.old) (R.remaining reader.new) (W.contents writer.old) (W.contents writer.new)
         workers None) }
 {
@@ -58,7 +57,7 @@ fn run_by<R: Read, W: Write>(
     requires at_least_one { 0 < workers }
     requires at_most_32 { workers ≤ 32 }
     ensures to_end { IfOk result (λ ended. RunsToEnd (R.remaining reader.old) (R.remaining reader.new) (W.contents writer.old) (W.contents writer.new)
-        workers (option_copied source.entry) ended.status ended.machine) }
+        workers (option_copied source.entry) ended.status ended.debugger) }
     ensures broken_off { IfErr result (BreaksOffRun (R.remaining reader.old) (R.remaining reader.new) (W.contents writer.old) (W.contents writer.new)
         workers (option_copied source.entry)) }
 {
@@ -94,7 +93,7 @@ pub fn run<R: Read, W: Write>(
 
     // What was written is the script of the bytes that were taken, and nothing further could change it.
     ensures runs_to_end { IfOk result (λ ended. RunsToEnd (R.remaining reader.old) (R.remaining reader.new) (W.contents writer.old) (W.contents writer.new)
-        options.entry.workers (option_copied options.entry.source) ended.status ended.machine) }
+        options.entry.workers (option_copied options.entry.source) ended.status ended.debugger) }
 
     // So it is the script of all that the reader had.
     ensures writes_the_script { OnOk result (IfSome (R.remaining reader.old) (λ input.

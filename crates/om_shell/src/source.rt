@@ -59,7 +59,6 @@ pub(crate) fn read_source<R: Read>(
     ensures marked { IfOk result (λ r. IfSome r.1 (λ after. IsMarked input.new.pending.items r.0 after)) }
     ensures unmarked { IfOk result (λ r. IsNone r.1 → IsUnmarked input.new.pending.items r.0) }
     ensures ended { IfOk result (λ r. IsNone r.1 → IsAtEnd (R.remaining reader.new)) }
-    ensures room { OnOk result (length input.new.pending.items + 4096 * input.new.reads_left ≤ 4096 * input.old.reads_left) }
     ensures failed { IfErr result (ReadsNoMark (R.remaining reader.old) (R.remaining reader.new)) }
 {
     let mut at = 0;

@@ -78,7 +78,7 @@ fn run_over(
         writes_left,
     };
     let ended = run(alloc, &mut reader, &mut writer, Options { workers, source });
-    let has_machine = ended.as_ref().is_ok_and(|ended| ended.machine.is_some());
+    let has_machine = ended.as_ref().is_ok_and(|ended| ended.debugger.is_some());
     Told {
         status: ended.map(|ended| ended.status),
         has_machine,

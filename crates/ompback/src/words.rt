@@ -18,10 +18,23 @@ const ABOUT: &str = "Steps an OpenMP program in C forwards and backwards, one wo
 const COMMANDS: &str =
     "Without FILE, standard input holds the source up to a line `%%`, and then commands.
 With FILE, standard input holds commands alone. Each is a line:
-  step W      worker W takes its next step
-  undo W      takes back the last step of worker W, where no later step conflicts with it
-  print VAR   the value of a global variable
-  quit        ends the session
+  step W        worker W takes its next step
+  start W NAME  worker W begins the ready task of this name, as 0.1.0.1
+  undo W        takes back the last step of worker W, where no later step conflicts with it
+  next W        worker W steps until its line changes
+  back W        takes back steps of worker W until its line changes
+  roll S        takes back step S, with all that depends on it
+  run K         at most K steps, each by the lowest worker that has a move
+  break L       `run` stops where a worker comes to line L
+  watch VAR     `run` stops where the value of a global variable changes
+  delete L      takes `break L` back
+  print VAR     the value of a global variable, as x or a[3]
+  where W       what worker W is doing
+  history       the steps that stand
+  events W      the event records of worker W
+  output        what the program printed
+  tasks         the tasks that are ready
+  quit          ends the session
 
 Exit status:
   0  at `quit` or the end of the commands

@@ -52,6 +52,12 @@ fn push_parts<'a>(
         ResolvedStatement::Construct(_, _, _, body) => Ok(waiting.push(body)?),
         ResolvedStatement::Block(_, items) => push_all(waiting, items.as_slice()),
         ResolvedStatement::If(_, _, then) => Ok(waiting.push(then)?),
+        ResolvedStatement::Sections(_, _, _, parts) => {
+            for part in parts.iter().rev() {
+                push_all(waiting, part.items.as_slice())?;
+            }
+            Ok(())
+        }
         _ => Ok(()),
     }
 }

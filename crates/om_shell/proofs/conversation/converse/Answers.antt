@@ -1,4 +1,4 @@
-use Rattle.std.proofs.Common.{arith, ◌++◌, [], length, drop, refl, sym, ap, subst, ◌∙◌, length-drop, Some}
+use Rattle.std.proofs.Common.{arith, ◌++◌, [], length, drop, refl, sym, ap, subst, ◌∙◌, Some}
 use Rattle.std.proofs.lemmas.Result.{err_from_is_err_and}
 use Rattle.std.proofs.KnownBytes.{Consumes-nil}
 use Rattle.om_shell.specs.Lines.{HasNoLineEnd}
@@ -8,10 +8,10 @@ use Rattle.om_shell.proofs.SessionLaws.{last_line, last_begins}
 use Rattle.om_shell.proofs.conversation.converse.Goals as goal
 
 pub reads-init : goal.reads-init
-reads-init g c = record { advance = Advance_none _ _ _ _; within = omega arith; known = refl; few_made = c.requires.few_made }
+reads-init g c = record { advance = Advance_none _ _ _ _; within = omega arith; known = refl }
 
 pub answer_lines-requires : goal.answer_lines-requires
-answer_lines-requires g c = rw c.deref.ensures.value (record { within = c.reads.invariant.within; known = c.reads.invariant.known; few_made = omega arith })
+answer_lines-requires g c = rw c.deref.ensures.value (record { within = c.reads.invariant.within; known = c.reads.invariant.known })
 
 pub returns-in_err-used-clause-broken_off : goal.returns-in_err-used-clause-broken_off
 returns-in_err-used-clause-broken_off g c =
@@ -36,7 +36,6 @@ reads-preserved g c =
           (Advance_trans _ _ _ _ _ _ _ _ _ _ _ _ (Advance_answers _ _ _ _ _ _ _ _ batch c.discard.ensures.pending) (Advance_read _ _ _ _ _ read.0 _ read.1 read.2));
       within = known.0;
       known = known.1;
-      few_made = omega (arith, c.reads.invariant.few_made, c.in_ok-used.ensures.made, batch.within, ap length c.discard.ensures.pending, length-drop c.in_ok-used.used before, c.in_ok-read_more.ensures.room, c.discard.ensures.reads);
     }
 
 pub returns-in_err-read_more-clause-broken_off : goal.returns-in_err-read_more-clause-broken_off
@@ -48,11 +47,6 @@ returns-in_err-read_more-clause-broken_off g c =
     rw (p.1, p.2) (Breaks_at_read _ _ _ _ _ _ _ fails.bytes _ _ _
     (Advance_trans _ _ _ _ _ _ _ _ _ _ _ _ c.reads.invariant.advance (Advance_answers _ _ _ _ _ _ _ _ batch c.discard.ensures.pending))
     fails.consumes fails.none (subst HasNoLineEnd (sym c.discard.ensures.pending) left) refl)
-
-pub answer-requires : goal.answer-requires
-answer-requires g c =
-    let batch = rw (c.if-quits.false, c.deref.ensures.value) at c.in_ok-used.ensures.answered in
-    record { few_made = omega (arith, c.reads.invariant.few_made, c.in_ok-used.ensures.made, batch.within) }
 
 pub returns-in_err-answer-clause-broken_off : goal.returns-in_err-answer-clause-broken_off
 returns-in_err-answer-clause-broken_off g c =
@@ -74,8 +68,8 @@ returns-then-not-branch-clause-done g c =
     let so_far = Advance_trans _ _ _ _ _ _ _ _ _ _ _ _ c.reads.invariant.advance
     (Advance_trans _ _ _ _ _ _ _ _ _ _ _ _ (Advance_answers _ _ _ _ _ _ _ _ batch c.discard.ensures.pending) (Advance_read _ _ _ _ _ read.0 _ read.1 read.2)) in
     let text = rw c.deref-then-not-branch.ensures.value at c.in_ok-answer.ensures.text in
-    let machine = rw c.deref-then-not-branch.ensures.value at c.in_ok-answer.ensures.machine in
+    let view = rw c.deref-then-not-branch.ensures.value at c.in_ok-answer.ensures.view in
     let left = rw c.deref.ensures.value at (c.in_ok-used.ensures.left c.if-quits.false) in
     let kept = (c.in_ok-read_more.ensures.ended c.if-not-branch.true).1 ∙ c.discard.ensures.pending in
     let last = last_line _ _ (subst HasNoLineEnd (sym kept) left) in
-    Done_at_end _ _ _ _ _ _ _ _ _ _ _ so_far (c.in_ok-read_more.ensures.ended c.if-not-branch.true).0 last text (ap Some machine)
+    Done_at_end _ _ _ _ _ _ _ _ _ _ _ so_far (c.in_ok-read_more.ensures.ended c.if-not-branch.true).0 last text (ap Some view)

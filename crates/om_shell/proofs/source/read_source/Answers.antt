@@ -21,7 +21,6 @@ reads-preserved g c =
       scanned = subst (λ l. Scanned l c.scan-line.result.0) (sym read.2) (Scanned_longer _ _ _ scanned);
       within = known.0;
       known = known.1;
-      room = omega (arith, c.in_ok-read_more.ensures.room);
     }
 
 pub returns-in_err-read_more-clause-failed : goal.returns-in_err-read_more-clause-failed

@@ -10,7 +10,6 @@ invariant-reads g l = record {
   scanned : Scanned l.input.pending.items l.at;
   within : l.searched ≤ length (drop l.at l.input.pending.items);
   known : HasNoLineEnd (take l.searched (drop l.at l.input.pending.items));
-  room : length l.input.pending.items + 4096 * l.input.reads_left ≤ 4096 * l.initial.input.reads_left;
 }
 
 abbrev pub decreases-reads : goal.decreases-reads

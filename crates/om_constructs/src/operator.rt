@@ -1,0 +1,113 @@
+//! The operators, comparisons and schedules of the language as those of instructions.
+
+ghost use Rattle.std.specs.Prelude.{◌≡◌};
+ghost use Rattle.om_code.specs.declared.instruction.Instr.TheVariants as i;
+ghost use Rattle.om_resolved.specs.ResolvedView.{view_resolved_loop};
+ghost use Rattle.om_rows.specs.Operators.{comparison_of, form_with, identity_of, reduction_of, schedule_in, schedule_of, side_of, update_of};
+
+use om_code::instruction::{AtomicOperator, Comparison, Instr, LoopForm, Reduction, Schedule};
+use om_pragma::{ReductionOperator, ScheduleKind};
+use om_resolved::{ResolvedLoop, ResolvedSchedule, Side, UpdateOperator};
+use om_tree::BinaryOperator;
+
+/// How a reduction combines (OpenMP API 5.2, section 5.5.5).
+pub(crate) fn reduction_of(operator: ReductionOperator) -> Reduction
+    ensures { result ≡ reduction_of operator }
+{
+    match operator {
+        ReductionOperator::Add => Reduction::Add,
+        ReductionOperator::Multiply => Reduction::Multiply,
+        ReductionOperator::Max => Reduction::Max,
+        ReductionOperator::Min => Reduction::Min,
+    }
+}
+
+/// Pushes what the copies of a reduction begin with (OpenMP API 5.2, section 5.5.5).
+pub(crate) fn identity_of(operator: ReductionOperator) -> Instr
+    ensures { result ≡ i.Constant (identity_of operator) }
+{
+    match operator {
+        ReductionOperator::Add => Instr::Constant(0),
+        ReductionOperator::Multiply => Instr::Constant(1),
+        ReductionOperator::Max => Instr::Constant(i32::MIN),
+        ReductionOperator::Min => Instr::Constant(i32::MAX),
+    }
+}
+
+/// The operator of an atomic update (OpenMP API 5.2, section 15.8.4).
+pub(crate) fn update_of(operator: UpdateOperator) -> AtomicOperator
+    ensures { result ≡ update_of operator }
+{
+    match operator {
+        UpdateOperator::Add => AtomicOperator::Add,
+        UpdateOperator::Subtract => AtomicOperator::Subtract,
+        UpdateOperator::Multiply => AtomicOperator::Multiply,
+        UpdateOperator::Divide => AtomicOperator::Divide,
+    }
+}
+
+/// On which side of its operator the old value of an atomic update stands.
+pub(crate) fn side_of(side: Side) -> om_code::instruction::Side
+    ensures { result ≡ side_of side }
+{
+    match side {
+        Side::Left => om_code::instruction::Side::Left,
+        Side::Right => om_code::instruction::Side::Right,
+    }
+}
+
+/// The comparison of a canonical loop (OpenMP API 5.2, section 4.4.1).
+pub(crate) fn comparison_of(operator: BinaryOperator) -> Option<Comparison>
+    ensures { result ≡ comparison_of operator }
+{
+    match operator {
+        BinaryOperator::Less => Some(Comparison::Less),
+        BinaryOperator::LessEqual => Some(Comparison::LessOrEqual),
+        BinaryOperator::Greater => Some(Comparison::Greater),
+        BinaryOperator::GreaterEqual => Some(Comparison::GreaterOrEqual),
+        BinaryOperator::And => None,
+        BinaryOperator::Or => None,
+        BinaryOperator::Equal => None,
+        BinaryOperator::NotEqual => None,
+        BinaryOperator::Add => None,
+        BinaryOperator::Subtract => None,
+        BinaryOperator::Multiply => None,
+        BinaryOperator::Divide => None,
+        BinaryOperator::Remainder => None,
+    }
+}
+
+/// How iterations are shared out. A dynamic chunk has one iteration where no size is given (OpenMP API
+/// 5.2, section 11.5.3).
+fn schedule_in(kind: ScheduleKind, chunk: Option<u32>) -> Schedule
+    ensures { result ≡ schedule_in kind chunk }
+{
+    match kind {
+        ScheduleKind::Static => match chunk {
+            None => Schedule::Static,
+            Some(chunk) => Schedule::StaticChunk(chunk),
+        },
+        ScheduleKind::Dynamic => match chunk {
+            None => Schedule::Dynamic(1),
+            Some(chunk) => Schedule::Dynamic(chunk),
+        },
+    }
+}
+
+/// The schedule of a loop.
+fn schedule_of(schedule: ResolvedSchedule) -> Schedule
+    ensures { result ≡ schedule_of schedule }
+{
+    schedule_in(schedule.kind, schedule.chunk)
+}
+
+/// What LOOP opens for a loop that compares so.
+pub(crate) fn form_with(repeated: &ResolvedLoop, comparison: Comparison) -> LoopForm
+    ensures { result ≡ form_with (view_resolved_loop repeated.now) comparison }
+{
+    LoopForm {
+        comparison,
+        step: repeated.step,
+        schedule: schedule_of(repeated.schedule),
+    }
+}

@@ -1,0 +1,333 @@
+//! Workers in threads of their own, asked round by round.
+
+ghost use Rattle.std.specs.Prelude.{◌≡◌, ◌≤◌, ◌+◌, ◌++◌, [], IfOk, IfErr, None, Some, length, vec_len, vec_capacity, map};
+ghost use Rattle.om_drive.specs.Rounds.{answer_number, in_rounds, Begins};
+
+use crate::order::{Answer, Fault, Order};
+use crate::rounds::ask_all;
+use crate::worker::{Debuggee, Gate, Worker};
+use crossbeam_channel::{Receiver, Sender, bounded};
+use std::alloc::Global;
+use std::snapshot::Snapshot;
+use std::sync::Wait;
+use std::thread::{Promise, PromisedHandle, Scope, Threads, scope, scope_env};
+
+/// What is driven, with a gate for each.
+#[derive(Drop)]
+pub struct Crew<D, G> {
+    pub debuggees: Vec<D>,
+    pub gates: Vec<G>,
+    pub ghost paired: { vec_len gates ≡ vec_len debuggees },
+}
+
+/// What was driven, and what came of it.
+#[derive(Drop)]
+pub struct DrivenOver<D: Debuggee + Drop> {
+    /// The debuggees, each in its place.
+    pub debuggees: Vec<D>,
+    pub answers: Vec<Answer>,
+    /// What broke it off, if something did.
+    pub fault: Option<Fault>,
+}
+
+/// Carries orders to debuggees, each in a thread of its own, and brings the answers back.
+///
+/// In a round each debuggee gets the next order of its list, and then one answer comes from each.
+/// Without a fault each order has one answer, in this order; with one, those before the fault. The
+/// debuggees always come back in their places.
+pub fn drive_over<G: Gate + Drop + Send, D: Debuggee + Drop + Send, R: Threads + Wait + Sync>(
+    rt: &R,
+    alloc: Global,
+    crew: Crew<D, G>,
+    orders: &[Vec<Order>],
+) -> DrivenOver<D>
+    requires { length orders.now ≡ vec_len crew.debuggees }
+    ensures back { map D.place result.debuggees.items ≡ map D.place crew.debuggees.items }
+    ensures part { Begins [] (map answer_number result.answers.items) (in_rounds (λ o. o.items) orders.now) }
+    ensures all { result.fault ≡ None → map answer_number result.answers.items
+        ≡ in_rounds (λ o. o.items) orders.now }
+{
+    let Crew { debuggees, gates } = crew;
+    let Ok(back) = Vec::with_capacity(alloc, debuggees.len()) else {
+        return DrivenOver {
+            debuggees,
+            answers: Vec::new(alloc),
+            fault: Some(Fault::Memory),
+        };
+    };
+    let ring = Ring::new(alloc, gates);
+    let ranks = Ranks {
+        waiting: debuggees,
+        back,
+    };
+    scope(
+        scope_env(),
+        rt,
+        move |scope| -> DrivenOver<D>
+            requires room { vec_len ranks.back + vec_len ranks.waiting ≤ vec_capacity ranks.back }
+            requires none { ranks.back.items ≡ [] }
+            requires new { ring.answers.items ≡ [] }
+            ensures back { map D.place result.debuggees.items ≡ map D.place ranks.waiting.items }
+            ensures part { Begins [] (map answer_number result.answers.items)
+                (in_rounds (λ o. o.items) orders.entry.now) }
+            ensures all { result.fault ≡ None → map answer_number result.answers.items
+                ≡ in_rounds (λ o. o.items) orders.entry.now }
+        { drive_in(scope, rt, orders, ring, ranks) },
+    )
+}
+
+/// Drives within a scope.
+#[tactic(auto, using(crate::proofs::Rounding::begins_none))]
+fn drive_in<
+    's,
+    E,
+    G: Gate + Drop + Send + 's,
+    D: Debuggee + Drop + Send + 's,
+    R: Threads + Wait + Sync,
+>(
+    scope: &Scope<'s, E>,
+    rt: &'s R,
+    orders: &[Vec<Order>],
+    mut ring: Ring<G>,
+    mut ranks: Ranks<D>,
+) -> DrivenOver<D>
+    requires room { vec_len ranks.back + vec_len ranks.waiting ≤ vec_capacity ranks.back }
+    requires none { ranks.back.items ≡ [] }
+    requires new { ring.answers.items ≡ [] }
+    ensures back { map D.place result.debuggees.items ≡ map D.place ranks.waiting.items }
+    ensures part { Begins [] (map answer_number result.answers.items) (in_rounds (λ o. o.items) orders.now) }
+    ensures all { result.fault ≡ None → map answer_number result.answers.items
+        ≡ in_rounds (λ o. o.items) orders.now }
+{
+    drive_from(scope, rt, orders, &mut ring, &mut ranks);
+    let Ring { answers, fault, .. } = ring;
+    let Ranks { waiting: _, back } = ranks;
+    DrivenOver {
+        debuggees: back,
+        answers,
+        fault,
+    }
+}
+
+/// The debuggees that wait for their threads, and those that came back.
+#[derive(Drop)]
+struct Ranks<D> {
+    waiting: Vec<D>,
+    back: Vec<D>,
+}
+
+/// Starts the last debuggee's thread, then those before it, asks all, and joins them on the way
+/// back.
+fn drive_from<
+    's,
+    E,
+    G: Gate + Drop + Send + 's,
+    D: Debuggee + Drop + Send + 's,
+    R: Threads + Wait + Sync,
+>(scope: &Scope<'s, E>, rt: &'s R, orders: &[Vec<Order>], ring: &mut Ring<G>, ranks: &mut Ranks<D>)
+    requires { vec_len ranks.old.back + vec_len ranks.old.waiting ≤ vec_capacity ranks.old.back }
+    ensures back { map D.place ranks.new.back.items
+        ≡ map D.place ranks.old.back.items ++ map D.place ranks.old.waiting.items }
+    ensures capacity { vec_capacity ranks.old.back ≤ vec_capacity ranks.new.back }
+    ensures part { Begins (map answer_number ring.old.answers.items)
+        (map answer_number ring.new.answers.items) (in_rounds (λ o. o.items) orders.now) }
+    ensures all { ring.new.fault ≡ None → map answer_number ring.new.answers.items
+        ≡ map answer_number ring.old.answers.items ++ in_rounds (λ o. o.items) orders.now }
+{
+    let Some(debuggee) = ranks.waiting.pop() else {
+        ring.ask(rt, orders);
+        return;
+    };
+    let debuggee = match start_if(scope, rt, ring.alloc, ring.next_gate(), debuggee) {
+        Ok(
+            Started {
+                thread,
+                orders: sender,
+                answers: receiver,
+            },
+        ) => {
+            ring.add(sender, receiver);
+            drive_from(scope, rt, orders, ring, ranks);
+            thread.join(rt)
+        }
+        Err(debuggee) => {
+            ring.break_off();
+            drive_from(scope, rt, orders, ring, ranks);
+            debuggee
+        }
+    };
+    match ranks.back.push(debuggee) {
+        Ok(()) => {}
+        Err(_) => unreachable!(),
+    }
+}
+
+/// That a debuggee comes back as the one that it was.
+#[derive(Drop)]
+struct AsItWas<D: Debuggee>(Snapshot<D>);
+
+impl<D: Debuggee> Promise<D> for AsItWas<D> {
+    ghost use Rattle.std.specs.Prelude.{◌≡◌};
+
+    ghost kept_by = { λ p d. D.place d ≡ D.place p.0.value };
+}
+
+/// A worker's thread, with the two ends that are kept here.
+struct Started<D: Debuggee> {
+    thread: PromisedHandle<D, AsItWas<D>>,
+    orders: Sender<Order>,
+    answers: Receiver<Answer>,
+}
+
+/// Starts a worker where there is a gate.
+fn start_if<
+    's,
+    E,
+    G: Gate + Drop + Send + 's,
+    D: Debuggee + Drop + Send + 's,
+    R: Threads + Wait + Sync,
+>(
+    scope: &Scope<'s, E>,
+    rt: &'s R,
+    alloc: Global,
+    gate: Option<G>,
+    debuggee: D,
+) -> Result<Started<D>, D>
+    ensures started { IfOk result (λ s. s.thread.promise.0.value ≡ debuggee) }
+    ensures back { IfErr result (λ d. D.place d ≡ D.place debuggee) }
+{
+    match gate {
+        Some(gate) => start(scope, rt, alloc, gate, debuggee),
+        None => Err(debuggee),
+    }
+}
+
+/// Starts a worker over a debuggee. Where there is no memory or no thread, the debuggee comes back.
+fn start<
+    's,
+    E,
+    G: Gate + Drop + Send + 's,
+    D: Debuggee + Drop + Send + 's,
+    R: Threads + Wait + Sync,
+>(scope: &Scope<'s, E>, rt: &'s R, alloc: Global, gate: G, debuggee: D) -> Result<Started<D>, D>
+    ensures started { IfOk result (λ s. s.thread.promise.0.value ≡ debuggee) }
+    ensures back { IfErr result (λ d. D.place d ≡ D.place debuggee) }
+{
+    let Ok((orders, inbox)) = bounded(alloc, 1) else {
+        return Err(debuggee);
+    };
+    let Ok((outbox, answers)) = bounded(alloc, 1) else {
+        return Err(debuggee);
+    };
+    let promise = AsItWas(Snapshot::of(&debuggee));
+    let worker = Worker::new(gate, debuggee);
+    match scope.spawn_with(promise, move || worker.work(rt, &inbox, &outbox)) {
+        Ok(thread) => Ok(Started {
+            thread,
+            orders,
+            answers,
+        }),
+        Err(refused) => {
+            // Without its sender the worker's loop ends at once, and gives the debuggee back.
+            drop(orders);
+            Err((refused.value)())
+        }
+    }
+}
+
+/// What is kept on this side: the gates that wait for their threads, the ends of the channels, and
+/// what came of the orders.
+#[derive(Drop)]
+struct Ring<G> {
+    alloc: Global,
+    gates: Vec<G>,
+    senders: Vec<Sender<Order>>,
+    receivers: Vec<Receiver<Answer>>,
+    answers: Vec<Answer>,
+    fault: Option<Fault>,
+}
+
+impl<G: Drop> Ring<G> {
+    fn new(alloc: Global, gates: Vec<G>) -> Ring<G>
+        ensures { result.answers.items ≡ [] }
+    {
+        Ring {
+            alloc,
+            gates,
+            senders: Vec::new(alloc),
+            receivers: Vec::new(alloc),
+            answers: Vec::new(alloc),
+            fault: None,
+        }
+    }
+
+    /// The gate of the last debuggee that waits; none where something broke off.
+    fn next_gate(&mut self) -> Option<G>
+        ensures { self.new.answers ≡ self.old.answers }
+    {
+        match self.fault {
+            None => self.gates.pop(),
+            Some(_) => None,
+        }
+    }
+
+    /// Puts a worker's ends before the others.
+    fn add(&mut self, sender: Sender<Order>, receiver: Receiver<Answer>)
+        ensures { self.new.answers ≡ self.old.answers }
+    {
+        if self.senders.insert(0, sender).is_err() || self.receivers.insert(0, receiver).is_err() {
+            self.fault = Some(Fault::Memory);
+        }
+    }
+
+    /// Says that there was no memory, or no thread.
+    fn break_off(&mut self)
+        ensures { self.new.answers ≡ self.old.answers }
+    {
+        self.fault = Some(Fault::Memory);
+    }
+
+    /// Asks all orders, and lets go of the ends, so that the workers end.
+    #[tactic(auto, using(crate::proofs::Rounding::begins_none, crate::proofs::Rounding::begins_all))]
+    fn ask<R: Wait>(&mut self, rt: &R, orders: &[Vec<Order>])
+        ensures part { Begins (map answer_number self.old.answers.items)
+            (map answer_number self.new.answers.items) (in_rounds (λ o. o.items) orders.now) }
+        ensures all { self.new.fault ≡ None → map answer_number self.new.answers.items
+            ≡ map answer_number self.old.answers.items ++ in_rounds (λ o. o.items) orders.now }
+    {
+        if self.fault.is_none() {
+            self.fault = asked(
+                rt,
+                self.senders.as_slice(),
+                self.receivers.as_slice(),
+                orders,
+                &mut self.answers,
+            );
+        }
+        self.senders.clear();
+        self.receivers.clear();
+    }
+}
+
+/// Asks all orders, and answers what broke off, if something did.
+#[tactic(auto, using(crate::proofs::Rounding::begins_none, crate::proofs::Rounding::begins_all))]
+fn asked<R: Wait>(
+    rt: &R,
+    senders: &[Sender<Order>],
+    receivers: &[Receiver<Answer>],
+    orders: &[Vec<Order>],
+    answers: &mut Vec<Answer>,
+) -> Option<Fault>
+    ensures part { Begins (map answer_number answers.old.items) (map answer_number answers.new.items)
+        (in_rounds (λ o. o.items) orders.now) }
+    ensures all { result ≡ None → map answer_number answers.new.items
+        ≡ map answer_number answers.old.items ++ in_rounds (λ o. o.items) orders.now }
+{
+    if senders.len() != orders.len() || receivers.len() != orders.len() {
+        return Some(Fault::Memory);
+    }
+    match ask_all(rt, senders, receivers, orders, answers) {
+        Ok(()) => None,
+        Err(fault) => Some(fault),
+    }
+}

@@ -1,0 +1,12 @@
+//! Threads that carry orders to the seats of a session, and bring the answers back.
+#![tactic(auto)]
+
+mod driving;
+mod order;
+mod rounds;
+mod worker;
+
+pub use driving::{Crew, DrivenOver, drive_over};
+pub use order::{Answer, Fault, Order};
+pub use rounds::{Gathered, gather};
+pub use worker::{Debuggee, Gate, Worker};

@@ -1,0 +1,173 @@
+//! Rounds: in each, every list that still has an order gets its next one asked and answered.
+
+ghost use Rattle.std.specs.Prelude.{◌≡◌, ℕ, ◌≤◌, ◌+◌, ◌++◌, ◌∷◌, [], IfOk, OnOk, OnErr, None, Some, length, vec_len, map, take, drop, slice_get};
+ghost use Rattle.om_drive.specs.Rounds.{answer_number, listed, round_at, longest, in_rounds, Begins};
+
+use crate::order::{Answer, Fault, Order};
+use crossbeam_channel::{Receiver, SendError, Sender};
+use std::alloc::Global;
+use std::sync::Wait;
+
+/// The answers of a round.
+#[derive(Drop)]
+pub struct Gathered {
+    pub answers: Vec<Answer>,
+    /// What broke it off, if something did.
+    pub fault: Option<Fault>,
+}
+
+/// Takes one answer from each receiver, in their order, of the number that is awaited there.
+///
+/// The first answer of another number ends it (V1), and so do a closed channel (V2) and a lack of
+/// memory (V3).
+pub fn gather<R: Wait>(
+    rt: &R,
+    alloc: Global,
+    receivers: &[Receiver<Answer>],
+    numbers: &[u64],
+) -> Gathered
+    requires { length receivers.now ≡ length numbers.now }
+    ensures answered { map answer_number result.answers.items ≡ take (vec_len result.answers) numbers.now }
+    ensures all { result.fault ≡ None → vec_len result.answers ≡ length numbers.now }
+{
+    let mut answers = Vec::new(alloc);
+    for i in 0..numbers.len() {
+        if let Err(fault) = await_one(rt, &receivers[i], numbers[i], &mut answers) {
+            return Gathered {
+                answers,
+                fault: Some(fault),
+            };
+        }
+    }
+    Gathered {
+        answers,
+        fault: None,
+    }
+}
+
+/// Takes the awaited answer.
+fn await_one<R: Wait>(
+    rt: &R,
+    receiver: &Receiver<Answer>,
+    number: u64,
+    answers: &mut Vec<Answer>,
+) -> Result<(), Fault>
+    ensures ok { OnOk result (map answer_number answers.new.items
+        ≡ map answer_number answers.old.items ++ number ∷ []) }
+    ensures one_more { OnOk result (vec_len answers.new ≡ vec_len answers.old + 1) }
+    ensures err { OnErr result (answers.new.items ≡ answers.old.items) }
+{
+    if answers.reserve(1).is_err() {
+        return Err(Fault::Memory);
+    }
+    let Ok(answer) = receiver.recv(rt) else {
+        return Err(Fault::Closed);
+    };
+    if answer.number != number {
+        return Err(Fault::Strange);
+    }
+    match answers.push(answer) {
+        Ok(()) => Ok(()),
+        Err(_) => unreachable!(),
+    }
+}
+
+/// Takes the answer of an order, where there is one.
+fn await_next<R: Wait>(
+    rt: &R,
+    receiver: &Receiver<Answer>,
+    order: Option<Order>,
+    answers: &mut Vec<Answer>,
+) -> Result<(), Fault>
+    ensures ok { OnOk result (map answer_number answers.new.items
+        ≡ map answer_number answers.old.items ++ listed order) }
+    ensures err { OnErr result (answers.new.items ≡ answers.old.items) }
+{
+    match order {
+        None => Ok(()),
+        Some(order) => await_one(rt, receiver, order.number, answers),
+    }
+}
+
+/// The order that a list has in a round.
+fn order_at(list: &Vec<Order>, round: usize) -> Option<Order>
+    ensures { result ≡ slice_get list.now.items round }
+{
+    list.get(round).copied()
+}
+
+/// Takes an answer for each list that has an order in this round.
+fn take_round<R: Wait>(
+    rt: &R,
+    receivers: &[Receiver<Answer>],
+    orders: &[Vec<Order>],
+    round: usize,
+    answers: &mut Vec<Answer>,
+) -> Result<(), Fault>
+    requires { length receivers.now ≡ length orders.now }
+    ensures ok { OnOk result (map answer_number answers.new.items
+        ≡ map answer_number answers.old.items ++ round_at (λ o. o.items) round orders.now) }
+    ensures err { OnErr result (Begins (map answer_number answers.old.items)
+        (map answer_number answers.new.items)
+        (round_at (λ o. o.items) round orders.now)) }
+{
+    for i in 0..orders.len() {
+        await_next(rt, &receivers[i], order_at(&orders[i], round), answers)?;
+    }
+    Ok(())
+}
+
+/// Sends the order that each list has in this round.
+fn send_round<R: Wait>(
+    rt: &R,
+    senders: &[Sender<Order>],
+    orders: &[Vec<Order>],
+    round: usize,
+) -> Result<(), Fault>
+    requires { length senders.now ≡ length orders.now }
+{
+    for i in 0..orders.len() {
+        if let Some(order) = orders[i].get(round) {
+            match senders[i].send(rt, *order) {
+                Ok(()) => {}
+                Err(SendError::OutOfMemory(_)) => return Err(Fault::Memory),
+                Err(_) => return Err(Fault::Closed),
+            }
+        }
+    }
+    Ok(())
+}
+
+/// The length of the longest list.
+fn most_rounds(orders: &[Vec<Order>]) -> usize
+    ensures { result ≡ longest (λ o. o.items) orders.now }
+{
+    let mut most = 0;
+    for list in orders {
+        most = most.max(list.len());
+    }
+    most
+}
+
+/// Asks round by round, until all orders are answered or something breaks off.
+pub(crate) fn ask_all<R: Wait>(
+    rt: &R,
+    senders: &[Sender<Order>],
+    receivers: &[Receiver<Answer>],
+    orders: &[Vec<Order>],
+    answers: &mut Vec<Answer>,
+) -> Result<(), Fault>
+    requires { (length senders.now ≡ length orders.now) × (length receivers.now ≡ length orders.now) }
+    ensures ok { OnOk result (map answer_number answers.new.items
+        ≡ map answer_number answers.old.items ++ in_rounds (λ o. o.items) orders.now) }
+    ensures err { OnErr result (Begins (map answer_number answers.old.items)
+        (map answer_number answers.new.items)
+        (in_rounds (λ o. o.items) orders.now)) }
+{
+    let most = most_rounds(orders);
+    for round in 0..most {
+        send_round(rt, senders, orders, round)?;
+        take_round(rt, receivers, orders, round, answers)?;
+    }
+    Ok(())
+}

@@ -1,0 +1,5 @@
+pub mod Singles
+pub mod Expressions
+pub mod Jumping
+pub mod Arguments
+pub mod Views

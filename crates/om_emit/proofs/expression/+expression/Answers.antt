@@ -1,0 +1,364 @@
+use Rattle.std.proofs.Common.{◌≡◌, ◌≤◌, ◌<◌, ◌+◌, ℕ, get_or, length, map, drop, rules, refl, ap, sym, ◌∙◌, subst, arith, true}
+use denote.Param.Weighed.{at_most, most}
+use Rattle.std.proofs.lemmas.Result.{on_ok_weaker}
+use Rattle.om_code.specs.declared.instruction.Instr.TheVariants as i
+use Rattle.om_emit.specs.declared.expression.Target.{Target}
+use Rattle.om_emit.specs.Forms.{form}
+use Rattle.om_emit.specs.Writing.{fresh_length, free_new, free_fresh, free_put, free_part, free_define}
+use Rattle.om_emit.proofs.Arguments.{listed, counted, has_code, emits_next}
+use Rattle.om_emit.proofs.Expressions.{emits_element, emits_used_call, emits_right, emits_unary, emits_set, emits_compound, emits_set_element, emits_compound_element, emits_call, emits_binary, rest_is, emits_element_assigned, emits_postfix_element, value_is, target_is}
+use Rattle.om_emit.proofs.Jumping.{emits_both, emits_either, emits_conditional}
+use Rattle.om_emit.proofs.Singles.{emits_one, emits_constant}
+use Rattle.om_emit.proofs.Views.{view_constant, view_variable, view_thread_number, view_team_size, view_call, view_binary, view_conditional, view_assign_element, view_postfix_element}
+use Rattle.om_resolved.specs.ResolvedTree as trees
+use Rattle.om_resolved.specs.ResolvedView.{view_resolved_expression}
+use Rattle.om_resolved.proofs.resolved.ResolvedExpression.TheLaws.{the_size}
+use Rattle.om_rows.specs.Coded.{ValueHasCode}
+use Rattle.om_rows.specs.Expressions.{value}
+use Rattle.om_rows.specs.Operators.{Both, Either, Plain, form_of, compound_of}
+use Rattle.om_rows.specs.Slots.{place_of}
+use Rattle.om_tables.specs.Scopes.{names_of}
+use Rattle.om_emit.proofs.expression.+expression.Goals as goal
+
+pub element-returns : goal.element-returns
+element-returns t c =
+    emits_element (names_of c.args.scope.now) c.args.line c.args.array
+    (view_resolved_expression c.args.index.now) _ _ _
+    c.in_ok-value.ensures c.in_ok-load_element.ensures
+
+pub call-returns : goal.call-returns
+call-returns t c =
+    emits_call (names_of c.args.scope.now) c.args.line c.args.function
+    (listed c.args.arguments.now) c.called_body-body.result c.in-Ok.count _ _ _
+    c.called_body-body.ensures (c.in-Ok.ensures.1
+    ∙ counted c.args.arguments.now) c.in_ok-values.ensures c.in_ok-put.ensures
+
+pub used_call-returns : goal.used_call-returns
+used_call-returns t c =
+    emits_used_call (names_of c.args.scope.now) c.args.line c.args.function
+    (listed c.args.arguments.now) _ _ _ c.in_ok-call.ensures c.in_ok-put.ensures
+
+pub unary-returns : goal.unary-returns
+unary-returns t c =
+    emits_unary (names_of c.args.scope.now) c.args.line c.args.operator
+    (view_resolved_expression c.args.operand.now) _ _ _
+    c.in_ok-value.ensures (c.in_ok-unary_end.ensures (names_of c.args.scope.now))
+
+-- ---- operators between two operands
+
+pub binary_end-returns-in-Both : goal.binary_end-returns-in-Both
+binary_end-returns-in-Both t c =
+    on_ok_weaker c.both_end.result
+    (rest_is (names_of c.args.scope.now) c.args.line Both (form_of c.args.operator)
+    (view_resolved_expression c.args.right.now) _ _
+    (ap form (sym c.in-Both.is) ∙ c.form_of.ensures))
+    c.both_end.ensures
+
+pub binary_end-returns-in-Either : goal.binary_end-returns-in-Either
+binary_end-returns-in-Either t c =
+    on_ok_weaker c.either_end.result
+    (rest_is (names_of c.args.scope.now) c.args.line Either (form_of c.args.operator)
+    (view_resolved_expression c.args.right.now) _ _
+    (ap form (sym c.in-Either.is) ∙ c.form_of.ensures))
+    c.either_end.ensures
+
+pub binary_end-returns-in_ok-put-in-Plain : goal.binary_end-returns-in_ok-put-in-Plain
+binary_end-returns-in_ok-put-in-Plain t c =
+    rest_is (names_of c.args.scope.now) c.args.line (Plain c.in-Plain.operator) (form_of c.args.operator)
+    (view_resolved_expression c.args.right.now) _ _
+    (ap form (sym c.in-Plain.is) ∙ c.form_of.ensures)
+    (emits_right (names_of c.args.scope.now) c.args.line c.in-Plain.operator
+    (view_resolved_expression c.args.right.now) _ _ _
+    c.in_ok-value-in-Plain.ensures c.in_ok-put-in-Plain.ensures)
+
+pub both_end-define-requires : goal.both_end-define-requires
+both_end-define-requires t c =
+    let l = c.in_ok-neither.neither in
+    free_put l _ _ _ _ c.in_ok-put-4.ensures (free_put l _ _ _ _ c.in_ok-put-3.ensures
+    (free_put l _ _ _ _ c.in_ok-put-2.ensures
+    (free_part l _ _ _ c.in_ok-value.ensures (free_put l _ _ _ _ c.in_ok-put.ensures
+    (free_fresh l _ _ _ c.in_ok-end.ensures (free_new l _ _ c.in_ok-neither.ensures))))))
+
+pub both_end-define-requires-2 : goal.both_end-define-requires-2
+both_end-define-requires-2 t c =
+    let l = c.in_ok-end.end in
+    let next = fresh_length _ _ _ c.in_ok-neither.ensures in
+    free_put l _ _ _ _ c.in_ok-put-5.ensures
+    (free_define l c.in_ok-neither.neither _ _ (λ same. omega
+    (arith, c.in_ok-neither.ensures.is, c.in_ok-end.ensures.is, next, same)) c.define.ensures
+    (free_put l _ _ _ _ c.in_ok-put-4.ensures (free_put l _ _ _ _ c.in_ok-put-3.ensures
+    (free_put l _ _ _ _ c.in_ok-put-2.ensures
+    (free_part l _ _ _ c.in_ok-value.ensures (free_put l _ _ _ _ c.in_ok-put.ensures
+    (free_new l _ _ c.in_ok-end.ensures)))))))
+
+pub both_end-returns : goal.both_end-returns
+both_end-returns t c =
+    emits_both (names_of c.args.scope.now) c.args.line (view_resolved_expression c.args.right.now)
+    c.in_ok-neither.neither c.in_ok-end.end _ _ _ _ _ _ _ _ _ _ _
+    c.in_ok-neither.ensures c.in_ok-end.ensures c.in_ok-put.ensures c.in_ok-value.ensures c.in_ok-put-2.ensures
+    c.in_ok-put-3.ensures c.in_ok-put-4.ensures c.define.ensures c.in_ok-put-5.ensures c.define-2.ensures
+
+pub either_end-define-requires : goal.either_end-define-requires
+either_end-define-requires t c =
+    let l = c.in_ok-next.next in
+    free_put l _ _ _ _ c.in_ok-put-3.ensures (free_put l _ _ _ _ c.in_ok-put-2.ensures
+    (free_put l _ _ _ _ c.in_ok-put.ensures
+    (free_fresh l _ _ _ c.in_ok-end.ensures (free_fresh l _ _ _ c.in_ok-neither.ensures
+    (free_new l _ _ c.in_ok-next.ensures)))))
+
+pub either_end-define-requires-2 : goal.either_end-define-requires-2
+either_end-define-requires-2 t c =
+    let l = c.in_ok-neither.neither in
+    let past = fresh_length _ _ _ c.in_ok-next.ensures in
+    free_put l _ _ _ _ c.in_ok-put-6.ensures (free_put l _ _ _ _ c.in_ok-put-5.ensures
+    (free_put l _ _ _ _ c.in_ok-put-4.ensures
+    (free_part l _ _ _ c.in_ok-value.ensures
+    (free_define l c.in_ok-next.next _ _ (λ same. omega
+    (arith, c.in_ok-next.ensures.is, c.in_ok-neither.ensures.is, past, same)) c.define.ensures
+    (free_put l _ _ _ _ c.in_ok-put-3.ensures (free_put l _ _ _ _ c.in_ok-put-2.ensures
+    (free_put l _ _ _ _ c.in_ok-put.ensures
+    (free_fresh l _ _ _ c.in_ok-end.ensures (free_new l _ _ c.in_ok-neither.ensures)))))))))
+
+pub either_end-define-requires-3 : goal.either_end-define-requires-3
+either_end-define-requires-3 t c =
+    let l = c.in_ok-end.end in
+    let past = fresh_length _ _ _ c.in_ok-next.ensures in
+    let beyond = fresh_length _ _ _ c.in_ok-neither.ensures in
+    free_put l _ _ _ _ c.in_ok-put-7.ensures
+    (free_define l c.in_ok-neither.neither _ _ (λ same. omega
+    (arith, c.in_ok-neither.ensures.is, c.in_ok-end.ensures.is, beyond, same)) c.define-2.ensures
+    (free_put l _ _ _ _ c.in_ok-put-6.ensures (free_put l _ _ _ _ c.in_ok-put-5.ensures
+    (free_put l _ _ _ _ c.in_ok-put-4.ensures
+    (free_part l _ _ _ c.in_ok-value.ensures
+    (free_define l c.in_ok-next.next _ _ (λ same. omega
+    (arith, c.in_ok-next.ensures.is, c.in_ok-end.ensures.is, past, beyond, same)) c.define.ensures
+    (free_put l _ _ _ _ c.in_ok-put-3.ensures (free_put l _ _ _ _ c.in_ok-put-2.ensures
+    (free_put l _ _ _ _ c.in_ok-put.ensures
+    (free_new l _ _ c.in_ok-end.ensures))))))))))
+
+pub either_end-returns : goal.either_end-returns
+either_end-returns t c =
+    emits_either (names_of c.args.scope.now) c.args.line (view_resolved_expression c.args.right.now)
+    c.in_ok-next.next c.in_ok-neither.neither c.in_ok-end.end _ _ _ _ _ _ _ _ _ _ _ _ _ _ _
+    c.in_ok-next.ensures c.in_ok-neither.ensures c.in_ok-end.ensures c.in_ok-put.ensures c.in_ok-put-2.ensures
+    c.in_ok-put-3.ensures c.define.ensures c.in_ok-value.ensures c.in_ok-put-4.ensures c.in_ok-put-5.ensures
+    c.in_ok-put-6.ensures
+    c.define-2.ensures c.in_ok-put-7.ensures c.define-3.ensures
+
+-- ---- assignments
+
+pub assign-returns-in_ok-store-in-None : goal.assign-returns-in_ok-store-in-None
+assign-returns-in_ok-store-in-None t c =
+    emits_set (names_of c.args.scope.now) c.args.line c.args.target.keeps c.args.target.variable
+    c.args.target.operator
+    (view_resolved_expression c.args.e.now) _ _ _ (sym c.in-None.is
+    ∙ c.compound_of.ensures) c.in_ok-value-in-None.ensures c.in_ok-store-in-None.ensures
+
+pub assign-returns-in_ok-store-in-Some : goal.assign-returns-in_ok-store-in-Some
+assign-returns-in_ok-store-in-Some t c =
+    emits_compound (names_of c.args.scope.now) c.args.line c.args.target.keeps c.args.target.variable
+    c.args.target.operator _
+    (view_resolved_expression c.args.e.now) _ _ _ _ _ (sym c.in-Some.is
+    ∙ c.compound_of.ensures) c.in_ok-load-in-Some.ensures
+    c.in_ok-value-in-Some.ensures c.in_ok-put-in-Some.ensures c.in_ok-store-in-Some.ensures
+
+pub assign_element-returns-in_ok-store_element-in-None : goal.assign_element-returns-in_ok-store_element-in-None
+assign_element-returns-in_ok-store_element-in-None t c =
+    emits_set_element (names_of c.args.scope.now) c.args.line c.args.target.keeps c.args.target.variable
+    c.args.target.operator
+    (view_resolved_expression c.args.e.now) _ _ _ (sym c.in-None.is
+    ∙ c.compound_of.ensures) c.in_ok-value-in-None.ensures c.in_ok-store_element-in-None.ensures
+
+pub assign_element-returns-in_ok-store_element-in-Some : goal.assign_element-returns-in_ok-store_element-in-Some
+assign_element-returns-in_ok-store_element-in-Some t c =
+    emits_compound_element (names_of c.args.scope.now) c.args.line c.args.target.keeps c.args.target.variable
+    c.args.target.operator _
+    (view_resolved_expression c.args.e.now) _ _ _ _ _ _ (sym c.in-Some.is
+    ∙ c.compound_of.ensures) c.in_ok-put-in-Some.ensures
+    c.in_ok-load_element-in-Some.ensures c.in_ok-value-in-Some.ensures c.in_ok-put-in-Some-2.ensures
+    c.in_ok-store_element-in-Some.ensures
+
+-- ---- the values of a call
+
+pub values-value-requires : goal.values-value-requires
+values-value-requires t c =
+    let deep : the_size (get_or c.args.es.now c.loop-e.e-index c.e-item.result) ≤ most the_size c.args.es.now =
+    at_most the_size c.args.es.now c.loop-e.e-index c.e-item.result c.loop-e-test.true in
+    let same : the_size c.e-item.result ≡ the_size (get_or c.args.es.now c.loop-e.e-index c.e-item.result) =
+    ap the_size c.e-item.is in (
+      omega (arith, deep, same, c.decreases),
+      has_code c.args.es.now c.loop-e.e-index c.e-item.result
+          c.loop-e-test.true c.e-item.is c.requires,
+    )
+
+pub values-loop-e-preserved : goal.values-loop-e-preserved
+values-loop-e-preserved t c = (
+  omega (arith, c.loop-e.invariant.0, c.in_ok-value.ensures.keeps.more),
+  λ d g. c.loop-e.invariant.1 d
+      (emits_next _ _ _ _ _ _ _ _ _ c.loop-e-test.true c.e-item.is c.loop-e.invariant.0 c.in_ok-value.ensures g),
+)
+
+-- ---- the forms
+
+pub value-returns-in-Constant : goal.value-returns-in-Constant
+value-returns-in-Constant t c =
+    let names = names_of c.args.scope.now in
+    let is = ap view_resolved_expression c.in-Constant.is ∙ view_constant c.in-Constant.number in
+    on_ok_weaker c.put.result
+    (λ h. value_is names c.args.line (trees.Constant c.in-Constant.number)
+    (view_resolved_expression c.args.e.now) _ _ (sym is)
+    (emits_constant names c.args.line c.in-Constant.number _ _ _ (search rules) h))
+    c.put.ensures
+
+pub value-returns-in-Variable : goal.value-returns-in-Variable
+value-returns-in-Variable t c =
+    let names = names_of c.args.scope.now in
+    let is = ap view_resolved_expression c.in-Variable.is ∙ view_variable c.in-Variable.variable in
+    on_ok_weaker c.load.result
+    (λ h. value_is names c.args.line (trees.Variable c.in-Variable.variable)
+    (view_resolved_expression c.args.e.now) _ _ (sym is)
+    (emits_one names c.args.line (i.Load (place_of names.slots c.in-Variable.variable)) _ _ h))
+    c.load.ensures
+
+pub value-returns-in-ThreadNumber : goal.value-returns-in-ThreadNumber
+value-returns-in-ThreadNumber t c =
+    let names = names_of c.args.scope.now in
+    let is = ap view_resolved_expression c.in-ThreadNumber.is ∙ view_thread_number in
+    on_ok_weaker c.put-in-ThreadNumber.result
+    (λ h. value_is names c.args.line trees.ThreadNumber (view_resolved_expression c.args.e.now) _ _ (sym is)
+    (emits_one names c.args.line i.ThreadNumber _ _ h))
+    c.put-in-ThreadNumber.ensures
+
+pub value-returns-in-TeamSize : goal.value-returns-in-TeamSize
+value-returns-in-TeamSize t c =
+    let names = names_of c.args.scope.now in
+    let is = ap view_resolved_expression c.in-TeamSize.is ∙ view_team_size in
+    on_ok_weaker c.put-in-TeamSize.result
+    (λ h. value_is names c.args.line trees.TeamSize (view_resolved_expression c.args.e.now) _ _ (sym is)
+    (emits_one names c.args.line i.TeamSize _ _ h))
+    c.put-in-TeamSize.ensures
+
+pub value-returns-in-Call : goal.value-returns-in-Call
+value-returns-in-Call t c =
+    let names = names_of c.args.scope.now in
+    let is = ap view_resolved_expression c.in-Call.is ∙ view_call c.in-Call.function c.in-Call.arguments in
+    let same = ap (λ es. trees.Call c.in-Call.function (listed es)) c.as_slice.ensures.value in
+    on_ok_weaker c.used_call.result
+    (λ h. value_is names c.args.line (trees.Call c.in-Call.function (listed c.as_slice.result.now))
+    (view_resolved_expression c.args.e.now) _ _ (same ∙ sym is) h)
+    c.used_call.ensures
+
+pub value-returns-in_ok-binary_end-in-Binary : goal.value-returns-in_ok-binary_end-in-Binary
+value-returns-in_ok-binary_end-in-Binary t c =
+    let names = names_of c.args.scope.now in
+    let left = c.deref-in-Binary.result.now in
+    let right = c.deref-in-Binary-2.result.now in
+    let is = ap view_resolved_expression c.in-Binary.is
+    ∙ view_binary c.in-Binary.left c.in-Binary.operator c.in-Binary.right in
+    let same =
+    ap (λ e. trees.Binary (view_resolved_expression e) c.in-Binary.operator
+    (view_resolved_expression right)) c.deref-in-Binary.ensures
+    ∙ ap (λ e. trees.Binary (view_resolved_expression c.in-Binary.left.value) c.in-Binary.operator
+    (view_resolved_expression e)) c.deref-in-Binary-2.ensures in
+    value_is names c.args.line (trees.Binary (view_resolved_expression left) c.in-Binary.operator
+    (view_resolved_expression right)) (view_resolved_expression c.args.e.now)
+    _ _ (same ∙ sym is)
+    (emits_binary names c.args.line c.in-Binary.operator (view_resolved_expression left)
+    (view_resolved_expression right) _ _ _
+    c.in_ok-value-in-Binary.ensures c.in_ok-binary_end-in-Binary.ensures)
+
+pub value-define-requires : goal.value-define-requires
+value-define-requires t c =
+    let l = c.in_ok-otherwise-in-Conditional.otherwise in
+    free_put l _ _ _ _ c.in_ok-put-in-Conditional-2.ensures (free_part l _ _ _ c.in_ok-value-in-Conditional-2.ensures
+    (free_put l _ _ _ _ c.in_ok-put-in-Conditional.ensures (free_part l _ _ _ c.in_ok-value-in-Conditional.ensures
+    (free_fresh l _ _ _ c.in_ok-end-in-Conditional.ensures
+    (free_new l _ _ c.in_ok-otherwise-in-Conditional.ensures)))))
+
+pub value-define-requires-in-Conditional : goal.value-define-requires-in-Conditional
+value-define-requires-in-Conditional t c =
+    let l = c.in_ok-end-in-Conditional.end in
+    let past = fresh_length _ _ _ c.in_ok-otherwise-in-Conditional.ensures in
+    free_part l _ _ _ c.in_ok-value-in-Conditional-3.ensures
+    (free_define l c.in_ok-otherwise-in-Conditional.otherwise _ _
+    (λ same. omega (
+      arith,
+      c.in_ok-otherwise-in-Conditional.ensures.is,
+      c.in_ok-end-in-Conditional.ensures.is,
+      past,
+      same,
+    )) c.define.ensures
+    (free_put l _ _ _ _ c.in_ok-put-in-Conditional-2.ensures (free_part l _ _ _ c.in_ok-value-in-Conditional-2.ensures
+    (free_put l _ _ _ _ c.in_ok-put-in-Conditional.ensures (free_part l _ _ _ c.in_ok-value-in-Conditional.ensures
+    (free_new l _ _ c.in_ok-end-in-Conditional.ensures))))))
+
+pub value-returns-in_ok-value-in-Conditional-3 : goal.value-returns-in_ok-value-in-Conditional-3
+value-returns-in_ok-value-in-Conditional-3 t c =
+    let names = names_of c.args.scope.now in
+    let a = c.deref-in-Conditional.result.now in
+    let b = c.deref-in-Conditional-2.result.now in
+    let d = c.deref-in-Conditional-3.result.now in
+    let at_a = c.in-Conditional.condition in
+    let at_b = c.in-Conditional.then in
+    let at_d = c.in-Conditional.other in
+    let is = ap view_resolved_expression c.in-Conditional.is ∙ view_conditional at_a at_b at_d in
+    let same =
+    ap (λ e. trees.Conditional (view_resolved_expression e) (view_resolved_expression b)
+    (view_resolved_expression d)) c.deref-in-Conditional.ensures
+    ∙ ap (λ e. trees.Conditional (view_resolved_expression at_a.value) (view_resolved_expression e)
+    (view_resolved_expression d)) c.deref-in-Conditional-2.ensures
+    ∙ ap (λ e. trees.Conditional (view_resolved_expression at_a.value) (view_resolved_expression at_b.value)
+    (view_resolved_expression e)) c.deref-in-Conditional-3.ensures in
+    value_is names c.args.line (trees.Conditional (view_resolved_expression a) (view_resolved_expression b)
+    (view_resolved_expression d)) (view_resolved_expression c.args.e.now)
+    _ _ (same ∙ sym is)
+    (emits_conditional names c.args.line (view_resolved_expression a) (view_resolved_expression b)
+    (view_resolved_expression d)
+    c.in_ok-otherwise-in-Conditional.otherwise c.in_ok-end-in-Conditional.end _ _ _ _ _ _ _ _ _ _
+    c.in_ok-otherwise-in-Conditional.ensures c.in_ok-end-in-Conditional.ensures c.in_ok-value-in-Conditional.ensures
+    c.in_ok-put-in-Conditional.ensures
+    c.in_ok-value-in-Conditional-2.ensures c.in_ok-put-in-Conditional-2.ensures c.define.ensures
+    c.in_ok-value-in-Conditional-3.ensures
+    c.define-in-Conditional.ensures)
+
+pub value-returns-in_ok-assign_element-in-AssignElement : goal.value-returns-in_ok-assign_element-in-AssignElement
+value-returns-in_ok-assign_element-in-AssignElement t c =
+    let names = names_of c.args.scope.now in
+    let j = c.deref-in-AssignElement.result.now in
+    let e = c.deref-in-AssignElement-2.result.now in
+    let x = c.in-AssignElement.array in
+    let o = c.in-AssignElement.operator in
+    let is = ap view_resolved_expression c.in-AssignElement.is
+    ∙ view_assign_element x c.in-AssignElement.index o c.in-AssignElement.e in
+    let same =
+    ap (λ z. trees.AssignElement x (view_resolved_expression z) o
+    (view_resolved_expression e)) c.deref-in-AssignElement.ensures
+    ∙ ap (λ z. trees.AssignElement x (view_resolved_expression c.in-AssignElement.index.value) o
+    (view_resolved_expression z)) c.deref-in-AssignElement-2.ensures in
+    value_is names c.args.line (trees.AssignElement x (view_resolved_expression j) o (view_resolved_expression e))
+    (view_resolved_expression c.args.e.now)
+    _ _ (same ∙ sym is)
+    (emits_element_assigned names c.args.line true x (view_resolved_expression j) (compound_of o)
+    (λ at. value at c.args.line (view_resolved_expression e)) _ _ _
+    c.in_ok-value-in-AssignElement.ensures
+    (target_is names c.args.line (view_resolved_expression e) c.kept-in-AssignElement.result (record {
+      variable =
+          x;
+      operator = o;
+      keeps = true;
+    }) _ _
+    c.kept-in-AssignElement.ensures c.in_ok-assign_element-in-AssignElement.ensures))
+
+pub value-returns-in_ok-postfix_element-in-PostfixElement : goal.value-returns-in_ok-postfix_element-in-PostfixElement
+value-returns-in_ok-postfix_element-in-PostfixElement t c =
+    let names = names_of c.args.scope.now in
+    let j = c.deref-in-PostfixElement.result.now in
+    let x = c.in-PostfixElement.array in
+    let o = c.in-PostfixElement.operator in
+    let is = ap view_resolved_expression c.in-PostfixElement.is
+    ∙ view_postfix_element x c.in-PostfixElement.index o in
+    let same = ap (λ z. trees.PostfixElement x (view_resolved_expression z) o) c.deref-in-PostfixElement.ensures in
+    value_is names c.args.line (trees.PostfixElement x (view_resolved_expression j) o)
+    (view_resolved_expression c.args.e.now) _ _ (same ∙ sym is)
+    (emits_postfix_element names c.args.line x (view_resolved_expression j) o _ _ _
+    c.in_ok-value-in-PostfixElement.ensures c.in_ok-postfix_element-in-PostfixElement.ensures)

@@ -1,0 +1,75 @@
+-- Code that is being written: a jump names a label, and a label's place comes to be known once its code is
+-- reached.
+use Rattle.std.specs.Prelude.{◌≡◌, ℕ, List, [], ◌∷◌, ◌++◌, Option, Some, None, length, map, slice_get, slice_set}
+use Rattle.om_code.specs.declared.instruction.Instr.{Instr}
+use Rattle.om_code.specs.declared.instruction.Instr.TheVariants as i
+use Rattle.om_code.specs.declared.raw.Line.{Line}
+use Rattle.om_emit.specs.declared.draft.Pick.{Pick}
+
+-- what is written so far
+pub record Written : Type 0 where
+  pub code : List Line
+  -- where each label stands, by its number, once that is known
+  pub places : List (Option ℕ)
+  -- the lists of the PICKs in it
+  pub picks : List Pick
+
+abbrev pub nothing : Written
+nothing = record { code = []; places = []; picks = [] }
+
+-- a place for each label
+abbrev pub Labels : Type 0
+Labels = ℕ → ℕ
+
+-- an instruction whose target is a place, in one whose target is a label
+abbrev pub moved : Labels → Instr → Instr
+moved at (i.Jump label) = i.Jump (at label)
+moved at (i.JumpIfZero label) = i.JumpIfZero (at label)
+moved at (i.Grab label) = i.Grab (at label)
+moved at (i.Iterate slot label) = i.Iterate slot (at label)
+moved at (i.Single label) = i.Single (at label)
+moved at (i.Masked label) = i.Masked (at label)
+moved at instruction = instruction
+
+abbrev pub settled : Labels → Line → Line
+settled at x = record { instruction = moved at x.instruction; line = x.line }
+
+-- where a label stands; the begin of the body until that is known
+abbrev pub known : Option (Option ℕ) → ℕ
+known (Some (Some place)) = place
+known _ = 0
+
+abbrev pub place_in : List (Option ℕ) → Labels
+place_in places label = known (slice_get places label)
+
+-- the code with places in place of labels
+abbrev pub settled_code : Written → List Line
+settled_code d = map (settled (place_in d.places)) d.code
+
+-- ---- what is added
+
+-- an instruction
+pub record Puts (line : ℕ) (instruction : Instr) (old new : Written) : Type 0 where
+  pub code : new.code ≡ old.code ++ record { instruction = instruction; line = line } ∷ []
+  pub places : new.places ≡ old.places
+  pub picks : new.picks ≡ old.picks
+
+-- a label that stands nowhere yet
+pub record Fresh (label : ℕ) (old new : Written) : Type 0 where
+  pub code : new.code ≡ old.code
+  pub is : label ≡ length old.places
+  pub places : new.places ≡ old.places ++ None ∷ []
+  pub picks : new.picks ≡ old.picks
+
+-- the place of a label: what is written next
+pub record Defines (label : ℕ) (old new : Written) : Type 0 where
+  pub free : slice_get old.places label ≡ Some None
+  pub code : new.code ≡ old.code
+  pub places : new.places ≡ slice_set old.places label (Some (length old.code))
+  pub picks : new.picks ≡ old.picks
+
+-- the targets of a PICK
+pub record Lists (number : ℕ) (labels : List ℕ) (old new : Written) : Type 0 where
+  pub code : new.code ≡ old.code
+  pub places : new.places ≡ old.places
+  pub picks : new.picks ≡ old.picks ++ record { number = number; labels = labels } ∷ []

@@ -1,0 +1,5 @@
+pub mod Drafts
+pub mod Emits
+pub mod Forms
+pub mod Rests
+pub mod Writing

@@ -1,0 +1,74 @@
+-- Rows of parts of expressions: an assignment, and what stands behind an operand or an index.
+use Rattle.std.specs.Prelude.{ℕ, pos, List, Option, None, Some, Bool, true}
+use Rattle.om_code.specs.declared.instruction.BinaryOperator as machine
+use Rattle.om_code.specs.declared.instruction.Instr.TheVariants as i
+use Rattle.om_code.specs.declared.instruction.UnaryOperator.TheVariants as unary
+use Rattle.om_resolved.specs.declared.resolved.UnaryOperator.{UnaryOperator}
+use Rattle.om_resolved.specs.declared.resolved.UnaryOperator.TheVariants as unaries
+use Rattle.om_resolved.specs.declared.resolved.Variable as variables
+use Rattle.om_resolved.specs.ResolvedTree.{ResolvedExpressionTree, ValuesTree}
+use Rattle.om_rows.specs.Expressions.{assigned, called, constant, printed, undone, value, values}
+use Rattle.om_rows.specs.Operators.{BinaryForm, Both, Either, Plain, compound_of, step_of, undo_of}
+use Rattle.om_rows.specs.Rows.{Site, Row, end, ins, part, here, ◌▸◌}
+use Rattle.om_rows.specs.Slots.{place}
+use Rattle.om_tree.specs.declared.tree.AssignOperator.{AssignOperator}
+use Rattle.om_tree.specs.declared.tree.PostfixOperator.{PostfixOperator}
+
+-- `x = e` and `x op= e`
+abbrev pub assignment : Site → ℕ → Bool → variables.Variable → AssignOperator → ResolvedExpressionTree → Row
+assignment at l keeps x operator e = assigned at l keeps x (compound_of operator) (value at l e)
+
+-- `x++` and `x--`, which do with x and 1 what `x += 1` and `x -= 1` do
+abbrev pub stepped : Site → ℕ → Bool → variables.Variable → PostfixOperator → Row
+stepped at l keeps x operator = assigned at l keeps x (Some (step_of operator)) (constant at l (pos 1))
+
+-- a call, with its values
+abbrev pub call : Site → ℕ → ℕ → ValuesTree → Row
+call at l function es = called at l function es (values at l es)
+
+-- `printf`, with its values
+abbrev pub print : Site → ℕ → List ℕ → ValuesTree → Row
+print at l format es = printed at l format es (values at l es)
+
+-- an expression whose value is taken off
+abbrev pub popped : Site → ℕ → ResolvedExpressionTree → Row
+popped at l e = part (value at l e) ▸ ins at l i.Pop ▸ end
+
+-- behind the operand of a unary operator
+abbrev pub unary_rest : Site → ℕ → UnaryOperator → Row
+unary_rest at l unaries.Plus = end
+unary_rest at l unaries.Negate = ins at l (i.Unary unary.Negate) ▸ end
+unary_rest at l unaries.Not = ins at l (i.Unary unary.Not) ▸ end
+
+-- behind the left operand of an operator between two
+abbrev pub binary_rest : Site → ℕ → BinaryForm → ResolvedExpressionTree → Row
+binary_rest at l Both b = λ p q. (f e : ℕ) ×
+    (ins at l (i.JumpIfZero f) ▸ part (value at l b) ▸ ins at l (i.JumpIfZero f)
+    ▸ ins at l (i.Constant (pos 1)) ▸ ins at l (i.Jump e)
+    ▸ here f ▸ ins at l (i.Constant (pos 0)) ▸ here e ▸ end) p q
+binary_rest at l Either b = λ p q. (n f e : ℕ) ×
+    (ins at l (i.JumpIfZero n) ▸ ins at l (i.Constant (pos 1)) ▸ ins at l (i.Jump e)
+    ▸ here n ▸ part (value at l b) ▸ ins at l (i.JumpIfZero f)
+    ▸ ins at l (i.Constant (pos 1)) ▸ ins at l (i.Jump e)
+    ▸ here f ▸ ins at l (i.Constant (pos 0)) ▸ here e ▸ end) p q
+binary_rest at l (Plain operator) b = part (value at l b) ▸ ins at l (i.Binary operator) ▸ end
+
+-- behind the index of an assignment to an element
+abbrev pub element_rest : Site → ℕ → Bool → variables.Variable → Option machine.BinaryOperator → Row → Row
+element_rest at l keeps a None e = part e ▸ ins at l (i.StoreElement (place at a) keeps) ▸ end
+element_rest at l keeps a (Some operator) e =
+    ins at l i.Duplicate ▸ ins at l (i.LoadElement (place at a)) ▸ part e
+    ▸ ins at l (i.Binary operator) ▸ ins at l (i.StoreElement (place at a) keeps) ▸ end
+
+-- behind the index of `a[j] = e` and `a[j] op= e`
+abbrev pub assignment_rest : Site → ℕ → Bool → variables.Variable → AssignOperator
+    → ResolvedExpressionTree → Row
+assignment_rest at l keeps a operator e = element_rest at l keeps a (compound_of operator) (value at l e)
+
+-- behind the index of `a[j]++` and `a[j]--`, without and with their value
+abbrev pub stepped_rest : Site → ℕ → Bool → variables.Variable → PostfixOperator → Row
+stepped_rest at l keeps a operator =
+    element_rest at l keeps a (Some (step_of operator)) (constant at l (pos 1))
+
+abbrev pub postfix_rest : Site → ℕ → variables.Variable → PostfixOperator → Row
+postfix_rest at l a operator = part (stepped_rest at l true a operator) ▸ undone at l (undo_of operator)

@@ -1,0 +1,342 @@
+//! The code of expressions (C17 6.5).
+
+ghost use Rattle.std.specs.Prelude.{◌≡◌, OnOk, map, true};
+ghost use Rattle.om_emit.specs.Emits.{EmitsRow, EmitsValue, EmitsValues};
+ghost use Rattle.om_emit.specs.Rests as rows;
+ghost use Rattle.om_resolved.specs.ResolvedTree as trees;
+ghost use Rattle.om_resolved.specs.ResolvedView.{view_resolved_expression};
+ghost use Rattle.om_rows.specs.Coded.{ValueHasCode, ValuesHaveCode};
+ghost use Rattle.om_rows.specs.Operators.{Both, Either, form_of};
+ghost use Rattle.om_rows.specs.Rows.{Site};
+ghost use Rattle.om_tables.specs.Scopes.{names_of};
+
+use crate::draft::Draft;
+use crate::operator::{Form, compound_of, form_of};
+use crate::single::{
+    load, load_element, postfix, postfix_element, store, store_element, unary_end,
+};
+use om_code::instruction::Instr;
+use om_resolved::{ResolvedExpression, UnaryOperator, Variable};
+use om_tables::Scope;
+use om_tree::AssignOperator;
+use std::alloc::AllocError;
+
+/// What is assigned to, a variable or an element of it, and how.
+#[derive(Clone, Copy)]
+pub(crate) struct Target {
+    pub(crate) variable: Variable,
+    pub(crate) operator: AssignOperator,
+    /// Whether the value is left.
+    pub(crate) keeps: bool,
+}
+
+/// Writes an expression, which leaves its value on top.
+///
+/// The error is out of memory. A call of more than 65,535 values counts as that.
+#[cycle(expression)]
+pub fn value(
+    draft: &mut Draft,
+    scope: &Scope<'_>,
+    line: u32,
+    e: &ResolvedExpression,
+) -> Result<(), AllocError>
+    requires coded { ValueHasCode (view_resolved_expression e.now) }
+    ensures { let tree = view_resolved_expression e.now in
+        OnOk result (EmitsValue (names_of scope.now) line tree draft.old draft.new) }
+{
+    match e {
+        ResolvedExpression::Constant(number) => draft.put(line, Instr::Constant(*number)),
+        ResolvedExpression::Variable(variable) => load(draft, scope, line, *variable),
+        ResolvedExpression::Element(array, index) => element(draft, scope, line, *array, index),
+        ResolvedExpression::Call(function, arguments) => {
+            used_call(draft, scope, line, *function, arguments.as_slice())
+        }
+        ResolvedExpression::ThreadNumber => draft.put(line, Instr::ThreadNumber),
+        ResolvedExpression::TeamSize => draft.put(line, Instr::TeamSize),
+        ResolvedExpression::Print(_, _) => unreachable!(),
+        ResolvedExpression::Unary(operator, operand) => {
+            unary(draft, scope, line, *operator, operand)
+        }
+        ResolvedExpression::Binary(left, operator, right) => {
+            value(draft, scope, line, left)?;
+            binary_end(draft, scope, line, *operator, right)?;
+            Ok(())
+        }
+        ResolvedExpression::Conditional(condition, then, other) => {
+            let otherwise = draft.fresh()?;
+            let end = draft.fresh()?;
+            value(draft, scope, line, condition)?;
+            draft.put(line, Instr::JumpIfZero(otherwise))?;
+            value(draft, scope, line, then)?;
+            draft.put(line, Instr::Jump(end))?;
+            draft.define(otherwise);
+            value(draft, scope, line, other)?;
+            draft.define(end);
+            Ok(())
+        }
+        ResolvedExpression::Assign(variable, operator, e) => {
+            assign(draft, scope, line, kept(*variable, *operator), e)
+        }
+        ResolvedExpression::AssignElement(array, index, operator, e) => {
+            value(draft, scope, line, index)?;
+            assign_element(draft, scope, line, kept(*array, *operator), e)?;
+            Ok(())
+        }
+        ResolvedExpression::Postfix(variable, operator) => {
+            postfix(draft, scope, line, *variable, *operator)
+        }
+        ResolvedExpression::PostfixElement(array, index, operator) => {
+            value(draft, scope, line, index)?;
+            postfix_element(draft, scope, line, *array, *operator)?;
+            Ok(())
+        }
+    }
+}
+
+/// An assignment whose value is left.
+fn kept(variable: Variable, operator: AssignOperator) -> Target
+    ensures { result ≡ record { variable = variable; operator = operator; keeps = true } }
+{
+    Target {
+        variable,
+        operator,
+        keeps: true,
+    }
+}
+
+/// Writes expressions from left to right, each of which leaves its value.
+#[cycle(expression)]
+pub fn values(
+    draft: &mut Draft,
+    scope: &Scope<'_>,
+    line: u32,
+    es: &[ResolvedExpression],
+) -> Result<(), AllocError>
+    requires { ValuesHaveCode (trees.values (map view_resolved_expression es.now)) }
+    ensures { let tree = trees.values (map view_resolved_expression es.now) in
+        OnOk result (EmitsValues (names_of scope.now) line tree draft.old draft.new) }
+{
+    for e in es {
+        value(draft, scope, line, e)?;
+    }
+    Ok(())
+}
+
+/// Writes the element of an array (C17 6.5.2.1).
+#[cycle(expression)]
+fn element(
+    draft: &mut Draft,
+    scope: &Scope<'_>,
+    line: u32,
+    array: Variable,
+    index: &ResolvedExpression,
+) -> Result<(), AllocError>
+    requires { ValueHasCode (view_resolved_expression index.now) }
+    ensures { let tree = trees.Element array (view_resolved_expression index.now) in
+        OnOk result (EmitsValue (names_of scope.now) line tree draft.old draft.new) }
+{
+    value(draft, scope, line, index)?;
+    load_element(draft, scope, line, array)?;
+    Ok(())
+}
+
+/// Writes the values of a call, and the call (C17 6.5.2.2).
+#[cycle(expression)]
+pub(crate) fn call(
+    draft: &mut Draft,
+    scope: &Scope<'_>,
+    line: u32,
+    function: usize,
+    arguments: &[ResolvedExpression],
+) -> Result<(), AllocError>
+    requires { ValuesHaveCode (trees.values (map view_resolved_expression arguments.now)) }
+    ensures { let tree = trees.values (map view_resolved_expression arguments.now) in
+        let row = λ (at : Site). rows.call at line function tree in
+        OnOk result (EmitsRow (names_of scope.now) row draft.old draft.new) }
+{
+    let Ok(count) = u16::try_from(arguments.len()) else {
+        return Err(AllocError);
+    };
+    let body = scope.called_body(function);
+    values(draft, scope, line, arguments)?;
+    let values = count;
+    draft.put(line, Instr::Call { body, values })?;
+    Ok(())
+}
+
+/// Writes a call whose value is used.
+#[cycle(expression)]
+fn used_call(
+    draft: &mut Draft,
+    scope: &Scope<'_>,
+    line: u32,
+    function: usize,
+    arguments: &[ResolvedExpression],
+) -> Result<(), AllocError>
+    requires { ValuesHaveCode (trees.values (map view_resolved_expression arguments.now)) }
+    ensures { let tree = trees.Call function (trees.values (map view_resolved_expression arguments.now)) in
+        OnOk result (EmitsValue (names_of scope.now) line tree draft.old draft.new) }
+{
+    call(draft, scope, line, function, arguments)?;
+    draft.put(line, Instr::Use)?;
+    Ok(())
+}
+
+/// Writes an operator before its operand (C17 6.5.3.3).
+#[cycle(expression)]
+fn unary(
+    draft: &mut Draft,
+    scope: &Scope<'_>,
+    line: u32,
+    operator: UnaryOperator,
+    operand: &ResolvedExpression,
+) -> Result<(), AllocError>
+    requires { ValueHasCode (view_resolved_expression operand.now) }
+    ensures { let tree = trees.Unary operator (view_resolved_expression operand.now) in
+        OnOk result (EmitsValue (names_of scope.now) line tree draft.old draft.new) }
+{
+    value(draft, scope, line, operand)?;
+    unary_end(draft, line, operator)?;
+    Ok(())
+}
+
+/// Writes what stands behind the left operand of an operator between two (C17 6.5.5 to 6.5.14).
+#[cycle(expression)]
+fn binary_end(
+    draft: &mut Draft,
+    scope: &Scope<'_>,
+    line: u32,
+    operator: om_tree::BinaryOperator,
+    right: &ResolvedExpression,
+) -> Result<(), AllocError>
+    requires { ValueHasCode (view_resolved_expression right.now) }
+    ensures { let tree = view_resolved_expression right.now in
+        let row = λ (at : Site). rows.binary_rest at line (form_of operator) tree in
+        OnOk result (EmitsRow (names_of scope.now) row draft.old draft.new) }
+{
+    match form_of(operator) {
+        Form::Both => both_end(draft, scope, line, right),
+        Form::Either => either_end(draft, scope, line, right),
+        Form::Plain(operator) => {
+            value(draft, scope, line, right)?;
+            draft.put(line, Instr::Binary(operator))?;
+            Ok(())
+        }
+    }
+}
+
+/// Writes what stands behind the left operand of `a && b` (C17 6.5.13).
+#[cycle(expression)]
+fn both_end(
+    draft: &mut Draft,
+    scope: &Scope<'_>,
+    line: u32,
+    right: &ResolvedExpression,
+) -> Result<(), AllocError>
+    requires { ValueHasCode (view_resolved_expression right.now) }
+    ensures { let row = λ (at : Site). rows.binary_rest at line Both (view_resolved_expression right.now) in
+        OnOk result (EmitsRow (names_of scope.now) row draft.old draft.new) }
+{
+    let neither = draft.fresh()?;
+    let end = draft.fresh()?;
+    draft.put(line, Instr::JumpIfZero(neither))?;
+    value(draft, scope, line, right)?;
+    draft.put(line, Instr::JumpIfZero(neither))?;
+    draft.put(line, Instr::Constant(1))?;
+    draft.put(line, Instr::Jump(end))?;
+    draft.define(neither);
+    draft.put(line, Instr::Constant(0))?;
+    draft.define(end);
+    Ok(())
+}
+
+/// Writes what stands behind the left operand of `a || b` (C17 6.5.14).
+#[cycle(expression)]
+fn either_end(
+    draft: &mut Draft,
+    scope: &Scope<'_>,
+    line: u32,
+    right: &ResolvedExpression,
+) -> Result<(), AllocError>
+    requires { ValueHasCode (view_resolved_expression right.now) }
+    ensures { let row = λ (at : Site). rows.binary_rest at line Either (view_resolved_expression right.now) in
+        OnOk result (EmitsRow (names_of scope.now) row draft.old draft.new) }
+{
+    let next = draft.fresh()?;
+    let neither = draft.fresh()?;
+    let end = draft.fresh()?;
+    draft.put(line, Instr::JumpIfZero(next))?;
+    draft.put(line, Instr::Constant(1))?;
+    draft.put(line, Instr::Jump(end))?;
+    draft.define(next);
+    value(draft, scope, line, right)?;
+    draft.put(line, Instr::JumpIfZero(neither))?;
+    draft.put(line, Instr::Constant(1))?;
+    draft.put(line, Instr::Jump(end))?;
+    draft.define(neither);
+    draft.put(line, Instr::Constant(0))?;
+    draft.define(end);
+    Ok(())
+}
+
+/// Writes an assignment to a variable (C17 6.5.16).
+#[cycle(expression)]
+pub(crate) fn assign(
+    draft: &mut Draft,
+    scope: &Scope<'_>,
+    line: u32,
+    target: Target,
+    e: &ResolvedExpression,
+) -> Result<(), AllocError>
+    requires { ValueHasCode (view_resolved_expression e.now) }
+    ensures { let tree = view_resolved_expression e.now in
+        let row = λ (at : Site). rows.assignment at line target.keeps target.variable target.operator tree in
+        OnOk result (EmitsRow (names_of scope.now) row draft.old draft.new) }
+{
+    match compound_of(target.operator) {
+        None => {
+            value(draft, scope, line, e)?;
+            store(draft, scope, line, target.variable, target.keeps)?;
+            Ok(())
+        }
+        Some(operator) => {
+            load(draft, scope, line, target.variable)?;
+            value(draft, scope, line, e)?;
+            draft.put(line, Instr::Binary(operator))?;
+            store(draft, scope, line, target.variable, target.keeps)?;
+            Ok(())
+        }
+    }
+}
+
+/// Writes what stands behind the index of an assignment to an element (C17 6.5.16).
+#[cycle(expression)]
+pub(crate) fn assign_element(
+    draft: &mut Draft,
+    scope: &Scope<'_>,
+    line: u32,
+    target: Target,
+    e: &ResolvedExpression,
+) -> Result<(), AllocError>
+    requires { ValueHasCode (view_resolved_expression e.now) }
+    ensures { let tree = view_resolved_expression e.now in
+        let row =
+        λ (at : Site). rows.assignment_rest at line target.keeps target.variable target.operator tree in
+        OnOk result (EmitsRow (names_of scope.now) row draft.old draft.new) }
+{
+    match compound_of(target.operator) {
+        None => {
+            value(draft, scope, line, e)?;
+            store_element(draft, scope, line, target.variable, target.keeps)?;
+            Ok(())
+        }
+        Some(operator) => {
+            draft.put(line, Instr::Duplicate)?;
+            load_element(draft, scope, line, target.variable)?;
+            value(draft, scope, line, e)?;
+            draft.put(line, Instr::Binary(operator))?;
+            store_element(draft, scope, line, target.variable, target.keeps)?;
+            Ok(())
+        }
+    }
+}

@@ -1,0 +1,14 @@
+//! Writes the code of expressions.
+//!
+//! While code is written, a jump names a label. What a part promises speaks of every finished
+//! program that agrees with what was written, so promises compose item by item, as rows do.
+#![tactic(auto)]
+
+pub mod draft;
+mod expression;
+mod operator;
+mod single;
+mod unused;
+
+pub use expression::{value, values};
+pub use unused::effect;

@@ -1,0 +1,74 @@
+//! The operators of the language as those of instructions.
+
+ghost use Rattle.std.specs.Prelude.{◌≡◌};
+ghost use Rattle.om_emit.specs.Forms.{form};
+ghost use Rattle.om_rows.specs.Operators as rows;
+
+use om_code::instruction::BinaryOperator;
+use om_tree::{AssignOperator, PostfixOperator};
+
+/// What an operator between two operands is.
+#[derive(Clone, Copy)]
+pub(crate) enum Form {
+    /// `&&`, which may jump over its right operand (C17 6.5.13p4).
+    Both,
+    /// `||`, which may too (C17 6.5.14p4).
+    Either,
+    /// An instruction.
+    Plain(BinaryOperator),
+}
+
+/// What an operator between two operands is (C17 6.5.5 to 6.5.14).
+pub(crate) fn form_of(operator: om_tree::BinaryOperator) -> Form
+    ensures { form result ≡ rows.form_of operator }
+{
+    match operator {
+        om_tree::BinaryOperator::And => Form::Both,
+        om_tree::BinaryOperator::Or => Form::Either,
+        om_tree::BinaryOperator::Equal => Form::Plain(BinaryOperator::Equal),
+        om_tree::BinaryOperator::NotEqual => Form::Plain(BinaryOperator::NotEqual),
+        om_tree::BinaryOperator::Less => Form::Plain(BinaryOperator::Less),
+        om_tree::BinaryOperator::Greater => Form::Plain(BinaryOperator::Greater),
+        om_tree::BinaryOperator::LessEqual => Form::Plain(BinaryOperator::LessOrEqual),
+        om_tree::BinaryOperator::GreaterEqual => Form::Plain(BinaryOperator::GreaterOrEqual),
+        om_tree::BinaryOperator::Add => Form::Plain(BinaryOperator::Add),
+        om_tree::BinaryOperator::Subtract => Form::Plain(BinaryOperator::Subtract),
+        om_tree::BinaryOperator::Multiply => Form::Plain(BinaryOperator::Multiply),
+        om_tree::BinaryOperator::Divide => Form::Plain(BinaryOperator::Divide),
+        om_tree::BinaryOperator::Remainder => Form::Plain(BinaryOperator::Remainder),
+    }
+}
+
+/// The operator of a compound assignment; `=` has none (C17 6.5.16.2).
+pub(crate) fn compound_of(operator: AssignOperator) -> Option<BinaryOperator>
+    ensures { result ≡ rows.compound_of operator }
+{
+    match operator {
+        AssignOperator::Set => None,
+        AssignOperator::Add => Some(BinaryOperator::Add),
+        AssignOperator::Subtract => Some(BinaryOperator::Subtract),
+        AssignOperator::Multiply => Some(BinaryOperator::Multiply),
+        AssignOperator::Divide => Some(BinaryOperator::Divide),
+        AssignOperator::Remainder => Some(BinaryOperator::Remainder),
+    }
+}
+
+/// What `x++` or `x--` does with x and 1 (C17 6.5.2.4).
+pub(crate) fn step_of(operator: PostfixOperator) -> BinaryOperator
+    ensures { result ≡ rows.step_of operator }
+{
+    match operator {
+        PostfixOperator::Increment => BinaryOperator::Add,
+        PostfixOperator::Decrement => BinaryOperator::Subtract,
+    }
+}
+
+/// What makes the old value of the new one and 1.
+pub(crate) fn undo_of(operator: PostfixOperator) -> BinaryOperator
+    ensures { result ≡ rows.undo_of operator }
+{
+    match operator {
+        PostfixOperator::Increment => BinaryOperator::Subtract,
+        PostfixOperator::Decrement => BinaryOperator::Add,
+    }
+}

@@ -1,0 +1,199 @@
+//! The code of what no expression stands in.
+
+ghost use Rattle.std.specs.Prelude.{OnOk};
+ghost use Rattle.om_code.specs.declared.instruction.Instr.TheVariants as i;
+ghost use Rattle.om_emit.specs.Drafts.{Puts};
+ghost use Rattle.om_emit.specs.Emits.{EmitsRow, EmitsValue};
+ghost use Rattle.om_emit.specs.Rests as rows;
+ghost use Rattle.om_resolved.specs.ResolvedTree as trees;
+ghost use Rattle.om_rows.specs.Expressions.{undone};
+ghost use Rattle.om_rows.specs.Operators.{undo_of};
+ghost use Rattle.om_rows.specs.Rows.{Site};
+ghost use Rattle.om_rows.specs.Slots.{place_of};
+ghost use Rattle.om_tables.specs.Names.{Names};
+ghost use Rattle.om_tables.specs.Scopes.{names_of};
+
+use crate::draft::Draft;
+use crate::operator::{step_of, undo_of};
+use om_code::instruction::{self, Instr};
+use om_resolved::{UnaryOperator, Variable};
+use om_tables::Scope;
+use om_tree::PostfixOperator;
+use std::alloc::AllocError;
+
+/// A postfix operator of a variable, or of an element of it.
+#[derive(Clone, Copy)]
+pub(crate) struct Stepped {
+    pub(crate) variable: Variable,
+    pub(crate) operator: PostfixOperator,
+    /// Whether the new value is left.
+    pub(crate) keeps: bool,
+}
+
+/// Loads a variable.
+pub(crate) fn load(
+    draft: &mut Draft,
+    scope: &Scope<'_>,
+    line: u32,
+    variable: Variable,
+) -> Result<(), AllocError>
+    ensures { let place = place_of (names_of scope.now).slots variable in
+        OnOk result (Puts line (i.Load place) draft.old draft.new) }
+{
+    let place = scope.place(variable);
+    draft.put(line, Instr::Load(place))
+}
+
+/// Loads the element of an array whose index is on top.
+pub(crate) fn load_element(
+    draft: &mut Draft,
+    scope: &Scope<'_>,
+    line: u32,
+    array: Variable,
+) -> Result<(), AllocError>
+    ensures { let place = place_of (names_of scope.now).slots array in
+        OnOk result (Puts line (i.LoadElement place) draft.old draft.new) }
+{
+    let place = scope.place(array);
+    draft.put(line, Instr::LoadElement(place))
+}
+
+/// Stores the value on top in a variable; `keeps` says whether it is left.
+pub(crate) fn store(
+    draft: &mut Draft,
+    scope: &Scope<'_>,
+    line: u32,
+    variable: Variable,
+    keeps: bool,
+) -> Result<(), AllocError>
+    ensures { let place = place_of (names_of scope.now).slots variable in
+        OnOk result (Puts line (i.Store place keeps) draft.old draft.new) }
+{
+    let place = scope.place(variable);
+    draft.put(line, Instr::Store { place, keeps })
+}
+
+/// Stores the value on top in the element whose index lies below it; `keeps` says whether it is left.
+pub(crate) fn store_element(
+    draft: &mut Draft,
+    scope: &Scope<'_>,
+    line: u32,
+    array: Variable,
+    keeps: bool,
+) -> Result<(), AllocError>
+    ensures { let place = place_of (names_of scope.now).slots array in
+        OnOk result (Puts line (i.StoreElement place keeps) draft.old draft.new) }
+{
+    let place = scope.place(array);
+    draft.put(line, Instr::StoreElement { place, keeps })
+}
+
+/// What stands behind the operand of a unary operator (C17 6.5.3.3).
+pub(crate) fn unary_end(
+    draft: &mut Draft,
+    line: u32,
+    operator: UnaryOperator,
+) -> Result<(), AllocError>
+    ensures { (names : Names)
+        → OnOk result (EmitsRow names (λ at. rows.unary_rest at line operator) draft.old draft.new) }
+{
+    match operator {
+        UnaryOperator::Plus => Ok(()),
+        UnaryOperator::Negate => {
+            draft.put(line, Instr::Unary(instruction::UnaryOperator::Negate))?;
+            Ok(())
+        }
+        UnaryOperator::Not => {
+            draft.put(line, Instr::Unary(instruction::UnaryOperator::Not))?;
+            Ok(())
+        }
+    }
+}
+
+/// `x++` or `x--`, as `x += 1` or `x -= 1` (C17 6.5.2.4).
+pub(crate) fn step(
+    draft: &mut Draft,
+    scope: &Scope<'_>,
+    line: u32,
+    target: Stepped,
+) -> Result<(), AllocError>
+    ensures { let row = λ (at : Site). rows.stepped at line target.keeps target.variable target.operator in
+        OnOk result (EmitsRow (names_of scope.now) row draft.old draft.new) }
+{
+    load(draft, scope, line, target.variable)?;
+    draft.put(line, Instr::Constant(1))?;
+    draft.put(line, Instr::Binary(step_of(target.operator)))?;
+    store(draft, scope, line, target.variable, target.keeps)?;
+    Ok(())
+}
+
+/// `a[j]++` or `a[j]--`, as `a[j] += 1` or `a[j] -= 1`, behind the index.
+pub(crate) fn step_element(
+    draft: &mut Draft,
+    scope: &Scope<'_>,
+    line: u32,
+    target: Stepped,
+) -> Result<(), AllocError>
+    ensures { let row =
+        λ (at : Site). rows.stepped_rest at line target.keeps target.variable target.operator in
+        OnOk result (EmitsRow (names_of scope.now) row draft.old draft.new) }
+{
+    draft.put(line, Instr::Duplicate)?;
+    load_element(draft, scope, line, target.variable)?;
+    draft.put(line, Instr::Constant(1))?;
+    draft.put(line, Instr::Binary(step_of(target.operator)))?;
+    store_element(draft, scope, line, target.variable, target.keeps)?;
+    Ok(())
+}
+
+/// The old value of what was stepped, from the new one on top.
+fn undo(draft: &mut Draft, line: u32, operator: PostfixOperator) -> Result<(), AllocError>
+    ensures { let undo = undo_of operator in
+        (names : Names) → OnOk result (EmitsRow names (λ at. undone at line undo) draft.old draft.new) }
+{
+    draft.put(line, Instr::Constant(1))?;
+    draft.put(line, Instr::Binary(undo_of(operator)))?;
+    Ok(())
+}
+
+/// `x++` or `x--`, whose value is the old one.
+pub(crate) fn postfix(
+    draft: &mut Draft,
+    scope: &Scope<'_>,
+    line: u32,
+    variable: Variable,
+    operator: PostfixOperator,
+) -> Result<(), AllocError>
+    ensures { let tree = trees.Postfix variable operator in
+        OnOk result (EmitsValue (names_of scope.now) line tree draft.old draft.new) }
+{
+    let target = Stepped {
+        variable,
+        operator,
+        keeps: true,
+    };
+    step(draft, scope, line, target)?;
+    undo(draft, line, operator)?;
+    Ok(())
+}
+
+/// `a[j]++` or `a[j]--` behind the index; its value is the old one.
+pub(crate) fn postfix_element(
+    draft: &mut Draft,
+    scope: &Scope<'_>,
+    line: u32,
+    array: Variable,
+    operator: PostfixOperator,
+) -> Result<(), AllocError>
+    ensures { let row = λ (at : Site). rows.postfix_rest at line array operator in
+        OnOk result (EmitsRow (names_of scope.now) row draft.old draft.new) }
+{
+    let target = Stepped {
+        variable: array,
+        operator,
+        keeps: true,
+    };
+    step_element(draft, scope, line, target)?;
+    undo(draft, line, operator)?;
+    Ok(())
+}

@@ -1,0 +1,129 @@
+//! The code of expressions whose values nothing uses (C17 6.8.3).
+
+ghost use Rattle.std.specs.Prelude.{◌≡◌, OnOk, false, map};
+ghost use Rattle.om_emit.specs.Emits.{EmitsEffect, EmitsRow};
+ghost use Rattle.om_emit.specs.Rests as rows;
+ghost use Rattle.om_resolved.specs.ResolvedTree as trees;
+ghost use Rattle.om_resolved.specs.ResolvedView.{view_resolved_expression};
+ghost use Rattle.om_rows.specs.Coded.{EffectHasCode, ValueHasCode, ValuesHaveCode};
+ghost use Rattle.om_rows.specs.Rows.{Site};
+ghost use Rattle.om_tables.specs.Scopes.{names_of};
+
+use crate::draft::Draft;
+use crate::expression::{Target, assign, assign_element, call, value, values};
+use crate::single::{Stepped, step, step_element};
+use om_code::instruction::Instr;
+use om_resolved::{ResolvedExpression, Variable};
+use om_tables::Scope;
+use om_tree::{AssignOperator, PostfixOperator};
+use std::alloc::AllocError;
+
+/// Writes an expression, which leaves nothing.
+///
+/// The error is out of memory. A call of more than 65,535 values counts as that.
+pub fn effect(
+    draft: &mut Draft,
+    scope: &Scope<'_>,
+    line: u32,
+    e: &ResolvedExpression,
+) -> Result<(), AllocError>
+    requires { EffectHasCode (view_resolved_expression e.now) }
+    ensures { let tree = view_resolved_expression e.now in
+        OnOk result (EmitsEffect (names_of scope.now) line tree draft.old draft.new) }
+{
+    match e {
+        ResolvedExpression::Assign(variable, operator, e) => {
+            assign(draft, scope, line, dropped(*variable, *operator), e)
+        }
+        ResolvedExpression::AssignElement(array, index, operator, e) => {
+            value(draft, scope, line, index)?;
+            assign_element(draft, scope, line, dropped(*array, *operator), e)?;
+            Ok(())
+        }
+        ResolvedExpression::Postfix(variable, operator) => {
+            step(draft, scope, line, stepped(*variable, *operator))
+        }
+        ResolvedExpression::PostfixElement(array, index, operator) => {
+            value(draft, scope, line, index)?;
+            step_element(draft, scope, line, stepped(*array, *operator))?;
+            Ok(())
+        }
+        ResolvedExpression::Print(format, arguments) => {
+            print(draft, scope, line, format.as_slice(), arguments.as_slice())
+        }
+        ResolvedExpression::Call(function, arguments) => {
+            call(draft, scope, line, *function, arguments.as_slice())?;
+            draft.put(line, Instr::Pop)?;
+            Ok(())
+        }
+        ResolvedExpression::Constant(_) => popped(draft, scope, line, e),
+        ResolvedExpression::Variable(_) => popped(draft, scope, line, e),
+        ResolvedExpression::Element(_, _) => popped(draft, scope, line, e),
+        ResolvedExpression::ThreadNumber => popped(draft, scope, line, e),
+        ResolvedExpression::TeamSize => popped(draft, scope, line, e),
+        ResolvedExpression::Unary(_, _) => popped(draft, scope, line, e),
+        ResolvedExpression::Binary(_, _, _) => popped(draft, scope, line, e),
+        ResolvedExpression::Conditional(_, _, _) => popped(draft, scope, line, e),
+    }
+}
+
+/// An assignment whose value is not left.
+fn dropped(variable: Variable, operator: AssignOperator) -> Target
+    ensures { result ≡ record { variable = variable; operator = operator; keeps = false } }
+{
+    Target {
+        variable,
+        operator,
+        keeps: false,
+    }
+}
+
+/// A postfix operator whose value is not left.
+fn stepped(variable: Variable, operator: PostfixOperator) -> Stepped
+    ensures { result ≡ record { variable = variable; operator = operator; keeps = false } }
+{
+    Stepped {
+        variable,
+        operator,
+        keeps: false,
+    }
+}
+
+/// Writes an expression that leaves its value, and takes it off.
+fn popped(
+    draft: &mut Draft,
+    scope: &Scope<'_>,
+    line: u32,
+    e: &ResolvedExpression,
+) -> Result<(), AllocError>
+    requires { ValueHasCode (view_resolved_expression e.now) }
+    ensures { let row = λ (at : Site). rows.popped at line (view_resolved_expression e.now) in
+        OnOk result (EmitsRow (names_of scope.now) row draft.old draft.new) }
+{
+    value(draft, scope, line, e)?;
+    draft.put(line, Instr::Pop)?;
+    Ok(())
+}
+
+/// Writes the values of a `printf`, and what prints them by its format (C17 7.21.6.3).
+fn print(
+    draft: &mut Draft,
+    scope: &Scope<'_>,
+    line: u32,
+    format: &[u8],
+    arguments: &[ResolvedExpression],
+) -> Result<(), AllocError>
+    requires { ValuesHaveCode (trees.values (map view_resolved_expression arguments.now)) }
+    ensures { let tree = trees.values (map view_resolved_expression arguments.now) in
+        let row = λ (at : Site). rows.print at line format.now tree in
+        OnOk result (EmitsRow (names_of scope.now) row draft.old draft.new) }
+{
+    let Ok(count) = u16::try_from(arguments.len()) else {
+        return Err(AllocError);
+    };
+    let text = scope.format_number(format);
+    values(draft, scope, line, arguments)?;
+    let values = count;
+    draft.put(line, Instr::Print { text, values })?;
+    Ok(())
+}

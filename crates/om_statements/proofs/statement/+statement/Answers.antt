@@ -1,0 +1,157 @@
+use Rattle.std.proofs.Common.{◌≡◌, arith, refl, length, map, option_map, sym, ap, subst, ◌∙◌}
+use Rattle.std.proofs.lemmas.List.{drop_all}
+use Rattle.std.specs.Prelude.{is_some}
+use Rattle.om_rows.specs.Statements.{clause_value}
+use Rattle.om_tables.specs.Copies.{first_copies_of}
+use Rattle.om_resolved.specs.ResolvedTree as trees
+use Rattle.om_resolved.specs.ResolvedView.{view_resolved_clause, view_resolved_expression, view_resolved_loop, view_resolved_start, view_resolved_statement}
+use Rattle.om_rows.specs.Bodies as rows
+use Rattle.om_tables.specs.Numbering.{numbers_of}
+use Rattle.om_tables.specs.Scopes.{names_of}
+use Rattle.om_statements.specs.Plain.{HaveNoSections}
+use Rattle.om_statements.proofs.Going.{free_emits}
+use Rattle.om_statements.proofs.Lists.{left_item, left_next, no_atomic, numbers_are, onward_begin, onward_done, spot_is, statement_is}
+use Rattle.om_statements.proofs.Views.{view_break, view_construct, view_continue, view_do, view_for, view_if, view_if_else, view_loop, view_parallel, view_stand_alone, view_task, view_while}
+use Rattle.om_statements.proofs.Forms.{close_clauses_are, construct_clauses_are, emits_construct, emits_do, emits_for, emits_if, emits_if_else, emits_loop, emits_while, loop_clauses_are, size_clauses_are}
+use Rattle.om_statements.proofs.Regions.{emits_parallel, emits_task}
+use Rattle.om_statements.proofs.statement.+statement.Goals as goal
+
+pub statement-define-requires-in-IfElse : goal.statement-define-requires-in-IfElse
+statement-define-requires-in-IfElse t c =
+    free_emits _ _ _ _ (c.in_ok-end-in-IfElse.ensures (names_of c.args.scope.now)).free c.in_ok-after-in-IfElse.ensures.emitted
+
+pub statement-end_loop-requires : goal.statement-end_loop-requires
+statement-end_loop-requires t c =
+    free_emits _ _ _ _ c.in_ok-labels-in-While.ensures.free c.in_ok-after-in-While.ensures.emitted
+
+pub statement-end_do-requires-clause-next : goal.statement-end_do-requires-clause-next
+statement-end_do-requires-clause-next t c =
+    free_emits _ _ _ _ c.in_ok-labels-in-Do.ensures.next.free c.in_ok-after-in-Do.ensures.emitted
+
+pub statement-end_do-requires-clause-over : goal.statement-end_do-requires-clause-over
+statement-end_do-requires-clause-over t c =
+    free_emits _ _ _ _ c.in_ok-labels-in-Do.ensures.over.free c.in_ok-after-in-Do.ensures.emitted
+
+pub statement-end_for-requires-clause-next : goal.statement-end_for-requires-clause-next
+statement-end_for-requires-clause-next t c =
+    free_emits _ _ _ _ c.in_ok-labels-in-For.ensures.next.free c.in_ok-after-in-For.ensures.emitted
+
+pub statement-end_for-requires-clause-over : goal.statement-end_for-requires-clause-over
+statement-end_for-requires-clause-over t c =
+    free_emits _ _ _ _ c.in_ok-labels-in-For.ensures.over.free c.in_ok-after-in-For.ensures.emitted
+
+pub statement-end_loop-requires-in-Loop : goal.statement-end_loop-requires-in-Loop
+statement-end_loop-requires-in-Loop t c =
+    free_emits _ _ _ _ c.in_ok-labels-in-Loop.ensures.free c.in_ok-after-in-Loop.ensures.emitted
+
+pub statement-end_construct-requires : goal.statement-end_construct-requires
+statement-end_construct-requires t c =
+    record {
+      free = free_emits _ _ _ _ c.in_ok-label-in-Construct.ensures.free c.in_ok-after-in-Construct-2.ensures.emitted;
+      kind = no_atomic c.in-Construct.kind c.in_default.not-Atomic;
+    }
+
+pub statement-returns-in_ok-after-in-If-clause-emitted : goal.statement-returns-in_ok-after-in-If-clause-emitted
+statement-returns-in_ok-after-in-If-clause-emitted t c =
+    statement_is (names_of c.args.scope.now) (numbers_of c.args.spot.numbers) _ _ c.args.spot.jumps _ _
+    (ap (λ z. trees.If c.in-If.at (view_resolved_expression c.in-If.condition) (view_resolved_statement z)) c.deref.ensures ∙ sym (ap view_resolved_statement c.in-If.is ∙ view_if c.in-If.at c.in-If.condition c.in-If.then))
+    (emits_if (names_of c.args.scope.now) (numbers_of c.args.spot.numbers) c.in-If.at (view_resolved_expression c.in-If.condition) (view_resolved_statement c.deref.result.now) c.args.spot.jumps c.in_ok-end-in-If.end _ _ _ _
+    c.in_ok-end-in-If.ensures c.in_ok-after-in-If.ensures.emitted c.define.ensures)
+
+pub statement-returns-in_ok-after-in-IfElse-clause-emitted : goal.statement-returns-in_ok-after-in-IfElse-clause-emitted
+statement-returns-in_ok-after-in-IfElse-clause-emitted t c =
+    statement_is (names_of c.args.scope.now) (numbers_of c.args.spot.numbers) _ _ c.args.spot.jumps _ _
+    (ap (λ z. trees.IfElse c.in-IfElse.at (view_resolved_expression c.in-IfElse.condition) (view_resolved_statement z) (view_resolved_statement c.deref-in-IfElse-2.result.now)) c.deref-in-IfElse.ensures
+    ∙ ap (λ z. trees.IfElse c.in-IfElse.at (view_resolved_expression c.in-IfElse.condition) (view_resolved_statement c.in-IfElse.then.value) (view_resolved_statement z)) c.deref-in-IfElse-2.ensures
+    ∙ sym (ap view_resolved_statement c.in-IfElse.is ∙ view_if_else c.in-IfElse.at c.in-IfElse.condition c.in-IfElse.then c.in-IfElse.other))
+    (emits_if_else (names_of c.args.scope.now) (numbers_of c.args.spot.numbers) c.in-IfElse.at (view_resolved_expression c.in-IfElse.condition) (view_resolved_statement c.deref-in-IfElse.result.now) (view_resolved_statement c.deref-in-IfElse-2.result.now) c.args.spot.jumps c.in_ok-head-in-IfElse.head c.in_ok-end-in-IfElse.end _ _ _ _ _ _
+    c.in_ok-head-in-IfElse.ensures c.in_ok-between-in-IfElse.ensures.emitted (c.in_ok-end-in-IfElse.ensures (names_of c.args.scope.now))
+    (numbers_are (names_of c.args.scope.now) _ _ (view_resolved_statement c.deref-in-IfElse-2.result.now) c.args.spot.jumps _ _ c.in_ok-between-in-IfElse.ensures.behind (spot_is (names_of c.args.scope.now) (view_resolved_statement c.deref-in-IfElse-2.result.now) _ _ _ _ c.behind.ensures c.in_ok-after-in-IfElse.ensures.emitted))
+    c.define-in-IfElse.ensures)
+
+pub statement-returns-in_ok-end_loop-in-While-clause-emitted : goal.statement-returns-in_ok-end_loop-in-While-clause-emitted
+statement-returns-in_ok-end_loop-in-While-clause-emitted t c =
+    statement_is (names_of c.args.scope.now) (numbers_of c.args.spot.numbers) _ _ c.args.spot.jumps _ _
+    (ap (λ z. trees.While c.in-While.at (view_resolved_expression c.in-While.condition) (view_resolved_statement z)) c.deref-in-While.ensures ∙ sym (ap view_resolved_statement c.in-While.is ∙ view_while c.in-While.at c.in-While.condition c.in-While.body))
+    (emits_while (names_of c.args.scope.now) (numbers_of c.args.spot.numbers) c.in-While.at (view_resolved_expression c.in-While.condition) (view_resolved_statement c.deref-in-While.result.now) c.args.spot.jumps c.in_ok-labels-in-While.labels _ _ _ _
+    c.in_ok-labels-in-While.ensures (spot_is (names_of c.args.scope.now) (view_resolved_statement c.deref-in-While.result.now) _ _ _ _ c.in_loop-inside.ensures c.in_ok-after-in-While.ensures.emitted) (c.in_ok-end_loop-in-While.ensures (names_of c.args.scope.now)))
+
+pub statement-returns-in_ok-end_do-in-Do-clause-emitted : goal.statement-returns-in_ok-end_do-in-Do-clause-emitted
+statement-returns-in_ok-end_do-in-Do-clause-emitted t c =
+    statement_is (names_of c.args.scope.now) (numbers_of c.args.spot.numbers) _ _ c.args.spot.jumps _ _
+    (ap (λ z. trees.Do c.in-Do.at (view_resolved_statement z) (view_resolved_expression c.in-Do.condition)) c.deref-in-Do.ensures ∙ sym (ap view_resolved_statement c.in-Do.is ∙ view_do c.in-Do.at c.in-Do.body c.in-Do.condition))
+    (emits_do (names_of c.args.scope.now) (numbers_of c.args.spot.numbers) c.in-Do.at (view_resolved_expression c.in-Do.condition) (view_resolved_statement c.deref-in-Do.result.now) c.args.spot.jumps c.in_ok-labels-in-Do.labels _ _ _ _
+    c.in_ok-labels-in-Do.ensures (spot_is (names_of c.args.scope.now) (view_resolved_statement c.deref-in-Do.result.now) _ _ _ _ c.in_loop-inside-in-Do.ensures c.in_ok-after-in-Do.ensures.emitted) c.in_ok-end_do-in-Do.ensures)
+
+pub statement-returns-in_ok-end_for-in-For-clause-emitted : goal.statement-returns-in_ok-end_for-in-For-clause-emitted
+statement-returns-in_ok-end_for-in-For-clause-emitted t c =
+    statement_is (names_of c.args.scope.now) (numbers_of c.args.spot.numbers) _ _ c.args.spot.jumps _ _
+    (ap (λ z. trees.For c.in-For.at (view_resolved_start c.in-For.begin) (option_map view_resolved_expression c.in-For.condition) (option_map view_resolved_expression c.in-For.step) (view_resolved_statement z)) c.deref-in-For.ensures ∙ sym (ap view_resolved_statement c.in-For.is ∙ view_for c.in-For.at c.in-For.begin c.in-For.condition c.in-For.step c.in-For.body))
+    (emits_for (names_of c.args.scope.now) (numbers_of c.args.spot.numbers) c.in-For.at (view_resolved_start c.in-For.begin) (option_map view_resolved_expression c.in-For.condition) (option_map view_resolved_expression c.in-For.step) (view_resolved_statement c.deref-in-For.result.now) c.args.spot.jumps c.in_ok-labels-in-For.labels _ _ _ _
+    c.in_ok-labels-in-For.ensures (spot_is (names_of c.args.scope.now) (view_resolved_statement c.deref-in-For.result.now) _ _ _ _ c.in_loop-inside-in-For.ensures c.in_ok-after-in-For.ensures.emitted) c.in_ok-end_for-in-For.ensures)
+
+pub statement-returns-in_ok-jump-in-Break-clause-emitted : goal.statement-returns-in_ok-jump-in-Break-clause-emitted
+statement-returns-in_ok-jump-in-Break-clause-emitted t c =
+    statement_is (names_of c.args.scope.now) (numbers_of c.args.spot.numbers) _ _ c.args.spot.jumps _ _ (sym (ap view_resolved_statement c.in-Break.is ∙ view_break c.in-Break.at)) (c.in_ok-jump-in-Break.ensures (names_of c.args.scope.now))
+
+pub statement-returns-in_ok-jump-in-Continue-clause-emitted : goal.statement-returns-in_ok-jump-in-Continue-clause-emitted
+statement-returns-in_ok-jump-in-Continue-clause-emitted t c =
+    statement_is (names_of c.args.scope.now) (numbers_of c.args.spot.numbers) _ _ c.args.spot.jumps _ _ (sym (ap view_resolved_statement c.in-Continue.is ∙ view_continue c.in-Continue.at)) (c.in_ok-jump-in-Continue.ensures (names_of c.args.scope.now))
+
+pub statement-returns-in_ok-stand_alone-in-StandAlone-clause-emitted : goal.statement-returns-in_ok-stand_alone-in-StandAlone-clause-emitted
+statement-returns-in_ok-stand_alone-in-StandAlone-clause-emitted t c =
+    statement_is (names_of c.args.scope.now) (numbers_of c.args.spot.numbers) _ _ c.args.spot.jumps _ _ (sym (ap view_resolved_statement c.in-StandAlone.is ∙ view_stand_alone c.in-StandAlone.at c.in-StandAlone.directive)) (c.in_ok-stand_alone-in-StandAlone.ensures (names_of c.args.scope.now))
+
+pub statement-returns-in_ok-end_worksharing-in-Loop-clause-emitted : goal.statement-returns-in_ok-end_worksharing-in-Loop-clause-emitted
+statement-returns-in_ok-end_worksharing-in-Loop-clause-emitted t c =
+    statement_is (names_of c.args.scope.now) (numbers_of c.args.spot.numbers) _ _ c.args.spot.jumps _ _
+    (ap (λ z. trees.Loop c.in-Loop.at (map view_resolved_clause c.in-Loop.clauses.items) c.in-Loop.nowait (view_resolved_loop c.in-Loop.repeated) (view_resolved_statement z)) c.deref-in-Loop.ensures ∙ sym (ap view_resolved_statement c.in-Loop.is ∙ view_loop c.in-Loop.at c.in-Loop.clauses c.in-Loop.nowait c.in-Loop.repeated c.in-Loop.body))
+    (emits_loop (names_of c.args.scope.now) (numbers_of c.args.spot.numbers) c.in-Loop.at (map view_resolved_clause c.in-Loop.clauses.items) c.in-Loop.nowait (view_resolved_loop c.in-Loop.repeated) (view_resolved_statement c.deref-in-Loop.result.now) c.args.spot.jumps c.in_ok-labels-in-Loop.labels _ _ _ _ _
+    (loop_clauses_are (names_of c.args.scope.now) c.in-Loop.at.line (view_resolved_loop c.in-Loop.repeated) c.in_ok-labels-in-Loop.labels _ _ _ _ c.as_slice-in-Loop.ensures.value c.in_ok-labels-in-Loop.ensures)
+    (spot_is (names_of c.args.scope.now) (view_resolved_statement c.deref-in-Loop.result.now) _ _ _ _ c.in_iteration-inside.ensures c.in_ok-after-in-Loop.ensures.emitted) (c.in_ok-end_loop-in-Loop.ensures (names_of c.args.scope.now))
+    (close_clauses_are (names_of c.args.scope.now) c.in-Loop.at.line c.in-Loop.nowait _ _ _ _ c.as_slice-in-Loop-2.ensures.value c.in_ok-end_worksharing-in-Loop.ensures))
+
+pub statement-returns-in_ok-end_construct-in-Construct : goal.statement-returns-in_ok-end_construct-in-Construct
+statement-returns-in_ok-end_construct-in-Construct t c =
+    let seen = (ap (λ z. trees.Construct c.in-Construct.at c.in-Construct.kind (map view_resolved_clause c.in-Construct.clauses.items) (view_resolved_statement z)) c.deref-in-Construct.ensures ∙ sym (ap view_resolved_statement c.in-Construct.is ∙ view_construct c.in-Construct.at c.in-Construct.kind c.in-Construct.clauses c.in-Construct.body)) in
+    record {
+      behind = c.in_ok-after-in-Construct-2.ensures.behind ∙ ap (λ x. rows.behind (numbers_of x.numbers) (view_resolved_statement c.deref-in-Construct.result.now)) c.outside-inside.ensures ∙ ap (λ z. rows.behind (numbers_of c.args.spot.numbers) z) seen;
+      emitted = statement_is (names_of c.args.scope.now) (numbers_of c.args.spot.numbers) _ _ c.args.spot.jumps _ _ seen
+          (emits_construct (names_of c.args.scope.now) (numbers_of c.args.spot.numbers) c.in-Construct.at c.in-Construct.kind (map view_resolved_clause c.in-Construct.clauses.items) (view_resolved_statement c.deref-in-Construct.result.now) c.args.spot.jumps c.in_ok-label-in-Construct.label _ _ _ _
+          (construct_clauses_are (names_of c.args.scope.now) c.in-Construct.at.line c.in-Construct.kind c.in_ok-label-in-Construct.label _ _ _ _ c.as_slice-in-Construct.ensures.value c.in_ok-label-in-Construct.ensures)
+          (spot_is (names_of c.args.scope.now) (view_resolved_statement c.deref-in-Construct.result.now) _ _ _ _ c.outside-inside.ensures c.in_ok-after-in-Construct-2.ensures.emitted) c.in_ok-end_construct-in-Construct.ensures);
+    }
+
+pub statements-loop-item-init : goal.statements-loop-item-init
+statements-loop-item-init t c =
+    (c.requires.code, c.requires.plain, refl, onward_begin _ _ _ _ _)
+
+pub statements-loop-item-preserved : goal.statements-loop-item-preserved
+statements-loop-item-preserved t c =
+    let here = left_item c.args.items.now c.loop-item.item-index c.item-item.result c.loop-item-test.true c.item-item.is in
+    let next = left_next _ _ _ (names_of c.args.scope.now) c.args.spot.jumps _ _ _ _ _ _ _ _ _ _ here
+    (c.in_ok-after.ensures.behind ∙ ap (λ x. rows.behind (numbers_of x.numbers) (view_resolved_statement c.item-item.result)) c.behind-here.ensures)
+    (spot_is (names_of c.args.scope.now) _ _ _ _ _ c.behind-here.ensures c.in_ok-after.ensures.emitted) c.loop-item.invariant.0 c.loop-item.invariant.2 c.loop-item.invariant.3 in
+    (next.0, (subst HaveNoSections here c.loop-item.invariant.1).1, next.1, next.2)
+
+pub statements-returns-clause-emitted : goal.statements-returns-clause-emitted
+statements-returns-clause-emitted t c =
+    onward_done _ (names_of c.args.scope.now) c.args.spot.jumps _ _ _ _ _ _ (ap (λ xs. trees.statements (map view_resolved_statement xs)) (drop_all c.loop-item.item-index c.args.items.now c.loop-item-test.false)) c.loop-item.invariant.3
+
+pub statement-returns-in_ok-after-in-Parallel-clause-emitted : goal.statement-returns-in_ok-after-in-Parallel-clause-emitted
+statement-returns-in_ok-after-in-Parallel-clause-emitted t c =
+    statement_is (names_of c.args.scope.now) (numbers_of c.args.spot.numbers) _ _ c.args.spot.jumps _ _
+    (ap (λ x. trees.Parallel c.in-Parallel.at (map view_resolved_clause x) c.as_slice-in-Parallel-2.result.now (view_resolved_statement c.deref-in-Parallel.result.now)) c.as_slice-in-Parallel.ensures.value
+    ∙ ap (λ x. trees.Parallel c.in-Parallel.at (map view_resolved_clause c.in-Parallel.clauses.items) x (view_resolved_statement c.deref-in-Parallel.result.now)) c.as_slice-in-Parallel-2.ensures
+    ∙ ap (λ z. trees.Parallel c.in-Parallel.at (map view_resolved_clause c.in-Parallel.clauses.items) c.in-Parallel.captures (view_resolved_statement z)) c.deref-in-Parallel.ensures
+    ∙ sym (ap view_resolved_statement c.in-Parallel.is ∙ view_parallel c.in-Parallel.at c.in-Parallel.clauses c.in-Parallel.captures c.in-Parallel.body))
+    (emits_parallel (names_of c.args.scope.now) (numbers_of c.args.spot.numbers) c.in-Parallel.at (map view_resolved_clause c.as_slice-in-Parallel.result.now) c.as_slice-in-Parallel-2.result.now (view_resolved_statement c.deref-in-Parallel.result.now) c.args.spot.jumps c.as_slice-in-Parallel-4.result.now _ _ _ _ _ _ (ap first_copies_of c.as_slice-in-Parallel-4.ensures.value ∙ c.in_ok-copies-in-Parallel.ensures) (omega (arith, c.len.ensures, c.as_slice-in-Parallel-4.ensures.len, c.in_ok-copies-in-Parallel.copies.ok.0)) (c.in_ok-sized-in-Parallel.ensures.sized ∙ ap (λ x. is_some (clause_value (map view_resolved_clause x))) (c.as_slice-in-Parallel-3.ensures.value ∙ sym c.as_slice-in-Parallel.ensures.value)) (size_clauses_are (names_of c.args.scope.now) c.in-Parallel.at.line _ _ _ _ (c.as_slice-in-Parallel-3.ensures.value ∙ sym c.as_slice-in-Parallel.ensures.value) c.in_ok-sized-in-Parallel.ensures.emitted) c.in_ok-load_originals-in-Parallel.ensures (c.in_ok-fork-in-Parallel.ensures (names_of c.args.scope.now)))
+
+pub statement-returns-in_ok-after-in-Task-clause-emitted : goal.statement-returns-in_ok-after-in-Task-clause-emitted
+statement-returns-in_ok-after-in-Task-clause-emitted t c =
+    statement_is (names_of c.args.scope.now) (numbers_of c.args.spot.numbers) _ _ c.args.spot.jumps _ _
+    (ap (λ x. trees.Task c.in-Task.at (map view_resolved_clause x) c.as_slice-in-Task-2.result.now (view_resolved_statement c.deref-in-Task.result.now)) c.as_slice-in-Task.ensures.value
+    ∙ ap (λ x. trees.Task c.in-Task.at (map view_resolved_clause c.in-Task.clauses.items) x (view_resolved_statement c.deref-in-Task.result.now)) c.as_slice-in-Task-2.ensures
+    ∙ ap (λ z. trees.Task c.in-Task.at (map view_resolved_clause c.in-Task.clauses.items) c.in-Task.captures (view_resolved_statement z)) c.deref-in-Task.ensures
+    ∙ sym (ap view_resolved_statement c.in-Task.is ∙ view_task c.in-Task.at c.in-Task.clauses c.in-Task.captures c.in-Task.body))
+    (emits_task (names_of c.args.scope.now) (numbers_of c.args.spot.numbers) c.in-Task.at (map view_resolved_clause c.as_slice-in-Task.result.now) c.as_slice-in-Task-2.result.now (view_resolved_statement c.deref-in-Task.result.now) c.args.spot.jumps c.as_slice-in-Task-3.result.now _ _ _ _ (ap first_copies_of c.as_slice-in-Task-3.ensures.value ∙ c.in_ok-copies-in-Task.ensures) (omega (arith, c.len-in-Task.ensures, c.as_slice-in-Task-3.ensures.len, c.in_ok-copies-in-Task.copies.ok.0)) c.in_ok-load_originals-in-Task.ensures (c.in_ok-spawn-in-Task.ensures (names_of c.args.scope.now)))

@@ -1,0 +1,6 @@
+//! Writes the code of statements and of whole bodies.
+#![tactic(auto)]
+
+pub mod jump;
+pub mod spot;
+pub mod statement;

@@ -1,0 +1,71 @@
+//! Where a statement stands.
+
+ghost use Rattle.std.specs.Prelude.{◌≡◌, None, Some};
+
+use om_tables::Numbers;
+
+/// The labels that `break` and `continue` go to; outside of a loop there are none.
+#[derive(Clone, Copy)]
+pub struct JumpLabels {
+    pub over: Option<u32>,
+    pub next: Option<u32>,
+}
+
+/// Where a statement stands: the numbers of the next body and of the next list of PICK, and where
+/// jumps go.
+#[derive(Clone, Copy)]
+pub struct Spot {
+    pub numbers: Numbers,
+    pub jumps: JumpLabels,
+}
+
+impl Spot {
+    /// Outside of loops.
+    pub fn outside(numbers: Numbers) -> Spot
+        ensures { result ≡ record { numbers = numbers; jumps = record { over = None; next = None } } }
+    {
+        Spot {
+            numbers,
+            jumps: JumpLabels {
+                over: None,
+                next: None,
+            },
+        }
+    }
+
+    /// In a loop.
+    pub fn in_loop(numbers: Numbers, over: u32, next: u32) -> Spot
+        ensures { result ≡ record { numbers = numbers; jumps = record { over = Some over; next = Some next } } }
+    {
+        Spot {
+            numbers,
+            jumps: JumpLabels {
+                over: Some(over),
+                next: Some(next),
+            },
+        }
+    }
+
+    /// In the body of a worksharing loop, which no `break` leaves.
+    pub fn in_iteration(numbers: Numbers, next: u32) -> Spot
+        ensures { result ≡ record { numbers = numbers; jumps = record { over = None; next = Some next } } }
+    {
+        Spot {
+            numbers,
+            jumps: JumpLabels {
+                over: None,
+                next: Some(next),
+            },
+        }
+    }
+
+    /// Behind a statement that ends with these numbers.
+    pub fn behind(self, numbers: Numbers) -> Spot
+        ensures { result ≡ record { numbers = numbers; jumps = self.jumps } }
+    {
+        Spot {
+            numbers,
+            jumps: self.jumps,
+        }
+    }
+}

@@ -1,0 +1,179 @@
+//! The code of statements.
+
+ghost use Rattle.std.specs.Prelude.{◌≡◌, IfOk, OnOk, is_some, map};
+ghost use Rattle.om_resolved.specs.ResolvedTree as trees;
+ghost use Rattle.om_resolved.specs.ResolvedView.{view_resolved_statement};
+ghost use Rattle.om_rows.specs.Bodies as rows;
+ghost use Rattle.om_rows.specs.Coded.{StatementHasCode, StatementsHaveCode};
+ghost use Rattle.om_statements.specs.Emits.{EmitsStatement, EmitsStatements};
+ghost use Rattle.om_statements.specs.Plain.{HasNoSections, HaveNoSections};
+ghost use Rattle.om_tables.specs.Numbering.{numbers_of};
+ghost use Rattle.om_tables.specs.Scopes.{names_of};
+
+use crate::jump::jump;
+use crate::spot::Spot;
+use om_constructs::alone::{assignment, stand_alone, update};
+use om_constructs::branch::{begin_else, begin_if};
+use om_constructs::construct::{begin_construct, end_construct};
+use om_constructs::declaration::{declarators, returned};
+use om_constructs::region::{fork, load_originals, spawn, team_size};
+use om_constructs::repeated::{begin_do, begin_for, begin_while, end_do, end_for, end_loop};
+use om_constructs::worksharing::{begin_worksharing, end_worksharing};
+use om_emit::draft::Draft;
+use om_emit::effect;
+use om_resolved::{ConstructKind, ResolvedStatement};
+use om_tables::{Numbers, Scope, behind, given_copies};
+use std::alloc::{AllocError, Global};
+
+/// Writes the code of a statement, and gives the numbers behind it.
+///
+/// Its only error is out of memory. What is in it has code, and is no `sections`.
+#[cycle(statement)]
+pub fn statement(
+    alloc: Global,
+    draft: &mut Draft,
+    scope: &Scope<'_>,
+    spot: Spot,
+    tree: &ResolvedStatement,
+) -> Result<Numbers, AllocError>
+    requires code { StatementHasCode (is_some spot.jumps.over) (is_some spot.jumps.next) (view_resolved_statement tree.now) }
+    requires plain { HasNoSections (view_resolved_statement tree.now) }
+    ensures behind { IfOk result (λ after. numbers_of after ≡ rows.behind (numbers_of spot.numbers) (view_resolved_statement tree.now)) }
+    ensures emitted { let seen = view_resolved_statement tree.now in
+        OnOk result (EmitsStatement (names_of scope.now) (numbers_of spot.numbers) seen spot.jumps draft.old draft.new) }
+{
+    let numbers = spot.numbers;
+    match tree {
+        ResolvedStatement::Declaration(at, declared) => {
+            declarators(draft, scope, at.line, declared.as_slice())?;
+            Ok(numbers)
+        }
+        ResolvedStatement::Block(_, items) => {
+            let after = statements(alloc, draft, scope, spot, items.as_slice())?;
+            Ok(after)
+        }
+        ResolvedStatement::Empty(_) => Ok(numbers),
+        ResolvedStatement::Expression(at, expression) => {
+            effect(draft, scope, at.line, expression)?;
+            Ok(numbers)
+        }
+        ResolvedStatement::If(at, condition, then) => {
+            let end = begin_if(draft, scope, at.line, condition)?;
+            let after = statement(alloc, draft, scope, spot, then)?;
+            draft.define(end);
+            Ok(after)
+        }
+        ResolvedStatement::IfElse(at, condition, then, other) => {
+            let head = begin_if(draft, scope, at.line, condition)?;
+            let between = statement(alloc, draft, scope, spot, then)?;
+            let end = begin_else(draft, at.line, head)?;
+            let after = statement(alloc, draft, scope, spot.behind(between), other)?;
+            draft.define(end);
+            Ok(after)
+        }
+        ResolvedStatement::While(at, condition, body) => {
+            let labels = begin_while(draft, scope, at.line, condition)?;
+            let inside = Spot::in_loop(numbers, labels.over, labels.again);
+            let after = statement(alloc, draft, scope, inside, body)?;
+            end_loop(draft, at.line, labels)?;
+            Ok(after)
+        }
+        ResolvedStatement::Do(at, body, condition) => {
+            let labels = begin_do(draft)?;
+            let inside = Spot::in_loop(numbers, labels.over, labels.next);
+            let after = statement(alloc, draft, scope, inside, body)?;
+            end_do(draft, scope, at.line, labels, condition)?;
+            Ok(after)
+        }
+        ResolvedStatement::For(at, begin, condition, step, body) => {
+            let labels = begin_for(draft, scope, at.line, begin, condition)?;
+            let inside = Spot::in_loop(numbers, labels.over, labels.next);
+            let after = statement(alloc, draft, scope, inside, body)?;
+            end_for(draft, scope, at.line, labels, step)?;
+            Ok(after)
+        }
+        ResolvedStatement::Return(at, answer) => {
+            returned(draft, scope, at.line, answer)?;
+            Ok(numbers)
+        }
+        ResolvedStatement::Break(at) => {
+            jump(draft, at.line, spot.jumps.over)?;
+            Ok(numbers)
+        }
+        ResolvedStatement::Continue(at) => {
+            jump(draft, at.line, spot.jumps.next)?;
+            Ok(numbers)
+        }
+        ResolvedStatement::Parallel(at, clauses, captures, body) => {
+            let copies = given_copies(alloc, clauses.as_slice(), captures.as_slice(), body)?;
+            let sized = team_size(draft, scope, at.line, clauses.as_slice())?;
+            load_originals(draft, scope, at.line, copies.as_slice())?;
+            fork(draft, at.line, numbers.bodies, sized, copies.len())?;
+            let inner = numbers.next_body()?;
+            let after = behind(inner, body)?;
+            Ok(after)
+        }
+        ResolvedStatement::Task(at, clauses, captures, body) => {
+            let copies = given_copies(alloc, clauses.as_slice(), captures.as_slice(), body)?;
+            load_originals(draft, scope, at.line, copies.as_slice())?;
+            spawn(draft, at.line, numbers.bodies, copies.len())?;
+            let inner = numbers.next_body()?;
+            let after = behind(inner, body)?;
+            Ok(after)
+        }
+        ResolvedStatement::Loop(at, clauses, nowait, repeated, body) => {
+            let labels = begin_worksharing(draft, scope, at.line, clauses.as_slice(), repeated)?;
+            let inside = Spot::in_iteration(numbers, labels.again);
+            let after = statement(alloc, draft, scope, inside, body)?;
+            end_loop(draft, at.line, labels)?;
+            end_worksharing(draft, scope, at.line, clauses.as_slice(), *nowait)?;
+            Ok(after)
+        }
+        ResolvedStatement::Sections(_, _, _, _) => unreachable!(),
+        ResolvedStatement::Construct(at, kind, clauses, body) => {
+            if let ConstructKind::Atomic = kind {
+                assignment(draft, scope, at.line, body)?;
+                let after = behind(numbers, body)?;
+                return Ok(after);
+            }
+            let label = begin_construct(draft, scope, at.line, kind, clauses.as_slice())?;
+            let inside = Spot::outside(numbers);
+            let after = statement(alloc, draft, scope, inside, body)?;
+            end_construct(draft, scope, at.line, kind, label)?;
+            Ok(after)
+        }
+        ResolvedStatement::Update(at, updated) => {
+            update(draft, scope, at.line, updated)?;
+            Ok(numbers)
+        }
+        ResolvedStatement::StandAlone(at, directive) => {
+            stand_alone(draft, at.line, directive)?;
+            Ok(numbers)
+        }
+    }
+}
+
+/// Writes the code of statements, one behind the other, and gives the numbers behind them.
+#[cycle(statement)]
+pub fn statements(
+    alloc: Global,
+    draft: &mut Draft,
+    scope: &Scope<'_>,
+    spot: Spot,
+    items: &[ResolvedStatement],
+) -> Result<Numbers, AllocError>
+    requires code { StatementsHaveCode (is_some spot.jumps.over) (is_some spot.jumps.next) (trees.statements (map view_resolved_statement items.now)) }
+    requires plain { HaveNoSections (trees.statements (map view_resolved_statement items.now)) }
+    ensures behind { let all = trees.statements (map view_resolved_statement items.now) in
+        IfOk result (λ after. numbers_of after ≡ rows.behind_all (numbers_of spot.numbers) all) }
+    ensures emitted { let all = trees.statements (map view_resolved_statement items.now) in
+        OnOk result (EmitsStatements (names_of scope.now) (numbers_of spot.numbers) all spot.jumps draft.old draft.new) }
+{
+    let mut numbers = spot.numbers;
+    for item in items {
+        let here = spot.behind(numbers);
+        let after = statement(alloc, draft, scope, here, item)?;
+        numbers = after;
+    }
+    Ok(numbers)
+}

@@ -1,0 +1,388 @@
+//! What a function mentions, its regions too: formats, names of critical regions, declared variables.
+
+ghost use Rattle.std.specs.Prelude.{◌≡◌, ◌++◌, [], OnOk, IfOk, ℕ, map, option_map};
+ghost use Rattle.std.specs.List.{flat_map};
+ghost use Rattle.om_resolved.specs.ResolvedTree as trees;
+ghost use Rattle.om_resolved.specs.ResolvedView.{view_resolved_clause, view_resolved_declarator, view_resolved_expression, view_resolved_function, view_resolved_loop, view_resolved_part, view_resolved_start, view_resolved_statement, view_resolved_update};
+ghost use Rattle.om_rows.specs.Mentions.{all_mentioned, clause_mentioned, declarator_mentioned, extent_mention, extents_of, format_mention, function_mentioned, lock_mention, loop_mentioned, mentioned, parts_mentioned, perhaps_mentioned, start_mentioned, update_mentioned};
+ghost use Rattle.om_rows.specs.Slots.{cells_in, cells_of_length};
+ghost use Rattle.om_tables.specs.Extents.{measured};
+ghost use Rattle.om_tables.specs.Noted.{noted};
+
+use crate::extents::Extents;
+use crate::formats::note_expression;
+use crate::texts::Texts;
+use om_resolved::{
+    ConstructKind, ResolvedClause, ResolvedDeclarator, ResolvedExpression, ResolvedFunction,
+    ResolvedLoop, ResolvedPart, ResolvedStart, ResolvedStatement, ResolvedUpdate,
+};
+use std::alloc::{AllocError, Global};
+
+/// What functions mention, in the order of the text.
+#[derive(Drop)]
+pub struct Mentions {
+    /// The formats of `printf`.
+    pub formats: Texts,
+    /// The names of critical regions; the unnamed one has no bytes.
+    pub locks: Texts,
+    /// The declared variables.
+    pub extents: Extents,
+}
+
+impl Mentions {
+    /// Nothing.
+    pub fn new(alloc: Global) -> Mentions
+        ensures formats { result.formats ≡ [] }
+        ensures locks { result.locks ≡ [] }
+        ensures extents { result.extents ≡ [] }
+    {
+        Mentions {
+            formats: Texts::new(alloc),
+            locks: Texts::new(alloc),
+            extents: Extents::new(alloc),
+        }
+    }
+}
+
+/// How many cells the declared variables of a function have.
+#[tactic(auto, using(crate::proofs::Cells::cells_measured))]
+pub fn extents_of(alloc: Global, function: &ResolvedFunction) -> Result<Extents, AllocError>
+    ensures { let tree = view_resolved_function function.now in
+        IfOk result (λ made. (variable : ℕ) → cells_in made variable ≡ cells_in (extents_of tree) variable) }
+{
+    let mut found = Mentions::new(alloc);
+    note_function(&mut found, alloc, function)?;
+    let Mentions { extents, .. } = found;
+    Ok(extents)
+}
+
+/// Notes what a function mentions.
+pub(crate) fn note_function(
+    found: &mut Mentions,
+    alloc: Global,
+    function: &ResolvedFunction,
+) -> Result<(), AllocError>
+    ensures formats { let tree = view_resolved_function function.now in
+        OnOk result (found.new.formats ≡ noted found.old.formats (function_mentioned format_mention tree)) }
+    ensures locks { let tree = view_resolved_function function.now in
+        OnOk result (found.new.locks ≡ noted found.old.locks (function_mentioned lock_mention tree)) }
+    ensures extents { let tree = view_resolved_function function.now in
+        OnOk result (found.new.extents ≡ measured found.old.extents (function_mentioned extent_mention tree)) }
+{
+    note_statements(found, alloc, function.body.as_slice())
+}
+
+/// Notes the formats of an expression that may be left out.
+fn note_perhaps(
+    found: &mut Mentions,
+    alloc: Global,
+    expression: &Option<ResolvedExpression>,
+) -> Result<(), AllocError>
+    ensures formats { let tree = option_map view_resolved_expression expression.now in
+        OnOk result (found.new.formats ≡ noted found.old.formats (perhaps_mentioned format_mention tree)) }
+    ensures locks { let tree = option_map view_resolved_expression expression.now in
+        OnOk result (found.new.locks ≡ noted found.old.locks (perhaps_mentioned lock_mention tree)) }
+    ensures extents { let tree = option_map view_resolved_expression expression.now in
+        OnOk result (found.new.extents ≡ measured found.old.extents (perhaps_mentioned extent_mention tree)) }
+{
+    match expression {
+        None => Ok(()),
+        Some(expression) => note_expression(&mut found.formats, alloc, expression),
+    }
+}
+
+/// How many cells a variable of this length has; a scalar has one.
+fn cells_of(length: Option<u32>) -> u32
+    ensures { result ≡ cells_of_length length }
+{
+    match length {
+        None => 1,
+        Some(length) => length,
+    }
+}
+
+/// Notes a declared variable.
+fn note_declarator(
+    found: &mut Mentions,
+    alloc: Global,
+    declarator: &ResolvedDeclarator,
+) -> Result<(), AllocError>
+    ensures formats { let tree = view_resolved_declarator declarator.now in
+        OnOk result (found.new.formats ≡ noted found.old.formats (declarator_mentioned format_mention tree)) }
+    ensures locks { let tree = view_resolved_declarator declarator.now in
+        OnOk result (found.new.locks ≡ noted found.old.locks (declarator_mentioned lock_mention tree)) }
+    ensures extents { let tree = view_resolved_declarator declarator.now in
+        OnOk result (found.new.extents ≡ measured found.old.extents (declarator_mentioned extent_mention tree)) }
+{
+    let cells = cells_of(declarator.length);
+    found.extents.note(declarator.variable.at, cells)?;
+    note_perhaps(found, alloc, &declarator.initial)
+}
+
+/// Notes declared variables.
+fn note_declarators(
+    found: &mut Mentions,
+    alloc: Global,
+    declarators: &[ResolvedDeclarator],
+) -> Result<(), AllocError>
+    ensures formats { let tree = map view_resolved_declarator declarators.now in
+        OnOk result (found.new.formats ≡ noted found.old.formats (flat_map (declarator_mentioned format_mention) tree)) }
+    ensures locks { let tree = map view_resolved_declarator declarators.now in
+        OnOk result (found.new.locks ≡ noted found.old.locks (flat_map (declarator_mentioned lock_mention) tree)) }
+    ensures extents { let tree = map view_resolved_declarator declarators.now in
+        OnOk result (found.new.extents ≡ measured found.old.extents (flat_map (declarator_mentioned extent_mention) tree)) }
+{
+    for declarator in declarators {
+        note_declarator(found, alloc, declarator)?;
+    }
+    Ok(())
+}
+
+/// Notes the beginning of a `for`.
+fn note_start(found: &mut Mentions, alloc: Global, start: &ResolvedStart) -> Result<(), AllocError>
+    ensures formats { let tree = view_resolved_start start.now in
+        OnOk result (found.new.formats ≡ noted found.old.formats (start_mentioned format_mention tree)) }
+    ensures locks { let tree = view_resolved_start start.now in
+        OnOk result (found.new.locks ≡ noted found.old.locks (start_mentioned lock_mention tree)) }
+    ensures extents { let tree = view_resolved_start start.now in
+        OnOk result (found.new.extents ≡ measured found.old.extents (start_mentioned extent_mention tree)) }
+{
+    match start {
+        ResolvedStart::Nothing => Ok(()),
+        ResolvedStart::Expression(value) => note_expression(&mut found.formats, alloc, value),
+        ResolvedStart::Declaration(declarators) => {
+            note_declarators(found, alloc, declarators.as_slice())
+        }
+    }
+}
+
+/// Notes a clause.
+fn note_clause(
+    found: &mut Mentions,
+    alloc: Global,
+    clause: &ResolvedClause,
+) -> Result<(), AllocError>
+    ensures formats { let tree = view_resolved_clause clause.now in
+        OnOk result (found.new.formats ≡ noted found.old.formats (clause_mentioned format_mention tree)) }
+    ensures locks { let tree = view_resolved_clause clause.now in
+        OnOk result (found.new.locks ≡ noted found.old.locks (clause_mentioned lock_mention tree)) }
+    ensures extents { let tree = view_resolved_clause clause.now in
+        OnOk result (found.new.extents ≡ measured found.old.extents (clause_mentioned extent_mention tree)) }
+{
+    match clause {
+        ResolvedClause::Value(_, value) => note_expression(&mut found.formats, alloc, value),
+        ResolvedClause::Shared(_) => Ok(()),
+        ResolvedClause::Copied(_, _, _) => Ok(()),
+    }
+}
+
+/// Notes clauses.
+fn note_clauses(
+    found: &mut Mentions,
+    alloc: Global,
+    clauses: &[ResolvedClause],
+) -> Result<(), AllocError>
+    ensures formats { let tree = map view_resolved_clause clauses.now in
+        OnOk result (found.new.formats ≡ noted found.old.formats (flat_map (clause_mentioned format_mention) tree)) }
+    ensures locks { let tree = map view_resolved_clause clauses.now in
+        OnOk result (found.new.locks ≡ noted found.old.locks (flat_map (clause_mentioned lock_mention) tree)) }
+    ensures extents { let tree = map view_resolved_clause clauses.now in
+        OnOk result (found.new.extents ≡ measured found.old.extents (flat_map (clause_mentioned extent_mention) tree)) }
+{
+    for clause in clauses {
+        note_clause(found, alloc, clause)?;
+    }
+    Ok(())
+}
+
+/// Notes the bounds of a canonical loop.
+fn note_loop(found: &mut Mentions, alloc: Global, repeated: &ResolvedLoop) -> Result<(), AllocError>
+    ensures formats { let tree = view_resolved_loop repeated.now in
+        OnOk result (found.new.formats ≡ noted found.old.formats (loop_mentioned format_mention tree)) }
+    ensures locks { let tree = view_resolved_loop repeated.now in
+        OnOk result (found.new.locks ≡ noted found.old.locks (loop_mentioned lock_mention tree)) }
+    ensures extents { let tree = view_resolved_loop repeated.now in
+        OnOk result (found.new.extents ≡ measured found.old.extents (loop_mentioned extent_mention tree)) }
+{
+    note_expression(&mut found.formats, alloc, &repeated.from)?;
+    note_expression(&mut found.formats, alloc, &repeated.to)
+}
+
+/// Notes an atomic update.
+fn note_update(
+    found: &mut Mentions,
+    alloc: Global,
+    update: &ResolvedUpdate,
+) -> Result<(), AllocError>
+    ensures formats { let tree = view_resolved_update update.now in
+        OnOk result (found.new.formats ≡ noted found.old.formats (update_mentioned format_mention tree)) }
+    ensures locks { let tree = view_resolved_update update.now in
+        OnOk result (found.new.locks ≡ noted found.old.locks (update_mentioned lock_mention tree)) }
+    ensures extents { let tree = view_resolved_update update.now in
+        OnOk result (found.new.extents ≡ measured found.old.extents (update_mentioned extent_mention tree)) }
+{
+    note_perhaps(found, alloc, &update.index)?;
+    note_expression(&mut found.formats, alloc, &update.operand)
+}
+
+/// Notes the name of a critical region.
+fn note_construct(
+    found: &mut Mentions,
+    alloc: Global,
+    kind: &ConstructKind,
+) -> Result<(), AllocError>
+    ensures formats { OnOk result (found.new.formats ≡ noted found.old.formats (format_mention.by_construct kind.now)) }
+    ensures locks { OnOk result (found.new.locks ≡ noted found.old.locks (lock_mention.by_construct kind.now)) }
+    ensures extents { OnOk result (found.new.extents ≡ measured found.old.extents (extent_mention.by_construct kind.now)) }
+{
+    match kind {
+        ConstructKind::Single(_) => Ok(()),
+        ConstructKind::Masked => Ok(()),
+        ConstructKind::Critical(None) => found.locks.note(alloc, &[]),
+        ConstructKind::Critical(Some(name)) => found.locks.note(alloc, name.as_slice()),
+        ConstructKind::Atomic => Ok(()),
+        ConstructKind::Taskgroup => Ok(()),
+    }
+}
+
+/// Notes the head of a `for`.
+fn note_head(
+    found: &mut Mentions,
+    alloc: Global,
+    start: &ResolvedStart,
+    condition: &Option<ResolvedExpression>,
+    step: &Option<ResolvedExpression>,
+) -> Result<(), AllocError>
+    ensures formats { let test = option_map view_resolved_expression condition.now in
+        let step_tree = option_map view_resolved_expression step.now in
+        let head = start_mentioned format_mention (view_resolved_start start.now) in
+        let mentioned = head ++ (perhaps_mentioned format_mention test ++ perhaps_mentioned format_mention step_tree) in
+        OnOk result (found.new.formats ≡ noted found.old.formats mentioned) }
+    ensures locks { let test = option_map view_resolved_expression condition.now in
+        let step_tree = option_map view_resolved_expression step.now in
+        let head = start_mentioned lock_mention (view_resolved_start start.now) in
+        let mentioned = head ++ (perhaps_mentioned lock_mention test ++ perhaps_mentioned lock_mention step_tree) in
+        OnOk result (found.new.locks ≡ noted found.old.locks mentioned) }
+    ensures extents { let test = option_map view_resolved_expression condition.now in
+        let step_tree = option_map view_resolved_expression step.now in
+        let head = start_mentioned extent_mention (view_resolved_start start.now) in
+        let mentioned = head ++ (perhaps_mentioned extent_mention test ++ perhaps_mentioned extent_mention step_tree) in
+        OnOk result (found.new.extents ≡ measured found.old.extents mentioned) }
+{
+    note_start(found, alloc, start)?;
+    note_perhaps(found, alloc, condition)?;
+    note_perhaps(found, alloc, step)
+}
+
+/// Notes what a statement mentions.
+#[tactic(auto, unfolding(om_rows::specs::Mentions::mentioned))]
+#[cycle(statement)]
+fn note_statement(
+    found: &mut Mentions,
+    alloc: Global,
+    statement: &ResolvedStatement,
+) -> Result<(), AllocError>
+    ensures formats { let tree = view_resolved_statement statement.now in
+        OnOk result (found.new.formats ≡ noted found.old.formats (mentioned format_mention tree)) }
+    ensures locks { let tree = view_resolved_statement statement.now in
+        OnOk result (found.new.locks ≡ noted found.old.locks (mentioned lock_mention tree)) }
+    ensures extents { let tree = view_resolved_statement statement.now in
+        OnOk result (found.new.extents ≡ measured found.old.extents (mentioned extent_mention tree)) }
+{
+    match statement {
+        ResolvedStatement::Declaration(_, declarators) => {
+            note_declarators(found, alloc, declarators.as_slice())
+        }
+        ResolvedStatement::Block(_, items) => note_statements(found, alloc, items.as_slice()),
+        ResolvedStatement::Empty(_) => Ok(()),
+        ResolvedStatement::Expression(_, value) => {
+            note_expression(&mut found.formats, alloc, value)
+        }
+        ResolvedStatement::If(_, condition, then) => {
+            note_expression(&mut found.formats, alloc, condition)?;
+            note_statement(found, alloc, then)
+        }
+        ResolvedStatement::IfElse(_, condition, then, other) => {
+            note_expression(&mut found.formats, alloc, condition)?;
+            note_statement(found, alloc, then)?;
+            note_statement(found, alloc, other)
+        }
+        ResolvedStatement::While(_, condition, body) => {
+            note_expression(&mut found.formats, alloc, condition)?;
+            note_statement(found, alloc, body)
+        }
+        ResolvedStatement::Do(_, body, condition) => {
+            note_statement(found, alloc, body)?;
+            note_expression(&mut found.formats, alloc, condition)
+        }
+        ResolvedStatement::For(_, start, condition, step, body) => {
+            note_head(found, alloc, start, condition, step)?;
+            note_statement(found, alloc, body)
+        }
+        ResolvedStatement::Return(_, value) => note_perhaps(found, alloc, value),
+        ResolvedStatement::Break(_) => Ok(()),
+        ResolvedStatement::Continue(_) => Ok(()),
+        ResolvedStatement::Parallel(_, clauses, _, body) => {
+            note_clauses(found, alloc, clauses.as_slice())?;
+            note_statement(found, alloc, body)
+        }
+        ResolvedStatement::Task(_, clauses, _, body) => {
+            note_clauses(found, alloc, clauses.as_slice())?;
+            note_statement(found, alloc, body)
+        }
+        ResolvedStatement::Loop(_, clauses, _, repeated, body) => {
+            note_clauses(found, alloc, clauses.as_slice())?;
+            note_loop(found, alloc, repeated)?;
+            note_statement(found, alloc, body)
+        }
+        ResolvedStatement::Sections(_, clauses, _, parts) => {
+            note_clauses(found, alloc, clauses.as_slice())?;
+            note_parts(found, alloc, parts.as_slice())
+        }
+        ResolvedStatement::Construct(_, kind, clauses, body) => {
+            note_construct(found, alloc, kind)?;
+            note_clauses(found, alloc, clauses.as_slice())?;
+            note_statement(found, alloc, body)
+        }
+        ResolvedStatement::Update(_, update) => note_update(found, alloc, update),
+        ResolvedStatement::StandAlone(_, _) => Ok(()),
+    }
+}
+
+/// Notes what statements mention.
+#[tactic(auto, unfolding(om_rows::specs::Mentions::all_mentioned))]
+#[cycle(statement)]
+fn note_statements(
+    found: &mut Mentions,
+    alloc: Global,
+    items: &[ResolvedStatement],
+) -> Result<(), AllocError>
+    ensures formats { let tree = trees.statements (map view_resolved_statement items.now) in
+        OnOk result (found.new.formats ≡ noted found.old.formats (all_mentioned format_mention tree)) }
+    ensures locks { let tree = trees.statements (map view_resolved_statement items.now) in
+        OnOk result (found.new.locks ≡ noted found.old.locks (all_mentioned lock_mention tree)) }
+    ensures extents { let tree = trees.statements (map view_resolved_statement items.now) in
+        OnOk result (found.new.extents ≡ measured found.old.extents (all_mentioned extent_mention tree)) }
+{
+    for item in items {
+        note_statement(found, alloc, item)?;
+    }
+    Ok(())
+}
+
+/// Notes what the parts of `sections` mention.
+#[tactic(auto, unfolding(om_rows::specs::Mentions::parts_mentioned))]
+#[cycle(statement)]
+fn note_parts(found: &mut Mentions, alloc: Global, parts: &[ResolvedPart]) -> Result<(), AllocError>
+    ensures formats { let tree = trees.parts (map view_resolved_part parts.now) in
+        OnOk result (found.new.formats ≡ noted found.old.formats (parts_mentioned format_mention tree)) }
+    ensures locks { let tree = trees.parts (map view_resolved_part parts.now) in
+        OnOk result (found.new.locks ≡ noted found.old.locks (parts_mentioned lock_mention tree)) }
+    ensures extents { let tree = trees.parts (map view_resolved_part parts.now) in
+        OnOk result (found.new.extents ≡ measured found.old.extents (parts_mentioned extent_mention tree)) }
+{
+    for part in parts {
+        note_statements(found, alloc, part.items.as_slice())?;
+    }
+    Ok(())
+}

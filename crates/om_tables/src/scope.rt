@@ -1,0 +1,123 @@
+//! What the instructions of a body name by numbers.
+
+ghost use Rattle.std.specs.Prelude.{◌≡◌, ◌≤◌, length, map, slice_get};
+ghost use Rattle.om_resolved.specs.ResolvedView.{view_resolved_function};
+ghost use Rattle.om_rows.specs.Bodies as rows;
+ghost use Rattle.om_tables.specs.Numbering.{function_numbers};
+
+use crate::tables::Tables;
+use crate::variables::Variables;
+use om_code::instruction::Place;
+use om_resolved::{LocalVariable, Resolved, ResolvedFunction, Variable};
+use om_seq::Seq;
+
+/// What the instructions of a body name by numbers: its slots, and the tables of its program.
+///
+/// A body has at most 256 slots, and the numbers of all tables are of 32 bits.
+#[derive(Drop)]
+pub struct Scope<'a> {
+    pub functions: &'a [ResolvedFunction],
+    pub tables: &'a Tables,
+    pub variables: &'a Variables,
+    /// Whether the body stands in `main`.
+    pub is_main: bool,
+    ghost few: { length variables.now ≤ 256 },
+    ghost numbered: { tables.now.bodies.items ≡ function_numbers rows.first_numbers (map view_resolved_function functions.now) },
+    ghost behind: { tables.now.behind.bodies ≡ (rows.behind_functions rows.first_numbers (map view_resolved_function functions.now)).bodies },
+}
+
+impl<'a> Scope<'a> {
+    ghost use Rattle.std.specs.Prelude.{◌≡◌, ◌≤◌, length};
+    ghost use Rattle.std.specs.Str.{bytes_eq};
+    ghost use Rattle.om_resolved.specs.ResolvedView.{view_resolved};
+    ghost use Rattle.om_rows.specs.Bodies as rows;
+    ghost use Rattle.om_rows.specs.Mentions.{lock_name};
+    ghost use Rattle.om_rows.specs.Slots.{place_of, slot_of};
+    ghost use Rattle.om_rows.specs.Tables.{number_in};
+    ghost use Rattle.om_tables.specs.Names.{names_in};
+    ghost use Rattle.om_tables.specs.Scopes.{names_of};
+    ghost use Rattle.om_tables.specs.Tables.{IsTablesOf};
+
+    /// That of a body of `main`, or of another function, with at most 256 variables.
+    pub fn new(
+        resolved: &'a Resolved,
+        tables: &'a Tables,
+        variables: &'a Variables,
+        is_main: bool,
+    ) -> Scope<'a>
+        requires few { length variables.now ≤ 256 }
+        requires tables { IsTablesOf (view_resolved resolved.now) tables.now }
+        ensures { names_of result ≡ names_in (view_resolved resolved.now) variables.now is_main }
+    {
+        Scope {
+            functions: resolved.functions.as_slice(),
+            tables,
+            variables,
+            is_main,
+        }
+    }
+
+    /// A variable, as instructions name it.
+    pub fn place(&self, variable: Variable) -> Place
+        ensures { result ≡ place_of (names_of self.now).slots variable }
+    {
+        match variable {
+            Variable::Global(number) => Place::Global(number),
+            Variable::Local(at) => Place::Slot(self.slot_of(at)),
+        }
+    }
+
+    /// The slot of a declared variable or a copy.
+    pub fn slot(&self, variable: &LocalVariable) -> u32
+        ensures { result ≡ slot_of (names_of self.now).slots variable.now.at }
+    {
+        self.slot_of(variable.at)
+    }
+
+    /// The slot of the variable that is declared, or copied, at this byte; of one that is not there,
+    /// the number behind all slots.
+    pub fn slot_of(&self, variable: u32) -> u32
+        ensures { result ≡ slot_of (names_of self.now).slots variable }
+    {
+        self.variables.slot_of(variable) as u32
+    }
+
+    /// The number of a format; of one that is not there, the number behind all of them.
+    pub fn format_number(&self, format: &[u8]) -> u32
+        ensures { result ≡ number_in (bytes_eq format.now) (names_of self.now).formats }
+    {
+        self.tables.formats.number_of(format)
+    }
+
+    /// The number of the lock of a critical region; the unnamed one has no bytes.
+    pub fn lock_number(&self, name: &Option<Seq<u8>>) -> u32
+        ensures { result ≡ number_in (bytes_eq (lock_name name.now)) (names_of self.now).locks }
+    {
+        match name {
+            None => self.tables.locks.number_of(&[]),
+            Some(name) => self.tables.locks.number_of(name.as_slice()),
+        }
+    }
+
+    /// The number of the body of a function; behind all functions, the number behind all bodies.
+    pub fn called_body(&self, function: usize) -> u32
+        ensures { result ≡ rows.called_body (names_of self.now).functions function }
+    {
+        let number = number_at(self.tables.bodies.as_slice(), function);
+        number.unwrap_or(self.tables.behind.bodies)
+    }
+
+    /// Whether the body stands in `main`.
+    pub fn is_main(&self) -> bool
+        ensures { result ≡ (names_of self.now).is_main }
+    {
+        self.is_main
+    }
+}
+
+/// The number at an index, if there is one.
+fn number_at(numbers: &[u32], index: usize) -> Option<u32>
+    ensures { result ≡ slice_get numbers.now index }
+{
+    numbers.get(index).copied()
+}

@@ -1,0 +1,78 @@
+//! The tables of a program.
+
+ghost use Rattle.std.specs.Prelude.{◌≡◌, ◌++◌, [], OnOk, IfOk, map};
+ghost use Rattle.std.specs.List.{flat_map};
+ghost use Rattle.om_resolved.specs.ResolvedView.{view_resolved, view_resolved_function};
+ghost use Rattle.om_rows.specs.Bodies as bodies;
+ghost use Rattle.om_rows.specs.Mentions.{format_mention, function_mentioned, lock_mention};
+ghost use Rattle.om_tables.specs.Noted.{noted};
+ghost use Rattle.om_tables.specs.Numbering.{function_numbers, numbers_of};
+ghost use Rattle.om_tables.specs.Tables.{IsTablesOf};
+
+use crate::mentions::{Mentions, note_function};
+use crate::numbers::{Numbers, behind_function};
+use crate::texts::Texts;
+use om_resolved::{Resolved, ResolvedFunction};
+use std::alloc::{AllocError, Global};
+
+/// The tables of a program, by which its code names formats, locks and bodies.
+#[derive(Drop)]
+pub struct Tables {
+    /// The formats of `printf`, by their numbers.
+    pub formats: Texts,
+    /// The names of critical regions, by their numbers; the unnamed one has no bytes.
+    pub locks: Texts,
+    /// The number of the body of each function.
+    pub bodies: Vec<u32>,
+    /// The numbers behind all functions.
+    pub behind: Numbers,
+}
+
+/// The tables of a tree.
+pub fn tables_of(alloc: Global, resolved: &Resolved) -> Result<Tables, AllocError>
+    ensures { IfOk result (λ tables. IsTablesOf (view_resolved resolved.now) tables) }
+{
+    let functions = resolved.functions.as_slice();
+    let mentions = mentions_of(alloc, functions)?;
+    let mut bodies = Vec::new(alloc);
+    let behind = number_functions(&mut bodies, functions)?;
+    let Mentions { formats, locks, .. } = mentions;
+    Ok(Tables {
+        formats,
+        locks,
+        bodies,
+        behind,
+    })
+}
+
+/// The formats and locks of functions.
+fn mentions_of(alloc: Global, functions: &[ResolvedFunction]) -> Result<Mentions, AllocError>
+    ensures formats { let trees = map view_resolved_function functions.now in
+        IfOk result (λ made. made.formats ≡ noted [] (flat_map (function_mentioned format_mention) trees)) }
+    ensures locks { let trees = map view_resolved_function functions.now in
+        IfOk result (λ made. made.locks ≡ noted [] (flat_map (function_mentioned lock_mention) trees)) }
+{
+    let mut found = Mentions::new(alloc);
+    for function in functions {
+        note_function(&mut found, alloc, function)?;
+    }
+    Ok(found)
+}
+
+/// The numbers of the bodies of functions, and the numbers behind them.
+fn number_functions(
+    numbered: &mut Vec<u32>,
+    functions: &[ResolvedFunction],
+) -> Result<Numbers, AllocError>
+    ensures behind { let trees = map view_resolved_function functions.now in
+        IfOk result (λ made. numbers_of made ≡ bodies.behind_functions bodies.first_numbers trees) }
+    ensures bodies { let trees = map view_resolved_function functions.now in
+        OnOk result (numbered.new.items ≡ numbered.old.items ++ function_numbers bodies.first_numbers trees) }
+{
+    let mut numbers = Numbers::first();
+    for function in functions {
+        numbered.push(numbers.bodies)?;
+        numbers = behind_function(numbers, function)?;
+    }
+    Ok(numbers)
+}

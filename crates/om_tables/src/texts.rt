@@ -1,0 +1,74 @@
+//! Texts by numbers: formats, and names of critical regions.
+
+ghost use Rattle.std.specs.Prelude.{◌≡◌, ◌≤◌, [], OnOk, length, option_map, slice_get};
+ghost use Rattle.std.specs.Str.{bytes_eq};
+ghost use Rattle.om_rows.specs.Tables.{number_in, with_sight};
+
+use indexmap::IndexSet;
+use std::alloc::{AllocError, Global};
+use std::marker::Model;
+
+/// How many texts have numbers of 32 bits, the number behind all of them included.
+const TEXT_LIMIT: usize = 0xffff_ffff;
+
+/// Texts, each once. Contracts see them in the order of their numbers, which count from 0.
+#[derive(Drop)]
+pub struct Texts {
+    texts: IndexSet<Vec<u8>>,
+}
+
+impl Model for Texts {
+    ghost use Rattle.std.specs.Prelude.{ℕ, ◌≤◌, List, length, map};
+
+    ghost Value = { List (List ℕ) };
+
+    ghost view = { λ s. map (λ text. text.items) s.texts.keys };
+
+    ghost invariant = { λ s. length s.texts.keys ≤ 4294967295 };
+}
+
+impl Texts {
+    /// None.
+    pub fn new(alloc: Global) -> Texts
+        ensures { result ≡ [] }
+    {
+        Texts {
+            texts: IndexSet::new(alloc),
+        }
+    }
+
+    /// How many there are.
+    pub fn len(&self) -> usize
+        ensures all { result ≡ length self.now }
+        ensures numbered { result ≤ 4294967295 }
+    {
+        self.texts.len()
+    }
+
+    /// The text of a number; `None` where there is no such number.
+    pub fn text(&self, number: usize) -> Option<&[u8]>
+        ensures { option_map (λ text. text.now) result ≡ slice_get self.now number }
+    {
+        let text = self.texts.get_index(number)?;
+        Some(text.as_slice())
+    }
+
+    /// The number of a text; of one that is not there, the number behind all of them.
+    pub fn number_of(&self, text: &[u8]) -> u32
+        ensures { result ≡ number_in (bytes_eq text.now) self.now }
+    {
+        let number = self.texts.get_index_of(text);
+        number.unwrap_or(self.texts.len()) as u32
+    }
+
+    /// Gives a text the next number, unless it has one. There is no memory for 2^32 - 1 of them.
+    pub(crate) fn note(&mut self, alloc: Global, text: &[u8]) -> Result<(), AllocError>
+        ensures { OnOk result (self.new ≡ with_sight bytes_eq self.old text.now) }
+    {
+        if self.texts.len() >= TEXT_LIMIT {
+            return Err(AllocError);
+        }
+        self.texts.insert(Vec::from_slice(alloc, text)?)?;
+        Ok(())
+    }
+}

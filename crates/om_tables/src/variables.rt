@@ -1,0 +1,79 @@
+//! The variables of a body, by their slots.
+
+ghost use Rattle.std.specs.Prelude.{◌≡◌, ◌≤◌, [], OnOk, fold, length, nat_eq};
+ghost use Rattle.om_resolved.specs.Captures.{variable_uses};
+ghost use Rattle.om_rows.specs.Slots.{slot_of};
+ghost use Rattle.om_rows.specs.Tables.{with_sight};
+
+use indexmap::IndexSet;
+use om_resolved::Variable;
+use std::alloc::{AllocError, Global};
+use std::marker::Model;
+
+/// The variables of a function that a body has, each once. Contracts see them in the order of their
+/// slots, which are numbered from 0.
+#[derive(Drop)]
+pub struct Variables {
+    seen: IndexSet<u32>,
+}
+
+impl Model for Variables {
+    ghost use Rattle.std.specs.Prelude.{ℕ, List};
+
+    ghost Value = { List ℕ };
+
+    ghost view = { λ s. s.seen.keys };
+}
+
+impl Variables {
+    /// None.
+    pub fn new(alloc: Global) -> Variables
+        ensures { result ≡ [] }
+    {
+        Variables {
+            seen: IndexSet::new(alloc),
+        }
+    }
+
+    /// The variables, by their slots.
+    pub fn as_slice(&self) -> &[u32]
+        ensures { result.now ≡ self.now }
+    {
+        self.seen.as_slice()
+    }
+
+    /// How many slots there are.
+    pub fn len(&self) -> usize
+        ensures { result ≡ length self.now }
+    {
+        self.seen.len()
+    }
+
+    #[tactic(auto, using(crate::proofs::Places::number_found, crate::proofs::Places::number_least))]
+    /// The slot of a variable; of one that is not there, the number behind all slots.
+    pub fn slot_of(&self, variable: u32) -> usize
+        ensures exact { result ≡ slot_of self.now variable }
+        ensures least { result ≤ length self.now }
+    {
+        let slot = self.seen.get_index_of(&variable);
+        slot.unwrap_or(self.seen.len())
+    }
+
+    /// Gives a variable the next slot, unless it has one.
+    pub(crate) fn add(&mut self, variable: u32) -> Result<(), AllocError>
+        ensures { OnOk result (self.new ≡ with_sight nat_eq self.old variable) }
+    {
+        self.seen.insert(variable)?;
+        Ok(())
+    }
+
+    /// The same for a variable that is used, where it is one of the function.
+    pub(crate) fn sight(&mut self, variable: Variable) -> Result<(), AllocError>
+        ensures { OnOk result (self.new ≡ fold (with_sight nat_eq) self.old (variable_uses variable)) }
+    {
+        match variable {
+            Variable::Local(at) => self.add(at),
+            Variable::Global(_) => Ok(()),
+        }
+    }
+}

@@ -1,0 +1,14 @@
+use Rattle.std.proofs.Common.{◌≡◌, ◌<◌}
+use Rattle.om_view.specs.Moves.{next_within}
+use Rattle.om_view.proofs.moves.next_within.Given as goal
+
+-- what is said from here on is what is said in all
+abbrev pub invariant-steps : goal.invariant-steps
+invariant-steps l = record {
+  said : next_within l.further l.stay.line l.stay.worker l.recorder ≡ next_within l.initial.further l.stay.line l.stay.worker l.initial.recorder;
+  text : l.text.items ≡ l.initial.text.items;
+  in_range : l.stay.worker < l.recorder.machine.workers;
+}
+
+abbrev pub decreases-steps : goal.decreases-steps
+decreases-steps l = l.further

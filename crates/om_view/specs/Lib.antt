@@ -1,0 +1,10 @@
+pub mod Recorded
+pub mod Ready
+pub mod Variables
+pub mod Said
+pub mod Looks
+pub mod Moves
+pub mod Stops
+pub mod Runs
+pub mod Marked
+pub mod Views

@@ -1,0 +1,92 @@
+-- Runs: the least worker that has a move makes it, so many times at most.
+use Rattle.std.specs.Prelude.{ℕ, zero, suc, ◌+◌, ◌-◌, Bool, true, false, cond, List, [], ◌∷◌, Option, None, Some}
+use Rattle.om_foot.specs.declared.object.Obj.TheVariants as object
+use Rattle.om_cells.specs.declared.control.Control as controls
+use Rattle.om_cells.specs.declared.control.Control.TheVariants as control
+use Rattle.om_cells.specs.declared.step.Choice.{Choice}
+use Rattle.om_cells.specs.declared.step.Choice.TheVariants.{Next, Start}
+use Rattle.om_cells.specs.declared.step.Label.{Label}
+use Rattle.om_cells.specs.Values.{control_in}
+use Rattle.om_replies.specs.declared.stop.Stop.{Stop}
+use Rattle.om_replies.specs.declared.stop.Stop.TheVariants as stop
+use Rattle.om_replies.specs.Steps.{full_text}
+use Rattle.om_replies.specs.Stops.{ran_text}
+use Rattle.om_undo.specs.Machines.{MachineView, state_in}
+use Rattle.om_view.specs.declared.marks.Marks.{Marks}
+use Rattle.om_view.specs.declared.runs.Moved.{Moved}
+use Rattle.om_view.specs.declared.runs.Moved.TheVariants as moved
+use Rattle.om_view.specs.Moves.{is_done, step_reply_of}
+use Rattle.om_view.specs.Ready.{ready_names}
+use Rattle.om_view.specs.Recorded.{Recorded, is_full, label_of, recorded_step}
+use Rattle.om_view.specs.Said.{Said}
+use Rattle.om_view.specs.Stops.{stop_behind}
+
+-- a worker can make a step by a choice
+abbrev pub can_step : MachineView → ℕ → Choice → Bool
+can_step m worker choice = is_done (step_reply_of m (label_of worker choice))
+
+-- the start of the first of the names with which a worker can begin
+abbrev pub start_among : MachineView → ℕ → List (List ℕ) → Option Choice
+start_among m worker [] = None
+start_among m worker (name ∷ names) = cond (can_step m worker (Start name)) (Some (Start name)) (start_among m worker names)
+
+-- a worker's move: its next step where it can make it, else the start of the least ready task that it can begin
+abbrev pub move_of : MachineView → ℕ → Option Choice
+move_of m worker = cond (can_step m worker Next) (Some Next) (start_among m worker (ready_names m))
+
+abbrev pub move_or : ℕ → Option Choice → Option Label → Option Label
+move_or worker (Some choice) other = Some (label_of worker choice)
+move_or worker None other = other
+
+-- the move of the least of the last so many workers that has one
+unfoldable pub move_among : MachineView → ℕ → Option Label
+move_among m zero = None
+move_among m (suc more) = move_or (m.workers - suc more) (move_of m (m.workers - suc more)) (move_among m more)
+
+-- the move of the least worker that has one
+unfoldable pub first_move : MachineView → Option Label
+first_move m = move_among m m.workers
+
+-- the initial task has ended
+abbrev pub has_ended : controls.Control → Bool
+has_ended (control.Ended value) = true
+has_ended _ = false
+
+-- why a run stops where no worker has a move
+abbrev pub stop_without_move : MachineView → Stop
+stop_without_move m = cond (has_ended (control_in (state_in m (object.Control 0)))) stop.Ended stop.Stuck
+
+abbrev pub ran : Recorded → ℕ → Stop → Said
+ran r made why = record { text = ran_text r.machine.program made why; recorded = r }
+
+abbrev pub stopped_by : Option Stop → Moved
+stopped_by None = moved.GoesOn
+stopped_by (Some why) = moved.Stopped why
+
+-- what comes of a move, where there is one
+abbrev pub moved_by : Marks → Recorded → Option Label → Moved
+moved_by marks r None = moved.NoMove
+moved_by marks r (Some label) = cond (is_full r) moved.Full (stopped_by (stop_behind marks r.machine label))
+
+abbrev pub left_by : Recorded → Option Label → Recorded
+left_by r None = r
+left_by r (Some label) = cond (is_full r) r (recorded_step r label)
+
+-- what comes of the first move, and what it leaves
+abbrev pub moved_of : Marks → Recorded → Moved
+moved_of marks r = moved_by marks r (first_move r.machine)
+
+abbrev pub after_move : Recorded → Recorded
+after_move r = left_by r (first_move r.machine)
+
+-- what is said by what came of a move and what it left, behind so many others; where the run goes on, the rest
+abbrev pub said_by : Moved → ℕ → Recorded → Said → Said
+said_by moved.NoMove made after rest = ran after made (stop_without_move after.machine)
+said_by moved.Full made after rest = record { text = full_text; recorded = after }
+said_by (moved.Stopped why) made after rest = ran after (made + 1) why
+said_by moved.GoesOn made after rest = rest
+
+-- a run of so many further steps at most, behind those that it made
+unfoldable pub run_within : ℕ → ℕ → Marks → Recorded → Said
+run_within zero made marks r = ran r made stop.Limit
+run_within (suc left) made marks r = said_by (moved_of marks r) made (after_move r) (run_within left (made + 1) marks (after_move r))

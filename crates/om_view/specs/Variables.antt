@@ -1,0 +1,22 @@
+-- The cell of a global variable that a command names.
+use Rattle.std.specs.Prelude.{ℕ, nat_lt, List, if◌then◌else◌, Option, None, Some, option_and_then, position}
+use Rattle.std.specs.Str.{bytes_eq}
+use Rattle.om_code.specs.declared.raw.GlobalVariable.{GlobalVariable}
+use Rattle.om_code.specs.declared.raw.Raw.{Raw}
+use Rattle.om_command.specs.declared.command.Variable.{Variable}
+use Rattle.om_replies.specs.declared.value.GlobalCell.{GlobalCell}
+use Rattle.om_replies.specs.Objects.{length_of}
+
+-- the number of the global of a name
+abbrev pub global_named : Raw → List ℕ → Option ℕ
+global_named program name = position (λ (g : GlobalVariable). bytes_eq g.name name) program.globals
+
+-- a cell by its index: an array has one below its length, a scalar none
+abbrev pub cell_at : ℕ → Option ℕ → Option ℕ → Option GlobalCell
+cell_at variable None None = Some (record { variable = variable; index = 0 })
+cell_at variable (Some length) (Some index) = if nat_lt index length then Some (record { variable = variable; index = index }) else None
+cell_at variable _ _ = None
+
+-- the cell that a variable names, where there is one
+abbrev pub cell_of : Raw → Variable → Option GlobalCell
+cell_of program variable = option_and_then (λ number. cell_at number (length_of program number) variable.index) (global_named program variable.name)

@@ -1,0 +1,99 @@
+-- What a line of commands is answered, and what it leaves.
+use Rattle.std.specs.Prelude.{ℕ, Bool, true, false, List, [], Option, None, Some}
+use Rattle.om_cells.specs.declared.step.Choice.TheVariants.{Next, Start}
+use Rattle.om_code.specs.declared.raw.Raw.{Raw}
+use Rattle.om_command.specs.declared.command.Command.{Command}
+use Rattle.om_command.specs.declared.command.Command.TheVariants as command
+use Rattle.om_command.specs.declared.command.CommandFault.{CommandFault}
+use Rattle.om_command.specs.declared.command.CommandFault.TheVariants.{UnknownCommand, BadArgument}
+use Rattle.om_command.specs.declared.command.Request.{Request}
+use Rattle.om_command.specs.declared.command.Request.TheVariants as request
+use Rattle.om_command.specs.Commands.{request_of}
+use Rattle.om_replies.specs.declared.value.GlobalCell.{GlobalCell}
+use Rattle.om_replies.specs.Steps.{command_fault_text}
+use Rattle.om_replies.specs.Stops.{break_text, deleted_text, watch_text}
+use Rattle.om_view.specs.declared.debugger.Debugger.{Debugger}
+use Rattle.om_view.specs.declared.marks.Marks.{Marks}
+use Rattle.om_view.specs.Looks.{print_said, where_said, history_said, events_said, output_said, tasks_said}
+use Rattle.om_view.specs.Marked.{with_break, with_watch, without_break}
+use Rattle.om_view.specs.Moves.{step_said, undo_said, next_said, back_said, roll_said}
+use Rattle.om_view.specs.Recorded.{started}
+use Rattle.om_view.specs.Runs.{run_within}
+use Rattle.om_view.specs.Said.{Said}
+use Rattle.om_view.specs.Stops.{has_line}
+use Rattle.om_view.specs.Variables.{cell_of}
+
+-- what is written for a command, and what it leaves
+pub record Told : Type 0 where
+  pub text : List ℕ
+  pub view : Debugger
+
+-- what is written for a line, what it leaves, and whether the session is over
+pub record Answer : Type 0 where
+  pub text : List ℕ
+  pub view : Debugger
+  pub quits : Bool
+
+-- at the start of a program nothing is marked
+abbrev pub opened : Raw → ℕ → Debugger
+opened program workers = record { recorder = started program workers; marks = record { breaks = []; watches = [] } }
+
+-- a text that changes nothing
+abbrev pub told : Debugger → List ℕ → Told
+told d text = record { text = text; view = d }
+
+abbrev pub refused : Debugger → CommandFault → Told
+refused d fault = told d (command_fault_text fault)
+
+-- what a command says that calls the machine
+abbrev pub called : Debugger → Said → Told
+called d said = record { text = said.text; view = record { recorder = said.recorded; marks = d.marks } }
+
+-- a text, and other marks
+abbrev pub marked : Debugger → List ℕ → Marks → Told
+marked d text marks = record { text = text; view = record { recorder = d.recorder; marks = marks } }
+
+-- what is answered by a cell, where the variable names one
+abbrev pub by_cell : Debugger → Option GlobalCell → (GlobalCell → Told) → Told
+by_cell d None answer = refused d BadArgument
+by_cell d (Some cell) answer = answer cell
+
+-- what a command is answered. `print W VAR` and `free K` are refused today
+abbrev pub obeyed : Debugger → Command → Told
+obeyed d (command.Step worker) = called d (step_said worker Next d.recorder)
+obeyed d (command.Start worker task) = called d (step_said worker (Start task) d.recorder)
+obeyed d (command.Undo worker) = called d (undo_said worker d.recorder)
+obeyed d (command.Next worker) = called d (next_said 9999 worker d.recorder)
+obeyed d (command.Back worker) = called d (back_said 9999 worker d.recorder)
+obeyed d (command.Print variable) = by_cell d (cell_of d.recorder.machine.program variable) (λ cell. called d (print_said cell d.recorder))
+obeyed d (command.PrintLocal worker variable) = refused d BadArgument
+obeyed d (command.Where worker) = called d (where_said worker d.recorder)
+obeyed d command.History = called d (history_said d.recorder)
+obeyed d (command.Events worker) = called d (events_said worker d.recorder)
+obeyed d command.Output = called d (output_said d.recorder)
+obeyed d command.Tasks = called d (tasks_said d.recorder)
+obeyed d (command.Break line) = marked d (break_text line) (with_break line d.marks)
+obeyed d (command.Watch variable) = by_cell d (cell_of d.recorder.machine.program variable)
+    (λ cell. marked d (watch_text d.recorder.machine.program cell) (with_watch cell d.marks))
+obeyed d (command.Delete line) = marked d (deleted_text line (has_line d.marks.breaks line)) (without_break line d.marks)
+obeyed d (command.Run steps) = called d (run_within steps 0 d.marks d.recorder)
+obeyed d (command.Free rounds) = refused d UnknownCommand
+obeyed d (command.Roll serial) = called d (roll_said serial d.recorder)
+obeyed d command.Quit = told d []
+
+-- what is asked is answered
+abbrev pub answer_to : Debugger → Request → Told
+answer_to d request.Nothing = told d []
+answer_to d (request.Command c) = obeyed d c
+answer_to d (request.Fault fault) = refused d fault
+
+-- only `quit` ends a session
+abbrev pub is_quit : Request → Bool
+is_quit (request.Command command.Quit) = true
+is_quit _ = false
+
+-- what a line is answered
+unfoldable pub answered : Debugger → List ℕ → Answer
+answered d line =
+    let asked = request_of d.recorder.machine.workers line in
+    record { text = (answer_to d asked).text; view = (answer_to d asked).view; quits = is_quit asked }

@@ -1,0 +1,183 @@
+//! A debugger: a line of commands comes in, and a text goes out.
+
+ghost use Rattle.std.specs.Prelude.{◌≡◌, ◌≤◌, ◌++◌, IfOk, OnOk};
+ghost use Rattle.om_command.specs.Commands.{AsksWorkerBelow, HasWorkerBelow};
+ghost use Rattle.om_view.specs.Views.{opened, obeyed, answer_to, is_quit, answered};
+ghost use Rattle.om_command.specs.declared.command.Command.TheVariants as command;
+
+use crate::looks::{events, history, output, place, print, tasks};
+use crate::marks::Marks;
+use crate::moves::{back, next, roll, step, undo};
+use crate::recorder::Recorder;
+use crate::runs::run;
+use crate::variable::cell_of;
+use om_cells::Choice;
+use om_code::program::Program;
+use om_command::{Command, CommandFault, Request, Variable, request_of};
+use om_replies::{push_break, push_command_fault, push_deleted, push_watch};
+use om_seq::Seq;
+use om_undo::Machine;
+use std::alloc::{AllocError, Global};
+
+/// A machine whose calls are recorded, and where its runs stop.
+#[derive(Drop)]
+pub struct Debugger {
+    recorder: Recorder,
+    marks: Marks,
+}
+
+impl Debugger {
+    /// A debugger at the start of a program, with 1 to 32 workers. Its only error is out of memory.
+    pub fn new(alloc: Global, program: Program, workers: u8) -> Result<Debugger, AllocError>
+        requires at_least_one { 1 ≤ workers }
+        requires at_most_32 { workers ≤ 32 }
+        ensures { IfOk result (λ debugger. debugger ≡ opened program workers) }
+    {
+        Ok(Debugger {
+            recorder: Recorder::new(alloc, program, workers)?,
+            marks: Marks {
+                breaks: Seq::new(alloc),
+                watches: Seq::new(alloc),
+            },
+        })
+    }
+
+    /// Its machine.
+    pub fn into_machine(self) -> Machine
+        ensures { result ≡ self.recorder.machine }
+    {
+        let Debugger { recorder, marks: _ } = self;
+        recorder.into_machine()
+    }
+
+    /// Appends the answer to a line, and says whether the session is over.
+    ///
+    /// Out of memory is its only error; the debugger is of no use then.
+    pub fn answer(
+        &mut self,
+        alloc: Global,
+        line: &[u8],
+        text: &mut Vec<u8>,
+    ) -> Result<bool, AllocError>
+        ensures quits { IfOk result (λ quits. quits ≡ (answered self.old line.now).quits) }
+        ensures text { OnOk result (text.new.items ≡ text.old.items ++ (answered self.old line.now).text) }
+        ensures view { OnOk result (self.new ≡ (answered self.old line.now).view) }
+    {
+        let request = request_of(alloc, self.recorder.machine().workers(), line)?;
+        self.answer_to(alloc, &request, text)?;
+        Ok(is_quit(&request))
+    }
+
+    // Appends the answer to what is asked.
+    fn answer_to(
+        &mut self,
+        alloc: Global,
+        request: &Request,
+        text: &mut Vec<u8>,
+    ) -> Result<(), AllocError>
+        requires { AsksWorkerBelow self.old.recorder.machine.workers request.now }
+        ensures text { OnOk result (text.new.items ≡ text.old.items ++ (answer_to self.old request.now).text) }
+        ensures view { OnOk result (self.new ≡ (answer_to self.old request.now).view) }
+    {
+        match request {
+            Request::Nothing => Ok(()),
+            Request::Command(command) => self.obey(alloc, command, text),
+            Request::Fault(fault) => push_command_fault(text, *fault),
+        }
+    }
+
+    // Carries a command out, and appends its answer.
+    fn obey(
+        &mut self,
+        alloc: Global,
+        command: &Command,
+        text: &mut Vec<u8>,
+    ) -> Result<(), AllocError>
+        requires { HasWorkerBelow self.old.recorder.machine.workers command.now }
+        ensures text { OnOk result (text.new.items ≡ text.old.items ++ (obeyed self.old command.now).text) }
+        ensures view { OnOk result (self.new ≡ (obeyed self.old command.now).view) }
+    {
+        let recorder = &mut self.recorder;
+        match command {
+            Command::Step(worker) => step(alloc, recorder, *worker, Choice::Next, text),
+            Command::Start { worker, task } => {
+                step(alloc, recorder, *worker, Choice::Start(*task), text)
+            }
+            Command::Undo(worker) => undo(recorder, *worker, text),
+            Command::Next(worker) => next(alloc, recorder, *worker, text),
+            Command::Back(worker) => back(recorder, *worker, text),
+            Command::Print(variable) => self.print(alloc, variable, text),
+            Command::PrintLocal { .. } => push_command_fault(text, CommandFault::BadArgument),
+            Command::Where(worker) => place(alloc, recorder, *worker, text),
+            Command::History => history(alloc, recorder, text),
+            Command::Events(worker) => events(alloc, recorder, *worker, text),
+            Command::Output => output(alloc, recorder, text),
+            Command::Tasks => tasks(alloc, recorder, text),
+            Command::Break(line) => self.set_break(*line, text),
+            Command::Watch(variable) => self.set_watch(variable, text),
+            Command::Delete(line) => self.delete(alloc, *line, text),
+            Command::Run(steps) => run(alloc, recorder, &self.marks, *steps, text),
+            Command::Free(_) => push_command_fault(text, CommandFault::UnknownCommand),
+            Command::Roll(serial) => roll(alloc, recorder, *serial, text),
+            Command::Quit => Ok(()),
+        }
+    }
+
+    // Answers `print VAR`.
+    fn print(
+        &mut self,
+        alloc: Global,
+        variable: &Variable,
+        text: &mut Vec<u8>,
+    ) -> Result<(), AllocError>
+        ensures text { OnOk result (text.new.items ≡ text.old.items ++ (obeyed self.old (command.Print variable.now)).text) }
+        ensures view { OnOk result (self.new ≡ (obeyed self.old (command.Print variable.now)).view) }
+    {
+        match cell_of(self.recorder.machine().program(), variable) {
+            Some(cell) => print(alloc, &mut self.recorder, cell, text),
+            None => push_command_fault(text, CommandFault::BadArgument),
+        }
+    }
+
+    // Answers `break L`.
+    fn set_break(&mut self, line: u64, text: &mut Vec<u8>) -> Result<(), AllocError>
+        ensures text { OnOk result (text.new.items ≡ text.old.items ++ (obeyed self.old (command.Break line)).text) }
+        ensures view { OnOk result (self.new ≡ (obeyed self.old (command.Break line)).view) }
+    {
+        self.marks.set_break(line)?;
+        push_break(text, line)
+    }
+
+    // Answers `watch VAR`.
+    fn set_watch(&mut self, variable: &Variable, text: &mut Vec<u8>) -> Result<(), AllocError>
+        ensures text { OnOk result (text.new.items ≡ text.old.items ++ (obeyed self.old (command.Watch variable.now)).text) }
+        ensures view { OnOk result (self.new ≡ (obeyed self.old (command.Watch variable.now)).view) }
+    {
+        match cell_of(self.recorder.machine().program(), variable) {
+            Some(cell) => {
+                self.marks.set_watch(cell)?;
+                push_watch(text, self.recorder.machine().program(), cell)
+            }
+            None => push_command_fault(text, CommandFault::BadArgument),
+        }
+    }
+
+    // Answers `delete L`.
+    fn delete(&mut self, alloc: Global, line: u64, text: &mut Vec<u8>) -> Result<(), AllocError>
+        ensures text { OnOk result (text.new.items ≡ text.old.items ++ (obeyed self.old (command.Delete line)).text) }
+        ensures view { OnOk result (self.new ≡ (obeyed self.old (command.Delete line)).view) }
+    {
+        let was_set = self.marks.delete(alloc, line)?;
+        push_deleted(text, line, was_set)
+    }
+}
+
+// Whether a request ends the session.
+fn is_quit(request: &Request) -> bool
+    ensures { result ≡ is_quit request.now }
+{
+    match request {
+        Request::Command(command) => matches!(command, Command::Quit),
+        Request::Nothing | Request::Fault(_) => false,
+    }
+}

@@ -1,0 +1,191 @@
+//! The commands that look and change nothing.
+
+ghost use Rattle.std.specs.Prelude.{◌≡◌, ◌<◌, ◌++◌, unwrap_or, OnOk};
+ghost use Rattle.std.specs.Option.{option_copied};
+ghost use Rattle.om_cells.specs.declared.value.Task.TheVariants as tasks;
+ghost use Rattle.om_replies.specs.Lists.{joined};
+ghost use Rattle.om_undo.specs.Machines.{state_in};
+ghost use Rattle.om_replies.specs.Places.{where_text};
+ghost use Rattle.om_cells.specs.Values.{control_in};
+ghost use Rattle.om_view.specs.Looks.{line_at, print_said, where_said, history_said, events_said, output_said, directive_line, ready_line, tasks_text, tasks_said};
+
+use crate::recorder::Recorder;
+use om_cells::value::Task;
+use om_cells::{Control, Val};
+use om_foot::{Name, Obj};
+use om_replies::{
+    GlobalCell, push_events, push_full, push_history, push_no_tasks, push_output, push_print,
+    push_task, push_where,
+};
+use om_undo::Machine;
+use std::alloc::{AllocError, Global};
+
+/// Answers `print VAR`.
+pub(crate) fn print(
+    alloc: Global,
+    recorder: &mut Recorder,
+    cell: GlobalCell,
+    text: &mut Vec<u8>,
+) -> Result<(), AllocError>
+    ensures text { OnOk result (text.new.items ≡ text.old.items ++ (print_said cell recorder.old).text) }
+    ensures after { OnOk result (recorder.new ≡ (print_said cell recorder.old).recorded) }
+{
+    if recorder.is_full() {
+        return push_full(text);
+    }
+    let value = recorder.look(alloc, &cell.object())?;
+    push_print(text, recorder.machine().program(), cell, &value)
+}
+
+// What a worker is doing, by the value of its control.
+fn push_control(
+    text: &mut Vec<u8>,
+    machine: &Machine,
+    worker: u8,
+    value: &Val,
+) -> Result<(), AllocError>
+    requires { worker < machine.now.workers }
+    ensures { OnOk result (text.new.items ≡ text.old.items ++ where_text worker (control_in value.now) (line_at machine.now worker)) }
+{
+    let line = machine.line(worker);
+    match value.control() {
+        Some(control) => push_where(text, worker, control, line),
+        None => push_where(text, worker, &Control::Idle, line),
+    }
+}
+
+/// Answers `where W`.
+pub(crate) fn place(
+    alloc: Global,
+    recorder: &mut Recorder,
+    worker: u8,
+    text: &mut Vec<u8>,
+) -> Result<(), AllocError>
+    requires { worker < recorder.old.machine.workers }
+    ensures text { OnOk result (text.new.items ≡ text.old.items ++ (where_said worker recorder.old).text) }
+    ensures after { OnOk result (recorder.new ≡ (where_said worker recorder.old).recorded) }
+{
+    if recorder.is_full() {
+        return push_full(text);
+    }
+    let value = recorder.look(alloc, &Obj::Control(worker))?;
+    push_control(text, recorder.machine(), worker, &value)
+}
+
+/// Answers `history`.
+pub(crate) fn history(
+    alloc: Global,
+    recorder: &mut Recorder,
+    text: &mut Vec<u8>,
+) -> Result<(), AllocError>
+    ensures text { OnOk result (text.new.items ≡ text.old.items ++ (history_said recorder.old).text) }
+    ensures after { OnOk result (recorder.new ≡ (history_said recorder.old).recorded) }
+{
+    if recorder.is_full() {
+        return push_full(text);
+    }
+    let entries = recorder.entries(alloc)?;
+    push_history(text, &entries)
+}
+
+/// Answers `events W`.
+pub(crate) fn events(
+    alloc: Global,
+    recorder: &mut Recorder,
+    worker: u8,
+    text: &mut Vec<u8>,
+) -> Result<(), AllocError>
+    ensures text { OnOk result (text.new.items ≡ text.old.items ++ (events_said worker recorder.old).text) }
+    ensures after { OnOk result (recorder.new ≡ (events_said worker recorder.old).recorded) }
+{
+    if recorder.is_full() {
+        return push_full(text);
+    }
+    let value = recorder.look(alloc, &Obj::Events(worker))?;
+    push_events(text, value.records())
+}
+
+/// Answers `output`.
+pub(crate) fn output(
+    alloc: Global,
+    recorder: &mut Recorder,
+    text: &mut Vec<u8>,
+) -> Result<(), AllocError>
+    ensures text { OnOk result (text.new.items ≡ text.old.items ++ (output_said recorder.old).text) }
+    ensures after { OnOk result (recorder.new ≡ (output_said recorder.old).recorded) }
+{
+    if recorder.is_full() {
+        return push_full(text);
+    }
+    let value = recorder.look(alloc, &Obj::Output)?;
+    push_output(text, value.bytes())
+}
+
+// The line of the directive of a task that is ready; 0 for another one.
+fn directive_line(task: Option<&Task>) -> u32
+    ensures { result ≡ directive_line (unwrap_or (option_copied task.entry) tasks.Absent) }
+{
+    match task {
+        Some(Task::Ready(ready)) => ready.line,
+        Some(Task::Absent) | Some(Task::Running(_)) | Some(Task::Done) | None => 0,
+    }
+}
+
+// A task that is ready, on a line.
+fn push_ready(
+    alloc: Global,
+    machine: &Machine,
+    name: &Name,
+    text: &mut Vec<u8>,
+) -> Result<(), AllocError>
+    ensures { OnOk result (text.new.items ≡ text.old.items ++ ready_line (state_in machine.now) name.now) }
+{
+    let value = machine.look(alloc, &Obj::Task(*name))?;
+    push_task(text, name, directive_line(value.task()))
+}
+
+// Tasks that are ready, each on a line.
+fn push_all_ready(
+    alloc: Global,
+    machine: &Machine,
+    names: &[Name],
+    text: &mut Vec<u8>,
+) -> Result<(), AllocError>
+    ensures { OnOk result (text.new.items ≡ text.old.items ++ joined (ready_line (state_in machine.now)) names.now) }
+{
+    for name in names {
+        push_ready(alloc, machine, name, text)?;
+    }
+    Ok(())
+}
+
+// The tasks that are ready, or that there is none.
+fn push_tasks(
+    alloc: Global,
+    machine: &Machine,
+    names: &[Name],
+    text: &mut Vec<u8>,
+) -> Result<(), AllocError>
+    ensures { OnOk result (text.new.items ≡ text.old.items ++ tasks_text (state_in machine.now) names.now) }
+{
+    match names {
+        [] => push_no_tasks(text),
+        [_, ..] => push_all_ready(alloc, machine, names, text),
+    }
+}
+
+/// Answers `tasks`.
+pub(crate) fn tasks(
+    alloc: Global,
+    recorder: &mut Recorder,
+    text: &mut Vec<u8>,
+) -> Result<(), AllocError>
+    ensures text { OnOk result (text.new.items ≡ text.old.items ++ (tasks_said recorder.old).text) }
+    ensures after { OnOk result (recorder.new ≡ (tasks_said recorder.old).recorded) }
+{
+    if recorder.is_full() {
+        return push_full(text);
+    }
+    let names = recorder.ready(alloc)?;
+    push_tasks(alloc, recorder.machine(), &names, text)
+}

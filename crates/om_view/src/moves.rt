@@ -1,0 +1,198 @@
+//! The commands of one worker's steps and undos, and rolls.
+
+ghost use Rattle.std.specs.Prelude.{◌≡◌, ◌<◌, ◌++◌, ◌&&◌, nat_eq, true, OnOk};
+ghost use Rattle.om_view.specs.Looks.{line_at};
+ghost use Rattle.om_view.specs.Moves.{goes_on, is_done, is_undone, step_said, undo_said, next_within, next_said, back_within, back_said, roll_said};
+
+use crate::recorder::Recorder;
+use om_cells::Choice;
+use om_replies::{push_full, push_roll, push_step, push_undo};
+use om_undo::{Machine, StepReply, UndoReply};
+use std::alloc::{AllocError, Global};
+
+// How many steps or undos `next` and `back` make at most, besides the last one.
+const MOST_FURTHER: u32 = 9_999;
+
+/// A worker, and the line that it is to leave.
+#[derive(Clone, Copy)]
+struct Stay {
+    worker: u8,
+    line: u32,
+}
+
+/// Answers `step W`, and `start W NAME`.
+pub(crate) fn step(
+    alloc: Global,
+    recorder: &mut Recorder,
+    worker: u8,
+    choice: Choice,
+    text: &mut Vec<u8>,
+) -> Result<(), AllocError>
+    requires { worker < recorder.old.machine.workers }
+    ensures text { OnOk result (text.new.items ≡ text.old.items ++ (step_said worker choice recorder.old).text) }
+    ensures after { OnOk result (recorder.new ≡ (step_said worker choice recorder.old).recorded) }
+{
+    if recorder.is_full() {
+        return push_full(text);
+    }
+    let reply = recorder.step(alloc, worker, choice)?;
+    push_step(text, worker, reply)
+}
+
+/// Answers `undo W`.
+pub(crate) fn undo(
+    recorder: &mut Recorder,
+    worker: u8,
+    text: &mut Vec<u8>,
+) -> Result<(), AllocError>
+    requires { worker < recorder.old.machine.workers }
+    ensures text { OnOk result (text.new.items ≡ text.old.items ++ (undo_said worker recorder.old).text) }
+    ensures after { OnOk result (recorder.new ≡ (undo_said worker recorder.old).recorded) }
+{
+    if recorder.is_full() {
+        return push_full(text);
+    }
+    let reply = recorder.undo(worker);
+    push_undo(text, recorder.machine().program(), worker, &reply)
+}
+
+/// Whether a step was made.
+pub(crate) fn is_done(reply: &StepReply) -> bool
+    ensures { result ≡ is_done reply.now }
+{
+    match reply {
+        StepReply::Done { .. } => true,
+        StepReply::Blocked(_) | StepReply::Ended => false,
+    }
+}
+
+// Whether a step was taken out.
+fn is_undone(reply: &UndoReply) -> bool
+    ensures { result ≡ is_undone reply.now }
+{
+    match reply {
+        UndoReply::Undone { .. } => true,
+        UndoReply::Conflict { .. } | UndoReply::Nothing => false,
+    }
+}
+
+// Whether a worker still is at the line.
+fn stays(machine: &Machine, stay: Stay) -> bool
+    requires { stay.worker < machine.now.workers }
+    ensures { result ≡ nat_eq (line_at machine.now stay.worker) stay.line }
+{
+    machine.line(stay.worker) == stay.line
+}
+
+// Whether a step was made that left its worker at the line, and a further one may follow.
+fn steps_on(machine: &Machine, reply: &StepReply, stay: Stay, further: u32) -> bool
+    requires { stay.worker < machine.now.workers }
+    ensures on { result ≡ goes_on further (is_done reply.now && nat_eq (line_at machine.now stay.worker) stay.line) }
+    ensures further { result ≡ true → 0 < further }
+{
+    further > 0 && is_done(reply) && stays(machine, stay)
+}
+
+// Whether a step was taken out, which left its worker at the line, and a further one may be.
+fn undoes_on(machine: &Machine, reply: &UndoReply, stay: Stay, further: u32) -> bool
+    requires { stay.worker < machine.now.workers }
+    ensures on { result ≡ goes_on further (is_undone reply.now && nat_eq (line_at machine.now stay.worker) stay.line) }
+    ensures further { result ≡ true → 0 < further }
+{
+    further > 0 && is_undone(reply) && stays(machine, stay)
+}
+
+// Steps, and so many further ones at most while they leave the worker at the line.
+fn next_within(
+    alloc: Global,
+    recorder: &mut Recorder,
+    stay: Stay,
+    further: u32,
+    text: &mut Vec<u8>,
+) -> Result<(), AllocError>
+    requires { stay.worker < recorder.old.machine.workers }
+    ensures text { OnOk result (text.new.items ≡ text.old.items ++ (next_within further stay.line stay.worker recorder.old).text) }
+    ensures after { OnOk result (recorder.new ≡ (next_within further stay.line stay.worker recorder.old).recorded) }
+{
+    let mut further = further;
+    'steps: loop {
+        if recorder.is_full() {
+            return push_full(text);
+        }
+        let reply = recorder.step(alloc, stay.worker, Choice::Next)?;
+        if !steps_on(recorder.machine(), &reply, stay, further) {
+            return push_step(text, stay.worker, reply);
+        }
+        further -= 1;
+    }
+}
+
+/// Answers `next W`.
+pub(crate) fn next(
+    alloc: Global,
+    recorder: &mut Recorder,
+    worker: u8,
+    text: &mut Vec<u8>,
+) -> Result<(), AllocError>
+    requires { worker < recorder.old.machine.workers }
+    ensures text { OnOk result (text.new.items ≡ text.old.items ++ (next_said 9999 worker recorder.old).text) }
+    ensures after { OnOk result (recorder.new ≡ (next_said 9999 worker recorder.old).recorded) }
+{
+    let line = recorder.machine().line(worker);
+    next_within(alloc, recorder, Stay { worker, line }, MOST_FURTHER, text)
+}
+
+// Undoes, and so many further times at most while that leaves the worker at the line.
+fn back_within(
+    recorder: &mut Recorder,
+    stay: Stay,
+    further: u32,
+    text: &mut Vec<u8>,
+) -> Result<(), AllocError>
+    requires { stay.worker < recorder.old.machine.workers }
+    ensures text { OnOk result (text.new.items ≡ text.old.items ++ (back_within further stay.line stay.worker recorder.old).text) }
+    ensures after { OnOk result (recorder.new ≡ (back_within further stay.line stay.worker recorder.old).recorded) }
+{
+    let mut further = further;
+    'undos: loop {
+        if recorder.is_full() {
+            return push_full(text);
+        }
+        let reply = recorder.undo(stay.worker);
+        if !undoes_on(recorder.machine(), &reply, stay, further) {
+            return push_undo(text, recorder.machine().program(), stay.worker, &reply);
+        }
+        further -= 1;
+    }
+}
+
+/// Answers `back W`.
+pub(crate) fn back(
+    recorder: &mut Recorder,
+    worker: u8,
+    text: &mut Vec<u8>,
+) -> Result<(), AllocError>
+    requires { worker < recorder.old.machine.workers }
+    ensures text { OnOk result (text.new.items ≡ text.old.items ++ (back_said 9999 worker recorder.old).text) }
+    ensures after { OnOk result (recorder.new ≡ (back_said 9999 worker recorder.old).recorded) }
+{
+    let line = recorder.machine().line(worker);
+    back_within(recorder, Stay { worker, line }, MOST_FURTHER, text)
+}
+
+/// Answers `roll S`.
+pub(crate) fn roll(
+    alloc: Global,
+    recorder: &mut Recorder,
+    serial: u64,
+    text: &mut Vec<u8>,
+) -> Result<(), AllocError>
+    ensures text { OnOk result (text.new.items ≡ text.old.items ++ (roll_said serial recorder.old).text) }
+    ensures after { OnOk result (recorder.new ≡ (roll_said serial recorder.old).recorded) }
+{
+    if recorder.is_full() {
+        return push_full(text);
+    }
+    let reply = recorder.roll(alloc, serial)?;
+    push_roll(text, serial, &reply)
+}

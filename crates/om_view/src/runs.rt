@@ -1,0 +1,197 @@
+//! Runs: the least worker that has a move makes it, so many times at most.
+
+ghost use Rattle.std.specs.Prelude.{◌≡◌, ◌<◌, ◌≤◌, ◌+◌, ◌++◌, IfOk, IfSome, OnOk, Some, unwrap_or};
+ghost use Rattle.std.specs.Option.{option_copied};
+ghost use Rattle.om_cells.specs.declared.control.Control.TheVariants as controls;
+ghost use Rattle.om_replies.specs.Stops.{ran_text};
+ghost use Rattle.om_undo.specs.Machines.{state_in};
+ghost use Rattle.om_view.specs.Runs.{can_step, start_among, move_of, move_among, first_move, has_ended, stop_without_move, moved_by, left_by, moved_of, after_move, run_within};
+
+use crate::marks::Marks;
+use crate::moves::is_done;
+use crate::recorder::{Recorder, ready_in};
+use crate::stops::step_and_stop;
+use om_cells::{Choice, Control, Label};
+use om_foot::{Name, Obj};
+use om_replies::{Stop, push_full, push_ran};
+use om_undo::Machine;
+use std::alloc::{AllocError, Global};
+
+// Whether a worker can make a step by a choice.
+fn can_step(
+    alloc: Global,
+    machine: &Machine,
+    worker: u8,
+    choice: Choice,
+) -> Result<bool, AllocError>
+    requires { worker < machine.now.workers }
+    ensures { IfOk result (λ can. can ≡ can_step machine.now worker choice) }
+{
+    let reply = machine.peek(alloc, worker, choice)?;
+    Ok(is_done(&reply))
+}
+
+// The start of the first of the tasks that a worker can begin.
+fn start_among(
+    alloc: Global,
+    machine: &Machine,
+    worker: u8,
+    names: &[Name],
+) -> Result<Option<Choice>, AllocError>
+    requires { worker < machine.now.workers }
+    ensures { IfOk result (λ choice. choice ≡ start_among machine.now worker names.now) }
+{
+    for name in names {
+        if can_step(alloc, machine, worker, Choice::Start(*name))? {
+            return Ok(Some(Choice::Start(*name)));
+        }
+    }
+    Ok(None)
+}
+
+// A worker's move: its next step, else the start of the least task that it can begin.
+fn move_of(alloc: Global, machine: &Machine, worker: u8) -> Result<Option<Choice>, AllocError>
+    requires { worker < machine.now.workers }
+    ensures { IfOk result (λ choice. choice ≡ move_of machine.now worker) }
+{
+    if can_step(alloc, machine, worker, Choice::Next)? {
+        return Ok(Some(Choice::Next));
+    }
+    let names = ready_in(alloc, machine)?;
+    start_among(alloc, machine, worker, &names)
+}
+
+// The move of the least of the last so many workers that has one.
+fn move_among(alloc: Global, machine: &Machine, last: u8) -> Result<Option<Label>, AllocError>
+    requires { last ≤ machine.now.workers }
+    ensures moved { IfOk result (λ label. label ≡ move_among machine.now last) }
+    ensures in_range { IfOk result (λ label. IfSome label (λ l. l.worker < machine.now.workers)) }
+{
+    let mut last = last;
+    'workers: while last > 0 {
+        let worker = machine.workers() - last;
+        match move_of(alloc, machine, worker)? {
+            Some(choice) => return Ok(Some(Label { worker, choice })),
+            None => {}
+        }
+        last -= 1;
+    }
+    Ok(None)
+}
+
+// The move of the least worker that has one.
+fn first_move(alloc: Global, machine: &Machine) -> Result<Option<Label>, AllocError>
+    ensures moved { IfOk result (λ label. label ≡ first_move machine.now) }
+    ensures in_range { IfOk result (λ label. IfSome label (λ l. l.worker < machine.now.workers)) }
+{
+    move_among(alloc, machine, machine.workers())
+}
+
+// Whether the initial task has ended.
+fn has_ended(control: Option<&Control>) -> bool
+    ensures { result ≡ has_ended (unwrap_or (option_copied control.entry) controls.Idle) }
+{
+    match control {
+        Some(Control::Ended(_)) => true,
+        Some(Control::Idle) | Some(Control::Running(_)) | Some(Control::Faulted(_, _)) | None => {
+            false
+        }
+    }
+}
+
+// Why a run stops where no worker has a move.
+fn stop_without_move(alloc: Global, machine: &Machine) -> Result<Stop, AllocError>
+    ensures { IfOk result (λ stop. stop ≡ stop_without_move machine.now) }
+{
+    let value = machine.look(alloc, &Obj::Control(0))?;
+    if has_ended(value.control()) {
+        Ok(Stop::Ended)
+    } else {
+        Ok(Stop::Stuck)
+    }
+}
+
+// Tells that a run stops where no worker has a move.
+fn push_without_move(
+    alloc: Global,
+    machine: &Machine,
+    made: u64,
+    text: &mut Vec<u8>,
+) -> Result<(), AllocError>
+    ensures { OnOk result (text.new.items ≡ text.old.items ++ ran_text machine.now.program made (stop_without_move machine.now)) }
+{
+    let stop = stop_without_move(alloc, machine)?;
+    push_ran(text, machine.program(), made, stop)
+}
+
+// What came of the first move.
+#[derive(Clone, Copy)]
+enum Moved {
+    /// No worker has a move.
+    NoMove,
+    /// There is no room to record it.
+    Full,
+    /// It was made, and the run stops behind it.
+    Stopped(Stop),
+    /// It was made, and the run goes on.
+    GoesOn,
+}
+
+// Makes a move, where there is room to record it.
+fn make(
+    alloc: Global,
+    recorder: &mut Recorder,
+    marks: &Marks,
+    label: &Label,
+) -> Result<Moved, AllocError>
+    requires { label.now.worker < recorder.old.machine.workers }
+    ensures moved { IfOk result (λ moved. moved ≡ moved_by marks.now recorder.old (Some label.now)) }
+    ensures after { OnOk result (recorder.new ≡ left_by recorder.old (Some label.now)) }
+{
+    if recorder.is_full() {
+        return Ok(Moved::Full);
+    }
+    match step_and_stop(alloc, recorder, marks, label)? {
+        Some(stop) => Ok(Moved::Stopped(stop)),
+        None => Ok(Moved::GoesOn),
+    }
+}
+
+// Makes the move of the least worker that has one.
+fn advance(alloc: Global, recorder: &mut Recorder, marks: &Marks) -> Result<Moved, AllocError>
+    ensures moved { IfOk result (λ moved. moved ≡ moved_of marks.now recorder.old) }
+    ensures after { OnOk result (recorder.new ≡ after_move recorder.old) }
+{
+    match first_move(alloc, recorder.machine())? {
+        Some(Label { worker, choice }) => make(alloc, recorder, marks, &Label { worker, choice }),
+        None => Ok(Moved::NoMove),
+    }
+}
+
+/// Answers `run K`.
+pub(crate) fn run(
+    alloc: Global,
+    recorder: &mut Recorder,
+    marks: &Marks,
+    steps: u32,
+    text: &mut Vec<u8>,
+) -> Result<(), AllocError>
+    ensures text { OnOk result (text.new.items ≡ text.old.items ++ (run_within steps 0 marks.now recorder.old).text) }
+    ensures after { OnOk result (recorder.new ≡ (run_within steps 0 marks.now recorder.old).recorded) }
+{
+    let mut left = steps;
+    let mut made = 0;
+    'steps: while left > 0 {
+        match advance(alloc, recorder, marks)? {
+            Moved::NoMove => return push_without_move(alloc, recorder.machine(), made, text),
+            Moved::Full => return push_full(text),
+            Moved::Stopped(stop) => {
+                return push_ran(text, recorder.machine().program(), made + 1, stop);
+            }
+            Moved::GoesOn => {}
+        }
+        made += 1;
+        left -= 1;
+    }
+    push_ran(text, recorder.machine().program(), made, Stop::Limit)
+}

@@ -1,0 +1,142 @@
+//! Why a run stops behind a step.
+
+ghost use Rattle.std.specs.Prelude.{◌≡◌, ◌<◌, ◌≤◌, nat_le, map, IfOk, OnOk};
+ghost use Rattle.om_undo.specs.Machines.{state_in};
+ghost use Rattle.om_view.specs.Looks.{line_at};
+ghost use Rattle.om_view.specs.Recorded.{recorded_step};
+ghost use Rattle.om_view.specs.Stops.{or_else, fault_stop, break_stop, cell_eq, value_of, watched, watch_stop, stop_behind};
+
+use crate::marks::{Marks, has_line};
+use crate::recorder::Recorder;
+use om_cells::Label;
+use om_code::frame::Cell;
+use om_replies::{GlobalCell, Stop};
+use om_undo::{Machine, StepReply};
+use std::alloc::{AllocError, Global};
+
+// A step that ended with a fault.
+fn fault_stop(reply: &StepReply, worker: u8) -> Option<Stop>
+    ensures { result ≡ fault_stop reply.now worker }
+{
+    match reply {
+        StepReply::Done {
+            serial: _,
+            line: _,
+            fault: Some(fault),
+        } => Some(Stop::Fault {
+            fault: *fault,
+            worker,
+        }),
+        StepReply::Done { fault: None, .. } | StepReply::Blocked(_) | StepReply::Ended => None,
+    }
+}
+
+// A worker that came from another line to one at which there is a break.
+fn break_stop(breaks: &[u64], before: u32, after: u32, worker: u8) -> Option<Stop>
+    ensures { result ≡ break_stop breaks.now before after worker }
+{
+    if before == after {
+        return None;
+    }
+    if has_line(breaks, u64::from(after)) {
+        Some(Stop::Break {
+            line: after,
+            worker,
+        })
+    } else {
+        None
+    }
+}
+
+// Whether two cells hold the same.
+fn is_same_cell(a: Cell, b: Cell) -> bool
+    ensures { result ≡ cell_eq a b }
+{
+    match (a, b) {
+        (Cell::Int(a), Cell::Int(b)) => a == b,
+        (Cell::Unset, Cell::Unset) | (Cell::Dead, Cell::Dead) => true,
+        _ => false,
+    }
+}
+
+// What a cell of a global holds.
+fn value_of(alloc: Global, machine: &Machine, cell: GlobalCell) -> Result<Cell, AllocError>
+    ensures { IfOk result (λ value. value ≡ value_of (state_in machine.now) cell) }
+{
+    Ok(machine.look(alloc, &cell.object())?.cell())
+}
+
+// A watched cell, and what it held before a step.
+#[derive(Clone, Copy)]
+struct Watched {
+    cell: GlobalCell,
+    held: Cell,
+}
+
+// Cells, each with what it holds.
+fn held_by(
+    alloc: Global,
+    machine: &Machine,
+    cells: &[GlobalCell],
+) -> Result<Vec<Watched>, AllocError>
+    ensures { IfOk result (λ all. all.items ≡ map (watched (state_in machine.now)) cells.now) }
+{
+    let mut all = Vec::new(alloc);
+    for cell in cells {
+        let held = value_of(alloc, machine, *cell)?;
+        all.push(Watched { cell: *cell, held })?;
+    }
+    Ok(all)
+}
+
+// The first cell that no longer holds what it held.
+fn watch_stop(
+    alloc: Global,
+    machine: &Machine,
+    all: &[Watched],
+    worker: u8,
+) -> Result<Option<Stop>, AllocError>
+    ensures { IfOk result (λ stop. stop ≡ watch_stop all.now (state_in machine.now) worker) }
+{
+    for one in all {
+        if !is_same_cell(one.held, value_of(alloc, machine, one.cell)?) {
+            return Ok(Some(Stop::Watch {
+                cell: one.cell,
+                worker,
+            }));
+        }
+    }
+    Ok(None)
+}
+
+// The first of two that is there.
+fn or_else(first: Option<Stop>, second: Option<Stop>) -> Option<Stop>
+    ensures { result ≡ or_else first second }
+{
+    match first {
+        Some(stop) => Some(stop),
+        None => second,
+    }
+}
+
+/// Takes a step that can be taken, and answers why a run stops behind it, if it does.
+pub(crate) fn step_and_stop(
+    alloc: Global,
+    recorder: &mut Recorder,
+    marks: &Marks,
+    label: &Label,
+) -> Result<Option<Stop>, AllocError>
+    requires in_range { label.now.worker < recorder.old.machine.workers }
+    requires room { recorder.old.records < 200000 }
+    ensures stop { IfOk result (λ stop. stop ≡ stop_behind marks.now recorder.old.machine label.now) }
+    ensures after { OnOk result (recorder.new ≡ recorded_step recorder.old label.now) }
+{
+    let worker = label.worker;
+    let line = recorder.machine().line(worker);
+    let all = held_by(alloc, recorder.machine(), marks.watches.as_slice())?;
+    let reply = recorder.step(alloc, worker, label.choice)?;
+    let machine = recorder.machine();
+    let breaks = break_stop(marks.breaks.as_slice(), line, machine.line(worker), worker);
+    let watches = watch_stop(alloc, machine, &all, worker)?;
+    Ok(or_else(fault_stop(&reply, worker), or_else(breaks, watches)))
+}

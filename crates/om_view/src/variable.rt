@@ -1,0 +1,70 @@
+//! The cell of a global variable that a command names.
+
+ghost use Rattle.std.specs.Prelude.{◌≡◌, ◌<◌, IfSome, position, length};
+ghost use Rattle.std.specs.Str.{bytes_eq};
+ghost use Rattle.om_replies.specs.Objects.{length_of};
+ghost use Rattle.om_view.specs.Variables.{cell_at, cell_of, global_named};
+
+use om_code::program::Program;
+use om_code::raw::GlobalVariable;
+use om_command::Variable;
+use om_replies::GlobalCell;
+
+// Whether a global variable has this name.
+fn is_named(global: &GlobalVariable, name: &[u8]) -> bool
+    ensures { result ≡ bytes_eq global.now.name name.now }
+{
+    global.name.as_slice() == name
+}
+
+// The index of the first global variable of this name.
+fn index_of(globals: &[GlobalVariable], name: &[u8]) -> Option<usize>
+    ensures index { result ≡ position (λ global. bytes_eq global.name name.now) globals.now }
+    ensures within { IfSome result (λ index. index < length globals.now) }
+{
+    globals.iter().position(|global| is_named(global, name))
+}
+
+// The number of the first global variable of this name.
+fn global_named(program: &Program, name: &[u8]) -> Option<u32>
+    ensures { result ≡ global_named program.now name.now }
+{
+    match index_of(program.globals(), name) {
+        Some(index) => Some(index as u32),
+        None => None,
+    }
+}
+
+// How many cells a global variable has, where it is an array.
+fn length_of(program: &Program, variable: u32) -> Option<u32>
+    ensures { result ≡ length_of program.now variable }
+{
+    program.globals().get(variable as usize)?.length
+}
+
+// The cell of a variable at an index: an array has one below its length, a scalar none.
+fn cell_at(variable: u32, length: Option<u32>, index: Option<u64>) -> Option<GlobalCell>
+    ensures { result ≡ cell_at variable length index }
+{
+    match (length, index) {
+        (None, None) => Some(GlobalCell { variable, index: 0 }),
+        (Some(length), Some(index)) => {
+            if index < u64::from(length) {
+                let index = index as u32;
+                Some(GlobalCell { variable, index })
+            } else {
+                None
+            }
+        }
+        (None, Some(_)) | (Some(_), None) => None,
+    }
+}
+
+/// The cell that a variable names; `None` exactly where the program has no such global, or where
+/// an index is missing, one too many or out of range.
+pub(crate) fn cell_of(program: &Program, variable: &Variable) -> Option<GlobalCell>
+    ensures { result ≡ cell_of program.now variable.now }
+{
+    let number = global_named(program, variable.name.as_slice())?;
+    cell_at(number, length_of(program, number), variable.index)
+}

@@ -1,0 +1,4 @@
+pub mod Meant
+pub mod Scopes
+pub mod Values
+pub mod Walks

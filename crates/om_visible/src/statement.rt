@@ -1,0 +1,380 @@
+//! The names of statements and of the regions in them.
+
+ghost use Rattle.std.specs.Prelude.{◌≡◌, ◌+◌, OnOk, length, map, option_map};
+ghost use Rattle.om_resolved.specs.ResolvedTree as trees;
+ghost use Rattle.om_resolved.specs.ResolvedView.{view_resolved_clause, view_resolved_loop, view_resolved_part, view_resolved_statement, view_resolved_update};
+ghost use Rattle.om_rows.specs.Bodies.{region_variables};
+ghost use Rattle.om_rows.specs.Sizes.{alone_size, assignment_size, construct_size, end_size, loop_size, filter_size, parts_size, perhaps_size, statement_size, statements_size, update_size, value_size};
+ghost use Rattle.om_rows.specs.Statements.{clause_value, given_copies};
+ghost use Rattle.om_visible.specs.Scopes.{all_names, block_names, inner_names, kind_names, loop_names, names, nothing, parallel_names, parallel_size, part_names, region, sections_names, sections_size, task_names, task_size};
+ghost use Rattle.om_visible.specs.Walks.{Walked};
+
+use crate::walk::{
+    Walk, add_copies, add_declarators, add_region_copies, add_start, add_task_copies, begin_region,
+    close, end_region, open, skip, skip_combined, skip_effect, skip_given, skip_perhaps, skip_step,
+    skip_test, skip_value,
+};
+use om_resolved::{
+    Capture, ConstructKind, ResolvedClause, ResolvedLoop, ResolvedPart, ResolvedStatement,
+    ResolvedUpdate, StandAlone,
+};
+use std::alloc::AllocError;
+
+/// Goes over the value of `num_threads`, if there is one.
+fn skip_size(walk: &mut Walk, clauses: &[ResolvedClause]) -> Result<(), AllocError>
+    ensures { OnOk result (Walked walk.old walk.new (perhaps_size value_size (clause_value (map view_resolved_clause clauses.now))) (λ k. nothing)) }
+{
+    for clause in clauses {
+        match clause {
+            ResolvedClause::Value(_, value) => return skip_value(walk, value),
+            ResolvedClause::Shared(_) => {}
+            ResolvedClause::Copied(_, _, _) => {}
+        }
+    }
+    Ok(())
+}
+
+/// Goes over the value of `filter`, or the 0 in its place.
+fn skip_filter(walk: &mut Walk, clauses: &[ResolvedClause]) -> Result<(), AllocError>
+    ensures { OnOk result (Walked walk.old walk.new (filter_size (clause_value (map view_resolved_clause clauses.now))) (λ k. nothing)) }
+{
+    for clause in clauses {
+        match clause {
+            ResolvedClause::Value(_, value) => return skip_value(walk, value),
+            ResolvedClause::Shared(_) => {}
+            ResolvedClause::Copied(_, _, _) => {}
+        }
+    }
+    skip(walk, 1)
+}
+
+/// The instructions of a worksharing construct's end.
+fn end_own(nowait: bool) -> u32
+    ensures { result ≡ end_size nowait }
+{
+    if nowait { 1 } else { 3 }
+}
+
+/// The instructions of a directive that stands alone.
+fn alone_own(directive: &StandAlone) -> u32
+    ensures { result ≡ alone_size directive.now }
+{
+    match directive {
+        StandAlone::Barrier => 2,
+        StandAlone::Taskwait => 2,
+        StandAlone::Taskyield => 1,
+        StandAlone::Flush(_) => 1,
+    }
+}
+
+/// Goes over an update of an `atomic`.
+fn skip_update(walk: &mut Walk, update: &ResolvedUpdate) -> Result<(), AllocError>
+    ensures { OnOk result (Walked walk.old walk.new (update_size (view_resolved_update update.now)) (λ k. nothing)) }
+{
+    skip_perhaps(walk, &update.index)?;
+    skip_value(walk, &update.operand)?;
+    skip(walk, 1)
+}
+
+/// Goes over the assignment of an `atomic`.
+fn skip_assignment(walk: &mut Walk, statement: &ResolvedStatement) -> Result<(), AllocError>
+    ensures { OnOk result (Walked walk.old walk.new (assignment_size (view_resolved_statement statement.now)) (λ k. nothing)) }
+{
+    match statement {
+        ResolvedStatement::Expression(_, expression) => skip_effect(walk, expression),
+        ResolvedStatement::Declaration(_, _) => Ok(()),
+        ResolvedStatement::Block(_, _) => Ok(()),
+        ResolvedStatement::Empty(_) => Ok(()),
+        ResolvedStatement::If(_, _, _) => Ok(()),
+        ResolvedStatement::IfElse(_, _, _, _) => Ok(()),
+        ResolvedStatement::While(_, _, _) => Ok(()),
+        ResolvedStatement::Do(_, _, _) => Ok(()),
+        ResolvedStatement::For(_, _, _, _, _) => Ok(()),
+        ResolvedStatement::Return(_, _) => Ok(()),
+        ResolvedStatement::Break(_) => Ok(()),
+        ResolvedStatement::Continue(_) => Ok(()),
+        ResolvedStatement::Parallel(_, _, _, _) => Ok(()),
+        ResolvedStatement::Task(_, _, _, _) => Ok(()),
+        ResolvedStatement::Loop(_, _, _, _, _) => Ok(()),
+        ResolvedStatement::Sections(_, _, _, _) => Ok(()),
+        ResolvedStatement::Construct(_, _, _, _) => Ok(()),
+        ResolvedStatement::Update(_, _) => Ok(()),
+        ResolvedStatement::StandAlone(_, _) => Ok(()),
+    }
+}
+
+/// Adds the names of a statement.
+#[cycle(statement)]
+fn add_statement(walk: &mut Walk, statement: &ResolvedStatement) -> Result<(), AllocError>
+    ensures { OnOk result (Walked walk.old walk.new (statement_size (view_resolved_statement statement.now)) (names (view_resolved_statement statement.now) walk.old.body walk.old.place)) }
+{
+    match statement {
+        ResolvedStatement::Declaration(_, declarators) => {
+            add_declarators(walk, declarators.as_slice())
+        }
+        ResolvedStatement::Block(_, items) => add_block(walk, items.as_slice()),
+        ResolvedStatement::Empty(_) => Ok(()),
+        ResolvedStatement::Expression(_, expression) => skip_effect(walk, expression),
+        ResolvedStatement::If(_, condition, then) => {
+            skip_value(walk, condition)?;
+            skip(walk, 1)?;
+            add_inner(walk, then)
+        }
+        ResolvedStatement::IfElse(_, condition, then, other) => {
+            skip_value(walk, condition)?;
+            skip(walk, 1)?;
+            add_inner(walk, then)?;
+            skip(walk, 1)?;
+            add_inner(walk, other)
+        }
+        ResolvedStatement::While(_, condition, body) => {
+            skip_value(walk, condition)?;
+            skip(walk, 1)?;
+            add_inner(walk, body)?;
+            skip(walk, 1)
+        }
+        ResolvedStatement::Do(_, body, condition) => {
+            add_inner(walk, body)?;
+            skip_value(walk, condition)?;
+            skip(walk, 2)
+        }
+        ResolvedStatement::For(_, start, condition, step, body) => {
+            let height = walk.opened.len();
+            add_start(walk, start)?;
+            skip_test(walk, condition)?;
+            add_inner(walk, body)?;
+            skip_step(walk, step)?;
+            skip(walk, 1)?;
+            close(walk, height)
+        }
+        ResolvedStatement::Return(_, value) => {
+            skip_perhaps(walk, value)?;
+            skip(walk, 1)
+        }
+        ResolvedStatement::Break(_) => skip(walk, 1),
+        ResolvedStatement::Continue(_) => skip(walk, 1),
+        ResolvedStatement::Parallel(_, clauses, captures, body) => {
+            add_parallel(walk, clauses.as_slice(), captures.as_slice(), body)
+        }
+        ResolvedStatement::Task(_, clauses, captures, body) => {
+            add_task(walk, clauses.as_slice(), captures.as_slice(), body)
+        }
+        ResolvedStatement::Loop(_, clauses, nowait, head, body) => {
+            add_loop(walk, clauses.as_slice(), *nowait, head, body)
+        }
+        ResolvedStatement::Sections(_, clauses, nowait, parts) => {
+            add_sections(walk, clauses.as_slice(), *nowait, parts.as_slice())
+        }
+        ResolvedStatement::Construct(_, kind, clauses, body) => {
+            add_construct(walk, kind, clauses.as_slice(), body)
+        }
+        ResolvedStatement::Update(_, update) => skip_update(walk, update),
+        ResolvedStatement::StandAlone(_, directive) => skip(walk, alone_own(directive)),
+    }
+}
+
+/// Adds the names of a statement that is a block of its own (C17 6.8.4p3, 6.8.5p5).
+#[cycle(statement)]
+fn add_inner(walk: &mut Walk, statement: &ResolvedStatement) -> Result<(), AllocError>
+    ensures { OnOk result (Walked walk.old walk.new (statement_size (view_resolved_statement statement.now)) (inner_names (view_resolved_statement statement.now) walk.old.body walk.old.place)) }
+{
+    let height = walk.opened.len();
+    add_statement(walk, statement)?;
+    close(walk, height)
+}
+
+/// Adds the names of statements, one behind the other.
+#[cycle(statement)]
+pub(crate) fn add_statements(walk: &mut Walk, items: &[ResolvedStatement]) -> Result<(), AllocError>
+    ensures { OnOk result (Walked walk.old walk.new (statements_size (trees.statements (map view_resolved_statement items.now))) (all_names (trees.statements (map view_resolved_statement items.now)) walk.old.body walk.old.place)) }
+{
+    for item in items {
+        add_statement(walk, item)?;
+    }
+    Ok(())
+}
+
+/// Adds the names of a block.
+#[cycle(statement)]
+fn add_block(walk: &mut Walk, items: &[ResolvedStatement]) -> Result<(), AllocError>
+    ensures { OnOk result (Walked walk.old walk.new (statements_size (trees.statements (map view_resolved_statement items.now))) (block_names (trees.statements (map view_resolved_statement items.now)) walk.old.body walk.old.place)) }
+{
+    let height = walk.opened.len();
+    add_statements(walk, items)?;
+    close(walk, height)
+}
+
+/// Adds the names of the parts of `sections`.
+#[cycle(statement)]
+fn add_parts(walk: &mut Walk, parts: &[ResolvedPart]) -> Result<(), AllocError>
+    ensures { OnOk result (Walked walk.old walk.new (parts_size (trees.parts (map view_resolved_part parts.now))) (part_names (trees.parts (map view_resolved_part parts.now)) walk.old.body walk.old.place)) }
+{
+    for part in parts {
+        add_part(walk, part)?;
+        skip(walk, 1)?;
+    }
+    Ok(())
+}
+
+/// Adds the names of a part of `sections`.
+#[cycle(statement)]
+fn add_part(walk: &mut Walk, part: &ResolvedPart) -> Result<(), AllocError>
+    ensures { OnOk result (Walked walk.old walk.new (statements_size (view_resolved_part part.now)) (block_names (view_resolved_part part.now) walk.old.body walk.old.place)) }
+{
+    add_block(walk, part.items.as_slice())
+}
+
+/// Adds the names of a construct that is for no loop.
+#[cycle(statement)]
+fn add_construct(
+    walk: &mut Walk,
+    kind: &ConstructKind,
+    clauses: &[ResolvedClause],
+    statement: &ResolvedStatement,
+) -> Result<(), AllocError>
+    ensures { OnOk result (Walked walk.old walk.new (construct_size kind.now (map view_resolved_clause clauses.now) (view_resolved_statement statement.now) (statement_size (view_resolved_statement statement.now))) (kind_names walk.old.body walk.old.place kind.now (map view_resolved_clause clauses.now) (view_resolved_statement statement.now) (names (view_resolved_statement statement.now)))) }
+{
+    match kind {
+        ConstructKind::Single(nowait) => {
+            let height = walk.opened.len();
+            skip(walk, 1)?;
+            add_copies(walk, clauses)?;
+            add_inner(walk, statement)?;
+            skip(walk, end_own(*nowait))?;
+            close(walk, height)
+        }
+        ConstructKind::Masked => {
+            skip_filter(walk, clauses)?;
+            skip(walk, 1)?;
+            add_inner(walk, statement)?;
+            skip(walk, 1)
+        }
+        ConstructKind::Critical(_) => {
+            skip(walk, 2)?;
+            add_inner(walk, statement)?;
+            skip(walk, 1)
+        }
+        ConstructKind::Atomic => skip_assignment(walk, statement),
+        ConstructKind::Taskgroup => {
+            skip(walk, 1)?;
+            add_inner(walk, statement)?;
+            skip(walk, 1)
+        }
+    }
+}
+
+/// Adds the names in the body of a `parallel`: BEGIN, the starts of reductions, the statement, what
+/// combines them, ARRIVE, LEAVE.
+#[cycle(statement)]
+fn add_parallel_body(
+    walk: &mut Walk,
+    clauses: &[ResolvedClause],
+    statement: &ResolvedStatement,
+) -> Result<(), AllocError>
+    requires { walk.old.place ≡ 0 }
+    ensures { OnOk result (Walked walk.old walk.new (parallel_size (map view_resolved_clause clauses.now) (view_resolved_statement statement.now)) (parallel_names (map view_resolved_clause clauses.now) (view_resolved_statement statement.now) (names (view_resolved_statement statement.now)) walk.old.body)) }
+{
+    let height = walk.opened.len();
+    skip(walk, 1)?;
+    add_region_copies(walk, clauses)?;
+    add_inner(walk, statement)?;
+    skip_combined(walk, clauses)?;
+    skip(walk, 2)?;
+    close(walk, height)
+}
+
+/// Adds the names in the body of a `task`: the statement, TEND.
+#[cycle(statement)]
+fn add_task_body(
+    walk: &mut Walk,
+    clauses: &[ResolvedClause],
+    statement: &ResolvedStatement,
+) -> Result<(), AllocError>
+    requires { walk.old.place ≡ 0 }
+    ensures { OnOk result (Walked walk.old walk.new (task_size (view_resolved_statement statement.now)) (task_names (map view_resolved_clause clauses.now) (view_resolved_statement statement.now) (names (view_resolved_statement statement.now)) walk.old.body)) }
+{
+    let height = walk.opened.len();
+    add_task_copies(walk, clauses)?;
+    add_inner(walk, statement)?;
+    skip(walk, 1)?;
+    close(walk, height)
+}
+
+/// Adds the names in the body of a `parallel` that stands here, and goes over its own instructions.
+#[cycle(statement)]
+fn add_parallel(
+    walk: &mut Walk,
+    clauses: &[ResolvedClause],
+    captures: &[Capture],
+    statement: &ResolvedStatement,
+) -> Result<(), AllocError>
+    ensures { OnOk result (Walked walk.old walk.new (perhaps_size value_size (clause_value (map view_resolved_clause clauses.now)) + length (given_copies (map view_resolved_clause clauses.now) captures.now (view_resolved_statement statement.now)) + 1) (region walk.old.body walk.old.place (region_variables (map view_resolved_clause clauses.now) (view_resolved_statement statement.now)) (parallel_names (map view_resolved_clause clauses.now) (view_resolved_statement statement.now) (names (view_resolved_statement statement.now))))) }
+{
+    let here = begin_region(walk, clauses, statement)?;
+    add_parallel_body(walk, clauses, statement)?;
+    end_region(walk, here);
+    skip_size(walk, clauses)?;
+    skip_given(walk, clauses, captures, statement)
+}
+
+/// Adds the names in the body of a `task` that stands here, and goes over its own instructions.
+#[cycle(statement)]
+fn add_task(
+    walk: &mut Walk,
+    clauses: &[ResolvedClause],
+    captures: &[Capture],
+    statement: &ResolvedStatement,
+) -> Result<(), AllocError>
+    ensures { OnOk result (Walked walk.old walk.new (length (given_copies (map view_resolved_clause clauses.now) captures.now (view_resolved_statement statement.now)) + 1) (region walk.old.body walk.old.place (region_variables (map view_resolved_clause clauses.now) (view_resolved_statement statement.now)) (task_names (map view_resolved_clause clauses.now) (view_resolved_statement statement.now) (names (view_resolved_statement statement.now))))) }
+{
+    let here = begin_region(walk, clauses, statement)?;
+    add_task_body(walk, clauses, statement)?;
+    end_region(walk, here);
+    skip_given(walk, clauses, captures, statement)
+}
+
+/// Adds the names of a worksharing loop.
+#[cycle(statement)]
+fn add_loop(
+    walk: &mut Walk,
+    clauses: &[ResolvedClause],
+    nowait: bool,
+    head: &ResolvedLoop,
+    statement: &ResolvedStatement,
+) -> Result<(), AllocError>
+    ensures { OnOk result (Walked walk.old walk.new (loop_size (map view_resolved_clause clauses.now) nowait (view_resolved_loop head.now) (statement_size (view_resolved_statement statement.now))) (loop_names walk.old.body walk.old.place (map view_resolved_clause clauses.now) nowait (view_resolved_loop head.now) (view_resolved_statement statement.now) (names (view_resolved_statement statement.now)))) }
+{
+    let height = walk.opened.len();
+    skip_value(walk, &head.from)?;
+    skip_value(walk, &head.to)?;
+    add_copies(walk, clauses)?;
+    let from = walk.place;
+    open(walk, &head.variable, from)?;
+    skip(walk, 3)?;
+    add_inner(walk, statement)?;
+    skip(walk, 1)?;
+    skip_combined(walk, clauses)?;
+    skip(walk, end_own(nowait))?;
+    close(walk, height)?;
+    Ok(())
+}
+
+/// Adds the names of `sections`.
+#[cycle(statement)]
+fn add_sections(
+    walk: &mut Walk,
+    clauses: &[ResolvedClause],
+    nowait: bool,
+    parts: &[ResolvedPart],
+) -> Result<(), AllocError>
+    ensures { OnOk result (Walked walk.old walk.new (sections_size (map view_resolved_clause clauses.now) nowait (trees.parts (map view_resolved_part parts.now))) (sections_names walk.old.body walk.old.place (map view_resolved_clause clauses.now) nowait (trees.parts (map view_resolved_part parts.now)) (part_names (trees.parts (map view_resolved_part parts.now))))) }
+{
+    let height = walk.opened.len();
+    add_copies(walk, clauses)?;
+    skip(walk, 3)?;
+    add_parts(walk, parts)?;
+    skip_combined(walk, clauses)?;
+    skip(walk, end_own(nowait))?;
+    close(walk, height)?;
+    Ok(())
+}
