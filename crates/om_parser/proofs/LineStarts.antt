@@ -31,6 +31,7 @@ name_start_is (directives.Master s) pragma omp more rest = refl
 name_start_is (directives.Critical s n) pragma omp more rest = refl
 name_start_is (directives.Atomic s) pragma omp more rest = refl
 name_start_is (directives.Task s) pragma omp more rest = refl
+name_start_is (directives.Taskgroup s) pragma omp more rest = refl
 name_start_is (directives.Barrier s) pragma omp more rest = refl
 name_start_is (directives.Taskwait s) pragma omp more rest = refl
 name_start_is (directives.Taskyield s) pragma omp more rest = refl

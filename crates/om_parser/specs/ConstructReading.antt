@@ -25,6 +25,7 @@ stands_alone text = bytes_eq text (codes "barrier") || bytes_eq text (codes "tas
 abbrev pub begins_construct : List ℕ → Bool
 begins_construct text = bytes_eq text (codes "parallel") || bytes_eq text (codes "sections") || bytes_eq text (codes "single") || bytes_eq text (codes "masked")
     || bytes_eq text (codes "master") || bytes_eq text (codes "critical") || bytes_eq text (codes "atomic") || bytes_eq text (codes "task")
+    || bytes_eq text (codes "taskgroup")
 
 abbrev pub start_of_name : List ℕ → LineStart
 start_of_name text = if stands_alone text then lines.StandAlone else if bytes_eq text (codes "section") then lines.Section else if begins_construct text then lines.Construct else lines.Unknown

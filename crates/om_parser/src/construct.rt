@@ -44,6 +44,7 @@ fn begins_construct(name: &[u8]) -> bool
         || name == b"critical".as_slice()
         || name == b"atomic".as_slice()
         || name == b"task".as_slice()
+        || name == b"taskgroup".as_slice()
 }
 
 /// What a name behind `omp` begins.

@@ -43,6 +43,7 @@ directive_kind (directives.Master s) = kinds.Master
 directive_kind (directives.Critical s n) = kinds.Critical
 directive_kind (directives.Atomic s) = kinds.Atomic
 directive_kind (directives.Task s) = kinds.Task
+directive_kind (directives.Taskgroup s) = kinds.Taskgroup
 directive_kind (directives.Barrier s) = kinds.Barrier
 directive_kind (directives.Taskwait s) = kinds.Taskwait
 directive_kind (directives.Taskyield s) = kinds.Taskyield

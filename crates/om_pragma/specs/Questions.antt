@@ -42,6 +42,7 @@ word_span (directives.Master s) = s
 word_span (directives.Critical s n) = s
 word_span (directives.Atomic s) = s
 word_span (directives.Task s) = s
+word_span (directives.Taskgroup s) = s
 word_span (directives.Barrier s) = s
 word_span (directives.Taskwait s) = s
 word_span (directives.Taskyield s) = s

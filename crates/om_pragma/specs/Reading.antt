@@ -330,6 +330,7 @@ name_after words.Master s ts = Ok (directives.Master s, ts)
 name_after words.Critical s ts = critical_at s ts
 name_after words.Atomic s ts = Ok (directives.Atomic s, ts)
 name_after words.Task s ts = Ok (directives.Task s, ts)
+name_after words.Taskgroup s ts = Ok (directives.Taskgroup s, ts)
 name_after words.Barrier s ts = Ok (directives.Barrier s, ts)
 name_after words.Taskwait s ts = Ok (directives.Taskwait s, ts)
 name_after words.Taskyield s ts = Ok (directives.Taskyield s, ts)

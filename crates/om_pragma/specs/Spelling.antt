@@ -147,6 +147,7 @@ name_spelling (directives.Master s) = token (directive_word words.Master) s ∷ 
 name_spelling (directives.Critical s n) = token (directive_word words.Critical) s ∷ critical_spelling n
 name_spelling (directives.Atomic s) = token (directive_word words.Atomic) s ∷ []
 name_spelling (directives.Task s) = token (directive_word words.Task) s ∷ []
+name_spelling (directives.Taskgroup s) = token (directive_word words.Taskgroup) s ∷ []
 name_spelling (directives.Barrier s) = token (directive_word words.Barrier) s ∷ []
 name_spelling (directives.Taskwait s) = token (directive_word words.Taskwait) s ∷ []
 name_spelling (directives.Taskyield s) = token (directive_word words.Taskyield) s ∷ []

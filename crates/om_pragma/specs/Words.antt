@@ -56,6 +56,7 @@ directive_word directives.Master = kinds.Name (codes "master")
 directive_word directives.Critical = kinds.Name (codes "critical")
 directive_word directives.Atomic = kinds.Name (codes "atomic")
 directive_word directives.Task = kinds.Name (codes "task")
+directive_word directives.Taskgroup = kinds.Name (codes "taskgroup")
 directive_word directives.Barrier = kinds.Name (codes "barrier")
 directive_word directives.Taskwait = kinds.Name (codes "taskwait")
 directive_word directives.Taskyield = kinds.Name (codes "taskyield")
@@ -69,7 +70,7 @@ among word (k ∷ ks) kind = if same_kind kind (word k) then Some k else among w
 -- the directives of one word
 abbrev pub directive_words : List DirectiveKind
 directive_words = directives.Parallel ∷ directives.For ∷ directives.Sections ∷ directives.Section ∷ directives.Single ∷ directives.Masked ∷ directives.Master
-    ∷ directives.Critical ∷ directives.Atomic ∷ directives.Task ∷ directives.Barrier ∷ directives.Taskwait ∷ directives.Taskyield ∷ directives.Flush ∷ []
+    ∷ directives.Critical ∷ directives.Atomic ∷ directives.Task ∷ directives.Taskgroup ∷ directives.Barrier ∷ directives.Taskwait ∷ directives.Taskyield ∷ directives.Flush ∷ []
 
 -- the directive that a word is alone, as the first of its line; a combined one may go on behind it
 abbrev pub begun_by : TokenKind → Option DirectiveKind

@@ -18,6 +18,7 @@ pub enum DirectiveKind {
     Critical,
     Atomic,
     Task,
+    Taskgroup,
     Barrier,
     Taskwait,
     Taskyield,

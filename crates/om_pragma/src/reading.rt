@@ -151,6 +151,7 @@ fn name_after(
         DirectiveKind::Critical => critical(alloc, span, tokens),
         DirectiveKind::Atomic => Ok((DirectiveName::Atomic(span), tokens)),
         DirectiveKind::Task => Ok((DirectiveName::Task(span), tokens)),
+        DirectiveKind::Taskgroup => Ok((DirectiveName::Taskgroup(span), tokens)),
         DirectiveKind::Barrier => Ok((DirectiveName::Barrier(span), tokens)),
         DirectiveKind::Taskwait => Ok((DirectiveName::Taskwait(span), tokens)),
         DirectiveKind::Taskyield => Ok((DirectiveName::Taskyield(span), tokens)),

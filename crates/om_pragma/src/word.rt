@@ -34,6 +34,8 @@ pub fn begun_by(kind: &TokenKind) -> Option<DirectiveKind>
         Some(DirectiveKind::Atomic)
     } else if is_named(kind, b"task") {
         Some(DirectiveKind::Task)
+    } else if is_named(kind, b"taskgroup") {
+        Some(DirectiveKind::Taskgroup)
     } else if is_named(kind, b"barrier") {
         Some(DirectiveKind::Barrier)
     } else if is_named(kind, b"taskwait") {

@@ -95,6 +95,7 @@ unfolding construct_of
 construct_good parallel side d (directives.Atomic s) cs body h = atomic_good (atomic_kind d) side d.hash cs body h
 construct_good parallel side d (directives.Parallel s) cs body h = (tt, h)
 construct_good parallel side d (directives.Task s) cs body h = (tt, h)
+construct_good parallel side d (directives.Taskgroup s) cs body h = (tt, h)
 construct_good parallel side d (directives.Single s) cs body h = (tt, h)
 construct_good parallel side d (directives.Masked s) cs body h = (tt, h)
 construct_good parallel side d (directives.Master s) cs body h = (tt, h)
@@ -115,6 +116,7 @@ body_good : (kind : AtomicKind) (name : DirectiveName) (form : Bool) (found : Op
 body_good kind (directives.Atomic s) form found Rest h own rest = own h
 body_good kind (directives.Parallel s) form found Rest h own rest = rest h
 body_good kind (directives.Task s) form found Rest h own rest = rest h
+body_good kind (directives.Taskgroup s) form found Rest h own rest = rest h
 body_good kind (directives.Single s) form found Rest h own rest = rest h
 body_good kind (directives.Masked s) form found Rest h own rest = rest h
 body_good kind (directives.Master s) form found Rest h own rest = rest h
@@ -136,6 +138,7 @@ loop_forms (directives.ParallelFor s t) First Second takes h = h
 loop_forms (directives.Atomic s) First Second takes h = cc
 loop_forms (directives.Parallel s) First Second takes h = cc
 loop_forms (directives.Task s) First Second takes h = cc
+loop_forms (directives.Taskgroup s) First Second takes h = cc
 loop_forms (directives.Single s) First Second takes h = cc
 loop_forms (directives.Masked s) First Second takes h = cc
 loop_forms (directives.Master s) First Second takes h = cc
@@ -172,6 +175,7 @@ alone_good scopes d (directives.Master s) = tt
 alone_good scopes d (directives.Critical s name) = tt
 alone_good scopes d (directives.Atomic s) = tt
 alone_good scopes d (directives.Task s) = tt
+alone_good scopes d (directives.Taskgroup s) = tt
 alone_good scopes d (directives.Flush s list) = if_then (λ vs. Unit {0}) Good (flushed scopes list) _ (if_any (flushed scopes list)) (λ vs u. tt)
 
 -- items of `sections`

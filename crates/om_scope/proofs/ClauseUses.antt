@@ -91,6 +91,7 @@ pub construct_uses : (n : ℕ) (parallel : Option ℕ) (side : Side) (d : Direct
 unfolding construct_of
 construct_uses n parallel side d (directives.Parallel s) cs body hc h = (hc, h)
 construct_uses n parallel side d (directives.Task s) cs body hc h = (hc, h)
+construct_uses n parallel side d (directives.Taskgroup s) cs body hc h = (hc, h)
 construct_uses n parallel side d (directives.Single s) cs body hc h = (hc, h)
 construct_uses n parallel side d (directives.Masked s) cs body hc h = (hc, h)
 construct_uses n parallel side d (directives.Master s) cs body hc h = (hc, h)
@@ -150,3 +151,4 @@ alone_uses n scopes d (directives.Master s) h = tt
 alone_uses n scopes d (directives.Critical s name) h = tt
 alone_uses n scopes d (directives.Atomic s) h = tt
 alone_uses n scopes d (directives.Task s) h = tt
+alone_uses n scopes d (directives.Taskgroup s) h = tt

@@ -147,3 +147,4 @@ has_alone scopes d (directives.Master s) whole = refl
 has_alone scopes d (directives.Critical s name) whole = refl
 has_alone scopes d (directives.Atomic s) whole = refl
 has_alone scopes d (directives.Task s) whole = refl
+has_alone scopes d (directives.Taskgroup s) whole = refl

@@ -115,6 +115,7 @@ sections_admitted nowait (names.Master s) is = cc
 sections_admitted nowait (names.Critical s name) is = cc
 sections_admitted nowait (names.Atomic s) is = cc
 sections_admitted nowait (names.Task s) is = cc
+sections_admitted nowait (names.Taskgroup s) is = cc
 sections_admitted nowait (names.Barrier s) is = cc
 sections_admitted nowait (names.Taskwait s) is = cc
 sections_admitted nowait (names.Taskyield s) is = cc

@@ -146,6 +146,7 @@ atomic_of atomics.Write side at cs body = resolved.Construct at constructs.Atomi
 unfoldable pub construct_of : Option ℕ → Side → Directive ExpressionTree → DirectiveName → List ResolvedClauseTree → ResolvedStatementTree → ResolvedStatementTree
 construct_of parallel side d (directives.Parallel s) cs body = parallel_of d cs body
 construct_of parallel side d (directives.Task s) cs body = task_of parallel d cs body
+construct_of parallel side d (directives.Taskgroup s) cs body = resolved.Construct d.hash constructs.Taskgroup cs body
 construct_of parallel side d (directives.Single s) cs body = resolved.Construct d.hash (constructs.Single (has_nowait d)) cs body
 construct_of parallel side d (directives.Masked s) cs body = resolved.Construct d.hash constructs.Masked cs body
 construct_of parallel side d (directives.Master s) cs body = resolved.Construct d.hash constructs.Masked cs body
@@ -228,6 +229,7 @@ resolved_alone scopes d (directives.Master s) = Some (resolved.Empty d.hash)
 resolved_alone scopes d (directives.Critical s name) = Some (resolved.Empty d.hash)
 resolved_alone scopes d (directives.Atomic s) = Some (resolved.Empty d.hash)
 resolved_alone scopes d (directives.Task s) = Some (resolved.Empty d.hash)
+resolved_alone scopes d (directives.Taskgroup s) = Some (resolved.Empty d.hash)
 
 -- in the innermost `parallel` that begins there
 unfoldable mutual

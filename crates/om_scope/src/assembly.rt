@@ -184,6 +184,7 @@ fn around_of(
         DirectiveName::Masked(_) => Ok(Around::Construct(ConstructKind::Masked)),
         DirectiveName::Master(_) => Ok(Around::Construct(ConstructKind::Masked)),
         DirectiveName::Critical(_, name) => around_critical(alloc, name),
+        DirectiveName::Taskgroup(_) => Ok(Around::Construct(ConstructKind::Taskgroup)),
         DirectiveName::Atomic(_) => Ok(around_atomic(atomic_kind(directive), setting.side)),
         DirectiveName::For(_) => Ok(Around::Nothing),
         DirectiveName::Sections(_) => Ok(Around::Nothing),

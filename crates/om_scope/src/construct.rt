@@ -65,6 +65,7 @@ pub fn traits_of(name: &DirectiveName) -> Traits
         DirectiveName::Critical(_, _) => row(RegionKind::Plain, false, Inside::Closes, false),
         DirectiveName::Atomic(_) => row(RegionKind::Plain, false, Inside::Keeps, false),
         DirectiveName::Task(_) => row(RegionKind::Task, false, Inside::Closes, false),
+        DirectiveName::Taskgroup(_) => row(RegionKind::Plain, false, Inside::Keeps, false),
         DirectiveName::Barrier(_) => row(RegionKind::Plain, true, Inside::Keeps, false),
         DirectiveName::Taskwait(_) => row(RegionKind::Plain, false, Inside::Keeps, false),
         DirectiveName::Taskyield(_) => row(RegionKind::Plain, false, Inside::Keeps, false),

@@ -282,6 +282,7 @@ fn resolve_alone(
         DirectiveName::Critical(_, _) => Ok(ResolvedStatement::Empty(at)),
         DirectiveName::Atomic(_) => Ok(ResolvedStatement::Empty(at)),
         DirectiveName::Task(_) => Ok(ResolvedStatement::Empty(at)),
+        DirectiveName::Taskgroup(_) => Ok(ResolvedStatement::Empty(at)),
     }
 }
 
