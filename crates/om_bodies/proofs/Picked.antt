@@ -1,5 +1,5 @@
 -- Statements without `sections` have no list of PICK.
-use Rattle.std.proofs.Common.{◌≡◌, List, [], ◌++◌, ℕ, refl, ap, ◌∙◌}
+use Rattle.std.proofs.Common.{◌≡◌, [], ◌++◌, refl, ap, ◌∙◌}
 use Rattle.om_resolved.specs.ResolvedTree.{ResolvedStatementTree, Declaration, Block, Empty, Expression, If, IfElse, While, Do, For, Return, Break, Continue, Parallel, Task, Loop, Sections, Construct, Update, StandAlone, ResolvedStatementsTree, NoStatements, Statement}
 use Rattle.om_rows.specs.Bodies.{Numbers, behind}
 use Rattle.om_statements.specs.Plain.{HasNoSections, HaveNoSections}

@@ -1,5 +1,5 @@
 -- All that stands in a body, one thing behind the other.
-use Rattle.std.proofs.Common.{◌≡◌, ◌≤◌, ℕ, List, Bool, true, false, None, length, sym, ap, subst, arith}
+use Rattle.std.proofs.Common.{◌≡◌, ◌≤◌, ℕ, List, Bool, true, false, None, length, ap, subst, arith}
 use Rattle.om_bodies.specs.Emitted.{EmitsBody, EmitsRegion}
 use Rattle.om_code.specs.declared.instruction.Barrier.TheVariants as barriers
 use Rattle.om_code.specs.declared.instruction.Instr.{Instr}
@@ -10,7 +10,7 @@ use Rattle.om_emit.specs.Writing.{goes_end, goes_part, goes_put}
 use Rattle.om_lexer.specs.declared.token.Span.{Span}
 use Rattle.om_resolved.specs.declared.resolved.Capture.{Capture}
 use Rattle.om_resolved.specs.ResolvedTree.{ResolvedClauseTree, ResolvedFunctionTree, ResolvedStatementTree, ResolvedStatementsTree}
-use Rattle.om_rows.specs.Bodies.{FunctionBody, Numbers, ParallelBody, TaskBody}
+use Rattle.om_rows.specs.Bodies.{FunctionBody, ParallelBody, TaskBody}
 use Rattle.om_rows.specs.Code.{last_instruction}
 use Rattle.om_rows.specs.Rows.{end, ins, part}
 use Rattle.om_rows.specs.Statements.{nowhere, reduction_starts, reductions, statement, statements}

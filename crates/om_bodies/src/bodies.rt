@@ -2,8 +2,8 @@
 
 ghost use Rattle.std.specs.Prelude.{IfOk, false};
 ghost use Rattle.om_bodies.specs.Emitted.{HasLists, HasRegionLists, HasRegionRow, HasRow};
-ghost use Rattle.om_bodies.specs.Regions.{parallel_tree, task_tree};
-ghost use Rattle.om_resolved.specs.ResolvedView.{view_resolved_function, view_resolved_statement};
+ghost use Rattle.om_bodies.specs.Regions.{parallel_tree, statement_of, task_tree};
+ghost use Rattle.om_resolved.specs.ResolvedView.{view_resolved_function};
 ghost use Rattle.om_rows.specs.Bodies.{FunctionBody};
 ghost use Rattle.om_rows.specs.Coded.{BodyHasCode, StatementHasCode};
 ghost use Rattle.om_statements.specs.Plain.{HasNoSections, HaveNoSections};
@@ -50,8 +50,8 @@ pub fn parallel_body(
     numbers: Numbers,
     region: &Region<'_>,
 ) -> Result<Emitted, AllocError>
-    requires code { StatementHasCode false false (view_resolved_statement region.now.statement.now) }
-    requires plain { HasNoSections (view_resolved_statement region.now.statement.now) }
+    requires code { StatementHasCode false false (statement_of region.now) }
+    requires plain { HasNoSections (statement_of region.now) }
     ensures row { let tree = parallel_tree region.now in
         IfOk result (HasRegionRow (names_of scope.now) (numbers_of numbers) tree) }
     ensures lists { IfOk result (HasRegionLists (numbers_of numbers) (parallel_tree region.now)) }
@@ -71,8 +71,8 @@ pub fn task_body(
     numbers: Numbers,
     region: &Region<'_>,
 ) -> Result<Emitted, AllocError>
-    requires code { StatementHasCode false false (view_resolved_statement region.now.statement.now) }
-    requires plain { HasNoSections (view_resolved_statement region.now.statement.now) }
+    requires code { StatementHasCode false false (statement_of region.now) }
+    requires plain { HasNoSections (statement_of region.now) }
     ensures row { let tree = task_tree region.now in
         IfOk result (HasRegionRow (names_of scope.now) (numbers_of numbers) tree) }
     ensures lists { IfOk result (HasRegionLists (numbers_of numbers) (task_tree region.now)) }

@@ -2,8 +2,8 @@
 
 ghost use Rattle.std.specs.Prelude.{◌≡◌, OnOk, false};
 ghost use Rattle.om_bodies.specs.Emitted.{EmitsBody, EmitsRegion};
-ghost use Rattle.om_bodies.specs.Regions.{parallel_tree, task_tree};
-ghost use Rattle.om_resolved.specs.ResolvedView.{view_resolved_function, view_resolved_statement};
+ghost use Rattle.om_bodies.specs.Regions.{parallel_tree, statement_of, task_tree};
+ghost use Rattle.om_resolved.specs.ResolvedView.{view_resolved_function};
 ghost use Rattle.om_rows.specs.Bodies.{FunctionBody};
 ghost use Rattle.om_rows.specs.Code as codes;
 ghost use Rattle.om_rows.specs.Coded.{BodyHasCode, StatementHasCode};
@@ -32,7 +32,8 @@ pub(crate) fn write_function(
     requires code { BodyHasCode (view_resolved_function function.now) FunctionBody }
     requires plain { HaveNoSections (view_resolved_function function.now).body }
     ensures { let seen = view_resolved_function function.now in
-        OnOk result (EmitsBody (names_of scope.now) (numbers_of numbers) seen FunctionBody draft.old draft.new) }
+        let names = names_of scope.now in
+        OnOk result (EmitsBody names (numbers_of numbers) seen FunctionBody draft.old draft.new) }
 {
     let spot = Spot::outside(numbers);
     statements(alloc, draft, scope, spot, function.body.as_slice())?;
@@ -60,10 +61,11 @@ pub(crate) fn write_parallel(
     numbers: Numbers,
     region: &Region<'_>,
 ) -> Result<(), AllocError>
-    requires code { StatementHasCode false false (view_resolved_statement region.now.statement.now) }
-    requires plain { HasNoSections (view_resolved_statement region.now.statement.now) }
+    requires code { StatementHasCode false false (statement_of region.now) }
+    requires plain { HasNoSections (statement_of region.now) }
     ensures { let tree = parallel_tree region.now in
-        OnOk result (EmitsRegion (names_of scope.now) (numbers_of numbers) tree draft.old draft.new) }
+        let names = names_of scope.now in
+        OnOk result (EmitsRegion names (numbers_of numbers) tree draft.old draft.new) }
 {
     let line = region.at.line;
     draft.put(line, Instr::Begin)?;
@@ -84,10 +86,11 @@ pub(crate) fn write_task(
     numbers: Numbers,
     region: &Region<'_>,
 ) -> Result<(), AllocError>
-    requires code { StatementHasCode false false (view_resolved_statement region.now.statement.now) }
-    requires plain { HasNoSections (view_resolved_statement region.now.statement.now) }
+    requires code { StatementHasCode false false (statement_of region.now) }
+    requires plain { HasNoSections (statement_of region.now) }
     ensures { let tree = task_tree region.now in
-        OnOk result (EmitsRegion (names_of scope.now) (numbers_of numbers) tree draft.old draft.new) }
+        let names = names_of scope.now in
+        OnOk result (EmitsRegion names (numbers_of numbers) tree draft.old draft.new) }
 {
     let spot = Spot::outside(numbers);
     statement(alloc, draft, scope, spot, region.statement)?;

@@ -1,8 +1,7 @@
 use Rattle.std.proofs.Common.{map, sym, ap, ◌∙◌}
 use Rattle.om_bodies.proofs.Picked.{no_own_picks}
 use Rattle.om_bodies.proofs.Settled.{row_stands}
-use Rattle.om_bodies.specs.Regions.{parallel_tree}
-use Rattle.om_resolved.specs.ResolvedView.{view_resolved_statement}
+use Rattle.om_bodies.specs.Regions.{parallel_tree, statement_of}
 use Rattle.om_tables.specs.Numbering.{numbers_of}
 use Rattle.om_tables.specs.Scopes.{names_of}
 use Rattle.om_bodies.proofs.bodies.parallel_body.Goals as goal
@@ -15,5 +14,5 @@ returns-clause-row c = λ f.
 pub returns-clause-lists : goal.returns-clause-lists
 returns-clause-lists c = λ f.
     ap (λ lists. map (λ list. list.number) lists) c.in_ok-made.ensures.lists
-    ∙ sym (no_own_picks (view_resolved_statement c.args.region.now.statement.now) c.requires.plain
+    ∙ sym (no_own_picks (statement_of c.args.region.now) c.requires.plain
     (numbers_of c.args.numbers))
