@@ -1,0 +1,4 @@
+//! The lists of PICK of a program, joined from those of its bodies.
+#![tactic(auto)]
+
+pub mod laws;
