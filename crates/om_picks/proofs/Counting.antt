@@ -7,7 +7,7 @@ use Rattle.om_rows.specs.Bodies.{Numbers, next_body, next_pick, behind, behind_a
 use Rattle.om_tables.specs.Picks.{own_picks, all_own_picks, parts_own_picks}
 use Rattle.om_picks.specs.Once.{count, below, site_picks, PicksOfFunctions}
 
-count-append : (k : ℕ) (xs ys : List ℕ) → count k (xs ++ ys) ≡ count k xs + count k ys
+pub count-append : (k : ℕ) (xs ys : List ℕ) → count k (xs ++ ys) ≡ count k xs + count k ys
 count-append k [] ys = omega arith
 count-append k (x ∷ xs) ys = omega (arith, count-append k xs ys)
 

@@ -2,3 +2,6 @@
 #![tactic(auto)]
 
 pub mod laws;
+mod lists;
+
+pub use lists::{PickList, joined};
