@@ -33,7 +33,7 @@ fn empty(alloc: Global, count: u32) -> Result<Vec<Seq<u32>>, AllocError>
     ensures { IfOk result (λ picks. length picks.items ≡ count) }
 {
     let mut picks = Vec::new(alloc);
-    for number in 0..count {
+    for _ in 0..count {
         picks.push(Seq::new(alloc))?;
     }
     Ok(picks)
