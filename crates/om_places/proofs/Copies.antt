@@ -1,10 +1,10 @@
 -- Resolving keeps the places of the names that clauses list.
-use Rattle.std.proofs.Common.{◌≡◌, ℕ, Bool, true, false, not, List, [], ◌∷◌, All, Option, None, Some, option_map, refl}
+use Rattle.std.proofs.Common.{ℕ, Bool, true, false, not, List, [], ◌∷◌, All, Option, None, Some, option_map}
 use Rattle.std.specs.Prelude.{IfSome}
 use Rattle.std.proofs.lemmas.List.Elements.{All-nil, All-cons, All-append, All-head, All-tail}
 use Rattle.om_lexer.specs.declared.token.Span.{Span}
 use Rattle.om_places.proofs.Steps.{either, if_all_of, if_behind, if_each, if_mapped, if_then}
-use Rattle.om_places.specs.Behind.{HasNamesBehind, IsNameBehind, ItemNamesBehind, NamesBehind, NamesBehindIn, UnitNamesBehind, listed_names}
+use Rattle.om_places.specs.Behind.{IsNameBehind, ItemNamesBehind, NamesBehind, NamesBehindIn, listed_names}
 use Rattle.om_places.specs.Laws.{CopiesStandBehind}
 use Rattle.om_pragma.specs.declared.clause.Clause.{Clause}
 use Rattle.om_pragma.specs.declared.clause.Clause.TheVariants as clauses
@@ -25,15 +25,14 @@ use Rattle.om_resolved.specs.ResolvedTree.{ResolvedClauseTree, ResolvedFunctionT
 use Rattle.om_scope.specs.DirectiveRules.{in_construct, names_in, parallel_in, traits_of}
 use Rattle.om_scope.specs.Grouping.{Grouped, grouped, parts_of}
 use Rattle.om_scope.specs.Loops.{Loop, loop_in}
-use Rattle.om_scope.specs.Perhaps.{◌>>=◌, all_along, each}
+use Rattle.om_scope.specs.Perhaps.{all_along, each}
 use Rattle.om_scope.specs.Resolution.{resolved_expression, variable_named}
 use Rattle.om_scope.specs.Scopes.{Scopes, after_function, after_item, after_parameters, declarators_of, definitions_of, file_scope, inside, parameters_of}
 use Rattle.om_scope.specs.Sharing.{is_parallel}
-use Rattle.om_scope.specs.StatementResolution.{atomic_of, clause_of, construct_of, flushed, has_nowait, kind_of, loop_construct_of, parallel_of, resolved_alone, resolved_clause, resolved_clauses, resolved_declarators, resolved_item, resolved_listed, resolved_loop, resolved_loop_construct, resolved_parts, resolved_perhaps, resolved_plain_construct, resolved_repeated, resolved_start, resolved_statement, resolved_statements, schedule_of, sections_construct_of, with_update}
+use Rattle.om_scope.specs.StatementResolution.{atomic_of, construct_of, flushed, has_nowait, kind_of, loop_construct_of, parallel_of, resolved_alone, resolved_clause, resolved_clauses, resolved_declarators, resolved_item, resolved_listed, resolved_loop, resolved_loop_construct, resolved_parts, resolved_perhaps, resolved_plain_construct, resolved_repeated, resolved_start, resolved_statement, resolved_statements, schedule_of, sections_construct_of, with_update}
 use Rattle.om_scope.specs.StatementRules.{after_for_start, after_statement, begins_part, in_loop, parts_behind, round_bounds}
 use Rattle.om_scope.specs.UnitResolution.{item_functions, resolution_of, resolved_function, resolved_inside}
 use Rattle.om_scope.specs.Updates.{statement_side, update_of}
-use Rattle.om_tree.specs.Tree as trees
 use Rattle.om_tree.specs.Tree.{ExpressionTree, FunctionTree, ItemTree, Declaration, Prototype, Function, StatementTree, LocalDeclaration, Block, Empty, Expression, If, IfElse, While, Do, For, Return, Break, Continue, Construct, StandAlone, Sections, Section, StatementsTree, NoStatements, Statement, statements}
 
 -- in a statement each region's copies stand behind its beginning

@@ -1,5 +1,5 @@
 -- In a tree whose tokens rise, the names that clauses list stand behind their directives' beginnings.
-use Rattle.std.proofs.Common.{◌≡◌, ℕ, List, [], ◌∷◌, ◌++◌, All, refl, sym, subst}
+use Rattle.std.proofs.Common.{ℕ, List, [], ◌∷◌, ◌++◌, All, sym, subst}
 use Rattle.std.specs.List.{flat_map}
 use Rattle.std.proofs.lemmas.List.Elements.{All-nil, All-cons}
 use Rattle.om_lexer.specs.declared.token.Token.{Token}
@@ -7,12 +7,12 @@ use Rattle.om_lexer.specs.Order.{AreInOrder}
 use Rattle.om_lexer.specs.Sources.{IsTokens}
 use Rattle.om_places.proofs.ClauseNames.{directive_behind}
 use Rattle.om_places.proofs.Rising.{Rises, rises, rises_back, rises_front}
-use Rattle.om_places.specs.Behind.{HasNamesBehind, ItemNamesBehind, NamesBehind, NamesBehindIn, UnitNamesBehind}
+use Rattle.om_places.specs.Behind.{HasNamesBehind, ItemNamesBehind, NamesBehind, NamesBehindIn}
 use Rattle.om_places.specs.Laws.{NamesStandBehind}
 use Rattle.om_pragma.specs.declared.tree.Directive.{Directive}
 use Rattle.om_pragma.specs.Spelling.{directive_spelling}
 use Rattle.om_tree.specs.Spelling.{block_spelling, condition_spelling, expression_spelling, for_head_spelling, head_spelling, item_spelling, statement_spelling, statements_spelling, unit_spelling}
-use Rattle.om_tree.specs.Tree.{ExpressionTree, ItemTree, Declaration, Prototype, Function, StatementTree, LocalDeclaration, Block, Empty, Expression, If, IfElse, While, Do, For, Return, Break, Continue, Construct, StandAlone, Sections, Section, StatementsTree, NoStatements, Statement, UnitTree, statements}
+use Rattle.om_tree.specs.Tree.{ExpressionTree, ItemTree, Declaration, Prototype, Function, StatementTree, LocalDeclaration, Block, Empty, Expression, If, IfElse, While, Do, For, Return, Break, Continue, Construct, StandAlone, Sections, Section, StatementsTree, NoStatements, Statement, statements}
 
 -- the tokens of a line
 abbrev line : Directive ExpressionTree → List Token
@@ -32,8 +32,8 @@ mutual
   statement_behind (Expression e semicolon) h = tt
   statement_behind (If at c s) h = statement_behind s (rises_back (condition_spelling c) _ h.1)
   statement_behind (IfElse at c s other t) h =
-      let branches = rises_back (condition_spelling c) _ h.1 in
-      (statement_behind s (rises_front (statement_spelling s) _ branches), statement_behind t (rises_back (statement_spelling s) _ branches).1)
+      let front = condition_spelling c ++ statement_spelling s in
+      (statement_behind s (rises_back (condition_spelling c) (statement_spelling s) (rises_front front _ h.1)), statement_behind t (rises_back front _ h.1).1)
   statement_behind (While at c s) h = statement_behind s (rises_back (condition_spelling c) _ h.1)
   statement_behind (Do at s again c semicolon) h = statement_behind s (rises_front (statement_spelling s) _ h.1)
   statement_behind (For head s) h = statement_behind s (rises_back (for_head_spelling head) _ h)
