@@ -18,18 +18,23 @@ module _ (start : ℕ) where
   abbrev AreNamesBehind : List names.Name → Type 0
   AreNamesBehind = All (IsNameBehind start)
 
-  further_behind : (rest : List (Span × names.Name)) → StartBehind start (flat_map further_spelling rest) → AreNamesBehind (map (λ further. further.1) rest)
+  further_behind : (rest : List (Span × names.Name)) → StartBehind start (flat_map further_spelling rest)
+      → AreNamesBehind (map (λ further. further.1) rest)
   unfolding further_spelling
   further_behind [] h = All-nil (IsNameBehind start)
-  further_behind (n ∷ rest) h = All-cons (IsNameBehind start) n.1 (map (λ further. further.1) rest) h.1.0 (further_behind rest h.1.1)
+  further_behind (n ∷ rest) h =
+      All-cons (IsNameBehind start) n.1 (map (λ further. further.1) rest) h.1.0 (further_behind rest h.1.1)
 
-  names_behind : (first : names.Name) (rest : List (Span × names.Name)) (close : Span) → StartBehind start (names_spelling first rest close) → AreNamesBehind (names_in first rest)
+  names_behind : (first : names.Name) (rest : List (Span × names.Name)) (close : Span)
+      → StartBehind start (names_spelling first rest close) → AreNamesBehind (names_in first rest)
   unfolding names_spelling
   names_behind first rest close h =
-      All-cons (IsNameBehind start) first (map (λ further. further.1) rest) h.0 (further_behind rest (behind_front start (flat_map further_spelling rest) _ h.1))
+      All-cons (IsNameBehind start) first (map (λ further. further.1) rest) h.0
+      (further_behind rest (behind_front start (flat_map further_spelling rest) _ h.1))
 
   module _ {E : Type 0} (expression : E → List Token) where
-    clause_behind : (c : Clause E) → StartBehind start (argument_spelling expression c) → AreNamesBehind (listed_names c)
+    clause_behind : (c : Clause E) → StartBehind start (argument_spelling expression c)
+        → AreNamesBehind (listed_names c)
     unfolding argument_spelling list_spelling
     clause_behind (clauses.Value k s v) h = All-nil (IsNameBehind start)
     clause_behind (clauses.Default s a) h = All-nil (IsNameBehind start)
@@ -38,16 +43,20 @@ module _ (start : ℕ) where
     clause_behind (clauses.Schedule s a) h = All-nil (IsNameBehind start)
     clause_behind (clauses.Plain k s) h = All-nil (IsNameBehind start)
 
-    items_behind : (items : List (ClauseItem E)) → StartBehind start (flat_map (item_spelling expression) items) → All (λ item. AreNamesBehind (listed_names item.clause)) items
+    items_behind : (items : List (ClauseItem E)) → StartBehind start (flat_map (item_spelling expression) items)
+        → All (λ item. AreNamesBehind (listed_names item.clause)) items
     unfolding item_spelling clause_spelling
     items_behind [] h = All-nil (λ item. AreNamesBehind (listed_names item.clause))
     items_behind (item ∷ items) h =
-        let clause = behind_back start (comma_spelling item.comma) (clause_spelling expression item.clause) (behind_front start (item_spelling expression item) _ h) in
+        let own = behind_front start (item_spelling expression item) _ h in
+        let clause = behind_back start (comma_spelling item.comma) (clause_spelling expression item.clause) own in
         All-cons (λ item. AreNamesBehind (listed_names item.clause)) item items
-        (clause_behind item.clause clause.1) (items_behind items (behind_back start (item_spelling expression item) _ h))
+        (clause_behind item.clause clause.1)
+        (items_behind items (behind_back start (item_spelling expression item) _ h))
 
 -- where the tokens of a directive rise, the names that it lists stand behind its beginning
-pub directive_behind : {E : Type 0} (expression : E → List Token) (d : Directive E) → Rises (directive_spelling expression d) → HasNamesBehind d
+pub directive_behind : {E : Type 0} (expression : E → List Token) (d : Directive E)
+    → Rises (directive_spelling expression d) → HasNamesBehind d
 unfolding directive_spelling opening_spelling
 directive_behind expression d h =
     let start = d.hash.start in

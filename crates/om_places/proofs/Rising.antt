@@ -53,8 +53,10 @@ rises_from source from [] h = (tt, tt)
 rises_from source from (t ∷ ts) h =
     let width = wide t.kind t.span.start t.span.end h.1.width in
     let behind = rises_from source t.span.end ts h.2 in
-    let first = h.0 in
-    ((first, weaker from t.span.end ts (omega arith) behind.0), (weaker t.span.start t.span.end ts width behind.0, behind.1))
+    let first = h.0 in (
+      (first, weaker from t.span.end ts (omega arith) behind.0),
+      (weaker t.span.start t.span.end ts width behind.0, behind.1),
+    )
 
 pub rises : (source : List ℕ) (ts : List Token) → AreInOrder source 0 ts → Rises ts
 rises source ts h = (rises_from source 0 ts h).1

@@ -11,7 +11,9 @@ use Rattle.om_tree.specs.Tree.{UnitTree}
 
 -- In a tree of a source's tokens, each name that a clause lists stands no earlier than its directive begins.
 abbrev pub NamesStandBehind : Type 0
-NamesStandBehind = (source : List ℕ) (tokens : List Token) (unit : UnitTree) → IsTokens source tokens → unit_spelling unit ≡ tokens → UnitNamesBehind unit
+NamesStandBehind =
+    (source : List ℕ) (tokens : List Token) (unit : UnitTree)
+    → IsTokens source tokens → unit_spelling unit ≡ tokens → UnitNamesBehind unit
 
 -- Where the names that clauses list stand so, the copies in the resolution do.
 abbrev pub CopiesStandBehind : Type 0
@@ -21,4 +23,5 @@ CopiesStandBehind = (unit : UnitTree) → UnitNamesBehind unit → IfSome (resol
 abbrev pub SourcesHaveCopiesBehind : Type 0
 SourcesHaveCopiesBehind =
     (source : List ℕ) (tokens : List Token) (unit : UnitTree) (resolved : ResolvedTree)
-    → IsTokens source tokens → unit_spelling unit ≡ tokens → resolution_of unit ≡ Some resolved → TreeCopiesBehind resolved
+    → IsTokens source tokens → unit_spelling unit ≡ tokens → resolution_of unit ≡ Some resolved
+    → TreeCopiesBehind resolved

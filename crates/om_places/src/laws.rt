@@ -1,10 +1,12 @@
 //! Laws of places, for every source.
 
-ghost use Rattle.om_places.specs.Laws.{CopiesStandBehind, NamesStandBehind, SourcesHaveCopiesBehind};
+ghost use Rattle.om_places.specs.Laws.{CopiesStandBehind, NamesStandBehind};
+ghost use Rattle.om_places.specs.Laws.{SourcesHaveCopiesBehind};
 
 use om_lexer::tokens_in_order;
 
-/// Each name that a clause lists stands no earlier than its directive begins, as a source's tokens stand in order.
+/// Each name that a clause lists stands no earlier than its directive begins, as a source's tokens
+/// stand in order.
 pub fn names_stand_behind()
     ensures { NamesStandBehind }
 {

@@ -17,5 +17,6 @@ pub returns-clause-copies_behind : goal.returns-clause-copies_behind
 returns-clause-copies_behind c =
     let tree = c.in_ok-unit.ensures.tree in
     IfOk-weaker c.resolve.result _ (λ resolved. TreeCopiesBehind (view_resolved resolved))
-    (λ resolved made. c.sources_have_copies_behind.ensures c.args.source.now tree.tokens _ (view_resolved resolved) tree.lexed tree.parsed.spelled made)
+    (λ resolved made. c.sources_have_copies_behind.ensures c.args.source.now tree.tokens _
+    (view_resolved resolved) tree.lexed tree.parsed.spelled made)
     c.resolve.ensures.resolved
