@@ -3,6 +3,7 @@ ghost use Rattle.std.specs.Prelude.{◌≢◌, IfOk, IfErr};
 ghost use Rattle.om_lexer.specs.Faults.{no_memory};
 ghost use Rattle.om_tree.specs.View.{view_unit};
 ghost use Rattle.om_resolved.specs.ResolvedView.{view_resolved};
+ghost use Rattle.om_resolved.specs.Beside.{TreeAtomicsAssign, TreeCopiesBehind};
 ghost use Rattle.om_resolved.specs.Whole.{IsWholeTree};
 ghost use Rattle.om_shell.specs.Verdict.{IsTreeOfSource, IsResolutionOfSource, IsProgramOf, IsRefused};
 
@@ -10,6 +11,7 @@ use om_code::program::Program;
 use om_lexer::{SourceFault, lex};
 use om_lower::lower::lower;
 use om_parser::parse;
+use om_places::laws::sources_have_copies_behind;
 use om_resolved::Resolved;
 use om_scope::resolve;
 use om_tree::Unit;
@@ -28,8 +30,11 @@ fn tree_of(alloc: Global, source: &[u8]) -> Result<Unit, SourceFault>
 fn resolution_of(alloc: Global, source: &[u8]) -> Result<Resolved, SourceFault>
     ensures resolution { IfOk result (λ resolved. IsResolutionOfSource source.now (view_resolved resolved)) }
     ensures whole { IfOk result (λ resolved. IsWholeTree (view_resolved resolved)) }
+    ensures atomics_assign { IfOk result (λ resolved. TreeAtomicsAssign (view_resolved resolved)) }
+    ensures copies_behind { IfOk result (λ resolved. TreeCopiesBehind (view_resolved resolved)) }
     ensures refused { IfErr result (λ fault. fault ≢ no_memory → IsRefused source.now fault) }
 {
+    sources_have_copies_behind();
     let unit = tree_of(alloc, source)?;
     resolve(alloc, unit)
 }

@@ -1,3 +1,6 @@
+use Rattle.std.proofs.lemmas.Result.{IfOk-weaker}
+use Rattle.om_resolved.specs.Beside.{TreeCopiesBehind}
+use Rattle.om_resolved.specs.ResolvedView.{view_resolved}
 use Rattle.om_shell.proofs.Refusals.{names_refuse}
 use Rattle.om_shell.proofs.front_end.resolution_of.Goals as goal
 
@@ -6,3 +9,14 @@ returns-clause-refused c = names_refuse c.args.source.now _ c.resolve.result c.i
 
 pub returns-clause-whole : goal.returns-clause-whole
 returns-clause-whole c = c.resolve.ensures.whole c.in_ok-unit.ensures.tree.parsed.formed
+
+pub returns-clause-atomics_assign : goal.returns-clause-atomics_assign
+returns-clause-atomics_assign c = c.resolve.ensures.atomics_assign c.in_ok-unit.ensures.tree.forms
+
+pub returns-clause-copies_behind : goal.returns-clause-copies_behind
+returns-clause-copies_behind c =
+    let tree = c.in_ok-unit.ensures.tree in
+    IfOk-weaker c.resolve.result _ (λ resolved. TreeCopiesBehind (view_resolved resolved))
+    (λ resolved made. c.sources_have_copies_behind.ensures c.args.source.now tree.tokens _
+    (view_resolved resolved) tree.lexed tree.parsed.spelled made)
+    c.resolve.ensures.resolved

@@ -1,0 +1,5 @@
+mod Rising
+mod ClauseNames
+mod Spelled
+mod Steps
+mod Copies

@@ -1,0 +1,50 @@
+-- What is true of all that steps give of which each may give nothing.
+use Rattle.std.proofs.Common.{◌≡◌, Bool, true, false, cond, List, [], ◌∷◌, All, Option, None, Some, option_map, subst}
+use Rattle.std.specs.Prelude.{IfSome}
+use Rattle.std.proofs.lemmas.List.Elements.{All-nil, All-cons, All-append, All-head, All-tail}
+use Rattle.om_scope.specs.Perhaps.{◌>>=◌, each, all_of}
+
+-- of the step behind one
+pub if_then : {A B : Type 0} (P : A → Type 0) (Q : B → Type 0) (o : Option A) (f : A → Option B) → IfSome o P
+    → ((x : A) → P x → IfSome (f x) Q) → IfSome (o >>= f) Q
+if_then P Q None f h next = tt
+if_then P Q (Some x) f h next = next x h
+
+-- of the step behind one of which nothing is known
+pub if_behind : {A B : Type 0} (Q : B → Type 0) (o : Option A) (f : A → Option B) → ((x : A) → IfSome (f x) Q)
+    → IfSome (o >>= f) Q
+if_behind Q None f next = tt
+if_behind Q (Some x) f next = next x
+
+-- of what is made of it
+pub if_mapped : {A B : Type 0} (P : A → Type 0) (Q : B → Type 0) (o : Option A) (f : A → B) → IfSome o P
+    → ((x : A) → P x → Q (f x)) → IfSome (option_map f o) Q
+if_mapped P Q None f h next = tt
+if_mapped P Q (Some x) f h next = next x h
+
+-- of one of two
+pub either : {A : Type 0} (P : A → Type 0) (test : Bool) (x y : A) → P x → P y → P (cond test x y)
+either P true x y hx hy = hx
+either P false x y hx hy = hy
+
+-- of what is given
+pub if_given : {A : Type 0} (P : A → Type 0) (o : Option A) (x : A) → IfSome o P → o ≡ Some x → P x
+if_given P None x h e = cc
+if_given P (Some y) x h e = let same : y ≡ x = cc in subst P same h
+
+-- of all of several
+module _ {A B : Type 0} (P : A → Type 0) (Q : B → Type 0) where
+  pub if_each : (f : A → Option B) → ((x : A) → P x → IfSome (f x) Q) → (xs : List A) → All P xs
+      → IfSome (each f xs) (All Q)
+  if_each f one [] h = All-nil Q
+  if_each f one (x ∷ xs) h =
+      if_then Q (All Q) (f x) _ (one x (All-head P x xs h)) (λ y hy.
+      if_then (All Q) (All Q) (each f xs) _ (if_each f one xs (All-tail P x xs h)) (λ ys hys. All-cons Q y ys hy hys))
+
+  pub if_all_of : (f : A → Option (List B)) → ((x : A) → P x → IfSome (f x) (All Q)) → (xs : List A) → All P xs
+      → IfSome (all_of f xs) (All Q)
+  if_all_of f one [] h = All-nil Q
+  if_all_of f one (x ∷ xs) h =
+      if_then (All Q) (All Q) (f x) _ (one x (All-head P x xs h)) (λ ys hys.
+      if_then (All Q) (All Q) (all_of f xs) _ (if_all_of f one xs (All-tail P x xs h)) (λ zs hzs.
+      All-append Q ys zs hys hzs))

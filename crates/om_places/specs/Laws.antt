@@ -1,0 +1,27 @@
+-- Where the copies of regions stand, of every source.
+use Rattle.std.specs.Prelude.{◌≡◌, ℕ, List, Some, IfSome}
+use Rattle.om_lexer.specs.declared.token.Token.{Token}
+use Rattle.om_lexer.specs.Sources.{IsTokens}
+use Rattle.om_places.specs.Behind.{UnitNamesBehind}
+use Rattle.om_resolved.specs.Beside.{TreeCopiesBehind}
+use Rattle.om_resolved.specs.ResolvedTree.{ResolvedTree}
+use Rattle.om_scope.specs.UnitResolution.{resolution_of}
+use Rattle.om_tree.specs.Spelling.{unit_spelling}
+use Rattle.om_tree.specs.Tree.{UnitTree}
+
+-- In a tree of a source's tokens, each name that a clause lists stands no earlier than its directive begins.
+abbrev pub NamesStandBehind : Type 0
+NamesStandBehind =
+    (source : List ℕ) (tokens : List Token) (unit : UnitTree)
+    → IsTokens source tokens → unit_spelling unit ≡ tokens → UnitNamesBehind unit
+
+-- Where the names that clauses list stand so, the copies in the resolution do.
+abbrev pub CopiesStandBehind : Type 0
+CopiesStandBehind = (unit : UnitTree) → UnitNamesBehind unit → IfSome (resolution_of unit) TreeCopiesBehind
+
+-- So in the resolution of a tree of a source's tokens each copy stands behind where its region begins.
+abbrev pub SourcesHaveCopiesBehind : Type 0
+SourcesHaveCopiesBehind =
+    (source : List ℕ) (tokens : List Token) (unit : UnitTree) (resolved : ResolvedTree)
+    → IsTokens source tokens → unit_spelling unit ≡ tokens → resolution_of unit ≡ Some resolved
+    → TreeCopiesBehind resolved

@@ -1,0 +1,27 @@
+//! Laws of places, for every source.
+
+ghost use Rattle.om_places.specs.Laws.{CopiesStandBehind, NamesStandBehind};
+ghost use Rattle.om_places.specs.Laws.{SourcesHaveCopiesBehind};
+
+use om_lexer::tokens_in_order;
+
+/// Each name that a clause lists stands no earlier than its directive begins, as a source's tokens
+/// stand in order.
+pub fn names_stand_behind()
+    ensures { NamesStandBehind }
+{
+    tokens_in_order();
+}
+
+/// Resolving keeps these places: a copy is known by the byte of the name that its clause lists.
+pub fn copies_stand_behind()
+    ensures { CopiesStandBehind }
+{}
+
+/// In the resolution of a source each copy stands behind where its region begins.
+pub fn sources_have_copies_behind()
+    ensures { SourcesHaveCopiesBehind }
+{
+    names_stand_behind();
+    copies_stand_behind();
+}
