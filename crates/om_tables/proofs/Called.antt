@@ -1,5 +1,5 @@
 -- The number of the body of a function.
-use Rattle.std.proofs.Common.{◌≡◌, ℕ, zero, suc, List, [], ◌∷◌, Option, None, Some, take, slice_get, refl, sym, ap, ◌∙◌}
+use Rattle.std.proofs.Common.{◌≡◌, ℕ, zero, suc, List, [], ◌∷◌, take, slice_get, refl, ap, ◌∙◌}
 use Rattle.std.specs.Option.{unwrap_or}
 use Rattle.om_resolved.specs.ResolvedTree.{ResolvedFunctionTree}
 use Rattle.om_rows.specs.Bodies.{Numbers, behind_function, behind_functions, called_body, first_numbers}

@@ -1,5 +1,5 @@
 -- The number of a thing in a table.
-use Rattle.std.proofs.Common.{◌≡◌, ◌≤◌, ◌<◌, ℕ, suc, ◌+◌, Bool, true, false, not, ◌||◌, cond, Option, None, Some, List, [], ◌∷◌, ◌++◌, length, map, nat_lt, refl, sym, ap, subst, arith, ◌∙◌, if◌then◌else◌, Vec}
+use Rattle.std.proofs.Common.{◌≡◌, ◌≤◌, ℕ, ◌+◌, Bool, true, false, not, ◌||◌, cond, None, Some, List, [], ◌∷◌, ◌++◌, length, map, nat_lt, refl, sym, ap, subst, arith, ◌∙◌, if◌then◌else◌, Vec}
 use Rattle.std.specs.declared.alloc.Global.{Global}
 use Rattle.std.proofs.lemmas.List.{map-append}
 use Rattle.std.proofs.lemmas.List.Sums.{prefix_len-le-length}

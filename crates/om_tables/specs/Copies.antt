@@ -1,5 +1,5 @@
 -- The firstprivate copies of a region.
-use Rattle.std.specs.Prelude.{ℕ, List, map}
+use Rattle.std.specs.Prelude.{List, map}
 use Rattle.om_rows.specs.Slots as rows
 use Rattle.om_tables.specs.declared.copies.FirstCopy.{FirstCopy}
 

@@ -4,10 +4,9 @@ ghost use Rattle.std.specs.Prelude.{◌≡◌, ◌++◌, [], OnOk, IfOk, ℕ, ma
 ghost use Rattle.std.specs.List.{flat_map};
 ghost use Rattle.om_resolved.specs.ResolvedTree as trees;
 ghost use Rattle.om_resolved.specs.ResolvedView.{view_resolved_clause, view_resolved_declarator, view_resolved_expression, view_resolved_function, view_resolved_loop, view_resolved_part, view_resolved_start, view_resolved_statement, view_resolved_update};
-ghost use Rattle.om_rows.specs.Mentions.{all_mentioned, clause_mentioned, declarator_mentioned, extent_mention, extents_of, format_mention, function_mentioned, lock_mention, loop_mentioned, mentioned, parts_mentioned, perhaps_mentioned, start_mentioned, update_mentioned};
+ghost use Rattle.om_rows.specs.Mentions.{all_mentioned, clause_mentioned, declarator_mentioned, extents_of, function_mentioned, loop_mentioned, mentioned, parts_mentioned, perhaps_mentioned, start_mentioned, update_mentioned};
 ghost use Rattle.om_rows.specs.Slots.{cells_in, cells_of_length};
-ghost use Rattle.om_tables.specs.Extents.{measured};
-ghost use Rattle.om_tables.specs.Noted.{noted};
+ghost use Rattle.om_tables.specs.Noted.{AreNoted};
 
 use crate::extents::Extents;
 use crate::formats::note_expression;
@@ -62,12 +61,8 @@ pub(crate) fn note_function(
     alloc: Global,
     function: &ResolvedFunction,
 ) -> Result<(), AllocError>
-    ensures formats { let tree = view_resolved_function function.now in
-        OnOk result (found.new.formats ≡ noted found.old.formats (function_mentioned format_mention tree)) }
-    ensures locks { let tree = view_resolved_function function.now in
-        OnOk result (found.new.locks ≡ noted found.old.locks (function_mentioned lock_mention tree)) }
-    ensures extents { let tree = view_resolved_function function.now in
-        OnOk result (found.new.extents ≡ measured found.old.extents (function_mentioned extent_mention tree)) }
+    ensures { let tree = view_resolved_function function.now in
+        OnOk result (AreNoted (λ A m. function_mentioned m tree) found.old found.new) }
 {
     note_statements(found, alloc, function.body.as_slice())
 }
@@ -78,12 +73,8 @@ fn note_perhaps(
     alloc: Global,
     expression: &Option<ResolvedExpression>,
 ) -> Result<(), AllocError>
-    ensures formats { let tree = option_map view_resolved_expression expression.now in
-        OnOk result (found.new.formats ≡ noted found.old.formats (perhaps_mentioned format_mention tree)) }
-    ensures locks { let tree = option_map view_resolved_expression expression.now in
-        OnOk result (found.new.locks ≡ noted found.old.locks (perhaps_mentioned lock_mention tree)) }
-    ensures extents { let tree = option_map view_resolved_expression expression.now in
-        OnOk result (found.new.extents ≡ measured found.old.extents (perhaps_mentioned extent_mention tree)) }
+    ensures { let tree = option_map view_resolved_expression expression.now in
+        OnOk result (AreNoted (λ A m. perhaps_mentioned m tree) found.old found.new) }
 {
     match expression {
         None => Ok(()),
@@ -107,12 +98,8 @@ fn note_declarator(
     alloc: Global,
     declarator: &ResolvedDeclarator,
 ) -> Result<(), AllocError>
-    ensures formats { let tree = view_resolved_declarator declarator.now in
-        OnOk result (found.new.formats ≡ noted found.old.formats (declarator_mentioned format_mention tree)) }
-    ensures locks { let tree = view_resolved_declarator declarator.now in
-        OnOk result (found.new.locks ≡ noted found.old.locks (declarator_mentioned lock_mention tree)) }
-    ensures extents { let tree = view_resolved_declarator declarator.now in
-        OnOk result (found.new.extents ≡ measured found.old.extents (declarator_mentioned extent_mention tree)) }
+    ensures { let tree = view_resolved_declarator declarator.now in
+        OnOk result (AreNoted (λ A m. declarator_mentioned m tree) found.old found.new) }
 {
     let cells = cells_of(declarator.length);
     found.extents.note(declarator.variable.at, cells)?;
@@ -125,12 +112,8 @@ fn note_declarators(
     alloc: Global,
     declarators: &[ResolvedDeclarator],
 ) -> Result<(), AllocError>
-    ensures formats { let tree = map view_resolved_declarator declarators.now in
-        OnOk result (found.new.formats ≡ noted found.old.formats (flat_map (declarator_mentioned format_mention) tree)) }
-    ensures locks { let tree = map view_resolved_declarator declarators.now in
-        OnOk result (found.new.locks ≡ noted found.old.locks (flat_map (declarator_mentioned lock_mention) tree)) }
-    ensures extents { let tree = map view_resolved_declarator declarators.now in
-        OnOk result (found.new.extents ≡ measured found.old.extents (flat_map (declarator_mentioned extent_mention) tree)) }
+    ensures { let tree = map view_resolved_declarator declarators.now in
+        OnOk result (AreNoted (λ A m. flat_map (declarator_mentioned m) tree) found.old found.new) }
 {
     for declarator in declarators {
         note_declarator(found, alloc, declarator)?;
@@ -140,12 +123,8 @@ fn note_declarators(
 
 /// Notes the beginning of a `for`.
 fn note_start(found: &mut Mentions, alloc: Global, start: &ResolvedStart) -> Result<(), AllocError>
-    ensures formats { let tree = view_resolved_start start.now in
-        OnOk result (found.new.formats ≡ noted found.old.formats (start_mentioned format_mention tree)) }
-    ensures locks { let tree = view_resolved_start start.now in
-        OnOk result (found.new.locks ≡ noted found.old.locks (start_mentioned lock_mention tree)) }
-    ensures extents { let tree = view_resolved_start start.now in
-        OnOk result (found.new.extents ≡ measured found.old.extents (start_mentioned extent_mention tree)) }
+    ensures { let tree = view_resolved_start start.now in
+        OnOk result (AreNoted (λ A m. start_mentioned m tree) found.old found.new) }
 {
     match start {
         ResolvedStart::Nothing => Ok(()),
@@ -162,12 +141,8 @@ fn note_clause(
     alloc: Global,
     clause: &ResolvedClause,
 ) -> Result<(), AllocError>
-    ensures formats { let tree = view_resolved_clause clause.now in
-        OnOk result (found.new.formats ≡ noted found.old.formats (clause_mentioned format_mention tree)) }
-    ensures locks { let tree = view_resolved_clause clause.now in
-        OnOk result (found.new.locks ≡ noted found.old.locks (clause_mentioned lock_mention tree)) }
-    ensures extents { let tree = view_resolved_clause clause.now in
-        OnOk result (found.new.extents ≡ measured found.old.extents (clause_mentioned extent_mention tree)) }
+    ensures { let tree = view_resolved_clause clause.now in
+        OnOk result (AreNoted (λ A m. clause_mentioned m tree) found.old found.new) }
 {
     match clause {
         ResolvedClause::Value(_, value) => note_expression(&mut found.formats, alloc, value),
@@ -182,12 +157,8 @@ fn note_clauses(
     alloc: Global,
     clauses: &[ResolvedClause],
 ) -> Result<(), AllocError>
-    ensures formats { let tree = map view_resolved_clause clauses.now in
-        OnOk result (found.new.formats ≡ noted found.old.formats (flat_map (clause_mentioned format_mention) tree)) }
-    ensures locks { let tree = map view_resolved_clause clauses.now in
-        OnOk result (found.new.locks ≡ noted found.old.locks (flat_map (clause_mentioned lock_mention) tree)) }
-    ensures extents { let tree = map view_resolved_clause clauses.now in
-        OnOk result (found.new.extents ≡ measured found.old.extents (flat_map (clause_mentioned extent_mention) tree)) }
+    ensures { let tree = map view_resolved_clause clauses.now in
+        OnOk result (AreNoted (λ A m. flat_map (clause_mentioned m) tree) found.old found.new) }
 {
     for clause in clauses {
         note_clause(found, alloc, clause)?;
@@ -197,12 +168,8 @@ fn note_clauses(
 
 /// Notes the bounds of a canonical loop.
 fn note_loop(found: &mut Mentions, alloc: Global, repeated: &ResolvedLoop) -> Result<(), AllocError>
-    ensures formats { let tree = view_resolved_loop repeated.now in
-        OnOk result (found.new.formats ≡ noted found.old.formats (loop_mentioned format_mention tree)) }
-    ensures locks { let tree = view_resolved_loop repeated.now in
-        OnOk result (found.new.locks ≡ noted found.old.locks (loop_mentioned lock_mention tree)) }
-    ensures extents { let tree = view_resolved_loop repeated.now in
-        OnOk result (found.new.extents ≡ measured found.old.extents (loop_mentioned extent_mention tree)) }
+    ensures { let tree = view_resolved_loop repeated.now in
+        OnOk result (AreNoted (λ A m. loop_mentioned m tree) found.old found.new) }
 {
     note_expression(&mut found.formats, alloc, &repeated.from)?;
     note_expression(&mut found.formats, alloc, &repeated.to)
@@ -214,12 +181,8 @@ fn note_update(
     alloc: Global,
     update: &ResolvedUpdate,
 ) -> Result<(), AllocError>
-    ensures formats { let tree = view_resolved_update update.now in
-        OnOk result (found.new.formats ≡ noted found.old.formats (update_mentioned format_mention tree)) }
-    ensures locks { let tree = view_resolved_update update.now in
-        OnOk result (found.new.locks ≡ noted found.old.locks (update_mentioned lock_mention tree)) }
-    ensures extents { let tree = view_resolved_update update.now in
-        OnOk result (found.new.extents ≡ measured found.old.extents (update_mentioned extent_mention tree)) }
+    ensures { let tree = view_resolved_update update.now in
+        OnOk result (AreNoted (λ A m. update_mentioned m tree) found.old found.new) }
 {
     note_perhaps(found, alloc, &update.index)?;
     note_expression(&mut found.formats, alloc, &update.operand)
@@ -231,9 +194,7 @@ fn note_construct(
     alloc: Global,
     kind: &ConstructKind,
 ) -> Result<(), AllocError>
-    ensures formats { OnOk result (found.new.formats ≡ noted found.old.formats (format_mention.by_construct kind.now)) }
-    ensures locks { OnOk result (found.new.locks ≡ noted found.old.locks (lock_mention.by_construct kind.now)) }
-    ensures extents { OnOk result (found.new.extents ≡ measured found.old.extents (extent_mention.by_construct kind.now)) }
+    ensures { OnOk result (AreNoted (λ A m. m.by_construct kind.now) found.old found.new) }
 {
     match kind {
         ConstructKind::Single(_) => Ok(()),
@@ -253,21 +214,12 @@ fn note_head(
     condition: &Option<ResolvedExpression>,
     step: &Option<ResolvedExpression>,
 ) -> Result<(), AllocError>
-    ensures formats { let test = option_map view_resolved_expression condition.now in
-        let step_tree = option_map view_resolved_expression step.now in
-        let head = start_mentioned format_mention (view_resolved_start start.now) in
-        let mentioned = head ++ (perhaps_mentioned format_mention test ++ perhaps_mentioned format_mention step_tree) in
-        OnOk result (found.new.formats ≡ noted found.old.formats mentioned) }
-    ensures locks { let test = option_map view_resolved_expression condition.now in
-        let step_tree = option_map view_resolved_expression step.now in
-        let head = start_mentioned lock_mention (view_resolved_start start.now) in
-        let mentioned = head ++ (perhaps_mentioned lock_mention test ++ perhaps_mentioned lock_mention step_tree) in
-        OnOk result (found.new.locks ≡ noted found.old.locks mentioned) }
-    ensures extents { let test = option_map view_resolved_expression condition.now in
-        let step_tree = option_map view_resolved_expression step.now in
-        let head = start_mentioned extent_mention (view_resolved_start start.now) in
-        let mentioned = head ++ (perhaps_mentioned extent_mention test ++ perhaps_mentioned extent_mention step_tree) in
-        OnOk result (found.new.extents ≡ measured found.old.extents mentioned) }
+    ensures { let first = view_resolved_start start.now in
+        let test = option_map view_resolved_expression condition.now in
+        let after = option_map view_resolved_expression step.now in
+        OnOk result (AreNoted
+        (λ A m. start_mentioned m first ++ (perhaps_mentioned m test ++ perhaps_mentioned m after))
+        found.old found.new) }
 {
     note_start(found, alloc, start)?;
     note_perhaps(found, alloc, condition)?;
@@ -282,12 +234,8 @@ fn note_statement(
     alloc: Global,
     statement: &ResolvedStatement,
 ) -> Result<(), AllocError>
-    ensures formats { let tree = view_resolved_statement statement.now in
-        OnOk result (found.new.formats ≡ noted found.old.formats (mentioned format_mention tree)) }
-    ensures locks { let tree = view_resolved_statement statement.now in
-        OnOk result (found.new.locks ≡ noted found.old.locks (mentioned lock_mention tree)) }
-    ensures extents { let tree = view_resolved_statement statement.now in
-        OnOk result (found.new.extents ≡ measured found.old.extents (mentioned extent_mention tree)) }
+    ensures { let tree = view_resolved_statement statement.now in
+        OnOk result (AreNoted (λ A m. mentioned m tree) found.old found.new) }
 {
     match statement {
         ResolvedStatement::Declaration(_, declarators) => {
@@ -357,12 +305,8 @@ fn note_statements(
     alloc: Global,
     items: &[ResolvedStatement],
 ) -> Result<(), AllocError>
-    ensures formats { let tree = trees.statements (map view_resolved_statement items.now) in
-        OnOk result (found.new.formats ≡ noted found.old.formats (all_mentioned format_mention tree)) }
-    ensures locks { let tree = trees.statements (map view_resolved_statement items.now) in
-        OnOk result (found.new.locks ≡ noted found.old.locks (all_mentioned lock_mention tree)) }
-    ensures extents { let tree = trees.statements (map view_resolved_statement items.now) in
-        OnOk result (found.new.extents ≡ measured found.old.extents (all_mentioned extent_mention tree)) }
+    ensures { let tree = trees.statements (map view_resolved_statement items.now) in
+        OnOk result (AreNoted (λ A m. all_mentioned m tree) found.old found.new) }
 {
     for item in items {
         note_statement(found, alloc, item)?;
@@ -374,12 +318,8 @@ fn note_statements(
 #[tactic(auto, unfolding(om_rows::specs::Mentions::parts_mentioned))]
 #[cycle(statement)]
 fn note_parts(found: &mut Mentions, alloc: Global, parts: &[ResolvedPart]) -> Result<(), AllocError>
-    ensures formats { let tree = trees.parts (map view_resolved_part parts.now) in
-        OnOk result (found.new.formats ≡ noted found.old.formats (parts_mentioned format_mention tree)) }
-    ensures locks { let tree = trees.parts (map view_resolved_part parts.now) in
-        OnOk result (found.new.locks ≡ noted found.old.locks (parts_mentioned lock_mention tree)) }
-    ensures extents { let tree = trees.parts (map view_resolved_part parts.now) in
-        OnOk result (found.new.extents ≡ measured found.old.extents (parts_mentioned extent_mention tree)) }
+    ensures { let tree = trees.parts (map view_resolved_part parts.now) in
+        OnOk result (AreNoted (λ A m. parts_mentioned m tree) found.old found.new) }
 {
     for part in parts {
         note_statements(found, alloc, part.items.as_slice())?;

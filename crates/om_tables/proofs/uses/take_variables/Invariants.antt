@@ -1,4 +1,4 @@
-use Rattle.std.proofs.Common.{◌≡◌, map, drop}
+use Rattle.std.proofs.Common.{◌≡◌, drop}
 use Rattle.std.specs.List.{flat_map}
 use Rattle.om_resolved.specs.Captures.{variable_uses}
 use Rattle.om_tables.specs.Sighted.{sighted}
