@@ -5,7 +5,7 @@ use Rattle.om_rows.specs.Bodies.{first_numbers}
 use Rattle.om_rows.specs.Coded.{BodyHasCode}
 use Rattle.om_tables.specs.Numbering.{numbers_of}
 use Rattle.om_lower.proofs.Coding.{one_more, stopped}
-use Rattle.om_lower.proofs.FunctionBodies.{function_holds, function_serial}
+use Rattle.om_lower.proofs.FunctionBodies.{function_holds, function_plain}
 use Rattle.om_lower.proofs.Items.{item_at}
 use Rattle.om_lower.proofs.functions.lower_functions.Goals as goal
 
@@ -22,11 +22,11 @@ lower_function-requires-clause-has_code c =
     c.function-item.result
     c.loop-function-test.true c.function-item.is))
 
-pub lower_function-requires-clause-serial : goal.lower_function-requires-clause-serial
-lower_function-requires-clause-serial c =
+pub lower_function-requires-clause-plain : goal.lower_function-requires-clause-plain
+lower_function-requires-clause-plain c =
     let tree = view_resolved c.args.whole.now.resolved.now in
-    function_serial tree.functions c.loop-function.function-index
-    (view_resolved_function c.function-item.result) c.requires.serial (
+    function_plain tree.functions c.loop-function.function-index
+    (view_resolved_function c.function-item.result) c.requires.plain (
     subst (λ items. slice_get (map view_resolved_function items) c.loop-function.function-index ≡ Some
     (view_resolved_function c.function-item.result))
     c.as_slice-function-items.ensures.value
