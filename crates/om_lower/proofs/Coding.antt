@@ -7,7 +7,7 @@ use Rattle.om_code.specs.declared.raw.Body.{Body}
 use Rattle.om_code.specs.declared.raw.Line.{Line}
 use Rattle.om_code.specs.declared.raw.Slot.{Slot}
 use Rattle.om_lower.specs.Frames.{FitsFrame}
-use Rattle.om_lower.specs.Limits.{IsCodeAt, IsOver, frame_cells, long, many_cells, many_slots}
+use Rattle.om_lower.specs.Limits.{HasFewSlots, HasManySlots, IsCodeAt, IsOver, frame_cells, long, many_cells, many_slots}
 use Rattle.om_lower.specs.Made.{AreFunctions, AreMade, FitsCode, FitsFunction, IsLowered, IsMade}
 use Rattle.om_lower.specs.Sites.{IsPlain}
 use Rattle.om_lower.proofs.SlotTables.{slots_same}
@@ -89,7 +89,17 @@ made_body tree b code slots given frame fits same = record {
   short = fits.1;
 }
 
--- ---- the limit on instructions
+-- ---- the limits on slots and instructions
+
+pub many_at : (b : BodySite) (count : ℕ) (variables : List ℕ) → 256 < count → count ≡ length variables
+    → variables ≡ variables_of b → HasManySlots b
+many_at b count variables more same at =
+    subst (λ all. 256 < length all) at (subst (λ n. 256 < n) same more)
+
+pub few_at : (b : BodySite) (count : ℕ) (variables : List ℕ) → count ≤ 256 → count ≡ length variables
+    → variables ≡ variables_of b → HasFewSlots b
+few_at b count variables less same at =
+    subst (λ all. length all ≤ 256) at (subst (λ n. n ≤ 256) same less)
 
 pub over_limit : (count : ℕ) (code : List Line) → 65536 < count → count ≡ length code → 65536 < length code
 over_limit count code more same = subst (λ n. 65536 < n) same more

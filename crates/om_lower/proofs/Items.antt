@@ -1,5 +1,6 @@
 -- The item of a list where a loop stands.
 use Rattle.std.proofs.Common.{◌≡◌, ◌<◌, ◌≤◌, ℕ, zero, suc, ◌+◌, List, [], ◌∷◌, ◌++◌, Some, IfSome, All, length, map, take, slice_get, get_or, refl, sym, ap, subst, ◌∙◌, arith}
+use Rattle.std.proofs.lemmas.List.{length-map}
 use Rattle.std.proofs.lemmas.List.Elements.{All-nil, All-cons, All-head, All-tail}
 use Rattle.std.specs.List.{AllZip}
 
@@ -113,3 +114,9 @@ zip_pushed R xs ys new k x y at added zip r =
     let next : suc k ≡ k + 1 = omega arith in
     subst (λ n. AllZip R (take n xs) new) next
     (subst (λ all. AllZip R (take (suc k) xs) all) (sym added) (zip_next R xs ys k x y at zip r))
+
+-- the first k of them are all, as they are seen
+pub all_seen : {A B : Type 0} (P : B → Type 0) (view : A → B) (xs : List A) (k : ℕ) → length xs ≤ k
+    → All P (take k (map view xs)) → All P (map view xs)
+all_seen P view xs k le all =
+    all_taken P (map view xs) k (subst (λ n. n ≤ k) (sym (length-map xs view)) le) all

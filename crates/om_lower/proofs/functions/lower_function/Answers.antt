@@ -1,14 +1,18 @@
-use Rattle.std.proofs.Common.{rules, ◌≡◌, All, IfOk, None, ℕ, ◌+◌, ◌-◌, ◌*◌, ◌<◌, ◌≤◌, length, ◌/◌, ◌%◌, Bool, true, false, nat_eq, nat_lt, List, [], ◌∷◌, ◌++◌, slice_index_or, slice_set, bit_and, bit_or, Fits, w8, w32, w64, Bor, MutBor}
-use Rattle.om_lower.specs.Made.{FitsFunction, IsLowered}
-use Rattle.om_lower.specs.Sections.{first_sections, sections_among}
-use Rattle.om_resolved.specs.ResolvedView.{view_resolved, view_resolved_function}
-use Rattle.om_resolved.specs.Uses.{is_main_function}
-use Rattle.om_rows.specs.Bodies.{function_bodies}
-use Rattle.om_rows.specs.Coded.{BodyHasCode, TreeHasCode}
+use Rattle.std.proofs.Common.{All, map, sym, ap, subst, ◌∙◌}
+use Rattle.om_lower.specs.Limits.{HasFewSlots}
+use Rattle.om_lower.specs.Sites.{IsReady, site_of}
+use Rattle.om_lower.proofs.Ready.{function_ready}
+use Rattle.om_resolved.specs.ResolvedView.{view_resolved_function}
 use Rattle.om_tables.specs.Numbering.{numbers_of}
-use Rattle.om_tables.specs.Tables.{IsTablesOf}
 use Rattle.om_lower.proofs.functions.lower_function.Goals as goal
 
--- src/functions.rt:86:18
 pub lower_bodies-requires-clause-ready : goal.lower_bodies-requires-clause-ready
-lower_bodies-requires-clause-ready c = ?
+lower_bodies-requires-clause-ready c =
+    let f = view_resolved_function c.args.function.now in
+    let extents = c.in_ok-extents.extents in
+    let sites = c.in_ok-sites.sites.items in
+    let few = subst (λ items. All HasFewSlots (map site_of items)) c.as_slice.ensures.value
+    (c.in_ok-have_few_slots.ensures.few c.if-not-branch.false) in
+    subst (λ items. All (IsReady extents) (map site_of items)) (sym c.as_slice-2.ensures.value)
+    (function_ready extents f (numbers_of c.args.numbers) (map site_of sites) c.in_ok-sites.ensures
+    c.in_ok-extents.ensures c.requires.plain few c.requires.has_code)
