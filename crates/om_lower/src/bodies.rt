@@ -188,11 +188,7 @@ fn emitted_in(alloc: Global, scope: &Scope<'_>, site: &Site<'_>) -> Result<Emitt
 }
 
 /// The slots that the values go to with which a frame of a body begins.
-fn given_in(
-    alloc: Global,
-    site: &Site<'_>,
-    variables: &Variables,
-) -> Result<Seq<u32>, AllocError>
+fn given_in(alloc: Global, site: &Site<'_>, variables: &Variables) -> Result<Seq<u32>, AllocError>
     requires few { HasFewSlots (site_of site.now) }
     requires variables { variables.now ≡ variables_of (site_of site.now) }
     ensures { IfOk result (λ slots. slots ≡ given_of (site_of site.now)) }

@@ -72,8 +72,12 @@ fn add_region<'a>(
     ensures behind { IfOk result (λ inner. numbers_of inner ≡ bodies.next_body (numbers_of numbers)) }
     ensures sites { let f = view_resolved_function round.now.function.now in
         OnOk result (map site_of sites.new.items
-        ≡ map site_of sites.old.items ++ record { function = f; tree = part_tree part.now;
-        outer = variables_at f round.now.part; numbers = bodies.next_body (numbers_of numbers) } ∷ []) }
+        ≡ map site_of sites.old.items ++ record {
+          function = f;
+          tree = part_tree part.now;
+          outer = variables_at f round.now.part;
+          numbers = bodies.next_body (numbers_of numbers);
+        } ∷ []) }
 {
     let inner = numbers.next_body()?;
     sites.push(Site {
