@@ -7,7 +7,7 @@ use Rattle.om_code.specs.declared.raw.Body.{Body}
 use Rattle.om_code.specs.declared.raw.Line.{Line}
 use Rattle.om_code.specs.declared.raw.Slot.{Slot}
 use Rattle.om_lower.specs.Frames.{FitsFrame}
-use Rattle.om_lower.specs.Limits.{HasFewSlots, HasManySlots, IsCodeAt, IsOver, frame_cells, long, many_cells, many_slots}
+use Rattle.om_lower.specs.Limits.{HasFewSlots, HasManySlots, IsCodeAt, IsOver, long, many_cells, many_slots}
 use Rattle.om_lower.specs.Made.{AreFunctions, AreMade, FitsCode, FitsFunction, IsLowered, IsMade}
 use Rattle.om_lower.specs.Sites.{IsPlain}
 use Rattle.om_lower.proofs.SlotTables.{slots_same}
@@ -104,7 +104,8 @@ few_at b count variables less same at =
 pub over_limit : (count : ℕ) (code : List Line) → 65536 < count → count ≡ length code → 65536 < length code
 over_limit count code more same = subst (λ n. 65536 < n) same more
 
-pub within_limit : (count : ℕ) (code : List Line) → count ≤ 65536 → count ≡ length code → length code ≤ 65536
+pub within_limit : (count : ℕ) (code : List Line) → count ≤ 65536 → count ≡ length code
+    → length code ≤ 65536
 within_limit count code less same = subst (λ n. n ≤ 65536) same less
 
 -- ---- function by function

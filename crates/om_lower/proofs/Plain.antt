@@ -5,7 +5,7 @@ use Rattle.om_lexer.specs.declared.token.Span.{Span}
 use Rattle.om_lower.specs.Sections.{sections_in, sections_among, or_else}
 use Rattle.om_lower.specs.Sites.{IsPlain}
 use Rattle.om_resolved.specs.ResolvedTree.{ResolvedStatementTree, Declaration, Block, Empty, Expression, If, IfElse, While, Do, For, Return, Break, Continue, Parallel, Task, Loop, Sections, Construct, Update, StandAlone, ResolvedStatementsTree, NoStatements, Statement, ResolvedFunctionTree}
-use Rattle.om_rows.specs.Bodies.{BodySite, FunctionBody, Numbers, ParallelBody, TaskBody, all_regions, behind, behind_all, function_bodies, function_variables, next_body, parts_regions, region_variables, regions}
+use Rattle.om_rows.specs.Bodies.{FunctionBody, Numbers, ParallelBody, TaskBody, all_regions, behind, behind_all, function_bodies, function_variables, next_body, parts_regions, region_variables, regions}
 use Rattle.om_statements.specs.Plain.{HasNoSections, HaveNoSections}
 use Rattle.om_tables.specs.Picks.{all_own_picks, own_picks}
 
@@ -20,7 +20,7 @@ or_second (Some at) b none = cc
 
 -- no statement of the body is one
 mutual
-  pub no_sections_in : (s : ResolvedStatementTree) → sections_in s ≡ None → HasNoSections s
+  no_sections_in : (s : ResolvedStatementTree) → sections_in s ≡ None → HasNoSections s
   no_sections_in (Declaration at ds) none = tt
   no_sections_in (Block at items) none = no_sections items none
   no_sections_in (Empty at) none = tt
@@ -44,7 +44,7 @@ mutual
   no_sections_in (Update at u) none = tt
   no_sections_in (StandAlone at directive) none = tt
 
-  pub no_sections : (items : ResolvedStatementsTree) → sections_among items ≡ None → HaveNoSections items
+  no_sections : (items : ResolvedStatementsTree) → sections_among items ≡ None → HaveNoSections items
   no_sections NoStatements none = tt
   no_sections (Statement s rest) none = (
     no_sections_in s (or_first (sections_in s) (sections_among rest) none),
@@ -53,7 +53,8 @@ mutual
 
 -- no number of a list is taken
 mutual
-  pub same_picks : (s : ResolvedStatementTree) → sections_in s ≡ None → (n : Numbers) → (behind n s).picks ≡ n.picks
+  same_picks : (s : ResolvedStatementTree) → sections_in s ≡ None → (n : Numbers)
+      → (behind n s).picks ≡ n.picks
   same_picks (Declaration at ds) none = λ n. refl
   same_picks (Block at items) none = same_all items none
   same_picks (Empty at) none = λ n. refl
@@ -84,7 +85,7 @@ mutual
 
 -- the body has no list
 mutual
-  pub own_none : (s : ResolvedStatementTree) → sections_in s ≡ None → (n : Numbers) → own_picks n s ≡ []
+  own_none : (s : ResolvedStatementTree) → sections_in s ≡ None → (n : Numbers) → own_picks n s ≡ []
   own_none (Declaration at ds) none = λ n. refl
   own_none (Block at items) none = no_picks items none
   own_none (Empty at) none = λ n. refl
@@ -107,7 +108,7 @@ mutual
   own_none (Update at u) none = λ n. refl
   own_none (StandAlone at directive) none = λ n. refl
 
-  pub no_picks : (items : ResolvedStatementsTree) → sections_among items ≡ None → (n : Numbers)
+  no_picks : (items : ResolvedStatementsTree) → sections_among items ≡ None → (n : Numbers)
       → all_own_picks n items ≡ []
   no_picks NoStatements none = λ n. refl
   no_picks (Statement s rest) none = λ n. ap (λ found. found ++ all_own_picks (behind n s) rest)
@@ -118,7 +119,7 @@ mutual
 mutual
   unfolding regions all_regions parts_regions
 
-  pub plain_in : (s : ResolvedStatementTree) → sections_in s ≡ None
+  plain_in : (s : ResolvedStatementTree) → sections_in s ≡ None
       → (f : ResolvedFunctionTree) (outer : List ℕ) (n : Numbers)
       → All IsPlain (regions f outer n s)
   plain_in (Declaration at ds) none = λ f outer n. All-nil IsPlain
@@ -154,7 +155,7 @@ mutual
   plain_in (Update at u) none = λ f outer n. All-nil IsPlain
   plain_in (StandAlone at directive) none = λ f outer n. All-nil IsPlain
 
-  pub plain_all : (items : ResolvedStatementsTree) → sections_among items ≡ None
+  plain_all : (items : ResolvedStatementsTree) → sections_among items ≡ None
       → (f : ResolvedFunctionTree) (outer : List ℕ) (n : Numbers)
       → All IsPlain (all_regions f outer n items)
   plain_all NoStatements none = λ f outer n. All-nil IsPlain

@@ -1,5 +1,5 @@
 -- What holds of the variables of every body holds of those of the body round each.
-use Rattle.std.proofs.Common.{◌≡◌, ◌≤◌, ℕ, List, [], ◌∷◌, ◌++◌, All, length, refl, arith}
+use Rattle.std.proofs.Common.{◌≡◌, ◌≤◌, ℕ, List, [], All, length, refl, arith}
 use Rattle.std.proofs.lemmas.List.Elements.{All-nil, All-cons, All-head, All-tail, All-append}
 use Rattle.om_lower.specs.Limits.{HasFewSlots}
 use Rattle.om_lower.proofs.FunctionBodies.{all_behind, all_front}
@@ -82,6 +82,6 @@ pub round_function : (f : ResolvedFunctionTree) (n : Numbers) → All HasFewSlot
 round_function f n few =
     let here : BodySite = record { function = f; tree = FunctionBody; outer = []; numbers = next_body n } in
     let inner = all_regions f (function_variables f) (next_body n) f.body in
-    All-cons (IsRound f) here inner (refl, (omega arith))
+    All-cons (IsRound f) here inner (refl, omega arith)
     (round_all f (function_variables f) (next_body n) f.body (All-head HasFewSlots here inner few)
     (All-tail HasFewSlots here inner few))

@@ -33,7 +33,8 @@ use std::alloc::{AllocError, Global};
 /// Whether none of these bodies has more than 256 slots.
 pub(crate) fn have_few_slots(alloc: Global, sites: &[Site<'_>]) -> Result<bool, AllocError>
     ensures few { IfOk result (λ few. few ≡ true → All HasFewSlots (map site_of sites.now)) }
-    ensures many { IfOk result (λ few. few ≡ false → Any HasManySlots (map site_of sites.now)) }
+    ensures many { IfOk result (λ few.
+        few ≡ false → Any HasManySlots (map site_of sites.now)) }
 {
     for site in sites {
         let variables = variables_in(alloc, site.function, &site.part)?;
@@ -209,8 +210,9 @@ fn copies_given(
     variables: &Variables,
 ) -> Result<Seq<u32>, AllocError>
     requires few { length variables.now ≤ 256 }
-    requires variables { variables.now ≡ region_variables
-        (map view_resolved_clause region.now.clauses.now) (view_resolved_statement region.now.statement.now) }
+    requires variables { let clauses = map view_resolved_clause region.now.clauses.now in
+        let statement = view_resolved_statement region.now.statement.now in
+        variables.now ≡ region_variables clauses statement }
     ensures { let clauses = map view_resolved_clause region.now.clauses.now in
         let statement = view_resolved_statement region.now.statement.now in
         let copies = given_copies clauses region.now.captures.now statement in

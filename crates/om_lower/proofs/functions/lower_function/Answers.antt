@@ -1,4 +1,4 @@
-use Rattle.std.proofs.Common.{All, map, sym, ap, subst, ◌∙◌}
+use Rattle.std.proofs.Common.{All, map, sym, subst}
 use Rattle.om_lower.specs.Limits.{HasFewSlots}
 use Rattle.om_lower.specs.Sites.{IsReady, site_of}
 use Rattle.om_lower.proofs.Ready.{function_ready}
