@@ -5,13 +5,13 @@ use Rattle.std.specs.List.{AllZip, flat_map}
 use Rattle.om_code.specs.declared.raw.Body.{Body}
 use Rattle.om_code.specs.declared.raw.Raw.{Raw}
 use Rattle.om_code.specs.Validity.{IsLow, IsValid}
-use Rattle.om_lower.specs.Directives.{directive_among, function_directive}
 use Rattle.om_lower.specs.Heights.{AreLevel, AreLow, IsLevelBody}
 use Rattle.om_lower.specs.Limits.{AreWithin, IsWithin}
 use Rattle.om_lower.specs.Made.{AreFunctions, AreMade, IsLowered}
+use Rattle.om_lower.specs.Sections.{functions_sections, sections_among}
 use Rattle.om_lower.proofs.FunctionBodies.{side_by_side, within_functions}
-use Rattle.om_lower.proofs.Serial.{or_first, or_second, plain_all}
-use Rattle.om_resolved.specs.Beside.{AtomicAssigns, CopiesBehind, EverywhereIn}
+use Rattle.om_lower.proofs.Plain.{or_first, or_second, same_all}
+use Rattle.om_resolved.specs.Beside.{TreeCopiesBehind}
 use Rattle.om_resolved.specs.ResolvedTree.{ResolvedFunctionTree, ResolvedTree}
 use Rattle.om_resolved.specs.Whole.{IsWholeTree}
 use Rattle.om_rows.specs.Bodies.{BodySite, Numbers, behind_function, behind_functions, bodies_from, bodies_of, first_numbers, function_bodies, next_body, variables_of}
@@ -79,31 +79,14 @@ numbered_slots tree (b ∷ sites) (body ∷ bodies) made =
     (let fits : length body.slots ≤ 2 ^ 32 = omega (arith, few, long) in fits)
     (numbered_slots tree sites bodies made.1)
 
--- ---- without directives
+-- ---- lists of PICK
 
-pub serial_copies : (fs : List ResolvedFunctionTree) → function_directive fs ≡ None
-    → All (λ function. EverywhereIn CopiesBehind function.body) fs
-serial_copies [] none = All-nil (λ function. EverywhereIn CopiesBehind function.body)
-serial_copies (f ∷ fs) none =
-    All-cons (λ function. EverywhereIn CopiesBehind function.body) f fs
-    ((plain_all f.body (or_first (directive_among f.body) (function_directive fs) none)).copies)
-    (serial_copies fs (or_second (directive_among f.body) (function_directive fs) none))
-
-pub serial_atomics : (fs : List ResolvedFunctionTree) → function_directive fs ≡ None
-    → All (λ function. EverywhereIn AtomicAssigns function.body) fs
-serial_atomics [] none = All-nil (λ function. EverywhereIn AtomicAssigns function.body)
-serial_atomics (f ∷ fs) none =
-    All-cons (λ function. EverywhereIn AtomicAssigns function.body) f fs
-    ((plain_all f.body (or_first (directive_among f.body) (function_directive fs) none)).atomics)
-    (serial_atomics fs (or_second (directive_among f.body) (function_directive fs) none))
-
-pub serial_picks : (fs : List ResolvedFunctionTree) (n : Numbers) → function_directive fs ≡ None
+pub no_lists : (fs : List ResolvedFunctionTree) (n : Numbers) → functions_sections fs ≡ None
     → (behind_functions n fs).picks ≡ n.picks
-serial_picks [] n none = refl
-serial_picks (f ∷ fs) n none =
-    serial_picks fs (behind_function n f) (or_second (directive_among f.body) (function_directive fs) none)
-    ∙ ap (λ m. m.picks) ((plain_all f.body
-    (or_first (directive_among f.body) (function_directive fs) none)).same (next_body n))
+no_lists [] n none = refl
+no_lists (f ∷ fs) n none =
+    no_lists fs (behind_function n f) (or_second (sections_among f.body) (functions_sections fs) none)
+    ∙ same_all f.body (or_first (sections_among f.body) (functions_sections fs) none) (next_body n)
 
 -- ---- the program
 
@@ -124,10 +107,10 @@ made_bodies tree lists lowered =
     side_by_side tree first_numbers tree.functions lists lowered.made lowered.stops
 
 pub valid : (law : CodeIsValid) (tree : ResolvedTree) (raw : Raw) (lists : List (List Body))
-    → IsWholeTree tree → function_directive tree.functions ≡ None
+    → IsWholeTree tree → TreeCopiesBehind tree
     → IsLowered tree lists true → All (λ bodies. AreLow [] bodies) lists → IsCodeOf tree raw
     → raw.bodies ≡ flat_map (λ bodies. bodies) lists → raw.picks ≡ [] → IsValid raw
-valid law tree raw lists whole none lowered low code bodies picks =
+valid law tree raw lists whole copies lowered low code bodies picks =
     let made : AreMade tree [] (bodies_of tree) raw.bodies =
     subst (λ all. AreMade tree [] (bodies_of tree) all) (sym bodies) (made_bodies tree lists lowered) in
     let few : AreNumbered raw =
@@ -136,7 +119,7 @@ valid law tree raw lists whole none lowered low code bodies picks =
       slots = numbered_slots tree (bodies_of tree) raw.bodies made;
     } in
     let flat : AreLow [] raw.bodies = subst (λ all. AreLow [] all) (sym bodies) (low_flat lists low) in
-    law tree raw whole (serial_copies tree.functions none) code few
+    law tree raw whole copies code few
     (subst (λ lists. AreLow lists raw.bodies) (sym picks) flat)
 
 take_all : {A : Type 0} (xs : List A) (k : ℕ) → k ≡ length xs → take k xs ≡ xs

@@ -4,11 +4,11 @@ use Rattle.std.proofs.lemmas.List.Elements.{All-nil, All-cons, All-head, All-tai
 use Rattle.std.specs.List.{AllZip, flat_map}
 use Rattle.om_code.specs.declared.raw.Body.{Body}
 use Rattle.om_code.specs.Validity.{IsLow}
-use Rattle.om_lower.specs.Directives.{directive_among, function_directive}
 use Rattle.om_lower.specs.Heights.{AreLow, IsHigh}
 use Rattle.om_lower.specs.Limits.{IsOver, IsWithin, high}
-use Rattle.om_lower.specs.Made.{AreFunctions, AreMade, IsMade, function_site}
-use Rattle.om_lower.proofs.Serial.{or_first, or_second}
+use Rattle.om_lower.specs.Made.{AreFunctions, AreMade, IsMade}
+use Rattle.om_lower.specs.Sections.{functions_sections, sections_among}
+use Rattle.om_lower.proofs.Plain.{or_first, or_second}
 use Rattle.om_resolved.specs.ResolvedTree.{ResolvedFunctionTree, ResolvedTree}
 use Rattle.om_rows.specs.Bodies.{BodySite, Numbers, behind_function, behind_functions, bodies_from, function_bodies}
 
@@ -24,10 +24,10 @@ all_front P [] ys all = All-nil P
 all_front P (x ∷ xs) ys all =
     All-cons P x xs (All-head P x (xs ++ ys) all) (all_front P xs ys (All-tail P x (xs ++ ys) all))
 
-any_here : {A : Type 0} (P : A → Type 0) (x : A) (xs : List A) → P x → Any P (x ∷ xs)
+pub any_here : {A : Type 0} (P : A → Type 0) (x : A) (xs : List A) → P x → Any P (x ∷ xs)
 any_here P x xs p = (0, x, omega arith, refl, p)
 
-any_behind : {A : Type 0} (P : A → Type 0) (x : A) (xs : List A) → Any P xs → Any P (x ∷ xs)
+pub any_behind : {A : Type 0} (P : A → Type 0) (x : A) (xs : List A) → Any P xs → Any P (x ∷ xs)
 any_behind P x xs any = (suc any.0, any.1, let lt = any.2 in omega (arith, lt), any.3, any.4)
 
 -- ---- one function more
@@ -53,23 +53,24 @@ pushed tree n (g ∷ fs) (first ∷ lists) f bodies made at more =
 pub function_holds : (P : BodySite → Type 0) (n : Numbers) (fs : List ResolvedFunctionTree) (k : ℕ)
     (f : ResolvedFunctionTree)
     → All P (bodies_from n fs) → slice_get fs k ≡ Some f
-    → P (function_site (behind_functions n (take k fs)) f)
+    → All P (function_bodies (behind_functions n (take k fs)) f)
 function_holds P n [] k f all at = cc
 function_holds P n (g ∷ fs) zero f all at =
-    subst (λ h. P (function_site n h)) (some_same g f at) (All-head P _ _ all)
+    subst (λ h. All P (function_bodies n h)) (some_same g f at)
+    (all_front P (function_bodies n g) (bodies_from (behind_function n g) fs) all)
 function_holds P n (g ∷ fs) (suc k) f all at =
     function_holds P (behind_function n g) fs k f
     (all_behind P (function_bodies n g) (bodies_from (behind_function n g) fs) all) at
 
-pub function_serial : (fs : List ResolvedFunctionTree) (k : ℕ) (f : ResolvedFunctionTree)
-    → function_directive fs ≡ None → slice_get fs k ≡ Some f
-    → directive_among f.body ≡ None
-function_serial [] k f none at = cc
-function_serial (g ∷ fs) zero f none at =
-    subst (λ h. directive_among h.body ≡ None) (some_same g f at)
-    (or_first (directive_among g.body) (function_directive fs) none)
-function_serial (g ∷ fs) (suc k) f none at =
-    function_serial fs k f (or_second (directive_among g.body) (function_directive fs) none) at
+pub function_plain : (fs : List ResolvedFunctionTree) (k : ℕ) (f : ResolvedFunctionTree)
+    → functions_sections fs ≡ None → slice_get fs k ≡ Some f
+    → sections_among f.body ≡ None
+function_plain [] k f none at = cc
+function_plain (g ∷ fs) zero f none at =
+    subst (λ h. sections_among h.body ≡ None) (some_same g f at)
+    (or_first (sections_among g.body) (functions_sections fs) none)
+function_plain (g ∷ fs) (suc k) f none at =
+    function_plain fs k f (or_second (sections_among g.body) (functions_sections fs) none) at
 
 -- ---- what holds of them
 

@@ -1,5 +1,6 @@
 -- The item of a list where a loop stands.
-use Rattle.std.proofs.Common.{◌≡◌, ◌<◌, ◌≤◌, ℕ, zero, suc, ◌+◌, List, [], ◌∷◌, ◌++◌, Some, IfSome, All, length, map, take, slice_get, get_or, refl, sym, ap, subst, ◌∙◌, arith}
+use Rattle.std.proofs.Common.{◌≡◌, ◌<◌, ◌≤◌, ℕ, zero, suc, ◌+◌, List, [], ◌∷◌, ◌++◌, Some, IfSome, All, Any, length, map, take, slice_get, get_or, refl, sym, ap, subst, ◌∙◌, arith}
+use Rattle.std.proofs.lemmas.List.{length-map}
 use Rattle.std.proofs.lemmas.List.Elements.{All-nil, All-cons, All-head, All-tail}
 use Rattle.std.specs.List.{AllZip}
 
@@ -82,3 +83,40 @@ zip_in R xs ys new k y lt added zip r =
     (subst (λ found. IfSome found (λ x. R x y)) there.1 r) in
     subst (λ n. AllZip R (take n xs) new) next
     (subst (λ all. AllZip R (take (suc k) xs) all) (sym added) with_y)
+
+-- what holds of all items holds of this one
+pub all_at : {A : Type 0} (P : A → Type 0) (xs : List A) (k : ℕ) (x : A) → All P xs
+    → slice_get xs k ≡ Some x → P x
+all_at P [] k x all at = cc
+all_at P (y ∷ xs) zero x all at = let same : y ≡ x = cc in subst P same (All-head P y xs all)
+all_at P (y ∷ xs) (suc k) x all at = all_at P xs k x (All-tail P y xs all) at
+
+pub any_at : {A : Type 0} (P : A → Type 0) (xs : List A) (k : ℕ) (x : A) → slice_get xs k ≡ Some x → P x
+    → Any P xs
+any_at P [] k x at p = cc
+any_at P (y ∷ xs) zero x at p =
+    let same : y ≡ x = cc in (0, y, omega arith, refl, subst P (sym same) p)
+any_at P (y ∷ xs) (suc k) x at p =
+    let rest = any_at P xs k x at p in
+    let lt = rest.2 in (suc rest.0, rest.1, omega (arith, lt), rest.3, rest.4)
+
+pub all_next_at : {A : Type 0} (P : A → Type 0) (xs : List A) (k : ℕ) (x : A) → slice_get xs k ≡ Some x
+    → All P (take k xs) → P x → All P (take (k + 1) xs)
+all_next_at P xs k x at all p =
+    let next : suc k ≡ k + 1 = omega arith in
+    subst (λ n. All P (take n xs)) next (all_next P xs k x at all p)
+
+-- one more of two lists, behind those that stand
+pub zip_pushed : {A B : Type 0} (R : A → B → Type 0) (xs : List A) (ys new : List B) (k : ℕ) (x : A) (y : B)
+    → slice_get xs k ≡ Some x → new ≡ ys ++ y ∷ [] → AllZip R (take k xs) ys → R x y
+    → AllZip R (take (k + 1) xs) new
+zip_pushed R xs ys new k x y at added zip r =
+    let next : suc k ≡ k + 1 = omega arith in
+    subst (λ n. AllZip R (take n xs) new) next
+    (subst (λ all. AllZip R (take (suc k) xs) all) (sym added) (zip_next R xs ys k x y at zip r))
+
+-- the first k of them are all, as they are seen
+pub all_seen : {A B : Type 0} (P : B → Type 0) (view : A → B) (xs : List A) (k : ℕ) → length xs ≤ k
+    → All P (take k (map view xs)) → All P (map view xs)
+all_seen P view xs k le all =
+    all_taken P (map view xs) k (subst (λ n. n ≤ k) (sym (length-map xs view)) le) all

@@ -1,11 +1,12 @@
 pub mod Searches
 pub mod Cutting
 pub mod SlotTables
-pub mod Serial
-pub mod Bodies
+pub mod Plain
 pub mod Items
 pub mod High
 pub mod Coding
 pub mod FunctionBodies
+pub mod Rounds
+pub mod Ready
 pub mod Refusing
 pub mod Assembled

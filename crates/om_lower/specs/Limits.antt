@@ -30,6 +30,12 @@ IsCodeAt tree picks b code =
     body_row (site_with (names_in tree (variables_of b) (is_main_function b.function)) code picks) b.numbers
     b.function b.tree 0 (length code)
 
+abbrev pub HasFewSlots : BodySite → Type 0
+HasFewSlots b = length (variables_of b) ≤ 256
+
+abbrev pub HasManySlots : BodySite → Type 0
+HasManySlots b = 256 < length (variables_of b)
+
 -- at most 256 slots, and 4,096 cells of its own
 pub record HasRoom (b : BodySite) : Type 0 where
   pub slots : length (variables_of b) ≤ 256

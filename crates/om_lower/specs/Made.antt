@@ -6,7 +6,7 @@ use Rattle.om_code.specs.declared.raw.Line.{Line}
 use Rattle.om_lower.specs.Heights.{AreLow, IsFirst}
 use Rattle.om_lower.specs.Limits.{HasRoom, IsCodeAt, IsOver}
 use Rattle.om_resolved.specs.ResolvedTree.{ResolvedFunctionTree, ResolvedTree}
-use Rattle.om_rows.specs.Bodies.{BodySite, FunctionBody, Numbers, behind_function, behind_functions, first_numbers, function_bodies, next_body}
+use Rattle.om_rows.specs.Bodies.{BodySite, Numbers, behind_function, behind_functions, first_numbers, function_bodies}
 use Rattle.om_rows.specs.Code.{given_of, slots_of}
 
 -- a body of the tree, whatever lists of PICK come behind these
@@ -28,19 +28,24 @@ AreFunctions tree picks n [] (bodies ∷ rest) = ⊥
 AreFunctions tree picks n (f ∷ fs) (bodies ∷ rest) = AreMade tree picks (function_bodies n f) bodies
     × AreFunctions tree picks (behind_function n f) fs rest
 
--- the body of a function that begins with these numbers
-abbrev pub function_site : Numbers → ResolvedFunctionTree → BodySite
-function_site n f = record { function = f; tree = FunctionBody; outer = []; numbers = next_body n }
-
--- its code, if it has at most 65,536 instructions
+-- the code of a body, if it has at most 65,536 instructions
 abbrev pub FitsCode : ResolvedTree → BodySite → Option (List Line) → Type 0
 FitsCode tree b None = (code : List Line) × IsCodeAt tree [] b code × (65536 < length code)
 FitsCode tree b (Some code) = ((more : List (List ℕ)) → IsCodeAt tree more b code) × (length code ≤ 65536)
 
--- the bodies of a function, if none passes a limit
+-- a body, if it passes no limit
+abbrev pub FitsBody : ResolvedTree → BodySite → Option Body → Type 0
+FitsBody tree b None = IsOver tree b
+FitsBody tree b (Some body) = IsMade tree [] b body
+
+-- bodies, if none passes a limit
+abbrev pub FitsBodies : ResolvedTree → List BodySite → Option (List Body) → Type 0
+FitsBodies tree sites None = Any (λ b. IsOver tree b) sites
+FitsBodies tree sites (Some bodies) = AreMade tree [] sites bodies
+
+-- those of a function
 abbrev pub FitsFunction : ResolvedTree → Numbers → ResolvedFunctionTree → Option (List Body) → Type 0
-FitsFunction tree n f None = Any (λ b. IsOver tree b) (function_bodies n f)
-FitsFunction tree n f (Some bodies) = AreMade tree [] (function_bodies n f) bodies
+FitsFunction tree n f made = FitsBodies tree (function_bodies n f) made
 
 -- the first function without bodies passes a limit
 pub record Stops (tree : ResolvedTree) (functions : List (List Body)) : Type 0 where

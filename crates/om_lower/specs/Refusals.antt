@@ -3,14 +3,14 @@ use Rattle.std.specs.Prelude.{◌≡◌, ◌⊎◌, Some}
 use Rattle.om_lexer.specs.declared.fault.FaultCode.TheVariants.{Syntax, TooMany}
 use Rattle.om_lexer.specs.declared.fault.SourceFault.{SourceFault}
 use Rattle.om_lexer.specs.declared.token.Span.{Span}
-use Rattle.om_lower.specs.Directives.{first_directive}
 use Rattle.om_lower.specs.Limits.{IsTooMany}
+use Rattle.om_lower.specs.Sections.{first_sections}
 use Rattle.om_resolved.specs.ResolvedTree.{ResolvedFunctionTree, ResolvedTree}
 
--- S3 at the first directive
+-- S3 at the first `sections`
 pub record IsUnsupported (tree : ResolvedTree) (fault : SourceFault) : Type 0 where
   pub at : Span
-  pub directive : first_directive tree ≡ Some at
+  pub sections : first_sections tree ≡ Some at
   pub is : fault ≡ record { code = Syntax; at = at.start }
 
 -- S11 at the function's name

@@ -2,21 +2,22 @@
 
 ghost use Rattle.std.specs.Prelude.{◌≡◌, ◌≢◌, ◌<◌, [], All, IfErr, IfOk, IfSome, OnOk, None, Some, length};
 ghost use Rattle.om_lexer.specs.Faults.{no_memory};
-ghost use Rattle.om_lower.specs.Directives.{first_directive};
 ghost use Rattle.om_lower.specs.Heights.{AreLevel};
 ghost use Rattle.om_lower.specs.Limits.{AreWithin, IsTooMany};
 ghost use Rattle.om_lower.specs.Made.{IsLowered, IsOverAt};
 ghost use Rattle.om_lower.specs.Refusals.{IsRefusedTree, too_many};
+ghost use Rattle.om_lower.specs.Sections.{first_sections};
+ghost use Rattle.om_resolved.specs.Beside.{TreeAtomicsAssign, TreeCopiesBehind};
 ghost use Rattle.om_resolved.specs.ResolvedView.{view_resolved, view_resolved_function};
 ghost use Rattle.om_resolved.specs.Whole.{IsWholeTree};
 ghost use Rattle.om_rows.specs.Code.{IsCodeOf};
 ghost use Rattle.om_rows.specs.Coded.{TreeHasCode};
 ghost use Rattle.om_tables.specs.Tables.{IsTablesOf};
 
-use crate::directives::first_directive;
 use crate::functions::{Lowered, Whole, lower_functions};
 use crate::heights::first_high;
 use crate::program::program_of;
+use crate::sections::first_sections;
 use om_code::program::Program;
 use om_lexer::{FaultCode, SourceFault};
 use om_resolved::{Resolved, ResolvedFunction};
@@ -28,33 +29,36 @@ use std::alloc::{AllocError, Global};
 ///
 /// Refusals:
 /// - S0 at byte 0: no memory.
-/// - S3 at the first directive of the text: its code is not written yet.
+/// - S3 at the first `sections` of the text: its code is not written yet.
 /// - S11 at a function's name: a body of it has more than 256 slots, more than 4,096 cells of its
 ///   own, more than 65,536 instructions, or more than 256 operands at once. Of several such functions
 ///   the first is named.
 pub fn lower(alloc: Global, resolved: &Resolved) -> Result<Program, SourceFault>
-    requires { IsWholeTree (view_resolved resolved.now) }
+    requires whole { IsWholeTree (view_resolved resolved.now) }
+    requires atomics { TreeAtomicsAssign (view_resolved resolved.now) }
+    requires copies { TreeCopiesBehind (view_resolved resolved.now) }
     ensures code { IfOk result (λ program. IsCodeOf (view_resolved resolved.now) program) }
-    ensures supported { OnOk result (first_directive (view_resolved resolved.now) ≡ None) }
+    ensures supported { OnOk result (first_sections (view_resolved resolved.now) ≡ None) }
     ensures within { OnOk result (AreWithin (view_resolved resolved.now)) }
     ensures refused { let tree = view_resolved resolved.now in
         IfErr result (λ fault. fault ≢ no_memory → IsRefusedTree tree fault) }
 {
-    if let Some(at) = first_directive(resolved) {
+    if let Some(at) = first_sections(resolved) {
         return Err(SourceFault {
             code: FaultCode::Syntax,
             at: at.start,
         });
     }
     whole_has_code();
-    lower_serial(alloc, resolved)
+    lower_tree(alloc, resolved)
 }
 
-/// The program of a tree without directives.
-fn lower_serial(alloc: Global, resolved: &Resolved) -> Result<Program, SourceFault>
+/// The program of a tree without `sections`.
+fn lower_tree(alloc: Global, resolved: &Resolved) -> Result<Program, SourceFault>
     requires whole { IsWholeTree (view_resolved resolved.now) }
     requires has_code { TreeHasCode (view_resolved resolved.now) }
-    requires serial { first_directive (view_resolved resolved.now) ≡ None }
+    requires copies { TreeCopiesBehind (view_resolved resolved.now) }
+    requires plain { first_sections (view_resolved resolved.now) ≡ None }
     ensures code { IfOk result (λ program. IsCodeOf (view_resolved resolved.now) program) }
     ensures within { OnOk result (AreWithin (view_resolved resolved.now)) }
     ensures refused { let tree = view_resolved resolved.now in

@@ -2,9 +2,10 @@
 
 ghost use Rattle.std.specs.Prelude.{◌≡◌, ◌≤◌, ◌<◌, [], All, Any, IfOk, IfSome, IsSome, None, Some, length, map, option_map, position, slice_get, true};
 ghost use Rattle.std.specs.List.{AllZip, flat_map};
-ghost use Rattle.om_lower.specs.Directives.{first_directive};
 ghost use Rattle.om_lower.specs.Heights.{AreLow};
 ghost use Rattle.om_lower.specs.Made.{IsLowered};
+ghost use Rattle.om_lower.specs.Sections.{first_sections};
+ghost use Rattle.om_resolved.specs.Beside.{TreeCopiesBehind};
 ghost use Rattle.om_resolved.specs.Formats.{pieces_of};
 ghost use Rattle.om_resolved.specs.ResolvedView.{view_resolved, view_resolved_function};
 ghost use Rattle.om_resolved.specs.Uses.{is_main_function};
@@ -33,7 +34,8 @@ pub(crate) fn program_of(
     requires tables { IsTablesOf (view_resolved whole.now.resolved.now) whole.now.tables.now }
     requires whole { IsWholeTree (view_resolved whole.now.resolved.now) }
     requires has_code { TreeHasCode (view_resolved whole.now.resolved.now) }
-    requires serial { first_directive (view_resolved whole.now.resolved.now) ≡ None }
+    requires copies { TreeCopiesBehind (view_resolved whole.now.resolved.now) }
+    requires plain { first_sections (view_resolved whole.now.resolved.now) ≡ None }
     requires lowered { IsLowered (view_resolved whole.now.resolved.now) functions.items true }
     requires low { All (λ bodies. AreLow [] bodies) functions.items }
     ensures { IfOk result (λ program. IsCodeOf (view_resolved whole.now.resolved.now) program) }
@@ -47,7 +49,7 @@ pub(crate) fn program_of(
 fn raw_of(whole: &Whole<'_>, functions: Vec<Seq<Body>>) -> Result<Raw, AllocError>
     requires tables { IsTablesOf (view_resolved whole.now.resolved.now) whole.now.tables.now }
     requires has_code { TreeHasCode (view_resolved whole.now.resolved.now) }
-    requires serial { first_directive (view_resolved whole.now.resolved.now) ≡ None }
+    requires plain { first_sections (view_resolved whole.now.resolved.now) ≡ None }
     requires lowered { IsLowered (view_resolved whole.now.resolved.now) functions.items true }
     ensures code { IfOk result (λ raw. IsCodeOf (view_resolved whole.now.resolved.now) raw) }
     ensures bodies { IfOk result (λ raw. raw.bodies ≡ flat_map (λ bodies. bodies) functions.items) }

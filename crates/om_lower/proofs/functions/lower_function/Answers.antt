@@ -1,33 +1,18 @@
-use Rattle.std.proofs.Common.{sym, ap, subst, map, [], ◌∙◌}
-use Rattle.om_lower.specs.Frames.{FitsFrame}
-use Rattle.om_lower.specs.Made.{AreMade, FitsCode, function_site}
-use Rattle.om_resolved.specs.ResolvedView.{view_resolved, view_resolved_function}
-use Rattle.om_rows.specs.Bodies.{function_bodies}
-use Rattle.om_rows.specs.Mentions.{extents_of}
-use Rattle.om_rows.specs.Slots.{parameter_sight, slot_of, slot_with}
+use Rattle.std.proofs.Common.{All, map, sym, subst}
+use Rattle.om_lower.specs.Limits.{HasFewSlots}
+use Rattle.om_lower.specs.Sites.{IsReady, site_of}
+use Rattle.om_lower.proofs.Ready.{function_ready}
+use Rattle.om_resolved.specs.ResolvedView.{view_resolved_function}
 use Rattle.om_tables.specs.Numbering.{numbers_of}
-use Rattle.om_lower.proofs.Coding.{made_body, over_code}
 use Rattle.om_lower.proofs.functions.lower_function.Goals as goal
 
-pub returns-in_default-2 : goal.returns-in_default-2
-returns-in_default-2 c =
-    let tree = view_resolved c.args.whole.now.resolved.now in
+pub lower_bodies-requires-clause-ready : goal.lower_bodies-requires-clause-ready
+lower_bodies-requires-clause-ready c =
     let f = view_resolved_function c.args.function.now in
-    let n = numbers_of c.args.numbers in
-    over_code tree n f c.requires.serial
-    (subst (λ code. FitsCode tree (function_site n f) code) c.in_default-2.is c.in_ok-code.ensures)
-
-pub returns : goal.returns
-returns c =
-    let tree = view_resolved c.args.whole.now.resolved.now in
-    let f = view_resolved_function c.args.function.now in
-    let n = numbers_of c.args.numbers in
-    let variables = c.in_ok-variables.variables in
-    let slots = map (slot_with (extents_of f) [] []) variables in
-    subst (λ bodies. AreMade tree [] (function_bodies n f) bodies) (sym c.in_ok-bodies.ensures)
-    (made_body tree n f variables c.in-Some-2.code c.in-Some.slots c.in_ok-given.given c.requires.serial
-    c.in_ok-variables.ensures
-    (subst (λ frame. FitsFrame variables slots frame) c.in-Some.is c.in_ok-slots.ensures)
-    (subst (λ code. FitsCode tree (function_site n f) code) c.in-Some-2.is c.in_ok-code.ensures)
-    (c.in_ok-given.ensures
-    ∙ ap (λ all. map (slot_of variables) (map parameter_sight all)) c.as_slice.ensures))
+    let extents = c.in_ok-extents.extents in
+    let sites = c.in_ok-sites.sites.items in
+    let few = subst (λ items. All HasFewSlots (map site_of items)) c.as_slice.ensures.value
+    (c.in_ok-have_few_slots.ensures.few c.if-not-branch.false) in
+    subst (λ items. All (IsReady extents) (map site_of items)) (sym c.as_slice-2.ensures.value)
+    (function_ready extents f (numbers_of c.args.numbers) (map site_of sites) c.in_ok-sites.ensures
+    c.in_ok-extents.ensures c.requires.plain few c.requires.has_code)

@@ -1,32 +1,33 @@
-use Rattle.std.proofs.Common.{◌≡◌, Some, map, slice_get, subst}
+use Rattle.std.proofs.Common.{◌≡◌, All, Some, map, slice_get, subst, sym}
 use Rattle.om_lower.specs.Made.{FitsFunction}
 use Rattle.om_resolved.specs.ResolvedView.{view_resolved, view_resolved_function}
-use Rattle.om_rows.specs.Bodies.{first_numbers}
+use Rattle.om_rows.specs.Bodies.{first_numbers, function_bodies}
 use Rattle.om_rows.specs.Coded.{BodyHasCode}
 use Rattle.om_tables.specs.Numbering.{numbers_of}
 use Rattle.om_lower.proofs.Coding.{one_more, stopped}
-use Rattle.om_lower.proofs.FunctionBodies.{function_holds, function_serial}
+use Rattle.om_lower.proofs.FunctionBodies.{function_holds, function_plain}
 use Rattle.om_lower.proofs.Items.{item_at}
 use Rattle.om_lower.proofs.functions.lower_functions.Goals as goal
 
 pub lower_function-requires-clause-has_code : goal.lower_function-requires-clause-has_code
 lower_function-requires-clause-has_code c =
     let tree = view_resolved c.args.whole.now.resolved.now in
-    function_holds (λ b.
-    BodyHasCode b.function b.tree) first_numbers tree.functions c.loop-function.function-index
-    (view_resolved_function c.function-item.result) c.requires.has_code.bodies (
-    subst (λ items. slice_get (map view_resolved_function items) c.loop-function.function-index ≡ Some
-    (view_resolved_function c.function-item.result))
+    let f = view_resolved_function c.function-item.result in
+    subst (λ n. All (λ b. BodyHasCode b.function b.tree) (function_bodies n f))
+    (sym c.loop-function.invariant.2)
+    (function_holds (λ b. BodyHasCode b.function b.tree) first_numbers tree.functions
+    c.loop-function.function-index f c.requires.has_code.bodies (
+    subst (λ items. slice_get (map view_resolved_function items) c.loop-function.function-index ≡ Some f)
     c.as_slice-function-items.ensures.value
     (item_at view_resolved_function c.as_slice-function-items.result.now c.loop-function.function-index
     c.function-item.result
-    c.loop-function-test.true c.function-item.is))
+    c.loop-function-test.true c.function-item.is)))
 
-pub lower_function-requires-clause-serial : goal.lower_function-requires-clause-serial
-lower_function-requires-clause-serial c =
+pub lower_function-requires-clause-plain : goal.lower_function-requires-clause-plain
+lower_function-requires-clause-plain c =
     let tree = view_resolved c.args.whole.now.resolved.now in
-    function_serial tree.functions c.loop-function.function-index
-    (view_resolved_function c.function-item.result) c.requires.serial (
+    function_plain tree.functions c.loop-function.function-index
+    (view_resolved_function c.function-item.result) c.requires.plain (
     subst (λ items. slice_get (map view_resolved_function items) c.loop-function.function-index ≡ Some
     (view_resolved_function c.function-item.result))
     c.as_slice-function-items.ensures.value

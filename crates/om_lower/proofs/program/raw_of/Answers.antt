@@ -5,7 +5,7 @@ use Rattle.om_resolved.specs.ResolvedView.{view_resolved}
 use Rattle.om_rows.specs.Bodies.{bodies_of, first_numbers}
 use Rattle.om_rows.specs.Code.{global_of}
 use Rattle.om_rows.specs.Mentions.{IsTextOf}
-use Rattle.om_lower.proofs.Assembled.{made_bodies, serial_picks, side_by_side_in}
+use Rattle.om_lower.proofs.Assembled.{made_bodies, no_lists, side_by_side_in}
 use Rattle.om_lower.proofs.program.raw_of.Goals as goal
 
 pub returns-clause-code : goal.returns-clause-code
@@ -20,6 +20,6 @@ returns-clause-code c =
       texts = subst (λ formats.
           AllZip IsTextOf formats c.in_ok-texts.texts) c.requires.tables.formats c.in_ok-texts.ensures;
       picks = ap (λ picks. length picks) c.new.ensures
-          ∙ sym (serial_picks tree.functions first_numbers c.requires.serial);
+          ∙ sym (no_lists tree.functions first_numbers c.requires.plain);
       locks = c.in_ok-locks.ensures ∙ c.requires.tables.locks;
     }

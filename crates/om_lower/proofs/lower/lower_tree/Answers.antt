@@ -5,7 +5,7 @@ use Rattle.om_resolved.specs.ResolvedView.{view_resolved, view_resolved_function
 use Rattle.om_lower.proofs.Assembled.{all_within}
 use Rattle.om_lower.proofs.Items.{item_at}
 use Rattle.om_lower.proofs.Refusing.{refused}
-use Rattle.om_lower.proofs.lower.lower_serial.Goals as goal
+use Rattle.om_lower.proofs.lower.lower_tree.Goals as goal
 
 pub returns-in-Some-clause-refused : goal.returns-in-Some-clause-refused
 returns-in-Some-clause-refused c =

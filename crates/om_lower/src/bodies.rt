@@ -1,0 +1,224 @@
+//! The bodies of a function, each within its limits.
+
+ghost use Rattle.std.specs.Prelude.{◌≡◌, ◌≤◌, All, Any, IfOk, false, length, map, true};
+ghost use Rattle.om_bodies.specs.Emitted.{HasLists, HasRow};
+ghost use Rattle.om_lower.specs.Frames.{FitsFrame};
+ghost use Rattle.om_lower.specs.Limits.{HasFewSlots, HasManySlots};
+ghost use Rattle.om_lower.specs.Made.{FitsBodies, FitsBody, FitsCode};
+ghost use Rattle.om_lower.specs.Sites.{IsPlain, IsReady, part_tree, site_of, variables_at};
+ghost use Rattle.om_resolved.specs.ResolvedView.{view_resolved, view_resolved_clause, view_resolved_function, view_resolved_statement};
+ghost use Rattle.om_rows.specs.Bodies.{region_variables, variables_of};
+ghost use Rattle.om_rows.specs.Code.{captures_of, given_of, slots_of};
+ghost use Rattle.om_rows.specs.Coded.{BodyHasCode};
+ghost use Rattle.om_rows.specs.Slots.{slot_of};
+ghost use Rattle.om_rows.specs.Statements.{given_copies};
+ghost use Rattle.om_tables.specs.Scopes.{names_of};
+ghost use Rattle.om_tables.specs.Tables.{IsTablesOf};
+
+use crate::frames::{SLOT_LIMIT, frame_of};
+use crate::functions::{INSTRUCTION_LIMIT, Whole, is_main};
+use crate::sites::{BodyPart, Site};
+use om_bodies::bodies::{function_body, parallel_body, task_body};
+use om_bodies::emitted::Emitted;
+use om_bodies::region::Region;
+use om_code::raw::{Body, Line, Slot};
+use om_resolved::{Capture, ResolvedFunction};
+use om_seq::Seq;
+use om_tables::{
+    Extents, Scope, Variables, copy_slots, function_variables, given_copies_in, parameter_slots,
+    region_variables,
+};
+use std::alloc::{AllocError, Global};
+
+/// Whether none of these bodies has more than 256 slots.
+pub(crate) fn have_few_slots(alloc: Global, sites: &[Site<'_>]) -> Result<bool, AllocError>
+    ensures few { IfOk result (λ few. few ≡ true → All HasFewSlots (map site_of sites.now)) }
+    ensures many { IfOk result (λ few.
+        few ≡ false → Any HasManySlots (map site_of sites.now)) }
+{
+    for site in sites {
+        let variables = variables_in(alloc, site.function, &site.part)?;
+        if variables.len() > SLOT_LIMIT {
+            return Ok(false);
+        }
+    }
+    Ok(true)
+}
+
+/// These bodies of a function; `None` where one passes a limit on cells or instructions.
+pub(crate) fn lower_bodies(
+    whole: &Whole<'_>,
+    extents: &Extents,
+    sites: &[Site<'_>],
+) -> Result<Option<Seq<Body>>, AllocError>
+    requires tables { IsTablesOf (view_resolved whole.now.resolved.now) whole.now.tables.now }
+    requires ready { All (IsReady extents.now) (map site_of sites.now) }
+    ensures { let tree = view_resolved whole.now.resolved.now in
+        IfOk result (λ made. FitsBodies tree (map site_of sites.now) made) }
+{
+    let mut bodies = Vec::new(whole.alloc);
+    for site in sites {
+        let Some(body) = lower_body(whole, extents, site)? else {
+            return Ok(None);
+        };
+        bodies.push(body)?;
+    }
+    Ok(Some(Seq::of(bodies)))
+}
+
+/// A body; `None` where it passes a limit on cells or instructions.
+fn lower_body(
+    whole: &Whole<'_>,
+    extents: &Extents,
+    site: &Site<'_>,
+) -> Result<Option<Body>, AllocError>
+    requires tables { IsTablesOf (view_resolved whole.now.resolved.now) whole.now.tables.now }
+    requires ready { IsReady extents.now (site_of site.now) }
+    ensures { let tree = view_resolved whole.now.resolved.now in
+        IfOk result (λ made. FitsBody tree (site_of site.now) made) }
+{
+    let variables = variables_in(whole.alloc, site.function, &site.part)?;
+    let Some(slots) = frame_in(whole.alloc, extents, site, &variables)? else {
+        return Ok(None);
+    };
+    let Some(code) = code_in(whole, site, &variables)? else {
+        return Ok(None);
+    };
+    let given = given_in(whole.alloc, site, &variables)?;
+    Ok(Some(Body { code, slots, given }))
+}
+
+/// The variables of a body, by their slots.
+fn variables_in(
+    alloc: Global,
+    function: &ResolvedFunction,
+    part: &BodyPart<'_>,
+) -> Result<Variables, AllocError>
+    ensures { let f = view_resolved_function function.now in
+        IfOk result (λ made. made ≡ variables_at f part.now) }
+{
+    match part {
+        BodyPart::Function => function_variables(alloc, function),
+        BodyPart::Parallel(region) => region_variables(alloc, region.clauses, region.statement),
+        BodyPart::Task(region) => region_variables(alloc, region.clauses, region.statement),
+    }
+}
+
+/// The variables of the body round another, if there is one.
+fn variables_round(alloc: Global, site: &Site<'_>) -> Result<Variables, AllocError>
+    ensures { IfOk result (λ made. made ≡ (site_of site.now).outer) }
+{
+    match &site.outer {
+        None => Ok(Variables::new(alloc)),
+        Some(part) => variables_in(alloc, site.function, part),
+    }
+}
+
+/// What a body takes from the body round it.
+fn captures_in<'a>(part: &BodyPart<'a>) -> &'a [Capture]
+    ensures { result.now ≡ captures_of (part_tree part.now) }
+{
+    match part {
+        BodyPart::Function => &[],
+        BodyPart::Parallel(region) => region.captures,
+        BodyPart::Task(region) => region.captures,
+    }
+}
+
+/// The slots of a body; `None` where it passes a limit.
+fn frame_in(
+    alloc: Global,
+    extents: &Extents,
+    site: &Site<'_>,
+    variables: &Variables,
+) -> Result<Option<Seq<Slot>>, AllocError>
+    requires ready { IsReady extents.now (site_of site.now) }
+    requires variables { variables.now ≡ variables_of (site_of site.now) }
+    ensures { let b = site_of site.now in
+        IfOk result (λ frame. FitsFrame (variables_of b) (slots_of b) frame) }
+{
+    let outer = variables_round(alloc, site)?;
+    let frame = frame_of(alloc, extents, &outer, captures_in(&site.part), variables)?;
+    Ok(frame)
+}
+
+/// The code of a body; `None` where it has too many instructions.
+fn code_in(
+    whole: &Whole<'_>,
+    site: &Site<'_>,
+    variables: &Variables,
+) -> Result<Option<Seq<Line>>, AllocError>
+    requires tables { IsTablesOf (view_resolved whole.now.resolved.now) whole.now.tables.now }
+    requires code { BodyHasCode (site_of site.now).function (site_of site.now).tree }
+    requires plain { IsPlain (site_of site.now) }
+    requires few { HasFewSlots (site_of site.now) }
+    requires variables { variables.now ≡ variables_of (site_of site.now) }
+    ensures { let tree = view_resolved whole.now.resolved.now in
+        IfOk result (λ code. FitsCode tree (site_of site.now) code) }
+{
+    let is_main = is_main(site.function);
+    let scope = Scope::new(whole.resolved, whole.tables, variables, is_main);
+    let emitted = emitted_in(whole.alloc, &scope, site)?;
+    let Emitted { code, .. } = emitted;
+    if code.len() > INSTRUCTION_LIMIT {
+        return Ok(None);
+    }
+    Ok(Some(code))
+}
+
+/// The code of a body, of whatever length.
+fn emitted_in(alloc: Global, scope: &Scope<'_>, site: &Site<'_>) -> Result<Emitted, AllocError>
+    requires code { BodyHasCode (site_of site.now).function (site_of site.now).tree }
+    requires plain { IsPlain (site_of site.now) }
+    ensures row { let b = site_of site.now in
+        IfOk result (HasRow (names_of scope.now) b.numbers b.function b.tree) }
+    ensures lists { let b = site_of site.now in
+        IfOk result (HasLists b.numbers b.function b.tree) }
+{
+    match &site.part {
+        BodyPart::Function => function_body(alloc, scope, site.numbers, site.function),
+        BodyPart::Parallel(region) => {
+            let made = parallel_body(alloc, scope, site.numbers, region)?;
+            Ok(made)
+        }
+        BodyPart::Task(region) => {
+            let made = task_body(alloc, scope, site.numbers, region)?;
+            Ok(made)
+        }
+    }
+}
+
+/// The slots that the values go to with which a frame of a body begins.
+fn given_in(alloc: Global, site: &Site<'_>, variables: &Variables) -> Result<Seq<u32>, AllocError>
+    requires few { HasFewSlots (site_of site.now) }
+    requires variables { variables.now ≡ variables_of (site_of site.now) }
+    ensures { IfOk result (λ slots. slots ≡ given_of (site_of site.now)) }
+{
+    match &site.part {
+        BodyPart::Function => {
+            parameter_slots(alloc, variables, site.function.parameters.as_slice())
+        }
+        BodyPart::Parallel(region) => copies_given(alloc, region, variables),
+        BodyPart::Task(region) => copies_given(alloc, region, variables),
+    }
+}
+
+/// The slots of the firstprivate copies of a region.
+fn copies_given(
+    alloc: Global,
+    region: &Region<'_>,
+    variables: &Variables,
+) -> Result<Seq<u32>, AllocError>
+    requires few { length variables.now ≤ 256 }
+    requires variables { let clauses = map view_resolved_clause region.now.clauses.now in
+        let statement = view_resolved_statement region.now.statement.now in
+        variables.now ≡ region_variables clauses statement }
+    ensures { let clauses = map view_resolved_clause region.now.clauses.now in
+        let statement = view_resolved_statement region.now.statement.now in
+        let copies = given_copies clauses region.now.captures.now statement in
+        IfOk result (λ slots. slots
+        ≡ map (slot_of variables.now) (map (λ copy. copy.variable) copies)) }
+{
+    let copies = given_copies_in(alloc, region.clauses, region.captures, variables)?;
+    copy_slots(alloc, variables, copies.as_slice())
+}

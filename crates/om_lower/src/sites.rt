@@ -1,0 +1,208 @@
+//! The bodies of a function: its own, and those of the regions in it.
+
+ghost use Rattle.std.specs.Prelude.{◌≡◌, ◌∷◌, ◌++◌, [], OnOk, IfOk, map};
+ghost use Rattle.om_lower.specs.Sites.{part_tree, site_of, variables_at};
+ghost use Rattle.om_resolved.specs.ResolvedTree as trees;
+ghost use Rattle.om_resolved.specs.ResolvedView.{view_resolved_function, view_resolved_part, view_resolved_statement};
+ghost use Rattle.om_rows.specs.Bodies as bodies;
+ghost use Rattle.om_tables.specs.Numbering.{numbers_of};
+
+use om_bodies::region::Region;
+use om_resolved::{ResolvedFunction, ResolvedPart, ResolvedStatement};
+use om_tables::Numbers;
+use std::alloc::{AllocError, Global};
+
+/// What a body is the code of: the whole of its function, or a region.
+#[derive(Clone, Copy)]
+pub(crate) enum BodyPart<'a> {
+    Function,
+    Parallel(Region<'a>),
+    Task(Region<'a>),
+}
+
+/// A body of a function, the body round it, if there is one, and the numbers at its begin.
+#[derive(Clone, Copy)]
+pub(crate) struct Site<'a> {
+    pub(crate) function: &'a ResolvedFunction,
+    pub(crate) part: BodyPart<'a>,
+    pub(crate) outer: Option<BodyPart<'a>>,
+    pub(crate) numbers: Numbers,
+}
+
+/// A body in which regions are looked for.
+#[derive(Clone, Copy)]
+struct Round<'a> {
+    function: &'a ResolvedFunction,
+    part: BodyPart<'a>,
+}
+
+/// The bodies of a function, in the order of the text.
+pub(crate) fn sites_of<'a>(
+    alloc: Global,
+    function: &'a ResolvedFunction,
+    numbers: Numbers,
+) -> Result<Vec<Site<'a>>, AllocError>
+    ensures { let tree = view_resolved_function function.now in
+        IfOk result (λ sites.
+        map site_of sites.items ≡ bodies.function_bodies (numbers_of numbers) tree) }
+{
+    let mut sites = Vec::new(alloc);
+    let inner = numbers.next_body()?;
+    sites.push(Site {
+        function,
+        part: BodyPart::Function,
+        outer: None,
+        numbers: inner,
+    })?;
+    let round = Round {
+        function,
+        part: BodyPart::Function,
+    };
+    see_statements(&mut sites, &round, inner, function.body.as_slice())?;
+    Ok(sites)
+}
+
+/// Adds the body of a region, and answers the numbers at its begin.
+fn add_region<'a>(
+    sites: &mut Vec<Site<'a>>,
+    round: &Round<'a>,
+    numbers: Numbers,
+    part: &BodyPart<'a>,
+) -> Result<Numbers, AllocError>
+    ensures behind { IfOk result (λ inner. numbers_of inner ≡ bodies.next_body (numbers_of numbers)) }
+    ensures sites { let f = view_resolved_function round.now.function.now in
+        OnOk result (map site_of sites.new.items
+        ≡ map site_of sites.old.items ++ record {
+          function = f;
+          tree = part_tree part.now;
+          outer = variables_at f round.now.part;
+          numbers = bodies.next_body (numbers_of numbers);
+        } ∷ []) }
+{
+    let inner = numbers.next_body()?;
+    sites.push(Site {
+        function: round.function,
+        part: *part,
+        outer: Some(round.part),
+        numbers: inner,
+    })?;
+    Ok(inner)
+}
+
+#[tactic(auto, unfolding(om_rows::specs::Bodies::regions))]
+/// Adds the bodies of the regions in a statement, and answers the numbers behind it.
+#[cycle(statement)]
+fn see_statement<'a>(
+    sites: &mut Vec<Site<'a>>,
+    round: &Round<'a>,
+    numbers: Numbers,
+    statement: &'a ResolvedStatement,
+) -> Result<Numbers, AllocError>
+    ensures behind { let tree = view_resolved_statement statement.now in
+        IfOk result (λ behind. numbers_of behind ≡ bodies.behind (numbers_of numbers) tree) }
+    ensures sites { let tree = view_resolved_statement statement.now in
+        let f = view_resolved_function round.now.function.now in
+        OnOk result (map site_of sites.new.items ≡ map site_of sites.old.items
+        ++ bodies.regions f (variables_at f round.now.part) (numbers_of numbers) tree) }
+{
+    match statement {
+        ResolvedStatement::Declaration(_, _) => Ok(numbers),
+        ResolvedStatement::Block(_, items) => {
+            see_statements(sites, round, numbers, items.as_slice())
+        }
+        ResolvedStatement::Empty(_) => Ok(numbers),
+        ResolvedStatement::Expression(_, _) => Ok(numbers),
+        ResolvedStatement::If(_, _, then) => see_statement(sites, round, numbers, then),
+        ResolvedStatement::IfElse(_, _, then, other) => {
+            let between = see_statement(sites, round, numbers, then)?;
+            see_statement(sites, round, between, other)
+        }
+        ResolvedStatement::While(_, _, body) => see_statement(sites, round, numbers, body),
+        ResolvedStatement::Do(_, body, _) => see_statement(sites, round, numbers, body),
+        ResolvedStatement::For(_, _, _, _, body) => see_statement(sites, round, numbers, body),
+        ResolvedStatement::Return(_, _) => Ok(numbers),
+        ResolvedStatement::Break(_) => Ok(numbers),
+        ResolvedStatement::Continue(_) => Ok(numbers),
+        ResolvedStatement::Parallel(at, clauses, captures, body) => {
+            let part = BodyPart::Parallel(Region {
+                at: *at,
+                clauses: clauses.as_slice(),
+                captures: captures.as_slice(),
+                statement: body,
+            });
+            let inner = add_region(sites, round, numbers, &part)?;
+            let within = Round {
+                function: round.function,
+                part,
+            };
+            see_statement(sites, &within, inner, body)
+        }
+        ResolvedStatement::Task(at, clauses, captures, body) => {
+            let part = BodyPart::Task(Region {
+                at: *at,
+                clauses: clauses.as_slice(),
+                captures: captures.as_slice(),
+                statement: body,
+            });
+            let inner = add_region(sites, round, numbers, &part)?;
+            let within = Round {
+                function: round.function,
+                part,
+            };
+            see_statement(sites, &within, inner, body)
+        }
+        ResolvedStatement::Loop(_, _, _, _, body) => see_statement(sites, round, numbers, body),
+        ResolvedStatement::Sections(_, _, _, parts) => {
+            see_parts(sites, round, numbers.next_pick()?, parts.as_slice())
+        }
+        ResolvedStatement::Construct(_, _, _, body) => see_statement(sites, round, numbers, body),
+        ResolvedStatement::Update(_, _) => Ok(numbers),
+        ResolvedStatement::StandAlone(_, _) => Ok(numbers),
+    }
+}
+
+#[tactic(auto, unfolding(om_rows::specs::Bodies::all_regions))]
+/// Adds the bodies of the regions in statements, and answers the numbers behind them.
+#[cycle(statement)]
+fn see_statements<'a>(
+    sites: &mut Vec<Site<'a>>,
+    round: &Round<'a>,
+    numbers: Numbers,
+    items: &'a [ResolvedStatement],
+) -> Result<Numbers, AllocError>
+    ensures behind { let tree = trees.statements (map view_resolved_statement items.now) in
+        IfOk result (λ behind. numbers_of behind ≡ bodies.behind_all (numbers_of numbers) tree) }
+    ensures sites { let tree = trees.statements (map view_resolved_statement items.now) in
+        let f = view_resolved_function round.now.function.now in
+        OnOk result (map site_of sites.new.items ≡ map site_of sites.old.items
+        ++ bodies.all_regions f (variables_at f round.now.part) (numbers_of numbers) tree) }
+{
+    let mut behind = numbers;
+    for item in items {
+        behind = see_statement(sites, round, behind, item)?;
+    }
+    Ok(behind)
+}
+
+#[tactic(auto, unfolding(om_rows::specs::Bodies::parts_regions))]
+/// Adds the bodies of the regions in the parts of `sections`, and answers the numbers behind them.
+#[cycle(statement)]
+fn see_parts<'a>(
+    sites: &mut Vec<Site<'a>>,
+    round: &Round<'a>,
+    numbers: Numbers,
+    parts: &'a [ResolvedPart],
+) -> Result<Numbers, AllocError>
+    ensures behind { let tree = trees.parts (map view_resolved_part parts.now) in
+        IfOk result (λ behind. numbers_of behind ≡ bodies.behind_parts (numbers_of numbers) tree) }
+    ensures sites { let tree = trees.parts (map view_resolved_part parts.now) in
+        let f = view_resolved_function round.now.function.now in
+        OnOk result (map site_of sites.new.items ≡ map site_of sites.old.items
+        ++ bodies.parts_regions f (variables_at f round.now.part) (numbers_of numbers) tree) }
+{
+    let mut behind = numbers;
+    for part in parts {
+        behind = see_statements(sites, round, behind, part.items.as_slice())?;
+    }
+    Ok(behind)
+}
