@@ -2,13 +2,14 @@
 
 ghost use Rattle.std.specs.Prelude.{◌≡◌, ◌++◌, OnOk};
 ghost use Rattle.om_replies.specs.Objects.{variable_text};
-ghost use Rattle.om_replies.specs.Values.{cell_text, print_text};
+ghost use Rattle.om_replies.specs.Values.{cell_text, local_text, print_text, written_index};
 
 use crate::number::push_number;
 use crate::object::push_variable;
 use om_cells::Val;
 use om_code::frame::Cell;
 use om_code::program::Program;
+use om_command::Variable;
 use om_foot::Obj;
 use std::alloc::AllocError;
 
@@ -53,6 +54,29 @@ pub fn push_print(
     ensures { OnOk result (text.new.items ≡ text.old.items ++ print_text program.now cell value.now) }
 {
     push_variable(text, program, cell)?;
+    text.extend_from_slice(b" = ")?;
+    push_cell(text, value.cell())?;
+    text.extend_from_slice(b"\n")
+}
+
+// The index that a command writes, if it writes one.
+fn push_written_index(text: &mut Vec<u8>, index: Option<u64>) -> Result<(), AllocError>
+    ensures { OnOk result (text.new.items ≡ text.old.items ++ written_index index) }
+{
+    let Some(index) = index else {
+        return Ok(());
+    };
+    text.extend_from_slice(b"[")?;
+    push_number(text, index)?;
+    text.extend_from_slice(b"]")
+}
+
+/// Appends the value of the variable that a worker sees by a name: `i = 3`, `a[2] = unset`.
+pub fn push_local(text: &mut Vec<u8>, variable: &Variable, value: &Val) -> Result<(), AllocError>
+    ensures { OnOk result (text.new.items ≡ text.old.items ++ local_text variable.now value.now) }
+{
+    text.extend_from_slice(variable.name.as_slice())?;
+    push_written_index(text, variable.index)?;
     text.extend_from_slice(b" = ")?;
     push_cell(text, value.cell())?;
     text.extend_from_slice(b"\n")

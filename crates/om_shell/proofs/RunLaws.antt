@@ -2,8 +2,8 @@
 use Rattle.std.proofs.Common.{◌≡◌, ◌≢◌, ◌⊎◌, inl, inr, ℕ, List, [], ◌++◌, Option, None, Some, IfSome, take, drop, refl, sym, ap, subst, ◌∙◌, append_assoc, append-nil, take-append-drop, Result, Ok, Err, IfErr}
 use Rattle.std.specs.Io.KnownBytes.{Appends, Consumes, IsAtEnd}
 use Rattle.std.proofs.KnownBytes.{Appends-nil, Consumes-trans}
-use Rattle.om_code.specs.declared.raw.Raw.{Raw}
 use Rattle.om_lexer.specs.declared.fault.SourceFault.{SourceFault}
+use Rattle.om_view.specs.declared.debuggee.Debuggee.{Debuggee}
 use Rattle.om_view.specs.declared.debugger.Debugger.{Debugger}
 use Rattle.om_shell.specs.declared.fault.ShellFault.{ShellFault}
 use Rattle.om_shell.specs.declared.fault.ShellFault.TheVariants.{Read, Memory}
@@ -18,7 +18,7 @@ use Rattle.om_shell.specs.Verdict.{IsVerdict}
 use Rattle.om_shell.proofs.Advances.{Done_then, Breaks_then}
 
 -- reading a source up to behind the mark's line
-abbrev pub Marked_advance : (ra rb w : Option (List ℕ)) (pending source rest : List ℕ) (at after workers : ℕ) (verdict : Result Raw SourceFault) → Consumes ra rb pending → IsMarked pending at after
+abbrev pub Marked_advance : (ra rb w : Option (List ℕ)) (pending source rest : List ℕ) (at after workers : ℕ) (verdict : Result Debuggee SourceFault) → Consumes ra rb pending → IsMarked pending at after
     → source ≡ take at pending → rest ≡ drop after pending → Advance ra rb w w [] rest (script_by verdict workers None) (due_for verdict workers source)
 Marked_advance ra rb w pending source rest at after workers verdict read p e d = record {
   taken = pending;
@@ -110,7 +110,7 @@ Breaks_reading ra rb w workers fault p = record {
 }
 
 -- a part of a script that has a verdict
-begun : (ra rb wa wb : Option (List ℕ)) (workers : ℕ) (given : Option (List ℕ)) (fault : ShellFault) (verdict : Result Raw SourceFault)
+begun : (ra rb wa wb : Option (List ℕ)) (workers : ℕ) (given : Option (List ℕ)) (fault : ShellFault) (verdict : Result Debuggee SourceFault)
     → (part : BreaksOff ra rb wa wb [] (script_by verdict workers given) fault) → IsVerdict (source_of given part.taken) verdict → BreaksOffRun ra rb wa wb workers given fault
 begun ra rb wa wb workers given fault verdict part judged = record {
   taken = part.taken;
@@ -158,7 +158,7 @@ pub Breaks_unmarked : (ra rb wa wb : Option (List ℕ)) (pending source : List �
     → source ≡ take at pending → BreaksOffAlone wa wb workers source fault → BreaksOffRun ra rb wa wb workers None fault
 Breaks_unmarked ra rb wa wb pending source at workers fault read p e q = alone ra rb wa wb pending source at workers fault read p e q.no_read q.part
 
-whole_of : (wa wb : Option (List ℕ)) (workers : ℕ) (given : Option (List ℕ)) (input taken rest : List ℕ) (verdict : Result Raw SourceFault) → input ≡ taken ++ rest → IsVerdict (source_of given taken) verdict
+whole_of : (wa wb : Option (List ℕ)) (workers : ℕ) (given : Option (List ℕ)) (input taken rest : List ℕ) (verdict : Result Debuggee SourceFault) → input ≡ taken ++ rest → IsVerdict (source_of given taken) verdict
     → Appends wa wb (script_by verdict workers given taken).text → source_of given (taken ++ rest) ≡ source_of given taken → script_by verdict workers given (taken ++ rest) ≡ script_by verdict workers given taken
     → WritesScript wa wb workers given input
 whole_of wa wb workers given input taken rest verdict e judged wrote same_source same_script = record {

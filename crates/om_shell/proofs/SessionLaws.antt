@@ -1,5 +1,5 @@
 -- A session, a line at a time.
-use Rattle.std.proofs.Common.{◌≡◌, ◌≢◌, ℕ, ◌+◌, ◌<◌, ◌≤◌, Bool, true, false, cond, nat_eq, List, [], ◌∷◌, ◌++◌, ◌==◌, Option, None, Some, length, take, drop, refl, sym, ap, subst, ◌∙◌, arith, inl, inr, append_assoc, append-nil, take-add, length-drop, take-append-drop}
+use Rattle.std.proofs.Common.{◌≡◌, ◌≢◌, ℕ, ◌+◌, ◌<◌, ◌≤◌, Bool, true, false, cond, nat_eq, List, [], ◌∷◌, ◌++◌, ◌==◌, Option, Some, length, take, drop, refl, sym, ap, ◌∙◌, arith, inl, inr, append_assoc, append-nil, take-add, length-drop, take-append-drop}
 use Rattle.std.proofs.lemmas.Bool.Decides.{nat_tests}
 use Rattle.std.specs.List.{position_or_len}
 use Rattle.std.specs.Str.Lines.{lines, lines_of_parts, strip_carriage_return}
@@ -14,7 +14,7 @@ use Rattle.om_shell.specs.Lines.{HasNoLineEnd}
 use Rattle.om_shell.specs.Transcript.{Transcript, after_text}
 use Rattle.om_shell.specs.Progress.{IsBeginning, AppendsPart, AreWholeLines}
 use Rattle.om_shell.specs.Batch.{Answers, AnswersPart}
-use Rattle.om_shell.specs.Sessions.{over, after_answer, session, due, due_behind}
+use Rattle.om_shell.specs.Sessions.{over, session, due, due_behind}
 use Rattle.om_shell.proofs.Advances.{after_text-append}
 use Rattle.om_shell.proofs.LineLaws.{lines_first, only_part}
 use Rattle.om_shell.proofs.SourceLaws.{line_with_end}

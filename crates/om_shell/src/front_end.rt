@@ -1,20 +1,22 @@
-//! From a source to its program: lexer, parser, names, code.
-ghost use Rattle.std.specs.Prelude.{◌≢◌, IfOk, IfErr};
+//! From a source to its program and its names: lexer, parser, names, code.
+ghost use Rattle.std.specs.Prelude.{◌≡◌, ◌≢◌, IfOk, IfErr};
 ghost use Rattle.om_lexer.specs.Faults.{no_memory};
 ghost use Rattle.om_tree.specs.View.{view_unit};
 ghost use Rattle.om_resolved.specs.ResolvedView.{view_resolved};
 ghost use Rattle.om_resolved.specs.Beside.{TreeAtomicsAssign, TreeCopiesBehind};
 ghost use Rattle.om_resolved.specs.Whole.{IsWholeTree};
-ghost use Rattle.om_shell.specs.Verdict.{IsTreeOfSource, IsResolutionOfSource, IsProgramOf, IsRefused};
+ghost use Rattle.om_visible.specs.Scopes.{tree_names};
+ghost use Rattle.om_shell.specs.Verdict.{IsTreeOfSource, IsResolutionOfSource, IsDebuggeeOf, IsRefused};
 
-use om_code::program::Program;
-use om_lexer::{SourceFault, lex};
+use om_lexer::{FaultCode, SourceFault, lex};
 use om_lower::lower::lower;
 use om_parser::parse;
 use om_places::laws::sources_have_copies_behind;
 use om_resolved::Resolved;
 use om_scope::resolve;
 use om_tree::Unit;
+use om_view::Debuggee;
+use om_visible::{Names, names_of};
 use std::alloc::Global;
 
 // The tree of a source.
@@ -39,14 +41,27 @@ fn resolution_of(alloc: Global, source: &[u8]) -> Result<Resolved, SourceFault>
     resolve(alloc, unit)
 }
 
-/// The program of a source.
+// The names of a program.
+fn names_in(alloc: Global, resolved: &Resolved) -> Result<Names, SourceFault>
+    ensures names { IfOk result (λ names. names ≡ tree_names (view_resolved resolved.now)) }
+    ensures memory { IfErr result (λ fault. fault ≡ no_memory) }
+{
+    names_of(alloc, resolved).map_err(|_| SourceFault {
+        code: FaultCode::Memory,
+        at: 0,
+    })
+}
+
+/// The program of a source, and its names.
 ///
 /// The passes run in turn, and the first that refuses answers; nothing is kept then. Out of memory is S0 in any of
 /// them.
-pub(crate) fn program_of(alloc: Global, source: &[u8]) -> Result<Program, SourceFault>
-    ensures program { IfOk result (λ program. IsProgramOf source.now program) }
+pub(crate) fn debuggee_of(alloc: Global, source: &[u8]) -> Result<Debuggee, SourceFault>
+    ensures debuggee { IfOk result (λ debuggee. IsDebuggeeOf source.now debuggee) }
     ensures refused { IfErr result (λ fault. fault ≢ no_memory → IsRefused source.now fault) }
 {
     let resolved = resolution_of(alloc, source)?;
-    lower(alloc, &resolved)
+    let program = lower(alloc, &resolved)?;
+    let names = names_in(alloc, &resolved)?;
+    Ok(Debuggee { program, names })
 }

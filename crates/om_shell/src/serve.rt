@@ -11,13 +11,13 @@ ghost use Rattle.om_shell.specs.Serving.{Serves, BreaksOffServing, ServesAlone, 
 use crate::conversation::converse;
 use crate::ended::Ended;
 use crate::fault::ShellFault;
-use crate::front_end::program_of;
+use crate::front_end::debuggee_of;
 use crate::input::Input;
 use crate::output::send;
 use crate::refusal::push_refusal;
 use crate::session::Session;
-use om_code::program::Program;
 use om_lexer::{FaultCode, SourceFault};
+use om_view::Debuggee;
 use std::alloc::Global;
 use std::io::{Read, Write};
 
@@ -40,7 +40,7 @@ fn tell<W: Write>(
 fn answer_commands<R: Read, W: Write>(
     alloc: Global,
     workers: u8,
-    program: Program,
+    debuggee: Debuggee,
     input: &mut Input,
     reader: &mut R,
     writer: &mut W,
@@ -49,11 +49,11 @@ fn answer_commands<R: Read, W: Write>(
     requires at_most_32 { workers ≤ 32 }
     ensures status { IfOk result (λ ended. ended.status ≡ 0) }
     ensures done { IfOk result (λ ended. IsDone (R.remaining reader.old) (R.remaining reader.new) (W.contents writer.old) (W.contents writer.new)
-        input.old.pending.items (due (opened program workers)) ended.debugger) }
+        input.old.pending.items (due (opened debuggee workers)) ended.debugger) }
     ensures broken_off { IfErr result (BreaksOff (R.remaining reader.old) (R.remaining reader.new) (W.contents writer.old) (W.contents writer.new)
-        input.old.pending.items (due (opened program workers))) }
+        input.old.pending.items (due (opened debuggee workers))) }
 {
-    let mut session = Session::new(alloc, program, workers).map_err(|_| ShellFault::Memory)?;
+    let mut session = Session::new(alloc, debuggee, workers).map_err(|_| ShellFault::Memory)?;
     converse(alloc, &mut session, input, reader, writer)?;
     Ok(Ended::accepted(session.into_debugger()))
 }
@@ -76,8 +76,8 @@ pub(crate) fn serve<R: Read, W: Write>(
     ensures broken_off { IfErr result (BreaksOffServing (R.remaining reader.old) (R.remaining reader.new) (W.contents writer.old) (W.contents writer.new)
         input.old.pending.items workers source.now) }
 {
-    match program_of(alloc, source) {
-        Ok(program) => answer_commands(alloc, workers, program, input, reader, writer),
+    match debuggee_of(alloc, source) {
+        Ok(debuggee) => answer_commands(alloc, workers, debuggee, input, reader, writer),
         Err(fault) => {
             if fault.code == FaultCode::Memory {
                 return Err(ShellFault::Memory);
@@ -100,9 +100,9 @@ pub(crate) fn serve_alone<W: Write>(
     ensures served { IfOk result (λ ended. ServesAlone (W.contents writer.old) (W.contents writer.new) workers source.now ended.status ended.debugger) }
     ensures broken_off { IfErr result (BreaksOffAlone (W.contents writer.old) (W.contents writer.new) workers source.now) }
 {
-    match program_of(alloc, source) {
-        Ok(program) => {
-            let session = Session::new(alloc, program, workers).map_err(|_| ShellFault::Memory)?;
+    match debuggee_of(alloc, source) {
+        Ok(debuggee) => {
+            let session = Session::new(alloc, debuggee, workers).map_err(|_| ShellFault::Memory)?;
             Ok(Ended::accepted(session.into_debugger()))
         }
         Err(fault) => {

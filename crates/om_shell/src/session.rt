@@ -6,8 +6,7 @@ ghost use Rattle.om_view.specs.Views.{answered, opened};
 
 use crate::fault::ShellFault;
 use crate::output::send;
-use om_code::program::Program;
-use om_view::Debugger;
+use om_view::{Debuggee, Debugger};
 use std::alloc::{AllocError, Global};
 use std::io::Write;
 
@@ -20,13 +19,13 @@ pub(crate) struct Session {
 
 impl Session {
     /// A session at the start of a program.
-    pub(crate) fn new(alloc: Global, program: Program, workers: u8) -> Result<Session, AllocError>
+    pub(crate) fn new(alloc: Global, debuggee: Debuggee, workers: u8) -> Result<Session, AllocError>
         requires at_least_one { 0 < workers }
         requires at_most_32 { workers ≤ 32 }
-        ensures { IfOk result (λ session. session.debugger ≡ opened program workers) }
+        ensures { IfOk result (λ session. session.debugger ≡ opened debuggee workers) }
     {
         Ok(Session {
-            debugger: Debugger::new(alloc, program, workers)?,
+            debugger: Debugger::new(alloc, debuggee, workers)?,
             text: Vec::new(alloc),
         })
     }

@@ -1,6 +1,7 @@
 pub mod Recorded
 pub mod Ready
 pub mod Variables
+pub mod Locals
 pub mod Said
 pub mod Looks
 pub mod Moves

@@ -1,14 +1,16 @@
 -- The commands that look and change nothing.
 use Rattle.std.specs.Prelude.{ℕ, List, [], ◌∷◌}
+use Rattle.om_foot.specs.declared.object.Obj.{Obj}
 use Rattle.om_foot.specs.declared.object.Obj.TheVariants as object
 use Rattle.om_cells.specs.declared.value.Task as tasks
 use Rattle.om_cells.specs.declared.value.Task.TheVariants as task
 use Rattle.om_cells.specs.State.{State}
 use Rattle.om_cells.specs.Values.{bytes_in, control_in, records_in, task_in}
+use Rattle.om_command.specs.declared.command.Variable.{Variable}
 use Rattle.om_replies.specs.declared.value.GlobalCell.{GlobalCell}
 use Rattle.om_replies.specs.Lists.{history_text, events_text, output_text, task_text, no_tasks_text, joined}
 use Rattle.om_replies.specs.Places.{where_text}
-use Rattle.om_replies.specs.Values.{print_text}
+use Rattle.om_replies.specs.Values.{local_text, print_text}
 use Rattle.om_task.specs.Rules.{line_in}
 use Rattle.om_undo.specs.Machines.{MachineView, state_in}
 use Rattle.om_view.specs.Ready.{ready_names}
@@ -22,6 +24,10 @@ looked r text = unless_full r (record { text = text; recorded = after_look r })
 -- `print VAR`
 abbrev pub print_said : GlobalCell → Recorded → Said
 print_said cell r = looked r (print_text r.machine.program cell (state_in r.machine (object.Global cell.variable cell.index)))
+
+-- `print W VAR`, where the worker sees a cell
+abbrev pub local_said : Variable → Obj → Recorded → Said
+local_said variable cell r = looked r (local_text variable (state_in r.machine cell))
 
 -- the line of a worker's next instruction
 abbrev pub line_at : MachineView → ℕ → ℕ

@@ -1,5 +1,5 @@
 -- The cell of a global variable that a command names.
-use Rattle.std.specs.Prelude.{ℕ, nat_lt, List, if◌then◌else◌, Option, None, Some, option_and_then, position}
+use Rattle.std.specs.Prelude.{ℕ, nat_lt, List, if◌then◌else◌, Option, None, Some, option_and_then, option_map, position}
 use Rattle.std.specs.Str.{bytes_eq}
 use Rattle.om_code.specs.declared.raw.GlobalVariable.{GlobalVariable}
 use Rattle.om_code.specs.declared.raw.Raw.{Raw}
@@ -11,11 +11,14 @@ use Rattle.om_replies.specs.Objects.{length_of}
 abbrev pub global_named : Raw → List ℕ → Option ℕ
 global_named program name = position (λ (g : GlobalVariable). bytes_eq g.name name) program.globals
 
--- a cell by its index: an array has one below its length, a scalar none
+-- the element of a variable by its index: an array has one below its length, a scalar none
+abbrev pub element_at : Option ℕ → Option ℕ → Option ℕ
+element_at None None = Some 0
+element_at (Some length) (Some index) = if nat_lt index length then Some index else None
+element_at _ _ = None
+
 abbrev pub cell_at : ℕ → Option ℕ → Option ℕ → Option GlobalCell
-cell_at variable None None = Some (record { variable = variable; index = 0 })
-cell_at variable (Some length) (Some index) = if nat_lt index length then Some (record { variable = variable; index = index }) else None
-cell_at variable _ _ = None
+cell_at variable length index = option_map (λ element. record { variable = variable; index = element }) (element_at length index)
 
 -- the cell that a variable names, where there is one
 abbrev pub cell_of : Raw → Variable → Option GlobalCell

@@ -1,20 +1,27 @@
 -- What a line of commands is answered, and what it leaves.
 use Rattle.std.specs.Prelude.{ℕ, Bool, true, false, List, [], Option, None, Some}
 use Rattle.om_cells.specs.declared.step.Choice.TheVariants.{Next, Start}
-use Rattle.om_code.specs.declared.raw.Raw.{Raw}
+use Rattle.om_cells.specs.Values.{control_in}
 use Rattle.om_command.specs.declared.command.Command.{Command}
 use Rattle.om_command.specs.declared.command.Command.TheVariants as command
 use Rattle.om_command.specs.declared.command.CommandFault.{CommandFault}
 use Rattle.om_command.specs.declared.command.CommandFault.TheVariants.{UnknownCommand, BadArgument}
 use Rattle.om_command.specs.declared.command.Request.{Request}
 use Rattle.om_command.specs.declared.command.Request.TheVariants as request
+use Rattle.om_command.specs.declared.command.Variable.{Variable}
 use Rattle.om_command.specs.Commands.{request_of}
+use Rattle.om_foot.specs.declared.object.Obj.TheVariants as object
 use Rattle.om_replies.specs.declared.value.GlobalCell.{GlobalCell}
 use Rattle.om_replies.specs.Steps.{command_fault_text}
 use Rattle.om_replies.specs.Stops.{break_text, deleted_text, watch_text}
+use Rattle.om_undo.specs.Machines.{state_in}
+use Rattle.om_view.specs.declared.debuggee.Debuggee.{Debuggee}
 use Rattle.om_view.specs.declared.debugger.Debugger.{Debugger}
+use Rattle.om_view.specs.declared.local.Seen.{Seen}
+use Rattle.om_view.specs.declared.local.Seen.TheVariants as seen
 use Rattle.om_view.specs.declared.marks.Marks.{Marks}
-use Rattle.om_view.specs.Looks.{print_said, where_said, history_said, events_said, output_said, tasks_said}
+use Rattle.om_view.specs.Looks.{local_said, print_said, where_said, history_said, events_said, output_said, tasks_said}
+use Rattle.om_view.specs.Locals.{seen_by}
 use Rattle.om_view.specs.Marked.{with_break, with_watch, without_break}
 use Rattle.om_view.specs.Moves.{step_said, undo_said, next_said, back_said, roll_said}
 use Rattle.om_view.specs.Recorded.{started}
@@ -35,8 +42,8 @@ pub record Answer : Type 0 where
   pub quits : Bool
 
 -- at the start of a program nothing is marked
-abbrev pub opened : Raw → ℕ → Debugger
-opened program workers = record { recorder = started program workers; marks = record { breaks = []; watches = [] } }
+abbrev pub opened : Debuggee → ℕ → Debugger
+opened debuggee workers = record { recorder = started debuggee.program workers; names = debuggee.names; marks = record { breaks = []; watches = [] } }
 
 -- a text that changes nothing
 abbrev pub told : Debugger → List ℕ → Told
@@ -47,26 +54,37 @@ refused d fault = told d (command_fault_text fault)
 
 -- what a command says that calls the machine
 abbrev pub called : Debugger → Said → Told
-called d said = record { text = said.text; view = record { recorder = said.recorded; marks = d.marks } }
+called d said = record { text = said.text; view = record d { recorder = said.recorded } }
 
 -- a text, and other marks
 abbrev pub marked : Debugger → List ℕ → Marks → Told
-marked d text marks = record { text = text; view = record { recorder = d.recorder; marks = marks } }
+marked d text marks = record { text = text; view = record d { marks = marks } }
 
 -- what is answered by a cell, where the variable names one
 abbrev pub by_cell : Debugger → Option GlobalCell → (GlobalCell → Told) → Told
 by_cell d None answer = refused d BadArgument
 by_cell d (Some cell) answer = answer cell
 
--- what a command is answered. `print W VAR` and `free K` are refused today
+-- `print VAR`
+abbrev pub global_told : Debugger → Variable → Told
+global_told d variable = by_cell d (cell_of d.recorder.machine.program variable) (λ cell. called d (print_said cell d.recorder))
+
+-- `print W VAR`, by what the worker sees: the global of that name where no variable of its function is in scope
+abbrev pub local_told : Debugger → Variable → Seen → Told
+local_told d variable seen.Global = global_told d variable
+local_told d variable (seen.Cell cell) = called d (local_said variable cell d.recorder)
+local_told d variable seen.Nothing = refused d BadArgument
+
+-- what a command is answered. `free K` is refused today
 abbrev pub obeyed : Debugger → Command → Told
 obeyed d (command.Step worker) = called d (step_said worker Next d.recorder)
 obeyed d (command.Start worker task) = called d (step_said worker (Start task) d.recorder)
 obeyed d (command.Undo worker) = called d (undo_said worker d.recorder)
 obeyed d (command.Next worker) = called d (next_said 9999 worker d.recorder)
 obeyed d (command.Back worker) = called d (back_said 9999 worker d.recorder)
-obeyed d (command.Print variable) = by_cell d (cell_of d.recorder.machine.program variable) (λ cell. called d (print_said cell d.recorder))
-obeyed d (command.PrintLocal worker variable) = refused d BadArgument
+obeyed d (command.Print variable) = global_told d variable
+obeyed d (command.PrintLocal worker variable) =
+    local_told d variable (seen_by d.names variable (control_in (state_in d.recorder.machine (object.Control worker))))
 obeyed d (command.Where worker) = called d (where_said worker d.recorder)
 obeyed d command.History = called d (history_said d.recorder)
 obeyed d (command.Events worker) = called d (events_said worker d.recorder)

@@ -5,36 +5,41 @@ ghost use Rattle.om_command.specs.Commands.{AsksWorkerBelow, HasWorkerBelow};
 ghost use Rattle.om_view.specs.Views.{opened, obeyed, answer_to, is_quit, answered};
 ghost use Rattle.om_command.specs.declared.command.Command.TheVariants as command;
 
-use crate::looks::{events, history, output, place, print, tasks};
+use crate::debuggee::Debuggee;
+use crate::local::{Seen, worker_sees};
+use crate::looks::{events, history, output, place, print, print_local, tasks};
 use crate::marks::Marks;
 use crate::moves::{back, next, roll, step, undo};
 use crate::recorder::Recorder;
 use crate::runs::run;
 use crate::variable::cell_of;
 use om_cells::Choice;
-use om_code::program::Program;
 use om_command::{Command, CommandFault, Request, Variable, request_of};
 use om_replies::{push_break, push_command_fault, push_deleted, push_watch};
 use om_seq::Seq;
 use om_undo::Machine;
+use om_visible::Names;
 use std::alloc::{AllocError, Global};
 
-/// A machine whose calls are recorded, and where its runs stop.
+/// A machine whose calls are recorded, the names of its program, and where its runs stop.
 #[derive(Drop)]
 pub struct Debugger {
     recorder: Recorder,
+    names: Names,
     marks: Marks,
 }
 
 impl Debugger {
     /// A debugger at the start of a program, with 1 to 32 workers. Its only error is out of memory.
-    pub fn new(alloc: Global, program: Program, workers: u8) -> Result<Debugger, AllocError>
+    pub fn new(alloc: Global, debuggee: Debuggee, workers: u8) -> Result<Debugger, AllocError>
         requires at_least_one { 1 ≤ workers }
         requires at_most_32 { workers ≤ 32 }
-        ensures { IfOk result (λ debugger. debugger ≡ opened program workers) }
+        ensures { IfOk result (λ debugger. debugger ≡ opened debuggee workers) }
     {
+        let Debuggee { program, names } = debuggee;
         Ok(Debugger {
             recorder: Recorder::new(alloc, program, workers)?,
+            names,
             marks: Marks {
                 breaks: Seq::new(alloc),
                 watches: Seq::new(alloc),
@@ -46,7 +51,11 @@ impl Debugger {
     pub fn into_machine(self) -> Machine
         ensures { result ≡ self.recorder.machine }
     {
-        let Debugger { recorder, marks: _ } = self;
+        let Debugger {
+            recorder,
+            names: _,
+            marks: _,
+        } = self;
         recorder.into_machine()
     }
 
@@ -107,7 +116,9 @@ impl Debugger {
             Command::Next(worker) => next(alloc, recorder, *worker, text),
             Command::Back(worker) => back(recorder, *worker, text),
             Command::Print(variable) => self.print(alloc, variable, text),
-            Command::PrintLocal { .. } => push_command_fault(text, CommandFault::BadArgument),
+            Command::PrintLocal { worker, variable } => {
+                self.print_local(alloc, *worker, variable, text)
+            }
             Command::Where(worker) => place(alloc, recorder, *worker, text),
             Command::History => history(alloc, recorder, text),
             Command::Events(worker) => events(alloc, recorder, *worker, text),
@@ -136,6 +147,25 @@ impl Debugger {
         match cell_of(self.recorder.machine().program(), variable) {
             Some(cell) => print(alloc, &mut self.recorder, cell, text),
             None => push_command_fault(text, CommandFault::BadArgument),
+        }
+    }
+
+    // Answers `print W VAR`.
+    fn print_local(
+        &mut self,
+        alloc: Global,
+        worker: u8,
+        variable: &Variable,
+        text: &mut Vec<u8>,
+    ) -> Result<(), AllocError>
+        ensures text { OnOk result (text.new.items ≡ text.old.items ++ (obeyed self.old (command.PrintLocal worker variable.now)).text) }
+        ensures view { OnOk result (self.new ≡ (obeyed self.old (command.PrintLocal worker variable.now)).view) }
+    {
+        let machine = self.recorder.machine();
+        match worker_sees(alloc, machine, &self.names, worker, variable)? {
+            Seen::Global => self.print(alloc, variable, text),
+            Seen::Cell(cell) => print_local(alloc, &mut self.recorder, variable, &cell, text),
+            Seen::Nothing => push_command_fault(text, CommandFault::BadArgument),
         }
     }
 

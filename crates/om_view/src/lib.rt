@@ -1,7 +1,9 @@
 //! What each command is answered: a machine whose calls are recorded, with breaks and watches.
 #![tactic(auto)]
 
+mod debuggee;
 mod debugger;
+mod local;
 mod looks;
 mod marks;
 mod moves;
@@ -10,6 +12,7 @@ mod runs;
 mod stops;
 mod variable;
 
+pub use debuggee::Debuggee;
 pub use debugger::Debugger;
 pub use marks::Marks;
 pub use recorder::Recorder;

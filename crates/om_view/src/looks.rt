@@ -7,15 +7,16 @@ ghost use Rattle.om_replies.specs.Lists.{joined};
 ghost use Rattle.om_undo.specs.Machines.{state_in};
 ghost use Rattle.om_replies.specs.Places.{where_text};
 ghost use Rattle.om_cells.specs.Values.{control_in};
-ghost use Rattle.om_view.specs.Looks.{line_at, print_said, where_said, history_said, events_said, output_said, directive_line, ready_line, tasks_text, tasks_said};
+ghost use Rattle.om_view.specs.Looks.{line_at, local_said, print_said, where_said, history_said, events_said, output_said, directive_line, ready_line, tasks_text, tasks_said};
 
 use crate::recorder::Recorder;
 use om_cells::value::Task;
 use om_cells::{Control, Val};
+use om_command::Variable;
 use om_foot::{Name, Obj};
 use om_replies::{
-    GlobalCell, push_events, push_full, push_history, push_no_tasks, push_output, push_print,
-    push_task, push_where,
+    GlobalCell, push_events, push_full, push_history, push_local, push_no_tasks, push_output,
+    push_print, push_task, push_where,
 };
 use om_undo::Machine;
 use std::alloc::{AllocError, Global};
@@ -35,6 +36,24 @@ pub(crate) fn print(
     }
     let value = recorder.look(alloc, &cell.object())?;
     push_print(text, recorder.machine().program(), cell, &value)
+}
+
+/// Answers `print W VAR`, where the worker sees a cell.
+pub(crate) fn print_local(
+    alloc: Global,
+    recorder: &mut Recorder,
+    variable: &Variable,
+    cell: &Obj,
+    text: &mut Vec<u8>,
+) -> Result<(), AllocError>
+    ensures text { OnOk result (text.new.items ≡ text.old.items ++ (local_said variable.now cell.now recorder.old).text) }
+    ensures after { OnOk result (recorder.new ≡ (local_said variable.now cell.now recorder.old).recorded) }
+{
+    if recorder.is_full() {
+        return push_full(text);
+    }
+    let value = recorder.look(alloc, cell)?;
+    push_local(text, variable, &value)
 }
 
 // What a worker is doing, by the value of its control.

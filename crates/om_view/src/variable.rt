@@ -3,7 +3,7 @@
 ghost use Rattle.std.specs.Prelude.{◌≡◌, ◌<◌, IfSome, position, length};
 ghost use Rattle.std.specs.Str.{bytes_eq};
 ghost use Rattle.om_replies.specs.Objects.{length_of};
-ghost use Rattle.om_view.specs.Variables.{cell_at, cell_of, global_named};
+ghost use Rattle.om_view.specs.Variables.{cell_at, cell_of, element_at, global_named};
 
 use om_code::program::Program;
 use om_code::raw::GlobalVariable;
@@ -42,22 +42,28 @@ fn length_of(program: &Program, variable: u32) -> Option<u32>
     program.globals().get(variable as usize)?.length
 }
 
-// The cell of a variable at an index: an array has one below its length, a scalar none.
-fn cell_at(variable: u32, length: Option<u32>, index: Option<u64>) -> Option<GlobalCell>
-    ensures { result ≡ cell_at variable length index }
+/// The element of a variable at an index: an array has one below its length, a scalar none.
+pub(crate) fn element_at(length: Option<u32>, index: Option<u64>) -> Option<u32>
+    ensures { result ≡ element_at length index }
 {
     match (length, index) {
-        (None, None) => Some(GlobalCell { variable, index: 0 }),
+        (None, None) => Some(0),
         (Some(length), Some(index)) => {
             if index < u64::from(length) {
-                let index = index as u32;
-                Some(GlobalCell { variable, index })
+                Some(index as u32)
             } else {
                 None
             }
         }
         (None, Some(_)) | (Some(_), None) => None,
     }
+}
+
+// The cell of a global variable at an index.
+fn cell_at(variable: u32, length: Option<u32>, index: Option<u64>) -> Option<GlobalCell>
+    ensures { result ≡ cell_at variable length index }
+{
+    element_at(length, index).map(|index| GlobalCell { variable, index })
 }
 
 /// The cell that a variable names; `None` exactly where the program has no such global, or where

@@ -114,13 +114,18 @@ fn answers_in_any_pieces(rt: HostRuntime) {
 }
 
 // Inputs, each with its status and its output.
-const SCRIPTS: [(&[u8], u8, &[u8]); 12] = [
+const SCRIPTS: [(&[u8], u8, &[u8]); 13] = [
     (b"", 1, b"refused S15 line 1 column 1\n"),
     (b"int x; /* a", 1, b"refused S2 line 1 column 8\n"),
     (
         b"int x; int main(void){ x = 2147483647; }\n%%\nstep 0\nstep 0\nprint x\n",
         0,
         b"#1 worker 0 line 1\n#2 worker 0 line 1\nx = 2147483647\n",
+    ),
+    (
+        b"int x = 4;\nint f(int n) {\nint y;\nreturn n;\n}\nint main(void) {\nint a[2];\n{ int x;\nx = f(3);\na[1] = x; }\n}\n%%\nbreak 4\nrun 99\nprint 0 n\nprint 0 y\nprint 0 a[1]\nprint 0 x\nbreak 10\nrun 99\nprint 0 x\nprint 0 a[1]\nprint 0 a[2]\nprint 0 a\nbreak 11\nrun 99\nprint 0 x\nprint 0 a[1]\nprint 1 x\nprint 1 a[1]\n",
+        0,
+        b"break 4\nran 5 break 4 worker 0\nn = 3\ny = unset\nH2 bad argument\nx = 4\nbreak 10\nran 4 break 10 worker 0\nx = 3\na[1] = unset\nH2 bad argument\nH2 bad argument\nbreak 11\nran 3 break 11 worker 0\nx = 4\na[1] = 3\nx = 4\nH2 bad argument\n",
     ),
     (
         b"int x; int main(void){ x = 2147483648; }",

@@ -29,6 +29,7 @@ With FILE, standard input holds commands alone. Each is a line:
   watch VAR     `run` stops where the value of a global variable changes
   delete L      takes `break L` back
   print VAR     the value of a global variable, as x or a[3]
+  print W VAR   the value of the variable that worker W sees by this name
   where W       what worker W is doing
   history       the steps that stand
   events W      the event records of worker W

@@ -1,4 +1,4 @@
-use Rattle.std.proofs.Common.{◌≤◌, ◌+◌, ◌*◌, length, take, drop}
+use Rattle.std.proofs.Common.{◌≤◌, length, take, drop}
 use Rattle.std.specs.Io.KnownBytes.{Consumes}
 use Rattle.om_shell.specs.Lines.{HasNoLineEnd}
 use Rattle.om_shell.specs.Source.{Scanned}

@@ -1,0 +1,11 @@
+//! What is debugged: a program and its names.
+
+use om_code::program::Program;
+use om_visible::Names;
+
+/// A program, and which variable each name means at its instructions.
+#[derive(Drop)]
+pub struct Debuggee {
+    pub program: Program,
+    pub names: Names,
+}
