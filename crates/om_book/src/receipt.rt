@@ -17,6 +17,16 @@ pub struct Receipt {
     pub reply: Reply,
 }
 
+impl Receipt {
+    /// Whether it says that this command was answered this reply, with its record at this place.
+    pub fn is_of(&self, place: u64, command: &Command, reply: &Reply) -> bool
+        ensures { IsTrue result
+            ↔ (self.now ≡ record { place = place; command = command.now; reply = reply.now }) }
+    {
+        self.place == place && self.command.is_same(command) && self.reply.is_same(reply)
+    }
+}
+
 /// Whether a receipt's place is below neither the opening nor `low`, and the seat's call is recorded
 /// there as the receipt says.
 fn stands(journal: &[JournalRecord], seat: u8, opened: usize, low: u128, receipt: &Receipt) -> bool
