@@ -1,5 +1,5 @@
 -- The place of the last call, and the numbers of seats.
-use Rattle.std.specs.Prelude.{◌≡◌, ◌+◌, ℕ, zero, suc, List, [], ◌∷◌, ◌++◌, length, map, slice_get, Option, Some, refl}
+use Rattle.std.specs.Prelude.{◌≡◌, ◌+◌, ℕ, zero, suc, List, [], ◌∷◌, ◌++◌, length, map, slice_get, Some, refl}
 use Rattle.std.proofs.Common.{◌∙◌, ap, sym, arith}
 use Rattle.om_book.specs.Seats.{SeatView}
 use Rattle.om_book.specs.Standing.{number_of}

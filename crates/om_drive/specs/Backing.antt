@@ -1,5 +1,5 @@
 -- Answers that a receipt backs.
-use Rattle.std.specs.Prelude.{◌≡◌, ℕ, List, slice_get, Option, Some, Result, Ok}
+use Rattle.std.specs.Prelude.{◌≡◌, ℕ, List, slice_get, Some, Ok}
 use Rattle.om_book.specs.Seats.{SeatView}
 use Rattle.om_book.specs.declared.reply.Reply.{Reply}
 use Rattle.om_book.specs.declared.receipt.Receipt.{Receipt}

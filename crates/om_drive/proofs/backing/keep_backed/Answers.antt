@@ -1,4 +1,4 @@
-use Rattle.std.proofs.Common.{rules, ◌≡◌, ◌<◌, ◌≤◌, List, length, All, take, subst, sym, get_or, IsTrue}
+use Rattle.std.proofs.Common.{rules, ◌≡◌, ◌<◌, ◌≤◌, List, length, All, subst, sym, get_or, IsTrue}
 use Rattle.om_drive.specs.declared.order.Answer.{Answer}
 use Rattle.om_drive.specs.Backing.{IsBacked}
 use Rattle.om_drive.proofs.Backed.{all_more, all_of}
