@@ -7,24 +7,26 @@ use Rattle.std.proofs.lemmas.Option.{slice_get_within}
 use Rattle.std.proofs.lemmas.List.Sums.{sum_by-cons}
 use Rattle.std.specs.List.{AllByRecursion}
 use Rattle.om_book.specs.Seats.{SeatView}
-use Rattle.om_book.specs.Standing.{Stands, Counts, CountsAll, calls_of, receipts_in, AllDiffer, IsSeat, Covers}
+use Rattle.om_book.specs.Standing.{Counts, CountsAll, calls_of, receipts_in, AllDiffer, IsSeat, Covers}
 use Rattle.om_book.specs.declared.book.JournalRecord.{JournalRecord}
 use Rattle.om_book.specs.declared.receipt.Receipt.{Receipt}
 
--- each receipt stands
+-- each receipt stands, from a place on
 abbrev pub AllStand : List JournalRecord → ℕ → ℕ → List Receipt → Type 0
 AllStand journal seat low [] = Unit {0}
-AllStand journal seat low (r ∷ rs) = Stands journal seat low r × AllStand journal seat (r.place + 1) rs
+AllStand journal seat low (r ∷ rs) = ((low ≤ r.place)
+    × (slice_get journal r.place ≡ Some (record { seat = seat; command = r.command; reply = r.reply })))
+    × AllStand journal seat (r.place + 1) rs
 
-pub counts_most : (journal : List JournalRecord) (seat low : ℕ) (rs : List Receipt) (n : ℕ) → Counts journal seat low rs n → n ≤ length rs
-counts_most journal seat low [] n h = omega (arith, h)
-counts_most journal seat low (r ∷ rs) n (inl h) = omega (arith, h.1.1, counts_most journal seat (r.place + 1) rs h.1.0 h.1.2)
-counts_most journal seat low (r ∷ rs) n (inr h) = omega (arith, counts_most journal seat (r.place + 1) rs n h.1)
+pub counts_most : (journal : List JournalRecord) (seat opened low : ℕ) (rs : List Receipt) (n : ℕ) → Counts journal seat opened low rs n → n ≤ length rs
+counts_most journal seat opened low [] n h = omega (arith, h)
+counts_most journal seat opened low (r ∷ rs) n (inl h) = omega (arith, h.1.1, counts_most journal seat opened (r.place + 1) rs h.1.0 h.1.2)
+counts_most journal seat opened low (r ∷ rs) n (inr h) = omega (arith, counts_most journal seat opened (r.place + 1) rs n h.1)
 
-pub counts_all : (journal : List JournalRecord) (seat low : ℕ) (rs : List Receipt) (n : ℕ) → Counts journal seat low rs n → n ≡ length rs → AllStand journal seat low rs
-counts_all journal seat low [] n h e = tt
-counts_all journal seat low (r ∷ rs) n (inl h) e = (h.0, counts_all journal seat (r.place + 1) rs h.1.0 h.1.2 (omega (arith, h.1.1, e)))
-counts_all journal seat low (r ∷ rs) n (inr h) e = absurd (omega (arith, e, counts_most journal seat (r.place + 1) rs n h.1))
+pub counts_all : (journal : List JournalRecord) (seat opened low : ℕ) (rs : List Receipt) (n : ℕ) → Counts journal seat opened low rs n → n ≡ length rs → AllStand journal seat low rs
+counts_all journal seat opened low [] n h e = tt
+counts_all journal seat opened low (r ∷ rs) n (inl h) e = ((h.0.1, h.0.2), counts_all journal seat opened (r.place + 1) rs h.1.0 h.1.2 (omega (arith, h.1.1, e)))
+counts_all journal seat opened low (r ∷ rs) n (inr h) e = absurd (omega (arith, e, counts_most journal seat opened (r.place + 1) rs n h.1))
 
 pub some_same : (x y : JournalRecord) → Some x ≡ Some y → x ≡ y
 some_same x y e = cc
@@ -160,16 +162,16 @@ called_all place (y ∷ more) ss h e =
 pub counts_all_most : (journal : List JournalRecord) (opened : ℕ) (ss : List SeatView) (n : ℕ) → CountsAll journal opened ss n → n ≤ sum_of receipts_in ss
 counts_all_most journal opened [] n h = omega (arith, h)
 counts_all_most journal opened (s ∷ ss) n h =
-    omega (arith, h.2, counts_most journal s.number opened s.receipts h.0 h.3, counts_all_most journal opened ss h.1 h.4)
+    omega (arith, h.2, counts_most journal s.number opened opened s.receipts h.0 h.3, counts_all_most journal opened ss h.1 h.4)
 
 pub seats_fit : (journal : List JournalRecord) (opened : ℕ) (ss : List SeatView) (n : ℕ) → CountsAll journal opened ss n → n ≡ sum_of receipts_in ss
     → (sum_of receipts_in ss ≤ sum_of (called opened (drop opened journal)) ss)
     × (sum_of receipts_in ss ≡ sum_of (called opened (drop opened journal)) ss → AllByRecursion (λ (s : SeatView). s.receipts ≡ calls_of s.number opened (drop opened journal)) ss)
 seats_fit journal opened [] n h e = (omega arith, λ same. tt)
 seats_fit journal opened (s ∷ ss) n h e =
-    let mine = counts_most journal s.number opened s.receipts h.0 h.3 in
+    let mine = counts_most journal s.number opened opened s.receipts h.0 h.3 in
     let theirs = counts_all_most journal opened ss h.1 h.4 in
-    let stand = counts_all journal s.number opened s.receipts h.0 h.3 (omega (arith, h.2, e, mine, theirs)) in
+    let stand = counts_all journal s.number opened opened s.receipts h.0 h.3 (omega (arith, h.2, e, mine, theirs)) in
     let fit = receipts_fit journal s.number opened (drop opened journal) s.receipts refl stand in
     let rest = seats_fit journal opened ss h.1 h.4 (omega (arith, h.2, e, mine, theirs)) in (
       omega (arith, fit.0, rest.0),

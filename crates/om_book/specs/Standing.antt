@@ -5,23 +5,23 @@ use Rattle.om_book.specs.declared.book.JournalRecord.{JournalRecord}
 use Rattle.om_book.specs.declared.receipt.Receipt.{Receipt}
 use Rattle.om_book.specs.Seats.{SeatView}
 
--- the receipt's place is not below `low`, and the seat's call with this reply is recorded there
-abbrev pub Stands : List JournalRecord → ℕ → ℕ → Receipt → Type 0
-Stands journal seat low r = (low ≤ r.place)
+-- the receipt's place is not below the opening nor below `low`, and the seat's call with this reply is recorded there
+abbrev pub Stands : List JournalRecord → ℕ → ℕ → ℕ → Receipt → Type 0
+Stands journal seat opened low r = (opened ≤ r.place) × (low ≤ r.place)
     × (slice_get journal r.place ≡ Some (record { seat = seat; command = r.command; reply = r.reply }))
 
 -- n receipts of one seat stand, each place above that of the receipt before
-abbrev pub Counts : List JournalRecord → ℕ → ℕ → List Receipt → ℕ → Type 0
-Counts journal seat low [] n = n ≡ 0
-Counts journal seat low (r ∷ rs) n =
-    (Stands journal seat low r × ((m : ℕ) × (n ≡ m + 1) × Counts journal seat (r.place + 1) rs m))
-    ⊎ ((¬ Stands journal seat low r) × Counts journal seat (r.place + 1) rs n)
+abbrev pub Counts : List JournalRecord → ℕ → ℕ → ℕ → List Receipt → ℕ → Type 0
+Counts journal seat opened low [] n = n ≡ 0
+Counts journal seat opened low (r ∷ rs) n =
+    (Stands journal seat opened low r × ((m : ℕ) × (n ≡ m + 1) × Counts journal seat opened (r.place + 1) rs m))
+    ⊎ ((¬ Stands journal seat opened low r) × Counts journal seat opened (r.place + 1) rs n)
 
 -- n receipts of all seats stand
 abbrev pub CountsAll : List JournalRecord → ℕ → List SeatView → ℕ → Type 0
 CountsAll journal opened [] n = n ≡ 0
 CountsAll journal opened (s ∷ ss) n =
-    (m : ℕ) × (k : ℕ) × (n ≡ m + k) × Counts journal s.number opened s.receipts m × CountsAll journal opened ss k
+    (m : ℕ) × (k : ℕ) × (n ≡ m + k) × Counts journal s.number opened opened s.receipts m × CountsAll journal opened ss k
 
 -- what a seat called, by the records from a place on
 abbrev pub calls_of : ℕ → ℕ → List JournalRecord → List Receipt

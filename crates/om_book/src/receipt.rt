@@ -17,13 +17,23 @@ pub struct Receipt {
     pub reply: Reply,
 }
 
-/// Whether a receipt's place is not below `low`, and the seat's call is recorded there as the
-/// receipt says.
-fn stands(journal: &[JournalRecord], seat: u8, low: u128, receipt: &Receipt) -> bool
+impl Receipt {
+    /// Whether it says that this command was answered this reply, with its record at this place.
+    pub fn is_of(&self, place: u64, command: &Command, reply: &Reply) -> bool
+        ensures { IsTrue result
+            ↔ (self.now ≡ record { place = place; command = command.now; reply = reply.now }) }
+    {
+        self.place == place && self.command.is_same(command) && self.reply.is_same(reply)
+    }
+}
+
+/// Whether a receipt's place is below neither the opening nor `low`, and the seat's call is recorded
+/// there as the receipt says.
+fn stands(journal: &[JournalRecord], seat: u8, opened: usize, low: u128, receipt: &Receipt) -> bool
     requires { length journal.now ≤ 200000 }
-    ensures { IsTrue result ↔ Stands journal.now seat low receipt.now }
+    ensures { IsTrue result ↔ Stands journal.now seat opened low receipt.now }
 {
-    if u128::from(receipt.place) < low {
+    if receipt.place < opened as u64 || u128::from(receipt.place) < low {
         return false;
     }
     match journal.get(receipt.place as usize) {
@@ -44,13 +54,13 @@ pub(crate) fn standing(
     receipts: &[Receipt],
 ) -> usize
     requires { length journal.now ≤ 200000 }
-    ensures counts { Counts journal.now seat opened receipts.now result }
+    ensures counts { Counts journal.now seat opened opened receipts.now result }
     ensures most { result ≤ length receipts.now }
 {
     let mut low = opened as u128;
     let mut standing = 0;
     for receipt in receipts {
-        if stands(journal, seat, low, receipt) {
+        if stands(journal, seat, opened, low, receipt) {
             standing += 1;
         }
         low = u128::from(receipt.place) + 1;

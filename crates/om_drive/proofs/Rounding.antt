@@ -1,7 +1,9 @@
 -- A round, one seat after the other.
-use Rattle.std.specs.Prelude.{◌≡◌, ◌<◌, ◌+◌, ℕ, zero, suc, ◌-◌, List, [], ◌∷◌, ◌++◌, length, slice_get, refl, Option, Some, None, Result, Ok, Err, OnErr}
+use Rattle.std.specs.Prelude.{◌≡◌, ◌<◌, ◌+◌, ℕ, suc, ◌-◌, List, [], ◌∷◌, ◌++◌, length, map, take, slice_get, refl, Result, Ok, Err, OnErr}
 use Rattle.std.proofs.Common.{sym, ◌∙◌, ap, arith, add-one, drop, get_or, drop-cons, append_assoc, append-nil}
-use Rattle.om_drive.specs.Rounds.{listed, round_at, rounds, Part, Begins}
+use Rattle.std.proofs.lemmas.List.{take-append-drop, map-append}
+use Rattle.om_drive.specs.declared.order.Answer.{Answer}
+use Rattle.om_drive.specs.Rounds.{answer_number, listed, round_at, rounds, Part, Begins}
 use Rattle.om_drive.specs.declared.order.Order.{Order}
 
 pub round_next : {V : Type 0} (items : V → List Order) (k : ℕ) (vs : List V) (i : ℕ) (v : V) → i < length vs → v ≡ get_or vs i v
@@ -46,3 +48,17 @@ begins_all old new due e = ([], record { text = due; added = e; left = sym (appe
 
 pub begins_same_yet : (old new due : List ℕ) → new ≡ old → Begins old new due
 begins_same_yet old new due e = (due, record { text = []; added = e ∙ sym (append-nil old); left = refl })
+
+-- what is left of the answers is a beginning too
+pub begins_taken : (old new : List Answer) (due : List ℕ) (n : ℕ) → new ≡ take n old → Begins [] (map answer_number old) due → Begins [] (map answer_number new) due
+begins_taken old new due n e b =
+    let rest = map answer_number (drop n old) in
+    let parted : map answer_number old ≡ map answer_number new ++ rest =
+    ap (λ xs. map answer_number xs) (sym (take-append-drop n old)) ∙ map-append answer_number (take n old) (drop n old) ∙ ap (λ xs. map answer_number xs ++ rest) (sym e) in (
+      rest ++ b.0,
+      record {
+        text = map answer_number new;
+        added = refl;
+        left = b.1.left ∙ ap (λ xs. xs ++ b.0) (sym b.1.added ∙ parted) ∙ append_assoc (map answer_number new) rest b.0;
+      },
+    )

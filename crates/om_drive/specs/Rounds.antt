@@ -1,5 +1,5 @@
 -- Rounds: in each, every list that still has an order gives its next.
-use Rattle.std.specs.Prelude.{◌≡◌, ℕ, zero, suc, ◌+◌, max, List, [], ◌∷◌, ◌++◌, length, map, slice_get, Option, None, Some}
+use Rattle.std.specs.Prelude.{◌≡◌, ℕ, zero, suc, ◌+◌, max, List, [], ◌∷◌, ◌++◌, length, slice_get, Option, None, Some}
 use Rattle.om_drive.specs.declared.order.Answer.{Answer}
 use Rattle.om_drive.specs.declared.order.Order.{Order}
 

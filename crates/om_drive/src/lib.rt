@@ -1,12 +1,16 @@
 //! Threads that carry orders to the seats of a session, and bring the answers back.
 #![tactic(auto)]
 
+mod backing;
 mod driving;
 mod order;
 mod rounds;
+mod seats;
+mod sitter;
 mod worker;
 
 pub use driving::{Crew, DrivenOver, drive_over};
 pub use order::{Answer, Fault, Order};
 pub use rounds::{Gathered, gather};
+pub use seats::{Driven, drive};
 pub use worker::{Debuggee, Gate, Worker};

@@ -10,15 +10,15 @@ loop-receipt-preserved c = record {
       let journal = c.args.journal.now in
       let seat = c.args.seat in
       let x = c.receipt-item.result in
-      let P : ℕ → Type 0 = λ n. Counts journal seat c.args.opened c.args.receipts.now n in
+      let P : ℕ → Type 0 = λ n. Counts journal seat c.args.opened c.args.opened c.args.receipts.now n in
       let next = rw c.from-low.ensures at h in
       elim c.if-stands.branch [
         | then-stands w ↦
             subst P (omega (arith, w.standing-is))
-            (c.loop-receipt.invariant.counts (m + 1) (stands_next journal seat c.loop-receipt.low m c.args.receipts.now c.loop-receipt.receipt-index x c.loop-receipt-test.true c.receipt-item.is (c.stands.ensures.0 w.if-stands.true) next))
+            (c.loop-receipt.invariant.counts (m + 1) (stands_next journal seat c.args.opened c.loop-receipt.low m c.args.receipts.now c.loop-receipt.receipt-index x c.loop-receipt-test.true c.receipt-item.is (c.stands.ensures.0 w.if-stands.true) next))
         | else-stands w ↦
             subst P (omega (arith, w.standing-is))
-            (c.loop-receipt.invariant.counts m (falls_next journal seat c.loop-receipt.low m c.args.receipts.now c.loop-receipt.receipt-index x c.loop-receipt-test.true c.receipt-item.is (λ s. let t = c.stands.ensures.1 s in let u = w.if-stands.false in cc) next))
+            (c.loop-receipt.invariant.counts m (falls_next journal seat c.args.opened c.loop-receipt.low m c.args.receipts.now c.loop-receipt.receipt-index x c.loop-receipt-test.true c.receipt-item.is (λ s. let t = c.stands.ensures.1 s in let u = w.if-stands.false in cc) next))
       ];
   most = elim c.if-stands.branch [ then-stands w ↦ omega (arith, w.standing-is, c.loop-receipt.invariant.most) | else-stands w ↦ omega (arith, w.standing-is, c.loop-receipt.invariant.most) ];
 }

@@ -1,5 +1,4 @@
-use Rattle.std.proofs.Common.{rules, refl, ◌≡◌, ℕ, ◌+◌, ◌-◌, ◌++◌, ◌∷◌, [], List, map, drop, subst, arith}
-use Rattle.std.proofs.lemmas.Grind.{common_steps}
+use Rattle.std.proofs.Common.{rules, refl, ◌≡◌, ℕ, ◌+◌, ◌-◌, ◌++◌, List, map, subst}
 use Rattle.om_drive.specs.Rounds.{answer_number, in_rounds, rounds, round_at, Part, Begins}
 use Rattle.om_drive.proofs.Rounding.{rounds_next, part_more, part_begins, begins_same, on_err}
 use Rattle.om_drive.proofs.rounds.ask_all.Goals as goal

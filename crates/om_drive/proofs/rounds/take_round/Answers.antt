@@ -1,5 +1,5 @@
-use Rattle.std.proofs.Common.{rules, ◌≡◌, ℕ, ◌+◌, ◌++◌, ◌∷◌, [], List, map, drop, subst, slice_get, ap, ◌∙◌}
-use Rattle.om_drive.specs.Rounds.{answer_number, listed, round_at, Part, Begins}
+use Rattle.std.proofs.Common.{rules, ◌≡◌, ℕ, ◌+◌, ◌++◌, List, map, drop, subst, slice_get, ap, ◌∙◌}
+use Rattle.om_drive.specs.Rounds.{answer_number, listed, round_at, Part}
 use Rattle.om_drive.proofs.Rounding.{round_next, part_more, begins_same, on_err}
 use Rattle.om_drive.proofs.rounds.take_round.Goals as goal
 
