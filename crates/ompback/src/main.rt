@@ -50,7 +50,10 @@ fn session<R: Files + Input + Print>(rt: &R, alloc: Global, words: Words) -> Res
     let mut writer = io::writer(rt);
     let options = Options {
         workers: words.workers,
-        source: source.as_ref().map(|bytes| bytes.as_slice()),
+        source: match &source {
+            Some(bytes) => Some(bytes.as_slice()),
+            None => None,
+        },
     };
     let ended = run(alloc, &mut reader, &mut writer, options)?;
     Ok(ended.status)
