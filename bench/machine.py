@@ -1,62 +1,66 @@
 #!/usr/bin/env python3
-"""machine.py PROGRAM: how fast the machine steps and undoes, by cases of om_machine_cases.
+"""machine.py PROGRAM: how fast PROGRAM steps and undoes with one worker and with four, and below many frames.
 
-PROGRAM is what `rt run` leaves of that crate, crates/om_machine_cases/out/om_machine_cases. It is given one case at a time, three
-times, on one core; the time of a case without steps is taken off. The differences give steps and undos a second, of one worker
-and of four; what a step costs below one frame and below 900 frames; and what a copy of the control costs there. A case that is
-answered wrongly ends the script with status 1.
+Each program counts for ever. It runs three times, on one core: without a step, with every step, and with every step and then
+every undo. The differences give steps and undos a second. For the frames it is what a step costs once `f` has called itself so
+often. Nothing here is a test: nothing fails.
 """
-import os, sys
 from timing import seconds, words
 
 STEPS = 20000
 STEPS_BELOW = 1000
-HERE = os.path.dirname(os.path.abspath(__file__))
+STEPS_OF_CALL = 6
+
+ONE = """int x;
+int main(void) { while (1) x = x + 1; }
+%%
+"""
+FOUR = """int a[4];
+int main(void) {
+#pragma omp parallel num_threads(4)
+{ int n; n = 0; while (1) { n = n + 1; a[omp_get_thread_num()] = n; } }
+}
+%%
+step 0
+"""
+DEEP = """int x;
+void f(int n) { if (n) f(n - 1); else while (1) x = x + 1; }
+int main(void) { f(%d); }
+%%%%
+run %d
+"""
 
 
-def programs():
-    """The programs of the crate's own cases, by their titles."""
-    with open(os.path.join(HERE, "../crates/om_machine_cases/stdin")) as f:
-        sections = [section.split("\n", 1) for section in f.read().split("\n== ")]
-    return {head.removeprefix("program "): text for head, text in sections if head.startswith("program ")}
+def rounds(command, workers):
+    """A command of each of these workers in turn, as often as there are steps."""
+    return "".join(f"{command} {worker}\n" for worker in workers) * (STEPS // len(workers))
 
 
-def case(text, workers, commands):
-    """The input of one case: a program, and commands, each of which is to answer `done` or what stands behind its `=>`."""
-    lines = "".join(command + ("\n" if "=>" in command else " => done\n") for command in commands)
-    return f"Pace.\n\n== program of it\n{text}\n== case pace by {workers} workers\n{lines}".encode()
-
-
-def rates(program, text, workers, first, rounds):
+def rates(program, text, count):
     """The steps and the undos a second of so many workers."""
-    idle = seconds(program, case(text, workers, first))
-    steps = first + [f"forwards {workers} {rounds}"]
-    forwards = seconds(program, case(text, workers, steps))
-    both = seconds(program, case(text, workers, steps + [f"backwards {workers} {rounds}"]))
-    return STEPS / max(forwards - idle, 1e-9), STEPS / max(both - forwards, 1e-9)
+    def taken(commands):
+        return seconds(program, (text + commands).encode(), arguments=["--threads", str(count)])
+
+    forwards = rounds("step", range(count))
+    backwards = rounds("undo", range(count - 1, -1, -1))
+    idle, there, both = taken(""), taken(forwards), taken(forwards + backwards)
+    return STEPS / max(there - idle, 1e-9), STEPS / max(both - there, 1e-9)
 
 
-def below(program, text, steps):
-    """The microseconds of a step, and of a copy of the control, where the counting begins after so many steps."""
-    reach = [f"forwards 1 {steps}"]
-    idle = seconds(program, case(text, 1, reach))
-    step = seconds(program, case(text, 1, reach + [f"forwards 1 {STEPS_BELOW}"])) - idle
-    copy = seconds(program, case(text, 1, reach + [f"copies {STEPS_BELOW} => {STEPS_BELOW}"])) - idle
-    return step / STEPS_BELOW * 1e6, copy / STEPS_BELOW * 1e6
+def below(program, frames):
+    """The microseconds of a step below so many frames."""
+    text = DEEP % (frames - 1, STEPS_OF_CALL * frames)
+    idle = seconds(program, text.encode())
+    return (seconds(program, (text + "step 0\n" * STEPS_BELOW).encode()) - idle) / STEPS_BELOW * 1e6
 
 
 def main():
     program, _ = words(__doc__, 0)
-    texts = programs()
-    one = texts["Counts in a global."]
-    four = texts["Each member of a team counts in a cell of its own, and in an element of a global array."]
-    for name, text, workers, first in (("one worker", one, 1, ["forwards 1 0"]), ("four workers", four, 4, ["forwards 1 1"])):
-        steps, undos = rates(program, text, workers, first, STEPS // workers)
+    for name, text, count in (("one worker", ONE, 1), ("four workers", FOUR, 4)):
+        steps, undos = rates(program, text, count)
         print(f"{name}: {steps:,.0f} steps a second, {undos:,.0f} undos a second")
-    deep = texts["`main` calls `f(899)`, which calls itself down to `f(0)`; there it counts in a global."]
-    for name, text, steps in (("one frame", texts["`main` calls `f`, which counts in a global."], 4), ("900 frames", deep, 5398)):
-        step, copy = below(program, text, steps)
-        print(f"below {name}: {step:.2f} us a step, {copy:.2f} us a copy of the control")
+    for name, frames in (("one frame", 1), ("900 frames", 900)):
+        print(f"below {name}: {below(program, frames):.2f} us a step")
 
 
 if __name__ == "__main__":

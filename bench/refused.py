@@ -6,8 +6,8 @@ INPUT is the standard input (the stored run, crates/ompback/stdin, if not given)
 loaded before the C library; it refuses the N-th call of one kind. Of each such run three things are wanted: that it ends,
 that it ends with status 3 and the right fault on standard error (or as the whole run does, where nothing was lost), and
 that what it wrote is a beginning of what the whole run writes.
-CASES is a program that judges cases, as crates/om_front_cases/out/om_front_cases, and TITLE that of a section of its crate's
-stdin. Each of its runs ends as the whole run does, or out of memory: an answer that changes in place of that is wrong.
+CASES is a program that judges cases, crates/om_front_cases/out/om_front_cases or crates/om_machine_cases/out/om_machine_cases,
+and TITLE that of a section of its crate's stdin. Each of its runs ends as the whole run does, or out of memory: an answer that changes in place of that is wrong.
 The last line counts the runs; the status is 1 where one of them is wrong.
 """
 import itertools, os, subprocess, sys, tempfile
@@ -112,16 +112,13 @@ def is_judged_or_wants_memory(_kind, whole, got):
 
 
 def case_of(program, title):
-    """The input of the section of a title, with the last program before it."""
+    """The input of the section of a title, which may stand behind a word."""
     with open(os.path.join(os.path.dirname(program), "../stdin"), "rb") as f:
         sections = f.read().split(b"\n== ")[1:]
-    last = []
     for section in sections:
         head, _, _ = section.partition(b"\n")
-        if head.startswith(b"program "):
-            last = [section]
-        elif head.endswith(b" " + title.encode()):
-            return b"".join(b"\n== " + part for part in last + [section])
+        if (b" " + head).endswith(b" " + title.encode()):
+            return b"\n== " + section
     sys.exit(f"no section {title!r}")
 
 

@@ -17,12 +17,12 @@ def filled(front, part, back, size):
     return (text + " " * (size - len(text))).encode()
 
 
-def seconds(program, text, wanted=None, times=3):
+def seconds(program, text, wanted=None, times=3, arguments=()):
     """The best time of some runs on a text. Each has to answer `wanted`; where none is given, to end with status 0."""
     best = None
     for _ in range(times):
         begin = time.monotonic()
-        done = subprocess.run([program], input=text, stdout=subprocess.DEVNULL if wanted is None else subprocess.PIPE)
+        done = subprocess.run([program, *arguments], input=text, stdout=subprocess.DEVNULL if wanted is None else subprocess.PIPE)
         taken = time.monotonic() - begin
         if wanted is None and done.returncode != 0:
             sys.exit(f"{program} ended with status {done.returncode}")

@@ -1,17 +1,12 @@
-//! Judges the cases of its standard input: sources, what is asked of lexer, directive lines, parser
-//! and resolving, and what they are to answer. The cases need the public calls of these crates alone.
+//! Judges the cases of its standard input: C sources, and what the front end is to say of each of them.
+//! The contracts say which tokens, tree and resolution a source has. So a case asks for the verdict alone.
 #![tactic(auto)]
 
 mod cases;
-mod directives;
-mod frames;
-mod lexing;
-mod nest;
-mod parsing;
-mod printers;
-mod resolving;
+mod laws;
+mod stage;
 mod table;
-mod verdicts;
+mod written;
 
 use crate::cases::judge;
 use anyhow::{Result, ensure};

@@ -1,18 +1,10 @@
-//! Judges the cases of its standard input: programs of instructions, what is asked of the machine, and what
-//! the machine is to answer. The cases need the public calls of the machine's crates alone.
+//! Judges the cases of its standard input: whole sessions of several workers, and what the debugger is to
+//! write in each of them.
 #![tactic(auto)]
 
-mod assembly;
-mod calls;
 mod cases;
-mod fault;
-mod instructions;
 mod laws;
-mod objects;
-mod run;
-mod script;
-mod texts;
-mod words;
+mod session;
 
 use crate::cases::judge;
 use anyhow::{Result, ensure};

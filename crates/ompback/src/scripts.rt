@@ -114,7 +114,7 @@ fn answers_in_any_pieces(rt: HostRuntime) {
 }
 
 // Inputs, each with its status and its output.
-const SCRIPTS: [(&[u8], u8, &[u8]); 13] = [
+const SCRIPTS: [(&[u8], u8, &[u8]); 16] = [
     (b"", 1, b"refused S15 line 1 column 1\n"),
     (b"int x; /* a", 1, b"refused S2 line 1 column 8\n"),
     (
@@ -172,6 +172,21 @@ const SCRIPTS: [(&[u8], u8, &[u8]); 13] = [
         0,
         b"blocked B5\nx = 1\n",
     ),
+    (
+        b"int x;\nint main(void){\n#pragma omp parallel\nx = x + 1;\n}\n%%\nstep 0\nstep 0\nstep 1\nstep 0\nstep 1\nstep 0\nstep 0\nstep 0\nstep 1\nstep 1\nstep 1\nprint x\nundo 0\nundo 1\nundo 0\nprint x\n",
+        0,
+        b"#1 worker 0 line 3\n#2 worker 0 line 3\n#3 worker 1 line 3\n#4 worker 0 line 4\n#5 worker 1 line 4\n#6 worker 0 line 4\n#7 worker 0 line 4\n#8 worker 0 line 4\n#9 worker 1 line 4\n#10 worker 1 line 4\n#11 worker 1 line 4\nx = 1\nrefused by #11 worker 1 on global x\nundone #11 worker 1 line 4\nundone #8 worker 0 line 4\nx = 0\n",
+    ),
+    (
+        b"int main(void){\n#pragma omp parallel\n{\n#pragma omp task\n;\n}\n}\n%%\nstep 0\nstep 0\nstep 1\nstep 0\nstep 1\nundo 0\nstep 0\nstep 1\nstart 1 0.1.0.1\nundo 0\ntasks\n",
+        0,
+        b"#1 worker 0 line 2\n#2 worker 0 line 2\n#3 worker 1 line 2\n#4 worker 0 line 4\n#5 worker 1 line 4\nundone #4 worker 0 line 4\n#6 worker 0 line 4\n#7 worker 1 line 2\n#8 worker 1 line 2\nrefused by #8 worker 1 on task 0.1.0.1\nready 0.1.1.1 line 4\n",
+    ),
+    (
+        b"int main(void){\n#pragma omp parallel\n{\n#pragma omp critical\n{}\n}\n}\n%%\nstep 0\nstep 0\nstep 1\nstep 0\nstep 0\nstep 1\nstep 1\nstep 0\nstep 1\nundo 0\n",
+        0,
+        b"#1 worker 0 line 2\n#2 worker 0 line 2\n#3 worker 1 line 2\n#4 worker 0 line 4\n#5 worker 0 line 4\n#6 worker 1 line 4\nblocked B2 by 0\n#7 worker 0 line 4\n#8 worker 1 line 4\nrefused by #8 worker 1 on lock -\n",
+    ),
 ];
 
 #[test]
@@ -218,13 +233,12 @@ fn nested(
     Ok(source)
 }
 
-// How many nests, from the first on, are accepted, or refused by lowering alone for their directives.
+// How many nests, from the first on, are accepted.
 fn nests_resolved(alloc: Global) -> Result<usize, AllocError> {
-    let refused: &[u8] = b"refused S3 line 2 column 1\n";
     for (index, (front, middle, back, times)) in NESTS.iter().enumerate() {
         let source = nested(alloc, front, middle, back, *times)?;
         let told = answered(alloc, source.as_slice(), 4096);
-        if !told.text.is_empty() && told.text.as_slice() != refused {
+        if !told.text.is_empty() {
             return Ok(index);
         }
     }

@@ -1,0 +1,72 @@
+//! Sources as they are written in a case.
+//!
+//! A control character stands there as its picture: `␊` is the end of a line, `␍`, `␉`, `␌` and `␁` are the
+//! others. `⟨1023 if(1)⟩` is so many times `if(1)`; a `№` in there is the number of the time, from 0 on.
+
+use crate::table::cut;
+use std::alloc::AllocError;
+
+/// Adds the source that a text stands for.
+pub(crate) fn write_out(source: &mut String, text: &str) -> Result<(), AllocError> {
+    let (front, rest) = cut(text, '⟨');
+    add(source, front)?;
+    for part in rest.split('⟨') {
+        let (repeated, behind) = cut(part, '⟩');
+        add_repeated(source, repeated)?;
+        add(source, behind)?;
+    }
+    Ok(())
+}
+
+/// Adds a text with the control characters in place of their pictures.
+fn add(source: &mut String, text: &str) -> Result<(), AllocError> {
+    for character in text.chars() {
+        source.push(control_of(character))?;
+    }
+    Ok(())
+}
+
+/// The control character of a picture; any other character stands for itself.
+fn control_of(character: char) -> char {
+    match character {
+        '␁' => '\u{1}',
+        '␉' => '\t',
+        '␊' => '\n',
+        '␌' => '\u{c}',
+        '␍' => '\r',
+        other => other,
+    }
+}
+
+/// Adds a part as often as the number before it says. Without a number it stands there as it is.
+fn add_repeated(source: &mut String, repeated: &str) -> Result<(), AllocError> {
+    let (count, part) = cut(repeated, ' ');
+    match count.parse() {
+        Ok(count) => add_times(source, count, part),
+        Err(_) => add(source, repeated),
+    }
+}
+
+/// Adds a part so many times.
+fn add_times(source: &mut String, count: u32, part: &str) -> Result<(), AllocError> {
+    let numbered = part.split_once('№');
+    for number in 0..count {
+        match numbered {
+            Some((front, back)) => add_numbered(source, front, number, back)?,
+            None => add(source, part)?,
+        }
+    }
+    Ok(())
+}
+
+/// Adds a number between two texts.
+fn add_numbered(
+    source: &mut String,
+    front: &str,
+    number: u32,
+    back: &str,
+) -> Result<(), AllocError> {
+    add(source, front)?;
+    write!(source, "{number}")?;
+    add(source, back)
+}
