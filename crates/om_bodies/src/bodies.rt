@@ -6,7 +6,6 @@ ghost use Rattle.om_bodies.specs.Regions.{parallel_tree, statement_of, task_tree
 ghost use Rattle.om_resolved.specs.ResolvedView.{view_resolved_function};
 ghost use Rattle.om_rows.specs.Bodies.{FunctionBody};
 ghost use Rattle.om_rows.specs.Coded.{BodyHasCode, StatementHasCode};
-ghost use Rattle.om_statements.specs.Plain.{HasNoSections, HaveNoSections};
 ghost use Rattle.om_tables.specs.Numbering.{numbers_of};
 ghost use Rattle.om_tables.specs.Scopes.{names_of};
 
@@ -28,8 +27,7 @@ pub fn function_body(
     numbers: Numbers,
     function: &ResolvedFunction,
 ) -> Result<Emitted, AllocError>
-    requires code { BodyHasCode (view_resolved_function function.now) FunctionBody }
-    requires plain { HaveNoSections (view_resolved_function function.now).body }
+    requires { BodyHasCode (view_resolved_function function.now) FunctionBody }
     ensures row { let seen = view_resolved_function function.now in
         IfOk result (HasRow (names_of scope.now) (numbers_of numbers) seen FunctionBody) }
     ensures lists { let seen = view_resolved_function function.now in
@@ -50,8 +48,7 @@ pub fn parallel_body(
     numbers: Numbers,
     region: &Region<'_>,
 ) -> Result<Emitted, AllocError>
-    requires code { StatementHasCode false false (statement_of region.now) }
-    requires plain { HasNoSections (statement_of region.now) }
+    requires { StatementHasCode false false (statement_of region.now) }
     ensures row { let tree = parallel_tree region.now in
         IfOk result (HasRegionRow (names_of scope.now) (numbers_of numbers) tree) }
     ensures lists { IfOk result (HasRegionLists (numbers_of numbers) (parallel_tree region.now)) }
@@ -71,8 +68,7 @@ pub fn task_body(
     numbers: Numbers,
     region: &Region<'_>,
 ) -> Result<Emitted, AllocError>
-    requires code { StatementHasCode false false (statement_of region.now) }
-    requires plain { HasNoSections (statement_of region.now) }
+    requires { StatementHasCode false false (statement_of region.now) }
     ensures row { let tree = task_tree region.now in
         IfOk result (HasRegionRow (names_of scope.now) (numbers_of numbers) tree) }
     ensures lists { IfOk result (HasRegionLists (numbers_of numbers) (task_tree region.now)) }

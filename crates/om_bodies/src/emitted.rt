@@ -1,21 +1,13 @@
 //! The code of a body, once all of it is written.
 
-ghost use Rattle.std.specs.Prelude.{◌≡◌, [], IfOk};
+ghost use Rattle.std.specs.Prelude.{◌≡◌, IfOk};
 ghost use Rattle.om_emit.specs.Drafts.{settled_code};
+ghost use Rattle.om_emit.specs.Settled.{settled_lists};
 
 use om_code::raw::Line;
-use om_emit::draft::Draft;
+use om_emit::draft::{Draft, PickList};
 use om_seq::Seq;
 use std::alloc::{AllocError, Global};
-
-/// Where the parts of a `sections` begin in the code of their body.
-#[derive(Drop)]
-pub struct PickList {
-    /// The number of the list in the program.
-    pub number: u32,
-    /// The place of each part, in the order of the text.
-    pub places: Seq<u32>,
-}
 
 /// The code of a body, and the lists of the PICKs in it.
 #[derive(Drop)]
@@ -24,14 +16,12 @@ pub struct Emitted {
     pub lists: Vec<PickList>,
 }
 
-/// What is written in a draft that has no list of PICK.
+/// What is written in a draft, with the place of each label in its stead.
 pub(crate) fn settled(alloc: Global, draft: &Draft) -> Result<Emitted, AllocError>
     ensures code { IfOk result (λ made. made.code ≡ settled_code draft.now) }
-    ensures lists { IfOk result (λ made. made.lists.items ≡ []) }
+    ensures lists { IfOk result (λ made. made.lists.items ≡ settled_lists draft.now) }
 {
     let code = draft.settle(alloc)?;
-    Ok(Emitted {
-        code,
-        lists: Vec::new(alloc),
-    })
+    let lists = draft.lists(alloc)?;
+    Ok(Emitted { code, lists })
 }

@@ -7,7 +7,6 @@ ghost use Rattle.om_resolved.specs.ResolvedView.{view_resolved_function};
 ghost use Rattle.om_rows.specs.Bodies.{FunctionBody};
 ghost use Rattle.om_rows.specs.Code as codes;
 ghost use Rattle.om_rows.specs.Coded.{BodyHasCode, StatementHasCode};
-ghost use Rattle.om_statements.specs.Plain.{HasNoSections, HaveNoSections};
 ghost use Rattle.om_tables.specs.Numbering.{numbers_of};
 ghost use Rattle.om_tables.specs.Scopes.{names_of};
 
@@ -29,8 +28,7 @@ pub(crate) fn write_function(
     numbers: Numbers,
     function: &ResolvedFunction,
 ) -> Result<(), AllocError>
-    requires code { BodyHasCode (view_resolved_function function.now) FunctionBody }
-    requires plain { HaveNoSections (view_resolved_function function.now).body }
+    requires { BodyHasCode (view_resolved_function function.now) FunctionBody }
     ensures { let seen = view_resolved_function function.now in
         let names = names_of scope.now in
         OnOk result (EmitsBody names (numbers_of numbers) seen FunctionBody draft.old draft.new) }
@@ -61,8 +59,7 @@ pub(crate) fn write_parallel(
     numbers: Numbers,
     region: &Region<'_>,
 ) -> Result<(), AllocError>
-    requires code { StatementHasCode false false (statement_of region.now) }
-    requires plain { HasNoSections (statement_of region.now) }
+    requires { StatementHasCode false false (statement_of region.now) }
     ensures { let tree = parallel_tree region.now in
         let names = names_of scope.now in
         OnOk result (EmitsRegion names (numbers_of numbers) tree draft.old draft.new) }
@@ -86,8 +83,7 @@ pub(crate) fn write_task(
     numbers: Numbers,
     region: &Region<'_>,
 ) -> Result<(), AllocError>
-    requires code { StatementHasCode false false (statement_of region.now) }
-    requires plain { HasNoSections (statement_of region.now) }
+    requires { StatementHasCode false false (statement_of region.now) }
     ensures { let tree = task_tree region.now in
         let names = names_of scope.now in
         OnOk result (EmitsRegion names (numbers_of numbers) tree draft.old draft.new) }

@@ -3,3 +3,4 @@ pub mod Expressions
 pub mod Jumping
 pub mod Arguments
 pub mod Views
+pub mod Labels

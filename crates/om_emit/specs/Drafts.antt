@@ -1,6 +1,6 @@
 -- Code that is being written: a jump names a label, and a label's place comes to be known once its code is
 -- reached.
-use Rattle.std.specs.Prelude.{◌≡◌, ℕ, List, [], ◌∷◌, ◌++◌, Option, Some, None, length, map, slice_get, slice_set}
+use Rattle.std.specs.Prelude.{◌≡◌, ◌≤◌, ◌<◌, ◌+◌, ◌^◌, ℕ, zero, suc, List, [], ◌∷◌, ◌++◌, Option, Some, None, length, map, slice_get, slice_set}
 use Rattle.om_code.specs.declared.instruction.Instr.{Instr}
 use Rattle.om_code.specs.declared.instruction.Instr.TheVariants as i
 use Rattle.om_code.specs.declared.raw.Line.{Line}
@@ -58,6 +58,7 @@ pub record Puts (line : ℕ) (instruction : Instr) (old new : Written) : Type 0 
 pub record Fresh (label : ℕ) (old new : Written) : Type 0 where
   pub code : new.code ≡ old.code
   pub is : label ≡ length old.places
+  pub fits : label < 2 ^ 32
   pub places : new.places ≡ old.places ++ None ∷ []
   pub picks : new.picks ≡ old.picks
 
@@ -68,8 +69,27 @@ pub record Defines (label : ℕ) (old new : Written) : Type 0 where
   pub places : new.places ≡ slice_set old.places label (Some (length old.code))
   pub picks : new.picks ≡ old.picks
 
--- the targets of a PICK
-pub record Lists (number : ℕ) (labels : List ℕ) (old new : Written) : Type 0 where
+-- so many labels that stand nowhere yet
+abbrev pub unplaced : ℕ → List (Option ℕ)
+unplaced zero = []
+unplaced (suc count) = None ∷ unplaced count
+
+-- so many labels from this one on
+abbrev pub labels_from : (first count : ℕ) → List ℕ
+labels_from first zero = []
+labels_from first (suc count) = first ∷ labels_from (first + 1) count
+
+pub record FreshLabels (labels : List ℕ) (count : ℕ) (old new : Written) : Type 0 where
   pub code : new.code ≡ old.code
-  pub places : new.places ≡ old.places
-  pub picks : new.picks ≡ old.picks ++ record { number = number; labels = labels } ∷ []
+  pub are : labels ≡ labels_from (length old.places) count
+  pub fit : 0 < count → length old.places + count ≤ 2 ^ 32
+  pub places : new.places ≡ old.places ++ unplaced count
+  pub picks : new.picks ≡ old.picks
+
+-- the list of a PICK, with a new label for each of its parts
+pub record FreshList (number first count : ℕ) (old new : Written) : Type 0 where
+  pub code : new.code ≡ old.code
+  pub is : first ≡ length old.places
+  pub fit : first + count ≤ 2 ^ 32
+  pub places : new.places ≡ old.places ++ unplaced count
+  pub picks : new.picks ≡ old.picks ++ record { number = number; labels = labels_from first count } ∷ []

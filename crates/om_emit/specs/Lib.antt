@@ -1,4 +1,5 @@
 pub mod Drafts
+pub mod Settled
 pub mod Emits
 pub mod Forms
 pub mod Rests

@@ -12,12 +12,12 @@ use Rattle.om_rows.specs.Rows.{end, ins, part, here}
 
 -- ---- lists
 
-get_left : {A : Type 0} → (xs ys : List A) (k : ℕ) → k < length xs → slice_get (xs ++ ys) k ≡ slice_get xs k
+pub get_left : {A : Type 0} → (xs ys : List A) (k : ℕ) → k < length xs → slice_get (xs ++ ys) k ≡ slice_get xs k
 get_left [] ys k h = absurd (omega arith)
 get_left (x ∷ xs) ys zero h = refl
 get_left (x ∷ xs) ys (suc k) h = get_left xs ys k (omega arith)
 
-get_seam : {A : Type 0} → (xs : List A) (y : A) (ys : List A) → slice_get (xs ++ y ∷ ys) (length xs) ≡ Some y
+pub get_seam : {A : Type 0} → (xs : List A) (y : A) (ys : List A) → slice_get (xs ++ y ∷ ys) (length xs) ≡ Some y
 get_seam [] y ys = refl
 get_seam (x ∷ xs) y ys = get_seam xs y ys
 
@@ -42,7 +42,7 @@ set_length (z ∷ xs) (suc k) y = ap suc (set_length xs k y)
 
 -- ---- one behind the other
 
-grows_on : (a b c : Written) → Grows a b → Grows b c → Grows a c
+pub grows_on : (a b c : Written) → Grows a b → Grows b c → Grows a c
 grows_on a b c f g = record {
   longer = omega (arith, f.longer, g.longer);
   code = λ k h. g.code k (omega (arith, f.longer)) ∙ f.code k h;
@@ -59,7 +59,7 @@ keeps_on n a b c f g = record {
 }
 
 -- what fits the later draft fits the earlier one
-fits_back : (done : Finished) (at : Labels) (p : ℕ) (b c : Written) → Grows b c → Fits done at p c
+pub fits_back : (done : Finished) (at : Labels) (p : ℕ) (b c : Written) → Grows b c → Fits done at p c
     → Fits done at p b
 fits_back done at p b c g f = record {
   code = λ k x le e. f.code k x le (g.code k (slice_get_within b.code k x e) ∙ e);
@@ -67,7 +67,7 @@ fits_back done at p b c g f = record {
   picks = λ k x e. f.picks k x (g.picks k x e);
 }
 
-fits_from : (done : Finished) (at : Labels) (p q : ℕ) (c : Written) → p ≤ q → Fits done at p c
+pub fits_from : (done : Finished) (at : Labels) (p q : ℕ) (c : Written) → p ≤ q → Fits done at p c
     → Fits done at q c
 fits_from done at p q c le f = record {
   code = λ k x h e. f.code k x (omega arith) e;

@@ -1,7 +1,8 @@
 //! Code that is being written, with labels in place of the targets of jumps.
 
 ghost use Rattle.std.specs.Prelude.{◌≡◌, IfOk, OnOk, None, Some, slice_get};
-ghost use Rattle.om_emit.specs.Drafts.{Defines, Fresh, Lists, Puts, moved, nothing, place_in, settled, settled_code};
+ghost use Rattle.om_emit.specs.Drafts.{Defines, Fresh, FreshLabels, FreshList, Puts, moved, nothing, place_in, settled, settled_code};
+ghost use Rattle.om_emit.specs.Settled.{settled_list, settled_lists};
 
 use om_code::instruction::Instr;
 use om_code::raw::Line;
@@ -16,6 +17,15 @@ pub struct Pick {
     pub number: u32,
     /// A label for each part, in the order of the text.
     pub labels: Seq<u32>,
+}
+
+/// The list of a PICK: where the parts of a `sections` begin in the code of their body.
+#[derive(Drop)]
+pub struct PickList {
+    /// The number of the list in the program.
+    pub number: u32,
+    /// The place of each part, in the order of the text.
+    pub places: Seq<u32>,
 }
 
 /// The code of one body, as far as it is written.
@@ -82,12 +92,32 @@ impl Draft {
         self.places[label as usize] = Some(self.code.len() as u32);
     }
 
-    /// Adds the list of a PICK: its number in the program, and the labels of its parts.
-    pub fn list(&mut self, number: u32, labels: Seq<u32>) -> Result<(), AllocError>
-        ensures { OnOk result (Lists number labels self.old self.new) }
+    /// A new label for each part of a `sections`, one behind the other, and the list of its PICK with
+    /// this number in the program. The first label is answered; none has a place yet.
+    pub fn fresh_list(&mut self, alloc: Global, number: u32, count: u32) -> Result<u32, AllocError>
+        ensures { IfOk result (λ first. FreshList number first count self.old self.new) }
     {
-        self.picks.push(Pick { number, labels })?;
-        Ok(())
+        let Ok(first) = u32::try_from(self.places.len()) else {
+            return Err(AllocError);
+        };
+        let labels = self.fresh_labels(alloc, count)?;
+        self.picks.push(Pick {
+            number,
+            labels: Seq::of(labels),
+        })?;
+        Ok(first)
+    }
+
+    /// So many new labels, one behind the other, which have no place yet.
+    fn fresh_labels(&mut self, alloc: Global, count: u32) -> Result<Vec<u32>, AllocError>
+        ensures { IfOk result (λ labels. FreshLabels labels.items count self.old self.new) }
+    {
+        let mut labels = Vec::new(alloc);
+        for _ in 0..count {
+            let label = self.fresh()?;
+            labels.push(label)?;
+        }
+        Ok(labels)
     }
 
     /// The code, with the place of each label in its stead.
@@ -100,6 +130,18 @@ impl Draft {
             code.push(settled(places, *line))?;
         }
         Ok(Seq::of(code))
+    }
+
+    /// The lists of the PICKs in the code, with the place of each label in its stead.
+    pub fn lists(&self, alloc: Global) -> Result<Vec<PickList>, AllocError>
+        ensures { IfOk result (λ lists. lists.items ≡ settled_lists self.now) }
+    {
+        let places = self.places.as_slice();
+        let mut lists = Vec::new(alloc);
+        for pick in self.picks.as_slice() {
+            lists.push(settled_list(alloc, places, pick)?)?;
+        }
+        Ok(lists)
     }
 }
 
@@ -136,4 +178,18 @@ fn settled(places: &[Option<u32>], line: Line) -> Line
         instruction: moved(places, line.instruction),
         line: line.line,
     }
+}
+
+/// The list of a PICK, with the place of each label.
+fn settled_list(alloc: Global, places: &[Option<u32>], pick: &Pick) -> Result<PickList, AllocError>
+    ensures { IfOk result (λ list. list ≡ settled_list (place_in places.now) pick.now) }
+{
+    let mut targets = Vec::new(alloc);
+    for label in pick.labels.as_slice() {
+        targets.push(place_in(places, *label))?;
+    }
+    Ok(PickList {
+        number: pick.number,
+        places: Seq::of(targets),
+    })
 }

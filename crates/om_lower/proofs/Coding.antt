@@ -1,8 +1,9 @@
 -- A body, as it was emitted.
 use Rattle.std.proofs.Common.{◌≡◌, ◌<◌, ◌≤◌, inl, inr, ℕ, zero, suc, Bool, List, [], ◌∷◌, ◌++◌, Option, None, Some, Contains, Any, length, map, slice_get, take, ◌+◌, false, refl, sym, ap, subst, ◌∙◌, arith}
 use Rattle.om_bodies.specs.declared.emitted.Emitted.{Emitted}
-use Rattle.om_bodies.specs.declared.emitted.PickList.{PickList}
-use Rattle.om_bodies.specs.Emitted.{HasLists, HasRow, ListsStand}
+use Rattle.om_emit.specs.declared.draft.PickList.{PickList}
+use Rattle.om_bodies.specs.Emitted.{HasLists, HasRow}
+use Rattle.om_emit.specs.Settled.{ListsStand}
 use Rattle.om_code.specs.declared.raw.Body.{Body}
 use Rattle.om_code.specs.declared.raw.Line.{Line}
 use Rattle.om_code.specs.declared.raw.Slot.{Slot}

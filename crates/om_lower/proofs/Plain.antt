@@ -6,7 +6,7 @@ use Rattle.om_lower.specs.Sections.{sections_in, sections_among, or_else}
 use Rattle.om_lower.specs.Sites.{IsPlain}
 use Rattle.om_resolved.specs.ResolvedTree.{ResolvedStatementTree, Declaration, Block, Empty, Expression, If, IfElse, While, Do, For, Return, Break, Continue, Parallel, Task, Loop, Sections, Construct, Update, StandAlone, ResolvedStatementsTree, NoStatements, Statement, ResolvedFunctionTree}
 use Rattle.om_rows.specs.Bodies.{FunctionBody, Numbers, ParallelBody, TaskBody, all_regions, behind, behind_all, function_bodies, function_variables, next_body, parts_regions, region_variables, regions}
-use Rattle.om_statements.specs.Plain.{HasNoSections, HaveNoSections}
+use Rattle.om_lower.specs.Plain.{HasNoSections, HaveNoSections}
 use Rattle.om_tables.specs.Picks.{all_own_picks, own_picks}
 
 -- where the first of two is none, neither is one

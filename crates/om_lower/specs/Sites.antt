@@ -11,7 +11,7 @@ use Rattle.om_rows.specs.Bodies.{BodySite, BodyTree, FunctionBody, ParallelBody,
 use Rattle.om_rows.specs.Coded.{BodyHasCode}
 use Rattle.om_rows.specs.Mentions.{extents_of}
 use Rattle.om_rows.specs.Slots.{Extent, cells_in}
-use Rattle.om_statements.specs.Plain.{HasNoSections, HaveNoSections}
+use Rattle.om_lower.specs.Plain.{HasNoSections, HaveNoSections}
 use Rattle.om_tables.specs.Numbering.{numbers_of}
 use Rattle.om_tables.specs.Picks.{body_picks}
 

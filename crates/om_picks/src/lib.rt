@@ -4,4 +4,4 @@
 pub mod laws;
 mod lists;
 
-pub use lists::{PickList, joined};
+pub use lists::joined;

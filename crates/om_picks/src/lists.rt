@@ -1,19 +1,12 @@
 //! Lists of PICK, each put at its number.
 
 ghost use Rattle.std.specs.Prelude.{◌≡◌, ◌<◌, IfOk, OnOk, length, map, slice_set};
-ghost use Rattle.om_picks.specs.Lists.{ListsStand, number_of};
+ghost use Rattle.om_emit.specs.Settled.{ListsStand, number_of};
 ghost use Rattle.om_picks.specs.Once.{IsEachOnce};
 
+use om_emit::draft::PickList;
 use om_seq::Seq;
 use std::alloc::{AllocError, Global};
-
-/// The list of a PICK, and its number among those of the program.
-#[derive(Drop)]
-pub struct PickList {
-    pub number: u32,
-    /// The place that each choice goes to.
-    pub places: Seq<u32>,
-}
 
 /// So many lists, each of these at its number. Their numbers are those below the count, each once.
 pub fn joined(alloc: Global, count: u32, lists: Vec<PickList>) -> Result<Seq<Seq<u32>>, AllocError>

@@ -1,30 +1,26 @@
 -- The row of each form, of what is written before its statement, of the statement, and of what is written behind it.
-use Rattle.std.proofs.Common.{◌≡◌, ℕ, ◌+◌, ◌<◌, ◌≤◌, List, Option, Some, None, Bool, true, false, map, length, sym, ap, ◌∙◌, subst, arith}
-use Rattle.std.specs.Prelude.{is_some, slice_get}
-use Rattle.std.proofs.lemmas.List.{length-map}
+use Rattle.std.proofs.Common.{◌≡◌, ℕ, List, Option, Some, None, Bool, map, length, sym, subst, arith}
 use Rattle.om_code.specs.declared.instruction.Comparison.{Comparison}
 use Rattle.om_constructs.specs.declared.labels.LoopLabels.{LoopLabels}
 use Rattle.om_constructs.specs.declared.labels.TurnLabels.{TurnLabels}
-use Rattle.om_constructs.specs.Stretches.{Opens, Begins, BeginsTurn, close_row, construct_begin, construct_end, do_begin, do_end, else_begin, for_begin, for_end, fork_row, loop_end, spawn_row, test_at, while_begin, worksharing_begin, worksharing_rest}
+use Rattle.om_constructs.specs.Stretches.{Opens, Begins, BeginsTurn, close_row, construct_begin, construct_end, do_begin, do_end, else_begin, for_begin, for_end, loop_end, test_at, while_begin, worksharing_begin, worksharing_rest}
 use Rattle.om_emit.specs.Drafts.{Labels, Written, Defines}
 use Rattle.om_emit.specs.Emits.{Finished, Part, site, Goes, Emits}
-use Rattle.om_emit.specs.Writing.{goes_as}
 use Rattle.om_lexer.specs.declared.token.Span.{Span}
-use Rattle.om_resolved.specs.declared.resolved.Capture.{Capture}
 use Rattle.om_resolved.specs.declared.resolved.ConstructKind.{ConstructKind}
 use Rattle.om_resolved.specs.declared.resolved.ConstructKind.TheVariants as constructs
 use Rattle.om_resolved.specs.declared.resolved.ResolvedClause.{ResolvedClause}
 use Rattle.om_resolved.specs.ResolvedView.{view_resolved_clause}
 use Rattle.om_resolved.specs.ResolvedTree.{ResolvedExpressionTree, ResolvedClauseTree, ResolvedLoopTree, ResolvedStartTree, ResolvedStatementTree, If, IfElse, While, Do, For, Loop, Construct}
 use Rattle.om_rows.specs.Bodies.{Numbers, behind}
-use Rattle.om_rows.specs.Expressions.{value, effect}
+use Rattle.om_rows.specs.Expressions.{value}
 use Rattle.om_rows.specs.Operators.{comparison_of}
-use Rattle.om_rows.specs.Rows.{Site, Row, end, part, here, given, each, perhaps}
-use Rattle.om_rows.specs.Slots.{FirstCopy}
-use Rattle.om_rows.specs.Statements.{Jumps, clause_value, statement, construct_row, loop_rest, in_iteration}
+use Rattle.om_rows.specs.Rows.{Row, end, part, here, given, perhaps}
+use Rattle.om_rows.specs.Statements.{clause_value, statement, construct_row, loop_rest, in_iteration}
 use Rattle.om_statements.specs.declared.spot.JumpLabels.{JumpLabels}
 use Rattle.om_statements.specs.Emits.{jumps_at, EmitsStatement}
-use Rattle.om_statements.proofs.Going.{goes_then, goes_place, free_within}
+use Rattle.om_statements.specs.Going.{before_with, goes_place, goes_then, then_with, with_as, with_behind}
+use Rattle.om_tables.specs.Picks.{own_picks}
 use Rattle.om_tables.specs.Names.{Names}
 
 -- the code of a statement
@@ -38,12 +34,12 @@ pub emits_if : (names : Names) (n : Numbers) (first : Span) (c : ResolvedExpress
     → Begins label (test_at names first.line label c) a b → EmitsStatement names n s jumps b d → Defines label d e
     → EmitsStatement names n (If first c s) jumps a e
 emits_if names n first c s jumps label a b d e g h j =
-    goes_as k (λ done at. part (test_at names first.line label c done at) (part (Written_as names n s jumps done at) (here (at label) end))) _ a e
+    with_as k _ (λ done at. part (test_at names first.line label c done at) (part (Written_as names n s jumps done at) (here (at label) end))) _ a e
     (λ done at p q r.
     let t = r.1 in
     (at label, (t.0, t.1, (t.2.0, (r.2.0, subst (λ z. Written_as names n s jumps done at z r.2.0) (sym t.2.1) r.2.1, r.2.2)))))
-    (goes_then k k k _ _ a b e (omega arith) (omega arith) g.goes
-    (goes_then k (length b.places) label _ _ b d e g.goes.keeps.more g.above h (goes_place label d e j)))
+    (before_with k k k _ _ _ a b e (omega arith) (omega arith) g.goes
+    (with_behind k (length b.places) label _ _ _ b d e g.goes.keeps.more g.above h (goes_place label d e j)))
   where
     k : ℕ
     k = length a.places
@@ -53,7 +49,7 @@ pub emits_if_else : (names : Names) (n : Numbers) (first : Span) (c : ResolvedEx
     → EmitsStatement names (behind n s) t jumps e f → Defines label f g
     → EmitsStatement names n (IfElse first c s t) jumps a g
 emits_if_else names n first c s t jumps head label a b d e f g h1 h2 h3 h4 h5 =
-    goes_as k (λ done at. part (test_at names first.line head c done at) (part (Written_as names n s jumps done at)
+    with_as k _ (λ done at. part (test_at names first.line head c done at) (part (Written_as names n s jumps done at)
     (part (else_begin names first.line head label done at) (part (Written_as names (behind n s) t jumps done at) (here (at label) end))))) _ a g
     (λ done at p q r.
     let x = r.1 in
@@ -74,10 +70,10 @@ emits_if_else names n first c s t jumps head label a b d e f g h1 h2 h3 h4 h5 =
         ),
       ),
     ))
-    (goes_then k k k _ _ a b g (omega arith) (omega arith) h1.goes
-    (goes_then k (length b.places) k _ _ b d g h1.goes.keeps.more (omega arith) h2
-    (goes_then k head k _ _ d e g h1.above (omega arith) h3.goes
-    (goes_then k (length e.places) label _ _ e f g (omega (arith, h1.goes.keeps.more, h2.keeps.more, h3.goes.keeps.more)) (omega (arith, h1.above, h3.above)) h4
+    (before_with k k k _ _ _ a b g (omega arith) (omega arith) h1.goes
+    (then_with k (length b.places) k (own_picks n s) (own_picks (behind n s) t) _ _ b d g h1.goes.keeps.more (omega arith) h2
+    (before_with k head k _ _ _ d e g h1.above (omega arith) h3.goes
+    (with_behind k (length e.places) label _ _ _ e f g (omega (arith, h1.goes.keeps.more, h2.more, h3.goes.keeps.more)) (omega (arith, h1.above, h3.above)) h4
     (goes_place label f g h5)))))
   where
     k : ℕ
@@ -88,7 +84,7 @@ pub emits_while : (names : Names) (n : Numbers) (first : Span) (c : ResolvedExpr
     → Goes labels.over (loop_end names first.line labels) d e
     → EmitsStatement names n (While first c s) jumps a e
 emits_while names n first c s jumps labels a b d e h1 h2 h3 =
-    goes_as k (λ done at. part (while_begin names first.line c labels done at)
+    with_as k _ (λ done at. part (while_begin names first.line c labels done at)
     (part (Written_as names n s (loop_jumps labels.over labels.again) done at) (loop_end names first.line labels done at))) _ a e
     (λ done at p q r.
     let t = r.1.1 in (
@@ -110,8 +106,8 @@ emits_while names n first c s jumps labels a b d e h1 h2 h3 =
         ),
       ),
     ))
-    (goes_then k k k _ _ a b e (omega arith) (omega arith) h1.goes
-    (goes_then k (length b.places) labels.over _ _ b d e h1.goes.keeps.more h1.above h2 h3))
+    (before_with k k k _ _ _ a b e (omega arith) (omega arith) h1.goes
+    (with_behind k (length b.places) labels.over _ _ _ b d e h1.goes.keeps.more h1.above h2 h3))
   where
     k : ℕ
     k = length a.places
@@ -121,7 +117,7 @@ pub emits_do : (names : Names) (n : Numbers) (first : Span) (c : ResolvedExpress
     → Goes labels.next (do_end names first.line labels c) d e
     → EmitsStatement names n (Do first s c) jumps a e
 emits_do names n first c s jumps labels a b d e h1 h2 h3 =
-    goes_as k (λ done at. part (do_begin labels done at)
+    with_as k _ (λ done at. part (do_begin labels done at)
     (part (Written_as names n s (loop_jumps labels.over labels.next) done at) (do_end names first.line labels c done at))) _ a e
     (λ done at p q r.
     let y = r.2.2 in
@@ -138,8 +134,8 @@ emits_do names n first c s jumps labels a b d e h1 h2 h3 =
         ),
       ),
     ))
-    (goes_then k k k _ _ a b e (omega arith) (omega arith) h1.next.goes
-    (goes_then k (length b.places) labels.next _ _ b d e h1.next.goes.keeps.more h1.next.above h2 h3))
+    (before_with k k k _ _ _ a b e (omega arith) (omega arith) h1.next.goes
+    (with_behind k (length b.places) labels.next _ _ _ b d e h1.next.goes.keeps.more h1.next.above h2 h3))
   where
     k : ℕ
     k = length a.places
@@ -150,13 +146,13 @@ pub emits_for : (names : Names) (n : Numbers) (first : Span) (begin : ResolvedSt
     → Goes labels.next (for_end names first.line labels step) d e
     → EmitsStatement names n (For first begin c step s) jumps a e
 emits_for names n first begin c step s jumps labels a b d e h1 h2 h3 =
-    goes_as k (λ done at. part (for_begin names first.line begin c labels done at)
+    with_as k _ (λ done at. part (for_begin names first.line begin c labels done at)
     (part (Written_as names n s (loop_jumps labels.over labels.next) done at) (for_end names first.line labels step done at))) _ a e
     (λ done at p q r.
     let x = r.1 in
     (at labels.again, at labels.next, at labels.over, (x.0, x.1, (x.2.0, (r.0, x.2.1, r.2)))))
-    (goes_then k k k _ _ a b e (omega arith) (omega arith) h1.next.goes
-    (goes_then k (length b.places) labels.next _ _ b d e h1.next.goes.keeps.more h1.next.above h2 h3))
+    (before_with k k k _ _ _ a b e (omega arith) (omega arith) h1.next.goes
+    (with_behind k (length b.places) labels.next _ _ _ b d e h1.next.goes.keeps.more h1.next.above h2 h3))
   where
     k : ℕ
     k = length a.places
@@ -221,14 +217,14 @@ pub emits_loop : (names : Names) (n : Numbers) (first : Span) (clauses : List Re
     → Goes labels.over (loop_end names first.line labels) d e → Emits (λ done at. close_row first.line clauses nowait (site names done)) e f
     → EmitsStatement names n (Loop first clauses nowait loop s) jumps a f
 emits_loop names n first clauses nowait loop s jumps labels a b d e f h1 h2 h3 h4 =
-    goes_as k (λ done at. part (worksharing_begin names first.line clauses loop labels done at)
+    with_as k _ (λ done at. part (worksharing_begin names first.line clauses loop labels done at)
     (part (Written_as names n s (record { over = None; next = Some labels.again }) done at)
     (part (loop_end names first.line labels done at) (close_row first.line clauses nowait (site names done))))) _ a f
     (λ done at p q r. loop_named names first.line clauses nowait loop labels (λ next. statement (site names done) n s (in_iteration next)) done at
     (comparison_of loop.comparison) r.1.0 p r.0 r.2.0 r.2.2.0 q r.1.1 r.2.1 r.2.2.1 r.2.2.2)
-    (goes_then k k k _ _ a b f (omega arith) (omega arith) h1.goes
-    (goes_then k (length b.places) k _ _ b d f h1.goes.keeps.more (omega arith) h2
-    (goes_then k labels.over (length e.places) _ _ d e f h1.above (omega (arith, h1.goes.keeps.more, h2.keeps.more, h3.keeps.more)) h3 h4)))
+    (before_with k k k _ _ _ a b f (omega arith) (omega arith) h1.goes
+    (with_behind k (length b.places) k _ _ _ b d f h1.goes.keeps.more (omega arith) h2
+    (goes_then k labels.over (length e.places) _ _ d e f h1.above (omega (arith, h1.goes.keeps.more, h2.more, h3.keeps.more)) h3 h4)))
   where
     k : ℕ
     k = length a.places
@@ -251,11 +247,11 @@ pub emits_construct : (names : Names) (n : Numbers) (first : Span) (kind : Const
     → Goes label (construct_end names first.line kind label) d e
     → EmitsStatement names n (Construct first kind clauses s) jumps a e
 emits_construct names n first kind clauses s jumps label a b d e h1 h2 h3 =
-    goes_as k (λ done at. part (construct_begin names first.line kind clauses label done at)
+    with_as k _ (λ done at. part (construct_begin names first.line kind clauses label done at)
     (part (Written_as names n s (record { over = None; next = None }) done at) (construct_end names first.line kind label done at))) _ a e
     (λ done at p q r. construct_named names first.line kind clauses s (Written_as names n s (record { over = None; next = None }) done at) label done at p r.0 r.2.0 q r.1 r.2.1 r.2.2)
-    (goes_then k k k _ _ a b e (omega arith) (omega arith) h1.goes
-    (goes_then k (length b.places) label _ _ b d e h1.goes.keeps.more h1.above h2 h3))
+    (before_with k k k _ _ _ a b e (omega arith) (omega arith) h1.goes
+    (with_behind k (length b.places) label _ _ _ b d e h1.goes.keeps.more h1.above h2 h3))
   where
     k : ℕ
     k = length a.places

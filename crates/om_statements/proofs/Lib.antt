@@ -1,5 +1,6 @@
-pub mod Going
 pub mod Lists
 pub mod Views
 pub mod Forms
 pub mod Regions
+pub mod SectionsRow
+pub mod PartLists

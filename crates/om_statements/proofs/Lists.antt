@@ -1,8 +1,8 @@
 -- Statements one behind the other.
-use Rattle.std.proofs.Common.{◌≡◌, refl, Bool, ℕ, suc, ◌+◌, ◌<◌, ◌≤◌, List, [], ◌∷◌, map, get_or, drop, drop-cons, add-one, length, sym, ap, ◌∙◌, subst, arith}
+use Rattle.std.proofs.Common.{◌≡◌, refl, Bool, ℕ, suc, ◌+◌, ◌<◌, ◌≤◌, List, ◌∷◌, map, get_or, drop, drop-cons, add-one, length, sym, ap, ◌∙◌, subst, arith}
 use Rattle.om_emit.specs.Drafts.{Written}
-use Rattle.om_emit.specs.Emits.{site, Goes}
-use Rattle.om_emit.specs.Writing.{goes_end, goes_part}
+use Rattle.om_emit.specs.Emits.{site}
+use Rattle.om_emit.specs.Writing.{goes_end}
 use Rattle.om_resolved.specs.declared.resolved.ResolvedStatement.{ResolvedStatement}
 use Rattle.om_resolved.specs.ResolvedTree as trees
 use Rattle.om_resolved.specs.ResolvedTree.{ResolvedStatementTree, ResolvedStatementsTree, NoStatements, Statement}
@@ -14,16 +14,19 @@ use Rattle.om_rows.specs.Bodies.{Numbers, behind, behind_all}
 use Rattle.om_rows.specs.Coded.{StatementsHaveCode}
 use Rattle.om_statements.specs.declared.spot.Spot.{Spot}
 use Rattle.om_tables.specs.Numbering.{numbers_of}
+use Rattle.om_rows.specs.Rows.{end}
 use Rattle.om_rows.specs.Statements.{statement, statements}
 use Rattle.om_statements.specs.declared.spot.JumpLabels.{JumpLabels}
-use Rattle.om_statements.specs.Emits.{jumps_at, EmitsStatement, EmitsStatements}
+use Rattle.om_statements.specs.Emits.{jumps_at, EmitsStatement, GoesWith}
+use Rattle.om_statements.specs.Going.{then_with, with_none}
+use Rattle.om_tables.specs.Picks.{own_picks, all_own_picks}
 use Rattle.om_tables.specs.Names.{Names}
 
 -- whoever writes what is left, with the numbers there, has written all
 unfoldable pub Onward : (k : ℕ) → Names → JumpLabels → (first now : Numbers) → (all left : ResolvedStatementsTree) → (begun so_far : Written) → Type 0
 Onward k names jumps first now all left begun so_far = (k ≤ length so_far.places) × ((c : Written)
-    → Goes k (λ done at. statements (site names done) now left (jumps_at at jumps)) so_far c
-    → Goes k (λ done at. statements (site names done) first all (jumps_at at jumps)) begun c)
+    → GoesWith k (all_own_picks now left) (λ done at. statements (site names done) now left (jumps_at at jumps)) so_far c
+    → GoesWith k (all_own_picks first all) (λ done at. statements (site names done) first all (jumps_at at jumps)) begun c)
 
 pub onward_begin : (names : Names) (jumps : JumpLabels) (n : Numbers) (all : ResolvedStatementsTree) (a : Written) → Onward (length a.places) names jumps n n all all a a
 unfolding Onward
@@ -34,16 +37,17 @@ pub onward_next : (k : ℕ) (names : Names) (jumps : JumpLabels) (first now afte
     → Onward k names jumps first after all rest begun b
 unfolding Onward
 onward_next k names jumps first now after all rest s begun a b is g e = (
-  omega (arith, g.0, e.keeps.more),
+  omega (arith, g.0, e.more),
   λ c h. g.1 c
-      (goes_part k (λ done at. statement (site names done) now s (jumps_at at jumps)) (λ done at. statements (site names done) (behind now s) rest (jumps_at at jumps)) a b c g.0 e
-      (subst (λ m. Goes k (λ done at. statements (site names done) m rest (jumps_at at jumps)) b c) is h)),
+      (then_with k (length a.places) k (own_picks now s) (all_own_picks (behind now s) rest)
+      (λ done at. statement (site names done) now s (jumps_at at jumps)) (λ done at. statements (site names done) (behind now s) rest (jumps_at at jumps)) a b c g.0 (omega arith) e
+      (subst (λ m. GoesWith k (all_own_picks m rest) (λ done at. statements (site names done) m rest (jumps_at at jumps)) b c) is h)),
 )
 
 pub onward_end : (k : ℕ) (names : Names) (jumps : JumpLabels) (first now : Numbers) (all : ResolvedStatementsTree) (begun a : Written)
-    → Onward k names jumps first now all NoStatements begun a → Goes k (λ done at. statements (site names done) first all (jumps_at at jumps)) begun a
+    → Onward k names jumps first now all NoStatements begun a → GoesWith k (all_own_picks first all) (λ done at. statements (site names done) first all (jumps_at at jumps)) begun a
 unfolding Onward
-onward_end k names jumps first now all begun a g = g.1 a (goes_end k a)
+onward_end k names jumps first now all begun a g = g.1 a (with_none k (λ done at. end) a a (goes_end k a))
 
 -- what is left begins with the item that is met
 pub left_item : (items : List ResolvedStatement) (k : ℕ) (x : ResolvedStatement) → k < length items → x ≡ get_or items k x
@@ -66,7 +70,7 @@ left_next breaks continues k names jumps first now after all left rest s begun a
     )
 
 pub onward_done : (k : ℕ) (names : Names) (jumps : JumpLabels) (first now : Numbers) (all left : ResolvedStatementsTree) (begun a : Written)
-    → left ≡ NoStatements → Onward k names jumps first now all left begun a → Goes k (λ done at. statements (site names done) first all (jumps_at at jumps)) begun a
+    → left ≡ NoStatements → Onward k names jumps first now all left begun a → GoesWith k (all_own_picks first all) (λ done at. statements (site names done) first all (jumps_at at jumps)) begun a
 onward_done k names jumps first now all left begun a none g =
     onward_end k names jumps first now all begun a (subst (λ z. Onward k names jumps first now all z begun a) none g)
 

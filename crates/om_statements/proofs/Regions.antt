@@ -1,5 +1,5 @@
 -- A `parallel` and a `task`, in the body that meets them.
-use Rattle.std.proofs.Common.{◌≡◌, ℕ, ◌+◌, ◌≤◌, List, Bool, map, length, sym, ap, ◌∙◌, subst, arith}
+use Rattle.std.proofs.Common.{◌≡◌, ℕ, List, Bool, length, sym, ap, ◌∙◌, subst, arith}
 use Rattle.std.specs.Prelude.{is_some}
 use Rattle.std.proofs.lemmas.List.{length-map}
 use Rattle.om_constructs.specs.Stretches.{EmitsRow, fork_row, spawn_row}
@@ -14,7 +14,7 @@ use Rattle.om_rows.specs.Rows.{each, perhaps}
 use Rattle.om_rows.specs.Statements.{clause_value, given_copies, load_original}
 use Rattle.om_statements.specs.declared.spot.JumpLabels.{JumpLabels}
 use Rattle.om_statements.specs.Emits.{EmitsStatement}
-use Rattle.om_statements.proofs.Going.{goes_then}
+use Rattle.om_statements.specs.Going.{goes_then, with_none}
 use Rattle.om_tables.specs.declared.copies.FirstCopy.{FirstCopy}
 use Rattle.om_tables.specs.Copies.{first_copies_of, first_copy}
 use Rattle.om_tables.specs.Names.{Names}
@@ -31,8 +31,8 @@ pub emits_task : (names : Names) (n : Numbers) (first : Span) (clauses : List Re
 emits_task names n first clauses captures s jumps copies values a b c is count h1 h2 =
     let e1 = subst (λ z. EmitsRow names (λ at. each (load_original at first.line) z) a b) is h1 in
     let e2 = subst (λ z. EmitsRow names (spawn_row first.line n.bodies z) b c) (counted copies clauses captures s values is count) h2 in
-    goes_then _ _ _ (λ done at. each (load_original (site names done) first.line) (given_copies clauses captures s))
-    (λ done at. spawn_row first.line n.bodies (length (given_copies clauses captures s)) (site names done)) a b c (omega arith) e1.keeps.more e1 e2
+    with_none _ _ a c (goes_then _ _ _ (λ done at. each (load_original (site names done) first.line) (given_copies clauses captures s))
+    (λ done at. spawn_row first.line n.bodies (length (given_copies clauses captures s)) (site names done)) a b c (omega arith) e1.keeps.more e1 e2)
 
 pub emits_parallel : (names : Names) (n : Numbers) (first : Span) (clauses : List ResolvedClauseTree) (captures : List Capture) (s : ResolvedStatementTree) (jumps : JumpLabels)
     → (copies : List FirstCopy) (sized : Bool) (values : ℕ) (a b c d : Written)
@@ -44,7 +44,7 @@ emits_parallel names n first clauses captures s jumps copies sized values a b c 
     let e2 = subst (λ z. EmitsRow names (λ at. each (load_original at first.line) z) b c) is h2 in
     let e3 = subst (λ z. EmitsRow names (fork_row first.line n.bodies (is_some (clause_value clauses)) z) c d) (counted copies clauses captures s values is count)
     (subst (λ z. EmitsRow names (fork_row first.line n.bodies z values) c d) size h3) in
-    goes_then _ _ _ (λ done at. perhaps (value (site names done) first.line) (clause_value clauses)) _ a b d (omega arith) (omega arith) h1
+    with_none _ _ a d (goes_then _ _ _ (λ done at. perhaps (value (site names done) first.line) (clause_value clauses)) _ a b d (omega arith) (omega arith) h1
     (goes_then (length a.places) _ _ (λ done at. each (load_original (site names done) first.line) (given_copies clauses captures s))
     (λ done at. fork_row first.line n.bodies (is_some (clause_value clauses)) (length (given_copies clauses captures s)) (site names done)) b c d
-    h1.keeps.more (omega (arith, h1.keeps.more, e2.keeps.more)) e2 e3)
+    h1.keeps.more (omega (arith, h1.keeps.more, e2.keeps.more)) e2 e3))

@@ -1,11 +1,11 @@
 -- What a statement with a statement in it is as a tree.
 use Rattle.std.proofs.Common.{◌≡◌, map, option_map, sym, ap, ◌∙◌}
-use Rattle.om_resolved.specs.declared.resolved.ResolvedStatement.{ResolvedStatement, fold-roll-ResolvedStatement}
+use Rattle.om_resolved.specs.declared.resolved.ResolvedStatement.{fold-roll-ResolvedStatement}
 use Rattle.om_resolved.specs.declared.resolved.ResolvedStatement.TheOpen.{ResolvedStatement-F}
 use Rattle.om_resolved.specs.declared.resolved.ResolvedStatement.TheVariants as v
 use Rattle.om_resolved.specs.ResolvedTree as trees
 use Rattle.om_resolved.specs.ResolvedTree.{ResolvedStatementTree, ResolvedStatementsTree}
-use Rattle.om_resolved.specs.ResolvedView.{part_layer, statement_layer, view_resolved_clause, view_resolved_expression, view_resolved_loop, view_resolved_start, view_resolved_statement}
+use Rattle.om_resolved.specs.ResolvedView.{part_layer, statement_layer, view_resolved_clause, view_resolved_declarator, view_resolved_expression, view_resolved_loop, view_resolved_part, view_resolved_start, view_resolved_statement, view_resolved_update}
 
 pub view_if : (at : _) (c : _) (s : _) → view_resolved_statement (v.If at c s) ≡ trees.If at (view_resolved_expression c) (view_resolved_statement s.value)
 view_if at c s = ap view_resolved_statement (sym (v.rolls-If at c s)) ∙ fold-roll-ResolvedStatement ResolvedStatementTree ResolvedStatementsTree statement_layer part_layer (ResolvedStatement-F.If at c s)
@@ -47,3 +47,22 @@ view_parallel at clauses captures s = ap view_resolved_statement (sym (v.rolls-P
 pub view_task : (at : _) (clauses : _) (captures : _) (s : _) → view_resolved_statement (v.Task at clauses captures s)
     ≡ trees.Task at (map view_resolved_clause clauses.items) captures (view_resolved_statement s.value)
 view_task at clauses captures s = ap view_resolved_statement (sym (v.rolls-Task at clauses captures s)) ∙ fold-roll-ResolvedStatement ResolvedStatementTree ResolvedStatementsTree statement_layer part_layer (ResolvedStatement-F.Task at clauses captures s)
+
+pub view_sections : (at : _) (clauses : _) (nowait : _) (parts : _) → view_resolved_statement (v.Sections at clauses nowait parts)
+    ≡ trees.Sections at (map view_resolved_clause clauses.items) nowait (trees.parts (map view_resolved_part parts.items))
+view_sections at clauses nowait parts = ap view_resolved_statement (sym (v.rolls-Sections at clauses nowait parts)) ∙ fold-roll-ResolvedStatement ResolvedStatementTree ResolvedStatementsTree statement_layer part_layer (ResolvedStatement-F.Sections at clauses nowait parts)
+
+pub view_declaration : (at : _) (ds : _) → view_resolved_statement (v.Declaration at ds) ≡ trees.Declaration at (map view_resolved_declarator ds.items)
+view_declaration at ds = ap view_resolved_statement (sym (v.rolls-Declaration at ds)) ∙ fold-roll-ResolvedStatement ResolvedStatementTree ResolvedStatementsTree statement_layer part_layer (ResolvedStatement-F.Declaration at ds)
+
+pub view_empty : (at : _) → view_resolved_statement (v.Empty at) ≡ trees.Empty at
+view_empty at = ap view_resolved_statement (sym (v.rolls-Empty at)) ∙ fold-roll-ResolvedStatement ResolvedStatementTree ResolvedStatementsTree statement_layer part_layer (ResolvedStatement-F.Empty at)
+
+pub view_expression : (at : _) (e : _) → view_resolved_statement (v.Expression at e) ≡ trees.Expression at (view_resolved_expression e)
+view_expression at e = ap view_resolved_statement (sym (v.rolls-Expression at e)) ∙ fold-roll-ResolvedStatement ResolvedStatementTree ResolvedStatementsTree statement_layer part_layer (ResolvedStatement-F.Expression at e)
+
+pub view_return : (at : _) (e : _) → view_resolved_statement (v.Return at e) ≡ trees.Return at (option_map view_resolved_expression e)
+view_return at e = ap view_resolved_statement (sym (v.rolls-Return at e)) ∙ fold-roll-ResolvedStatement ResolvedStatementTree ResolvedStatementsTree statement_layer part_layer (ResolvedStatement-F.Return at e)
+
+pub view_update : (at : _) (u : _) → view_resolved_statement (v.Update at u) ≡ trees.Update at (view_resolved_update u)
+view_update at u = ap view_resolved_statement (sym (v.rolls-Update at u)) ∙ fold-roll-ResolvedStatement ResolvedStatementTree ResolvedStatementsTree statement_layer part_layer (ResolvedStatement-F.Update at u)

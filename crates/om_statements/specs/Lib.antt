@@ -1,2 +1,3 @@
 pub mod Emits
-pub mod Plain
+pub mod Parts
+pub mod Going

@@ -2,5 +2,6 @@
 #![tactic(auto)]
 
 pub mod jump;
+pub mod sections;
 pub mod spot;
 pub mod statement;

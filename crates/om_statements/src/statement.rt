@@ -1,17 +1,19 @@
 //! The code of statements.
 
-ghost use Rattle.std.specs.Prelude.{◌≡◌, IfOk, OnOk, is_some, map};
+ghost use Rattle.std.specs.Prelude.{◌≡◌, ◌≤◌, ◌+◌, ◌^◌, IfOk, OnOk, is_some, length, map};
 ghost use Rattle.om_resolved.specs.ResolvedTree as trees;
-ghost use Rattle.om_resolved.specs.ResolvedView.{view_resolved_statement};
+ghost use Rattle.om_resolved.specs.ResolvedView.{view_resolved_part, view_resolved_statement};
 ghost use Rattle.om_rows.specs.Bodies as rows;
-ghost use Rattle.om_rows.specs.Coded.{StatementHasCode, StatementsHaveCode};
+ghost use Rattle.om_rows.specs.Coded.{PartsHaveCode, StatementHasCode, StatementsHaveCode};
 ghost use Rattle.om_statements.specs.Emits.{EmitsStatement, EmitsStatements};
-ghost use Rattle.om_statements.specs.Plain.{HasNoSections, HaveNoSections};
+ghost use Rattle.om_statements.specs.Parts.{AreFree, EmitsParts};
 ghost use Rattle.om_tables.specs.Numbering.{numbers_of};
 ghost use Rattle.om_tables.specs.Scopes.{names_of};
 
 use crate::jump::jump;
+use crate::sections::{PartsSpot, SectionsHead, begin_parts};
 use crate::spot::Spot;
+use om_code::instruction::Instr;
 use om_constructs::alone::{assignment, stand_alone, update};
 use om_constructs::branch::{begin_else, begin_if};
 use om_constructs::construct::{begin_construct, end_construct};
@@ -21,13 +23,13 @@ use om_constructs::repeated::{begin_do, begin_for, begin_while, end_do, end_for,
 use om_constructs::worksharing::{begin_worksharing, end_worksharing};
 use om_emit::draft::Draft;
 use om_emit::effect;
-use om_resolved::{ConstructKind, ResolvedStatement};
+use om_resolved::{ConstructKind, ResolvedPart, ResolvedStatement};
 use om_tables::{Numbers, Scope, behind, given_copies};
 use std::alloc::{AllocError, Global};
 
 /// Writes the code of a statement, and gives the numbers behind it.
 ///
-/// Its only error is out of memory. What is in it has code, and is no `sections`.
+/// Its only error is out of memory. What is in it has code.
 #[cycle(statement)]
 pub fn statement(
     alloc: Global,
@@ -37,7 +39,6 @@ pub fn statement(
     tree: &ResolvedStatement,
 ) -> Result<Numbers, AllocError>
     requires code { StatementHasCode (is_some spot.jumps.over) (is_some spot.jumps.next) (view_resolved_statement tree.now) }
-    requires plain { HasNoSections (view_resolved_statement tree.now) }
     ensures behind { IfOk result (λ after. numbers_of after ≡ rows.behind (numbers_of spot.numbers) (view_resolved_statement tree.now)) }
     ensures emitted { let seen = view_resolved_statement tree.now in
         OnOk result (EmitsStatement (names_of scope.now) (numbers_of spot.numbers) seen spot.jumps draft.old draft.new) }
@@ -129,7 +130,18 @@ pub fn statement(
             end_worksharing(draft, scope, at.line, clauses.as_slice(), *nowait)?;
             Ok(after)
         }
-        ResolvedStatement::Sections(_, _, _, _) => unreachable!(),
+        ResolvedStatement::Sections(at, clauses, nowait, sections) => {
+            let head = SectionsHead {
+                line: at.line,
+                numbers,
+                clauses: clauses.as_slice(),
+            };
+            let inside = begin_parts(alloc, draft, scope, &head, sections.as_slice())?;
+            let after = parts(alloc, draft, scope, inside, sections.as_slice())?;
+            draft.define(inside.over);
+            end_worksharing(draft, scope, at.line, clauses.as_slice(), *nowait)?;
+            Ok(after)
+        }
         ResolvedStatement::Construct(at, kind, clauses, body) => {
             if let ConstructKind::Atomic = kind {
                 assignment(draft, scope, at.line, body)?;
@@ -163,7 +175,6 @@ pub fn statements(
     items: &[ResolvedStatement],
 ) -> Result<Numbers, AllocError>
     requires code { StatementsHaveCode (is_some spot.jumps.over) (is_some spot.jumps.next) (trees.statements (map view_resolved_statement items.now)) }
-    requires plain { HaveNoSections (trees.statements (map view_resolved_statement items.now)) }
     ensures behind { let all = trees.statements (map view_resolved_statement items.now) in
         IfOk result (λ after. numbers_of after ≡ rows.behind_all (numbers_of spot.numbers) all) }
     ensures emitted { let all = trees.statements (map view_resolved_statement items.now) in
@@ -173,6 +184,35 @@ pub fn statements(
     for item in items {
         let here = spot.behind(numbers);
         let after = statement(alloc, draft, scope, here, item)?;
+        numbers = after;
+    }
+    Ok(numbers)
+}
+
+/// Writes the code of the parts of a `sections`, one behind the other, and gives the numbers behind
+/// them. Behind each the next part is taken.
+#[cycle(statement)]
+pub fn parts(
+    alloc: Global,
+    draft: &mut Draft,
+    scope: &Scope<'_>,
+    spot: PartsSpot,
+    sections: &[ResolvedPart],
+) -> Result<Numbers, AllocError>
+    requires code { PartsHaveCode (trees.parts (map view_resolved_part sections.now)) }
+    requires free { AreFree spot.first (length sections.now) draft.old }
+    requires fit { spot.first + length sections.now ≤ 2 ^ 32 }
+    ensures behind { let all = trees.parts (map view_resolved_part sections.now) in
+        IfOk result (λ after. numbers_of after ≡ rows.behind_parts (numbers_of spot.numbers) all) }
+    ensures emitted { let all = trees.parts (map view_resolved_part sections.now) in
+        OnOk result (EmitsParts (names_of scope.now) (numbers_of spot.numbers) all spot draft.old draft.new) }
+{
+    let mut numbers = spot.numbers;
+    for (index, section) in sections.iter().enumerate() {
+        draft.define(spot.first + index as u32);
+        let inside = Spot::outside(numbers);
+        let after = statements(alloc, draft, scope, inside, section.items.as_slice())?;
+        draft.put(spot.line, Instr::Jump(spot.again))?;
         numbers = after;
     }
     Ok(numbers)

@@ -1,21 +1,31 @@
-use Rattle.std.proofs.Common.{◌≡◌, drop, length, map}
+use Rattle.std.proofs.Common.{◌≡◌, ◌+◌, drop, length, map}
 use Rattle.std.specs.Prelude.{is_some}
 use Rattle.om_resolved.specs.ResolvedTree as trees
-use Rattle.om_resolved.specs.ResolvedView.{view_resolved_statement}
+use Rattle.om_resolved.specs.ResolvedView.{view_resolved_part, view_resolved_statement}
 use Rattle.om_rows.specs.Bodies as rows
-use Rattle.om_rows.specs.Coded.{StatementsHaveCode}
+use Rattle.om_rows.specs.Coded.{PartsHaveCode, StatementsHaveCode}
 use Rattle.om_tables.specs.Numbering.{numbers_of}
 use Rattle.om_tables.specs.Scopes.{names_of}
-use Rattle.om_statements.specs.Plain.{HaveNoSections}
+use Rattle.om_statements.specs.Parts.{AreFree}
 use Rattle.om_statements.proofs.Lists.{Onward}
+use Rattle.om_statements.proofs.PartLists.{OnwardParts}
 use Rattle.om_statements.proofs.statement.+statement.Given as goal
 
--- what is left has code and no `sections`, and whoever writes it has written all
+-- what is left has code, and whoever writes it has written all
 abbrev pub invariant-statements-loop-item : goal.invariant-statements-loop-item
 invariant-statements-loop-item l =
     let all = trees.statements (map view_resolved_statement l.items) in
     let left = trees.statements (map view_resolved_statement (drop l.item-index l.items)) in
     StatementsHaveCode (is_some l.spot.jumps.over) (is_some l.spot.jumps.next) left
-    × HaveNoSections left
     × (rows.behind_all (numbers_of l.numbers) left ≡ rows.behind_all (numbers_of l.spot.numbers) all)
     × Onward (length l.fn.draft.places) (names_of l.scope) l.spot.jumps (numbers_of l.spot.numbers) (numbers_of l.numbers) all left l.fn.draft l.draft
+
+-- the same of the parts of a `sections`, whose labels are free
+abbrev pub invariant-parts-loop-index : goal.invariant-parts-loop-index
+invariant-parts-loop-index l =
+    let all = trees.parts (map view_resolved_part l.sections) in
+    let left = trees.parts (map view_resolved_part (drop l.index l.sections)) in
+    PartsHaveCode left
+    × (rows.behind_parts (numbers_of l.numbers) left ≡ rows.behind_parts (numbers_of l.spot.numbers) all)
+    × AreFree (l.spot.first + l.index) (length (drop l.index l.sections)) l.draft
+    × OnwardParts (names_of l.scope) l.spot (numbers_of l.spot.numbers) (numbers_of l.numbers) all left (l.spot.first + l.index) l.fn.draft l.draft

@@ -1,0 +1,63 @@
+//! The begin of a `sections`, before its parts.
+
+ghost use Rattle.std.specs.Prelude.{IfOk, length, map};
+ghost use Rattle.om_resolved.specs.ResolvedView.{view_resolved_clause};
+ghost use Rattle.om_statements.specs.Parts.{OpensParts, part_head};
+ghost use Rattle.om_tables.specs.Scopes.{names_of};
+
+use om_constructs::worksharing::{Parts, begin_sections};
+use om_emit::draft::Draft;
+use om_resolved::{ResolvedClause, ResolvedPart};
+use om_tables::{Numbers, Scope};
+use std::alloc::{AllocError, Global};
+
+/// A `sections`, where it stands: the numbers of the next body and of its own list of PICK.
+#[derive(Clone, Copy)]
+pub struct SectionsHead<'a> {
+    pub line: u32,
+    pub numbers: Numbers,
+    pub clauses: &'a [ResolvedClause],
+}
+
+/// Where the parts of a `sections` are written.
+#[derive(Clone, Copy)]
+pub struct PartsSpot {
+    pub line: u32,
+    /// The numbers of the next body and of the next list of PICK.
+    pub numbers: Numbers,
+    /// The label at which the next part is taken.
+    pub again: u32,
+    /// The label behind all parts.
+    pub over: u32,
+    /// The label of the first part. Those of the others follow it.
+    pub first: u32,
+}
+
+/// Writes what stands before the parts of a `sections` (OpenMP API 5.2, section 11.3), and makes the
+/// labels at which they begin.
+pub fn begin_parts(
+    alloc: Global,
+    draft: &mut Draft,
+    scope: &Scope<'_>,
+    head: &SectionsHead<'_>,
+    parts: &[ResolvedPart],
+) -> Result<PartsSpot, AllocError>
+    ensures { let begin = part_head head.now.line head.now.numbers (map view_resolved_clause head.now.clauses.now) (length parts.now) in
+        IfOk result (λ spot. OpensParts (names_of scope.now) begin spot draft.old draft.new) }
+{
+    let Ok(count) = u32::try_from(parts.len()) else {
+        return Err(AllocError);
+    };
+    let number = head.numbers.picks;
+    let list = Parts { number, count };
+    let labels = begin_sections(draft, scope, head.line, head.clauses, list)?;
+    let first = draft.fresh_list(alloc, number, count)?;
+    let numbers = head.numbers.next_pick()?;
+    Ok(PartsSpot {
+        line: head.line,
+        numbers,
+        again: labels.again,
+        over: labels.over,
+        first,
+    })
+}
