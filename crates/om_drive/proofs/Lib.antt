@@ -1,3 +1,4 @@
 pub mod Rounding
 pub mod Places
 pub mod Backed
+pub mod Stepping
