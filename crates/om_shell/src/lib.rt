@@ -5,6 +5,7 @@ mod conversation;
 mod ended;
 mod fault;
 mod front_end;
+mod host;
 mod input;
 mod lines;
 mod options;

@@ -19,7 +19,8 @@ use std::alloc::{AllocError, Global};
 use std::io;
 use std::process::ExitCode;
 use std::rt::Files;
-use std::thread::Builder;
+use std::sync::Wait;
+use std::thread::{Builder, Threads};
 
 /// How many bytes of stack the front end has. The deepest sources that pass every limit of nesting want a quarter
 /// of it where the program is not optimised; what is not used takes no memory.
@@ -41,7 +42,11 @@ fn source_in<R: Files>(
 }
 
 // Runs the shell over standard input and output, and answers its status.
-fn session<R: Files + Input + Print>(rt: &R, alloc: Global, words: Words) -> Result<u8, ShellFault>
+fn session<R: Files + Input + Print + Threads + Wait + Sync>(
+    rt: &R,
+    alloc: Global,
+    words: Words,
+) -> Result<u8, ShellFault>
     requires least { 0 < words.workers }
     requires most { words.workers ≤ 32 }
 {
@@ -55,7 +60,7 @@ fn session<R: Files + Input + Print>(rt: &R, alloc: Global, words: Words) -> Res
             None => None,
         },
     };
-    let ended = run(alloc, &mut reader, &mut writer, options)?;
+    let ended = run(rt, alloc, &mut reader, &mut writer, options)?;
     Ok(ended.status)
 }
 
