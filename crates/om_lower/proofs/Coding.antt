@@ -1,55 +1,54 @@
 -- A body, as it was emitted.
-use Rattle.std.proofs.Common.{◌≡◌, ◌<◌, ◌≤◌, inl, inr, ℕ, zero, suc, Bool, List, [], ◌∷◌, ◌++◌, Option, None, Some, Contains, Any, length, map, slice_get, take, ◌+◌, false, refl, sym, ap, subst, ◌∙◌, arith}
+use Rattle.std.proofs.Common.{◌≡◌, ◌<◌, ◌≤◌, inl, inr, ℕ, zero, suc, Bool, true, List, [], ◌∷◌, ◌++◌, Option, None, Some, Any, length, map, slice_get, take, ◌+◌, false, refl, sym, ap, subst, ◌∙◌, arith}
+use Rattle.std.proofs.lemmas.List.{append_assoc, append-nil, map-append}
+use Rattle.std.specs.List.{flat_map}
 use Rattle.om_bodies.specs.declared.emitted.Emitted.{Emitted}
 use Rattle.om_emit.specs.declared.draft.PickList.{PickList}
 use Rattle.om_bodies.specs.Emitted.{HasLists, HasRow}
-use Rattle.om_emit.specs.Settled.{ListsStand}
+use Rattle.om_emit.specs.Settled.{ListsStand, number_of}
 use Rattle.om_code.specs.declared.raw.Body.{Body}
 use Rattle.om_code.specs.declared.raw.Line.{Line}
 use Rattle.om_code.specs.declared.raw.Slot.{Slot}
 use Rattle.om_lower.specs.Frames.{FitsFrame}
 use Rattle.om_lower.specs.Limits.{HasFewSlots, HasManySlots, IsCodeAt, IsOver, long, many_cells, many_slots}
-use Rattle.om_lower.specs.Made.{AreFunctions, AreMade, FitsCode, FitsFunction, IsLowered, IsMade}
-use Rattle.om_lower.specs.Sites.{IsPlain}
+use Rattle.om_lower.specs.Made.{AreFunctions, AreListsOf, AreMade, FitsBody, FitsCode, FitsFunction, IsGathered, IsMade}
+use Rattle.om_lower.specs.declared.bodies.Bodies.{Bodies}
+use Rattle.om_lower.specs.declared.bodies.LoweredBody.{LoweredBody}
+use Rattle.om_lower.proofs.Ascending.{body_table}
+use Rattle.om_picks.specs.Once.{site_picks}
+use Rattle.om_lower.proofs.Items.{take_pushed, zip_pushed}
 use Rattle.om_lower.proofs.SlotTables.{slots_same}
-use Rattle.om_lower.proofs.FunctionBodies.{next_numbers, pushed}
+use Rattle.om_lower.proofs.FunctionBodies.{next_numbers, pushed, stand_behind, stand_front, wider_functions, wider_made}
 use Rattle.om_resolved.specs.declared.resolved.Capture.{Capture}
 use Rattle.om_resolved.specs.ResolvedTree.{ResolvedFunctionTree, ResolvedTree}
 use Rattle.om_resolved.specs.Uses.{is_main_function}
-use Rattle.om_rows.specs.Bodies.{BodySite, Numbers, behind_function, behind_functions, first_numbers, function_bodies, variables_of}
+use Rattle.om_rows.specs.Bodies.{BodySite, Numbers, behind_function, behind_functions, bodies_from, first_numbers, function_bodies, variables_of}
 use Rattle.om_rows.specs.Code.{captures_of, given_of, slots_of}
 use Rattle.om_rows.specs.Mentions.{extents_of}
 use Rattle.om_rows.specs.Slots.{Extent, cells_in, slot_with}
 use Rattle.om_tables.specs.Names.{Names, names_in}
 
--- without lists
-nothing_listed : (lists : List PickList) → map (λ list. list.number) lists ≡ [] → lists ≡ []
-nothing_listed [] none = refl
-nothing_listed (list ∷ lists) none = cc
-
-lists_stand : (lists : List PickList) (picks : List (List ℕ)) → map (λ list. list.number) lists ≡ []
-    → ListsStand lists picks
-lists_stand lists picks same =
-    subst (λ all. ListsStand all picks) (sym (nothing_listed lists same))
-    (λ list there. absurd (nothing_in list there))
-  where
-    nothing_in : (list : PickList) → Contains [] list → ⊥
-    nothing_in list there = let lt = there.1 in let none : ⊥ = omega (arith, lt) in none
-
--- the code stands, whatever lists the program has
+-- the code stands, wherever its lists stand in the program
 pub code_at : (tree : ResolvedTree) (b : BodySite) (names : Names) (variables : List ℕ) (main : Bool)
     (made : Emitted)
-    → IsPlain b → names ≡ names_in tree variables main → main ≡ is_main_function b.function
-    → variables ≡ variables_of b → HasLists b.numbers b.function b.tree made
+    → names ≡ names_in tree variables main → main ≡ is_main_function b.function
+    → variables ≡ variables_of b
     → HasRow names b.numbers b.function b.tree made
-    → (more : List (List ℕ)) → IsCodeAt tree more b made.code
-code_at tree b names variables main made plain same_names same_main same_variables listed row more =
+    → (picks : List (List ℕ)) → ListsStand made.lists.items picks → IsCodeAt tree picks b made.code
+code_at tree b names variables main made same_names same_main same_variables row =
     let first = subst (λ x. HasRow x b.numbers b.function b.tree made) same_names row in
     let second = subst (λ x.
     HasRow (names_in tree variables x) b.numbers b.function b.tree made) same_main first in
-    let third = subst (λ x. HasRow (names_in tree x (is_main_function b.function)) b.numbers b.function
-    b.tree made) same_variables second in
-    third more (lists_stand made.lists.items more (listed ∙ plain.lists))
+    subst (λ x. HasRow (names_in tree x (is_main_function b.function)) b.numbers b.function
+    b.tree made) same_variables second
+
+-- code that is too long
+pub too_long : (tree : ResolvedTree) (b : BodySite) (made : Emitted)
+    → ((picks : List (List ℕ)) → ListsStand made.lists.items picks → IsCodeAt tree picks b made.code)
+    → HasLists b.numbers b.function b.tree made → 65536 < length made.code → FitsCode tree b None
+too_long tree b made stands listed more =
+    let table = body_table b.numbers b.function b.tree made.lists.items listed in
+    (table.picks, made.code, stands table.picks table.stand, more)
 
 -- the slots, by whichever table of cells
 pub frame_at : (b : BodySite) (extents : List Extent) (outer : List ℕ) (captures : List Capture)
@@ -76,19 +75,24 @@ over_frame tree b (inr many) = many_cells many
 
 -- the code passes one
 pub over_code : (tree : ResolvedTree) (b : BodySite) → FitsCode tree b None → IsOver tree b
-over_code tree b fits = long [] fits.0 fits.1 fits.2
+over_code tree b fits = long fits.0 fits.1 fits.2 fits.3
 
 -- or none does
-pub made_body : (tree : ResolvedTree) (b : BodySite) (code : List Line) (slots : List Slot) (given : List ℕ)
-    → FitsFrame (variables_of b) (slots_of b) (Some slots) → FitsCode tree b (Some code)
-    → given ≡ given_of b → IsMade tree [] b (record { code = code; slots = slots; given = given })
-made_body tree b code slots given frame fits same = record {
-  code = fits.0;
-  slots = frame.0;
-  given = same;
-  room = record { slots = frame.1; cells = frame.2 };
-  short = fits.1;
-}
+pub made_body : (tree : ResolvedTree) (b : BodySite) (made : Emitted) (body : LoweredBody) (slots : List Slot) (given : List ℕ)
+    → FitsFrame (variables_of b) (slots_of b) (Some slots) → FitsCode tree b (Some made)
+    → given ≡ given_of b → body.body ≡ record { code = made.code; slots = slots; given = given } → body.lists.items ≡ made.lists.items
+    → FitsBody tree b (Some body)
+made_body tree b made body slots given frame fits same is lists = (
+  subst (λ all. IsMade tree all b body.body) (sym lists)
+      (subst (λ x. IsMade tree made.lists.items b x) (sym is) (record {
+        code = fits.0;
+        slots = frame.0;
+        given = same;
+        room = record { slots = frame.1; cells = frame.2 };
+        short = fits.1;
+      })),
+  ap (map number_of) lists ∙ fits.2,
+)
 
 -- ---- the limits on slots and instructions
 
@@ -116,48 +120,120 @@ get_within [] k x at = cc
 get_within (y ∷ xs) zero x at = omega arith
 get_within (y ∷ xs) (suc k) x at = let below = get_within xs k x at in omega (arith, below)
 
-pub stopped : (tree : ResolvedTree) (lists : List (List Body)) (k : ℕ) (f : ResolvedFunctionTree)
-    (n : Numbers)
-    → AreFunctions tree [] first_numbers tree.functions lists → length lists ≡ k
-    → n ≡ behind_functions first_numbers (take k tree.functions)
-    → slice_get tree.functions k ≡ Some f → FitsFunction tree n f None → IsLowered tree lists false
-stopped tree lists k f n made count same at fits =
-    let there : slice_get tree.functions (length lists) ≡ Some f =
-    subst (λ i. slice_get tree.functions i ≡ Some f) (sym count) at in
-    let here : n ≡ behind_functions first_numbers (take (length lists) tree.functions) =
-    same ∙ ap (λ i. behind_functions first_numbers (take i tree.functions)) (sym count) in
+-- behind k functions: their bodies, their lists, and the numbers behind them
+pub record IsBehind (tree : ResolvedTree) (lists : List PickList) (functions : List (List Body)) (k : ℕ) (n : Numbers) : Type 0 where
+  pub made : AreFunctions tree lists first_numbers tree.functions functions
+  pub count : length functions ≡ k
+  pub numbers : n ≡ behind_functions first_numbers (take k tree.functions)
+  pub listed : AreListsOf (bodies_from first_numbers (take k tree.functions)) lists
+
+pub stopped : (tree : ResolvedTree) (lists : List PickList) (functions : List (List Body)) (k : ℕ) (f : ResolvedFunctionTree)
+    (n : Numbers) → IsBehind tree lists functions k n
+    → slice_get tree.functions k ≡ Some f → FitsFunction tree n f None → IsGathered tree lists n.picks functions false
+stopped tree lists functions k f n h at fits =
+    let there : slice_get tree.functions (length functions) ≡ Some f =
+    subst (λ i. slice_get tree.functions i ≡ Some f) (sym h.count) at in
+    let here : n ≡ behind_functions first_numbers (take (length functions) tree.functions) =
+    h.numbers ∙ ap (λ i. behind_functions first_numbers (take i tree.functions)) (sym h.count) in
     record {
-      made = made;
+      made = h.made;
       stops = record {
-        within = get_within tree.functions (length lists) f there;
+        within = get_within tree.functions (length functions) f there;
         function = f;
         there = there;
         over = subst (λ m. Any (λ b. IsOver tree b) (function_bodies m f)) here fits;
       };
+      listed = subst (λ i. AreListsOf (bodies_from first_numbers (take i tree.functions)) lists) (sym h.count) h.listed;
+      counted = ap (λ m. m.picks) here;
     }
+
+-- all functions
+pub gathered : (tree : ResolvedTree) (lists : List PickList) (functions : List (List Body)) (k : ℕ) (n : Numbers)
+    → IsBehind tree lists functions k n → k ≡ length tree.functions → IsGathered tree lists n.picks functions true
+gathered tree lists functions k n h whole = record {
+  made = h.made;
+  stops = h.count ∙ whole;
+  listed = subst (λ i. AreListsOf (bodies_from first_numbers (take i tree.functions)) lists) (sym h.count) h.listed;
+  counted = ap (λ m. m.picks) (h.numbers ∙ ap (λ i. behind_functions first_numbers (take i tree.functions)) (sym h.count));
+}
 
 push_long : {A : Type 0} (xs : List A) (x : A) → length (xs ++ x ∷ []) ≡ length xs + 1
 push_long [] x = refl
 push_long (y ∷ xs) x = let rest = push_long xs x in omega (arith, rest)
 
-pub one_more : (tree : ResolvedTree) (lists new : List (List Body)) (k : ℕ) (f : ResolvedFunctionTree)
-    (n m : Numbers) (bodies : List Body)
-    → AreFunctions tree [] first_numbers tree.functions lists → length lists ≡ k
-    → n ≡ behind_functions first_numbers (take k tree.functions)
-    → slice_get tree.functions k ≡ Some f → FitsFunction tree n f (Some bodies) → new ≡ lists ++ bodies ∷ []
-    → m ≡ behind_function n f
-    → AreFunctions tree [] first_numbers tree.functions new × (length new ≡ k + 1)
-    × (m ≡ behind_functions first_numbers (take (k + 1) tree.functions))
-one_more tree lists new k f n m bodies made count same at fits added behind =
-    let there : slice_get tree.functions (length lists) ≡ Some f =
-    subst (λ i. slice_get tree.functions i ≡ Some f) (sym count) at in
-    let here : n ≡ behind_functions first_numbers (take (length lists) tree.functions) =
-    same ∙ ap (λ i. behind_functions first_numbers (take i tree.functions)) (sym count) in
-    let more = subst (λ m. AreMade tree [] (function_bodies m f) bodies) here fits in
-    let all = pushed tree first_numbers tree.functions lists f bodies made there more in
-    let next : suc k ≡ k + 1 = omega arith in (
-      subst (λ all. AreFunctions tree [] first_numbers tree.functions all) (sym added) all,
-      ap length added ∙ push_long lists bodies ∙ ap (λ i. i + 1) count,
-      behind ∙ ap (λ m. behind_function m f) same ∙ sym (next_numbers first_numbers tree.functions k f at)
-          ∙ ap (λ i. behind_functions first_numbers (take i tree.functions)) next,
+-- the bodies of one function more
+bodies_next : (n : Numbers) (fs : List ResolvedFunctionTree) (k : ℕ) (f : ResolvedFunctionTree) → slice_get fs k ≡ Some f
+    → bodies_from n (take (suc k) fs) ≡ bodies_from n (take k fs) ++ function_bodies (behind_functions n (take k fs)) f
+bodies_next n [] k f at = cc
+bodies_next n (g ∷ fs) zero f at =
+    append-nil (function_bodies n g) ∙ ap (λ h. function_bodies n h) (let same : g ≡ f = cc in same)
+bodies_next n (g ∷ fs) (suc k) f at =
+    ap (λ rest. function_bodies n g ++ rest) (bodies_next (behind_function n g) fs k f at)
+    ∙ sym (append_assoc (function_bodies n g) (bodies_from (behind_function n g) (take k fs)) (function_bodies (behind_functions (behind_function n g) (take k fs)) f))
+
+pub flat-append : (xs ys : List BodySite) → flat_map site_picks (xs ++ ys) ≡ flat_map site_picks xs ++ flat_map site_picks ys
+flat-append [] ys = refl
+flat-append (x ∷ xs) ys =
+    ap (λ rest. site_picks x ++ rest) (flat-append xs ys)
+    ∙ sym (append_assoc (site_picks x) (flat_map site_picks xs) (flat_map site_picks ys))
+
+-- the lists of some bodies, and then those of others
+pub listed_on : (xs ys : List BodySite) (some more : List PickList) → AreListsOf xs some → AreListsOf ys more
+    → AreListsOf (xs ++ ys) (some ++ more)
+listed_on xs ys some more one other =
+    map-append number_of some more ∙ ap (λ z. z ++ map number_of more) one
+    ∙ ap (λ z. flat_map site_picks xs ++ z) other ∙ sym (flat-append xs ys)
+
+-- one body more
+pub body_more : (tree : ResolvedTree) (sites : List BodySite) (k : ℕ) (b : BodySite) (lists grown : List PickList)
+    (bodies new : List Body) (body : LoweredBody)
+    → slice_get sites k ≡ Some b → new ≡ bodies ++ body.body ∷ [] → grown ≡ lists ++ body.lists.items
+    → AreMade tree lists (take k sites) bodies → AreListsOf (take k sites) lists → FitsBody tree b (Some body)
+    → AreMade tree grown (take (k + 1) sites) new × AreListsOf (take (k + 1) sites) grown
+body_more tree sites k b lists grown bodies new body at added joined made listed fits =
+    let more = body.lists.items in
+    let before = wider_made tree lists (lists ++ more) (take k sites) bodies
+    (λ picks stand. stand_front lists more picks stand) made in
+    let mine = wider_made tree more (lists ++ more) (b ∷ []) (body.body ∷ [])
+    (λ picks stand. stand_behind lists more picks stand) (fits.0, tt) in
+    let next : suc k ≡ k + 1 = omega arith in
+    let sites_next : take k sites ++ b ∷ [] ≡ take (k + 1) sites =
+    sym (take_pushed sites k b at) ∙ ap (λ i. take i sites) next in (
+      subst (λ ls. AreMade tree ls (take (k + 1) sites) new) (sym joined)
+          (zip_pushed (λ b body. IsMade tree (lists ++ more) b body) sites bodies new k b body.body at added before mine.0),
+      subst (λ ls. AreListsOf (take (k + 1) sites) ls) (sym joined)
+          (subst (λ all. AreListsOf all (lists ++ more)) sites_next
+          (listed_on (take k sites) (b ∷ []) lists more listed (fits.1 ∙ sym (append-nil (site_picks b))))),
     )
+
+pub one_more : (tree : ResolvedTree) (lists grown : List PickList) (functions new : List (List Body)) (k : ℕ) (f : ResolvedFunctionTree)
+    (n m : Numbers) (bodies : Bodies) → IsBehind tree lists functions k n
+    → slice_get tree.functions k ≡ Some f → FitsFunction tree n f (Some bodies) → new ≡ functions ++ bodies.bodies ∷ []
+    → grown ≡ lists ++ bodies.lists.items → m ≡ behind_function n f
+    → IsBehind tree grown new (k + 1) m
+one_more tree lists grown functions new k f n m bodies h at fits added joined behind =
+    let more = bodies.lists.items in
+    let there : slice_get tree.functions (length functions) ≡ Some f =
+    subst (λ i. slice_get tree.functions i ≡ Some f) (sym h.count) at in
+    let here : n ≡ behind_functions first_numbers (take (length functions) tree.functions) =
+    h.numbers ∙ ap (λ i. behind_functions first_numbers (take i tree.functions)) (sym h.count) in
+    let before = wider_functions tree lists (lists ++ more) first_numbers tree.functions functions
+    (λ picks stand. stand_front lists more picks stand) h.made in
+    let mine = wider_made tree more (lists ++ more) (function_bodies n f) bodies.bodies
+    (λ picks stand. stand_behind lists more picks stand) fits.0 in
+    let placed = subst (λ m. AreMade tree (lists ++ more) (function_bodies m f) bodies.bodies) here mine in
+    let all = pushed tree (lists ++ more) first_numbers tree.functions functions f bodies.bodies before there placed in
+    let next : suc k ≡ k + 1 = omega arith in
+    let sites : bodies_from first_numbers (take k tree.functions) ++ function_bodies n f ≡ bodies_from first_numbers (take (k + 1) tree.functions) =
+    ap (λ z. bodies_from first_numbers (take k tree.functions) ++ function_bodies z f) h.numbers
+    ∙ sym (bodies_next first_numbers tree.functions k f at) ∙ ap (λ i. bodies_from first_numbers (take i tree.functions)) next in
+    record {
+      made = subst (λ ls. AreFunctions tree ls first_numbers tree.functions new) (sym joined)
+          (subst (λ all. AreFunctions tree (lists ++ more) first_numbers tree.functions all) (sym added) all);
+      count = ap length added ∙ push_long functions bodies.bodies ∙ ap (λ i. i + 1) h.count;
+      numbers = behind ∙ ap (λ m. behind_function m f) h.numbers ∙ sym (next_numbers first_numbers tree.functions k f at)
+          ∙ ap (λ i. behind_functions first_numbers (take i tree.functions)) next;
+      listed = subst (λ ls. AreListsOf (bodies_from first_numbers (take (k + 1) tree.functions)) ls) (sym joined)
+          (subst (λ all. AreListsOf all (lists ++ more)) sites
+          (listed_on (bodies_from first_numbers (take k tree.functions)) (function_bodies n f) lists more h.listed fits.1));
+    }

@@ -1,7 +1,7 @@
 pub mod Searches
 pub mod Cutting
 pub mod SlotTables
-pub mod Plain
+pub mod Ascending
 pub mod Items
 pub mod High
 pub mod Coding

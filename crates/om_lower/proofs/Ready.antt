@@ -1,10 +1,8 @@
 -- What a function's bodies are before they are lowered.
-use Rattle.std.proofs.Common.{◌≡◌, ℕ, List, [], ◌∷◌, None, All, sym, subst}
+use Rattle.std.proofs.Common.{◌≡◌, ℕ, List, [], ◌∷◌, All, sym, subst}
 use Rattle.std.proofs.lemmas.List.Elements.{All-nil, All-cons, All-head, All-tail}
 use Rattle.om_lower.specs.Limits.{HasFewSlots}
-use Rattle.om_lower.specs.Sections.{sections_among}
-use Rattle.om_lower.specs.Sites.{IsPlain, IsReady}
-use Rattle.om_lower.proofs.Plain.{plain_function}
+use Rattle.om_lower.specs.Sites.{IsReady}
 use Rattle.om_lower.proofs.Rounds.{IsRound, round_function}
 use Rattle.om_resolved.specs.ResolvedTree.{ResolvedFunctionTree}
 use Rattle.om_rows.specs.Bodies.{BodySite, Numbers, function_bodies}
@@ -21,10 +19,10 @@ abbrev IsTable : List Extent → ResolvedFunctionTree → Type 0
 IsTable extents f = (variable : ℕ) → cells_in extents variable ≡ cells_in (extents_of f) variable
 
 ready : (extents : List Extent) (f : ResolvedFunctionTree) (sites : List BodySite) → IsTable extents f
-    → All HasFewSlots sites → All (IsRound f) sites → All HasCode sites → All IsPlain sites
+    → All HasFewSlots sites → All (IsRound f) sites → All HasCode sites
     → All (IsReady extents) sites
-ready extents f [] table few round code plain = All-nil (IsReady extents)
-ready extents f (b ∷ sites) table few round code plain =
+ready extents f [] table few round code = All-nil (IsReady extents)
+ready extents f (b ∷ sites) table few round code =
     let here = All-head (IsRound f) b sites round in
     All-cons (IsReady extents) b sites
     (record {
@@ -32,17 +30,15 @@ ready extents f (b ∷ sites) table few round code plain =
       few = All-head HasFewSlots b sites few;
       round = here.1;
       code = All-head HasCode b sites code;
-      plain = All-head IsPlain b sites plain;
     })
     (ready extents f sites table (All-tail HasFewSlots b sites few) (All-tail (IsRound f) b sites round)
-    (All-tail HasCode b sites code) (All-tail IsPlain b sites plain))
+    (All-tail HasCode b sites code))
 
 pub function_ready : (extents : List Extent) (f : ResolvedFunctionTree) (n : Numbers) (sites : List BodySite)
-    → sites ≡ function_bodies n f → IsTable extents f → sections_among f.body ≡ None
+    → sites ≡ function_bodies n f → IsTable extents f
     → All HasFewSlots sites → All HasCode (function_bodies n f)
     → All (IsReady extents) sites
-function_ready extents f n sites same table none few code =
+function_ready extents f n sites same table few code =
     let slots = subst (λ all. All HasFewSlots all) same few in
     subst (λ all. All (IsReady extents) all) (sym same)
-    (ready extents f (function_bodies n f) table slots (round_function f n slots) code
-    (plain_function f none n))
+    (ready extents f (function_bodies n f) table slots (round_function f n slots) code)

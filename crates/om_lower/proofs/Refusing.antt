@@ -1,6 +1,8 @@
 -- Which function is named where a limit is passed.
 use Rattle.std.proofs.Common.{◌≡◌, ◌<◌, ◌≤◌, inl, inr, ℕ, zero, suc, Bool, true, false, List, [], ◌∷◌, ◌++◌, Some, All, Any, length, take, drop, slice_get, refl, sym, ap, subst, ◌∙◌, arith}
 use Rattle.om_code.specs.declared.raw.Body.{Body}
+use Rattle.om_emit.specs.declared.draft.PickList.{PickList}
+use Rattle.om_emit.specs.Settled.{ListsStand}
 use Rattle.om_lower.specs.Heights.{AreLow, IsFirst}
 use Rattle.om_lower.specs.Limits.{IsOver, IsTooMany, IsWithin}
 use Rattle.om_lower.specs.Made.{AreFunctions, IsLowered, IsOverAt, StopsUnless}
@@ -22,12 +24,12 @@ taken_long (x ∷ xs) zero lt = refl
 taken_long (x ∷ xs) (suc k) lt =
     ap suc (taken_long xs k (let below : k < length xs = omega (arith, lt) in below))
 
-pub functions_long : (tree : ResolvedTree) (n : Numbers) (fs : List ResolvedFunctionTree)
-    (lists : List (List Body)) → AreFunctions tree [] n fs lists → length lists ≤ length fs
-functions_long tree n fs [] made = omega arith
-functions_long tree n [] (bodies ∷ lists) made = absurd made
-functions_long tree n (f ∷ fs) (bodies ∷ lists) made = let rest =
-    functions_long tree (behind_function n f) fs lists made.1 in omega (arith, rest)
+pub functions_long : (tree : ResolvedTree) (picked : List PickList) (n : Numbers) (fs : List ResolvedFunctionTree)
+    (lists : List (List Body)) → AreFunctions tree picked n fs lists → length lists ≤ length fs
+functions_long tree picked n fs [] made = omega arith
+functions_long tree picked n [] (bodies ∷ lists) made = absurd made
+functions_long tree picked n (f ∷ fs) (bodies ∷ lists) made = let rest =
+    functions_long tree picked (behind_function n f) fs lists made.1 in omega (arith, rest)
 
 named : (tree : ResolvedTree) (k : ℕ) (function : ResolvedFunctionTree)
     → slice_get tree.functions k ≡ Some function
@@ -45,33 +47,33 @@ named tree k function at within over = record {
   is = refl;
 }
 
-by_height : (tree : ResolvedTree) (lists : List (List Body)) (index : ℕ) (function : ResolvedFunctionTree)
-    → AreFunctions tree [] first_numbers tree.functions lists → IsFirst [] lists index
+by_height : (tree : ResolvedTree) (picked : List PickList) (picks : List (List ℕ)) (lists : List (List Body)) (index : ℕ) (function : ResolvedFunctionTree)
+    → ListsStand picked picks → AreFunctions tree picked first_numbers tree.functions lists → IsFirst picks lists index
     → slice_get tree.functions index ≡ Some function
     → IsTooMany tree (too_many function)
-by_height tree lists index function made first at =
-    let within = within_functions tree first_numbers tree.functions (take index lists)
-    (first_functions tree first_numbers tree.functions lists index made) first.before in
+by_height tree picked picks lists index function stand made first at =
+    let within = within_functions tree picked picks first_numbers tree.functions (take index lists) stand
+    (first_functions tree picked first_numbers tree.functions lists index made) first.before in
     named tree index function at
     (subst (λ k. All (λ b. IsWithin tree b) (bodies_from first_numbers (take k tree.functions)))
     (taken_long lists index first.within) within)
-    (over_high tree (function_bodies (behind_functions first_numbers (take index tree.functions)) function)
-    first.bodies (made_at tree first_numbers tree.functions lists index function first.bodies made
+    (over_high tree picked picks (function_bodies (behind_functions first_numbers (take index tree.functions)) function)
+    first.bodies stand (made_at tree picked first_numbers tree.functions lists index function first.bodies made
     first.there at) first.high)
 
-by_stop : (tree : ResolvedTree) (lists : List (List Body)) (is_whole : Bool) (index : ℕ)
+by_stop : (tree : ResolvedTree) (picked : List PickList) (picks : List (List ℕ)) (lists : List (List Body)) (is_whole : Bool) (index : ℕ)
     (function : ResolvedFunctionTree)
-    → AreFunctions tree [] first_numbers tree.functions lists → StopsUnless is_whole tree lists
+    → ListsStand picked picks → AreFunctions tree picked first_numbers tree.functions lists → StopsUnless is_whole tree lists
     → is_whole ≡ false → index ≡ length lists
-    → All (λ bodies. AreLow [] bodies) lists → slice_get tree.functions index ≡ Some function
+    → All (λ bodies. AreLow picks bodies) lists → slice_get tree.functions index ≡ Some function
     → IsTooMany tree (too_many function)
-by_stop tree lists true index function made stops unwhole behind low at = cc
-by_stop tree lists false index function made stops unwhole behind low at =
+by_stop tree picked picks lists true index function stand made stops unwhole behind low at = cc
+by_stop tree picked picks lists false index function stand made stops unwhole behind low at =
     let there : slice_get tree.functions (length lists) ≡ Some function =
     subst (λ k. slice_get tree.functions k ≡ Some function) behind at in
     let same : stops.function ≡ function = some_same stops.function function (sym stops.there ∙ there) in
     named tree (length lists) function there
-    (within_functions tree first_numbers tree.functions lists made low)
+    (within_functions tree picked picks first_numbers tree.functions lists stand made low)
     (subst (λ f. Any (λ b. IsOver tree b)
     (function_bodies (behind_functions first_numbers (take (length lists) tree.functions)) f)) same
     stops.over)
@@ -79,11 +81,11 @@ by_stop tree lists false index function made stops unwhole behind low at =
     some_same : {A : Type 0} (x y : A) → Some x ≡ Some y → x ≡ y
     some_same x y e = cc
 
-pub refused : (tree : ResolvedTree) (lists : List (List Body)) (is_whole : Bool) (index : ℕ)
+pub refused : (tree : ResolvedTree) (picks : List (List ℕ)) (lists : List (List Body)) (is_whole : Bool) (index : ℕ)
     (function : ResolvedFunctionTree)
-    → IsLowered tree lists is_whole → IsOverAt lists is_whole (Some index)
+    → IsLowered tree picks lists is_whole → IsOverAt picks lists is_whole (Some index)
     → slice_get tree.functions index ≡ Some function → IsTooMany tree (too_many function)
-refused tree lists is_whole index function lowered (inl first) at =
-    by_height tree lists index function lowered.made first at
-refused tree lists is_whole index function lowered (inr stop) at =
-    by_stop tree lists is_whole index function lowered.made lowered.stops stop.0 stop.1 stop.2 at
+refused tree picks lists is_whole index function lowered (inl first) at =
+    by_height tree lowered.lists picks lists index function lowered.stand lowered.made first at
+refused tree picks lists is_whole index function lowered (inr stop) at =
+    by_stop tree lowered.lists picks lists is_whole index function lowered.stand lowered.made lowered.stops stop.0 stop.1 stop.2 at

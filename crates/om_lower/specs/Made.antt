@@ -1,50 +1,61 @@
 -- Bodies that were made, before all of their program is.
-use Rattle.std.specs.Prelude.{◌≡◌, ◌≤◌, ◌<◌, ◌⊎◌, ℕ, List, [], ◌∷◌, ◌++◌, Option, None, Some, Bool, true, false, All, Any, length, slice_get, take}
-use Rattle.std.specs.List.{AllZip}
+use Rattle.std.specs.Prelude.{◌≡◌, ◌≤◌, ◌<◌, ◌⊎◌, ℕ, List, [], ◌∷◌, Option, None, Some, Bool, true, false, All, Any, length, map, slice_get, take}
+use Rattle.std.specs.List.{AllZip, flat_map}
+use Rattle.om_bodies.specs.declared.emitted.Emitted.{Emitted}
 use Rattle.om_code.specs.declared.raw.Body.{Body}
 use Rattle.om_code.specs.declared.raw.Line.{Line}
+use Rattle.om_emit.specs.declared.draft.PickList.{PickList}
+use Rattle.om_emit.specs.Settled.{ListsStand, number_of}
+use Rattle.om_lower.specs.declared.bodies.Bodies.{Bodies}
+use Rattle.om_lower.specs.declared.bodies.LoweredBody.{LoweredBody}
 use Rattle.om_lower.specs.Heights.{AreLow, IsFirst}
 use Rattle.om_lower.specs.Limits.{HasRoom, IsCodeAt, IsOver}
+use Rattle.om_picks.specs.Once.{site_picks}
 use Rattle.om_resolved.specs.ResolvedTree.{ResolvedFunctionTree, ResolvedTree}
-use Rattle.om_rows.specs.Bodies.{BodySite, Numbers, behind_function, behind_functions, first_numbers, function_bodies}
+use Rattle.om_rows.specs.Bodies.{BodySite, Numbers, behind_function, behind_functions, bodies_from, first_numbers, function_bodies}
 use Rattle.om_rows.specs.Code.{given_of, slots_of}
 
--- a body of the tree, whatever lists of PICK come behind these
-pub record IsMade (tree : ResolvedTree) (picks : List (List ℕ)) (b : BodySite) (body : Body) : Type 0 where
-  pub code : (more : List (List ℕ)) → IsCodeAt tree (picks ++ more) b body.code
+-- a body of the tree, in every program that has these lists of PICK
+pub record IsMade (tree : ResolvedTree) (lists : List PickList) (b : BodySite) (body : Body) : Type 0 where
+  pub code : (picks : List (List ℕ)) → ListsStand lists picks → IsCodeAt tree picks b body.code
   pub slots : body.slots ≡ slots_of b
   pub given : body.given ≡ given_of b
   pub room : HasRoom b
   pub short : length body.code ≤ 65536
 
-abbrev pub AreMade : ResolvedTree → (picks : List (List ℕ)) → List BodySite → List Body → Type 0
-AreMade tree picks sites bodies = AllZip (λ b body. IsMade tree picks b body) sites bodies
+abbrev pub AreMade : ResolvedTree → (lists : List PickList) → List BodySite → List Body → Type 0
+AreMade tree lists sites bodies = AllZip (λ b body. IsMade tree lists b body) sites bodies
+
+-- these lists are those of the bodies
+abbrev pub AreListsOf : List BodySite → List PickList → Type 0
+AreListsOf sites lists = map number_of lists ≡ flat_map site_picks sites
 
 -- the bodies of the first functions, function by function
-abbrev pub AreFunctions : ResolvedTree → (picks : List (List ℕ)) → Numbers → List ResolvedFunctionTree
+abbrev pub AreFunctions : ResolvedTree → (lists : List PickList) → Numbers → List ResolvedFunctionTree
     → List (List Body) → Type 0
-AreFunctions tree picks n fs [] = Unit {0}
-AreFunctions tree picks n [] (bodies ∷ rest) = ⊥
-AreFunctions tree picks n (f ∷ fs) (bodies ∷ rest) = AreMade tree picks (function_bodies n f) bodies
-    × AreFunctions tree picks (behind_function n f) fs rest
+AreFunctions tree lists n fs [] = Unit {0}
+AreFunctions tree lists n [] (bodies ∷ rest) = ⊥
+AreFunctions tree lists n (f ∷ fs) (bodies ∷ rest) = AreMade tree lists (function_bodies n f) bodies
+    × AreFunctions tree lists (behind_function n f) fs rest
 
 -- the code of a body, if it has at most 65,536 instructions
-abbrev pub FitsCode : ResolvedTree → BodySite → Option (List Line) → Type 0
-FitsCode tree b None = (code : List Line) × IsCodeAt tree [] b code × (65536 < length code)
-FitsCode tree b (Some code) = ((more : List (List ℕ)) → IsCodeAt tree more b code) × (length code ≤ 65536)
+abbrev pub FitsCode : ResolvedTree → BodySite → Option Emitted → Type 0
+FitsCode tree b None = (picks : List (List ℕ)) × (code : List Line) × IsCodeAt tree picks b code × (65536 < length code)
+FitsCode tree b (Some made) = ((picks : List (List ℕ)) → ListsStand made.lists.items picks → IsCodeAt tree picks b made.code)
+    × (length made.code ≤ 65536) × (map number_of made.lists.items ≡ site_picks b)
 
 -- a body, if it passes no limit
-abbrev pub FitsBody : ResolvedTree → BodySite → Option Body → Type 0
+abbrev pub FitsBody : ResolvedTree → BodySite → Option LoweredBody → Type 0
 FitsBody tree b None = IsOver tree b
-FitsBody tree b (Some body) = IsMade tree [] b body
+FitsBody tree b (Some made) = IsMade tree made.lists.items b made.body × (map number_of made.lists.items ≡ site_picks b)
 
 -- bodies, if none passes a limit
-abbrev pub FitsBodies : ResolvedTree → List BodySite → Option (List Body) → Type 0
+abbrev pub FitsBodies : ResolvedTree → List BodySite → Option Bodies → Type 0
 FitsBodies tree sites None = Any (λ b. IsOver tree b) sites
-FitsBodies tree sites (Some bodies) = AreMade tree [] sites bodies
+FitsBodies tree sites (Some made) = AreMade tree made.lists.items sites made.bodies × AreListsOf sites made.lists.items
 
 -- those of a function
-abbrev pub FitsFunction : ResolvedTree → Numbers → ResolvedFunctionTree → Option (List Body) → Type 0
+abbrev pub FitsFunction : ResolvedTree → Numbers → ResolvedFunctionTree → Option Bodies → Type 0
 FitsFunction tree n f made = FitsBodies tree (function_bodies n f) made
 
 -- the first function without bodies passes a limit
@@ -60,13 +71,28 @@ abbrev pub StopsUnless : (is_whole : Bool) → ResolvedTree → List (List Body)
 StopsUnless true tree functions = length functions ≡ length tree.functions
 StopsUnless false tree functions = Stops tree functions
 
-pub record IsLowered (tree : ResolvedTree) (functions : List (List Body)) (is_whole : Bool) : Type 0 where
-  pub made : AreFunctions tree [] first_numbers tree.functions functions
+-- the functions that have bodies
+abbrev pub functions_in : ResolvedTree → List (List Body) → List ResolvedFunctionTree
+functions_in tree functions = take (length functions) tree.functions
+
+-- the bodies of functions, with so many lists of PICK
+pub record IsGathered (tree : ResolvedTree) (lists : List PickList) (count : ℕ) (functions : List (List Body)) (is_whole : Bool) : Type 0 where
+  pub made : AreFunctions tree lists first_numbers tree.functions functions
   pub stops : StopsUnless is_whole tree functions
+  pub listed : AreListsOf (bodies_from first_numbers (functions_in tree functions)) lists
+  pub counted : count ≡ (behind_functions first_numbers (functions_in tree functions)).picks
+
+-- the bodies of functions, in a program with these lists of PICK
+pub record IsLowered (tree : ResolvedTree) (picks : List (List ℕ)) (functions : List (List Body)) (is_whole : Bool) : Type 0 where
+  pub lists : List PickList
+  pub stand : ListsStand lists picks
+  pub made : AreFunctions tree lists first_numbers tree.functions functions
+  pub stops : StopsUnless is_whole tree functions
+  pub long : length picks ≡ (behind_functions first_numbers (functions_in tree functions)).picks
 
 -- which function passes a limit, if one does
-abbrev pub IsOverAt : (functions : List (List Body)) → (is_whole : Bool) → Option ℕ → Type 0
-IsOverAt functions is_whole None = (is_whole ≡ true) × All (λ bodies. AreLow [] bodies) functions
-IsOverAt functions is_whole (Some index) =
-    IsFirst [] functions index ⊎
-    ((is_whole ≡ false) × (index ≡ length functions) × All (λ bodies. AreLow [] bodies) functions)
+abbrev pub IsOverAt : (picks : List (List ℕ)) → (functions : List (List Body)) → (is_whole : Bool) → Option ℕ → Type 0
+IsOverAt picks functions is_whole None = (is_whole ≡ true) × All (λ bodies. AreLow picks bodies) functions
+IsOverAt picks functions is_whole (Some index) =
+    IsFirst picks functions index ⊎
+    ((is_whole ≡ false) × (index ≡ length functions) × All (λ bodies. AreLow picks bodies) functions)

@@ -7,13 +7,11 @@ use Rattle.om_lower.specs.declared.sites.BodyPart.TheVariants as parts
 use Rattle.om_lower.specs.declared.sites.Site.{Site}
 use Rattle.om_resolved.specs.ResolvedTree.{ResolvedFunctionTree}
 use Rattle.om_resolved.specs.ResolvedView.{view_resolved_function}
-use Rattle.om_rows.specs.Bodies.{BodySite, BodyTree, FunctionBody, ParallelBody, TaskBody, variables_in}
+use Rattle.om_rows.specs.Bodies.{BodySite, BodyTree, FunctionBody, variables_in}
 use Rattle.om_rows.specs.Coded.{BodyHasCode}
 use Rattle.om_rows.specs.Mentions.{extents_of}
 use Rattle.om_rows.specs.Slots.{Extent, cells_in}
-use Rattle.om_lower.specs.Plain.{HasNoSections, HaveNoSections}
 use Rattle.om_tables.specs.Numbering.{numbers_of}
-use Rattle.om_tables.specs.Picks.{body_picks}
 
 abbrev pub part_tree : BodyPart → BodyTree
 part_tree parts.Function = FunctionBody
@@ -37,21 +35,9 @@ site_of site = record {
   numbers = numbers_of site.numbers;
 }
 
--- a body has no `sections` among its own statements
-abbrev pub HasNone : ResolvedFunctionTree → BodyTree → Type 0
-HasNone f FunctionBody = HaveNoSections f.body
-HasNone f (ParallelBody at clauses captures s) = HasNoSections s
-HasNone f (TaskBody at clauses captures s) = HasNoSections s
-
--- and so no list of PICK
-pub record IsPlain (b : BodySite) : Type 0 where
-  pub sections : HasNone b.function b.tree
-  pub lists : body_picks b.numbers b.function b.tree ≡ []
-
 -- a body can be lowered, with this table of the cells of its function's variables
 pub record IsReady (extents : List Extent) (b : BodySite) : Type 0 where
   pub cells : (variable : ℕ) → cells_in extents variable ≡ cells_in (extents_of b.function) variable
   pub few : HasFewSlots b
   pub round : length b.outer ≤ 256
   pub code : BodyHasCode b.function b.tree
-  pub plain : IsPlain b

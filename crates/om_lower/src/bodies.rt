@@ -5,7 +5,7 @@ ghost use Rattle.om_bodies.specs.Emitted.{HasLists, HasRow};
 ghost use Rattle.om_lower.specs.Frames.{FitsFrame};
 ghost use Rattle.om_lower.specs.Limits.{HasFewSlots, HasManySlots};
 ghost use Rattle.om_lower.specs.Made.{FitsBodies, FitsBody, FitsCode};
-ghost use Rattle.om_lower.specs.Sites.{IsPlain, IsReady, part_tree, site_of, variables_at};
+ghost use Rattle.om_lower.specs.Sites.{IsReady, part_tree, site_of, variables_at};
 ghost use Rattle.om_resolved.specs.ResolvedView.{view_resolved, view_resolved_clause, view_resolved_function, view_resolved_statement};
 ghost use Rattle.om_rows.specs.Bodies.{region_variables, variables_of};
 ghost use Rattle.om_rows.specs.Code.{captures_of, given_of, slots_of};
@@ -21,7 +21,8 @@ use crate::sites::{BodyPart, Site};
 use om_bodies::bodies::{function_body, parallel_body, task_body};
 use om_bodies::emitted::Emitted;
 use om_bodies::region::Region;
-use om_code::raw::{Body, Line, Slot};
+use om_code::raw::{Body, Slot};
+use om_emit::draft::PickList;
 use om_resolved::{Capture, ResolvedFunction};
 use om_seq::Seq;
 use om_tables::{
@@ -45,25 +46,44 @@ pub(crate) fn have_few_slots(alloc: Global, sites: &[Site<'_>]) -> Result<bool, 
     Ok(true)
 }
 
+/// Bodies, and the lists of the PICKs in them.
+#[derive(Drop)]
+pub(crate) struct Bodies {
+    pub(crate) bodies: Seq<Body>,
+    pub(crate) lists: Vec<PickList>,
+}
+
+/// A body, and the lists of the PICKs in it.
+#[derive(Drop)]
+pub(crate) struct LoweredBody {
+    pub(crate) body: Body,
+    pub(crate) lists: Vec<PickList>,
+}
+
 /// These bodies of a function; `None` where one passes a limit on cells or instructions.
 pub(crate) fn lower_bodies(
     whole: &Whole<'_>,
     extents: &Extents,
     sites: &[Site<'_>],
-) -> Result<Option<Seq<Body>>, AllocError>
+) -> Result<Option<Bodies>, AllocError>
     requires tables { IsTablesOf (view_resolved whole.now.resolved.now) whole.now.tables.now }
     requires ready { All (IsReady extents.now) (map site_of sites.now) }
     ensures { let tree = view_resolved whole.now.resolved.now in
         IfOk result (λ made. FitsBodies tree (map site_of sites.now) made) }
 {
     let mut bodies = Vec::new(whole.alloc);
+    let mut lists = Vec::new(whole.alloc);
     for site in sites {
-        let Some(body) = lower_body(whole, extents, site)? else {
+        let Some(mut lowered) = lower_body(whole, extents, site)? else {
             return Ok(None);
         };
-        bodies.push(body)?;
+        lists.append(&mut lowered.lists)?;
+        bodies.push(lowered.body)?;
     }
-    Ok(Some(Seq::of(bodies)))
+    Ok(Some(Bodies {
+        bodies: Seq::of(bodies),
+        lists,
+    }))
 }
 
 /// A body; `None` where it passes a limit on cells or instructions.
@@ -71,7 +91,7 @@ fn lower_body(
     whole: &Whole<'_>,
     extents: &Extents,
     site: &Site<'_>,
-) -> Result<Option<Body>, AllocError>
+) -> Result<Option<LoweredBody>, AllocError>
     requires tables { IsTablesOf (view_resolved whole.now.resolved.now) whole.now.tables.now }
     requires ready { IsReady extents.now (site_of site.now) }
     ensures { let tree = view_resolved whole.now.resolved.now in
@@ -81,11 +101,15 @@ fn lower_body(
     let Some(slots) = frame_in(whole.alloc, extents, site, &variables)? else {
         return Ok(None);
     };
-    let Some(code) = code_in(whole, site, &variables)? else {
+    let Some(emitted) = code_in(whole, site, &variables)? else {
         return Ok(None);
     };
     let given = given_in(whole.alloc, site, &variables)?;
-    Ok(Some(Body { code, slots, given }))
+    let Emitted { code, lists } = emitted;
+    Ok(Some(LoweredBody {
+        body: Body { code, slots, given },
+        lists,
+    }))
 }
 
 /// The variables of a body, by their slots.
@@ -147,10 +171,9 @@ fn code_in(
     whole: &Whole<'_>,
     site: &Site<'_>,
     variables: &Variables,
-) -> Result<Option<Seq<Line>>, AllocError>
+) -> Result<Option<Emitted>, AllocError>
     requires tables { IsTablesOf (view_resolved whole.now.resolved.now) whole.now.tables.now }
     requires code { BodyHasCode (site_of site.now).function (site_of site.now).tree }
-    requires plain { IsPlain (site_of site.now) }
     requires few { HasFewSlots (site_of site.now) }
     requires variables { variables.now ≡ variables_of (site_of site.now) }
     ensures { let tree = view_resolved whole.now.resolved.now in
@@ -159,17 +182,15 @@ fn code_in(
     let is_main = is_main(site.function);
     let scope = Scope::new(whole.resolved, whole.tables, variables, is_main);
     let emitted = emitted_in(whole.alloc, &scope, site)?;
-    let Emitted { code, .. } = emitted;
-    if code.len() > INSTRUCTION_LIMIT {
+    if emitted.code.len() > INSTRUCTION_LIMIT {
         return Ok(None);
     }
-    Ok(Some(code))
+    Ok(Some(emitted))
 }
 
 /// The code of a body, of whatever length.
 fn emitted_in(alloc: Global, scope: &Scope<'_>, site: &Site<'_>) -> Result<Emitted, AllocError>
     requires code { BodyHasCode (site_of site.now).function (site_of site.now).tree }
-    requires plain { IsPlain (site_of site.now) }
     ensures row { let b = site_of site.now in
         IfOk result (HasRow (names_of scope.now) b.numbers b.function b.tree) }
     ensures lists { let b = site_of site.now in

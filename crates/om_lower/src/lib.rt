@@ -8,6 +8,5 @@ mod heights;
 pub mod look;
 pub mod lower;
 mod program;
-mod sections;
 mod sites;
 pub mod texts;

@@ -5,8 +5,7 @@ ghost use Rattle.om_lexer.specs.Faults.{no_memory};
 ghost use Rattle.om_lower.specs.Heights.{AreLevel};
 ghost use Rattle.om_lower.specs.Limits.{AreWithin, IsTooMany};
 ghost use Rattle.om_lower.specs.Made.{IsLowered, IsOverAt};
-ghost use Rattle.om_lower.specs.Refusals.{IsRefusedTree, too_many};
-ghost use Rattle.om_lower.specs.Sections.{first_sections};
+ghost use Rattle.om_lower.specs.Refusals.{too_many};
 ghost use Rattle.om_resolved.specs.Beside.{TreeAtomicsAssign, TreeCopiesBehind};
 ghost use Rattle.om_resolved.specs.ResolvedView.{view_resolved, view_resolved_function};
 ghost use Rattle.om_resolved.specs.Whole.{IsWholeTree};
@@ -14,12 +13,13 @@ ghost use Rattle.om_rows.specs.Code.{IsCodeOf};
 ghost use Rattle.om_rows.specs.Coded.{TreeHasCode};
 ghost use Rattle.om_tables.specs.Tables.{IsTablesOf};
 
-use crate::functions::{Lowered, Whole, lower_functions};
+use crate::functions::{Lowered, Placed, Whole, lower_functions};
 use crate::heights::first_high;
 use crate::program::program_of;
-use crate::sections::first_sections;
 use om_code::program::Program;
 use om_lexer::{FaultCode, SourceFault};
+use om_picks::joined;
+use om_picks::laws::each_once;
 use om_resolved::{Resolved, ResolvedFunction};
 use om_rows::laws::{body_is_level, whole_has_code};
 use om_tables::tables_of;
@@ -29,7 +29,6 @@ use std::alloc::{AllocError, Global};
 ///
 /// Refusals:
 /// - S0 at byte 0: no memory.
-/// - S3 at the first `sections` of the text: its code is not written yet.
 /// - S11 at a function's name: a body of it has more than 256 slots, more than 4,096 cells of its
 ///   own, more than 65,536 instructions, or more than 256 operands at once. Of several such functions
 ///   the first is named.
@@ -38,27 +37,19 @@ pub fn lower(alloc: Global, resolved: &Resolved) -> Result<Program, SourceFault>
     requires atomics { TreeAtomicsAssign (view_resolved resolved.now) }
     requires copies { TreeCopiesBehind (view_resolved resolved.now) }
     ensures code { IfOk result (λ program. IsCodeOf (view_resolved resolved.now) program) }
-    ensures supported { OnOk result (first_sections (view_resolved resolved.now) ≡ None) }
     ensures within { OnOk result (AreWithin (view_resolved resolved.now)) }
     ensures refused { let tree = view_resolved resolved.now in
-        IfErr result (λ fault. fault ≢ no_memory → IsRefusedTree tree fault) }
+        IfErr result (λ fault. fault ≢ no_memory → IsTooMany tree fault) }
 {
-    if let Some(at) = first_sections(resolved) {
-        return Err(SourceFault {
-            code: FaultCode::Syntax,
-            at: at.start,
-        });
-    }
     whole_has_code();
     lower_tree(alloc, resolved)
 }
 
-/// The program of a tree without `sections`.
+/// The program of a tree that has code.
 fn lower_tree(alloc: Global, resolved: &Resolved) -> Result<Program, SourceFault>
     requires whole { IsWholeTree (view_resolved resolved.now) }
     requires has_code { TreeHasCode (view_resolved resolved.now) }
     requires copies { TreeCopiesBehind (view_resolved resolved.now) }
-    requires plain { first_sections (view_resolved resolved.now) ≡ None }
     ensures code { IfOk result (λ program. IsCodeOf (view_resolved resolved.now) program) }
     ensures within { OnOk result (AreWithin (view_resolved resolved.now)) }
     ensures refused { let tree = view_resolved resolved.now in
@@ -70,29 +61,51 @@ fn lower_tree(alloc: Global, resolved: &Resolved) -> Result<Program, SourceFault
         resolved,
         tables: &tables,
     };
-    let lowered = lower_functions(&whole)?;
-    if let Some(index) = over_at(&whole, &lowered)? {
+    let placed = placed_functions(&whole)?;
+    if let Some(index) = over_at(&whole, &placed)? {
         return Err(too_many(&resolved.functions.as_slice()[index]));
     }
-    let Lowered { functions, .. } = lowered;
-    let program = program_of(&whole, functions)?;
+    let program = program_of(&whole, placed)?;
     Ok(program)
 }
 
+/// The bodies of functions, with the lists of all PICKs in them at their numbers.
+fn placed_functions(whole: &Whole<'_>) -> Result<Placed, AllocError>
+    requires tables { IsTablesOf (view_resolved whole.now.resolved.now) whole.now.tables.now }
+    requires has_code { TreeHasCode (view_resolved whole.now.resolved.now) }
+    ensures { let tree = view_resolved whole.now.resolved.now in
+        IfOk result (λ placed. IsLowered tree placed.picks placed.functions.items placed.is_whole) }
+{
+    each_once();
+    let lowered = lower_functions(whole)?;
+    let Lowered {
+        functions,
+        lists,
+        count,
+        is_whole,
+    } = lowered;
+    let picks = joined(whole.alloc, count, lists)?;
+    Ok(Placed {
+        functions,
+        picks,
+        is_whole,
+    })
+}
+
 /// The first function that passes a limit, if one does.
-fn over_at(whole: &Whole<'_>, lowered: &Lowered) -> Result<Option<usize>, AllocError>
+fn over_at(whole: &Whole<'_>, placed: &Placed) -> Result<Option<usize>, AllocError>
     requires { let tree = view_resolved whole.now.resolved.now in
-        IsLowered tree lowered.now.functions.items lowered.now.is_whole }
-    ensures over { IfOk result (λ index. IsOverAt lowered.now.functions.items lowered.now.is_whole index) }
+        IsLowered tree placed.now.picks placed.now.functions.items placed.now.is_whole }
+    ensures over { IfOk result (λ index. IsOverAt placed.now.picks placed.now.functions.items placed.now.is_whole index) }
     ensures within { let count = length whole.now.resolved.now.functions.items in
         IfOk result (λ index. IfSome index (λ index. index < count)) }
 {
     body_is_level();
-    let functions = lowered.functions.as_slice();
-    if let Some(index) = first_high(whole.alloc, &[], functions)? {
+    let functions = placed.functions.as_slice();
+    if let Some(index) = first_high(whole.alloc, placed.picks.as_slice(), functions)? {
         return Ok(Some(index));
     }
-    if lowered.is_whole {
+    if placed.is_whole {
         return Ok(None);
     }
     Ok(Some(functions.len()))

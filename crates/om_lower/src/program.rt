@@ -4,7 +4,6 @@ ghost use Rattle.std.specs.Prelude.{◌≡◌, ◌≤◌, ◌<◌, [], All, Any,
 ghost use Rattle.std.specs.List.{AllZip, flat_map};
 ghost use Rattle.om_lower.specs.Heights.{AreLow};
 ghost use Rattle.om_lower.specs.Made.{IsLowered};
-ghost use Rattle.om_lower.specs.Sections.{first_sections};
 ghost use Rattle.om_resolved.specs.Beside.{TreeCopiesBehind};
 ghost use Rattle.om_resolved.specs.Formats.{pieces_of};
 ghost use Rattle.om_resolved.specs.ResolvedView.{view_resolved, view_resolved_function};
@@ -16,7 +15,7 @@ ghost use Rattle.om_rows.specs.Coded.{TreeHasCode};
 ghost use Rattle.om_rows.specs.Mentions.{IsTextOf};
 ghost use Rattle.om_tables.specs.Tables.{IsTablesOf};
 
-use crate::functions::{Whole, is_main};
+use crate::functions::{Placed, Whole, is_main};
 use crate::texts::text_of;
 use om_code::program::Program;
 use om_code::raw::{self, Body, Piece, Raw};
@@ -27,35 +26,35 @@ use om_tables::{Scope, Texts, Variables};
 use std::alloc::{AllocError, Global};
 
 /// The program of a tree, whose functions have these bodies.
-pub(crate) fn program_of(
-    whole: &Whole<'_>,
-    functions: Vec<Seq<Body>>,
-) -> Result<Program, AllocError>
+pub(crate) fn program_of(whole: &Whole<'_>, placed: Placed) -> Result<Program, AllocError>
     requires tables { IsTablesOf (view_resolved whole.now.resolved.now) whole.now.tables.now }
     requires whole { IsWholeTree (view_resolved whole.now.resolved.now) }
     requires has_code { TreeHasCode (view_resolved whole.now.resolved.now) }
     requires copies { TreeCopiesBehind (view_resolved whole.now.resolved.now) }
-    requires plain { first_sections (view_resolved whole.now.resolved.now) ≡ None }
-    requires lowered { IsLowered (view_resolved whole.now.resolved.now) functions.items true }
-    requires low { All (λ bodies. AreLow [] bodies) functions.items }
+    requires lowered { IsLowered (view_resolved whole.now.resolved.now) placed.picks placed.functions.items true }
+    requires low { All (λ bodies. AreLow placed.picks bodies) placed.functions.items }
     ensures { IfOk result (λ program. IsCodeOf (view_resolved whole.now.resolved.now) program) }
 {
     code_is_valid();
-    let raw = raw_of(whole, functions)?;
+    let raw = raw_of(whole, placed)?;
     Ok(Program::of(raw))
 }
 
 /// The code of a program, in one value.
-fn raw_of(whole: &Whole<'_>, functions: Vec<Seq<Body>>) -> Result<Raw, AllocError>
+fn raw_of(whole: &Whole<'_>, placed: Placed) -> Result<Raw, AllocError>
     requires tables { IsTablesOf (view_resolved whole.now.resolved.now) whole.now.tables.now }
     requires has_code { TreeHasCode (view_resolved whole.now.resolved.now) }
-    requires plain { first_sections (view_resolved whole.now.resolved.now) ≡ None }
-    requires lowered { IsLowered (view_resolved whole.now.resolved.now) functions.items true }
+    requires lowered { IsLowered (view_resolved whole.now.resolved.now) placed.picks placed.functions.items true }
     ensures code { IfOk result (λ raw. IsCodeOf (view_resolved whole.now.resolved.now) raw) }
-    ensures bodies { IfOk result (λ raw. raw.bodies ≡ flat_map (λ bodies. bodies) functions.items) }
-    ensures picks { IfOk result (λ raw. raw.picks ≡ []) }
+    ensures bodies { IfOk result (λ raw. raw.bodies ≡ flat_map (λ bodies. bodies) placed.functions.items) }
+    ensures picks { IfOk result (λ raw. raw.picks ≡ placed.picks) }
 {
     let alloc = whole.alloc;
+    let Placed {
+        functions,
+        picks,
+        ..
+    } = placed;
     let bodies = flattened(alloc, functions)?;
     let globals = copy_globals(alloc, whole.resolved.globals.as_slice())?;
     let texts = texts_of(alloc, &whole.tables.formats)?;
@@ -66,7 +65,7 @@ fn raw_of(whole: &Whole<'_>, functions: Vec<Seq<Body>>) -> Result<Raw, AllocErro
         bodies,
         main,
         texts,
-        picks: Seq::new(alloc),
+        picks,
         locks,
     })
 }

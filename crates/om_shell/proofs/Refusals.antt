@@ -12,7 +12,7 @@ use Rattle.om_tree.specs.Tree.{UnitTree}
 use Rattle.om_scope.specs.Breaches.{breaches_of}
 use Rattle.om_scope.specs.Faults.{first_of}
 use Rattle.om_resolved.specs.ResolvedTree.{ResolvedTree}
-use Rattle.om_lower.specs.Refusals.{IsRefusedTree}
+use Rattle.om_lower.specs.Limits.{IsTooMany}
 use Rattle.om_shell.specs.Verdict.{IsTreeOfSource, IsResolutionOfSource, IsRefused, by_lexer, by_parser, by_names, by_code}
 
 abbrev pub Refuses : List ℕ → SourceFault → Type 0
@@ -42,6 +42,6 @@ names_refuse source tree (Ok x) has_tree first = tt
 names_refuse source tree (Err fault) has_tree first = λ memory. by_names tree has_tree (first memory)
 
 pub code_refuses : {X : Type 0} (source : List ℕ) (resolved : ResolvedTree) (r : Result X SourceFault) → IsResolutionOfSource source resolved
-    → IfErr r (λ fault. fault ≢ no_memory → IsRefusedTree resolved fault) → IfErr r (Refuses source)
+    → IfErr r (λ fault. fault ≢ no_memory → IsTooMany resolved fault) → IfErr r (Refuses source)
 code_refuses source resolved (Ok x) has_resolution first = tt
 code_refuses source resolved (Err fault) has_resolution first = λ memory. by_code resolved has_resolution (first memory)

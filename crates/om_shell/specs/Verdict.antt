@@ -13,9 +13,7 @@ use Rattle.om_scope.specs.Breaches.{breaches_of}
 use Rattle.om_scope.specs.Faults.{first_of}
 use Rattle.om_resolved.specs.ResolvedTree.{ResolvedTree}
 use Rattle.om_scope.specs.UnitResolution.{resolution_of}
-use Rattle.om_lower.specs.Sections.{first_sections}
-use Rattle.om_lower.specs.Limits.{AreWithin}
-use Rattle.om_lower.specs.Refusals.{IsRefusedTree}
+use Rattle.om_lower.specs.Limits.{AreWithin, IsTooMany}
 use Rattle.om_rows.specs.Code.{IsCodeOf}
 use Rattle.om_view.specs.declared.debuggee.Debuggee.{Debuggee}
 use Rattle.om_visible.specs.Scopes.{tree_names}
@@ -35,11 +33,10 @@ pub record IsResolutionOfSource (source : List ℕ) (resolved : ResolvedTree) : 
   pub no_breach : breaches_of tree ≡ []
   pub resolves : resolution_of tree ≡ Some resolved
 
--- and the program is the code of the resolution, which is supported and within the limits of code, and the names are its names
+-- and the program is the code of the resolution, which is within the limits of code, and the names are its names
 pub record IsDebuggeeOf (source : List ℕ) (debuggee : Debuggee) : Type 0 where
   pub resolved : ResolvedTree
   pub has_resolution : IsResolutionOfSource source resolved
-  pub supported : first_sections resolved ≡ None
   pub within : AreWithin resolved
   pub code : IsCodeOf resolved debuggee.program
   pub names : debuggee.names ≡ tree_names resolved
@@ -56,7 +53,7 @@ pub data IsRefused (source : List ℕ) (fault : SourceFault) : Type 0 where
   by_lexer : IsFault source fault.code fault.at → IsRefused source fault
   by_parser : (tokens : List Token) → IsTokens source tokens → IsSyntaxFault tokens fault → IsRefused source fault
   by_names : (tree : UnitTree) → IsTreeOfSource source tree → first_of (breaches_of tree) ≡ Some fault → IsRefused source fault
-  by_code : (resolved : ResolvedTree) → IsResolutionOfSource source resolved → IsRefusedTree resolved fault → IsRefused source fault
+  by_code : (resolved : ResolvedTree) → IsResolutionOfSource source resolved → IsTooMany resolved fault → IsRefused source fault
 
 -- what a source comes to
 abbrev pub IsVerdict : List ℕ → Result Debuggee SourceFault → Type 0

@@ -1,9 +1,10 @@
-use Rattle.std.proofs.Common.{[], map, take}
-use Rattle.om_lower.specs.Made.{AreMade}
+use Rattle.std.proofs.Common.{map, take}
+use Rattle.om_lower.specs.Made.{AreListsOf, AreMade}
 use Rattle.om_lower.specs.Sites.{site_of}
 use Rattle.om_resolved.specs.ResolvedView.{view_resolved}
 use Rattle.om_lower.proofs.bodies.lower_bodies.Given as goal
 
 abbrev pub invariant-loop-site : goal.invariant-loop-site
 invariant-loop-site l =
-    AreMade (view_resolved l.whole.resolved.now) [] (take l.site-index (map site_of l.sites)) l.bodies.items
+    AreMade (view_resolved l.whole.resolved.now) l.lists.items (take l.site-index (map site_of l.sites)) l.bodies.items
+    × AreListsOf (take l.site-index (map site_of l.sites)) l.lists.items

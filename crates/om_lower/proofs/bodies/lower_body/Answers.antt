@@ -9,4 +9,4 @@ pub returns-in_default-2 : goal.returns-in_default-2
 returns-in_default-2 c =
     let tree = view_resolved c.args.whole.now.resolved.now in
     let b = site_of c.args.site.now in
-    over_code tree b (subst (λ code. FitsCode tree b code) c.in_default-2.is c.in_ok-code.ensures)
+    over_code tree b (subst (λ code. FitsCode tree b code) c.in_default-2.is c.in_ok-emitted.ensures)

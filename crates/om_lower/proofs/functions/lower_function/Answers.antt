@@ -15,4 +15,4 @@ lower_bodies-requires-clause-ready c =
     (c.in_ok-have_few_slots.ensures.few c.if-not-branch.false) in
     subst (λ items. All (IsReady extents) (map site_of items)) (sym c.as_slice-2.ensures.value)
     (function_ready extents f (numbers_of c.args.numbers) (map site_of sites) c.in_ok-sites.ensures
-    c.in_ok-extents.ensures c.requires.plain few c.requires.has_code)
+    c.in_ok-extents.ensures few c.requires.has_code)

@@ -10,7 +10,7 @@ use Rattle.om_lower.proofs.lower.lower_tree.Goals as goal
 pub returns-in-Some-clause-refused : goal.returns-in-Some-clause-refused
 returns-in-Some-clause-refused c =
     let tree = view_resolved c.args.resolved.now in
-    let lowered = c.in_ok-lowered.lowered in
+    let lowered = c.in_ok-placed.placed in
     let items = c.args.resolved.now.functions.items in
     let index = c.in-Some.index in
     let function = view_resolved_function c.index-as_slice-index.result in
@@ -21,15 +21,15 @@ returns-in-Some-clause-refused c =
     (item_at view_resolved_function c.as_slice.result.now index c.index-as_slice-index.result
     (subst (λ all. index < length all) (sym c.as_slice.ensures.value) within) c.index-as_slice-index.is) in
     let over = subst (λ found.
-    IsOverAt lowered.functions.items lowered.is_whole found) c.in-Some.is c.in_ok-index.ensures.over in
+    IsOverAt lowered.picks lowered.functions.items lowered.is_whole found) c.in-Some.is c.in_ok-index.ensures.over in
     λ other. subst (λ fault. IsTooMany tree fault) (sym c.too_many.ensures)
-    (refused tree lowered.functions.items lowered.is_whole index function c.in_ok-lowered.ensures over at)
+    (refused tree lowered.picks lowered.functions.items lowered.is_whole index function c.in_ok-placed.ensures over at)
 
 pub returns-clause-within : goal.returns-clause-within
 returns-clause-within c =
     let tree = view_resolved c.args.resolved.now in
-    let lowered = c.in_ok-lowered.lowered in
+    let lowered = c.in_ok-placed.placed in
     let over = subst (λ found.
-    IsOverAt lowered.functions.items lowered.is_whole found) c.in_default.is c.in_ok-index.ensures.over in
-    all_within tree lowered.functions.items
-    (subst (λ whole. IsLowered tree lowered.functions.items whole) over.0 c.in_ok-lowered.ensures) over.1
+    IsOverAt lowered.picks lowered.functions.items lowered.is_whole found) c.in_default.is c.in_ok-index.ensures.over in
+    all_within tree lowered.picks lowered.functions.items
+    (subst (λ whole. IsLowered tree lowered.picks lowered.functions.items whole) over.0 c.in_ok-placed.ensures) over.1

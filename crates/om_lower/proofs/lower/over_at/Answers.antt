@@ -1,4 +1,4 @@
-use Rattle.std.proofs.Common.{All, [], sym, subst}
+use Rattle.std.proofs.Common.{All, sym, subst}
 use Rattle.om_lower.specs.Heights.{AreLevel}
 use Rattle.om_resolved.specs.ResolvedView.{view_resolved}
 use Rattle.om_rows.specs.Bodies.{first_numbers}
@@ -8,6 +8,7 @@ use Rattle.om_lower.proofs.lower.over_at.Goals as goal
 pub first_high-requires : goal.first_high-requires
 first_high-requires c =
     let tree = view_resolved c.args.whole.now.resolved.now in
-    subst (λ lists. All (λ bodies. AreLevel [] bodies) lists) (sym c.as_slice-functions.ensures.value)
-    (level_functions c.body_is_level.ensures tree first_numbers tree.functions
-    c.args.lowered.now.functions.items c.requires.made)
+    subst (λ picks. All (λ bodies. AreLevel picks bodies) c.as_slice-functions.result.now) (sym c.as_slice.ensures)
+    (subst (λ lists. All (λ bodies. AreLevel c.args.placed.now.picks bodies) lists) (sym c.as_slice-functions.ensures.value)
+    (level_functions c.body_is_level.ensures tree c.requires.lists c.args.placed.now.picks first_numbers tree.functions
+    c.args.placed.now.functions.items c.requires.stand c.requires.made))

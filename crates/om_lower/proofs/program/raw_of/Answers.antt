@@ -1,25 +1,24 @@
-use Rattle.std.proofs.Common.{[], length, map, sym, ap, subst, ◌∙◌}
+use Rattle.std.proofs.Common.{map, sym, ap, subst, ◌∙◌}
 use Rattle.std.specs.List.{AllZip}
 use Rattle.om_lower.specs.Made.{AreMade}
 use Rattle.om_resolved.specs.ResolvedView.{view_resolved}
-use Rattle.om_rows.specs.Bodies.{bodies_of, first_numbers}
+use Rattle.om_rows.specs.Bodies.{bodies_of}
 use Rattle.om_rows.specs.Code.{global_of}
 use Rattle.om_rows.specs.Mentions.{IsTextOf}
-use Rattle.om_lower.proofs.Assembled.{made_bodies, no_lists, side_by_side_in}
+use Rattle.om_lower.proofs.Assembled.{all_lists, made_bodies, side_by_side_in}
 use Rattle.om_lower.proofs.program.raw_of.Goals as goal
 
 pub returns-clause-code : goal.returns-clause-code
 returns-clause-code c =
     let tree = view_resolved c.args.whole.now.resolved.now in
-    let made = subst (λ bodies. AreMade tree [] (bodies_of tree) bodies) (sym c.in_ok-bodies.ensures)
-    (made_bodies tree c.args.functions.items c.requires.lowered) in
+    let made = subst (λ bodies. AreMade tree c.requires.lowered.lists (bodies_of tree) bodies) (sym c.in_ok-bodies.ensures)
+    (made_bodies tree c.args.placed.picks c.args.placed.functions.items c.requires.lowered) in
     record {
       globals = c.in_ok-globals.ensures ∙ ap (λ globals. map global_of globals) c.as_slice.ensures;
-      bodies = side_by_side_in tree _ (bodies_of tree) c.in_ok-bodies.bodies made;
+      bodies = side_by_side_in tree c.requires.lowered.lists _ (bodies_of tree) c.in_ok-bodies.bodies c.requires.lowered.stand made;
       main = c.main_body-main.ensures;
       texts = subst (λ formats.
           AllZip IsTextOf formats c.in_ok-texts.texts) c.requires.tables.formats c.in_ok-texts.ensures;
-      picks = ap (λ picks. length picks) c.new.ensures
-          ∙ sym (no_lists tree.functions first_numbers c.requires.plain);
+      picks = all_lists tree c.args.placed.picks c.args.placed.functions.items c.requires.lowered;
       locks = c.in_ok-locks.ensures ∙ c.requires.tables.locks;
     }
