@@ -1,0 +1,11 @@
+mod Homes
+mod Going
+mod Bounds
+mod ShareRows
+mod TaskRows
+mod Walk
+mod Runs
+mod Operands
+mod Reasons
+mod RowReasons
+mod Lacking

@@ -1,0 +1,3 @@
+pub mod Standing
+pub mod Reasons
+pub mod Laws
