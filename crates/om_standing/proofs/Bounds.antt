@@ -1,5 +1,5 @@
 -- What every row keeps to: behind its edits the worker stands, and so does what it puts.
-use Rattle.std.proofs.Common.{◌≡◌, subst, ℕ, ◌+◌, arith, Bool, true, false, if◌then◌else◌, List, [], ◌∷◌, ◌++◌, Option, None, Some, length}
+use Rattle.std.proofs.Common.{subst, ℕ, arith, Bool, true, false, if◌then◌else◌, List, [], ◌∷◌, ◌++◌, Option}
 use Rattle.om_code.specs.declared.frame.Operand.{Operand}
 use Rattle.om_code.specs.declared.raw.Raw.{Raw}
 use Rattle.om_code.specs.Ways.{Way}
@@ -17,7 +17,7 @@ use Rattle.om_cells.specs.Edits.{changed_by, changed, edited, context_ended, val
 use Rattle.om_row.specs.declared.row.Row.{Row}
 use Rattle.om_row.specs.declared.row.Row.TheVariants.{Goes}
 use Rattle.om_row.specs.Rows.{Asked}
-use Rattle.om_standing.specs.Standing.{IsStandingFrame, AreWaiting, IsStandingContext, AreStanding, IsStandingControl, IsStandingValue}
+use Rattle.om_standing.specs.Standing.{AreWaiting, IsStandingContext, AreStanding, IsStandingControl, IsStandingValue}
 
 -- an edit that leaves frames where they are, or begins a context that stands
 abbrev pub Keeps : Raw → Edit → Type 0

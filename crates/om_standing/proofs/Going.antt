@@ -1,13 +1,11 @@
 -- A frame that stands has its instruction, and stands again where that goes on.
-use Rattle.std.proofs.Common.{◌≡◌, refl, sym, ◌∙◌, ap, subst, ℕ, zero, suc, ◌+◌, ◌-◌, ◌<◌, ◌≤◌, arith, List, [], ◌∷◌, ◌++◌, Option, None, Some, length, drop, length-append, length-drop, option_map}
+use Rattle.std.proofs.Common.{◌≡◌, refl, sym, ◌∙◌, ap, subst, ℕ, zero, suc, ◌+◌, ◌-◌, ◌<◌, ◌≤◌, arith, List, [], ◌∷◌, ◌++◌, Option, Some, length, drop, length-append, length-drop, option_map}
 use Rattle.std.specs.Prelude.{Contains, slice_get, option_to_list, option_and_then, unwrap_or}
-use Rattle.std.proofs.lemmas.Option.{slice_get-get_or}
 use Rattle.om_code.specs.declared.frame.Operand.{Operand}
 use Rattle.om_code.specs.declared.instruction.Instr.{Instr}
 use Rattle.om_code.specs.declared.raw.Body.{Body}
 use Rattle.om_code.specs.declared.raw.Line.{Line}
 use Rattle.om_code.specs.declared.raw.Raw.{Raw}
-use Rattle.om_code.specs.declared.raw.Slot.{Slot}
 use Rattle.om_code.specs.Places.{at_place, instruction_at, slots_of}
 use Rattle.om_code.specs.Validity.{IsValid, IsValidBody, NamesKnown, StaysInside}
 use Rattle.om_code.specs.Ways.{pops, pushes, successors, Way, starts, follows}

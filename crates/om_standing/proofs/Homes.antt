@@ -1,5 +1,5 @@
 -- A frame that begins has a home for each slot.
-use Rattle.std.proofs.Common.{◌≡◌, refl, sym, ap, subst, ℕ, zero, suc, ◌+◌, ◌<◌, arith, List, [], ◌∷◌, Option, None, Some, length}
+use Rattle.std.proofs.Common.{◌≡◌, refl, sym, ap, subst, ℕ, zero, suc, arith, List, [], ◌∷◌, Option, None, Some}
 use Rattle.std.specs.Prelude.{All, IsSomeAnd, slice_get, unwrap_or}
 use Rattle.om_code.specs.declared.raw.Body.{Body}
 use Rattle.om_code.specs.declared.raw.Raw.{Raw}
@@ -13,7 +13,7 @@ use Rattle.om_cells.specs.declared.control.Home.TheVariants as home
 use Rattle.om_cells.specs.declared.control.Frame.{Frame}
 use Rattle.om_row.specs.Objects.{home_at, home_from, home_for, homes_for}
 use Rattle.om_task.specs.Sites.{body_of}
-use Rattle.om_standing.specs.Standing.{IsOwned, FitsHome, FitHomes, StandsWith, IsStandingFrame}
+use Rattle.om_standing.specs.Standing.{IsOwned, FitsHome, FitHomes, IsStandingFrame}
 
 -- the home of a slot that is found
 home_found : (program : Raw) (slots : List Slot) (homes : List Home) (n : ℕ) (slot : Slot) → FitHomes program slots homes → slice_get slots n ≡ Some slot → FitsHome program slot.cells slot.source (home_at homes n)

@@ -1,8 +1,7 @@
 -- A worker that stands ends only where its instruction may lack something.
-use Rattle.std.proofs.Common.{◌≡◌, ◌∙◌, inl, inr, refl, sym, ap, subst, ℕ, ◌+◌, ◌≤◌, arith, Bool, true, false, List, [], ◌∷◌, Option, None, Some, length, option_map}
-use Rattle.std.specs.Prelude.{ℤ, pos}
+use Rattle.std.proofs.Common.{◌≡◌, inl, inr, refl, sym, ap, subst, ℕ, ◌+◌, ◌≤◌, arith, Bool, true, false, List, ◌∷◌, Option, None, Some, length, option_map}
+use Rattle.std.specs.Prelude.{ℤ}
 use Rattle.om_foot.specs.declared.object.Obj.TheVariants as obj
-use Rattle.om_code.specs.declared.frame.Operand.{Operand}
 use Rattle.om_code.specs.declared.frame.Operand.TheVariants.{Int, NoValue}
 use Rattle.om_code.specs.declared.instruction.Instr.{Instr}
 use Rattle.om_code.specs.declared.instruction.Instr.TheVariants as i
@@ -20,7 +19,7 @@ use Rattle.om_cells.specs.declared.step.Label.{Label}
 use Rattle.om_cells.specs.declared.step.Outcome.TheVariants as outcome
 use Rattle.om_cells.specs.declared.value.Val.{Val}
 use Rattle.om_cells.specs.declared.value.Val.TheVariants as value
-use Rattle.om_cells.specs.Rules.{step_at, footprint_at}
+use Rattle.om_cells.specs.Rules.{step_at}
 use Rattle.om_cells.specs.State.{State, values_read}
 use Rattle.om_cells.specs.Values.{control_in}
 use Rattle.om_row.specs.declared.row.Row.{Row}
@@ -31,7 +30,7 @@ use Rattle.om_spawn.specs.Rows.{value_of}
 use Rattle.om_spawn.specs.Tasks.{innermost_group}
 use Rattle.om_task.specs.Rules.{rules_of, site, choice_row, leaving, admits_all, further_in, row_in, outcome_after}
 use Rattle.om_task.specs.Sites.{Site, context, operands, next, slots, line, launch, body_of, lock_of, targets_of}
-use Rattle.om_task.specs.Table.{row_of, fork_takes}
+use Rattle.om_task.specs.Table.{row_of}
 use Rattle.om_standing.specs.Reasons.{HasNoValue, MayLack}
 use Rattle.om_standing.proofs.Operands.{no_int, no_ints, no_ints_below}
 use Rattle.om_standing.proofs.Reasons.{Only, serial_only}

@@ -1,9 +1,7 @@
 -- A row of valid code lacks something for its own reason alone.
-use Rattle.std.proofs.Common.{◌≡◌, ◌⊎◌, inl, inr, refl, sym, subst, ℕ, zero, suc, ◌+◌, ◌<◌, ◌≤◌, ℤ, pos, negsuc, arith, Bool, true, false, if◌then◌else◌, List, [], ◌∷◌, Option, None, Some, length, option_map}
+use Rattle.std.proofs.Common.{◌≡◌, refl, ℕ, ◌+◌, ◌≤◌, ℤ, pos, arith, Bool, true, false, List, [], ◌∷◌, Option, None, Some, length}
 use Rattle.std.specs.Ordering.{int_eq}
-use Rattle.std.specs.Prelude.{Result, Ok, Err, slice_get, nat_lt, nat_le}
-use Rattle.om_foot.specs.Names.{parent_of}
-use Rattle.om_foot.specs.declared.footprint.Access.{Access}
+use Rattle.std.specs.Prelude.{Result, Ok, Err, slice_get}
 use Rattle.om_code.specs.declared.frame.Cell as cells
 use Rattle.om_code.specs.declared.frame.Cell.TheVariants as cell
 use Rattle.om_code.specs.declared.frame.Fault.{Fault}
@@ -20,7 +18,7 @@ use Rattle.om_code.specs.declared.serial.Touch.TheVariants as touch
 use Rattle.om_code.specs.declared.serial.Turn.{Turn}
 use Rattle.om_code.specs.declared.serial.Turn.TheVariants as turn
 use Rattle.om_code.specs.Arithmetic.{operate, operate_on_one, update}
-use Rattle.om_code.specs.Frames.{Act, act, decided, reads, writes, on_operand, on_int, on_ints, at_index, int_at, goes, gives, put, loaded, stored, updated, cells_in, index_in, used, jump_if, left_by, kept, print}
+use Rattle.om_code.specs.Frames.{Act, act, on_operand, on_int, on_ints, at_index, int_at, gives, put, loaded, stored, updated, cells_in, index_in, used, jump_if, left_by, kept, print}
 use Rattle.om_code.specs.Printing.{ints_on}
 use Rattle.om_code.specs.Ways.{pops}
 use Rattle.om_row.specs.declared.row.Row.{Row}
@@ -30,7 +28,7 @@ use Rattle.om_cells.specs.declared.control.Context.{Context}
 use Rattle.om_cells.specs.declared.control.Stack.{Stack}
 use Rattle.om_cells.specs.declared.value.Val.{Val}
 use Rattle.om_cells.specs.Values.{cell_in}
-use Rattle.om_row.specs.Rows.{Asked, first_of}
+use Rattle.om_row.specs.Rows.{first_of}
 use Rattle.om_serial.specs.Rows.{row_of, touch_row, serial_row, slots_in, unsets, cells_of_slot}
 use Rattle.om_standing.specs.Reasons.{HasNoValue, MayLack}
 use Rattle.om_standing.proofs.Operands.{no_int, no_ints}

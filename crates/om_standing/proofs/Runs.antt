@@ -1,5 +1,5 @@
 -- Every state of a run stands.
-use Rattle.std.proofs.Common.{◌≡◌, refl, sym, subst, ℕ, ◌≤◌, arith, Bool, true, false, cond, List, [], ◌∷◌, Option, None, Some, length}
+use Rattle.std.proofs.Common.{◌≡◌, refl, sym, subst, ℕ, arith, Bool, true, false, cond, List, [], ◌∷◌, Option, None, Some}
 use Rattle.std.specs.Prelude.{ℤ, if◌then◌else◌, nat_eq}
 use Rattle.om_foot.specs.Footprint.{obj_eq}
 use Rattle.om_foot.specs.declared.object.Obj.TheVariants as obj
@@ -7,9 +7,7 @@ use Rattle.om_foot.specs.declared.footprint.Access.{Access}
 use Rattle.om_foot.specs.declared.footprint.Mode.{Mode}
 use Rattle.om_foot.specs.declared.footprint.Mode.TheVariants as mode
 use Rattle.om_code.specs.declared.raw.Raw.{Raw}
-use Rattle.om_code.specs.Places.{slots_of}
 use Rattle.om_code.specs.Validity.{IsValid, NamesKnown}
-use Rattle.om_code.specs.Ways.{pops}
 use Rattle.om_cells.specs.declared.control.Control as controls
 use Rattle.om_cells.specs.declared.control.Control.TheVariants.{Idle, Running, Faulted, Ended}
 use Rattle.om_cells.specs.declared.control.Stack.{Stack}
@@ -27,7 +25,7 @@ use Rattle.om_cells.specs.State.{State, values_read, read_by, value_after, state
 use Rattle.om_cells.specs.Values.{control_in, value_plus, value_with}
 use Rattle.om_row.specs.declared.row.Row.{Row}
 use Rattle.om_row.specs.declared.row.Row.TheVariants as row
-use Rattle.om_task.specs.Rules.{rules_of, start_of, first_context, further_in, row_in, outcome_after}
+use Rattle.om_task.specs.Rules.{rules_of, first_context, further_in, row_in, outcome_after}
 use Rattle.om_standing.specs.Laws.{StartStands, StepsStand, HasItsNeeds}
 use Rattle.om_standing.specs.Standing.{FitHomes, IsStandingControl, IsStandingValue, IsStanding}
 use Rattle.om_standing.proofs.Bounds.{AllPutStanding, PutsStanding, ValuesStand, RowStands, changed_stands}

@@ -1,5 +1,5 @@
 -- The rows of worksharing, masked and critical regions lead from a stack that stands to one that does.
-use Rattle.std.proofs.Common.{◌≡◌, refl, ℕ, ◌+◌, ℤ, Bool, true, false, List, [], ◌∷◌, Option, None, Some}
+use Rattle.std.proofs.Common.{◌≡◌, refl, ℕ, ℤ, Bool, true, false, List, Option, None, Some}
 use Rattle.std.specs.Prelude.{slice_get, nat_lt, nat_eq, pos}
 use Rattle.std.specs.Ordering.{int_eq}
 use Rattle.om_code.specs.declared.instruction.LoopForm.{LoopForm}
@@ -17,7 +17,7 @@ use Rattle.om_row.specs.Rows.{first_of}
 use Rattle.om_row.specs.Objects.{is_misplaced}
 use Rattle.om_share.specs.declared.chunk.Chunk.{Chunk}
 use Rattle.om_share.specs.Chunks.{static_chunk, chunk_within, value_of}
-use Rattle.om_share.specs.Rows.{open_row, loop_row, loop_of, sections_row, taken_row, given_row, static_row, dynamic_row, chunk_row, grab_row, value_row, int_of, iteration_row, iterate_row, section_row, is_section, is_loop, is_member, is_masked, is_critical, is_right_form, pick_row, chosen_row, single_row, end_worksharing_row, filtered_row, masked_row, end_masked_row, ask_critical_row, lock_row, enter_critical_row, leave_critical_row}
+use Rattle.om_share.specs.Rows.{open_row, loop_row, loop_of, sections_row, taken_row, given_row, static_row, chunk_row, grab_row, value_row, int_of, iteration_row, iterate_row, section_row, is_section, is_loop, is_member, is_masked, is_critical, is_right_form, pick_row, chosen_row, single_row, end_worksharing_row, filtered_row, masked_row, end_masked_row, ask_critical_row, lock_row, enter_critical_row, leave_critical_row}
 use Rattle.om_standing.proofs.Bounds.{RowStands, AskedStands, Leads, if_row, if_asked}
 
 module _ (program : Raw) (stack : Stack) where

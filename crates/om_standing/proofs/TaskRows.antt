@@ -43,16 +43,16 @@ use Rattle.om_cells.specs.Values.{cell_in, task_in, count_in}
 use Rattle.om_row.specs.declared.row.Launch.{Launch}
 use Rattle.om_row.specs.Rows.{first_of, rest_of}
 use Rattle.om_row.specs.Objects.{own_cells, deaths, puts, homes_in, innermost}
-use Rattle.om_serial.specs.Rows.{put_of, row_of, unsets, cells_of_slot, touch_row, serial_row, slots_in, number_row, call_row, return_row, combined, reduced, reduce_row}
-use Rattle.om_fork.specs.Barriers.{barrier, is_open}
+use Rattle.om_serial.specs.Rows.{put_of, row_of, unsets, cells_of_slot, touch_row, serial_row, slots_in, call_row, return_row, combined, reduced, reduce_row}
+use Rattle.om_fork.specs.Barriers.{is_open}
 use Rattle.om_fork.specs.Teams.{first_frame, first_busy, member, member_controls, member_puts}
-use Rattle.om_fork.specs.Rows.{forked, team_row, team_of, named_row, sized_row, fork_row, begin_row, is_misplaced_barrier, arrive_row, kept, departed, depart_row, left, left_row, leave_row}
+use Rattle.om_fork.specs.Rows.{forked, team_of, named_row, sized_row, fork_row, begin_row, is_misplaced_barrier, arrive_row, kept, departed, depart_row, left, leave_row}
 use Rattle.om_spawn.specs.declared.start.Starting.{Starting}
 use Rattle.om_spawn.specs.declared.task.Making.{Making}
-use Rattle.om_spawn.specs.Tasks.{is_zero, born, group_of, innermost_group, additions, ready_of, task_context}
-use Rattle.om_spawn.specs.Rows.{made_row, given_row, spawn_row, ended_row, end_row_of, task_end_row, wait_begin_row, waited, wait_end_row, task_yield_row, opened_row, group_begin_row, closed, closed_row, group_end_row, value_of, finished, finished_row, finish_row, ready_for, started, started_row, start_row}
+use Rattle.om_spawn.specs.Tasks.{is_zero, born, group_of, innermost_group, additions, ready_of}
+use Rattle.om_spawn.specs.Rows.{made_row, given_row, spawn_row, ended_row, end_row_of, task_end_row, wait_begin_row, waited, wait_end_row, opened_row, group_begin_row, closed, closed_row, group_end_row, value_of, finished, finished_row, finish_row, ready_for, started, started_row, start_row}
 use Rattle.om_standing.specs.Standing.{IsStandingFrame, IsStandingContext, IsStandingControl, IsStandingTask, IsStandingValue}
-use Rattle.om_standing.proofs.Bounds.{AllPutStanding, ValuesStand, RowStands, AskedStands, Leads, changed_stands, if_row, if_asked, puts_append}
+use Rattle.om_standing.proofs.Bounds.{AllPutStanding, ValuesStand, RowStands, AskedStands, Leads, changed_stands, if_asked, puts_append}
 
 -- ---- what is put
 

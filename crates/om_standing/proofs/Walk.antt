@@ -2,7 +2,6 @@
 use Rattle.std.proofs.Common.{◌≡◌, refl, subst, sym, ℕ, ◌+◌, ◌≤◌, arith, Bool, true, false, List, [], ◌∷◌, Option, None, Some, length, option_map}
 use Rattle.std.specs.Prelude.{Contains, slice_get, slice_index_or, option_to_list, unwrap_or, pos}
 use Rattle.std.proofs.lemmas.Option.{slice_get_within, get_or_from_slice_get, unwrap_or-slice_get}
-use Rattle.om_code.specs.declared.frame.Cell as cells
 use Rattle.om_code.specs.declared.frame.Operand.{Operand}
 use Rattle.om_code.specs.declared.frame.Operand.TheVariants.{Int, NoValue}
 use Rattle.om_code.specs.declared.instruction.Instr.{Instr}
@@ -11,7 +10,6 @@ use Rattle.om_code.specs.declared.raw.Raw.{Raw}
 use Rattle.om_code.specs.declared.serial.Turn.{Turn}
 use Rattle.om_code.specs.declared.serial.Turn.TheVariants as turn
 use Rattle.om_code.specs.Frames.{IsRight, act, int_at}
-use Rattle.om_code.specs.Places.{instruction_at}
 use Rattle.om_code.specs.Printing.{ints_on}
 use Rattle.om_code.specs.Validity.{IsValid, IsKnownBody}
 use Rattle.om_code.specs.Ways.{pops, pushes, exits, places, successors}
@@ -19,8 +17,7 @@ use Rattle.om_code.specs.declared.instruction.Exits.TheVariants as leads_to
 use Rattle.om_code.proofs.Noting.{Contains-here, Contains-there}
 use Rattle.om_code.proofs.Rights.{act_right}
 use Rattle.om_cells.specs.declared.control.Stack.{Stack}
-use Rattle.om_cells.specs.declared.control.Control as controls
-use Rattle.om_cells.specs.declared.control.Control.TheVariants.{Idle, Running, Faulted, Ended}
+use Rattle.om_cells.specs.declared.control.Control.TheVariants.{Running}
 use Rattle.om_cells.specs.declared.step.Choice.{Choice}
 use Rattle.om_cells.specs.declared.step.Choice.TheVariants.{Next, Start}
 use Rattle.om_cells.specs.declared.step.Label.{Label}
@@ -30,7 +27,7 @@ use Rattle.om_serial.specs.Rows.{serial_row, slots_in}
 use Rattle.om_share.specs.Rows.{share_in}
 use Rattle.om_task.specs.Rules.{site, choice_row, leaving, admits_all, row_in}
 use Rattle.om_task.specs.Sites.{Site, context, operands, next, slots, line, launch, body_of, lock_of, targets_of}
-use Rattle.om_task.specs.Table.{row_of, fork_takes}
+use Rattle.om_task.specs.Table.{row_of}
 use Rattle.om_standing.specs.Standing.{IsStandingFrame, IsStandingControl}
 use Rattle.om_standing.proofs.Homes.{around, around_none, begins, begun_frame}
 use Rattle.om_standing.proofs.Going.{StandsAt, stands_at, goes_on}
