@@ -17,89 +17,89 @@ use Rattle.om_cells.specs.Edits.{changed_by, changed, edited, context_ended, val
 use Rattle.om_row.specs.declared.row.Row.{Row}
 use Rattle.om_row.specs.declared.row.Row.TheVariants.{Goes}
 use Rattle.om_row.specs.Rows.{Asked}
-use Rattle.om_standing.specs.Standing.{AreWaiting, IsStandingContext, AreStanding, IsStandingControl, IsStandingValue}
+use Rattle.om_standing.specs.Standing.{Owned, AreWaiting, IsStandingContext, AreStanding, IsStandingControl, IsStandingValue}
 
 -- an edit that leaves frames where they are, or begins a context that stands
-abbrev pub Keeps : Raw → Edit → Type 0
-Keeps program (Go to takes pushed) = ⊥
-Keeps program (BeginFrame to takes body homes) = ⊥
-Keeps program (BeginContext context) = IsStandingContext program context
-Keeps program _ = Unit {0}
+abbrev pub Keeps : Raw → Owned → Edit → Type 0
+Keeps program owned (Go to takes pushed) = ⊥
+Keeps program owned (BeginFrame to takes body homes) = ⊥
+Keeps program owned (BeginContext context) = IsStandingContext program owned context
+Keeps program owned _ = Unit {0}
 
-abbrev pub AllKeep : Raw → List Edit → Type 0
-AllKeep program [] = Unit {0}
-AllKeep program (edit ∷ edits) = Keeps program edit × AllKeep program edits
+abbrev pub AllKeep : Raw → Owned → List Edit → Type 0
+AllKeep program owned [] = Unit {0}
+AllKeep program owned (edit ∷ edits) = Keeps program owned edit × AllKeep program owned edits
 
 -- an update puts what stands
-abbrev pub PutsStanding : Raw → Update → Type 0
-PutsStanding program (Put v) = IsStandingValue program v
-PutsStanding program _ = Unit {0}
+abbrev pub PutsStanding : Raw → Owned → Update → Type 0
+PutsStanding program owned (Put v) = IsStandingValue program owned v
+PutsStanding program owned _ = Unit {0}
 
-abbrev pub AllPutStanding : Raw → List Update → Type 0
-AllPutStanding program [] = Unit {0}
-AllPutStanding program (u ∷ us) = PutsStanding program u × AllPutStanding program us
+abbrev pub AllPutStanding : Raw → Owned → List Update → Type 0
+AllPutStanding program owned [] = Unit {0}
+AllPutStanding program owned (u ∷ us) = PutsStanding program owned u × AllPutStanding program owned us
 
-abbrev pub ValuesStand : Raw → List Val → Type 0
-ValuesStand program [] = Unit {0}
-ValuesStand program (v ∷ values) = IsStandingValue program v × ValuesStand program values
+abbrev pub ValuesStand : Raw → Owned → List Val → Type 0
+ValuesStand program owned [] = Unit {0}
+ValuesStand program owned (v ∷ values) = IsStandingValue program owned v × ValuesStand program owned values
 
-abbrev pub RowStands : Raw → Stack → Row → Type 0
-RowStands program stack (Goes edits us) = IsStandingControl program (changed edits (Running stack)) × AllPutStanding program us
-RowStands program stack _ = Unit {0}
+abbrev pub RowStands : Raw → Owned → Stack → Row → Type 0
+RowStands program owned stack (Goes edits us) = IsStandingControl program owned (changed edits (Running stack)) × AllPutStanding program owned us
+RowStands program owned stack _ = Unit {0}
 
-abbrev pub AskedStands : Raw → Stack → Asked → List Val → Type 0
-AskedStands program stack a values = RowStands program stack (a.row values)
+abbrev pub AskedStands : Raw → Owned → Stack → Asked → List Val → Type 0
+AskedStands program owned stack a values = RowStands program owned stack (a.row values)
 
 -- a stack stands that has gone on
-abbrev pub Leads : Raw → Stack → ℕ → ℕ → Option Operand → Type 0
-Leads program stack to takes pushed = IsStandingControl program (edited (Go to takes pushed) stack)
+abbrev pub Leads : Raw → Owned → Stack → ℕ → ℕ → Option Operand → Type 0
+Leads program owned stack to takes pushed = IsStandingControl program owned (edited (Go to takes pushed) stack)
 
 -- the frame that waits for a call's value has it
-given_frame : (program : Raw) (v : Operand) (callers : List Frame) (c : Context) → AreWaiting program callers → IsStandingContext program c → IsStandingContext program (value_given v callers c)
-given_frame program v [] c w h = h
-given_frame program v (frame ∷ callers) c w h = record {
+given_frame : (program : Raw) (owned : Owned) (v : Operand) (callers : List Frame) (c : Context) → AreWaiting program owned callers → IsStandingContext program owned c → IsStandingContext program owned (value_given v callers c)
+given_frame program owned v [] c w h = h
+given_frame program owned v (frame ∷ callers) c w h = record {
   frame = record { body = w.0.body; found = w.0.found; way = subst (Way program.picks w.0.body.code frame.next) (omega arith) w.0.way; homes = w.0.homes };
   callers = w.1;
 }
 
-ended_stands : (program : Raw) (below : List Context) → AreStanding program below → IsStandingControl program (context_ended below)
-ended_stands program [] h = tt
-ended_stands program (c ∷ below) h = h
+ended_stands : (program : Raw) (owned : Owned) (below : List Context) → AreStanding program owned below → IsStandingControl program owned (context_ended below)
+ended_stands program owned [] h = tt
+ended_stands program owned (c ∷ below) h = h
 
-edit_stands : (program : Raw) (edit : Edit) (stack : Stack) → Keeps program edit → IsStandingControl program (Running stack) → IsStandingControl program (edited edit stack)
-edit_stands program (Go to takes pushed) stack k h = absurd k
-edit_stands program (BeginFrame to takes body homes) stack k h = absurd k
-edit_stands program (EndFrame v) stack k h = (given_frame program v stack.top.callers stack.top h.0.callers h.0, h.1)
-edit_stands program (BeginContext c) stack k h = (k, h)
-edit_stands program EndContext stack k h = ended_stands program stack.below h.1
-edit_stands program (Open c) stack k h = (record { frame = h.0.frame; callers = h.0.callers }, h.1)
-edit_stands program Close stack k h = (record { frame = h.0.frame; callers = h.0.callers }, h.1)
-edit_stands program (Replace c) stack k h = (record { frame = h.0.frame; callers = h.0.callers }, h.1)
-edit_stands program CountBirth stack k h = (record { frame = h.0.frame; callers = h.0.callers }, h.1)
-edit_stands program CountRegion stack k h = (record { frame = h.0.frame; callers = h.0.callers }, h.1)
-edit_stands program CountPhase stack k h = (record { frame = h.0.frame; callers = h.0.callers }, h.1)
-edit_stands program (Fail f) stack k h = h
-edit_stands program (End v) stack k h = tt
+edit_stands : (program : Raw) (owned : Owned) (edit : Edit) (stack : Stack) → Keeps program owned edit → IsStandingControl program owned (Running stack) → IsStandingControl program owned (edited edit stack)
+edit_stands program owned (Go to takes pushed) stack k h = absurd k
+edit_stands program owned (BeginFrame to takes body homes) stack k h = absurd k
+edit_stands program owned (EndFrame v) stack k h = (given_frame program owned v stack.top.callers stack.top h.0.callers h.0, h.1)
+edit_stands program owned (BeginContext c) stack k h = (k, h)
+edit_stands program owned EndContext stack k h = ended_stands program owned stack.below h.1
+edit_stands program owned (Open c) stack k h = (record { frame = h.0.frame; callers = h.0.callers }, h.1)
+edit_stands program owned Close stack k h = (record { frame = h.0.frame; callers = h.0.callers }, h.1)
+edit_stands program owned (Replace c) stack k h = (record { frame = h.0.frame; callers = h.0.callers }, h.1)
+edit_stands program owned CountBirth stack k h = (record { frame = h.0.frame; callers = h.0.callers }, h.1)
+edit_stands program owned CountRegion stack k h = (record { frame = h.0.frame; callers = h.0.callers }, h.1)
+edit_stands program owned CountPhase stack k h = (record { frame = h.0.frame; callers = h.0.callers }, h.1)
+edit_stands program owned (Fail f) stack k h = h
+edit_stands program owned (End v) stack k h = tt
 
-control_stands : (program : Raw) (edit : Edit) (c : controls.Control) → Keeps program edit → IsStandingControl program c → IsStandingControl program (changed_by edit c)
-control_stands program edit (Running stack) k h = edit_stands program edit stack k h
-control_stands program edit (Faulted fault stack) k h = h
-control_stands program edit (Ended result) k h = tt
-control_stands program edit Idle k h = tt
+control_stands : (program : Raw) (owned : Owned) (edit : Edit) (c : controls.Control) → Keeps program owned edit → IsStandingControl program owned c → IsStandingControl program owned (changed_by edit c)
+control_stands program owned edit (Running stack) k h = edit_stands program owned edit stack k h
+control_stands program owned edit (Faulted fault stack) k h = h
+control_stands program owned edit (Ended result) k h = tt
+control_stands program owned edit Idle k h = tt
 
 -- a control that stands stands after such edits
-pub changed_stands : (program : Raw) (edits : List Edit) (c : controls.Control) → AllKeep program edits → IsStandingControl program c → IsStandingControl program (changed edits c)
-changed_stands program [] c k h = h
-changed_stands program (edit ∷ edits) c k h = changed_stands program edits (changed_by edit c) k.1 (control_stands program edit c k.0 h)
+pub changed_stands : (program : Raw) (owned : Owned) (edits : List Edit) (c : controls.Control) → AllKeep program owned edits → IsStandingControl program owned c → IsStandingControl program owned (changed edits c)
+changed_stands program owned [] c k h = h
+changed_stands program owned (edit ∷ edits) c k h = changed_stands program owned edits (changed_by edit c) k.1 (control_stands program owned edit c k.0 h)
 
-pub if_row : (program : Raw) (stack : Stack) (b : Bool) (x y : Row) → RowStands program stack x → RowStands program stack y → RowStands program stack (if b then x else y)
-if_row program stack true x y h k = h
-if_row program stack false x y h k = k
+pub if_row : (program : Raw) (owned : Owned) (stack : Stack) (b : Bool) (x y : Row) → RowStands program owned stack x → RowStands program owned stack y → RowStands program owned stack (if b then x else y)
+if_row program owned stack true x y h k = h
+if_row program owned stack false x y h k = k
 
-pub if_asked : (program : Raw) (stack : Stack) (b : Bool) (x y : Asked) (values : List Val) → AskedStands program stack x values → AskedStands program stack y values → AskedStands program stack (if b then x else y) values
-if_asked program stack true x y values h k = h
-if_asked program stack false x y values h k = k
+pub if_asked : (program : Raw) (owned : Owned) (stack : Stack) (b : Bool) (x y : Asked) (values : List Val) → AskedStands program owned stack x values → AskedStands program owned stack y values → AskedStands program owned stack (if b then x else y) values
+if_asked program owned stack true x y values h k = h
+if_asked program owned stack false x y values h k = k
 
-pub puts_append : (program : Raw) (us ws : List Update) → AllPutStanding program us → AllPutStanding program ws → AllPutStanding program (us ++ ws)
-puts_append program [] ws h k = k
-puts_append program (u ∷ us) ws h k = (h.0, puts_append program us ws h.1 k)
+pub puts_append : (program : Raw) (owned : Owned) (us ws : List Update) → AllPutStanding program owned us → AllPutStanding program owned ws → AllPutStanding program owned (us ++ ws)
+puts_append program owned [] ws h k = k
+puts_append program owned (u ∷ us) ws h k = (h.0, puts_append program owned us ws h.1 k)

@@ -12,16 +12,16 @@ use Rattle.om_code.specs.Ways.{pops, pushes, successors, Way, starts, follows}
 use Rattle.om_code.proofs.Valid.{body_valid, names_known}
 use Rattle.om_cells.specs.declared.control.Frame.{Frame}
 use Rattle.om_cells.specs.Edits.{frame_at}
-use Rattle.om_standing.specs.Standing.{FitHomes, StandsWith, IsStandingFrame}
+use Rattle.om_standing.specs.Standing.{Owned, FitHomes, StandsWith, IsStandingFrame}
 
 -- what a frame has that stands at an instruction
-pub record StandsAt (program : Raw) (frame : Frame) (instr : Instr) : Type 0 where
+pub record StandsAt (program : Raw) (owned : Owned) (frame : Frame) (instr : Instr) : Type 0 where
   pub body : Body
   pub found : slice_get program.bodies frame.body ≡ Some body
   pub rest : ℕ
   pub operands : length frame.operands ≡ rest + pops instr
   pub leads : (to : ℕ) → Contains (successors program.picks frame.next instr) to → Way program.picks body.code to (rest + pushes instr)
-  pub homes : FitHomes program body.slots frame.homes
+  pub homes : FitHomes owned body.slots frame.homes
   pub names : NamesKnown program body.slots instr
 
 -- a way never leaves its body
@@ -37,8 +37,8 @@ line_there (line ∷ code) (suc at) lt = line_there code at (omega (arith, lt))
 left_over : (n m : ℕ) → m ≤ n → (rest : ℕ) × (n ≡ rest + m)
 left_over n m le = (n - m, omega (arith, le))
 
-at_line : (program : Raw) (frame : Frame) (h : IsStandingFrame program frame) (line : Line) → IsValid program → slice_get h.body.code frame.next ≡ Some line → StandsAt program frame line.instruction
-at_line program frame h line valid found =
+at_line : (program : Raw) (owned : Owned) (frame : Frame) (h : IsStandingFrame program owned frame) (line : Line) → IsValid program → slice_get h.body.code frame.next ≡ Some line → StandsAt program owned frame line.instruction
+at_line program owned frame h line valid found =
     let good : IsValidBody program h.body = body_valid program frame.body h.body valid h.found in
     let way : Way program.picks h.body.code frame.next (length frame.operands) = subst (Way program.picks h.body.code frame.next) (omega arith) h.way in
     let few : pops line.instruction ≤ length frame.operands = good.one_height.enough frame.next (length frame.operands) line way found in
@@ -60,15 +60,15 @@ pub found_slots : (program : Raw) (number : ℕ) (body : Body) → slice_get pro
 found_slots program number body e = ap (λ o. unwrap_or (option_map (λ (b : Body). b.slots) o) []) e
 
 -- the instruction at which a frame stands
-pub stands_at : (program : Raw) (frame : Frame) → IsValid program → IsStandingFrame program frame → (instr : Instr) × (instruction_at program frame.body frame.next ≡ Some instr) × StandsAt program frame instr
-stands_at program frame valid h =
+pub stands_at : (program : Raw) (owned : Owned) (frame : Frame) → IsValid program → IsStandingFrame program owned frame → (instr : Instr) × (instruction_at program frame.body frame.next ≡ Some instr) × StandsAt program owned frame instr
+stands_at program owned frame valid h =
     let good : IsValidBody program h.body = body_valid program frame.body h.body valid h.found in
     let l = line_there h.body.code frame.next (way_inside program.picks h.body.code frame.next (0 + length frame.operands) good.stays_inside h.way) in
-    (l.0.instruction, ap (option_map (λ (line : Line). line.instruction)) (found_place program frame.body frame.next h.body h.found ∙ l.1), at_line program frame h l.0 valid l.1)
+    (l.0.instruction, ap (option_map (λ (line : Line). line.instruction)) (found_place program frame.body frame.next h.body h.found ∙ l.1), at_line program owned frame h l.0 valid l.1)
 
 -- a frame after it has gone on to where its instruction leads, with what this takes and leaves, stands for what is to come
-pub goes_on : (program : Raw) (frame : Frame) (instr : Instr) (coming to takes : ℕ) (pushed : Option Operand) → StandsAt program frame instr → takes ≤ pops instr → pops instr + (length (option_to_list pushed) + coming) ≡ takes + pushes instr → Contains (successors program.picks frame.next instr) to → StandsWith coming program (frame_at to takes pushed frame)
-goes_on program frame instr coming to takes pushed h few left goes =
+pub goes_on : (program : Raw) (owned : Owned) (frame : Frame) (instr : Instr) (coming to takes : ℕ) (pushed : Option Operand) → StandsAt program owned frame instr → takes ≤ pops instr → pops instr + (length (option_to_list pushed) + coming) ≡ takes + pushes instr → Contains (successors program.picks frame.next instr) to → StandsWith coming program owned (frame_at to takes pushed frame)
+goes_on program owned frame instr coming to takes pushed h few left goes =
     let long : coming + length (option_to_list pushed ++ drop takes frame.operands) ≡ h.rest + pushes instr = omega (arith, few, left, h.operands, length-append (option_to_list pushed) (drop takes frame.operands), length-drop takes frame.operands) in
     record {
       body = h.body;

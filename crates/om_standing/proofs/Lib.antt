@@ -5,6 +5,7 @@ mod ShareRows
 mod TaskRows
 mod Walk
 mod Runs
+mod Replays
 mod Operands
 mod Reasons
 mod RowReasons

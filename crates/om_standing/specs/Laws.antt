@@ -1,5 +1,5 @@
 -- What is true of the runs of valid programs.
-use Rattle.std.specs.Prelude.{◌≡◌, ℕ, ◌≤◌, List, Some, length}
+use Rattle.std.specs.Prelude.{◌≡◌, ℕ, ◌≤◌, List, ◌∷◌, ◌++◌, Some, length}
 use Rattle.om_foot.specs.declared.object.Obj.TheVariants as obj
 use Rattle.om_code.specs.declared.instruction.Instr.{Instr}
 use Rattle.om_code.specs.declared.raw.Raw.{Raw}
@@ -15,34 +15,39 @@ use Rattle.om_cells.specs.Rules.{step_at, next_state, replay}
 use Rattle.om_cells.specs.State.{State}
 use Rattle.om_task.specs.Rules.{rules_of, start_of}
 use Rattle.om_standing.specs.Reasons.{MayLack}
-use Rattle.om_standing.specs.Standing.{FitHomes, IsStanding}
+use Rattle.om_standing.specs.Running.{HasRun}
+use Rattle.om_standing.specs.Standing.{Owned, FitHomes, IsStanding}
 
 -- a valid program stands where it starts
 abbrev pub StartStands : Type 0
-StartStands = (program : Raw) (workers : ℕ) → IsValid program → IsStanding program (start_of program workers)
+StartStands = (program : Raw) (workers : ℕ) (ls : List Label) → IsValid program
+    → IsStanding program (HasRun program workers ls) (start_of program workers)
 
--- each step of a valid program leads from a state that stands to one that stands
+-- each step of a run of a valid program leads from a state that stands to one that stands
 abbrev pub StepsStand : Type 0
-StepsStand = (program : Raw) (workers : ℕ) (s t : State) (l : Label) → IsValid program → IsStanding program s
-    → next_state (rules_of program workers) s l ≡ Some t → IsStanding program t
+StepsStand = (program : Raw) (workers : ℕ) (ls before after : List Label) (l : Label) (s t : State) → IsValid program
+    → before ++ l ∷ after ≡ ls → replay (rules_of program workers) before ≡ Some s
+    → IsStanding program (HasRun program workers ls) s → next_state (rules_of program workers) s l ≡ Some t
+    → IsStanding program (HasRun program workers ls) t
 
 -- so each state of its runs stands
 abbrev pub RunsStand : Type 0
 RunsStand = (program : Raw) (workers : ℕ) (ls : List Label) (s : State) → IsValid program
-    → replay (rules_of program workers) ls ≡ Some s → IsStanding program s
+    → replay (rules_of program workers) ls ≡ Some s → IsStanding program (HasRun program workers ls) s
 
--- what the next instruction of a stack needs is there: the instruction itself, its operands, all that it names, and the cells of each slot
-pub record HasItsNeeds (program : Raw) (stack : Stack) : Type 0 where
+-- what the next instruction of a stack needs is there: itself, its operands, all that it names, and a home for each slot
+pub record HasItsNeeds (program : Raw) (owned : Owned) (stack : Stack) : Type 0 where
   pub instruction : Instr
   pub there : instruction_at program stack.top.frame.body stack.top.frame.next ≡ Some instruction
   pub operands : pops instruction ≤ length stack.top.frame.operands
   pub names : NamesKnown program (slots_of program stack.top.frame.body) instruction
-  pub homes : FitHomes program (slots_of program stack.top.frame.body) stack.top.frame.homes
+  pub homes : FitHomes owned (slots_of program stack.top.frame.body) stack.top.frame.homes
 
 -- in each state of its runs, each worker that runs has what its next instruction needs
 abbrev pub WorkersHaveNeeds : Type 0
-WorkersHaveNeeds = (program : Raw) (workers : ℕ) (ls : List Label) (s : State) (worker : ℕ) (stack : Stack) → IsValid program
-    → replay (rules_of program workers) ls ≡ Some s → s (obj.Control worker) ≡ Control (Running stack) → HasItsNeeds program stack
+WorkersHaveNeeds = (program : Raw) (workers : ℕ) (ls : List Label) (s : State) (worker : ℕ) (stack : Stack)
+    → IsValid program → replay (rules_of program workers) ls ≡ Some s
+    → s (obj.Control worker) ≡ Control (Running stack) → HasItsNeeds program (HasRun program workers ls) stack
 
 -- and the step of such a worker ends only where its instruction may lack something else
 abbrev pub LacksHaveReasons : Type 0
