@@ -44,7 +44,8 @@ ValuesStand program owned [] = Unit {0}
 ValuesStand program owned (v ∷ values) = IsStandingValue program owned v × ValuesStand program owned values
 
 abbrev pub RowStands : Raw → Owned → Stack → Row → Type 0
-RowStands program owned stack (Goes edits us) = IsStandingControl program owned (changed edits (Running stack)) × AllPutStanding program owned us
+RowStands program owned stack (Goes edits us) =
+    IsStandingControl program owned (changed edits (Running stack)) × AllPutStanding program owned us
 RowStands program owned stack _ = Unit {0}
 
 abbrev pub AskedStands : Raw → Owned → Stack → Asked → List Val → Type 0
@@ -55,21 +56,33 @@ abbrev pub Leads : Raw → Owned → Stack → ℕ → ℕ → Option Operand �
 Leads program owned stack to takes pushed = IsStandingControl program owned (edited (Go to takes pushed) stack)
 
 -- the frame that waits for a call's value has it
-given_frame : (program : Raw) (owned : Owned) (v : Operand) (callers : List Frame) (c : Context) → AreWaiting program owned callers → IsStandingContext program owned c → IsStandingContext program owned (value_given v callers c)
+given_frame : (program : Raw) (owned : Owned) (v : Operand) (callers : List Frame) (c : Context)
+    → AreWaiting program owned callers → IsStandingContext program owned c
+    → IsStandingContext program owned (value_given v callers c)
 given_frame program owned v [] c w h = h
 given_frame program owned v (frame ∷ callers) c w h = record {
-  frame = record { body = w.0.body; found = w.0.found; way = subst (Way program.picks w.0.body.code frame.next) (omega arith) w.0.way; homes = w.0.homes };
+  frame =
+      record {
+        body = w.0.body;
+        found = w.0.found;
+        way = subst (Way program.picks w.0.body.code frame.next)
+            (omega arith) w.0.way;
+        homes = w.0.homes;
+      };
   callers = w.1;
 }
 
-ended_stands : (program : Raw) (owned : Owned) (below : List Context) → AreStanding program owned below → IsStandingControl program owned (context_ended below)
+ended_stands : (program : Raw) (owned : Owned) (below : List Context) → AreStanding program owned below
+    → IsStandingControl program owned (context_ended below)
 ended_stands program owned [] h = tt
 ended_stands program owned (c ∷ below) h = h
 
-edit_stands : (program : Raw) (owned : Owned) (edit : Edit) (stack : Stack) → Keeps program owned edit → IsStandingControl program owned (Running stack) → IsStandingControl program owned (edited edit stack)
+edit_stands : (program : Raw) (owned : Owned) (edit : Edit) (stack : Stack) → Keeps program owned edit
+    → IsStandingControl program owned (Running stack) → IsStandingControl program owned (edited edit stack)
 edit_stands program owned (Go to takes pushed) stack k h = absurd k
 edit_stands program owned (BeginFrame to takes body homes) stack k h = absurd k
-edit_stands program owned (EndFrame v) stack k h = (given_frame program owned v stack.top.callers stack.top h.0.callers h.0, h.1)
+edit_stands program owned (EndFrame v) stack k h =
+    (given_frame program owned v stack.top.callers stack.top h.0.callers h.0, h.1)
 edit_stands program owned (BeginContext c) stack k h = (k, h)
 edit_stands program owned EndContext stack k h = ended_stands program owned stack.below h.1
 edit_stands program owned (Open c) stack k h = (record { frame = h.0.frame; callers = h.0.callers }, h.1)
@@ -81,25 +94,33 @@ edit_stands program owned CountPhase stack k h = (record { frame = h.0.frame; ca
 edit_stands program owned (Fail f) stack k h = h
 edit_stands program owned (End v) stack k h = tt
 
-control_stands : (program : Raw) (owned : Owned) (edit : Edit) (c : controls.Control) → Keeps program owned edit → IsStandingControl program owned c → IsStandingControl program owned (changed_by edit c)
+control_stands : (program : Raw) (owned : Owned) (edit : Edit) (c : controls.Control) → Keeps program owned edit
+    → IsStandingControl program owned c → IsStandingControl program owned (changed_by edit c)
 control_stands program owned edit (Running stack) k h = edit_stands program owned edit stack k h
 control_stands program owned edit (Faulted fault stack) k h = h
 control_stands program owned edit (Ended result) k h = tt
 control_stands program owned edit Idle k h = tt
 
 -- a control that stands stands after such edits
-pub changed_stands : (program : Raw) (owned : Owned) (edits : List Edit) (c : controls.Control) → AllKeep program owned edits → IsStandingControl program owned c → IsStandingControl program owned (changed edits c)
+pub changed_stands : (program : Raw) (owned : Owned) (edits : List Edit) (c : controls.Control)
+    → AllKeep program owned edits → IsStandingControl program owned c
+    → IsStandingControl program owned (changed edits c)
 changed_stands program owned [] c k h = h
-changed_stands program owned (edit ∷ edits) c k h = changed_stands program owned edits (changed_by edit c) k.1 (control_stands program owned edit c k.0 h)
+changed_stands program owned (edit ∷ edits) c k h =
+    changed_stands program owned edits (changed_by edit c) k.1 (control_stands program owned edit c k.0 h)
 
-pub if_row : (program : Raw) (owned : Owned) (stack : Stack) (b : Bool) (x y : Row) → RowStands program owned stack x → RowStands program owned stack y → RowStands program owned stack (if b then x else y)
+pub if_row : (program : Raw) (owned : Owned) (stack : Stack) (b : Bool) (x y : Row) → RowStands program owned stack x
+    → RowStands program owned stack y → RowStands program owned stack (if b then x else y)
 if_row program owned stack true x y h k = h
 if_row program owned stack false x y h k = k
 
-pub if_asked : (program : Raw) (owned : Owned) (stack : Stack) (b : Bool) (x y : Asked) (values : List Val) → AskedStands program owned stack x values → AskedStands program owned stack y values → AskedStands program owned stack (if b then x else y) values
+pub if_asked : (program : Raw) (owned : Owned) (stack : Stack) (b : Bool) (x y : Asked) (values : List Val)
+    → AskedStands program owned stack x values → AskedStands program owned stack y values
+    → AskedStands program owned stack (if b then x else y) values
 if_asked program owned stack true x y values h k = h
 if_asked program owned stack false x y values h k = k
 
-pub puts_append : (program : Raw) (owned : Owned) (us ws : List Update) → AllPutStanding program owned us → AllPutStanding program owned ws → AllPutStanding program owned (us ++ ws)
+pub puts_append : (program : Raw) (owned : Owned) (us ws : List Update) → AllPutStanding program owned us
+    → AllPutStanding program owned ws → AllPutStanding program owned (us ++ ws)
 puts_append program owned [] ws h k = k
 puts_append program owned (u ∷ us) ws h k = (h.0, puts_append program owned us ws h.1 k)

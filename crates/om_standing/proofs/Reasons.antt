@@ -65,12 +65,14 @@ module _ (reason : Type 0) where
   loaded_only takes cell.Unset = tt
   loaded_only takes cell.Dead = tt
 
-  stored_only : (takes : ℕ) (pushed : Option Operand) (v : ℤ) (c : cells.Cell) → OnlyTurn reason (stored takes pushed v c)
+  stored_only : (takes : ℕ) (pushed : Option Operand) (v : ℤ) (c : cells.Cell)
+      → OnlyTurn reason (stored takes pushed v c)
   stored_only takes pushed v (cell.Int w) = tt
   stored_only takes pushed v cell.Unset = tt
   stored_only takes pushed v cell.Dead = tt
 
-  updated_only : (takes : ℕ) (operator : AtomicOperator) (side : Side) (v : ℤ) (c : cells.Cell) → OnlyTurn reason (updated takes operator side v c)
+  updated_only : (takes : ℕ) (operator : AtomicOperator) (side : Side) (v : ℤ) (c : cells.Cell)
+      → OnlyTurn reason (updated takes operator side v c)
   updated_only takes operator side v (cell.Int w) = put_only takes (update operator side w v)
   updated_only takes operator side v cell.Unset = tt
   updated_only takes operator side v cell.Dead = tt
@@ -83,20 +85,24 @@ module _ (reason : Type 0) where
   jump_only true target = tt
   jump_only false target = tt
 
-  on_operand_only : (x : Option Operand) (row : Operand → Act) → (x ≡ None → reason) → ((a : Operand) → OnlyAct reason (row a)) → OnlyAct reason (on_operand x row)
+  on_operand_only : (x : Option Operand) (row : Operand → Act) → (x ≡ None → reason)
+      → ((a : Operand) → OnlyAct reason (row a)) → OnlyAct reason (on_operand x row)
   on_operand_only None row n h = record { only = λ c. n refl }
   on_operand_only (Some a) row n h = h a
 
-  on_int_only : (x : Option ℤ) (row : ℤ → Act) → (x ≡ None → reason) → ((a : ℤ) → OnlyAct reason (row a)) → OnlyAct reason (on_int x row)
+  on_int_only : (x : Option ℤ) (row : ℤ → Act) → (x ≡ None → reason) → ((a : ℤ) → OnlyAct reason (row a))
+      → OnlyAct reason (on_int x row)
   on_int_only None row n h = record { only = λ c. n refl }
   on_int_only (Some a) row n h = h a
 
-  on_ints_only : (x y : Option ℤ) (row : ℤ → ℤ → Act) → (x ≡ None → reason) → (y ≡ None → reason) → ((a b : ℤ) → OnlyAct reason (row a b)) → OnlyAct reason (on_ints x y row)
+  on_ints_only : (x y : Option ℤ) (row : ℤ → ℤ → Act) → (x ≡ None → reason) → (y ≡ None → reason)
+      → ((a b : ℤ) → OnlyAct reason (row a b)) → OnlyAct reason (on_ints x y row)
   on_ints_only None y row n m h = record { only = λ c. n refl }
   on_ints_only (Some a) None row n m h = record { only = λ c. m refl }
   on_ints_only (Some a) (Some b) row n m h = h a b
 
-  at_index_only : (k : Option ℕ) (row : ℕ → Act) → ((n : ℕ) → OnlyAct reason (row n)) → OnlyAct reason (at_index k row)
+  at_index_only : (k : Option ℕ) (row : ℕ → Act) → ((n : ℕ) → OnlyAct reason (row n))
+      → OnlyAct reason (at_index k row)
   at_index_only None row h = record { only = λ c. tt }
   at_index_only (Some n) row h = h n
 
@@ -111,12 +117,17 @@ module _ (reason : Type 0) where
   turn_only to us (turn.Returns v) h = h
   turn_only to us (turn.Finishes v) h = h
 
-  touch_only : (program : Raw) (c : Context) (t : cells.Cell → Turn) (x : Touch) (values : List Val) → ((y : cells.Cell) → OnlyTurn reason (t y)) → Only reason ((touch_row program c t x).row values)
+  touch_only : (program : Raw) (c : Context) (t : cells.Cell → Turn) (x : Touch) (values : List Val)
+      → ((y : cells.Cell) → OnlyTurn reason (t y)) → Only reason ((touch_row program c t x).row values)
   touch_only program c t touch.Nothing values h = turn_only (c.frame.next + 1) [] (t cell.Unset) (h cell.Unset)
-  touch_only program c t (touch.Reads p index) values h = turn_only (c.frame.next + 1) [] (t (cell_in (first_of values))) (h (cell_in (first_of values)))
-  touch_only program c t (touch.Writes p index) values h = turn_only (c.frame.next + 1) [] (t (cell_in (first_of values))) (h (cell_in (first_of values)))
-  touch_only program c t (touch.Clears slot) values h = turn_only (c.frame.next + 1) (unsets (cells_of_slot program c slot)) (t cell.Unset) (h cell.Unset)
-  touch_only program c t (touch.Prints text count) values h = turn_only (c.frame.next + 1) _ (t cell.Unset) (h cell.Unset)
+  touch_only program c t (touch.Reads p index) values h =
+      turn_only (c.frame.next + 1) [] (t (cell_in (first_of values))) (h (cell_in (first_of values)))
+  touch_only program c t (touch.Writes p index) values h =
+      turn_only (c.frame.next + 1) [] (t (cell_in (first_of values))) (h (cell_in (first_of values)))
+  touch_only program c t (touch.Clears slot) values h =
+      turn_only (c.frame.next + 1) (unsets (cells_of_slot program c slot)) (t cell.Unset) (h cell.Unset)
+  touch_only program c t (touch.Prints text count) values h =
+      turn_only (c.frame.next + 1) _ (t cell.Unset) (h cell.Unset)
 
 -- the instructions of the frame machine that go on in their frame
 abbrev pub IsSerial : Instr → Type 0
@@ -143,27 +154,70 @@ first_there : (s : List Operand) → 1 ≤ length s → slice_get s 0 ≡ None �
 first_there [] le e = omega (arith, le)
 first_there (x ∷ s) le e = cc
 
-act_only : (program : Raw) (slots : List Slot) (stack : Stack) (instr : Instr) → IsSerial instr → pops instr ≤ length stack.top.frame.operands → OnlyAct (MayLack program stack instr) (act program slots instr stack.top.frame.operands)
+act_only : (program : Raw) (slots : List Slot) (stack : Stack) (instr : Instr) → IsSerial instr
+    → pops instr ≤ length stack.top.frame.operands
+    → OnlyAct (MayLack program stack instr) (act program slots instr stack.top.frame.operands)
 act_only program slots stack (i.Constant value) k le = record { only = λ c. tt }
-act_only program slots stack i.Duplicate k le = on_operand_only ⊥ (slice_get stack.top.frame.operands 0) _ (first_there stack.top.frame.operands le) (λ a. record { only = λ c. tt })
-act_only program slots stack i.Pop k le = on_operand_only ⊥ (slice_get stack.top.frame.operands 0) _ (first_there stack.top.frame.operands le) (λ a. record { only = λ c. tt })
-act_only program slots stack i.Use k le = on_operand_only ⊥ (slice_get stack.top.frame.operands 0) _ (first_there stack.top.frame.operands le) (λ a. record { only = λ c. used_only ⊥ a })
+act_only program slots stack i.Duplicate k le =
+    on_operand_only ⊥ (slice_get stack.top.frame.operands 0) _ (first_there stack.top.frame.operands le)
+    (λ a. record { only = λ c. tt })
+act_only program slots stack i.Pop k le =
+    on_operand_only ⊥ (slice_get stack.top.frame.operands 0) _ (first_there stack.top.frame.operands le)
+    (λ a. record { only = λ c. tt })
+act_only program slots stack i.Use k le =
+    on_operand_only ⊥ (slice_get stack.top.frame.operands 0) _ (first_there stack.top.frame.operands le)
+    (λ a. record { only = λ c. used_only ⊥ a })
 act_only program slots stack i.Nop k le = record { only = λ c. tt }
-act_only program slots stack (i.Unary o) k le = let s = stack.top.frame.operands in on_int_only (HasNoValue 1 s) (int_at 0 s) _ (no_int s 0 1 (omega arith) le) (λ a. record { only = λ c. gives_only (HasNoValue 1 s) 1 (operate_on_one o a) })
-act_only program slots stack (i.Binary o) k le = let s = stack.top.frame.operands in on_ints_only (HasNoValue 2 s) (int_at 1 s) (int_at 0 s) _ (no_int s 1 2 (omega arith) le) (no_int s 0 2 (omega arith) le) (λ a b. record { only = λ c. gives_only (HasNoValue 2 s) 2 (operate o a b) })
+act_only program slots stack (i.Unary o) k le =
+    let s = stack.top.frame.operands in
+    on_int_only (HasNoValue 1 s) (int_at 0 s) _ (no_int s 0 1 (omega arith) le)
+    (λ a. record { only = λ c. gives_only (HasNoValue 1 s) 1 (operate_on_one o a) })
+act_only program slots stack (i.Binary o) k le =
+    let s = stack.top.frame.operands in
+    on_ints_only (HasNoValue 2 s) (int_at 1 s) (int_at 0 s) _ (no_int s 1 2 (omega arith) le)
+    (no_int s 0 2 (omega arith) le) (λ a b. record { only = λ c. gives_only (HasNoValue 2 s) 2 (operate o a b) })
 act_only program slots stack (i.Jump target) k le = record { only = λ c. tt }
-act_only program slots stack (i.JumpIfZero target) k le = let s = stack.top.frame.operands in on_int_only (HasNoValue 1 s) (int_at 0 s) _ (no_int s 0 1 (omega arith) le) (λ a. record { only = λ c. jump_only (HasNoValue 1 s) (int_eq a (pos 0)) target })
-act_only program slots stack (i.Load place) k le = record { only = λ c. loaded_only (HasNoValue 0 stack.top.frame.operands) 0 c }
-act_only program slots stack (i.Store place keeps) k le = let s = stack.top.frame.operands in on_int_only (HasNoValue 1 s) (int_at 0 s) _ (no_int s 0 1 (omega arith) le) (λ a. record { only = λ c. stored_only (HasNoValue 1 s) (left_by keeps) None a c })
-act_only program slots stack (i.LoadElement place) k le = let s = stack.top.frame.operands in on_int_only (HasNoValue 1 s) (int_at 0 s) _ (no_int s 0 1 (omega arith) le) (λ a. at_index_only (HasNoValue 1 s) (index_in (cells_in program slots place) a) _ (λ n. record { only = λ c. loaded_only (HasNoValue 1 s) 1 c }))
-act_only program slots stack (i.StoreElement place keeps) k le = let s = stack.top.frame.operands in on_ints_only (HasNoValue 2 s) (int_at 1 s) (int_at 0 s) _ (no_int s 1 2 (omega arith) le) (no_int s 0 2 (omega arith) le) (λ a b. at_index_only (HasNoValue 2 s) (index_in (cells_in program slots place) a) _ (λ n. record { only = λ c. stored_only (HasNoValue 2 s) 2 (kept keeps b) b c }))
+act_only program slots stack (i.JumpIfZero target) k le =
+    let s = stack.top.frame.operands in
+    on_int_only (HasNoValue 1 s) (int_at 0 s) _ (no_int s 0 1 (omega arith) le)
+    (λ a. record { only = λ c. jump_only (HasNoValue 1 s) (int_eq a (pos 0)) target })
+act_only program slots stack (i.Load place) k le =
+    record { only = λ c. loaded_only (HasNoValue 0 stack.top.frame.operands) 0 c }
+act_only program slots stack (i.Store place keeps) k le =
+    let s = stack.top.frame.operands in
+    on_int_only (HasNoValue 1 s) (int_at 0 s) _ (no_int s 0 1 (omega arith) le)
+    (λ a. record { only = λ c. stored_only (HasNoValue 1 s) (left_by keeps) None a c })
+act_only program slots stack (i.LoadElement place) k le =
+    let s = stack.top.frame.operands in
+    on_int_only (HasNoValue 1 s) (int_at 0 s) _ (no_int s 0 1 (omega arith) le)
+    (λ a. at_index_only (HasNoValue 1 s) (index_in (cells_in program slots place) a) _
+    (λ n. record { only = λ c. loaded_only (HasNoValue 1 s) 1 c }))
+act_only program slots stack (i.StoreElement place keeps) k le =
+    let s = stack.top.frame.operands in
+    on_ints_only (HasNoValue 2 s) (int_at 1 s) (int_at 0 s) _ (no_int s 1 2 (omega arith) le)
+    (no_int s 0 2 (omega arith) le)
+    (λ a b. at_index_only (HasNoValue 2 s) (index_in (cells_in program slots place) a) _
+    (λ n. record { only = λ c. stored_only (HasNoValue 2 s) 2 (kept keeps b) b c }))
 act_only program slots stack (i.Clear slot) k le = record { only = λ c. tt }
-act_only program slots stack (i.Print text values) k le = let s = stack.top.frame.operands in print_only (HasNoValue values s) text values (ints_on values s) (no_ints values s le)
-act_only program slots stack (i.Atomic o side place) k le = let s = stack.top.frame.operands in on_int_only (HasNoValue 1 s) (int_at 0 s) _ (no_int s 0 1 (omega arith) le) (λ a. record { only = λ c. updated_only (HasNoValue 1 s) 1 o side a c })
-act_only program slots stack (i.AtomicElement o side place) k le = let s = stack.top.frame.operands in on_ints_only (HasNoValue 2 s) (int_at 1 s) (int_at 0 s) _ (no_int s 1 2 (omega arith) le) (no_int s 0 2 (omega arith) le) (λ a b. at_index_only (HasNoValue 2 s) (index_in (cells_in program slots place) a) _ (λ n. record { only = λ c. updated_only (HasNoValue 2 s) 2 o side b c }))
+act_only program slots stack (i.Print text values) k le =
+    let s = stack.top.frame.operands in
+    print_only (HasNoValue values s) text values (ints_on values s) (no_ints values s le)
+act_only program slots stack (i.Atomic o side place) k le =
+    let s = stack.top.frame.operands in
+    on_int_only (HasNoValue 1 s) (int_at 0 s) _ (no_int s 0 1 (omega arith) le)
+    (λ a. record { only = λ c. updated_only (HasNoValue 1 s) 1 o side a c })
+act_only program slots stack (i.AtomicElement o side place) k le =
+    let s = stack.top.frame.operands in
+    on_ints_only (HasNoValue 2 s) (int_at 1 s) (int_at 0 s) _ (no_int s 1 2 (omega arith) le)
+    (no_int s 0 2 (omega arith) le)
+    (λ a b. at_index_only (HasNoValue 2 s) (index_in (cells_in program slots place) a) _
+    (λ n. record { only = λ c. updated_only (HasNoValue 2 s) 2 o side b c }))
 act_only program slots stack _ k le = absurd k
 
-pub serial_only : (program : Raw) (stack : Stack) (instr : Instr) (values : List Val) → IsSerial instr → pops instr ≤ length stack.top.frame.operands → Only (MayLack program stack instr) ((serial_row program stack.top instr).row values)
+pub serial_only : (program : Raw) (stack : Stack) (instr : Instr) (values : List Val) → IsSerial instr
+    → pops instr ≤ length stack.top.frame.operands
+    → Only (MayLack program stack instr) ((serial_row program stack.top instr).row values)
 serial_only program stack instr values k le =
     let a = act program (slots_in program stack.top) instr stack.top.frame.operands in
-    touch_only (MayLack program stack instr) program stack.top a.turn a.touch values (act_only program (slots_in program stack.top) stack instr k le).only
+    touch_only (MayLack program stack instr) program stack.top a.turn a.touch values
+    (act_only program (slots_in program stack.top) stack instr k le).only

@@ -19,34 +19,43 @@ use Rattle.om_standing.specs.Running.{HasRun}
 use Rattle.om_standing.specs.Standing.{IsStanding}
 use Rattle.om_standing.proofs.Homes.{WorkerHasOwn, WorkersHaveOwn}
 
-then_more : (o : Option State) (f g : State → Option State) (s u : State) → ((v : State) → f v ≡ Some s → g v ≡ Some u) → and_then o f ≡ Some s → and_then o g ≡ Some u
+then_more : (o : Option State) (f g : State → Option State) (s u : State)
+    → ((v : State) → f v ≡ Some s → g v ≡ Some u) → and_then o f ≡ Some s → and_then o g ≡ Some u
 then_more None f g s u h e = cc
 then_more (Some v) f g s u h e = h v e
 
 -- a replay with one more step
-replay_more : (r : Rules) (xs : List Label) (l : Label) (a s u : State) → replay_from r a xs ≡ Some s → next_state r s l ≡ Some u → replay_from r a (xs ++ l ∷ []) ≡ Some u
+replay_more : (r : Rules) (xs : List Label) (l : Label) (a s u : State) → replay_from r a xs ≡ Some s
+    → next_state r s l ≡ Some u → replay_from r a (xs ++ l ∷ []) ≡ Some u
 replay_more r [] l a s u e n =
     let same : a ≡ s = cc in
     let last : next_state r a l ≡ Some u = subst (λ x. next_state r x l ≡ Some u) (sym same) n in
     ap (λ o. and_then o (λ t. Some t)) last
-replay_more r (x ∷ xs) l a s u e n = then_more (next_state r a x) (λ v. replay_from r v xs) (λ v. replay_from r v (xs ++ l ∷ [])) s u (λ v is. replay_more r xs l v s u is n) e
+replay_more r (x ∷ xs) l a s u e n =
+    then_more (next_state r a x) (λ v. replay_from r v xs) (λ v. replay_from r v (xs ++ l ∷ [])) s u
+    (λ v is. replay_more r xs l v s u is n) e
 
 module _ (program : Raw) (workers : ℕ) (all : List Label) where
   -- what runs in a state of a run has run
-  worker_own : (before after : List Label) (s : State) (worker : ℕ) (v : Val) → before ++ after ≡ all → replay (rules_of program workers) before ≡ Some s → s (obj.Control worker) ≡ v → WorkerHasOwn program (HasRun program workers all) (control_in v)
-  worker_own before after s worker (value.Control (Running stack)) parts reached is = λ number slot found own. record {
-    before = before;
-    after = after;
-    parts = parts;
-    state = s;
-    reached = reached;
-    worker = worker;
-    stack = stack;
-    runs = is;
-    named = refl;
-    numbered = refl;
-    has = subst (λ (o : Option Slot). IsSomeAnd o (λ x. (x.source ≡ Own) × (x.cells ≡ slot.cells))) (sym found) (own, refl);
-  }
+  worker_own : (before after : List Label) (s : State) (worker : ℕ) (v : Val) → before ++ after ≡ all
+      → replay (rules_of program workers) before ≡ Some s → s (obj.Control worker) ≡ v
+      → WorkerHasOwn program (HasRun program workers all) (control_in v)
+  worker_own before after s worker (value.Control (Running stack)) parts reached is =
+      λ number slot found own. record {
+        before = before;
+        after = after;
+        parts = parts;
+        state = s;
+        reached = reached;
+        worker = worker;
+        stack = stack;
+        runs = is;
+        named = refl;
+        numbered = refl;
+        has =
+            subst (λ (o : Option Slot). IsSomeAnd o (λ x. (x.source ≡ Own) × (x.cells ≡ slot.cells))) (sym found)
+            (own, refl);
+      }
   worker_own before after s worker (value.Control Idle) parts reached is = tt
   worker_own before after s worker (value.Control (Faulted fault stack)) parts reached is = tt
   worker_own before after s worker (value.Control (Ended result)) parts reached is = tt
@@ -58,17 +67,25 @@ module _ (program : Raw) (workers : ℕ) (all : List Label) where
   worker_own before after s worker (value.Output k) parts reached is = tt
   worker_own before after s worker (value.Events k) parts reached is = tt
 
-  pub have_own : (before after : List Label) (s : State) → before ++ after ≡ all → replay (rules_of program workers) before ≡ Some s → WorkersHaveOwn program (HasRun program workers all) s
-  have_own before after s parts reached worker = worker_own before after s worker (s (obj.Control worker)) parts reached refl
+  pub have_own : (before after : List Label) (s : State) → before ++ after ≡ all
+      → replay (rules_of program workers) before ≡ Some s → WorkersHaveOwn program (HasRun program workers all) s
+  have_own before after s parts reached worker =
+      worker_own before after s worker (s (obj.Control worker)) parts reached refl
 
-  then_stands : (o : Option State) (f : State → Option State) (t : State) → ((u : State) → o ≡ Some u → f u ≡ Some t → IsStanding program (HasRun program workers all) t) → and_then o f ≡ Some t → IsStanding program (HasRun program workers all) t
+  then_stands : (o : Option State) (f : State → Option State) (t : State)
+      → ((u : State) → o ≡ Some u → f u ≡ Some t → IsStanding program (HasRun program workers all) t)
+      → and_then o f ≡ Some t → IsStanding program (HasRun program workers all) t
   then_stands None f t h e = cc
   then_stands (Some u) f t h e = h u refl e
 
   -- the state after the rest of a run
-  pub rest_stands : StepsStand → (before rest : List Label) (s t : State) → IsValid program → before ++ rest ≡ all → replay (rules_of program workers) before ≡ Some s → IsStanding program (HasRun program workers all) s → replay_from (rules_of program workers) s rest ≡ Some t → IsStanding program (HasRun program workers all) t
-  rest_stands steps before [] s t valid parts reached h e = let same : s ≡ t = cc in subst (IsStanding program (HasRun program workers all)) same h
+  pub rest_stands : StepsStand → (before rest : List Label) (s t : State) → IsValid program → before ++ rest ≡ all
+      → replay (rules_of program workers) before ≡ Some s → IsStanding program (HasRun program workers all) s
+      → replay_from (rules_of program workers) s rest ≡ Some t → IsStanding program (HasRun program workers all) t
+  rest_stands steps before [] s t valid parts reached h e =
+      let same : s ≡ t = cc in subst (IsStanding program (HasRun program workers all)) same h
   rest_stands steps before (l ∷ rest) s t valid parts reached h e =
       then_stands (next_state (rules_of program workers) s l) (λ u. replay_from (rules_of program workers) u rest) t
-      (λ u is left. rest_stands steps (before ++ l ∷ []) rest u t valid (append_assoc before (l ∷ []) rest ∙ parts) (replay_more (rules_of program workers) before l (rules_of program workers).start s u reached is)
-          (steps program workers all before rest l s u valid parts reached h is) left) e
+      (λ u is left. rest_stands steps (before ++ l ∷ []) rest u t valid (append_assoc before (l ∷ []) rest ∙ parts)
+      (replay_more (rules_of program workers) before l (rules_of program workers).start s u reached is)
+      (steps program workers all before rest l s u valid parts reached h is) left) e

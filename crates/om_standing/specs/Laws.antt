@@ -35,7 +35,7 @@ abbrev pub RunsStand : Type 0
 RunsStand = (program : Raw) (workers : ℕ) (ls : List Label) (s : State) → IsValid program
     → replay (rules_of program workers) ls ≡ Some s → IsStanding program (HasRun program workers ls) s
 
--- what the next instruction of a stack needs is there: itself, its operands, all that it names, and a home for each slot
+-- what the next instruction of a stack needs: itself, its operands, all that it names, and a home for each slot
 pub record HasItsNeeds (program : Raw) (owned : Owned) (stack : Stack) : Type 0 where
   pub instruction : Instr
   pub there : instruction_at program stack.top.frame.body stack.top.frame.next ≡ Some instruction
@@ -51,7 +51,8 @@ WorkersHaveNeeds = (program : Raw) (workers : ℕ) (ls : List Label) (s : State)
 
 -- and the step of such a worker ends only where its instruction may lack something else
 abbrev pub LacksHaveReasons : Type 0
-LacksHaveReasons = (program : Raw) (workers : ℕ) (ls : List Label) (s : State) (l : Label) (stack : Stack) (instr : Instr)
-    → IsValid program → replay (rules_of program workers) ls ≡ Some s → s (obj.Control l.worker) ≡ Control (Running stack)
+LacksHaveReasons = (program : Raw) (workers : ℕ) (ls : List Label) (s : State) (l : Label) (stack : Stack)
+    (instr : Instr) → IsValid program → replay (rules_of program workers) ls ≡ Some s
+    → s (obj.Control l.worker) ≡ Control (Running stack)
     → instruction_at program stack.top.frame.body stack.top.frame.next ≡ Some instr
     → (step_at (rules_of program workers) s l).outcome ≡ Ended → MayLack program stack instr

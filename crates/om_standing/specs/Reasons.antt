@@ -25,7 +25,8 @@ HasNoValue count operands = Contains (take count operands) NoValue
 -- the innermost region is no loop, or its iteration's value is no int
 abbrev pub HasNoIteration : Option Share → Type 0
 HasNoIteration None = Unit {0}
-HasNoIteration (Some share) = (is_loop share.sharing ≡ false) ⊎ (int_of (value_of share.lower share.step share.next) ≡ None)
+HasNoIteration (Some share) =
+    (is_loop share.sharing ≡ false) ⊎ (int_of (value_of share.lower share.step share.next) ≡ None)
 
 -- the innermost region has no section taken, or one that the list doesn't have
 abbrev pub HasNoSection : List ℕ → Option Share → Type 0
@@ -55,5 +56,6 @@ MayLack program stack i.EndMasked = is_masked (innermost stack.top.constructs) �
 MayLack program stack (i.LeaveCritical lock) = is_critical lock (innermost stack.top.constructs) ≡ false
 MayLack program stack i.GroupEnd = innermost_group (innermost stack.top.constructs) ≡ None
 MayLack program stack i.TaskEnd = (stack.top.kind ≢ Explicit) ⊎ ((stack.below ≡ []) ⊎ (parent_of stack.top.task ≡ None))
-MayLack program stack (i.Finish has_value) = (stack.top.kind ≢ Initial) ⊎ HasNoValue (pops (i.Finish has_value)) stack.top.frame.operands
+MayLack program stack (i.Finish has_value) =
+    (stack.top.kind ≢ Initial) ⊎ HasNoValue (pops (i.Finish has_value)) stack.top.frame.operands
 MayLack program stack instr = HasNoValue (pops instr) stack.top.frame.operands

@@ -12,7 +12,8 @@ use Rattle.om_cells.specs.Rules.{replay}
 use Rattle.om_cells.specs.State.{State}
 use Rattle.om_task.specs.Rules.{rules_of}
 
--- after some of the first steps of a run a worker ran the frame of this task and ordinal, whose body has so many cells of its own in this slot
+-- after some of the first steps of a run a worker ran the frame of this task and ordinal, and the body of that frame
+-- has in this slot so many cells of its own
 pub record HasRun (program : Raw) (workers : ℕ) (ls : List Label) (task : List ℕ) (frame slot cells : ℕ) : Type 0 where
   pub before : List Label
   pub after : List Label
@@ -24,4 +25,5 @@ pub record HasRun (program : Raw) (workers : ℕ) (ls : List Label) (task : List
   pub runs : state (obj.Control worker) ≡ Control (Running stack)
   pub named : stack.top.task ≡ task
   pub numbered : stack.top.frame.ordinal ≡ frame
-  pub has : IsSomeAnd (slice_get (slots_of program stack.top.frame.body) slot) (λ s. (s.source ≡ Own) × (s.cells ≡ cells))
+  pub has : IsSomeAnd (slice_get (slots_of program stack.top.frame.body) slot)
+      (λ s. (s.source ≡ Own) × (s.cells ≡ cells))

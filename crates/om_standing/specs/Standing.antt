@@ -20,7 +20,8 @@ use Rattle.om_cells.specs.declared.value.Val.TheVariants as value
 use Rattle.om_cells.specs.State.{State}
 use Rattle.om_spawn.specs.Tasks.{first_frame}
 
--- which slots of which frames have how many cells: the name of a task, the ordinal of a frame of it, the number of the slot, and the cells
+-- which slots of which frames have how many cells: by the name of a task, the ordinal of a frame of it, the number of
+-- a slot of that frame, and the number of cells
 abbrev pub Owned : Type 1
 Owned = List ℕ → ℕ → ℕ → ℕ → Type 0
 

@@ -8,4 +8,5 @@ returns c = λ program workers ls s l stack instr valid e runs is ends.
     let n = c.workers_have_needs.ensures program workers ls s l.worker stack valid e runs in
     let found : Some n.instruction ≡ Some instr = sym n.there ∙ is in
     let same : n.instruction ≡ instr = cc in
-    ends_only program workers s l stack instr runs is (subst (λ i. pops i ≤ length stack.top.frame.operands) same n.operands) ends
+    ends_only program workers s l stack instr runs is
+    (subst (λ i. pops i ≤ length stack.top.frame.operands) same n.operands) ends

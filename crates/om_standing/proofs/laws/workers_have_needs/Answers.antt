@@ -8,4 +8,5 @@ use Rattle.om_standing.proofs.laws.workers_have_needs.Goals as goal
 pub returns : goal.returns
 returns c = λ program workers ls s worker stack valid e runs.
     has_its_needs program (HasRun program workers ls) stack valid
-    (subst (IsStandingValue program (HasRun program workers ls)) runs (c.runs_stand.ensures program workers ls s valid e (obj.Control worker)))
+    (subst (IsStandingValue program (HasRun program workers ls)) runs
+    (c.runs_stand.ensures program workers ls s valid e (obj.Control worker)))
