@@ -1,5 +1,5 @@
 -- A step leads from a state that stands to one that stands, and the start stands.
-use Rattle.std.proofs.Common.{◌≡◌, refl, sym, subst, ℕ, arith, Bool, true, false, cond, List, [], ◌∷◌, Option, None, Some}
+use Rattle.std.proofs.Common.{◌≡◌, sym, subst, ℕ, arith, Bool, true, false, cond, List, [], ◌∷◌, Some}
 use Rattle.std.specs.Prelude.{ℤ, if◌then◌else◌, nat_eq}
 use Rattle.om_foot.specs.Footprint.{obj_eq}
 use Rattle.om_foot.specs.declared.object.Obj.TheVariants as obj
@@ -20,7 +20,7 @@ use Rattle.om_cells.specs.declared.step.Update.TheVariants.{Keep, Put, Add, Appe
 use Rattle.om_cells.specs.declared.value.Val.{Val}
 use Rattle.om_cells.specs.declared.value.Val.TheVariants as value
 use Rattle.om_cells.specs.Edits.{changed}
-use Rattle.om_cells.specs.Rules.{step_at, next_state, state_after_outcome, and_then, replay_from}
+use Rattle.om_cells.specs.Rules.{step_at, next_state, state_after_outcome}
 use Rattle.om_cells.specs.State.{State, values_read, read_by, value_after, state_after, updated}
 use Rattle.om_cells.specs.Values.{control_in, value_plus, value_with}
 use Rattle.om_row.specs.declared.row.Row.{Row}
