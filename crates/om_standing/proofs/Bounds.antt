@@ -1,0 +1,126 @@
+-- What every row keeps to: behind its edits the worker stands, and so does what it puts.
+use Rattle.std.proofs.Common.{subst, ℕ, arith, Bool, true, false, if◌then◌else◌, List, [], ◌∷◌, ◌++◌, Option}
+use Rattle.om_code.specs.declared.frame.Operand.{Operand}
+use Rattle.om_code.specs.declared.raw.Raw.{Raw}
+use Rattle.om_code.specs.Ways.{Way}
+use Rattle.om_cells.specs.declared.control.Context.{Context}
+use Rattle.om_cells.specs.declared.control.Frame.{Frame}
+use Rattle.om_cells.specs.declared.control.Stack.{Stack}
+use Rattle.om_cells.specs.declared.control.Control as controls
+use Rattle.om_cells.specs.declared.control.Control.TheVariants.{Idle, Running, Faulted, Ended}
+use Rattle.om_cells.specs.declared.edit.Edit.{Edit}
+use Rattle.om_cells.specs.declared.edit.Edit.TheVariants.{Go, BeginFrame, EndFrame, BeginContext, EndContext, Open, Close, Replace, CountBirth, CountRegion, CountPhase, Fail, End}
+use Rattle.om_cells.specs.declared.step.Update.{Update}
+use Rattle.om_cells.specs.declared.step.Update.TheVariants.{Put}
+use Rattle.om_cells.specs.declared.value.Val.{Val}
+use Rattle.om_cells.specs.Edits.{changed_by, changed, edited, context_ended, value_given}
+use Rattle.om_row.specs.declared.row.Row.{Row}
+use Rattle.om_row.specs.declared.row.Row.TheVariants.{Goes}
+use Rattle.om_row.specs.Rows.{Asked}
+use Rattle.om_standing.specs.Standing.{Owned, AreWaiting, IsStandingContext, AreStanding, IsStandingControl, IsStandingValue}
+
+-- an edit that leaves frames where they are, or begins a context that stands
+abbrev pub Keeps : Raw → Owned → Edit → Type 0
+Keeps program owned (Go to takes pushed) = ⊥
+Keeps program owned (BeginFrame to takes body homes) = ⊥
+Keeps program owned (BeginContext context) = IsStandingContext program owned context
+Keeps program owned _ = Unit {0}
+
+abbrev pub AllKeep : Raw → Owned → List Edit → Type 0
+AllKeep program owned [] = Unit {0}
+AllKeep program owned (edit ∷ edits) = Keeps program owned edit × AllKeep program owned edits
+
+-- an update puts what stands
+abbrev pub PutsStanding : Raw → Owned → Update → Type 0
+PutsStanding program owned (Put v) = IsStandingValue program owned v
+PutsStanding program owned _ = Unit {0}
+
+abbrev pub AllPutStanding : Raw → Owned → List Update → Type 0
+AllPutStanding program owned [] = Unit {0}
+AllPutStanding program owned (u ∷ us) = PutsStanding program owned u × AllPutStanding program owned us
+
+abbrev pub ValuesStand : Raw → Owned → List Val → Type 0
+ValuesStand program owned [] = Unit {0}
+ValuesStand program owned (v ∷ values) = IsStandingValue program owned v × ValuesStand program owned values
+
+abbrev pub RowStands : Raw → Owned → Stack → Row → Type 0
+RowStands program owned stack (Goes edits us) =
+    IsStandingControl program owned (changed edits (Running stack)) × AllPutStanding program owned us
+RowStands program owned stack _ = Unit {0}
+
+abbrev pub AskedStands : Raw → Owned → Stack → Asked → List Val → Type 0
+AskedStands program owned stack a values = RowStands program owned stack (a.row values)
+
+-- a stack stands that has gone on
+abbrev pub Leads : Raw → Owned → Stack → ℕ → ℕ → Option Operand → Type 0
+Leads program owned stack to takes pushed = IsStandingControl program owned (edited (Go to takes pushed) stack)
+
+-- the frame that waits for a call's value has it
+given_frame : (program : Raw) (owned : Owned) (v : Operand) (callers : List Frame) (c : Context)
+    → AreWaiting program owned callers → IsStandingContext program owned c
+    → IsStandingContext program owned (value_given v callers c)
+given_frame program owned v [] c w h = h
+given_frame program owned v (frame ∷ callers) c w h = record {
+  frame =
+      record {
+        body = w.0.body;
+        found = w.0.found;
+        way = subst (Way program.picks w.0.body.code frame.next)
+            (omega arith) w.0.way;
+        homes = w.0.homes;
+      };
+  callers = w.1;
+}
+
+ended_stands : (program : Raw) (owned : Owned) (below : List Context) → AreStanding program owned below
+    → IsStandingControl program owned (context_ended below)
+ended_stands program owned [] h = tt
+ended_stands program owned (c ∷ below) h = h
+
+edit_stands : (program : Raw) (owned : Owned) (edit : Edit) (stack : Stack) → Keeps program owned edit
+    → IsStandingControl program owned (Running stack) → IsStandingControl program owned (edited edit stack)
+edit_stands program owned (Go to takes pushed) stack k h = absurd k
+edit_stands program owned (BeginFrame to takes body homes) stack k h = absurd k
+edit_stands program owned (EndFrame v) stack k h =
+    (given_frame program owned v stack.top.callers stack.top h.0.callers h.0, h.1)
+edit_stands program owned (BeginContext c) stack k h = (k, h)
+edit_stands program owned EndContext stack k h = ended_stands program owned stack.below h.1
+edit_stands program owned (Open c) stack k h = (record { frame = h.0.frame; callers = h.0.callers }, h.1)
+edit_stands program owned Close stack k h = (record { frame = h.0.frame; callers = h.0.callers }, h.1)
+edit_stands program owned (Replace c) stack k h = (record { frame = h.0.frame; callers = h.0.callers }, h.1)
+edit_stands program owned CountBirth stack k h = (record { frame = h.0.frame; callers = h.0.callers }, h.1)
+edit_stands program owned CountRegion stack k h = (record { frame = h.0.frame; callers = h.0.callers }, h.1)
+edit_stands program owned CountPhase stack k h = (record { frame = h.0.frame; callers = h.0.callers }, h.1)
+edit_stands program owned (Fail f) stack k h = h
+edit_stands program owned (End v) stack k h = tt
+
+control_stands : (program : Raw) (owned : Owned) (edit : Edit) (c : controls.Control) → Keeps program owned edit
+    → IsStandingControl program owned c → IsStandingControl program owned (changed_by edit c)
+control_stands program owned edit (Running stack) k h = edit_stands program owned edit stack k h
+control_stands program owned edit (Faulted fault stack) k h = h
+control_stands program owned edit (Ended result) k h = tt
+control_stands program owned edit Idle k h = tt
+
+-- a control that stands stands after such edits
+pub changed_stands : (program : Raw) (owned : Owned) (edits : List Edit) (c : controls.Control)
+    → AllKeep program owned edits → IsStandingControl program owned c
+    → IsStandingControl program owned (changed edits c)
+changed_stands program owned [] c k h = h
+changed_stands program owned (edit ∷ edits) c k h =
+    changed_stands program owned edits (changed_by edit c) k.1 (control_stands program owned edit c k.0 h)
+
+pub if_row : (program : Raw) (owned : Owned) (stack : Stack) (b : Bool) (x y : Row) → RowStands program owned stack x
+    → RowStands program owned stack y → RowStands program owned stack (if b then x else y)
+if_row program owned stack true x y h k = h
+if_row program owned stack false x y h k = k
+
+pub if_asked : (program : Raw) (owned : Owned) (stack : Stack) (b : Bool) (x y : Asked) (values : List Val)
+    → AskedStands program owned stack x values → AskedStands program owned stack y values
+    → AskedStands program owned stack (if b then x else y) values
+if_asked program owned stack true x y values h k = h
+if_asked program owned stack false x y values h k = k
+
+pub puts_append : (program : Raw) (owned : Owned) (us ws : List Update) → AllPutStanding program owned us
+    → AllPutStanding program owned ws → AllPutStanding program owned (us ++ ws)
+puts_append program owned [] ws h k = k
+puts_append program owned (u ∷ us) ws h k = (h.0, puts_append program owned us ws h.1 k)

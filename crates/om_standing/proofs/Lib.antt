@@ -1,0 +1,12 @@
+mod Homes
+mod Going
+mod Bounds
+mod ShareRows
+mod TaskRows
+mod Walk
+mod Runs
+mod Replays
+mod Operands
+mod Reasons
+mod RowReasons
+mod Lacking

@@ -1,0 +1,224 @@
+-- A step leads from a state that stands to one that stands, and the start stands.
+use Rattle.std.proofs.Common.{◌≡◌, sym, subst, ℕ, arith, Bool, true, false, cond, List, [], ◌∷◌, Some}
+use Rattle.std.specs.Prelude.{ℤ, if◌then◌else◌, nat_eq}
+use Rattle.om_foot.specs.Footprint.{obj_eq}
+use Rattle.om_foot.specs.declared.object.Obj.TheVariants as obj
+use Rattle.om_foot.specs.declared.footprint.Access.{Access}
+use Rattle.om_foot.specs.declared.footprint.Mode.{Mode}
+use Rattle.om_foot.specs.declared.footprint.Mode.TheVariants as mode
+use Rattle.om_code.specs.declared.raw.Raw.{Raw}
+use Rattle.om_code.specs.Validity.{IsValid, NamesKnown}
+use Rattle.om_cells.specs.declared.control.Control as controls
+use Rattle.om_cells.specs.declared.control.Control.TheVariants.{Idle, Running, Faulted, Ended}
+use Rattle.om_cells.specs.declared.control.Stack.{Stack}
+use Rattle.om_cells.specs.declared.edit.Edit.TheVariants.{Fail}
+use Rattle.om_cells.specs.declared.step.Label.{Label}
+use Rattle.om_cells.specs.declared.step.Tail.{Tail}
+use Rattle.om_cells.specs.declared.step.Tail.TheVariants as tail
+use Rattle.om_cells.specs.declared.step.Update.{Update}
+use Rattle.om_cells.specs.declared.step.Update.TheVariants.{Keep, Put, Add, Append, Cut}
+use Rattle.om_cells.specs.declared.value.Val.{Val}
+use Rattle.om_cells.specs.declared.value.Val.TheVariants as value
+use Rattle.om_cells.specs.Edits.{changed}
+use Rattle.om_cells.specs.Rules.{step_at, next_state, state_after_outcome}
+use Rattle.om_cells.specs.State.{State, values_read, read_by, value_after, state_after, updated}
+use Rattle.om_cells.specs.Values.{control_in, value_plus, value_with}
+use Rattle.om_row.specs.declared.row.Row.{Row}
+use Rattle.om_row.specs.declared.row.Row.TheVariants as row
+use Rattle.om_task.specs.Rules.{rules_of, start_of, first_context, further_in, row_in, outcome_after}
+use Rattle.om_standing.specs.Laws.{HasItsNeeds}
+use Rattle.om_standing.specs.Standing.{Owned, FitHomes, IsStandingControl, IsStandingValue, IsStanding}
+use Rattle.om_standing.proofs.Bounds.{AllPutStanding, PutsStanding, ValuesStand, RowStands, changed_stands}
+use Rattle.om_standing.proofs.Going.{stands_at, found_slots}
+use Rattle.om_standing.proofs.Homes.{WorkerHasOwn, WorkersHaveOwn, around_none, begins}
+use Rattle.om_standing.proofs.Walk.{row_stands}
+
+-- ---- what is read of a state that stands
+
+read_stands : (program : Raw) (owned : Owned) (m : Mode) (v : Val) (values : List Val)
+    → IsStandingValue program owned v → ValuesStand program owned values
+    → ValuesStand program owned (read_by m v values)
+read_stands program owned mode.Add v values h k = k
+read_stands program owned mode.Read v values h k = (h, k)
+read_stands program owned mode.Write v values h k = (h, k)
+
+values_stand : (program : Raw) (owned : Owned) (names : List Access) (s : State) → IsStanding program owned s
+    → ValuesStand program owned (values_read names s)
+values_stand program owned [] s h = tt
+values_stand program owned (a ∷ names) s h =
+    read_stands program owned a.mode (s a.object) (values_read names s) (h a.object)
+    (values_stand program owned names s h)
+
+control_stands : (program : Raw) (owned : Owned) (v : Val) → IsStandingValue program owned v
+    → IsStandingControl program owned (control_in v)
+control_stands program owned (value.Control c) h = h
+control_stands program owned (value.Task c) h = tt
+control_stands program owned (value.Cell c) h = tt
+control_stands program owned (value.Count k) h = tt
+control_stands program owned (value.Number k) h = tt
+control_stands program owned (value.Lock k) h = tt
+control_stands program owned (value.Output k) h = tt
+control_stands program owned (value.Events k) h = tt
+
+-- ---- a state after updates
+
+plus_stands : (program : Raw) (owned : Owned) (d : ℤ) (v : Val) → IsStandingValue program owned v
+    → IsStandingValue program owned (value_plus d v)
+plus_stands program owned d (value.Count k) h = tt
+plus_stands program owned d (value.Control c) h = h
+plus_stands program owned d (value.Task t) h = h
+plus_stands program owned d (value.Cell c) h = tt
+plus_stands program owned d (value.Number k) h = tt
+plus_stands program owned d (value.Lock k) h = tt
+plus_stands program owned d (value.Output k) h = tt
+plus_stands program owned d (value.Events k) h = tt
+
+with_stands : (program : Raw) (owned : Owned) (t : Tail) (v : Val) → IsStandingValue program owned v
+    → IsStandingValue program owned (value_with t v)
+with_stands program owned (tail.Bytes bytes) (value.Output k) h = tt
+with_stands program owned (tail.Bytes bytes) (value.Events k) h = tt
+with_stands program owned (tail.Bytes bytes) (value.Count k) h = tt
+with_stands program owned (tail.Bytes bytes) (value.Control c) h = h
+with_stands program owned (tail.Bytes bytes) (value.Task t) h = h
+with_stands program owned (tail.Bytes bytes) (value.Cell c) h = tt
+with_stands program owned (tail.Bytes bytes) (value.Number k) h = tt
+with_stands program owned (tail.Bytes bytes) (value.Lock k) h = tt
+with_stands program owned (tail.Events records) (value.Output k) h = tt
+with_stands program owned (tail.Events records) (value.Events k) h = tt
+with_stands program owned (tail.Events records) (value.Count k) h = tt
+with_stands program owned (tail.Events records) (value.Control c) h = h
+with_stands program owned (tail.Events records) (value.Task t) h = h
+with_stands program owned (tail.Events records) (value.Cell c) h = tt
+with_stands program owned (tail.Events records) (value.Number k) h = tt
+with_stands program owned (tail.Events records) (value.Lock k) h = tt
+
+after_stands : (program : Raw) (owned : Owned) (m : Mode) (u : Update) (old : Val) → PutsStanding program owned u
+    → IsStandingValue program owned old → IsStandingValue program owned (value_after m u old)
+after_stands program owned mode.Write (Put v) old p h = p
+after_stands program owned mode.Write (Append t) old p h = with_stands program owned t old h
+after_stands program owned mode.Write (Add d) old p h = h
+after_stands program owned mode.Write Keep old p h = h
+after_stands program owned mode.Write (Cut k) old p h = h
+after_stands program owned mode.Add (Add d) old p h = plus_stands program owned d old h
+after_stands program owned mode.Add (Put v) old p h = h
+after_stands program owned mode.Add (Append t) old p h = h
+after_stands program owned mode.Add Keep old p h = h
+after_stands program owned mode.Add (Cut k) old p h = h
+after_stands program owned mode.Read (Put v) old p h = h
+after_stands program owned mode.Read (Append t) old p h = h
+after_stands program owned mode.Read (Add d) old p h = h
+after_stands program owned mode.Read Keep old p h = h
+after_stands program owned mode.Read (Cut k) old p h = h
+
+one_of : (program : Raw) (owned : Owned) (b : Bool) (v w : Val) → IsStandingValue program owned v
+    → IsStandingValue program owned w → IsStandingValue program owned (cond b v w)
+one_of program owned true v w h k = h
+one_of program owned false v w h k = k
+
+updated_stands : (program : Raw) (owned : Owned) (accesses : List Access) (us : List Update) (s : State)
+    → AllPutStanding program owned us → IsStanding program owned s → IsStanding program owned (updated accesses us s)
+updated_stands program owned [] us s p h = h
+updated_stands program owned (a ∷ rest) [] s p h = h
+updated_stands program owned (a ∷ rest) (u ∷ us) s p h =
+    updated_stands program owned rest us (state_after a u s) p.1
+    (λ q. one_of program owned (obj_eq a.object q) (value_after a.mode u (s q)) (s q)
+    (after_stands program owned a.mode u (s q) p.0 (h q)) (h q))
+
+-- ---- a step
+
+-- behind the row of a control the worker stands, and so does what is put
+abbrev Leaves : Raw → Owned → controls.Control → Row → Type 0
+Leaves program owned c (row.Goes edits us) =
+    IsStandingControl program owned (changed edits c) × AllPutStanding program owned us
+Leaves program owned c _ = Unit {0}
+
+leaves : (program : Raw) (owned : Owned) (stack : Stack) (r : Row) → RowStands program owned stack r
+    → Leaves program owned (Running stack) r
+leaves program owned stack (row.Goes edits us) h = h
+leaves program owned stack (row.Faults f) h = tt
+leaves program owned stack (row.Blocked b) h = tt
+leaves program owned stack row.Lacks h = tt
+
+row_leaves : (program : Raw) (owned : Owned) (workers : ℕ) (l : Label) (c : controls.Control) (values : List Val)
+    → IsValid program → WorkerHasOwn program owned c → IsStandingControl program owned c
+    → ValuesStand program owned values → Leaves program owned c (row_in program workers l c values)
+row_leaves program owned workers l (Running stack) values valid own h v =
+    leaves program owned stack (row_in program workers l (Running stack) values)
+    (row_stands owned program workers l stack values valid own h v)
+row_leaves program owned workers l Idle values valid own h v = tt
+row_leaves program owned workers l (Faulted fault stack) values valid own h v = tt
+row_leaves program owned workers l (Ended result) values valid own h v = tt
+
+outcome_stands : (program : Raw) (owned : Owned) (c : controls.Control) (r : Row) (accesses : List Access)
+    (s t : State) → IsStandingControl program owned c → Leaves program owned c r → IsStanding program owned s
+    → state_after_outcome accesses (outcome_after c r) s ≡ Some t → IsStanding program owned t
+outcome_stands program owned c (row.Goes edits us) accesses s t w k h e =
+    let new : updated accesses (Put (value.Control (changed edits c)) ∷ us) s ≡ t = cc in
+    subst (IsStanding program owned) new
+    (updated_stands program owned accesses (Put (value.Control (changed edits c)) ∷ us) s k h)
+outcome_stands program owned c (row.Faults f) accesses s t w k h e =
+    let new : updated accesses (Put (value.Control (changed (Fail f ∷ []) c)) ∷ []) s ≡ t = cc in
+    subst (IsStanding program owned) new
+    (updated_stands program owned accesses (Put (value.Control (changed (Fail f ∷ []) c)) ∷ []) s
+    (changed_stands program owned (Fail f ∷ []) c (tt, tt) w, tt) h)
+outcome_stands program owned c (row.Blocked b) accesses s t w k h e = cc
+outcome_stands program owned c row.Lacks accesses s t w k h e = cc
+
+pub step_stands : (program : Raw) (owned : Owned) (workers : ℕ) (s t : State) (l : Label) → IsValid program
+    → WorkersHaveOwn program owned s → IsStanding program owned s → next_state (rules_of program workers) s l ≡ Some t
+    → IsStanding program owned t
+unfolding step_at
+step_stands program owned workers s t l valid own h e =
+    let c : controls.Control = control_in (s (obj.Control l.worker)) in
+    let names : List Access = further_in program workers l c in
+    let w : IsStandingControl program owned c =
+    control_stands program owned (s (obj.Control l.worker)) (h (obj.Control l.worker)) in
+    outcome_stands program owned c (row_in program workers l c (values_read names s))
+    (step_at (rules_of program workers) s l).footprint s t w
+    (row_leaves program owned workers l c (values_read names s) valid (own l.worker) w
+    (values_stand program owned names s h)) h e
+
+-- ---- the start
+
+first_stands : (program : Raw) (owned : Owned) (b : Bool) → IsValid program
+    → IsStandingControl program owned
+    (if b then Running (record { top = first_context program; below = [] }) else Idle)
+first_stands program owned true valid = (
+  record {
+    frame = begins program owned [] [] (0 ∷ []) 0 program.main 0 0
+        (around_none owned (0 ∷ []) 0 []) valid.tables.main;
+    callers = tt;
+  },
+  tt,
+)
+first_stands program owned false valid = tt
+
+pub start_stands : (program : Raw) (owned : Owned) (workers : ℕ) → IsValid program
+    → IsStanding program owned (start_of program workers)
+start_stands program owned workers valid (obj.Control worker) = first_stands program owned (nat_eq worker 0) valid
+start_stands program owned workers valid (obj.Global v i) = tt
+start_stands program owned workers valid (obj.Cell t f s i) = tt
+start_stands program owned workers valid (obj.Task t) = tt
+start_stands program owned workers valid (obj.Kids t) = tt
+start_stands program owned workers valid (obj.Pending t p) = tt
+start_stands program owned workers valid (obj.Arrived t n) = tt
+start_stands program owned workers valid (obj.Work t n) = tt
+start_stands program owned workers valid (obj.Lock n) = tt
+start_stands program owned workers valid (obj.Group t) = tt
+start_stands program owned workers valid obj.Output = tt
+start_stands program owned workers valid (obj.Events w) = tt
+
+-- ---- what a stack that stands has
+
+pub has_its_needs : (program : Raw) (owned : Owned) (stack : Stack) → IsValid program
+    → IsStandingControl program owned (Running stack) → HasItsNeeds program owned stack
+has_its_needs program owned stack valid h =
+    let f = stands_at program owned stack.top.frame valid h.0.frame in
+    let same = sym (found_slots program stack.top.frame.body f.2.body f.2.found) in
+    record {
+      instruction = f.0;
+      there = f.1;
+      operands = omega (arith, f.2.operands);
+      names = subst (λ slots. NamesKnown program slots f.0) same f.2.names;
+      homes = subst (λ slots. FitHomes owned slots stack.top.frame.homes) same f.2.homes;
+    }

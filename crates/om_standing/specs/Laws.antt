@@ -1,0 +1,58 @@
+-- What is true of the runs of valid programs.
+use Rattle.std.specs.Prelude.{◌≡◌, ℕ, ◌≤◌, List, ◌∷◌, ◌++◌, Some, length}
+use Rattle.om_foot.specs.declared.object.Obj.TheVariants as obj
+use Rattle.om_code.specs.declared.instruction.Instr.{Instr}
+use Rattle.om_code.specs.declared.raw.Raw.{Raw}
+use Rattle.om_code.specs.Places.{instruction_at, slots_of}
+use Rattle.om_code.specs.Validity.{IsValid, NamesKnown}
+use Rattle.om_code.specs.Ways.{pops}
+use Rattle.om_cells.specs.declared.control.Control.TheVariants.{Running}
+use Rattle.om_cells.specs.declared.control.Stack.{Stack}
+use Rattle.om_cells.specs.declared.step.Label.{Label}
+use Rattle.om_cells.specs.declared.value.Val.TheVariants.{Control}
+use Rattle.om_cells.specs.declared.step.Outcome.TheVariants.{Ended}
+use Rattle.om_cells.specs.Rules.{step_at, next_state, replay}
+use Rattle.om_cells.specs.State.{State}
+use Rattle.om_task.specs.Rules.{rules_of, start_of}
+use Rattle.om_standing.specs.Reasons.{MayLack}
+use Rattle.om_standing.specs.Running.{HasRun}
+use Rattle.om_standing.specs.Standing.{Owned, FitHomes, IsStanding}
+
+-- a valid program stands where it starts
+abbrev pub StartStands : Type 0
+StartStands = (program : Raw) (workers : ℕ) (ls : List Label) → IsValid program
+    → IsStanding program (HasRun program workers ls) (start_of program workers)
+
+-- each step of a run of a valid program leads from a state that stands to one that stands
+abbrev pub StepsStand : Type 0
+StepsStand = (program : Raw) (workers : ℕ) (ls before after : List Label) (l : Label) (s t : State) → IsValid program
+    → before ++ l ∷ after ≡ ls → replay (rules_of program workers) before ≡ Some s
+    → IsStanding program (HasRun program workers ls) s → next_state (rules_of program workers) s l ≡ Some t
+    → IsStanding program (HasRun program workers ls) t
+
+-- so each state of its runs stands
+abbrev pub RunsStand : Type 0
+RunsStand = (program : Raw) (workers : ℕ) (ls : List Label) (s : State) → IsValid program
+    → replay (rules_of program workers) ls ≡ Some s → IsStanding program (HasRun program workers ls) s
+
+-- what the next instruction of a stack needs: itself, its operands, all that it names, and a home for each slot
+pub record HasItsNeeds (program : Raw) (owned : Owned) (stack : Stack) : Type 0 where
+  pub instruction : Instr
+  pub there : instruction_at program stack.top.frame.body stack.top.frame.next ≡ Some instruction
+  pub operands : pops instruction ≤ length stack.top.frame.operands
+  pub names : NamesKnown program (slots_of program stack.top.frame.body) instruction
+  pub homes : FitHomes owned (slots_of program stack.top.frame.body) stack.top.frame.homes
+
+-- in each state of its runs, each worker that runs has what its next instruction needs
+abbrev pub WorkersHaveNeeds : Type 0
+WorkersHaveNeeds = (program : Raw) (workers : ℕ) (ls : List Label) (s : State) (worker : ℕ) (stack : Stack)
+    → IsValid program → replay (rules_of program workers) ls ≡ Some s
+    → s (obj.Control worker) ≡ Control (Running stack) → HasItsNeeds program (HasRun program workers ls) stack
+
+-- and the step of such a worker ends only where its instruction may lack something else
+abbrev pub LacksHaveReasons : Type 0
+LacksHaveReasons = (program : Raw) (workers : ℕ) (ls : List Label) (s : State) (l : Label) (stack : Stack)
+    (instr : Instr) → IsValid program → replay (rules_of program workers) ls ≡ Some s
+    → s (obj.Control l.worker) ≡ Control (Running stack)
+    → instruction_at program stack.top.frame.body stack.top.frame.next ≡ Some instr
+    → (step_at (rules_of program workers) s l).outcome ≡ Ended → MayLack program stack instr

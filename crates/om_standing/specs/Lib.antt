@@ -1,0 +1,4 @@
+pub mod Standing
+pub mod Running
+pub mod Reasons
+pub mod Laws

@@ -1,0 +1,4 @@
+//! A running worker of valid code never lacks what its next instruction needs.
+#![tactic(auto)]
+
+pub mod laws;
