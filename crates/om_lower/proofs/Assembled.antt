@@ -2,6 +2,7 @@
 use Rattle.std.proofs.Common.{◌≡◌, ◌<◌, ◌≤◌, ◌^◌, ℕ, zero, suc, take, true, List, [], ◌∷◌, All, length, map, refl, sym, ap, subst, ◌∙◌, arith}
 use Rattle.std.proofs.lemmas.List.Elements.{All-nil, All-cons, All-head, All-tail, All-append}
 use Rattle.std.specs.List.{AllZip, flat_map}
+use Rattle.std.specs.Prelude.{OnOk, Result, Ok, Err}
 use Rattle.om_code.specs.declared.raw.Body.{Body}
 use Rattle.om_code.specs.declared.raw.Raw.{Raw}
 use Rattle.om_code.specs.Validity.{IsLow, IsValid}
@@ -132,3 +133,8 @@ all_within tree picks lists lowered low =
     subst (λ fs. All (λ b. IsWithin tree b) (bodies_from first_numbers fs))
     (take_all tree.functions (length lists) lowered.stops)
     (within_functions tree lowered.lists picks first_numbers tree.functions lists lowered.stand lowered.made low)
+
+-- what holds of the tree holds whatever is found
+pub ok_anyway : {X E P : Type 0} (found : Result X E) → P → OnOk found P
+ok_anyway (Ok x) p = p
+ok_anyway (Err e) p = tt

@@ -11,9 +11,10 @@ use Rattle.om_code.specs.declared.raw.Line.{Line}
 use Rattle.om_code.specs.declared.raw.Slot.{Slot}
 use Rattle.om_lower.specs.Frames.{FitsFrame}
 use Rattle.om_lower.specs.Limits.{HasFewSlots, HasManySlots, IsCodeAt, IsOver, long, many_cells, many_slots}
-use Rattle.om_lower.specs.Made.{AreFunctions, AreListsOf, AreMade, FitsBody, FitsCode, FitsFunction, IsGathered, IsMade}
+use Rattle.om_lower.specs.Made.{AddsBody, AddsFunction, AreFunctions, AreListsOf, AreMade, FitsBody, FitsCode, FitsFunction, IsGathered, IsMade}
 use Rattle.om_lower.specs.declared.bodies.Bodies.{Bodies}
 use Rattle.om_lower.specs.declared.bodies.LoweredBody.{LoweredBody}
+use Rattle.om_lower.specs.declared.functions.Lowered.{Lowered}
 use Rattle.om_lower.proofs.Ascending.{body_table}
 use Rattle.om_picks.specs.Once.{site_picks}
 use Rattle.om_lower.proofs.Items.{take_pushed, zip_pushed}
@@ -206,13 +207,22 @@ body_more tree sites k b lists grown bodies new body at added joined made listed
           (listed_on (take k sites) (b ∷ []) lists more listed (fits.1 ∙ sym (append-nil (site_picks b))))),
     )
 
+-- the same, as a function adds it
+pub body_added : (tree : ResolvedTree) (sites : List BodySite) (k : ℕ) (b : BodySite) (old new : Bodies)
+    → slice_get sites k ≡ Some b
+    → AreMade tree old.lists (take k sites) old.bodies × AreListsOf (take k sites) old.lists
+    → AddsBody tree b old new true
+    → AreMade tree new.lists (take (k + 1) sites) new.bodies × AreListsOf (take (k + 1) sites) new.lists
+body_added tree sites k b old new at made adds =
+    body_more tree sites k b old.lists new.lists old.bodies new.bodies adds.0 at adds.2 adds.3 made.0 made.1 adds.1
+
 pub one_more : (tree : ResolvedTree) (lists grown : List PickList) (functions new : List (List Body)) (k : ℕ) (f : ResolvedFunctionTree)
     (n m : Numbers) (bodies : Bodies) → IsBehind tree lists functions k n
     → slice_get tree.functions k ≡ Some f → FitsFunction tree n f (Some bodies) → new ≡ functions ++ bodies.bodies ∷ []
-    → grown ≡ lists ++ bodies.lists.items → m ≡ behind_function n f
+    → grown ≡ lists ++ bodies.lists → m ≡ behind_function n f
     → IsBehind tree grown new (k + 1) m
 one_more tree lists grown functions new k f n m bodies h at fits added joined behind =
-    let more = bodies.lists.items in
+    let more = bodies.lists in
     let there : slice_get tree.functions (length functions) ≡ Some f =
     subst (λ i. slice_get tree.functions i ≡ Some f) (sym h.count) at in
     let here : n ≡ behind_functions first_numbers (take (length functions) tree.functions) =
@@ -237,3 +247,28 @@ one_more tree lists grown functions new k f n m bodies h at fits added joined be
           (subst (λ all. AreListsOf all (lists ++ more)) sites
           (listed_on (bodies_from first_numbers (take k tree.functions)) (function_bodies n f) lists more h.listed fits.1));
     }
+
+-- ---- as functions add them
+
+-- before the first function
+pub none_yet : (tree : ResolvedTree) (lowered : Lowered) (n : Numbers) → lowered.functions ≡ []
+    → lowered.lists ≡ [] → n ≡ first_numbers → IsBehind tree lowered.lists lowered.functions 0 n
+none_yet tree lowered n no_functions no_lists first =
+    subst (λ lists. IsBehind tree lists lowered.functions 0 n) (sym no_lists)
+    (subst (λ functions. IsBehind tree [] functions 0 n) (sym no_functions)
+    (record { made = tt; count = refl; numbers = first; listed = refl }))
+
+pub stopped_at : (tree : ResolvedTree) (old new : Lowered) (k : ℕ) (f : ResolvedFunctionTree) (n : Numbers)
+    → IsBehind tree old.lists old.functions k n → slice_get tree.functions k ≡ Some f
+    → AddsFunction tree n f old new false → IsGathered tree new.lists n.picks new.functions false
+stopped_at tree old new k f n h at adds =
+    subst (λ lists. IsGathered tree lists n.picks new.functions false) (sym adds.2)
+    (subst (λ functions. IsGathered tree old.lists n.picks functions false) (sym adds.1)
+    (stopped tree old.lists old.functions k f n h at adds.0))
+
+pub function_added : (tree : ResolvedTree) (old new : Lowered) (k : ℕ) (f : ResolvedFunctionTree) (n m : Numbers)
+    → IsBehind tree old.lists old.functions k n → slice_get tree.functions k ≡ Some f
+    → AddsFunction tree n f old new true → m ≡ behind_function n f
+    → IsBehind tree new.lists new.functions (k + 1) m
+function_added tree old new k f n m h at adds behind =
+    one_more tree old.lists new.lists old.functions new.functions k f n m adds.0 h at adds.1 adds.2 adds.3 behind

@@ -1,5 +1,5 @@
 -- The limits on bodies, and which functions pass them.
-use Rattle.std.specs.Prelude.{◌≡◌, ◌<◌, ◌≤◌, ℕ, List, ◌∷◌, ◌++◌, All, Any, length, map, sum}
+use Rattle.std.specs.Prelude.{◌≡◌, ◌<◌, ◌≤◌, ℕ, Bool, true, false, List, ◌∷◌, ◌++◌, All, Any, length, map, sum}
 use Rattle.om_code.specs.declared.raw.Line.{Line}
 use Rattle.om_code.specs.declared.raw.Slot.{Slot}
 use Rattle.om_code.specs.declared.raw.Source.{Source}
@@ -35,6 +35,10 @@ HasFewSlots b = length (variables_of b) ≤ 256
 
 abbrev pub HasManySlots : BodySite → Type 0
 HasManySlots b = 256 < length (variables_of b)
+
+abbrev pub HasSlots : (few : Bool) → BodySite → Type 0
+HasSlots true b = HasFewSlots b
+HasSlots false b = HasManySlots b
 
 -- at most 256 slots, and 4,096 cells of its own
 pub record HasRoom (b : BodySite) : Type 0 where

@@ -1,5 +1,5 @@
 -- Bodies that were made, before all of their program is.
-use Rattle.std.specs.Prelude.{◌≡◌, ◌≤◌, ◌<◌, ◌⊎◌, ℕ, List, [], ◌∷◌, Option, None, Some, Bool, true, false, All, Any, length, map, slice_get, take}
+use Rattle.std.specs.Prelude.{◌≡◌, ◌≤◌, ◌<◌, ◌⊎◌, ℕ, List, [], ◌∷◌, ◌++◌, Option, None, Some, Bool, true, false, All, Any, length, map, slice_get, take}
 use Rattle.std.specs.List.{AllZip, flat_map}
 use Rattle.om_bodies.specs.declared.emitted.Emitted.{Emitted}
 use Rattle.om_code.specs.declared.raw.Body.{Body}
@@ -8,6 +8,7 @@ use Rattle.om_emit.specs.declared.draft.PickList.{PickList}
 use Rattle.om_emit.specs.Settled.{ListsStand, number_of}
 use Rattle.om_lower.specs.declared.bodies.Bodies.{Bodies}
 use Rattle.om_lower.specs.declared.bodies.LoweredBody.{LoweredBody}
+use Rattle.om_lower.specs.declared.functions.Lowered.{Lowered}
 use Rattle.om_lower.specs.Heights.{AreLow, IsFirst}
 use Rattle.om_lower.specs.Limits.{HasRoom, IsCodeAt, IsOver}
 use Rattle.om_picks.specs.Once.{site_picks}
@@ -49,14 +50,27 @@ abbrev pub FitsBody : ResolvedTree → BodySite → Option LoweredBody → Type 
 FitsBody tree b None = IsOver tree b
 FitsBody tree b (Some made) = IsMade tree made.lists.items b made.body × (map number_of made.lists.items ≡ site_picks b)
 
+-- a body that is put behind others, unless it passes a limit
+abbrev pub AddsBody : ResolvedTree → BodySite → Bodies → Bodies → (fits : Bool) → Type 0
+AddsBody tree b old new false = IsOver tree b
+AddsBody tree b old new true = (body : LoweredBody) × FitsBody tree b (Some body)
+    × (new.bodies ≡ old.bodies ++ body.body ∷ []) × (new.lists ≡ old.lists ++ body.lists.items)
+
 -- bodies, if none passes a limit
 abbrev pub FitsBodies : ResolvedTree → List BodySite → Option Bodies → Type 0
 FitsBodies tree sites None = Any (λ b. IsOver tree b) sites
-FitsBodies tree sites (Some made) = AreMade tree made.lists.items sites made.bodies × AreListsOf sites made.lists.items
+FitsBodies tree sites (Some made) = AreMade tree made.lists sites made.bodies × AreListsOf sites made.lists
 
 -- those of a function
 abbrev pub FitsFunction : ResolvedTree → Numbers → ResolvedFunctionTree → Option Bodies → Type 0
 FitsFunction tree n f made = FitsBodies tree (function_bodies n f) made
+
+-- those of a function that are put behind others, unless one passes a limit
+abbrev pub AddsFunction : ResolvedTree → Numbers → ResolvedFunctionTree → Lowered → Lowered → (fits : Bool) → Type 0
+AddsFunction tree n f old new false = FitsFunction tree n f None
+    × (new.functions ≡ old.functions) × (new.lists ≡ old.lists)
+AddsFunction tree n f old new true = (bodies : Bodies) × FitsFunction tree n f (Some bodies)
+    × (new.functions ≡ old.functions ++ bodies.bodies ∷ []) × (new.lists ≡ old.lists ++ bodies.lists)
 
 -- the first function without bodies passes a limit
 pub record Stops (tree : ResolvedTree) (functions : List (List Body)) : Type 0 where

@@ -1,10 +1,10 @@
 //! The bodies of a function, each within its limits.
 
-ghost use Rattle.std.specs.Prelude.{◌≡◌, ◌≤◌, All, Any, IfOk, false, length, map, true};
+ghost use Rattle.std.specs.Prelude.{◌≡◌, ◌≤◌, ◌∷◌, ◌++◌, [], All, Any, IfOk, OnOk, Some, false, length, map, true};
 ghost use Rattle.om_bodies.specs.Emitted.{HasLists, HasRow};
 ghost use Rattle.om_lower.specs.Frames.{FitsFrame};
-ghost use Rattle.om_lower.specs.Limits.{HasFewSlots, HasManySlots};
-ghost use Rattle.om_lower.specs.Made.{FitsBodies, FitsBody, FitsCode};
+ghost use Rattle.om_lower.specs.Limits.{HasFewSlots, HasManySlots, HasSlots};
+ghost use Rattle.om_lower.specs.Made.{AddsBody, FitsBodies, FitsBody, FitsCode};
 ghost use Rattle.om_lower.specs.Sites.{IsReady, part_tree, site_of, variables_at};
 ghost use Rattle.om_resolved.specs.ResolvedView.{view_resolved, view_resolved_clause, view_resolved_function, view_resolved_statement};
 ghost use Rattle.om_rows.specs.Bodies.{region_variables, variables_of};
@@ -38,19 +38,26 @@ pub(crate) fn have_few_slots(alloc: Global, sites: &[Site<'_>]) -> Result<bool, 
         few ≡ false → Any HasManySlots (map site_of sites.now)) }
 {
     for site in sites {
-        let variables = variables_in(alloc, site.function, &site.part)?;
-        if variables.len() > SLOT_LIMIT {
+        if !has_few_slots(alloc, site)? {
             return Ok(false);
         }
     }
     Ok(true)
 }
 
+/// Whether a body has at most 256 slots.
+fn has_few_slots(alloc: Global, site: &Site<'_>) -> Result<bool, AllocError>
+    ensures { IfOk result (λ few. HasSlots few (site_of site.now)) }
+{
+    let variables = variables_in(alloc, site.function, &site.part)?;
+    Ok(variables.len() <= SLOT_LIMIT)
+}
+
 /// Bodies, and the lists of the PICKs in them.
 #[derive(Drop)]
 pub(crate) struct Bodies {
     pub(crate) bodies: Seq<Body>,
-    pub(crate) lists: Vec<PickList>,
+    pub(crate) lists: Seq<PickList>,
 }
 
 /// A body, and the lists of the PICKs in it.
@@ -71,19 +78,47 @@ pub(crate) fn lower_bodies(
     ensures { let tree = view_resolved whole.now.resolved.now in
         IfOk result (λ made. FitsBodies tree (map site_of sites.now) made) }
 {
-    let mut bodies = Vec::new(whole.alloc);
-    let mut lists = Vec::new(whole.alloc);
+    let mut made = Bodies {
+        bodies: Seq::new(whole.alloc),
+        lists: Seq::new(whole.alloc),
+    };
     for site in sites {
-        let Some(mut lowered) = lower_body(whole, extents, site)? else {
+        if !add_body(&mut made, whole, extents, site)? {
             return Ok(None);
-        };
-        lists.append(&mut lowered.lists)?;
-        bodies.push(lowered.body)?;
+        }
     }
-    Ok(Some(Bodies {
-        bodies: Seq::of(bodies),
-        lists,
-    }))
+    Ok(Some(made))
+}
+
+/// Adds a body; false where it passes a limit on cells or instructions.
+fn add_body(
+    made: &mut Bodies,
+    whole: &Whole<'_>,
+    extents: &Extents,
+    site: &Site<'_>,
+) -> Result<bool, AllocError>
+    requires tables { IsTablesOf (view_resolved whole.now.resolved.now) whole.now.tables.now }
+    requires ready { IsReady extents.now (site_of site.now) }
+    ensures { let tree = view_resolved whole.now.resolved.now in
+        IfOk result (λ fits. AddsBody tree (site_of site.now) made.old made.new fits) }
+{
+    match lower_body(whole, extents, site)? {
+        None => Ok(false),
+        Some(body) => {
+            put_body(made, body)?;
+            Ok(true)
+        }
+    }
+}
+
+/// Puts a body and its lists behind those that are there.
+fn put_body(made: &mut Bodies, lowered: LoweredBody) -> Result<(), AllocError>
+    ensures bodies { OnOk result (made.new.bodies ≡ made.old.bodies ++ lowered.body ∷ []) }
+    ensures lists { OnOk result (made.new.lists ≡ made.old.lists ++ lowered.lists.items) }
+{
+    let LoweredBody { body, lists } = lowered;
+    made.lists.append(Seq::of(lists))?;
+    made.bodies.push(body)
 }
 
 /// A body; `None` where it passes a limit on cells or instructions.
@@ -98,18 +133,61 @@ fn lower_body(
         IfOk result (λ made. FitsBody tree (site_of site.now) made) }
 {
     let variables = variables_in(whole.alloc, site.function, &site.part)?;
-    let Some(slots) = frame_in(whole.alloc, extents, site, &variables)? else {
-        return Ok(None);
-    };
-    let Some(emitted) = code_in(whole, site, &variables)? else {
-        return Ok(None);
-    };
-    let given = given_in(whole.alloc, site, &variables)?;
+    body_with(whole, extents, site, &variables)
+}
+
+/// The same, where its variables are known.
+fn body_with(
+    whole: &Whole<'_>,
+    extents: &Extents,
+    site: &Site<'_>,
+    variables: &Variables,
+) -> Result<Option<LoweredBody>, AllocError>
+    requires tables { IsTablesOf (view_resolved whole.now.resolved.now) whole.now.tables.now }
+    requires ready { IsReady extents.now (site_of site.now) }
+    requires variables { variables.now ≡ variables_of (site_of site.now) }
+    ensures { let tree = view_resolved whole.now.resolved.now in
+        IfOk result (λ made. FitsBody tree (site_of site.now) made) }
+{
+    match frame_in(whole.alloc, extents, site, variables)? {
+        None => Ok(None),
+        Some(slots) => body_on(whole, site, variables, slots),
+    }
+}
+
+/// The same, where its slots are made.
+fn body_on(
+    whole: &Whole<'_>,
+    site: &Site<'_>,
+    variables: &Variables,
+    slots: Seq<Slot>,
+) -> Result<Option<LoweredBody>, AllocError>
+    requires tables { IsTablesOf (view_resolved whole.now.resolved.now) whole.now.tables.now }
+    requires code { BodyHasCode (site_of site.now).function (site_of site.now).tree }
+    requires slots { FitsFrame (variables_of (site_of site.now)) (slots_of (site_of site.now)) (Some slots) }
+    requires variables { variables.now ≡ variables_of (site_of site.now) }
+    ensures { let tree = view_resolved whole.now.resolved.now in
+        IfOk result (λ made. FitsBody tree (site_of site.now) made) }
+{
+    match code_in(whole, site, variables)? {
+        None => Ok(None),
+        Some(emitted) => {
+            let given = given_in(whole.alloc, site, variables)?;
+            Ok(Some(body_of(slots, given, emitted)))
+        }
+    }
+}
+
+/// A body of these parts.
+fn body_of(slots: Seq<Slot>, given: Seq<u32>, emitted: Emitted) -> LoweredBody
+    ensures body { result.body ≡ record { code = emitted.code; slots = slots; given = given } }
+    ensures lists { result.lists ≡ emitted.lists }
+{
     let Emitted { code, lists } = emitted;
-    Ok(Some(LoweredBody {
+    LoweredBody {
         body: Body { code, slots, given },
         lists,
-    }))
+    }
 }
 
 /// The variables of a body, by their slots.
@@ -162,8 +240,7 @@ fn frame_in(
         IfOk result (λ frame. FitsFrame (variables_of b) (slots_of b) frame) }
 {
     let outer = variables_round(alloc, site)?;
-    let frame = frame_of(alloc, extents, &outer, captures_in(&site.part), variables)?;
-    Ok(frame)
+    frame_of(alloc, extents, &outer, captures_in(&site.part), variables)
 }
 
 /// The code of a body; `None` where it has too many instructions.

@@ -1,7 +1,8 @@
 //! The bodies of functions, each within its limits.
 
-ghost use Rattle.std.specs.Prelude.{◌≡◌, All, IfOk, None};
-ghost use Rattle.om_lower.specs.Made.{FitsFunction, IsGathered};
+ghost use Rattle.std.specs.Prelude.{◌≡◌, ◌∷◌, ◌++◌, [], All, IfOk, OnOk, map};
+ghost use Rattle.om_lower.specs.Made.{AddsFunction, FitsFunction, IsGathered};
+ghost use Rattle.om_lower.specs.Sites.{site_of};
 ghost use Rattle.om_resolved.specs.ResolvedView.{view_resolved, view_resolved_function};
 ghost use Rattle.om_resolved.specs.Uses.{is_main_function};
 ghost use Rattle.om_rows.specs.Bodies.{function_bodies};
@@ -10,7 +11,7 @@ ghost use Rattle.om_tables.specs.Numbering.{numbers_of};
 ghost use Rattle.om_tables.specs.Tables.{IsTablesOf};
 
 use crate::bodies::{Bodies, have_few_slots, lower_bodies};
-use crate::sites::sites_of;
+use crate::sites::{Site, sites_of};
 use om_code::raw::Body;
 use om_emit::draft::PickList;
 use om_resolved::{Resolved, ResolvedFunction};
@@ -32,9 +33,9 @@ pub(crate) struct Whole<'a> {
 /// The bodies of functions, function by function, up to the first function that passes a limit.
 #[derive(Drop)]
 pub(crate) struct Lowered {
-    pub(crate) functions: Vec<Seq<Body>>,
+    pub(crate) functions: Seq<Seq<Body>>,
     /// The lists of the PICKs in them.
-    pub(crate) lists: Vec<PickList>,
+    pub(crate) lists: Seq<PickList>,
     /// How many lists those functions have.
     pub(crate) count: u32,
     /// Whether no function passes a limit on slots, cells or instructions.
@@ -45,7 +46,7 @@ pub(crate) struct Lowered {
 /// the lists of all PICKs in them.
 #[derive(Drop)]
 pub(crate) struct Placed {
-    pub(crate) functions: Vec<Seq<Body>>,
+    pub(crate) functions: Seq<Seq<Body>>,
     /// The places of each list, by its number.
     pub(crate) picks: Seq<Seq<u32>>,
     /// Whether no function passes a limit on slots, cells or instructions.
@@ -58,30 +59,73 @@ pub(crate) fn lower_functions(whole: &Whole<'_>) -> Result<Lowered, AllocError>
     requires tables { IsTablesOf (view_resolved whole.now.resolved.now) whole.now.tables.now }
     requires has_code { TreeHasCode (view_resolved whole.now.resolved.now) }
     ensures { let tree = view_resolved whole.now.resolved.now in
-        IfOk result (λ made. IsGathered tree made.lists.items made.count made.functions.items made.is_whole) }
+        IfOk result (λ made. IsGathered tree made.lists made.count made.functions made.is_whole) }
 {
-    let mut functions = Vec::new(whole.alloc);
-    let mut lists = Vec::new(whole.alloc);
+    let mut lowered = Lowered {
+        functions: Seq::new(whole.alloc),
+        lists: Seq::new(whole.alloc),
+        count: 0,
+        is_whole: true,
+    };
+    add_functions(&mut lowered, whole)?;
+    Ok(lowered)
+}
+
+/// Adds the bodies of all functions, or of those before the first that passes a limit.
+fn add_functions(lowered: &mut Lowered, whole: &Whole<'_>) -> Result<(), AllocError>
+    requires tables { IsTablesOf (view_resolved whole.now.resolved.now) whole.now.tables.now }
+    requires has_code { TreeHasCode (view_resolved whole.now.resolved.now) }
+    requires functions { lowered.old.functions ≡ [] }
+    requires lists { lowered.old.lists ≡ [] }
+    ensures { let tree = view_resolved whole.now.resolved.now in
+        OnOk result (IsGathered tree lowered.new.lists lowered.new.count lowered.new.functions lowered.new.is_whole) }
+{
     let mut numbers = Numbers::first();
     for function in whole.resolved.functions.as_slice() {
-        let Some(mut lowered) = lower_function(whole, function, numbers)? else {
-            return Ok(Lowered {
-                functions,
-                lists,
-                count: numbers.picks,
-                is_whole: false,
-            });
-        };
-        lists.append(&mut lowered.lists)?;
-        functions.push(lowered.bodies)?;
+        if !add_function(lowered, whole, function, numbers)? {
+            lowered.count = numbers.picks;
+            lowered.is_whole = false;
+            return Ok(());
+        }
         numbers = behind_function(numbers, function)?;
     }
-    Ok(Lowered {
-        functions,
-        lists,
-        count: numbers.picks,
-        is_whole: true,
-    })
+    lowered.count = numbers.picks;
+    lowered.is_whole = true;
+    Ok(())
+}
+
+/// Adds the bodies of a function; false where one passes a limit on slots, cells or instructions.
+fn add_function(
+    lowered: &mut Lowered,
+    whole: &Whole<'_>,
+    function: &ResolvedFunction,
+    numbers: Numbers,
+) -> Result<bool, AllocError>
+    requires tables { IsTablesOf (view_resolved whole.now.resolved.now) whole.now.tables.now }
+    requires has_code { let f = view_resolved_function function.now in
+        All (λ b. BodyHasCode b.function b.tree) (function_bodies (numbers_of numbers) f) }
+    ensures { let tree = view_resolved whole.now.resolved.now in
+        let f = view_resolved_function function.now in
+        IfOk result (λ fits. AddsFunction tree (numbers_of numbers) f lowered.old lowered.new fits) }
+{
+    match lower_function(whole, function, numbers)? {
+        None => Ok(false),
+        Some(bodies) => {
+            put_function(lowered, bodies)?;
+            Ok(true)
+        }
+    }
+}
+
+/// Puts the bodies of a function and their lists behind those that are there.
+fn put_function(lowered: &mut Lowered, bodies: Bodies) -> Result<(), AllocError>
+    ensures functions { OnOk result (
+        lowered.new.functions ≡ lowered.old.functions ++ bodies.bodies ∷ []) }
+    ensures lists { OnOk result (lowered.new.lists ≡ lowered.old.lists ++ bodies.lists) }
+{
+    let Bodies { bodies, lists } = bodies;
+    lowered.lists.append(lists)?;
+    lowered.functions.push(bodies)
 }
 
 /// The bodies of a function; `None` where one passes a limit on slots, cells or instructions.
@@ -98,12 +142,30 @@ fn lower_function(
         FitsFunction (view_resolved whole.now.resolved.now) (numbers_of numbers) tree made) }
 {
     let sites = sites_of(whole.alloc, function, numbers)?;
-    if !have_few_slots(whole.alloc, sites.as_slice())? {
+    lower_sites(whole, function, numbers, sites.as_slice())
+}
+
+/// The same, where the function's bodies are found.
+fn lower_sites(
+    whole: &Whole<'_>,
+    function: &ResolvedFunction,
+    numbers: Numbers,
+    sites: &[Site<'_>],
+) -> Result<Option<Bodies>, AllocError>
+    requires tables { IsTablesOf (view_resolved whole.now.resolved.now) whole.now.tables.now }
+    requires sites { let f = view_resolved_function function.now in
+        map site_of sites.now ≡ function_bodies (numbers_of numbers) f }
+    requires has_code { let f = view_resolved_function function.now in
+        All (λ b. BodyHasCode b.function b.tree) (function_bodies (numbers_of numbers) f) }
+    ensures { let tree = view_resolved_function function.now in
+        IfOk result (λ made.
+        FitsFunction (view_resolved whole.now.resolved.now) (numbers_of numbers) tree made) }
+{
+    if !have_few_slots(whole.alloc, sites)? {
         return Ok(None);
     }
     let extents = extents_of(whole.alloc, function)?;
-    let bodies = lower_bodies(whole, &extents, sites.as_slice())?;
-    Ok(bodies)
+    lower_bodies(whole, &extents, sites)
 }
 
 /// Whether a function is `main`.

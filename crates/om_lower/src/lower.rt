@@ -1,6 +1,6 @@
 //! From a resolved tree to its code.
 
-ghost use Rattle.std.specs.Prelude.{◌≡◌, ◌≢◌, ◌<◌, [], All, IfErr, IfOk, IfSome, OnOk, None, Some, length};
+ghost use Rattle.std.specs.Prelude.{◌≡◌, ◌≢◌, ◌<◌, IfErr, IfOk, IfSome, OnOk, None, length};
 ghost use Rattle.om_lexer.specs.Faults.{no_memory};
 ghost use Rattle.om_lower.specs.Heights.{AreLevel};
 ghost use Rattle.om_lower.specs.Limits.{AreWithin, IsTooMany};
@@ -56,17 +56,45 @@ fn lower_tree(alloc: Global, resolved: &Resolved) -> Result<Program, SourceFault
         IfErr result (λ fault. fault ≢ no_memory → IsTooMany tree fault) }
 {
     let tables = tables_of(alloc, resolved)?;
-    let whole = Whole {
+    lower_whole(&Whole {
         alloc,
         resolved,
         tables: &tables,
-    };
-    let placed = placed_functions(&whole)?;
-    if let Some(index) = over_at(&whole, &placed)? {
-        return Err(too_many(&resolved.functions.as_slice()[index]));
-    }
-    let program = program_of(&whole, placed)?;
-    Ok(program)
+    })
+}
+
+/// The same, where its tables are made.
+fn lower_whole(whole: &Whole<'_>) -> Result<Program, SourceFault>
+    requires tables { IsTablesOf (view_resolved whole.now.resolved.now) whole.now.tables.now }
+    requires whole { IsWholeTree (view_resolved whole.now.resolved.now) }
+    requires has_code { TreeHasCode (view_resolved whole.now.resolved.now) }
+    requires copies { TreeCopiesBehind (view_resolved whole.now.resolved.now) }
+    ensures code { let tree = view_resolved whole.now.resolved.now in
+        IfOk result (λ program. IsCodeOf tree program) }
+    ensures within { OnOk result (AreWithin (view_resolved whole.now.resolved.now)) }
+    ensures refused { let tree = view_resolved whole.now.resolved.now in
+        IfErr result (λ fault. fault ≢ no_memory → IsTooMany tree fault) }
+{
+    let placed = placed_functions(whole)?;
+    program_within(whole, placed)
+}
+
+/// The same, where the bodies of its functions are made.
+fn program_within(whole: &Whole<'_>, placed: Placed) -> Result<Program, SourceFault>
+    requires tables { IsTablesOf (view_resolved whole.now.resolved.now) whole.now.tables.now }
+    requires whole { IsWholeTree (view_resolved whole.now.resolved.now) }
+    requires has_code { TreeHasCode (view_resolved whole.now.resolved.now) }
+    requires copies { TreeCopiesBehind (view_resolved whole.now.resolved.now) }
+    requires lowered { let tree = view_resolved whole.now.resolved.now in
+        IsLowered tree placed.picks placed.functions placed.is_whole }
+    ensures code { let tree = view_resolved whole.now.resolved.now in
+        IfOk result (λ program. IsCodeOf tree program) }
+    ensures within { OnOk result (AreWithin (view_resolved whole.now.resolved.now)) }
+    ensures refused { let tree = view_resolved whole.now.resolved.now in
+        IfErr result (λ fault. fault ≢ no_memory → IsTooMany tree fault) }
+{
+    within_limits(whole, &placed)?;
+    program_of(whole, placed)
 }
 
 /// The bodies of functions, with the lists of all PICKs in them at their numbers.
@@ -74,7 +102,7 @@ fn placed_functions(whole: &Whole<'_>) -> Result<Placed, AllocError>
     requires tables { IsTablesOf (view_resolved whole.now.resolved.now) whole.now.tables.now }
     requires has_code { TreeHasCode (view_resolved whole.now.resolved.now) }
     ensures { let tree = view_resolved whole.now.resolved.now in
-        IfOk result (λ placed. IsLowered tree placed.picks placed.functions.items placed.is_whole) }
+        IfOk result (λ placed. IsLowered tree placed.picks placed.functions placed.is_whole) }
 {
     each_once();
     let lowered = lower_functions(whole)?;
@@ -84,7 +112,7 @@ fn placed_functions(whole: &Whole<'_>) -> Result<Placed, AllocError>
         count,
         is_whole,
     } = lowered;
-    let picks = joined(whole.alloc, count, lists)?;
+    let picks = joined(whole.alloc, count, lists.into_vec())?;
     Ok(Placed {
         functions,
         picks,
@@ -92,11 +120,25 @@ fn placed_functions(whole: &Whole<'_>) -> Result<Placed, AllocError>
     })
 }
 
+/// S11 at the name of the first function that passes a limit, if one does.
+fn within_limits(whole: &Whole<'_>, placed: &Placed) -> Result<(), SourceFault>
+    requires lowered { let tree = view_resolved whole.now.resolved.now in
+        IsLowered tree placed.now.picks placed.now.functions placed.now.is_whole }
+    ensures low { OnOk result (IsOverAt placed.now.picks placed.now.functions placed.now.is_whole None) }
+    ensures refused { let tree = view_resolved whole.now.resolved.now in
+        IfErr result (λ fault. fault ≢ no_memory → IsTooMany tree fault) }
+{
+    match over_at(whole, placed)? {
+        None => Ok(()),
+        Some(index) => Err(too_many(&whole.resolved.functions.as_slice()[index])),
+    }
+}
+
 /// The first function that passes a limit, if one does.
 fn over_at(whole: &Whole<'_>, placed: &Placed) -> Result<Option<usize>, AllocError>
     requires { let tree = view_resolved whole.now.resolved.now in
-        IsLowered tree placed.now.picks placed.now.functions.items placed.now.is_whole }
-    ensures over { IfOk result (λ index. IsOverAt placed.now.picks placed.now.functions.items placed.now.is_whole index) }
+        IsLowered tree placed.now.picks placed.now.functions placed.now.is_whole }
+    ensures over { IfOk result (λ index. IsOverAt placed.now.picks placed.now.functions placed.now.is_whole index) }
     ensures within { let count = length whole.now.resolved.now.functions.items in
         IfOk result (λ index. IfSome index (λ index. index < count)) }
 {

@@ -1,7 +1,8 @@
 //! The program of a tree whose functions are lowered.
 
-ghost use Rattle.std.specs.Prelude.{◌≡◌, ◌≤◌, ◌<◌, [], All, Any, IfOk, IfSome, IsSome, None, Some, length, map, option_map, position, slice_get, true};
+ghost use Rattle.std.specs.Prelude.{◌≡◌, ◌<◌, All, Any, IfErr, IfOk, IfSome, IsSome, None, Some, length, map, option_map, position, slice_get, true};
 ghost use Rattle.std.specs.List.{AllZip, flat_map};
+ghost use Rattle.om_lexer.specs.Faults.{no_memory};
 ghost use Rattle.om_lower.specs.Heights.{AreLow};
 ghost use Rattle.om_lower.specs.Made.{IsLowered};
 ghost use Rattle.om_resolved.specs.Beside.{TreeCopiesBehind};
@@ -19,6 +20,7 @@ use crate::functions::{Placed, Whole, is_main};
 use crate::texts::text_of;
 use om_code::program::Program;
 use om_code::raw::{self, Body, Piece, Raw};
+use om_lexer::SourceFault;
 use om_resolved::{GlobalVariable, Resolved, ResolvedFunction};
 use om_rows::laws::code_is_valid;
 use om_seq::Seq;
@@ -26,14 +28,17 @@ use om_tables::{Scope, Texts, Variables};
 use std::alloc::{AllocError, Global};
 
 /// The program of a tree, whose functions have these bodies.
-pub(crate) fn program_of(whole: &Whole<'_>, placed: Placed) -> Result<Program, AllocError>
+///
+/// Its only refusal is out of memory.
+pub(crate) fn program_of(whole: &Whole<'_>, placed: Placed) -> Result<Program, SourceFault>
     requires tables { IsTablesOf (view_resolved whole.now.resolved.now) whole.now.tables.now }
     requires whole { IsWholeTree (view_resolved whole.now.resolved.now) }
     requires has_code { TreeHasCode (view_resolved whole.now.resolved.now) }
     requires copies { TreeCopiesBehind (view_resolved whole.now.resolved.now) }
-    requires lowered { IsLowered (view_resolved whole.now.resolved.now) placed.picks placed.functions.items true }
-    requires low { All (λ bodies. AreLow placed.picks bodies) placed.functions.items }
-    ensures { IfOk result (λ program. IsCodeOf (view_resolved whole.now.resolved.now) program) }
+    requires lowered { IsLowered (view_resolved whole.now.resolved.now) placed.picks placed.functions true }
+    requires low { All (λ bodies. AreLow placed.picks bodies) placed.functions }
+    ensures code { IfOk result (λ program. IsCodeOf (view_resolved whole.now.resolved.now) program) }
+    ensures refused { IfErr result (λ fault. fault ≡ no_memory) }
 {
     code_is_valid();
     let raw = raw_of(whole, placed)?;
@@ -44,9 +49,9 @@ pub(crate) fn program_of(whole: &Whole<'_>, placed: Placed) -> Result<Program, A
 fn raw_of(whole: &Whole<'_>, placed: Placed) -> Result<Raw, AllocError>
     requires tables { IsTablesOf (view_resolved whole.now.resolved.now) whole.now.tables.now }
     requires has_code { TreeHasCode (view_resolved whole.now.resolved.now) }
-    requires lowered { IsLowered (view_resolved whole.now.resolved.now) placed.picks placed.functions.items true }
+    requires lowered { IsLowered (view_resolved whole.now.resolved.now) placed.picks placed.functions true }
     ensures code { IfOk result (λ raw. IsCodeOf (view_resolved whole.now.resolved.now) raw) }
-    ensures bodies { IfOk result (λ raw. raw.bodies ≡ flat_map (λ bodies. bodies) placed.functions.items) }
+    ensures bodies { IfOk result (λ raw. raw.bodies ≡ flat_map (λ bodies. bodies) placed.functions) }
     ensures picks { IfOk result (λ raw. raw.picks ≡ placed.picks) }
 {
     let alloc = whole.alloc;
@@ -71,10 +76,10 @@ fn raw_of(whole: &Whole<'_>, placed: Placed) -> Result<Raw, AllocError>
 }
 
 /// The bodies of functions, one behind the other.
-fn flattened(alloc: Global, functions: Vec<Seq<Body>>) -> Result<Seq<Body>, AllocError>
-    ensures { IfOk result (λ bodies. bodies ≡ flat_map (λ bodies. bodies) functions.items) }
+fn flattened(alloc: Global, functions: Seq<Seq<Body>>) -> Result<Seq<Body>, AllocError>
+    ensures { IfOk result (λ bodies. bodies ≡ flat_map (λ bodies. bodies) functions) }
 {
-    let mut functions = functions;
+    let mut functions = functions.into_vec();
     let mut all = Seq::new(alloc);
     while let Some(mut bodies) = functions.pop() {
         bodies.append(all)?;

@@ -1,18 +1,16 @@
-use Rattle.std.proofs.Common.{map}
-use Rattle.om_lower.specs.Limits.{HasFewSlots, HasManySlots}
+use Rattle.std.proofs.Common.{map, subst}
+use Rattle.om_lower.specs.Limits.{HasFewSlots, HasManySlots, HasSlots}
 use Rattle.om_lower.specs.Sites.{site_of}
-use Rattle.om_lower.proofs.Coding.{few_at, many_at}
 use Rattle.om_lower.proofs.Items.{all_next_at, all_seen, any_at, item_at}
 use Rattle.om_lower.proofs.bodies.have_few_slots.Goals as goal
 
-pub returns-then-len-gt-SLOT_LIMIT-clause-many : goal.returns-then-len-gt-SLOT_LIMIT-clause-many
-returns-then-len-gt-SLOT_LIMIT-clause-many c =
+pub returns-then-not-branch-clause-many : goal.returns-then-not-branch-clause-many
+returns-then-not-branch-clause-many c =
     let b = site_of c.site-item.result in
     λ same. any_at HasManySlots (map site_of c.args.sites.now) c.loop-site.site-index b
     (item_at site_of c.args.sites.now c.loop-site.site-index c.site-item.result c.loop-site-test.true
     c.site-item.is)
-    (many_at b c.len.result c.in_ok-variables.variables c.if-len-gt-SLOT_LIMIT.true c.len.ensures
-    c.in_ok-variables.ensures)
+    (subst (λ few. HasSlots few b) c.if-not-branch.true c.in_ok-has_few_slots.ensures)
 
 pub loop-site-preserved : goal.loop-site-preserved
 loop-site-preserved c =
@@ -21,8 +19,7 @@ loop-site-preserved c =
     (item_at site_of c.args.sites.now c.loop-site.site-index c.site-item.result c.loop-site-test.true
     c.site-item.is)
     c.loop-site.invariant
-    (few_at b c.len.result c.in_ok-variables.variables c.if-len-gt-SLOT_LIMIT.false c.len.ensures
-    c.in_ok-variables.ensures)
+    (subst (λ few. HasSlots few b) c.if-not-branch.false c.in_ok-has_few_slots.ensures)
 
 pub returns-clause-few : goal.returns-clause-few
 returns-clause-few c =

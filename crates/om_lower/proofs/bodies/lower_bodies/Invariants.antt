@@ -6,5 +6,5 @@ use Rattle.om_lower.proofs.bodies.lower_bodies.Given as goal
 
 abbrev pub invariant-loop-site : goal.invariant-loop-site
 invariant-loop-site l =
-    AreMade (view_resolved l.whole.resolved.now) l.lists.items (take l.site-index (map site_of l.sites)) l.bodies.items
-    × AreListsOf (take l.site-index (map site_of l.sites)) l.lists.items
+    AreMade (view_resolved l.whole.resolved.now) l.made.lists (take l.site-index (map site_of l.sites)) l.made.bodies
+    × AreListsOf (take l.site-index (map site_of l.sites)) l.made.lists

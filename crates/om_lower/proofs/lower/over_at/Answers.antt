@@ -9,6 +9,6 @@ pub first_high-requires : goal.first_high-requires
 first_high-requires c =
     let tree = view_resolved c.args.whole.now.resolved.now in
     subst (λ picks. All (λ bodies. AreLevel picks bodies) c.as_slice-functions.result.now) (sym c.as_slice.ensures)
-    (subst (λ lists. All (λ bodies. AreLevel c.args.placed.now.picks bodies) lists) (sym c.as_slice-functions.ensures.value)
+    (subst (λ lists. All (λ bodies. AreLevel c.args.placed.now.picks bodies) lists) (sym c.as_slice-functions.ensures)
     (level_functions c.body_is_level.ensures tree c.requires.lists c.args.placed.now.picks first_numbers tree.functions
-    c.args.placed.now.functions.items c.requires.stand c.requires.made))
+    c.args.placed.now.functions c.requires.stand c.requires.made))

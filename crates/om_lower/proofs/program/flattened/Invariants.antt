@@ -7,4 +7,4 @@ decreases-loop-bodies l = length l.functions.items
 
 abbrev pub invariant-loop-bodies : goal.invariant-loop-bodies
 invariant-loop-bodies l =
-    flat_map (λ bodies. bodies) l.functions.items ++ l.all ≡ flat_map (λ bodies. bodies) l.fn.functions.items
+    flat_map (λ bodies. bodies) l.functions.items ++ l.all ≡ flat_map (λ bodies. bodies) l.fn.functions

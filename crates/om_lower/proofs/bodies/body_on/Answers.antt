@@ -3,10 +3,10 @@ use Rattle.om_lower.specs.Made.{FitsCode}
 use Rattle.om_lower.specs.Sites.{site_of}
 use Rattle.om_resolved.specs.ResolvedView.{view_resolved}
 use Rattle.om_lower.proofs.Coding.{over_code}
-use Rattle.om_lower.proofs.bodies.lower_body.Goals as goal
+use Rattle.om_lower.proofs.bodies.body_on.Goals as goal
 
-pub returns-in_default-2 : goal.returns-in_default-2
-returns-in_default-2 c =
+pub returns-in-None : goal.returns-in-None
+returns-in-None c =
     let tree = view_resolved c.args.whole.now.resolved.now in
     let b = site_of c.args.site.now in
-    over_code tree b (subst (λ code. FitsCode tree b code) c.in_default-2.is c.in_ok-emitted.ensures)
+    over_code tree b (subst (λ code. FitsCode tree b code) c.in-None.is c.in_ok-code_in.ensures)
