@@ -47,14 +47,16 @@ same_both false v = refl
 -- ---- FIN
 
 module _ (program : Raw) (worker : ℕ) (stack : Stack) (before s : State) (f : Frame)
-    (shows : Shows program worker stack.top (Running (here program worker stack before s f)) (world_of f) s) (keeps : Keeps worker stack.top before s) where
+    (shows : Shows program worker stack.top (Running (here program worker stack before s f)) (world_of f) s)
+    (keeps : Keeps worker stack.top before s) where
   abbrev at : Stack
   at = here program worker stack before s f
 
   -- where no task of the team is unfinished
   ends : (v : ℤ) (e : Record)
       → To program worker stack before s
-      (Some (state_after (events worker) (event e) (state_after (read (obj.Pending stack.top.team.name stack.top.phase)) Keep
+      (Some (state_after (events worker) (event e)
+      (state_after (read (obj.Pending stack.top.team.name stack.top.phase)) Keep
       (state_after (control_access (next_of worker)) (Put (value.Control (Ended v))) s))))
       (Ended v) (world_of f)
   ends v e =
@@ -62,22 +64,33 @@ module _ (program : Raw) (worker : ℕ) (stack : Stack) (before s : State) (f : 
       let h = base.2 in (
         _,
         refl,
-        events_put program worker stack.top (Ended v) (event e) (world_of f) (state_after (read (obj.Pending stack.top.team.name stack.top.phase)) Keep base.0)
+        events_put program worker stack.top (Ended v) (event e) (world_of f)
+            (state_after (read (obj.Pending stack.top.team.name stack.top.phase)) Keep base.0)
             (record { control = h.control; slots = h.slots; globals = h.globals; output = h.output }),
-        keeps_on worker stack.top (events worker) (event e) before (state_after (read (obj.Pending stack.top.team.name stack.top.phase)) Keep base.0) (beside_events worker stack.top)
-            (λ q apart. same_both (obj_eq (obj.Pending stack.top.team.name stack.top.phase) q) (base.0 q) ∙ base.3 q apart),
+        keeps_on worker stack.top (events worker) (event e) before
+            (state_after (read (obj.Pending stack.top.team.name stack.top.phase)) Keep base.0)
+            (beside_events worker stack.top)
+            (λ q apart. same_both (obj_eq (obj.Pending stack.top.team.name stack.top.phase) q) (base.0 q)
+            ∙ base.3 q apart),
       )
 
   pub value_finishes : (v : ℤ)
-      → Leaves program worker stack before s (behind_asked program worker stack before s f (finished_row worker at.top stack.top.kind (Some v))) (frames.Finished v f)
+      → Leaves program worker stack before s
+      (behind_asked program worker stack before s f (finished_row worker at.top stack.top.kind (Some v)))
+      (frames.Finished v f)
   value_finishes v can =
-      subst (λ kind. To program worker stack before s (behind_asked program worker stack before s f (finished_row worker at.top kind (Some v))) (Ended v) (world_of f)) (sym can.initial)
-      (subst (λ n. To program worker stack before s (behind program worker stack before s f (read (obj.Pending stack.top.team.name stack.top.phase) ∷ events worker ∷ [])
+      subst (λ kind. To program worker stack before s
+      (behind_asked program worker stack before s f (finished_row worker at.top kind (Some v))) (Ended v)
+      (world_of f)) (sym can.initial)
+      (subst (λ n. To program worker stack before s
+      (behind program worker stack before s f
+      (read (obj.Pending stack.top.team.name stack.top.phase) ∷ events worker ∷ [])
       (finished at.top v (is_zero n))) (Ended v) (world_of f)) (sym can.none)
       (ends v (event_record.ImplicitTask endpoint.End [] stack.top.task 0 1 flag.Initial)))
 
   pub finish_leaves : (o : Option ℤ)
-      → Leaves program worker stack before s (behind_asked program worker stack before s f (finished_row worker at.top stack.top.kind o))
+      → Leaves program worker stack before s
+      (behind_asked program worker stack before s f (finished_row worker at.top stack.top.kind o))
       (acted program f (on_int o (λ a. decided (Finishes a))))
   finish_leaves None = tt
   finish_leaves (Some v) = value_finishes v
@@ -88,7 +101,8 @@ deaths_are : (names : List Access) → each (value.Cell cell.Dead) names ≡ dea
 deaths_are [] = refl
 deaths_are (a ∷ names) = ap (λ us. Put (value.Cell cell.Dead) ∷ us) (deaths_are names)
 
-all_behind : (P : Access → Type 0) (names bs : List Access) → AllByRecursion P names → AllByRecursion P bs → AllByRecursion P (names ++ bs)
+all_behind : (P : Access → Type 0) (names bs : List Access) → AllByRecursion P names → AllByRecursion P bs
+    → AllByRecursion P (names ++ bs)
 all_behind P [] bs h k = k
 all_behind P (a ∷ names) bs h k = (h.0, all_behind P names bs h.1 k)
 
@@ -106,37 +120,45 @@ module _ (program : Raw) (worker : ℕ) (c : Context) (owns : OwnsCells c) (v : 
   put_behind [] bs s = refl
   put_behind (a ∷ names) bs s = put_behind names bs (state_after a (Put v) s)
 
-  pub own_elsewhere : (number : ℕ) (slots : List Slot) (q : Obj) (s : State) → ((slot i : ℕ) → obj_eq (obj.Cell c.task c.frame.ordinal slot i) q ≡ false)
+  pub own_elsewhere : (number : ℕ) (slots : List Slot) (q : Obj) (s : State)
+      → ((slot i : ℕ) → obj_eq (obj.Cell c.task c.frame.ordinal slot i) q ≡ false)
       → put_all (own_from c number slots) s q ≡ s q
   own_elsewhere number [] q s apart = refl
   own_elsewhere number (slot ∷ slots) q s apart =
       ap (λ t. t q) (put_behind (own_part number slot) (own_from c (number + 1) slots) s)
       ∙ own_elsewhere (number + 1) slots q (put_all (own_part number slot) s) apart
-      ∙ subst (λ names. put_all names s q ≡ s q) (sym (part_is number slot)) (slot_elsewhere program worker c v q number 0 slot.cells s (apart number))
+      ∙ subst (λ names. put_all names s q ≡ s q) (sym (part_is number slot))
+      (slot_elsewhere program worker c v q number 0 slot.cells s (apart number))
 
   own_written : (number : ℕ) (slots : List Slot) → AllByRecursion (λ a. a.mode ≡ mode.Write) (own_from c number slots)
   own_written number [] = tt
   own_written number (slot ∷ slots) =
       all_behind (λ a. a.mode ≡ mode.Write) (own_part number slot) (own_from c (number + 1) slots)
-      (subst (AllByRecursion (λ a. a.mode ≡ mode.Write)) (sym (part_is number slot)) (all_written program worker c v number 0 slot.cells))
+      (subst (AllByRecursion (λ a. a.mode ≡ mode.Write)) (sym (part_is number slot))
+      (all_written program worker c v number 0 slot.cells))
       (own_written (number + 1) slots)
 
-  pub own_there : (number m n k : ℕ) (slots : List Slot) (s : State) → n ≡ number + m → k < unwrap_or (option_map (λ (slot : Slot). slot.cells) (slice_get slots m)) 0
+  pub own_there : (number m n k : ℕ) (slots : List Slot) (s : State) → n ≡ number + m
+      → k < unwrap_or (option_map (λ (slot : Slot). slot.cells) (slice_get slots m)) 0
       → put_all (own_from c number slots) s (obj.Cell c.task c.frame.ordinal n k) ≡ v
   own_there number m n k [] s e lt = absurd (omega (arith, lt))
   own_there number zero n k (slot ∷ slots) s e lt =
       let here : number ≡ n = omega (arith, e) in
-      ap (λ t. t (obj.Cell c.task c.frame.ordinal n k)) (put_behind (own_part number slot) (own_from c (number + 1) slots) s)
-      ∙ stays program worker c v (obj.Cell c.task c.frame.ordinal n k) (own_from c (number + 1) slots) (put_all (own_part number slot) s) (own_written (number + 1) slots)
+      ap (λ t. t (obj.Cell c.task c.frame.ordinal n k))
+      (put_behind (own_part number slot) (own_from c (number + 1) slots) s)
+      ∙ stays program worker c v (obj.Cell c.task c.frame.ordinal n k) (own_from c (number + 1) slots)
+      (put_all (own_part number slot) s) (own_written (number + 1) slots)
       (subst (λ m. put_all (own_part number slot) s (obj.Cell c.task c.frame.ordinal m k) ≡ v) here
       (subst (λ names. put_all names s (obj.Cell c.task c.frame.ordinal number k) ≡ v) (sym (part_is number slot))
       (slot_there program worker c v number 0 slot.cells k s (omega arith) (omega (arith, lt)))))
   own_there number (suc m) n k (slot ∷ slots) s e lt =
-      ap (λ t. t (obj.Cell c.task c.frame.ordinal n k)) (put_behind (own_part number slot) (own_from c (number + 1) slots) s)
+      ap (λ t. t (obj.Cell c.task c.frame.ordinal n k))
+      (put_behind (own_part number slot) (own_from c (number + 1) slots) s)
       ∙ own_there (number + 1) m n k slots (put_all (own_part number slot) s) (omega (arith, e)) lt
 
 module _ (program : Raw) (worker : ℕ) (stack : Stack) (before s : State) (f : Frame)
-    (shows : Shows program worker stack.top (Running (here program worker stack before s f)) (world_of f) s) (keeps : Keeps worker stack.top before s) (owns : OwnsCells stack.top) where
+    (shows : Shows program worker stack.top (Running (here program worker stack before s f)) (world_of f) s)
+    (keeps : Keeps worker stack.top before s) (owns : OwnsCells stack.top) where
   abbrev there : Stack
   there = here program worker stack before s f
 
@@ -145,7 +167,8 @@ module _ (program : Raw) (worker : ℕ) (stack : Stack) (before s : State) (f : 
 
   dies : (control : Control)
       → To program worker stack before s
-      (Some (updated (own_cells there.top slots) (deaths (own_cells there.top slots)) (state_after (control_access (next_of worker)) (Put (value.Control control)) s)))
+      (Some (updated (own_cells there.top slots) (deaths (own_cells there.top slots))
+      (state_after (control_access (next_of worker)) (Put (value.Control control)) s)))
       control (dead (world_of f))
   dies control =
       let base = to_control program worker stack before s f shows keeps control in
@@ -153,7 +176,8 @@ module _ (program : Raw) (worker : ℕ) (stack : Stack) (before s : State) (f : 
       let names : List Access = own_cells there.top slots in
       let v : Val = value.Cell cell.Dead in
       let elsewhere = own_elsewhere program worker there.top owns v 0 slots in
-      let by_each : updated names (deaths names) base.0 ≡ updated names (each v names) base.0 = ap (λ us. updated names us base.0) (sym (deaths_are names)) in (
+      let by_each : updated names (deaths names) base.0 ≡ updated names (each v names) base.0 = ap
+      (λ us. updated names us base.0) (sym (deaths_are names)) in (
         _,
         refl,
         subst (Shows program worker stack.top control (dead (world_of f))) (sym by_each)
@@ -163,22 +187,31 @@ module _ (program : Raw) (worker : ℕ) (stack : Stack) (before s : State) (f : 
               globals = λ n k. elsewhere (obj.Global n k) base.0 (λ slot i. refl) ∙ h.globals n k;
               output = elsewhere obj.Output base.0 (λ slot i. refl) ∙ h.output;
             }),
-        λ q apart. ap (λ t. t q) by_each ∙ elsewhere q base.0 (λ slot i. beside_cell worker stack.top slot i q apart) ∙ base.3 q apart,
+        λ q apart. ap (λ t. t q) by_each ∙ elsewhere q base.0 (λ slot i. beside_cell worker stack.top slot i q apart)
+            ∙ base.3 q apart,
       )
 
   pub value_returns : (v : Operand)
-      → Leaves program worker stack before s (behind_asked program worker stack before s f (return_row there.top slots stack.top.callers (Some v))) (frames.Returned v f)
+      → Leaves program worker stack before s
+      (behind_asked program worker stack before s f (return_row there.top slots stack.top.callers (Some v)))
+      (frames.Returned v f)
   value_returns v called =
       let given : value_given v stack.top.callers there.top ≡ value_given v stack.top.callers stack.top =
       ap (λ cs. value_given v cs there.top) called.waits ∙ sym (ap (λ cs. value_given v cs stack.top) called.waits) in
-      subst (λ (top : Context). To program worker stack before s (behind_asked program worker stack before s f (return_row there.top slots stack.top.callers (Some v)))
+      subst (λ (top : Context). To program worker stack before s
+      (behind_asked program worker stack before s f (return_row there.top slots stack.top.callers (Some v)))
       (Running (record stack { top = top })) (dead (world_of f))) given
-      (subst (λ (cs : List controls.Frame). To program worker stack before s (behind_asked program worker stack before s f (return_row there.top slots cs (Some v)))
-      (Running (record stack { top = value_given v stack.top.callers there.top })) (dead (world_of f))) (sym called.waits)
+      (subst (λ (cs : List controls.Frame).
+      To program worker stack before s
+      (behind_asked program worker stack before s f (return_row there.top slots cs (Some v)))
+      (Running (record stack { top = value_given v stack.top.callers there.top })) (dead (world_of f)))
+      (sym called.waits)
       (dies (Running (record stack { top = value_given v stack.top.callers there.top }))))
 
   pub return_leaves : (o : Option ℤ)
-      → Leaves program worker stack before s (behind_asked program worker stack before s f (return_row there.top slots stack.top.callers (option_map operand.Int o)))
+      → Leaves program worker stack before s
+      (behind_asked program worker stack before s f
+      (return_row there.top slots stack.top.callers (option_map operand.Int o)))
       (acted program f (on_int o (λ a. decided (Returns (operand.Int a)))))
   return_leaves None = tt
   return_leaves (Some v) = value_returns (operand.Int v)

@@ -36,59 +36,85 @@ module _ (program : Raw) (workers worker : ℕ) (stack : Stack) where
   next s = next_state (rules_of program workers) s (next_of worker)
 
   -- the step of a worker that runs a frame is that of the row of its instruction
-  next_is : (s : State) (f : Frame) → s (obj.Control worker) ≡ value.Control (Running (stack_at stack f.place f.operands))
+  next_is : (s : State) (f : Frame)
+      → s (obj.Control worker) ≡ value.Control (Running (stack_at stack f.place f.operands))
       → next s
-      ≡ behind_asked program worker stack s s f (next_row (site program workers worker (stack_at stack f.place f.operands)) (instruction_at program stack.top.frame.body f.place))
+      ≡ behind_asked program worker stack s s f
+      (next_row (site program workers worker (stack_at stack f.place f.operands))
+      (instruction_at program stack.top.frame.body f.place))
   unfolding step_at
   next_is s f e =
-      ap (λ (v : Val). state_after_outcome (control_access (next_of worker) ∷ further_in program workers (next_of worker) (control_in v))
-      (outcome_of program workers (next_of worker) (v ∷ values_read (further_in program workers (next_of worker) (control_in v)) s)) s) e
+      ap (λ (v : Val). state_after_outcome
+      (control_access (next_of worker) ∷ further_in program workers (next_of worker) (control_in v))
+      (outcome_of program workers (next_of worker)
+      (v ∷ values_read (further_in program workers (next_of worker) (control_in v)) s)) s) e
 
-  module _ (body : Body) (found : slice_get program.bodies stack.top.frame.body ≡ Some body) (known : IsKnown program body) (owns : OwnsCells stack.top) where
+  module _ (body : Body) (found : slice_get program.bodies stack.top.frame.body ≡ Some body)
+      (known : IsKnown program body) (owns : OwnsCells stack.top) where
     slots_are : slots_of program stack.top.frame.body ≡ body.slots
     slots_are = ap (λ (o : Option Body). unwrap_or (option_map (λ (b : Body). b.slots) o) []) found
 
-    instruction_is : (at : ℕ) → instruction_at program stack.top.frame.body at ≡ option_map (λ (l : Line). l.instruction) (slice_get body.code at)
-    instruction_is at = ap (λ (o : Option Body). option_map (λ (l : Line). l.instruction) (option_and_then (λ (b : Body). slice_get b.code at) o)) found
+    instruction_is : (at : ℕ) → instruction_at program stack.top.frame.body at ≡ option_map
+        (λ (l : Line). l.instruction) (slice_get body.code at)
+    instruction_is at = ap (λ (o : Option Body).
+        option_map (λ (l : Line). l.instruction) (option_and_then (λ (b : Body). slice_get b.code at) o)) found
 
-    at_line : (s : State) (f : Frame) → Shows program worker stack.top (Running (stack_at stack f.place f.operands)) (world_of f) s
+    at_line : (s : State) (f : Frame)
+        → Shows program worker stack.top (Running (stack_at stack f.place f.operands)) (world_of f) s
         → (o : Option Line) → slice_get body.code f.place ≡ o
         → Leaves program worker stack s s
-        (behind_asked program worker stack s s f (next_row (site program workers worker (stack_at stack f.place f.operands)) (option_map (λ (l : Line). l.instruction) o)))
+        (behind_asked program worker stack s s f
+        (next_row (site program workers worker (stack_at stack f.place f.operands))
+        (option_map (λ (l : Line). l.instruction) o)))
         (turn_at program body f o)
     at_line s f shows None e = tt
     at_line s f shows (Some line) e =
         subst (λ slots. Leaves program worker stack s s
-        (behind_asked program worker stack s s f (next_row (site program workers worker (stack_at stack f.place f.operands)) (Some line.instruction)))
+        (behind_asked program worker stack s s f
+        (next_row (site program workers worker (stack_at stack f.place f.operands)) (Some line.instruction)))
         (acted program f (act program slots line.instruction f.operands))) slots_are
         (instruction_leaves program workers worker stack s s f shows (λ q h. refl) owns
         (subst (All (λ (slot : Slot). 1 ≤ slot.cells)) (sym slots_are) known.cells) line.instruction
         (subst (λ slots. NamesKnown program slots line.instruction) (sym slots_are)
         (of_all (λ (l : Line). NamesKnown program body.slots l.instruction) body.code f.place line known.names e)))
 
-    pub step_leaves : (s : State) (f : Frame) → Shows program worker stack.top (Running (stack_at stack f.place f.operands)) (world_of f) s
+    pub step_leaves : (s : State) (f : Frame)
+        → Shows program worker stack.top (Running (stack_at stack f.place f.operands)) (world_of f) s
         → Leaves program worker stack s s (next s) (frame_turn program body f)
     step_leaves s f shows =
         subst (λ o. Leaves program worker stack s s o (frame_turn program body f))
         (sym (next_is s f shows.control
-        ∙ ap (λ o. behind_asked program worker stack s s f (next_row (site program workers worker (stack_at stack f.place f.operands)) o)) (instruction_is f.place)))
+        ∙ ap (λ o. behind_asked program worker stack s s f
+        (next_row (site program workers worker (stack_at stack f.place f.operands)) o)) (instruction_is f.place)))
         (at_line s f shows (slice_get body.code f.place) refl)
 
     -- ---- steps behind a step
 
     can_finish : (s t : State) → Keeps worker stack.top s t → CanFinish stack.top s → CanFinish stack.top t
-    can_finish s t keeps can = record { initial = can.initial; none = ap count_in (keeps (obj.Pending stack.top.team.name stack.top.phase) tt) ∙ can.none }
+    can_finish s t keeps can = record {
+      initial = can.initial;
+      none = ap count_in (keeps (obj.Pending stack.top.team.name stack.top.phase) tt)
+          ∙ can.none;
+    }
 
-    lead_on : (s t : State) (n : ℕ) (control : Control) (w : World) → next s ≡ Some t → Keeps worker stack.top s t → Leads program workers worker stack t n control w
+    lead_on : (s t : State) (n : ℕ) (control : Control) (w : World) → next s ≡ Some t → Keeps worker stack.top s t
+        → Leads program workers worker stack t n control w
         → Leads program workers worker stack s (suc n) control w
-    lead_on s t n control w e keeps l =
-        (l.0, ap (λ o. and_then o (λ u. replay_from (rules_of program workers) u (replicate n (next_of worker)))) e ∙ l.1, l.2, λ q h. l.3 q h ∙ keeps q h)
+    lead_on s t n control w e keeps l = (
+      l.0,
+      ap (λ o. and_then o (λ u. replay_from (rules_of program workers) u (replicate n (next_of worker)))) e
+          ∙ l.1,
+      l.2,
+      λ q h. l.3 q h ∙ keeps q h,
+    )
 
-    soon_on : (s t : State) (n : ℕ) (control : Control) (w : World) → next s ≡ Some t → Keeps worker stack.top s t → LeadsSoon program workers worker stack t n control w
+    soon_on : (s t : State) (n : ℕ) (control : Control) (w : World) → next s ≡ Some t → Keeps worker stack.top s t
+        → LeadsSoon program workers worker stack t n control w
         → LeadsSoon program workers worker stack s (suc n) control w
     soon_on s t n control w e keeps l = (suc l.0, omega (arith, l.1), lead_on s t l.0 control w e keeps l.2)
 
-    follow_on : (s t : State) (n : ℕ) → next s ≡ Some t → Keeps worker stack.top s t → (r : FrameTurn) → Follows program workers worker stack t n r
+    follow_on : (s t : State) (n : ℕ) → next s ≡ Some t → Keeps worker stack.top s t → (r : FrameTurn)
+        → Follows program workers worker stack t n r
         → Follows program workers worker stack s (suc n) r
     follow_on s t n e keeps (frames.Onward f) h = lead_on s t n _ _ e keeps h
     follow_on s t n e keeps (frames.Faulted x f) h = soon_on s t n _ _ e keeps h
@@ -96,13 +122,15 @@ module _ (program : Raw) (workers worker : ℕ) (stack : Stack) where
     follow_on s t n e keeps (frames.Returned v f) h = λ called. soon_on s t n _ _ e keeps (h called)
     follow_on s t n e keeps frames.Stuck h = tt
 
-    soon : (s : State) (n : ℕ) (control : Control) (w : World) → To program worker stack s s (next s) control w → LeadsSoon program workers worker stack s (suc n) control w
+    soon : (s : State) (n : ℕ) (control : Control) (w : World) → To program worker stack s s (next s) control w
+        → LeadsSoon program workers worker stack s (suc n) control w
     soon s n control w to = (1, omega arith, (to.0, ap (λ o. and_then o (λ u. Some u)) to.1, to.2, to.3))
 
     -- every state that shows a frame follows it for n instructions
     abbrev AllFollow : ℕ → Type 0
     AllFollow n =
-        (s : State) (f : Frame) → Shows program worker stack.top (Running (stack_at stack f.place f.operands)) (world_of f) s
+        (s : State) (f : Frame) → Shows program worker stack.top (Running (stack_at stack f.place f.operands))
+        (world_of f) s
         → Follows program workers worker stack s n (run program body n f)
 
     behind_turn : (n : ℕ) → AllFollow n → (s : State) (t : FrameTurn) → Leaves program worker stack s s (next s) t
@@ -118,4 +146,5 @@ module _ (program : Raw) (workers worker : ℕ) (stack : Stack) where
     follow (suc n) = λ s f shows. behind_turn n (follow n) s (frame_turn program body f) (step_leaves s f shows)
 
 pub frames_follow : FramesFollow
-frames_follow program body workers worker stack s f found known owns shows n = follow program workers worker stack body found known owns n s f shows
+frames_follow program body workers worker stack s f found known owns shows n =
+    follow program workers worker stack body found known owns n s f shows

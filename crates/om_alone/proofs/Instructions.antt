@@ -49,7 +49,8 @@ stored_onward takes pushed v (cell.Int w) = tt
 stored_onward takes pushed v cell.Unset = tt
 stored_onward takes pushed v cell.Dead = tt
 
-updated_onward : (takes : ℕ) (o : AtomicOperator) (side : Side) (v : ℤ) (c : Cell) → IsOnward (updated takes o side v c)
+updated_onward : (takes : ℕ) (o : AtomicOperator) (side : Side) (v : ℤ) (c : Cell)
+    → IsOnward (updated takes o side v c)
 updated_onward takes o side v (cell.Int w) = put_onward takes (update o side w v)
 updated_onward takes o side v cell.Unset = tt
 updated_onward takes o side v cell.Dead = tt
@@ -58,7 +59,8 @@ lt_of : (n m : ℕ) → nat_lt n m ≡ true → n < m
 lt_of n m e = (Decides-ltb n m).0 e
 
 module _ (raw : Raw) (slots : List Slot) where
-  on_operand_fits : (x : Option Operand) (row : Operand → Act) → ((a : Operand) → Fits raw slots (row a)) → Fits raw slots (on_operand x row)
+  on_operand_fits : (x : Option Operand) (row : Operand → Act) → ((a : Operand) → Fits raw slots (row a))
+      → Fits raw slots (on_operand x row)
   on_operand_fits None row h = ((λ c. tt), tt)
   on_operand_fits (Some a) row h = h a
 
@@ -66,12 +68,14 @@ module _ (raw : Raw) (slots : List Slot) where
   on_int_fits None row h = ((λ c. tt), tt)
   on_int_fits (Some a) row h = h a
 
-  on_ints_fits : (x y : Option ℤ) (row : ℤ → ℤ → Act) → ((a b : ℤ) → Fits raw slots (row a b)) → Fits raw slots (on_ints x y row)
+  on_ints_fits : (x y : Option ℤ) (row : ℤ → ℤ → Act) → ((a b : ℤ) → Fits raw slots (row a b))
+      → Fits raw slots (on_ints x y row)
   on_ints_fits None y row h = ((λ c. tt), tt)
   on_ints_fits (Some a) None row h = ((λ c. tt), tt)
   on_ints_fits (Some a) (Some b) row h = h a b
 
-  at_index_fits : (k : Option ℕ) (row : ℕ → Act) → ((n : ℕ) → k ≡ Some n → Fits raw slots (row n)) → Fits raw slots (at_index k row)
+  at_index_fits : (k : Option ℕ) (row : ℕ → Act) → ((n : ℕ) → k ≡ Some n → Fits raw slots (row n))
+      → Fits raw slots (at_index k row)
   at_index_fits None row h = ((λ c. tt), tt)
   at_index_fits (Some n) row h = h n refl
 
@@ -89,7 +93,8 @@ module _ (raw : Raw) (slots : List Slot) where
   element_inside (place.Slot slot) n k e = index_within (cells_in raw slots (place.Slot slot)) n k e
 
   module _ (cells : All (λ slot. 1 ≤ slot.cells) slots) where
-    slot_inside : (number : ℕ) (o : Option Slot) → slice_get slots number ≡ o → number < length slots → 0 < unwrap_or (option_map (λ (slot : Slot). slot.cells) o) 0
+    slot_inside : (number : ℕ) (o : Option Slot) → slice_get slots number ≡ o → number < length slots
+        → 0 < unwrap_or (option_map (λ (slot : Slot). slot.cells) o) 0
     slot_inside number None e lt = absurd (none_past slots number e lt)
       where
         none_past : (xs : List Slot) (k : ℕ) → slice_get xs k ≡ None → k < length xs → ⊥
@@ -114,15 +119,18 @@ module _ (raw : Raw) (slots : List Slot) where
       pop_fits = on_operand_fits (slice_get s 0) (λ x. decided (goes 1 None)) (λ x. ((λ c. tt), tt))
 
       pub unary_fits : (o : UnaryOperator) → Fits raw slots (act raw slots (i.Unary o) s)
-      unary_fits o = on_int_fits (int_at 0 s) (λ a. decided (gives 1 (operate_on_one o a))) (λ a. ((λ c. gives_still 1 (operate_on_one o a)), tt))
+      unary_fits o = on_int_fits (int_at 0 s) (λ a. decided (gives 1 (operate_on_one o a)))
+          (λ a. ((λ c. gives_still 1 (operate_on_one o a)), tt))
 
       pub binary_fits : (o : BinaryOperator) → Fits raw slots (act raw slots (i.Binary o) s)
       binary_fits o =
-          on_ints_fits (int_at 1 s) (int_at 0 s) (λ a b. decided (gives 2 (operate o a b))) (λ a b. ((λ c. gives_still 2 (operate o a b)), tt))
+          on_ints_fits (int_at 1 s) (int_at 0 s) (λ a b. decided (gives 2 (operate o a b)))
+          (λ a b. ((λ c. gives_still 2 (operate o a b)), tt))
 
       pub jump_fits : (target : ℕ) → Fits raw slots (act raw slots (i.JumpIfZero target) s)
       jump_fits target =
-          on_int_fits (int_at 0 s) (λ a. decided (jump_if (int_eq a (pos 0)) target)) (λ a. ((λ c. jump_still (int_eq a (pos 0)) target), tt))
+          on_int_fits (int_at 0 s) (λ a. decided (jump_if (int_eq a (pos 0)) target))
+          (λ a. ((λ c. jump_still (int_eq a (pos 0)) target), tt))
 
       pub use_fits : Fits raw slots (act raw slots i.Use s)
       use_fits = on_operand_fits (slice_get s 0) (λ x. decided (used x)) (λ x. ((λ c. used_still x), tt))
@@ -130,7 +138,8 @@ module _ (raw : Raw) (slots : List Slot) where
       pub load_fits : (p : Place) → IsKnownPlace raw.globals slots p → Fits raw slots (act raw slots (i.Load p) s)
       load_fits p known = ((scalar_inside p known, λ c. loaded_still 0 c), tt)
 
-      pub store_fits : (p : Place) (keeps : Bool) → IsKnownPlace raw.globals slots p → Fits raw slots (act raw slots (i.Store p keeps) s)
+      pub store_fits : (p : Place) (keeps : Bool) → IsKnownPlace raw.globals slots p
+          → Fits raw slots (act raw slots (i.Store p keeps) s)
       store_fits p keeps known =
           on_int_fits (int_at 0 s) (λ a. writes p 0 (stored (left_by keeps) None a))
           (λ a. ((scalar_inside p known, λ c. stored_onward (left_by keeps) None a c), tt))
@@ -138,20 +147,26 @@ module _ (raw : Raw) (slots : List Slot) where
       pub load_element_fits : (p : Place) → Fits raw slots (act raw slots (i.LoadElement p) s)
       load_element_fits p =
           on_int_fits (int_at 0 s) (λ n. at_index (index_in (cells_in raw slots p) n) (λ k. reads p k (loaded 1)))
-          (λ n. at_index_fits (index_in (cells_in raw slots p) n) (λ k. reads p k (loaded 1)) (λ k e. ((element_inside p n k e, λ c. loaded_still 1 c), tt)))
+          (λ n. at_index_fits (index_in (cells_in raw slots p) n) (λ k. reads p k (loaded 1))
+          (λ k e. ((element_inside p n k e, λ c. loaded_still 1 c), tt)))
 
       pub store_element_fits : (p : Place) (keeps : Bool) → Fits raw slots (act raw slots (i.StoreElement p keeps) s)
       store_element_fits p keeps =
-          on_ints_fits (int_at 1 s) (int_at 0 s) (λ n a. at_index (index_in (cells_in raw slots p) n) (λ k. writes p k (stored 2 (kept keeps a) a)))
+          on_ints_fits (int_at 1 s) (int_at 0 s)
+          (λ n a. at_index (index_in (cells_in raw slots p) n) (λ k. writes p k (stored 2 (kept keeps a) a)))
           (λ n a. at_index_fits (index_in (cells_in raw slots p) n) (λ k. writes p k (stored 2 (kept keeps a) a))
           (λ k e. ((element_inside p n k e, λ c. stored_onward 2 (kept keeps a) a c), tt)))
 
-      pub atomic_fits : (o : AtomicOperator) (side : Side) (p : Place) → IsKnownPlace raw.globals slots p → Fits raw slots (act raw slots (i.Atomic o side p) s)
+      pub atomic_fits : (o : AtomicOperator) (side : Side) (p : Place) → IsKnownPlace raw.globals slots p
+          → Fits raw slots (act raw slots (i.Atomic o side p) s)
       atomic_fits o side p known =
-          on_int_fits (int_at 0 s) (λ a. writes p 0 (updated 1 o side a)) (λ a. ((scalar_inside p known, λ c. updated_onward 1 o side a c), tt))
+          on_int_fits (int_at 0 s) (λ a. writes p 0 (updated 1 o side a))
+          (λ a. ((scalar_inside p known, λ c. updated_onward 1 o side a c), tt))
 
-      pub atomic_element_fits : (o : AtomicOperator) (side : Side) (p : Place) → Fits raw slots (act raw slots (i.AtomicElement o side p) s)
+      pub atomic_element_fits : (o : AtomicOperator) (side : Side) (p : Place)
+          → Fits raw slots (act raw slots (i.AtomicElement o side p) s)
       atomic_element_fits o side p =
-          on_ints_fits (int_at 1 s) (int_at 0 s) (λ n a. at_index (index_in (cells_in raw slots p) n) (λ k. writes p k (updated 2 o side a)))
+          on_ints_fits (int_at 1 s) (int_at 0 s)
+          (λ n a. at_index (index_in (cells_in raw slots p) n) (λ k. writes p k (updated 2 o side a)))
           (λ n a. at_index_fits (index_in (cells_in raw slots p) n) (λ k. writes p k (updated 2 o side a))
           (λ k e. ((element_inside p n k e, λ c. updated_onward 2 o side a c), tt)))

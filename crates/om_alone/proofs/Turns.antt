@@ -75,7 +75,8 @@ Fits raw slots a = FitsTouch raw slots a.turn a.touch × IsPlain a.touch
 module _ (program : Raw) (worker : ℕ) (stack : Stack) (before s : State) where
   -- a state with this control and world, and all that is apart as before
   abbrev pub To : Option State → Control → World → Type 0
-  To o control w = (t : State) × (o ≡ Some t) × Shows program worker stack.top control w t × Keeps worker stack.top before t
+  To o control w = (t : State) × (o ≡ Some t) × Shows program worker stack.top control w t
+      × Keeps worker stack.top before t
 
   -- what an instruction makes of the state, by its turn
   abbrev pub Leaves : Option State → FrameTurn → Type 0
@@ -83,7 +84,8 @@ module _ (program : Raw) (worker : ℕ) (stack : Stack) (before s : State) where
   Leaves o (frames.Faulted x f) = To o (Faulted x (stack_at stack f.place f.operands)) (world_of f)
   Leaves o (frames.Finished v f) = CanFinish stack.top s → To o (Ended v) (world_of f)
   Leaves o (frames.Returned v f) =
-      IsCalled stack.top → To o (Running (record stack { top = value_given v stack.top.callers stack.top })) (dead (world_of f))
+      IsCalled stack.top → To o (Running (record stack { top = value_given v stack.top.callers stack.top }))
+      (dead (world_of f))
   Leaves o frames.Stuck = Unit {0}
 
   module _ (f : Frame) where
@@ -103,17 +105,20 @@ module _ (program : Raw) (worker : ℕ) (stack : Stack) (before s : State) where
     abbrev gone : Option ℕ → List Operand → Control
     gone jump operands = Running (stack_at stack (unwrap_or jump (f.place + 1)) operands)
 
-    module _ (shows : Shows program worker stack.top (Running here) (world_of f) s) (keeps : Keeps worker stack.top before s) where
+    module _ (shows : Shows program worker stack.top (Running here) (world_of f) s)
+        (keeps : Keeps worker stack.top before s) where
       -- the control alone
       abbrev pub to_control : (control : Control) → To (Some (with_control control)) control (world_of f)
       to_control control = (
         with_control control,
         refl,
         control_put program worker stack.top (Running here) control (world_of f) s shows,
-        keeps_on worker stack.top (control_access (next_of worker)) (Put (value.Control control)) before s (beside_control worker stack.top) keeps,
+        keeps_on worker stack.top (control_access (next_of worker)) (Put (value.Control control)) before s
+            (beside_control worker stack.top) keeps,
       )
 
-      nothing_leaves : (t : Turn) → IsStill t → Leaves (behind [] (row_of (f.place + 1) [] t)) (turned program f Nothing t)
+      nothing_leaves : (t : Turn) → IsStill t
+          → Leaves (behind [] (row_of (f.place + 1) [] t)) (turned program f Nothing t)
       nothing_leaves (Goes jump takes None None) h = to_control (gone jump (drop takes f.operands))
       nothing_leaves (Goes jump takes (Some x) None) h = to_control (gone jump (x ∷ drop takes f.operands))
       nothing_leaves (Goes jump takes pushed (Some v)) h = absurd h
@@ -134,7 +139,8 @@ module _ (program : Raw) (worker : ℕ) (stack : Stack) (before s : State) where
 
       -- what is put beside the control, in a cell
       to_put : (control : Control) (p : Place) (index : ℕ) (v : ℤ)
-          → To (Some (state_after (write (own_object program worker stack.top p index)) (Put (value.Cell (cell.Int v))) (with_control control))) control
+          → To (Some (state_after (write (own_object program worker stack.top p index))
+          (Put (value.Cell (cell.Int v))) (with_control control))) control
           (with_held (world_of f) p index (cell.Int v))
       to_put control p index v =
           let base = to_control control in (
@@ -145,13 +151,18 @@ module _ (program : Raw) (worker : ℕ) (stack : Stack) (before s : State) where
           )
 
       writes_leaves : (p : Place) (index : ℕ) (t : Turn) → IsOnward t
-          → Leaves (behind (write (own_object program worker stack.top p index) ∷ []) (row_of (f.place + 1) [] t)) (turned program f (Writes p index) t)
+          → Leaves (behind (write (own_object program worker stack.top p index) ∷ []) (row_of (f.place + 1) [] t))
+          (turned program f (Writes p index) t)
       writes_leaves p index (Goes jump takes None None) h = to_control (gone jump (drop takes f.operands))
       writes_leaves p index (Goes jump takes (Some x) None) h = to_control (gone jump (x ∷ drop takes f.operands))
-      writes_leaves (place.Global n) index (Goes jump takes None (Some v)) h = to_put (gone jump (drop takes f.operands)) (place.Global n) index v
-      writes_leaves (place.Global n) index (Goes jump takes (Some x) (Some v)) h = to_put (gone jump (x ∷ drop takes f.operands)) (place.Global n) index v
-      writes_leaves (place.Slot n) index (Goes jump takes None (Some v)) h = to_put (gone jump (drop takes f.operands)) (place.Slot n) index v
-      writes_leaves (place.Slot n) index (Goes jump takes (Some x) (Some v)) h = to_put (gone jump (x ∷ drop takes f.operands)) (place.Slot n) index v
+      writes_leaves (place.Global n) index (Goes jump takes None (Some v)) h =
+          to_put (gone jump (drop takes f.operands)) (place.Global n) index v
+      writes_leaves (place.Global n) index (Goes jump takes (Some x) (Some v)) h =
+          to_put (gone jump (x ∷ drop takes f.operands)) (place.Global n) index v
+      writes_leaves (place.Slot n) index (Goes jump takes None (Some v)) h =
+          to_put (gone jump (drop takes f.operands)) (place.Slot n) index v
+      writes_leaves (place.Slot n) index (Goes jump takes (Some x) (Some v)) h =
+          to_put (gone jump (x ∷ drop takes f.operands)) (place.Slot n) index v
       writes_leaves p index (Returns v) h = absurd h
       writes_leaves p index (Finishes v) h = absurd h
       writes_leaves p index (Faults x) h = to_control (Faulted x here)
@@ -159,27 +170,35 @@ module _ (program : Raw) (worker : ℕ) (stack : Stack) (before s : State) where
 
       -- CLEAR: each cell of a slot
       clears_leaves : (slot : ℕ)
-          → Leaves (behind (cells_from program worker stack.top slot 0 (cells_in program (slots_of program stack.top.frame.body) (place.Slot slot)))
-          (row.Goes (Go (f.place + 1) 0 None ∷ []) (unsets (cells_from program worker stack.top slot 0 (cells_in program (slots_of program stack.top.frame.body) (place.Slot slot))))))
+          → Leaves (behind (cells_from program worker stack.top slot 0
+          (cells_in program (slots_of program stack.top.frame.body) (place.Slot slot)))
+          (row.Goes (Go (f.place + 1) 0 None ∷ [])
+          (unsets (cells_from program worker stack.top slot 0
+          (cells_in program (slots_of program stack.top.frame.body) (place.Slot slot))))))
           (turned program f (Clears slot) (frames.goes 0 None))
       clears_leaves slot =
           let base = to_control (gone None f.operands) in (
             _,
             refl,
             slot_cleared program worker stack.top (gone None f.operands) slot (world_of f) base.0 base.2,
-            keeps_slot program worker stack.top slot (cells_in program (slots_of program stack.top.frame.body) (place.Slot slot)) before base.0 base.3,
+            keeps_slot program worker stack.top slot
+                (cells_in program (slots_of program stack.top.frame.body) (place.Slot slot)) before base.0 base.3,
           )
 
       -- PRINT: the output
       prints_leaves : (text values : ℕ)
-          → Leaves (behind (write obj.Output ∷ []) (row.Goes (Go (f.place + 1) values None ∷ []) (Append (Bytes (print_bytes program text values f.operands)) ∷ [])))
+          → Leaves (behind (write obj.Output ∷ [])
+          (row.Goes (Go (f.place + 1) values None ∷ [])
+          (Append (Bytes (print_bytes program text values f.operands)) ∷ [])))
           (turned program f (Prints text values) (frames.goes values None))
       prints_leaves text values =
           let base = to_control (gone None (drop values f.operands)) in (
             _,
             refl,
-            output_put program worker stack.top (gone None (drop values f.operands)) (print_bytes program text values f.operands) (world_of f) base.0 base.2,
-            keeps_on worker stack.top (write obj.Output) (Append (Bytes (print_bytes program text values f.operands))) before base.0 (beside_output worker stack.top) base.3,
+            output_put program worker stack.top (gone None (drop values f.operands))
+                (print_bytes program text values f.operands) (world_of f) base.0 base.2,
+            keeps_on worker stack.top (write obj.Output) (Append (Bytes (print_bytes program text values f.operands)))
+                before base.0 (beside_output worker stack.top) base.3,
           )
 
       module _ (owns : OwnsCells stack.top) where
@@ -194,28 +213,42 @@ module _ (program : Raw) (worker : ℕ) (stack : Stack) (before s : State) where
         cell_is (place.Slot n) index inside = sym (ap cell_in (shows.slots n index inside))
 
         -- an act that stays in its frame, and whose turn is not that of PRINT or CLEAR
-        pub act_leaves : (touch : Touch) (t : Cell → Turn) → FitsTouch program (slots_of program stack.top.frame.body) t touch → IsPlain touch
-            → Leaves (behind_asked (touch_row program here.top t touch)) (turned program f touch (t (content f touch)))
+        pub act_leaves : (touch : Touch) (t : Cell → Turn)
+            → FitsTouch program (slots_of program stack.top.frame.body) t touch → IsPlain touch
+            → Leaves (behind_asked (touch_row program here.top t touch))
+            (turned program f touch (t (content f touch)))
         act_leaves Nothing t fits plain = nothing_leaves (t cell.Unset) (fits cell.Unset)
         act_leaves (Reads p index) t fits plain =
-            subst (λ o. Leaves (behind (read o ∷ []) (row_of (f.place + 1) [] (t (cell_in (s o))))) (turned program f (Reads p index) (t (cell_at f p index)))) (object_is p index)
-            (subst (λ c. Leaves (behind (read (own_object program worker stack.top p index) ∷ []) (row_of (f.place + 1) [] (t c))) (turned program f (Reads p index) (t (cell_at f p index))))
+            subst (λ o. Leaves (behind (read o ∷ []) (row_of (f.place + 1) [] (t (cell_in (s o)))))
+            (turned program f (Reads p index) (t (cell_at f p index)))) (object_is p index)
+            (subst (λ c. Leaves (behind (read (own_object program worker stack.top p index) ∷ [])
+            (row_of (f.place + 1) [] (t c))) (turned program f (Reads p index) (t (cell_at f p index))))
             (cell_is p index fits.0)
-            (reads_leaves p index (own_object program worker stack.top p index) (t (cell_at f p index)) (fits.1 (cell_at f p index))))
+            (reads_leaves p index (own_object program worker stack.top p index) (t (cell_at f p index))
+            (fits.1 (cell_at f p index))))
         act_leaves (Writes p index) t fits plain =
-            subst (λ o. Leaves (behind (write o ∷ []) (row_of (f.place + 1) [] (t (cell_in (s o))))) (turned program f (Writes p index) (t (cell_at f p index)))) (object_is p index)
-            (subst (λ c. Leaves (behind (write (own_object program worker stack.top p index) ∷ []) (row_of (f.place + 1) [] (t c))) (turned program f (Writes p index) (t (cell_at f p index))))
+            subst (λ o. Leaves (behind (write o ∷ []) (row_of (f.place + 1) [] (t (cell_in (s o)))))
+            (turned program f (Writes p index) (t (cell_at f p index)))) (object_is p index)
+            (subst (λ c. Leaves (behind (write (own_object program worker stack.top p index) ∷ [])
+            (row_of (f.place + 1) [] (t c))) (turned program f (Writes p index) (t (cell_at f p index))))
             (cell_is p index fits.0)
             (writes_leaves p index (t (cell_at f p index)) (fits.1 (cell_at f p index))))
         act_leaves (Clears slot) t fits plain = absurd plain
         act_leaves (Prints text values) t fits plain = absurd plain
 
-        pub clear_leaves : (slot : ℕ) → Leaves (behind_asked (touch_row program here.top (λ c. frames.goes 0 None) (Clears slot))) (turned program f (Clears slot) (frames.goes 0 None))
+        pub clear_leaves : (slot : ℕ) → Leaves
+            (behind_asked (touch_row program here.top (λ c. frames.goes 0 None) (Clears slot)))
+            (turned program f (Clears slot) (frames.goes 0 None))
         clear_leaves slot =
-            subst (λ home. Leaves (behind (slot_cells stack.top.task stack.top.frame.ordinal slot home 0 (cells_in program (slots_of program stack.top.frame.body) (place.Slot slot)))
-            (row.Goes (Go (f.place + 1) 0 None ∷ []) (unsets (slot_cells stack.top.task stack.top.frame.ordinal slot home 0 (cells_in program (slots_of program stack.top.frame.body) (place.Slot slot))))))
+            subst (λ home. Leaves (behind (slot_cells stack.top.task stack.top.frame.ordinal slot home 0
+            (cells_in program (slots_of program stack.top.frame.body) (place.Slot slot)))
+            (row.Goes (Go (f.place + 1) 0 None ∷ [])
+            (unsets (slot_cells stack.top.task stack.top.frame.ordinal slot home 0
+            (cells_in program (slots_of program stack.top.frame.body) (place.Slot slot))))))
             (turned program f (Clears slot) (frames.goes 0 None))) (sym (owns slot))
             (clears_leaves slot)
 
-        pub print_leaves : (text values : ℕ) → Leaves (behind_asked (touch_row program here.top (λ c. frames.goes values None) (Prints text values))) (turned program f (Prints text values) (frames.goes values None))
+        pub print_leaves : (text values : ℕ)
+            → Leaves (behind_asked (touch_row program here.top (λ c. frames.goes values None) (Prints text values)))
+            (turned program f (Prints text values) (frames.goes values None))
         print_leaves text values = prints_leaves text values

@@ -1,5 +1,5 @@
 -- What a worker that steps alone does by the rules of the machine: what its body means.
-use Rattle.std.specs.Prelude.{◌≡◌, ℕ, suc, ◌≤◌, IsSome, ℤ, pos, Bool, true, false, Option, None, Some, List, [], ◌∷◌, IsSomeAnd, slice_get, unwrap_or, position}
+use Rattle.std.specs.Prelude.{◌≡◌, ℕ, suc, ◌≤◌, IsSome, ℤ, pos, Bool, true, false, Option, None, Some, List, [], ◌∷◌, IsSomeAnd, replicate, slice_get, unwrap_or, position}
 use Rattle.om_foot.specs.declared.object.Obj.TheVariants as obj
 use Rattle.om_code.specs.declared.frame.Cell.TheVariants as cell
 use Rattle.om_code.specs.declared.frame.Fault.{Fault}
@@ -18,9 +18,10 @@ use Rattle.om_cells.specs.declared.control.Kind.TheVariants.{Initial}
 use Rattle.om_cells.specs.declared.control.Stack.{Stack}
 use Rattle.om_cells.specs.declared.value.Val.TheVariants as value
 use Rattle.om_cells.specs.Edits.{value_given}
+use Rattle.om_cells.specs.Rules.{replay}
 use Rattle.om_cells.specs.State.{State}
 use Rattle.om_cells.specs.Values.{count_in}
-use Rattle.om_task.specs.Rules.{first_context, initial_at, start_of}
+use Rattle.om_task.specs.Rules.{first_context, initial_at, rules_of, start_of}
 use Rattle.om_resolved.specs.ResolvedTree.{ResolvedFunctionTree, ResolvedTree}
 use Rattle.om_resolved.specs.Uses.{is_main_function}
 use Rattle.om_rows.specs.Bodies.{called_body, function_variables}
@@ -31,7 +32,7 @@ use Rattle.om_meaning.specs.Meaning.{Flow, Failed, OutOfTurns}
 use Rattle.om_meaning.specs.Running.{run, world_of}
 use Rattle.om_meaning.specs.Serial.{AreSerialStatements}
 use Rattle.om_meaning.specs.Worlds.{World}
-use Rattle.om_alone.specs.Alone.{Shows, Keeps, OwnsCells, dead, stack_at, stepped}
+use Rattle.om_alone.specs.Alone.{Shows, Keeps, OwnsCells, dead, next_of, stack_at, stepped}
 
 -- the initial task may end: no task of its team is unfinished
 pub record CanFinish (c : Context) (s : State) : Type 0 where
@@ -98,7 +99,8 @@ world_behind true w = w
 world_behind false w = dead w
 
 -- from a state, a worker alone does what this means
-pub record Does (program : Raw) (workers worker : ℕ) (stack : Stack) (s : State) (is_main : Bool) (means : ℕ → Flow) : Type 0 where
+pub record Does (program : Raw) (workers worker : ℕ) (stack : Stack) (s : State) (is_main : Bool)
+    (means : ℕ → Flow) : Type 0 where
   -- where the meaning ends, it ends so: with the value, the globals and the output
   pub ends : MayEnd is_main stack.top s → (n : ℕ) (v : Option ℤ) (u : World) → means n ≡ flows.Returned v u →
       (m : ℕ) × Leads program workers worker stack s m (control_behind is_main v stack) (world_behind is_main u)
@@ -147,9 +149,9 @@ ProgramsStart =
     × CanFinish (first_context program) (start_of program workers)
 
 module _ (program : Raw) (workers : ℕ) where
-  -- the state behind n steps of worker 0 from the start
+  -- the replay of n steps of worker 0
   abbrev pub alone : ℕ → Option State
-  alone n = stepped program workers 0 n (start_of program workers)
+  alone n = replay (rules_of program workers) (replicate n (next_of 0))
 
   -- so many steps of it lead to this control and this world
   abbrev pub LeadsFromStart : ℕ → Control → World → Type 0
