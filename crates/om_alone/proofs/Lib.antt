@@ -1,0 +1,7 @@
+mod Showing
+mod Turns
+mod Instructions
+mod Ends
+mod Table
+mod Following
+mod Programs
