@@ -4,6 +4,7 @@ ghost use Rattle.std.specs.Prelude.{◌≡◌, IfOk, OnOk, ◌<◌, ◌+◌, ◌
 ghost use Rattle.om_cells.specs.Edits.{frame_at, frame_begun, value_given, context_begun, context_ended, edited, changed_by, changed, HasRoom, HaveRoom, Counts};
 
 use crate::control::{Construct, Context, Control, Frame, Home, Stack};
+use crate::shared::Shared;
 use om_code::frame::{Fault, Operand};
 use om_seq::{Pile, Seq};
 use std::alloc::{AllocError, Global};
@@ -24,7 +25,7 @@ pub enum Edit {
         to: u32,
         takes: u32,
         body: u32,
-        homes: Seq<Home>,
+        homes: Shared<Seq<Home>>,
     },
     /// The running frame ends, with a value for the frame that waits for it.
     EndFrame(Operand),
@@ -33,11 +34,11 @@ pub enum Edit {
     /// The running context ends. The one below runs on; where there is none, the worker is idle.
     EndContext,
     /// The running context enters a region.
-    Open(Construct),
+    Open(Shared<Construct>),
     /// The running context leaves its innermost region.
     Close,
     /// The running context's innermost region becomes this one.
-    Replace(Construct),
+    Replace(Shared<Construct>),
     /// A team, a task or a group is born of the running context.
     CountBirth,
     /// The running context meets a worksharing region.
@@ -66,7 +67,12 @@ impl Frame {
 
 impl Context {
     /// Lets the running frame wait, and begins one of this body with these slots.
-    fn begin_frame(&mut self, alloc: Global, body: u32, homes: Seq<Home>) -> Result<(), AllocError>
+    fn begin_frame(
+        &mut self,
+        alloc: Global,
+        body: u32,
+        homes: Shared<Seq<Home>>,
+    ) -> Result<(), AllocError>
         requires { self.old.frames + 1 < 2 ^ 64 }
         ensures { OnOk result (self.new ≡ frame_begun body homes self.old) }
     {
@@ -136,11 +142,11 @@ fn edited(alloc: Global, stack: Stack, edit: Edit) -> Result<Control, AllocError
         Edit::EndFrame(value) => stack.top.end_frame(value)?,
         Edit::BeginContext(context) => stack.begin_context(context)?,
         Edit::EndContext => return Ok(after_context(stack)),
-        Edit::Open(construct) => stack.top.constructs.push(construct)?,
+        Edit::Open(construct) => stack.top.constructs.push(*construct.get())?,
         Edit::Close => stack.top.constructs.drop_top(1),
         Edit::Replace(construct) => {
             stack.top.constructs.drop_top(1);
-            stack.top.constructs.push(construct)?;
+            stack.top.constructs.push(*construct.get())?;
         }
         Edit::CountBirth => stack.top.births += 1,
         Edit::CountRegion => stack.top.regions += 1,

@@ -1,7 +1,11 @@
 //! Commands, and why a line is none.
 
+ghost use Rattle.std.specs.Prelude.{◌≡◌, IfOk};
+
 use om_foot::Name;
 use om_seq::Seq;
+use std::alloc::{AllocError, Global};
+use std::marker::Model;
 use thiserror::Error;
 
 /// A variable as a command writes it: `x`, or `a[3]`.
@@ -12,13 +16,47 @@ pub struct Variable {
     pub index: Option<u64>,
 }
 
+/// The name of a task, which lies apart: in place it would make each command as large.
+///
+/// Contracts see the name alone.
+#[derive(Drop)]
+pub struct TaskName {
+    name: Box<Name>,
+}
+
+impl Model for TaskName {
+    ghost use Rattle.std.specs.Prelude.{ℕ, List};
+
+    ghost Value = { List ℕ };
+
+    ghost view = { λ t. t.name.value };
+}
+
+impl TaskName {
+    /// A name, to lie apart; its only error is out of memory.
+    pub fn of(alloc: Global, name: Name) -> Result<TaskName, AllocError>
+        ensures { IfOk result (λ task. task ≡ name) }
+    {
+        Ok(TaskName {
+            name: Box::new(alloc, name)?,
+        })
+    }
+
+    /// The name.
+    pub fn get(&self) -> &Name
+        ensures { result.now ≡ self.now }
+    {
+        &self.name
+    }
+}
+
 /// A command, with its arguments. A worker is one of those that there are.
 #[derive(Drop)]
 pub enum Command {
     /// `step W`: worker W takes its next step.
     Step(u8),
     /// `start W NAME`: worker W begins the ready task of this name.
-    Start { worker: u8, task: Name },
+    Start { worker: u8, task: TaskName },
     /// `undo W`: the last step of worker W is taken back.
     Undo(u8),
     /// `next W`: worker W steps until its line changes.

@@ -6,5 +6,5 @@ mod command;
 mod request;
 mod verb;
 
-pub use command::{Command, CommandFault, Request, Variable};
+pub use command::{Command, CommandFault, Request, TaskName, Variable};
 pub use request::request_of;

@@ -50,10 +50,10 @@ pub fn begin(alloc: Global, going: Going, context: &Context) -> Result<Answer, A
     name_events(&mut names, going.worker)?;
     let begun = Record::ImplicitTask {
         endpoint: Endpoint::Begin,
-        team: context.team.name,
-        task: context.task,
-        size: context.team.size,
-        number: context.team.number,
+        team: context.team.get().name,
+        task: *context.task.get(),
+        size: context.team.get().size,
+        number: context.team.get().number,
         flag: TaskFlag::Implicit,
     };
     let row = recorded(alloc, going.to, begun)?;
@@ -120,8 +120,8 @@ fn reached_turn(
     let begun = Record::SyncRegion {
         sync: sync_of(barrier),
         endpoint: Endpoint::Begin,
-        team: context.team.name,
-        task: context.task,
+        team: context.team.get().name,
+        task: *context.task.get(),
     };
     put_event(alloc, &mut updates, begun)?;
     Row::goes(alloc, to, 0, None, updates)
@@ -137,7 +137,7 @@ fn reached(
     requires { context.now.phase + 1 < 2 ^ 64 }
     ensures { (s : State) → IfOk result (λ answer. answer ≡ answered (reached_row going.worker going.to barrier context.now) s) }
 {
-    let names = reached_names(alloc, going.worker, &context.team)?;
+    let names = reached_names(alloc, going.worker, context.team.get())?;
     let row = reached_turn(alloc, going.to, barrier, context)?;
     Ok(Answer { names, row })
 }
@@ -170,7 +170,7 @@ fn barrier_names(
     ensures { IfOk result (λ names. names ≡ barrier context.now.team context.now.phase ++ (own.now ++ events worker ∷ [])) }
 {
     let mut names = Seq::new(alloc);
-    name_barrier(&mut names, &context.team, context.phase)?;
+    name_barrier(&mut names, context.team.get(), context.phase)?;
     names.append(Seq::of(Vec::from_slice(alloc, own)?))?;
     name_events(&mut names, worker)?;
     Ok(names)
@@ -185,12 +185,12 @@ fn departed_updates(
     ensures { IfOk result (λ updates. updates ≡ kept context.now.team.size ++ event (Record.SyncRegion (sync_of barrier) Endpoint.End (team_at_end barrier context.now.team.name) context.now.task) ∷ []) }
 {
     let mut updates = Seq::new(alloc);
-    put_kept(&mut updates, context.team.size)?;
+    put_kept(&mut updates, context.team.get().size)?;
     let ended = Record::SyncRegion {
         sync: sync_of(barrier),
         endpoint: Endpoint::End,
-        team: team_at_end(barrier, &context.team.name),
-        task: context.task,
+        team: team_at_end(barrier, &context.team.get().name),
+        task: *context.task.get(),
     };
     put_event(alloc, &mut updates, ended)?;
     Ok(updates)
@@ -233,7 +233,7 @@ pub fn depart(
     ensures { IfOk result (λ answer. answer ≡ answered (depart_row going.worker going.to barrier context.now) (state_of store.now)) }
 {
     let names = barrier_names(alloc, going.worker, context, &[])?;
-    let opens = is_open(alloc, store, &context.team, context.phase);
+    let opens = is_open(alloc, store, context.team.get(), context.phase);
     let row = departed(alloc, going.to, barrier, context, opens)?;
     Ok(Answer { names, row })
 }
@@ -254,7 +254,7 @@ fn put_region_end(
     };
     records.push(Record::ParallelEnd {
         team: team.name,
-        task: maker.task,
+        task: *maker.task.get(),
     })
 }
 
@@ -270,18 +270,18 @@ fn left_records(
         sync: Sync::BarrierParallel,
         endpoint: Endpoint::End,
         team: Name::empty(),
-        task: context.task,
+        task: *context.task.get(),
     };
     let mut records = Seq::one(alloc, barrier_end)?;
     records.push(Record::ImplicitTask {
         endpoint: Endpoint::End,
         team: Name::empty(),
-        task: context.task,
+        task: *context.task.get(),
         size: 0,
-        number: context.team.number,
+        number: context.team.get().number,
         flag: TaskFlag::Implicit,
     })?;
-    put_region_end(&mut records, &context.team, below)?;
+    put_region_end(&mut records, context.team.get(), below)?;
     Ok(records)
 }
 
@@ -295,7 +295,7 @@ fn left_updates(
     ensures { IfOk result (λ updates. updates ≡ kept context.now.team.size ++ (deaths own.now ++ Update.Append (Tail.Events (left_records context.now below.now)) ∷ [])) }
 {
     let mut updates = Seq::new(alloc);
-    put_kept(&mut updates, context.team.size)?;
+    put_kept(&mut updates, context.team.get().size)?;
     put_deaths(&mut updates, own)?;
     let records = left_records(alloc, context, below)?;
     updates.push(Update::Append(Tail::Events(records)))?;
@@ -333,7 +333,7 @@ fn left_answer(
 {
     let context = &stack.top;
     let names = barrier_names(alloc, worker, context, own)?;
-    let opens = is_open(alloc, store, &context.team, context.phase);
+    let opens = is_open(alloc, store, context.team.get(), context.phase);
     let row = left(alloc, context, &stack.below, own, opens)?;
     Ok(Answer { names, row })
 }
@@ -357,7 +357,7 @@ pub fn leave(
         Kind::Initial | Kind::Explicit => return Ok(Answer::decided(alloc, Row::Lacks)),
         Kind::Implicit => {}
     }
-    if stack.below.is_empty() && stack.top.team.number == 0 {
+    if stack.below.is_empty() && stack.top.team.get().number == 0 {
         return Ok(Answer::decided(alloc, Row::Lacks));
     }
     let own = own_cells(alloc, &stack.top, slots)?;

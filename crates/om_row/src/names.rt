@@ -32,8 +32,12 @@ pub fn object_of(context: &Context, place: Place, index: u32) -> Obj
     match place {
         Place::Global(variable) => Obj::Global { variable, index },
         Place::Slot(slot) => {
-            let home = home_at(context.frame.homes.as_slice(), slot);
-            home.cell(&context.task, context.frame.ordinal, slot, index)
+            let frame = &context.frame;
+            let task = context.task.get();
+            match frame.homes.get().as_slice().get(slot as usize) {
+                Some(home) => home.cell(task, frame.ordinal, slot, index),
+                None => Home::Own.cell(task, frame.ordinal, slot, index),
+            }
         }
     }
 }
@@ -57,9 +61,9 @@ pub fn name_slot(
 ) -> Result<(), AllocError>
     ensures { OnOk result (names.new ≡ names.old ++ slot_cells context.now.task context.now.frame.ordinal slot (home_at context.now.frame.homes slot) 0 cells) }
 {
-    let home = &home_at(context.frame.homes.as_slice(), slot);
+    let home = &home_at(context.frame.homes.get().as_slice(), slot);
     for index in 0..cells {
-        let cell = home.cell(&context.task, context.frame.ordinal, slot, index);
+        let cell = home.cell(context.task.get(), context.frame.ordinal, slot, index);
         name(names, cell, Mode::Write)?;
     }
     Ok(())
@@ -95,7 +99,7 @@ fn name_own(
 ) -> Result<(), AllocError>
     ensures { OnOk result (own.new ≡ own.old ++ own_slot context.now slot cells (home_at context.now.frame.homes slot)) }
 {
-    match home_at(context.frame.homes.as_slice(), slot) {
+    match home_at(context.frame.homes.get().as_slice(), slot) {
         Home::Own => name_slot(own, context, slot, cells),
         Home::Elsewhere { .. } => Ok(()),
     }
@@ -166,9 +170,9 @@ pub fn homes_in(alloc: Global, context: &Context, slots: &[Slot]) -> Result<Seq<
     let frame = &context.frame;
     homes_for(
         alloc,
-        &context.task,
+        context.task.get(),
         frame.ordinal,
-        frame.homes.as_slice(),
+        frame.homes.get().as_slice(),
         slots,
     )
 }
@@ -204,7 +208,7 @@ pub fn group_of(context: &Context) -> Option<Name>
             return *name;
         }
     }
-    context.group
+    *context.group.get()
 }
 
 /// Whether a worksharing, masked or critical region is open.

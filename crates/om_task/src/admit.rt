@@ -56,7 +56,7 @@ fn admits_on(program: &Program, name: &Name, context: &Context) -> bool
     if departs(instruction(program, context)) {
         return true;
     }
-    is_below(name, &context.task)
+    is_below(name, context.task.get())
 }
 
 /// Whether a task may be started where these contexts are left for it.

@@ -144,6 +144,19 @@ pub fn line(program: &Program, control: &Control) -> u32
     }
 }
 
+/// What a worker's step touches that names these objects beside its control. It is kept as long as
+/// the step stands, so it has no room to spare.
+fn footprint(alloc: Global, worker: u8, names: Seq<Access>) -> Result<Seq<Access>, AllocError>
+    ensures { IfOk result (λ footprint. footprint ≡ record { object = obj.Control worker; mode = Mode.Write } ∷ names) }
+{
+    let mut footprint = Seq::of(Vec::with_capacity(alloc, names.len().saturating_add(1))?);
+    let object = Obj::Control(worker);
+    let mode = Mode::Write;
+    footprint.push(Access { object, mode })?;
+    footprint.append(names)?;
+    Ok(footprint)
+}
+
 /// The plan of a worker's step that has this control.
 fn control_plan(
     alloc: Global,
@@ -158,12 +171,8 @@ fn control_plan(
 {
     let Answer { names, row } = control_answer(alloc, program, store, control, planning)?;
     let outcome = outcome(alloc, control, row)?;
-    let mut footprint = names;
-    let object = Obj::Control(planning.label.worker);
-    let mode = Mode::Write;
-    footprint.push_front(Access { object, mode })?;
     Ok(Step {
-        footprint,
+        footprint: footprint(alloc, planning.label.worker, names)?,
         outcome,
         line: line(program, control),
     })
