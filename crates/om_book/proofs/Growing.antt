@@ -15,7 +15,7 @@ use Rattle.om_book.specs.declared.command.Command.{Command}
 use Rattle.om_book.specs.declared.command.Command.TheVariants as command
 use Rattle.om_book.specs.declared.reply.Reply.{Reply}
 use Rattle.om_book.specs.declared.book.JournalRecord.{JournalRecord}
-use Rattle.om_book.specs.Runs.{fresh, IsReply, after, history_after}
+use Rattle.om_book.specs.Runs.{IsReply, after, history_after}
 use Rattle.om_book.specs.Journals.{IsLegal, IsSound, left_by}
 
 made_with : (h : History) (e : Entry) (o : Outcome) → (history_with h e o).made ≤ h.made + 1
@@ -50,20 +50,25 @@ pub IsLegal-snoc : (m : MachineView) (rs : List JournalRecord) (r : JournalRecor
 IsLegal-snoc m [] r h is = (is, tt)
 IsLegal-snoc m (x ∷ xs) r h is = (h.0, IsLegal-snoc (after m x.command) xs r h.1 is)
 
-sound_snoc : (m : MachineView) (rs : List JournalRecord) (r : JournalRecord) → IsSound m rs → length rs < 200000
-    → IsReply m r.command r.reply → IsSound (after m r.command) (rs ++ r ∷ [])
-sound_snoc m rs r h room is =
-    let start = fresh m.program m.workers in
-    record {
-      legal = IsLegal-snoc start rs r h.legal (subst (λ p. IsReply p r.command r.reply) h.left is);
-      left = ap (λ p. after p r.command) h.left ∙ sym (left_by-snoc start rs r);
-      most = omega (arith, length-append rs (r ∷ []), room);
-      few_made = omega (arith, length-append rs (r ∷ []), h.few_made, made_after m r.command);
-    }
+sound_snoc : (m start : MachineView) (before : ℕ) (rs : List JournalRecord) (r : JournalRecord) → IsSound m start before rs
+    → before + length rs < 200000 → IsReply m r.command r.reply → IsSound (after m r.command) start before (rs ++ r ∷ [])
+sound_snoc m start before rs r h room is = record {
+  legal = IsLegal-snoc start rs r h.legal (subst (λ p. IsReply p r.command r.reply) h.left is);
+  left = ap (λ p. after p r.command) h.left ∙ sym (left_by-snoc start rs r);
+  program = h.program;
+  workers = h.workers;
+  most = omega (arith, length-append rs (r ∷ []), room);
+  few_made = omega (arith, length-append rs (r ∷ []), h.few_made, made_after m r.command);
+}
 
 -- the book stays sound where a command is done and its reply recorded
-pub sound_next : (m next : MachineView) (rs js : List JournalRecord) (seat : ℕ) (c : Command) (x : Reply) → IsSound m rs
-    → length rs < 200000 → next ≡ after m c → IsReply m c x
-    → js ≡ rs ++ record { seat = seat; command = c; reply = x } ∷ [] → IsSound next js
-sound_next m next rs js seat c x h room is answered grows =
-    rw (is, grows) (sound_snoc m rs (record { seat = seat; command = c; reply = x }) h room answered)
+pub sound_next : (m next start : MachineView) (before : ℕ) (rs js : List JournalRecord) (seat : ℕ) (c : Command) (x : Reply)
+    → IsSound m start before rs → before + length rs < 200000 → next ≡ after m c → IsReply m c x
+    → js ≡ rs ++ record { seat = seat; command = c; reply = x } ∷ [] → IsSound next start before js
+sound_next m next start before rs js seat c x h room is answered grows =
+    rw (is, grows) (sound_snoc m start before rs (record { seat = seat; command = c; reply = x }) h room answered)
+
+-- the book stays sound where nothing changes
+pub sound_same : (m next start : MachineView) (before : ℕ) (rs js : List JournalRecord) → IsSound m start before rs
+    → next ≡ m → js ≡ rs → IsSound next start before js
+sound_same m next start before rs js h same none = rw (same, none) h

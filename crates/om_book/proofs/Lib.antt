@@ -3,3 +3,4 @@ pub mod Rolls
 pub mod Counting
 pub mod Pigeons
 pub mod Answering
+pub mod Sent

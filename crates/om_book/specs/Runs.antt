@@ -1,7 +1,8 @@
 -- What a machine of one thread replies to a command, and what the command leaves.
-use Rattle.std.specs.Prelude.{◌≡◌, ◌<◌, ℕ, List}
+use Rattle.std.specs.Prelude.{◌≡◌, ◌<◌, ℕ, Bool, true, false, List}
 use Rattle.om_code.specs.declared.raw.Raw.{Raw}
 use Rattle.om_cells.specs.Ready.{AreReady}
+use Rattle.om_history.specs.declared.reply.StepReply.TheVariants as step_reply
 use Rattle.om_history.specs.Runs.{History, no_history, reply_to_step, after_step, reply_to_undo, after_undo}
 use Rattle.om_history.specs.Cones.{reply_to_roll, after_roll}
 use Rattle.om_undo.specs.Machines.{MachineView, rules_for, state_in}
@@ -47,3 +48,8 @@ history_after m (command.Look question) = m.history
 -- what a command leaves: a question leaves all as it was
 abbrev pub after : MachineView → Command → MachineView
 after m c = record m { history = history_after m c }
+
+-- the reply is that of a step that was made
+abbrev pub is_done : Reply → Bool
+is_done (reply.Step (step_reply.Done serial line fault)) = true
+is_done _ = false

@@ -8,7 +8,7 @@ pub record SeatView : Type 0 where
   pub number : ℕ
   pub receipts : List Receipt
 
--- how many seats a session has, and how many records the journal had at its opening
+-- how many seats a session has, and how many calls the journal had at its opening
 pub record SessionView : Type 0 where
   pub seats : ℕ
   pub opened : ℕ

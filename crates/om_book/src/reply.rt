@@ -1,6 +1,7 @@
 //! What the machine answers to a call.
 
 ghost use Rattle.std.specs.Prelude.{◌≡◌, IfOk};
+ghost use Rattle.om_book.specs.Runs.{is_done};
 
 use om_cells::{Entry, Val};
 use om_foot::Name;
@@ -24,6 +25,21 @@ pub enum Reply {
 }
 
 impl Reply {
+    /// Whether it is that of a step that was made.
+    pub fn is_done(&self) -> bool
+        ensures { result ≡ is_done self.now }
+    {
+        match self {
+            Reply::Step(StepReply::Done { .. }) => true,
+            Reply::Step(StepReply::Blocked(_) | StepReply::Ended)
+            | Reply::Undo(_)
+            | Reply::Roll(_)
+            | Reply::Value(_)
+            | Reply::Ready(_)
+            | Reply::Entries(_) => false,
+        }
+    }
+
     /// A copy; its only error is out of memory.
     pub fn copy(&self, alloc: Global) -> Result<Reply, AllocError>
         ensures { IfOk result (λ reply. reply ≡ self.now) }

@@ -1,8 +1,9 @@
 //! Sessions: seats that call one book, which lies under one lock.
 
 ghost use Rattle.std.specs.Prelude.{◌≡◌, ℕ, ◌<◌, ◌≤◌, ◌+◌, [], ◌↔◌, IfOk, IfErr, OnErr, IsOk, length, vec_len, sum_by, ◌^◌};
-ghost use Rattle.om_book.specs.Runs.{IsInRange};
-ghost use Rattle.om_book.specs.Books.{with_record};
+ghost use Rattle.om_book.specs.Runs.{IsInRange, IsReply};
+ghost use Rattle.om_undo.specs.Machines.{MachineView};
+ghost use Rattle.om_book.specs.Books.{BookView, calls_in, machine_of, with_record, IsGrown};
 ghost use Rattle.om_book.specs.Seats.{seats_below, with_receipt};
 ghost use Rattle.om_book.specs.Standing.{CountsAll, Covers, AllDiffer, receipts_in};
 
@@ -15,20 +16,22 @@ use std::marker::{Brand, Model};
 use std::sync::ledger::{Ledger, Share};
 use std::sync::{Mutex, Wait, ledger};
 
-/// Which session it is: its ledger, with a part for each seat, and what was so at its opening.
+/// Which session it is: its ledger, with a part for each seat, and its book at the opening.
 ///
 /// A function over a type with this bound opens, uses and closes a session; its caller passes
 /// `Brand`. So a seat of another session doesn't fit by its type.
 pub trait Sitting: Ledger {
-    /// How many records the journal had.
-    ghost opened: { ℕ };
+    /// The book.
+    ghost opened: { BookView };
 
     /// How many workers the book has.
     ghost workers: { ℕ };
 }
 
 impl Sitting for Brand {
-    ghost opened = { 0 };
+    ghost use Rattle.om_book.specs.Books.{no_book};
+
+    ghost opened = { no_book };
 
     ghost workers = { 0 };
 }
@@ -63,8 +66,8 @@ struct Desk<L: Sitting> {
     calls: ledger::Book<L>,
     // What is left of the ledger's shares when each seat has its own.
     none: Share<L>,
-    ghost counted: { length book.journal ≡ L.opened + calls.total },
-    ghost workers: { book.workers ≡ L.workers },
+    ghost grown: { IsGrown L.opened book calls.total },
+    ghost workers: { book.start.workers ≡ L.workers },
     ghost no_part: { none.parts ≡ 0 },
     ghost no_amount: { none.amount ≡ 0 },
 }
@@ -129,6 +132,7 @@ impl<L: Sitting> Desk<L> {
         requires { IsInRange L.workers command }
         ensures receipt { IfOk result (λ x. seat.new
             ≡ with_receipt seat.old (length self.old.book.journal) command x) }
+        ensures legal { IfOk result (λ x. IsReply (machine_of self.old.book) command x) }
         ensures recorded { IfOk result (λ x. self.new.book
             ≡ with_record self.old.book seat.old.number command x) }
         ensures same_seat_on_error { OnErr result (seat.new ≡ seat.old) }
@@ -159,7 +163,7 @@ impl<L: Sitting> Desk<L> {
 
 /// A book that threads call through seats, one call at a time.
 ///
-/// Contracts see how many seats it has, and how many records the journal had at the opening.
+/// Contracts see how many seats it has, and how many calls the journal had at the opening.
 #[derive(Drop)]
 pub struct Session<L: Sitting> {
     desk: Mutex<Desk<L>>,
@@ -170,13 +174,14 @@ pub struct Session<L: Sitting> {
 
 impl<L: Sitting> Model for Session<L> {
     ghost use Rattle.std.specs.Prelude.{◌≡◌};
+    ghost use Rattle.om_book.specs.Books.{calls_in};
     ghost use Rattle.om_book.specs.Seats.{SessionView};
 
     ghost Value = { SessionView };
 
     ghost view = { λ s. record { seats = s.seats; opened = s.opened } };
 
-    ghost invariant = { λ s. (s.seats ≡ L.parts) × (s.workers ≡ L.workers) × (s.opened ≡ L.opened) };
+    ghost invariant = { λ s. (s.seats ≡ L.parts) × (s.workers ≡ L.workers) × (s.opened ≡ calls_in L.opened) };
 }
 
 /// There was no memory for the seats. The book comes back.
@@ -215,8 +220,8 @@ impl<L: Sitting> Session<L> {
     ) -> Result<(Session<L>, Vec<Seat<L>>), NotOpened>
         requires name { blank.ledger.name ≡ L.name }
         requires parts { blank.ledger.parts ≡ L.parts }
-        requires opened { length book.journal ≡ L.opened }
-        requires workers { book.workers ≡ L.workers }
+        requires opened { book ≡ L.opened }
+        requires workers { book.start.workers ≡ L.workers }
         ensures seats { IfOk result (λ r. r.1.items ≡ seats_below L.parts) }
         ensures back { IfErr result (λ e. e.book ≡ book) }
     {
@@ -262,8 +267,9 @@ impl<L: Sitting> Session<L> {
 
     /// Calls through a seat. It waits for the lock.
     ///
-    /// The seat gets one receipt where the call was answered, and is unchanged on an error: the
-    /// journal was full, or it was out of memory.
+    /// The reply is the one that a machine of one thread gives. The seat gets one receipt where the
+    /// call was answered, and is unchanged on an error: the journal was full, or it was out of
+    /// memory.
     pub fn call<R: Wait>(
         &self,
         rt: &R,
@@ -272,6 +278,7 @@ impl<L: Sitting> Session<L> {
         command: Command,
     ) -> Result<Reply, CallError>
         requires { IsInRange L.workers command }
+        ensures legal { IfOk result (λ x. (m : MachineView) × IsReply m command x) }
         ensures receipt { IfOk result (λ x. (place : ℕ)
             × (seat.new ≡ with_receipt seat.old place command x)) }
         ensures unchanged_on_error { OnErr result (seat.new ≡ seat.old) }
@@ -287,13 +294,13 @@ impl<L: Sitting> Session<L> {
     pub fn close(self, mut seats: Vec<Seat<L>>) -> Result<Closed<L>, Unclosed<L>>
         requires { AllDiffer seats.items }
         ensures all { IsOk result ↔ (vec_len seats ≡ L.parts) }
-        ensures total { IfOk result (λ c. length c.book.journal ≡ L.opened + c.calls) }
+        ensures total { IfOk result (λ c. IsGrown L.opened c.book c.calls) }
         ensures counted { IfOk result (λ c. c.calls ≡ sum_by receipts_in seats.items) }
         ensures seats { IfOk result (λ c. c.seats.items ≡ seats.items) }
-        ensures standing { IfOk result (λ c. CountsAll c.book.journal L.opened seats.items c.standing) }
+        ensures standing { IfOk result (λ c. CountsAll c.book.journal (calls_in L.opened) seats.items c.standing) }
         ensures covers { IfOk result (λ c. c.standing ≡ c.calls
-            → Covers c.book.journal L.opened seats.items) }
-        ensures workers { IfOk result (λ c. c.book.workers ≡ L.workers) }
+            → Covers c.book.journal (calls_in L.opened) seats.items) }
+        ensures workers { IfOk result (λ c. c.book.start.workers ≡ L.workers) }
         ensures fewer { IfErr result (λ u. (u.session ≡ self) × (u.seats.items ≡ seats.items)) }
     {
         if seats.len() < usize::from(self.seats) {
