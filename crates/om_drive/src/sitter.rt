@@ -13,7 +13,7 @@ use std::sync::Wait;
 pub(crate) struct Sitter<'s, L: Sitting> {
     session: &'s Session<L>,
     alloc: Global,
-    seat: Seat<L>,
+    pub(crate) seat: Seat<L>,
 }
 
 impl<'s, L: Sitting> Debuggee for Sitter<'s, L> {
@@ -57,6 +57,7 @@ pub(crate) fn sit_down<'s, L: Sitting>(
     ensures sitters { map (λ s. place_of L.workers s.seat) sitters.new.items
         ≡ map (λ s. place_of L.workers s.seat) sitters.old.items
         ++ map (place_of L.workers) seats.old.items }
+    ensures seated { map (λ s. s.seat) sitters.new.items ≡ map (λ s. s.seat) sitters.old.items ++ seats.old.items }
     ensures empty { seats.new.items ≡ [] }
     ensures room { vec_capacity seats.new ≡ vec_capacity seats.old }
     ensures capacity { vec_capacity sitters.old ≤ vec_capacity sitters.new }
@@ -81,6 +82,7 @@ pub(crate) fn stand_up<L: Sitting>(sitters: &mut Vec<Sitter<'_, L>>, seats: &mut
     ensures seats { map (place_of L.workers) seats.new.items
         ≡ map (place_of L.workers) seats.old.items
         ++ map (λ s. place_of L.workers s.seat) sitters.old.items }
+    ensures unseated { seats.new.items ≡ seats.old.items ++ map (λ s. s.seat) sitters.old.items }
     ensures capacity { vec_capacity seats.old ≤ vec_capacity seats.new }
 {
     let Some(Sitter { seat, .. }) = sitters.pop() else {

@@ -94,19 +94,32 @@ impl<G: Gate + Drop, D: Debuggee + Drop> Worker<G, D> {
         ensures { D.place result ≡ D.place self.debuggee }
     {
         for _ in rt.forever() {
-            let Ok(order) = orders.recv(rt) else {
-                break;
-            };
-            if !order.command.is_in_range(self.debuggee.workers()) {
-                break;
-            }
-            let answer = self.answer(rt, order);
-            if answers.send(rt, answer).is_err() {
+            if !self.answer_next(rt, orders, answers) {
                 break;
             }
         }
         let Worker { gate: _, debuggee } = self;
         debuggee
+    }
+
+    /// Waits for an order and answers it. Whether it goes on: not where no order can come, where
+    /// its worker is out of range, or where nobody takes the answer.
+    fn answer_next<R: Wait>(
+        &mut self,
+        rt: &R,
+        orders: &Receiver<Order>,
+        answers: &Sender<Answer>,
+    ) -> bool
+        ensures { D.place self.new.debuggee ≡ D.place self.old.debuggee }
+    {
+        let Ok(order) = orders.recv(rt) else {
+            return false;
+        };
+        if !order.command.is_in_range(self.debuggee.workers()) {
+            return false;
+        }
+        let answer = self.answer(rt, order);
+        answers.send(rt, answer).is_ok()
     }
 }
 

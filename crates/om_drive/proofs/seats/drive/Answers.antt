@@ -1,11 +1,20 @@
 use Rattle.std.proofs.Common.{rules, ◌≡◌, ◌∙◌, ◌++◌, [], List, All, map, ap, subst}
+use denote.Param.Send.{sendable}
 use Rattle.om_book.specs.Seats.{SeatView}
 use Rattle.om_drive.specs.Calls.{place_of}
 use Rattle.om_drive.specs.Rounds.{in_rounds}
 use Rattle.om_drive.specs.Backing.{IsBacked}
 use Rattle.om_drive.proofs.Places.{numbers_same}
+use Rattle.om_drive.proofs.Sent.{sitter_send}
 use Rattle.om_drive.proofs.Rounding.{begins_none, begins_taken}
 use Rattle.om_drive.proofs.seats.drive.Goals as goal
+
+-- a seat beside its session may go to another thread
+pub drive_over-sitters-requires-send-D : goal.drive_over-sitters-requires-send-D
+drive_over-sitters-requires-send-D g c κs within =
+    let sent = c.type_bounds.send-L in
+    let shared = c.type_bounds.sync-L in
+    search (sitter_send, sendable) depth 40
 
 pub returns-in_default-clause-part : goal.returns-in_default-clause-part
 returns-in_default-clause-part g c =

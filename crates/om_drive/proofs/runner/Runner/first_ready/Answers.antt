@@ -1,0 +1,5 @@
+use Rattle.om_drive.proofs.Stepping.{looks_behind}
+use Rattle.om_drive.proofs.runner.Runner.first_ready.Goals as goal
+
+pub returns-clause-steps : goal.returns-clause-steps
+returns-clause-steps g c = looks_behind _ _ _ _ _ c.in_ok-reply.ensures.made.1

@@ -1,0 +1,5 @@
+use Rattle.om_drive.proofs.Stepping.{steps_behind}
+use Rattle.om_drive.proofs.runner.Runner.step.Goals as goal
+
+pub returns-clause-steps : goal.returns-clause-steps
+returns-clause-steps g c = steps_behind _ _ _ c.in_ok-reply.ensures.made.1

@@ -1,0 +1,291 @@
+//! Free runs: each worker of a session makes its rounds in a thread of its own.
+
+ghost use Rattle.std.specs.Prelude.{◌≡◌, ◌<◌, ◌≤◌, ◌+◌, ◌*◌, ◌^◌, ◌++◌, ◌∷◌, [], IfOk, IfErr, vec_len, vec_capacity, map, sum_by};
+ghost use Rattle.om_book.specs.Standing.{number_of};
+ghost use Rattle.om_drive.specs.Steps.{steps_in, steps_of};
+
+use crate::driving::Crew;
+use crate::order::Fault;
+use crate::runner::{Ran, Runner};
+use crate::sitter::{sit_down, stand_up};
+use crate::worker::{Debuggee, Gate};
+use om_book::{CallError, Seat, Session, Sitting};
+use std::alloc::Global;
+use std::snapshot::Snapshot;
+use std::sync::Wait;
+use std::thread::{Promise, PromisedHandle, Scope, Threads, scope, scope_env};
+
+/// The seats that ran freely, and what came of it.
+#[derive(Drop)]
+pub struct Freed<L: Sitting> {
+    /// The seats, each in its place.
+    pub seats: Vec<Seat<L>>,
+    /// How many steps they made.
+    pub done: u64,
+    /// Whether a worker met a full journal.
+    pub full: bool,
+    /// What broke it off, if something did: only that there was no memory, or no thread (V3).
+    pub fault: Option<Fault>,
+}
+
+/// Lets the workers of a session run freely, each in a thread of its own through its seat: the
+/// first seat drives worker 0, and so on.
+///
+/// In each of its rounds a worker makes its next step. Where that waits at a barrier or for tasks,
+/// it asks which tasks are ready and starts the first. A worker goes on after a step that is not
+/// made, and stops where the journal is full. The seats always come back in their places.
+pub fn free<L: Sitting + Send + Sync, G: Gate + Drop + Send, R: Threads + Wait + Sync>(
+    rt: &R,
+    alloc: Global,
+    session: &Session<L>,
+    crew: Crew<Seat<L>, G>,
+    rounds: u32,
+) -> Freed<L>
+    requires { vec_len crew.debuggees ≤ 64 }
+    ensures back { map number_of result.seats.items ≡ map number_of crew.debuggees.items }
+    ensures done { sum_by steps_of result.seats.items ≡ sum_by steps_of crew.debuggees.items + result.done }
+{
+    let Crew {
+        debuggees: mut seats,
+        gates,
+    } = crew;
+    let Ok(mut sitters) = Vec::with_capacity(alloc, seats.len()) else {
+        return Freed {
+            seats,
+            done: 0,
+            full: false,
+            fault: Some(Fault::Memory),
+        };
+    };
+    sit_down(session, alloc, &mut seats, &mut sitters);
+    let crew = Crew {
+        debuggees: sitters,
+        gates,
+    };
+    let (mut sitters, tally) = free_over(rt, alloc, crew, rounds);
+    stand_up(&mut sitters, &mut seats);
+    let Tally { done, full, fault } = tally;
+    Freed {
+        seats,
+        done,
+        full,
+        fault,
+    }
+}
+
+/// Lets a worker of each debuggee run freely, and gives the debuggees back in their places.
+fn free_over<G: Gate + Drop + Send, D: Debuggee + Drop + Send, R: Threads + Wait + Sync>(
+    rt: &R,
+    alloc: Global,
+    crew: Crew<D, G>,
+    rounds: u32,
+) -> (Vec<D>, Tally)
+    requires { vec_len crew.debuggees ≤ 64 }
+    ensures back { map D.place result.0.items ≡ map D.place crew.debuggees.items }
+    ensures done { sum_by (λ d. steps_in (D.made d)) result.0.items
+        ≡ sum_by (λ d. steps_in (D.made d)) crew.debuggees.items + result.1.done }
+{
+    let Crew { debuggees, gates } = crew;
+    let tally = Tally {
+        done: 0,
+        full: false,
+        fault: None,
+    };
+    let Ok(back) = Vec::with_capacity(alloc, debuggees.len()) else {
+        return (debuggees, tally.broken_off());
+    };
+    let line = Line {
+        waiting: debuggees,
+        gates,
+        back,
+        tally,
+    };
+    scope(
+        scope_env(),
+        rt,
+        move |scope| -> (Vec<D>, Tally)
+            requires room { vec_len line.back + vec_len line.waiting ≤ vec_capacity line.back }
+            requires paired { vec_len line.gates ≡ vec_len line.waiting }
+            requires few { vec_len line.waiting ≤ 64 }
+            requires none { line.back.items ≡ [] }
+            requires nothing { line.tally.done ≡ 0 }
+            ensures back { map D.place result.0.items ≡ map D.place line.waiting.items }
+            ensures done { sum_by (λ d. steps_in (D.made d)) result.0.items
+                ≡ sum_by (λ d. steps_in (D.made d)) line.waiting.items + result.1.done }
+        { free_in(scope, rt, rounds, line) },
+    )
+}
+
+/// The debuggees that wait for their threads with their gates, those that came back, and what came
+/// of them.
+#[derive(Drop)]
+struct Line<D, G> {
+    waiting: Vec<D>,
+    gates: Vec<G>,
+    back: Vec<D>,
+    tally: Tally,
+}
+
+/// What came of the workers that are back.
+#[derive(Clone, Copy)]
+struct Tally {
+    done: u64,
+    full: bool,
+    fault: Option<Fault>,
+}
+
+/// Runs freely within a scope.
+fn free_in<
+    's,
+    E,
+    G: Gate + Drop + Send + 's,
+    D: Debuggee + Drop + Send + 's,
+    R: Threads + Wait + Sync,
+>(scope: &Scope<'s, E>, rt: &'s R, rounds: u32, mut line: Line<D, G>) -> (Vec<D>, Tally)
+    requires room { vec_len line.back + vec_len line.waiting ≤ vec_capacity line.back }
+    requires paired { vec_len line.gates ≡ vec_len line.waiting }
+    requires few { vec_len line.waiting ≤ 64 }
+    requires none { line.back.items ≡ [] }
+    requires nothing { line.tally.done ≡ 0 }
+    ensures back { map D.place result.0.items ≡ map D.place line.waiting.items }
+    ensures done { sum_by (λ d. steps_in (D.made d)) result.0.items
+        ≡ sum_by (λ d. steps_in (D.made d)) line.waiting.items + result.1.done }
+{
+    free_from(scope, rt, rounds, &mut line);
+    let Line { back, tally, .. } = line;
+    (back, tally)
+}
+
+/// Starts the last debuggee's thread, then those before it, and joins them on the way back.
+#[tactic(auto, using(crate::proofs::Stepping::sum_last))]
+fn free_from<
+    's,
+    E,
+    G: Gate + Drop + Send + 's,
+    D: Debuggee + Drop + Send + 's,
+    R: Threads + Wait + Sync,
+>(scope: &Scope<'s, E>, rt: &'s R, rounds: u32, line: &mut Line<D, G>)
+    requires room { vec_len line.old.back + vec_len line.old.waiting ≤ vec_capacity line.old.back }
+    requires paired { vec_len line.old.gates ≡ vec_len line.old.waiting }
+    requires few { vec_len line.old.waiting ≤ 64 }
+    requires small { line.old.tally.done + vec_len line.old.waiting * 2 ^ 32 < 2 ^ 63 }
+    ensures back { map D.place line.new.back.items
+        ≡ map D.place line.old.back.items ++ map D.place line.old.waiting.items }
+    ensures done { sum_by (λ d. steps_in (D.made d)) line.new.back.items + line.old.tally.done
+        ≡ sum_by (λ d. steps_in (D.made d)) line.old.back.items
+        + sum_by (λ d. steps_in (D.made d)) line.old.waiting.items + line.new.tally.done }
+    ensures small { line.new.tally.done ≤ line.old.tally.done + vec_len line.old.waiting * 2 ^ 32 }
+    ensures capacity { vec_capacity line.old.back ≤ vec_capacity line.new.back }
+{
+    let Some(debuggee) = line.waiting.pop() else {
+        return;
+    };
+    let Some(gate) = line.gates.pop() else {
+        unreachable!()
+    };
+    let worker = line.waiting.len() as u8;
+    let runner = Runner {
+        gate,
+        debuggee,
+        worker,
+    };
+    let ran = match start(scope, rt, rounds, runner) {
+        Ok(thread) => {
+            free_from(scope, rt, rounds, line);
+            thread.join(rt)
+        }
+        Err(ran) => {
+            free_from(scope, rt, rounds, line);
+            line.tally = line.tally.broken_off();
+            ran
+        }
+    };
+    line.take_back(ran);
+}
+
+/// That a debuggee comes back as the one that it was, with as many further steps as are counted.
+#[derive(Drop)]
+struct Counted<D: Debuggee>(Snapshot<D>);
+
+impl<D: Debuggee + Drop> Promise<Ran<D>> for Counted<D> {
+    ghost use Rattle.std.specs.Prelude.{◌≡◌, ◌+◌};
+    ghost use Rattle.om_drive.specs.Steps.{steps_in};
+
+    ghost kept_by = { λ p r. (D.place r.debuggee ≡ D.place p.0.value)
+        × (steps_in (D.made r.debuggee) ≡ steps_in (D.made p.0.value) + r.done) };
+}
+
+/// Starts a worker's thread. Where there is none, the worker makes its rounds here.
+fn start<
+    's,
+    E,
+    G: Gate + Drop + Send + 's,
+    D: Debuggee + Drop + Send + 's,
+    R: Threads + Wait + Sync,
+>(
+    scope: &Scope<'s, E>,
+    rt: &'s R,
+    rounds: u32,
+    runner: Runner<G, D>,
+) -> Result<PromisedHandle<Ran<D>, Counted<D>>, Ran<D>>
+    ensures started { IfOk result (λ thread. thread.promise.0.value ≡ runner.debuggee) }
+    ensures place { IfErr result (λ ran. D.place ran.debuggee ≡ D.place runner.debuggee) }
+    ensures steps { IfErr result (λ ran. steps_in (D.made ran.debuggee) ≡ steps_in (D.made runner.debuggee) + ran.done) }
+{
+    let promise = Counted(Snapshot::of(&runner.debuggee));
+    match scope.spawn_with(promise, move || runner.run(rt, rounds)) {
+        Ok(thread) => Ok(thread),
+        Err(refused) => Err((refused.value)()),
+    }
+}
+
+impl<D: Debuggee + Drop, G> Line<D, G> {
+    /// Takes a debuggee back, and adds what came of it.
+    fn take_back(&mut self, ran: Ran<D>)
+        requires room { vec_len self.old.back < vec_capacity self.old.back }
+        requires small { self.old.tally.done + 2 ^ 32 < 2 ^ 64 }
+        ensures back { self.new.back.items ≡ self.old.back.items ++ ran.debuggee ∷ [] }
+        ensures done { self.new.tally.done ≡ self.old.tally.done + ran.done }
+        ensures capacity { vec_capacity self.old.back ≤ vec_capacity self.new.back }
+    {
+        let Ran {
+            debuggee,
+            done,
+            error,
+        } = ran;
+        self.tally = self.tally.with(done, error);
+        match self.back.push(debuggee) {
+            Ok(()) => {}
+            Err(_) => unreachable!(),
+        }
+    }
+}
+
+impl Tally {
+    /// With a worker's steps, and why it stopped.
+    fn with(self, done: u32, error: Option<CallError>) -> Tally
+        requires { self.done + done < 2 ^ 64 }
+        ensures { result.done ≡ self.done + done }
+    {
+        let done = self.done + u64::from(done);
+        match error {
+            None => Tally { done, ..self },
+            Some(CallError::Full) => Tally {
+                done,
+                full: true,
+                ..self
+            },
+            Some(CallError::OutOfMemory) => Tally { done, ..self }.broken_off(),
+        }
+    }
+
+    /// Broken off: there was no memory, or no thread.
+    fn broken_off(self) -> Tally
+        ensures { result.done ≡ self.done }
+    {
+        Tally {
+            fault: Some(Fault::Memory),
+            ..self
+        }
+    }
+}

@@ -1,0 +1,147 @@
+//! A worker that runs freely: it makes its rounds over one debuggee, behind a gate.
+
+ghost use Rattle.std.specs.Prelude.{◌≡◌, ◌<◌, ◌≤◌, ◌+◌, cond, IfOk, OnErr};
+ghost use Rattle.om_book.specs.Runs.{is_done, IsInRange};
+ghost use Rattle.om_drive.specs.Steps.{makes_step, steps_in, waits_for_tasks};
+
+use crate::worker::{Debuggee, Gate, says_yes};
+use om_book::{CallError, Command, Query, Reply};
+use om_cells::{Blocked, Choice};
+use om_foot::Name;
+use om_history::StepReply;
+use std::sync::Wait;
+
+/// A debuggee of which one worker is driven.
+#[derive(Drop)]
+pub(crate) struct Runner<G: Gate + Drop, D: Debuggee + Drop> {
+    pub(crate) gate: G,
+    pub(crate) debuggee: D,
+    pub(crate) worker: u8,
+}
+
+/// What came of a worker's rounds.
+#[derive(Drop)]
+pub(crate) struct Ran<D: Debuggee + Drop> {
+    pub(crate) debuggee: D,
+    /// How many steps it made.
+    pub(crate) done: u32,
+    /// Why it stopped before its last round, if it did.
+    pub(crate) error: Option<CallError>,
+}
+
+impl<G: Gate + Drop, D: Debuggee + Drop> Runner<G, D> {
+    /// Makes its rounds, each behind its gate, until a call is not answered. A worker that is out
+    /// of range makes none.
+    pub(crate) fn run<R: Wait>(mut self, rt: &R, rounds: u32) -> Ran<D>
+        ensures place { D.place result.debuggee ≡ D.place self.debuggee }
+        ensures steps { steps_in (D.made result.debuggee) ≡ steps_in (D.made self.debuggee) + result.done }
+    {
+        let mut done = 0;
+        let mut error = None;
+        if self.worker < self.debuggee.workers() {
+            (done, error) = self.make_rounds(rt, rounds);
+        }
+        let Runner { debuggee, .. } = self;
+        Ran {
+            debuggee,
+            done,
+            error,
+        }
+    }
+
+    /// Makes rounds. How many steps were made, and why not all rounds.
+    fn make_rounds<R: Wait>(&mut self, rt: &R, rounds: u32) -> (u32, Option<CallError>)
+        requires { self.old.worker < (D.place self.old.debuggee).workers }
+        ensures place { D.place self.new.debuggee ≡ D.place self.old.debuggee }
+        ensures steps { steps_in (D.made self.new.debuggee) ≡ steps_in (D.made self.old.debuggee) + result.0 }
+    {
+        let mut done = 0;
+        for round in 0..rounds {
+            let _ = says_yes(&mut self.gate, u64::from(round) + 1);
+            match self.round(rt) {
+                Ok(true) => done += 1,
+                Ok(false) => {}
+                Err(error) => return (done, Some(error)),
+            }
+        }
+        (done, None)
+    }
+
+    /// Makes the worker's next step, or where that waits for tasks, the start of the first that is
+    /// ready. Whether a step was made.
+    fn round<R: Wait>(&mut self, rt: &R) -> Result<bool, CallError>
+        requires { self.old.worker < (D.place self.old.debuggee).workers }
+        ensures place { D.place self.new.debuggee ≡ D.place self.old.debuggee }
+        ensures worker { self.new.worker ≡ self.old.worker }
+        ensures steps { IfOk result (λ made. steps_in (D.made self.new.debuggee)
+            ≡ steps_in (D.made self.old.debuggee) + cond made 1 0) }
+        ensures none_on_error { OnErr result (steps_in (D.made self.new.debuggee) ≡ steps_in (D.made self.old.debuggee)) }
+    {
+        let reply = self.step(rt, Choice::Next)?;
+        if reply.is_done() {
+            return Ok(true);
+        }
+        if waits_for_tasks(&reply) {
+            return self.start_first(rt);
+        }
+        Ok(false)
+    }
+
+    /// Starts the first task that is ready, if there is one. Whether it was begun.
+    fn start_first<R: Wait>(&mut self, rt: &R) -> Result<bool, CallError>
+        requires { self.old.worker < (D.place self.old.debuggee).workers }
+        ensures place { D.place self.new.debuggee ≡ D.place self.old.debuggee }
+        ensures worker { self.new.worker ≡ self.old.worker }
+        ensures steps { IfOk result (λ made. steps_in (D.made self.new.debuggee)
+            ≡ steps_in (D.made self.old.debuggee) + cond made 1 0) }
+        ensures none_on_error { OnErr result (steps_in (D.made self.new.debuggee) ≡ steps_in (D.made self.old.debuggee)) }
+    {
+        let Some(task) = self.first_ready(rt)? else {
+            return Ok(false);
+        };
+        let reply = self.step(rt, Choice::Start(task))?;
+        Ok(reply.is_done())
+    }
+
+    /// The first task that is ready.
+    fn first_ready<R: Wait>(&mut self, rt: &R) -> Result<Option<Name>, CallError>
+        ensures place { D.place self.new.debuggee ≡ D.place self.old.debuggee }
+        ensures worker { self.new.worker ≡ self.old.worker }
+        ensures steps { steps_in (D.made self.new.debuggee) ≡ steps_in (D.made self.old.debuggee) }
+    {
+        let reply = self.debuggee.call(rt, Command::Look(Query::Ready))?;
+        Ok(first_name(&reply))
+    }
+
+    /// Steps by a choice.
+    fn step<R: Wait>(&mut self, rt: &R, choice: Choice) -> Result<Reply, CallError>
+        requires { self.old.worker < (D.place self.old.debuggee).workers }
+        ensures place { D.place self.new.debuggee ≡ D.place self.old.debuggee }
+        ensures worker { self.new.worker ≡ self.old.worker }
+        ensures steps { IfOk result (λ x. steps_in (D.made self.new.debuggee)
+            ≡ steps_in (D.made self.old.debuggee) + cond (is_done x) 1 0) }
+        ensures none_on_error { OnErr result (steps_in (D.made self.new.debuggee) ≡ steps_in (D.made self.old.debuggee)) }
+    {
+        let worker = self.worker;
+        let reply = self.debuggee.call(rt, Command::Step { worker, choice })?;
+        Ok(reply)
+    }
+}
+
+/// The first of the tasks that are ready.
+fn first_name(reply: &Reply) -> Option<Name> {
+    match reply {
+        Reply::Ready(names) => names.as_slice().first().copied(),
+        _ => None,
+    }
+}
+
+/// Whether a step waits at a barrier or for tasks, so that another task may be begun there.
+fn waits_for_tasks(reply: &Reply) -> bool
+    ensures { result ≡ waits_for_tasks reply.now }
+{
+    matches!(
+        reply,
+        Reply::Step(StepReply::Blocked(Blocked::Barrier | Blocked::Children | Blocked::Group))
+    )
+}
