@@ -7,5 +7,6 @@ pub mod Looks
 pub mod Moves
 pub mod Stops
 pub mod Runs
+pub mod Freed
 pub mod Marked
 pub mod Views

@@ -3,6 +3,7 @@
 
 mod debuggee;
 mod debugger;
+mod freed;
 mod local;
 mod looks;
 mod marks;

@@ -1,19 +1,26 @@
 //! A machine whose calls are recorded.
 
-ghost use Rattle.std.specs.Prelude.{◌≡◌, ◌<◌, ◌≤◌, nat_le, IfOk, OnOk};
+ghost use Rattle.std.specs.Prelude.{◌≡◌, ◌<◌, ◌≤◌, List, nat_le, IfOk, OnOk};
+ghost use Rattle.om_book.specs.declared.command.Command.{Command};
+ghost use Rattle.om_view.specs.Freed.{commands_of, recorded_calls, steps_made};
 ghost use Rattle.om_view.specs.Ready.{ready_names};
 ghost use Rattle.om_view.specs.Recorded.{started, after_look, is_full, label_of, recorded_step, recorded_undo, recorded_roll};
 ghost use Rattle.om_view.specs.Moves.{step_reply_of, undo_reply_of};
 ghost use Rattle.om_history.specs.Cones.{reply_to_roll};
 ghost use Rattle.om_undo.specs.Machines.{rules_for, state_in};
 
+use crate::freed::{Count, Errand, open_gates, run_through};
+use core::mem::replace_with;
+use om_book::{Blank, Book};
 use om_cells::{Choice, Entry, Val};
 use om_code::program::Program;
 use om_foot::{Name, Obj};
 use om_undo::laws::one_ready_list;
 use om_undo::{Machine, RollReply, StepReply, UndoReply};
 use std::alloc::{AllocError, Global};
-use std::marker::Model;
+use std::marker::{Brand, Model};
+use std::sync::Wait;
+use std::thread::Threads;
 
 // How many calls are recorded at most.
 const MOST_RECORDS: u64 = 200_000;
@@ -125,6 +132,64 @@ impl Recorder {
         Ok(reply)
     }
 
+    /// Lets all workers step at once, each in a thread of its own. Its only error is out of memory,
+    /// or no thread.
+    pub(crate) fn free<R: Threads + Wait + Sync>(
+        &mut self,
+        errand: Errand<'_, R>,
+    ) -> Result<Count, AllocError>
+        ensures { IfOk result (λ count. (calls : List Command)
+            × (count.done ≡ steps_made self.old.machine calls)
+            × (self.new ≡ recorded_calls self.old calls)) }
+    {
+        replace_with(
+            self,
+            errand,
+            |recorder, errand| -> (Recorder, Result<Count, AllocError>)
+                ensures { IfOk result.1 (λ count. (calls : List Command)
+                    × (count.done ≡ steps_made recorder.machine calls)
+                    × (result.0 ≡ recorded_calls recorder calls)) }
+            { recorder.freed(errand) },
+        )
+    }
+
+    // The machine behind a free run, whose calls are recorded.
+    fn freed<R: Threads + Wait + Sync>(
+        self,
+        errand: Errand<'_, R>,
+    ) -> (Recorder, Result<Count, AllocError>)
+        ensures { IfOk result.1 (λ count. (calls : List Command)
+            × (count.done ≡ steps_made self.machine calls)
+            × (result.0 ≡ recorded_calls self calls)) }
+    {
+        let Recorder { machine, records } = self;
+        let workers = machine.workers();
+        let Ok(gates) = open_gates(errand.alloc, workers) else {
+            return (Recorder { machine, records }, Err(AllocError));
+        };
+        let blank = Blank::new(workers);
+        let book = Book::over(errand.alloc, machine, records);
+        let (book, full) = run_through::<Brand, _>(errand, gates, blank, book);
+        Recorder::behind(book, full)
+    }
+
+    // What a book leaves of the machine that it was opened over, and its calls.
+    #[tactic(auto, using(crate::proofs::Freeing::behind_book))]
+    fn behind(book: Book, full: Result<bool, AllocError>) -> (Recorder, Result<Count, AllocError>)
+        ensures { IfOk result.1 (λ count. (calls : List Command)
+            × (count.done ≡ steps_made book.start calls)
+            × (result.0 ≡ recorded_calls (record { machine = book.start; records = book.before }) calls)) }
+    {
+        let done = steps_in(&book);
+        let records = book.records();
+        let machine = book.into_machine();
+        let recorder = Recorder { machine, records };
+        match full {
+            Ok(full) => (recorder, Ok(Count { done, full })),
+            Err(AllocError) => (recorder, Err(AllocError)),
+        }
+    }
+
     /// Looks at what an object holds.
     pub(crate) fn look(&mut self, alloc: Global, object: &Obj) -> Result<Val, AllocError>
         requires room { self.old.records < 200000 }
@@ -157,6 +222,16 @@ impl Recorder {
         self.count();
         Ok(names)
     }
+}
+
+// How many steps the calls of a book made.
+#[tactic(auto, using(crate::proofs::Freeing::steps_same))]
+fn steps_in(book: &Book) -> u64
+    ensures { result ≡ steps_made book.now.start (commands_of book.now.journal) }
+{
+    // Each reply in it is that of its command.
+    let _answered = book.journal();
+    book.steps_made()
 }
 
 /// The names of the tasks that are ready at a machine, ascending.
