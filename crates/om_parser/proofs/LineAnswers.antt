@@ -1,22 +1,19 @@
 -- What `om_pragma` answers for a run is what its reading gives, by its laws.
-use Rattle.std.proofs.Common.{◌≡◌, ℕ, List, [], ◌∷◌, ◌++◌, Option, Some, None, Bool, true, false, cond, Result, Ok, Err, refl, sym, ap, subst, ◌∙◌, ◌⊎◌, inl, inr}
+use Rattle.std.proofs.Common.{◌≡◌, ℕ, List, Option, Some, None, Result, Ok, Err, refl, sym, ◌⊎◌, inl, inr}
 use Rattle.std.specs.Prelude.{IfOk, IfErr, IfSome, option_map}
 use denote.Ref.{Bor}
 use Rattle.om_lexer.specs.Faults.{no_memory}
 use Rattle.om_lexer.specs.declared.fault.FaultCode.TheVariants as codes
 use Rattle.om_lexer.specs.declared.fault.SourceFault.{SourceFault}
 use Rattle.om_lexer.specs.declared.token.Token.{Token}
-use Rattle.om_lexer.specs.declared.token.TokenKind.{TokenKind}
-use Rattle.om_lexer.specs.declared.token.TokenKind.TheVariants as kinds
 use Rattle.om_pragma.specs.declared.tree.Directive.{Directive}
 use Rattle.om_pragma.specs.Expressions.{with_tokens}
-use Rattle.om_pragma.specs.Reading.{is_end, directive_at, expression_before}
+use Rattle.om_pragma.specs.Reading.{directive_at, expression_before}
 use Rattle.om_pragma.specs.Refusals.{IsAnswer, IsRefusal, StopsAt, EndsOnce}
 use Rattle.om_pragma.specs.Table.{IsDirectiveOf}
 use Rattle.om_pragma.specs.Values.{StandsAsValue, IsFirstValue}
-use Rattle.om_parser.specs.LineReading.{run_of}
 use Rattle.om_parser.specs.Reading.{Reads}
-use Rattle.om_parser.proofs.Outcomes.{some, some_is}
+use Rattle.om_parser.proofs.Outcomes.{some}
 
 -- ---- the directive of a run
 
