@@ -16,6 +16,7 @@ pub mod RunLaws
 pub mod Exactly
 pub mod Changes
 pub mod Rooms
+pub mod Apart
 pub mod Borrowed
 pub mod Soundness
 pub mod Rolling

@@ -10,6 +10,7 @@ ghost use Rattle.om_history.specs.Commands.{IsGone};
 ghost use Rattle.om_history.specs.Records.{is_done};
 ghost use Rattle.om_history.specs.Pasts.{past_in, history_in, IsHeld, IsPlanned, IsReplay, AreNumbered, Replies, RepliesToStep, Becomes, TakesStep, TakesOut, TakesItsCone, Stays};
 
+use crate::kept::Kept;
 use crate::records::{UndoRecord, append, cone_of, entries, last_index, reply_at, take_out};
 use crate::reply::{RollReply, StepReply, Taken, UndoReply};
 use om_cells::{Control, Entry, Label, Outcome, Step, Store, Update, Val};
@@ -26,7 +27,7 @@ use std::alloc::{AllocError, Global};
 #[derive(Drop)]
 pub struct History {
     store: Store,
-    records: Vec<UndoRecord>,
+    records: Vec<Kept>,
     made: u64,
 }
 

@@ -3,7 +3,9 @@
 #![tactic(auto)]
 
 pub mod history;
+mod kept;
 pub mod laws;
+mod reach;
 pub mod records;
 pub mod reply;
 mod updates;

@@ -2,12 +2,15 @@
 
 ghost use Rattle.std.specs.Prelude.{◌≡◌, ◌≢◌, map, reverse, ◌<◌, ◌+◌, ◌∷◌, ◌++◌, [], IfOk, OnOk, OnErr, All, IfSome, IfNone, length, slice_get, remove, drop, true};
 ghost use Rattle.om_foot.specs.declared.object.Obj.{Obj};
+ghost use Rattle.om_foot.specs.Footprint.{conflict_of};
 ghost use Rattle.om_cells.specs.State.{updated, undo_record, taken_back};
 ghost use Rattle.om_cells.specs.Stores.{state_of, is_kept};
 ghost use Rattle.om_history.specs.Bounds.{FitsAll, FitsBack};
 ghost use Rattle.om_history.specs.Cones.{meets_one, is_member as is_member_of, cone, taken_of};
+ghost use Rattle.om_history.specs.Runs.{conflict_or};
 ghost use Rattle.om_history.specs.Records.{entries_of, transition_of, transitions_of, first_kept_conflict, kept_reply, HasRoom};
 
+use crate::kept::Kept;
 use crate::reply::{Taken, UndoReply};
 use crate::updates::{keep_all, make_all, take_back_all};
 use om_cells::{Entry, Store, Update};
@@ -26,54 +29,74 @@ pub struct UndoRecord {
 }
 
 /// The index of a worker's last entry, sought from the end.
-pub(crate) fn last_index(records: &[UndoRecord], worker: u8) -> Option<usize>
+pub(crate) fn last_index(records: &[Kept], worker: u8) -> Option<usize>
     ensures own { IfSome result (λ i. IfSome (slice_get records.now i) (λ k. k.entry.worker ≡ worker)) }
     ensures last { IfSome result (λ i. All (λ k. k.entry.worker ≢ worker) (drop (i + 1) records.now)) }
     ensures within { IfSome result (λ i. i < length records.now) }
     ensures none { IfNone result (All (λ k. k.entry.worker ≢ worker) records.now) }
 {
     for i in (0..records.len()).rev() {
-        if records[i].entry.worker == worker {
+        if records[i].worker() == worker {
             return Some(i);
         }
     }
     None
 }
 
-/// The reply that names the first record that conflicts with a footprint, else the other reply.
-fn first_conflict(footprint: &[Access], later: &[UndoRecord], otherwise: UndoReply) -> UndoReply
-    ensures { result ≡ first_kept_conflict footprint.now later.now otherwise }
+/// The reply that names a record where it conflicts with another one, else the other reply.
+fn refusal(undone: &Kept, made: &Kept, otherwise: UndoReply) -> UndoReply
+    ensures { result ≡ conflict_or made.now.entry (conflict_of undone.now.footprint made.now.footprint) otherwise }
+{
+    match conflict(undone.footprint(), made.footprint()) {
+        Some(object) => UndoReply::Conflict {
+            serial: made.serial(),
+            worker: made.worker(),
+            object,
+        },
+        None => otherwise,
+    }
+}
+
+/// The reply that names the first record that conflicts with another one, else the other reply.
+#[tactic(auto, using(crate::proofs::Apart::not_met, crate::proofs::Apart::met))]
+fn first_conflict(undone: &Kept, later: &[Kept], otherwise: UndoReply) -> UndoReply
+    ensures { result ≡ first_kept_conflict undone.now.footprint later.now otherwise }
 {
     for made in later {
-        if let Some(object) = conflict(footprint, made.footprint.as_slice()) {
-            return UndoReply::Conflict {
-                serial: made.entry.serial,
-                worker: made.entry.worker,
-                object,
-            };
+        if undone.meets(made) {
+            return refusal(undone, made, otherwise);
         }
     }
     otherwise
 }
 
 /// What an undo of the entry at an index answers.
-pub(crate) fn reply_at(records: &[UndoRecord], at: usize) -> UndoReply
+pub(crate) fn reply_at(records: &[Kept], at: usize) -> UndoReply
     requires { at < length records.now }
     ensures { result ≡ kept_reply records.now at }
 {
     let last = &records[at];
     let undone = UndoReply::Undone {
-        serial: last.entry.serial,
-        line: last.entry.line,
+        serial: last.serial(),
+        line: last.line(),
     };
-    first_conflict(last.footprint.as_slice(), &records[at + 1..], undone)
+    first_conflict(last, &records[at + 1..], undone)
+}
+
+/// The same accesses, with no room for more where that can be given back.
+fn without_room(footprint: Seq<Access>) -> Seq<Access>
+    ensures { result ≡ footprint }
+{
+    let mut accesses = footprint.into_vec();
+    accesses.shrink_to_fit();
+    Seq::of(accesses)
 }
 
 /// Makes the updates of a record that has them in the place of what takes them back, and adds it at
 /// the end, with what takes them back. When out of memory, no value and no record changes.
 pub(crate) fn append(
     store: &mut Store,
-    records: &mut Vec<UndoRecord>,
+    records: &mut Vec<Kept>,
     alloc: Global,
     planned: UndoRecord,
 ) -> Result<(), AllocError>
@@ -92,13 +115,16 @@ pub(crate) fn append(
     } = planned;
     keep_all(store, alloc, footprint.as_slice())?;
     records.reserve(1)?;
-    let mut back = back.into_vec();
-    make_all(store, footprint.as_slice(), &mut back)?;
     let made = UndoRecord {
         entry,
-        footprint,
-        back: Seq::of(back),
+        footprint: without_room(footprint),
+        back: Seq::new(alloc),
     };
+    let mut made = Kept::of(alloc, made)?;
+    let mut back = back.into_vec();
+    back.shrink_to_fit();
+    make_all(store, made.footprint(), &mut back)?;
+    made.set_back(Seq::of(back));
     match records.push(made) {
         Ok(()) => Ok(()),
         Err(_) => unreachable!(),
@@ -106,7 +132,7 @@ pub(crate) fn append(
 }
 
 /// Takes a record out, and takes its updates back. It takes no memory.
-pub(crate) fn take_out(store: &mut Store, records: &mut Vec<UndoRecord>, at: usize)
+pub(crate) fn take_out(store: &mut Store, records: &mut Vec<Kept>, at: usize)
     requires within { at < length records.old.items }
     requires rooms { All (λ k. HasRoom store.old k) records.old.items }
     requires fits { IfSome (slice_get records.old.items at) (λ k. FitsBack k.footprint k.back (state_of store.old)) }
@@ -114,21 +140,17 @@ pub(crate) fn take_out(store: &mut Store, records: &mut Vec<UndoRecord>, at: usi
     ensures records { records.new.items ≡ remove records.old.items at }
     ensures kept { (q : Obj) → is_kept store.new q ≡ is_kept store.old q }
 {
-    let UndoRecord {
-        entry: _,
-        footprint,
-        back,
-    } = records.remove(at);
+    let (footprint, back) = records.remove(at).into_changes();
     let mut back = back.into_vec();
     take_back_all(store, footprint.as_slice(), &mut back);
 }
 
 /// Whether a record conflicts with one of these.
-fn meets(members: &[&UndoRecord], made: &UndoRecord) -> bool
+fn meets(members: &[&Kept], made: &Kept) -> bool
     ensures { result ≡ meets_one (map (λ k. transition_of k.now) members.now) (transition_of made.now) }
 {
     for member in members {
-        if conflict(member.footprint.as_slice(), made.footprint.as_slice()).is_some() {
+        if member.meets(made) {
             return true;
         }
     }
@@ -137,18 +159,14 @@ fn meets(members: &[&UndoRecord], made: &UndoRecord) -> bool
 
 /// Whether a record is of the cone of the entry with a serial, where these are the members before
 /// it.
-fn is_member(members: &[&UndoRecord], made: &UndoRecord, serial: u64) -> bool
+fn is_member(members: &[&Kept], made: &Kept, serial: u64) -> bool
     ensures { result ≡ is_member_of serial (map (λ k. transition_of k.now) members.now) (transition_of made.now) }
 {
-    made.entry.serial == serial || meets(members, made)
+    made.serial() == serial || meets(members, made)
 }
 
 /// The members of the cone of the entry with a serial, in their order; none where no entry has it.
-fn members<'a>(
-    alloc: Global,
-    records: &'a [UndoRecord],
-    serial: u64,
-) -> Result<Vec<&'a UndoRecord>, AllocError>
+fn members<'a>(alloc: Global, records: &'a [Kept], serial: u64) -> Result<Vec<&'a Kept>, AllocError>
     ensures { IfOk result (λ v. map (λ k. transition_of k.now) v.items ≡ cone serial (transitions_of records.now)) }
 {
     let mut members = Vec::new(alloc);
@@ -161,16 +179,16 @@ fn members<'a>(
 }
 
 /// What names the entries of records, the last one first.
-fn names(alloc: Global, members: &[&UndoRecord]) -> Result<Vec<Taken>, AllocError>
+fn names(alloc: Global, members: &[&Kept]) -> Result<Vec<Taken>, AllocError>
     ensures { IfOk result (λ v. v.items ≡ map (λ k. taken_of (transition_of k.now)) (reverse members.now)) }
 {
     members
         .iter()
         .rev()
         .map(|member| Taken {
-            serial: member.entry.serial,
-            worker: member.entry.worker,
-            line: member.entry.line,
+            serial: member.serial(),
+            worker: member.worker(),
+            line: member.line(),
         })
         .collect(alloc)
 }
@@ -179,7 +197,7 @@ fn names(alloc: Global, members: &[&UndoRecord]) -> Result<Vec<Taken>, AllocErro
 /// it.
 pub(crate) fn cone_of(
     alloc: Global,
-    records: &[UndoRecord],
+    records: &[Kept],
     serial: u64,
 ) -> Result<Vec<Taken>, AllocError>
     ensures { IfOk result (λ v. v.items ≡ map taken_of (reverse (cone serial (transitions_of records.now)))) }
@@ -189,12 +207,18 @@ pub(crate) fn cone_of(
 }
 
 /// The entries of records, in their order.
-pub(crate) fn entries(alloc: Global, records: &[UndoRecord]) -> Result<Vec<Entry>, AllocError>
+pub(crate) fn entries(alloc: Global, records: &[Kept]) -> Result<Vec<Entry>, AllocError>
     ensures { IfOk result (λ v. v.items ≡ entries_of records.now) }
 {
     let mut entries = Vec::with_capacity(alloc, records.len())?;
     for made in records {
-        entries.push(made.entry)?;
+        let choice = made.choice();
+        entries.push(Entry {
+            serial: made.serial(),
+            worker: made.worker(),
+            choice,
+            line: made.line(),
+        })?;
     }
     Ok(entries)
 }
