@@ -87,10 +87,20 @@ fn add_end(tokens: &mut Vec<Token>, state: &LineState, span: Span) -> Result<(),
     ensures { OnOk result (tokens.new.items ≡ (tokens.old.items ++ directive_end state.now) ++ record { kind = TokenKind.End; span = span } ∷ []) }
 {
     end_directive(tokens, state)?;
-    tokens.push(Token {
-        kind: TokenKind::End,
-        span,
-    })?;
+    add(
+        tokens,
+        Token {
+            kind: TokenKind::End,
+            span,
+        },
+    )
+}
+
+/// Adds an item at the end. When out of memory, the item is gone.
+fn add<T: Drop>(items: &mut Vec<T>, item: T) -> Result<(), AllocError>
+    ensures { OnOk result (items.new.items ≡ items.old.items ++ item ∷ []) }
+{
+    items.push(item)?;
     Ok(())
 }
 
@@ -154,13 +164,13 @@ fn end_directive(tokens: &mut Vec<Token>, state: &LineState) -> Result<(), Alloc
     ensures { OnOk result (tokens.new.items ≡ tokens.old.items ++ directive_end state.now) }
 {
     match state {
-        LineState::Directive(last) => {
-            tokens.push(Token {
+        LineState::Directive(last) => add(
+            tokens,
+            Token {
                 kind: TokenKind::DirectiveEnd,
                 span: *last,
-            })?;
-            Ok(())
-        }
+            },
+        ),
         _ => Ok(()),
     }
 }
@@ -198,11 +208,14 @@ fn take_token(
 fn add_token(tokens: &mut Vec<Token>, macros: &Macros, token: Token) -> Result<(), AllocError>
     ensures { OnOk result (tokens.new.items ≡ tokens.old.items ++ record { kind = replaced macros.now token.kind; span = token.span } ∷ []) }
 {
-    tokens.push(Token {
-        kind: macros.replaced(token.kind),
-        span: token.span,
-    })?;
-    Ok(())
+    let kind = macros.replaced(token.kind);
+    add(
+        tokens,
+        Token {
+            kind,
+            span: token.span,
+        },
+    )
 }
 
 /// Defines a name as a constant.
@@ -269,10 +282,13 @@ fn begin_directive(
         end: span.start + 1,
         line: span.line,
     };
-    tokens.push(Token {
-        kind: TokenKind::DirectiveBegin,
-        span: hash,
-    })?;
+    add(
+        tokens,
+        Token {
+            kind: TokenKind::DirectiveBegin,
+            span: hash,
+        },
+    )?;
     let pragma = word_span(source, span, pragma, 6);
     add_word(alloc, tokens, b"pragma", pragma)?;
     let omp = word_span(source, span, omp, 3);
@@ -310,8 +326,7 @@ fn add_word(
     ensures { OnOk result (tokens.new.items ≡ tokens.old.items ++ record { kind = TokenKind.Name text.now; span = span } ∷ []) }
 {
     let kind = TokenKind::Name(Seq::of(Vec::from_slice(alloc, text)?));
-    tokens.push(Token { kind, span })?;
-    Ok(())
+    add(tokens, Token { kind, span })
 }
 
 /// How many line feeds there are.

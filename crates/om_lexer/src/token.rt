@@ -5,7 +5,7 @@ use om_seq::Seq;
 /// The bytes from `start` up to `end` of the source, and the line of `start`.
 ///
 /// A line is 1 and the line feeds before it, those behind a backslash and in comments too.
-#[derive(Clone, Copy, Debug)]
+#[derive(Clone, Copy)]
 pub struct Span {
     /// The first byte, from 0.
     pub start: u32,
@@ -16,14 +16,14 @@ pub struct Span {
 }
 
 /// A token: what it is, and its place.
-#[derive(Debug, Drop)]
+#[derive(Drop)]
 pub struct Token {
     pub kind: TokenKind,
     pub span: Span,
 }
 
 /// What a token is.
-#[derive(Debug, Drop)]
+#[derive(Drop)]
 pub enum TokenKind {
     /// A name (C17 6.4.2): 1 to 63 letters, digits and `_`, and no keyword.
     Name(Seq<u8>),
@@ -42,7 +42,7 @@ pub enum TokenKind {
 }
 
 /// A keyword of C17 6.4.1.
-#[derive(Clone, Copy, Debug, PartialEq, Eq)]
+#[derive(Clone, Copy, PartialEq, Eq)]
 pub enum Keyword {
     Auto,
     Break,
@@ -91,7 +91,7 @@ pub enum Keyword {
 }
 
 /// A punctuator of the accepted C (of C17 6.4.6).
-#[derive(Clone, Copy, Debug, PartialEq, Eq)]
+#[derive(Clone, Copy, PartialEq, Eq)]
 pub enum Punctuator {
     /// `(`
     OpenParen,

@@ -1,5 +1,5 @@
 -- The run of a directive line: its tokens up to the first end, found token by token.
-use Rattle.std.proofs.Common.{◌≡◌, ℕ, ◌+◌, ◌<◌, ◌≤◌, List, [], ◌∷◌, ◌++◌, length, take, Option, Some, None, Bool, true, false, cond, refl, sym, ap, subst, ◌∙◌, arith, append_assoc, length-append, All}
+use Rattle.std.proofs.Common.{◌≡◌, ℕ, ◌+◌, ◌<◌, ◌≤◌, List, [], ◌∷◌, ◌++◌, length, take, Option, Some, None, Bool, true, false, cond, refl, sym, ap, subst, ◌∙◌, arith, append_assoc, length-append}
 use Rattle.std.specs.Prelude.{◌≢◌, option_map}
 use Rattle.std.proofs.lemmas.Bool.{lt-ltb, le-ltb}
 use Rattle.std.proofs.lemmas.List.Elements.{All-nil, All-cons}
@@ -8,6 +8,7 @@ use Rattle.om_lexer.specs.declared.token.Token.{Token}
 use Rattle.om_lexer.specs.declared.token.TokenKind.{TokenKind}
 use Rattle.om_lexer.specs.declared.token.TokenKind.TheVariants as kinds
 use Rattle.om_pragma.specs.Reading.{is_end, take_first}
+use Rattle.om_pragma.specs.Refusals.{EndsOnce}
 use Rattle.om_parser.specs.LineFaults.{IsOneLine}
 use Rattle.om_parser.specs.LineReading.{run_of, place_behind}
 use Rattle.om_tree.specs.Spelling.{token}
@@ -118,35 +119,29 @@ abbrev NoEnd : Token → Type 0
 NoEnd t = t.kind ≢ kinds.DirectiveEnd
 
 -- what is found ends with an end, and has no other
-record IsEnded (run : List Token) : Type 0 where
-  inner : List Token
-  end : Span
-  parts : run ≡ inner ++ token kinds.DirectiveEnd end ∷ []
-  endless : All NoEnd inner
-
-ended_first : (t : Token) → is_end t.kind ≡ true → IsEnded (t ∷ [])
-ended_first t is = record { inner = []; end = t.span; parts = ap (λ k. token k t.span ∷ []) (end_kind t.kind is); endless = All-nil NoEnd }
+ended_first : (t : Token) → is_end t.kind ≡ true → EndsOnce (t ∷ [])
+ended_first t is = record { front = []; end = t.span; parts = ap (λ k. token k t.span ∷ []) (end_kind t.kind is); endless = All-nil NoEnd }
   where
     end_kind : (k : TokenKind) → is_end k ≡ true → k ≡ kinds.DirectiveEnd
     end_kind kinds.DirectiveEnd e = refl
     end_kind _ e = absurd cc
 
-ended_more : (t : Token) (run : List Token) → is_end t.kind ≡ false → IsEnded run → IsEnded (t ∷ run)
+ended_more : (t : Token) (run : List Token) → is_end t.kind ≡ false → EndsOnce run → EndsOnce (t ∷ run)
 ended_more t run is r = record {
-  inner = t ∷ r.inner;
+  front = t ∷ r.front;
   end = r.end;
   parts = ap (λ (w : List Token). t ∷ w) r.parts;
-  endless = All-cons NoEnd t r.inner (λ (e : t.kind ≡ kinds.DirectiveEnd). let both : is_end t.kind ≡ true = ap is_end e in absurd cc) r.endless;
+  endless = All-cons NoEnd t r.front (λ (e : t.kind ≡ kinds.DirectiveEnd). let both : is_end t.kind ≡ true = ap is_end e in absurd cc) r.endless;
 }
 
-run_is_ended : (ts : List Token) (r : List Token × List Token) → run_of ts ≡ some r → IsEnded r.0
+pub run_is_ended : (ts : List Token) (r : List Token × List Token) → run_of ts ≡ some r → EndsOnce r.0
 unfolding run_of
 run_is_ended [] r e = absurd cc
 run_is_ended (t ∷ ts) r e = go (λ s is. run_is_ended ts s is) (is_end t.kind) refl (run_of ts) refl e
   where
-    go : ((s : List Token × List Token) → run_of ts ≡ some s → IsEnded s.0) → (b : Bool) → is_end t.kind ≡ b → (o : Run) → run_of ts ≡ o → cond b (some (t ∷ [], ts)) (with_front (t ∷ []) o) ≡ some r → IsEnded r.0
-    go later true end o is e = subst (λ (p : List Token × List Token). IsEnded p.0) (some_is (t ∷ [], ts) r e) (ended_first t end)
-    go later false end (Some s) is e = subst (λ (p : List Token × List Token). IsEnded p.0) (some_is (t ∷ s.0, s.1) r e) (ended_more t s.0 end (later s is))
+    go : ((s : List Token × List Token) → run_of ts ≡ some s → EndsOnce s.0) → (b : Bool) → is_end t.kind ≡ b → (o : Run) → run_of ts ≡ o → cond b (some (t ∷ [], ts)) (with_front (t ∷ []) o) ≡ some r → EndsOnce r.0
+    go later true end o is e = subst (λ (p : List Token × List Token). EndsOnce p.0) (some_is (t ∷ [], ts) r e) (ended_first t end)
+    go later false end (Some s) is e = subst (λ (p : List Token × List Token). EndsOnce p.0) (some_is (t ∷ s.0, s.1) r e) (ended_more t s.0 end (later s is))
     go later false end None is e = absurd cc
 
 -- behind the beginning of a line, it is one whole line
@@ -157,7 +152,7 @@ run_is_line hash ts r e = go (run_of ts) refl e
     go : (o : Run) → run_of ts ≡ o → with_front (token kinds.DirectiveBegin hash ∷ []) o ≡ some r → IsOneLine r.0
     go (Some s) is e =
         let c = run_is_ended ts s is in
-        subst (λ (p : List Token × List Token). IsOneLine p.0) (some_is (token kinds.DirectiveBegin hash ∷ s.0, s.1) r e) (record { hash = hash; inner = c.inner; end = c.end; parts = ap (λ (w : List Token). token kinds.DirectiveBegin hash ∷ w) c.parts; endless = c.endless })
+        subst (λ (p : List Token × List Token). IsOneLine p.0) (some_is (token kinds.DirectiveBegin hash ∷ s.0, s.1) r e) (record { hash = hash; inner = c.front; end = c.end; parts = ap (λ (w : List Token). token kinds.DirectiveBegin hash ∷ w) c.parts; endless = c.endless })
     go None is e = absurd cc
 
 -- none of these tokens ends a line

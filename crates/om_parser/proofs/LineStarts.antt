@@ -1,24 +1,24 @@
 -- What a line begins, by the name of its directive.
-use Rattle.std.proofs.Common.{◌≡◌, List, [], ◌∷◌, ◌++◌, refl, codes, if◌then◌else◌}
+use Rattle.std.proofs.Common.{◌≡◌, List, [], ◌∷◌, ◌++◌, refl, codes}
 use Rattle.std.specs.List.{flat_map}
 use Rattle.om_lexer.specs.declared.token.Token.{Token}
 use Rattle.om_lexer.specs.declared.token.TokenKind.TheVariants as kinds
 use Rattle.om_pragma.specs.declared.tree.Directive.{Directive}
 use Rattle.om_pragma.specs.declared.tree.DirectiveName.{DirectiveName}
 use Rattle.om_pragma.specs.declared.tree.DirectiveName.TheVariants as directives
-use Rattle.om_pragma.specs.Questions.{is_stand_alone, is_section}
+use Rattle.om_pragma.specs.Kinds.{directive_kind}
 use Rattle.om_pragma.specs.Spelling.{token, item_spelling, name_spelling, opening_spelling, directive_spelling}
 use Rattle.om_parser.specs.declared.construct.LineStart.{LineStart}
-use Rattle.om_parser.specs.declared.construct.LineStart.TheVariants as lines
-use Rattle.om_parser.specs.ConstructReading.{word_start, line_start}
+use Rattle.om_pragma.specs.Words.{same_keyword}
+use Rattle.om_parser.specs.ConstructReading.{start_of_kind, word_start, line_start}
 use Rattle.om_tree.specs.Spelling.{expression_spelling}
 use Rattle.om_tree.specs.Tree.{ExpressionTree}
 
 abbrev pub start_of_directive : DirectiveName → LineStart
-start_of_directive name = if is_stand_alone name then lines.StandAlone else if is_section name then lines.Section else lines.Construct
+start_of_directive name = start_of_kind (directive_kind name)
 
 name_start_is : (n : DirectiveName) (pragma omp : Token) (more rest : List Token) → word_start (pragma ∷ omp ∷ ((name_spelling n ++ more) ++ rest)) ≡ start_of_directive n
-unfolding name_spelling
+unfolding name_spelling same_keyword
 name_start_is (directives.Parallel s) pragma omp more rest = refl
 name_start_is (directives.For s) pragma omp more rest = refl
 name_start_is (directives.Sections s) pragma omp more rest = refl

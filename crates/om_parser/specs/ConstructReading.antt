@@ -1,40 +1,30 @@
 -- Reading directives and their statements from the left.
-use Rattle.std.specs.Prelude.{ℕ, List, [], ◌∷◌, Ok, Err, Bool, false, ◌||◌, not, bytes_eq, codes, if◌then◌else◌}
+use Rattle.std.specs.Prelude.{List, [], ◌∷◌, Ok, Err, Bool, false, ◌||◌, not, if◌then◌else◌}
 use Rattle.om_lexer.specs.declared.fault.FaultCode.TheVariants as faults
 use Rattle.om_lexer.specs.declared.fault.SourceFault.{SourceFault}
-use Rattle.om_lexer.specs.declared.token.Keyword.TheVariants as keywords
 use Rattle.om_lexer.specs.declared.token.Span.{Span}
 use Rattle.om_lexer.specs.declared.token.Token.{Token}
 use Rattle.om_lexer.specs.declared.token.TokenKind.{TokenKind}
 use Rattle.om_lexer.specs.declared.token.TokenKind.TheVariants as kinds
+use Rattle.om_pragma.specs.declared.kind.DirectiveKind.{DirectiveKind}
 use Rattle.om_pragma.specs.declared.tree.Directive.{Directive}
+use Rattle.om_pragma.specs.Kinds.{stands_alone, begins_part}
 use Rattle.om_pragma.specs.Questions.{is_sections, is_atomic, word_span, atomic_kind}
+use Rattle.om_pragma.specs.Words.{begun_by}
 use Rattle.om_parser.specs.declared.construct.LineStart.{LineStart}
 use Rattle.om_parser.specs.declared.construct.LineStart.TheVariants as lines
 use Rattle.om_tree.specs.AtomicForms.{has_atomic_form}
-use Rattle.om_parser.specs.Reading.{◌>>=◌, Outcome, Reader, syntax}
+use Rattle.om_parser.specs.Reading.{◌>>=◌, choose, Outcome, Reader, syntax}
 use Rattle.om_tree.specs.Tree.{ExpressionTree, StatementTree, Construct, StandAlone, Sections, Section, StatementsTree}
 
 -- ---- which directive a line is, by its first word
 
--- a directive with no statement behind it
-abbrev pub stands_alone : List ℕ → Bool
-stands_alone text = bytes_eq text (codes "barrier") || bytes_eq text (codes "taskwait") || bytes_eq text (codes "taskyield") || bytes_eq text (codes "flush")
-
--- a directive with a statement behind it
-abbrev pub begins_construct : List ℕ → Bool
-begins_construct text = bytes_eq text (codes "parallel") || bytes_eq text (codes "sections") || bytes_eq text (codes "single") || bytes_eq text (codes "masked")
-    || bytes_eq text (codes "master") || bytes_eq text (codes "critical") || bytes_eq text (codes "atomic") || bytes_eq text (codes "task")
-    || bytes_eq text (codes "taskgroup")
-
-abbrev pub start_of_name : List ℕ → LineStart
-start_of_name text = if stands_alone text then lines.StandAlone else if bytes_eq text (codes "section") then lines.Section else if begins_construct text then lines.Construct else lines.Unknown
+abbrev pub start_of_kind : DirectiveKind → LineStart
+start_of_kind kind = if stands_alone kind then lines.StandAlone else if begins_part kind then lines.Section else lines.Construct
 
 -- what the word behind `omp` begins
 abbrev pub start_of_line : TokenKind → LineStart
-start_of_line (kinds.Name text) = start_of_name text
-start_of_line (kinds.Keyword keywords.For) = lines.Construct
-start_of_line _ = lines.Unknown
+start_of_line kind = choose (begun_by kind) start_of_kind lines.Unknown
 
 -- what the line begins of which the `#` is taken: its word stands behind `pragma` and `omp`
 abbrev pub word_start : List Token → LineStart

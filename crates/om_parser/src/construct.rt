@@ -1,11 +1,12 @@
 //! Which directive a line is, by its first word (OpenMP API 5.2, chapter 3).
 
 ghost use Rattle.std.specs.Prelude.{◌≡◌};
-ghost use Rattle.om_parser.specs.ConstructReading.{begins_construct, from_word, line_start, stands_alone, start_of_line, start_of_name, word_start};
+ghost use Rattle.om_parser.specs.ConstructReading.{from_word, line_start, start_of_kind, start_of_line, word_start};
 ghost use Rattle.om_parser.specs.Reading.{syntax};
 
 use crate::front::syntax;
-use om_lexer::{Keyword, SourceFault, Token, TokenKind};
+use om_lexer::{SourceFault, Token, TokenKind};
+use om_pragma::{DirectiveKind, begun_by};
 
 /// What stands first, where a directive line may.
 #[derive(Clone, Copy)]
@@ -22,43 +23,16 @@ pub enum LineStart {
     Nothing,
 }
 
-/// Whether a directive of this name has no statement behind it.
-fn stands_alone(name: &[u8]) -> bool
-    ensures { result ≡ stands_alone name.now }
+/// What a line of a directive is.
+fn start_of_kind(kind: DirectiveKind) -> LineStart
+    ensures { result ≡ start_of_kind kind }
 {
-    name == b"barrier".as_slice()
-        || name == b"taskwait".as_slice()
-        || name == b"taskyield".as_slice()
-        || name == b"flush".as_slice()
-}
-
-/// Whether a directive of this name has a statement behind it.
-fn begins_construct(name: &[u8]) -> bool
-    ensures { result ≡ begins_construct name.now }
-{
-    name == b"parallel".as_slice()
-        || name == b"sections".as_slice()
-        || name == b"single".as_slice()
-        || name == b"masked".as_slice()
-        || name == b"master".as_slice()
-        || name == b"critical".as_slice()
-        || name == b"atomic".as_slice()
-        || name == b"task".as_slice()
-        || name == b"taskgroup".as_slice()
-}
-
-/// What a name behind `omp` begins.
-fn start_of_name(name: &[u8]) -> LineStart
-    ensures { result ≡ start_of_name name.now }
-{
-    if stands_alone(name) {
+    if kind.stands_alone() {
         LineStart::StandAlone
-    } else if name == b"section".as_slice() {
+    } else if kind.begins_part() {
         LineStart::Section
-    } else if begins_construct(name) {
-        LineStart::Construct
     } else {
-        LineStart::Unknown
+        LineStart::Construct
     }
 }
 
@@ -66,10 +40,9 @@ fn start_of_name(name: &[u8]) -> LineStart
 fn start_of_line(kind: &TokenKind) -> LineStart
     ensures { result ≡ start_of_line kind.now }
 {
-    match kind {
-        TokenKind::Name(text) => start_of_name(text.as_slice()),
-        TokenKind::Keyword(Keyword::For) => LineStart::Construct,
-        _ => LineStart::Unknown,
+    match begun_by(kind) {
+        Some(kind) => start_of_kind(kind),
+        None => LineStart::Unknown,
     }
 }
 

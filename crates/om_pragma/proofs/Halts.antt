@@ -1,6 +1,8 @@
 -- The place of an S3 is the first token that no directive has there.
-use Rattle.std.proofs.Common.{◌≡◌, ℕ, zero, suc, ◌<◌, List, [], ◌∷◌, ◌++◌, length, Option, Some, None, Bool, true, false, cond, Result, Ok, Err, refl, sym, ap, subst, ◌∙◌, arith, append_assoc, ◌⊎◌, inl, inr}
+use Rattle.std.proofs.Common.{◌≡◌, ℕ, zero, suc, ◌<◌, List, [], ◌∷◌, ◌++◌, length, Option, Some, None, Bool, true, false, cond, Result, Ok, Err, refl, sym, ap, subst, ◌∙◌, arith, append_assoc, ◌⊎◌, inl, inr, All}
+use Rattle.std.specs.Prelude.{◌≢◌}
 use Rattle.std.proofs.lemmas.List.{append-nil}
+use Rattle.std.proofs.lemmas.List.Elements.{All-head, All-tail}
 use Rattle.om_lexer.specs.declared.fault.FaultCode.TheVariants as codes
 use Rattle.om_lexer.specs.declared.fault.SourceFault.{SourceFault}
 use Rattle.om_lexer.specs.declared.token.Punctuator.TheVariants as punctuators
@@ -28,6 +30,7 @@ use Rattle.om_pragma.specs.Words.{directive_word, clause_word, among, directive_
 use Rattle.om_pragma.proofs.Arguments.{clause_again}
 use Rattle.om_pragma.proofs.Directives.{Items, spelling, clauses_end, clauses_pass, directive_parts, each_written, whole_written, ends_at, end_is}
 use Rattle.om_pragma.proofs.Items.{clause_known, clause_is_word, comma_is, comma_again, take_no_end, some_item}
+use Rattle.om_pragma.proofs.Lasts.{ends, ends_last, ends_both, ends_items, ends_comma, ends_words}
 use Rattle.om_pragma.proofs.Names.{stopped_ok, directive_name_is, name_after_again, opening_is, opening_again}
 use Rattle.om_pragma.proofs.Outcomes.{ok, err, err_is, ok_err, some, bind_err, choose_cases}
 use Rattle.om_pragma.proofs.Passing.{so_many}
@@ -94,26 +97,53 @@ written_no_syntax d written f e s =
 
 -- ---- where reading stops
 
--- reading stops at the first of the tokens that are left
+abbrev NoEnd : Token → Type 0
+NoEnd t = t.kind ≢ kinds.DirectiveEnd
+
+-- reading stops at the first of the tokens that are left, behind some that do not end a line
 record Halts (ts : List Token) (f : SourceFault) : Type 0 where
   front : List Token
   rest : List Token
   parts : ts ≡ front ++ rest
   begins : BeginsDirective front
   place : place rest ≡ f.at
+  goes_on : ends front ≡ false
   again : (t : Token) (after other : List Token) → rest ≡ t ∷ after → directive_at (front ++ t ∷ other) ≡ err f
 
-stops_there : (ts : List Token) (f : SourceFault) → f.code ≡ codes.Syntax → Halts ts f → StopsAt ts f.at
-stops_there ts f s h = record {
-  front = h.front;
-  rest = h.rest;
-  parts = h.parts;
-  begins = h.begins;
-  place = h.place;
-  stops = λ t after is b.
-      let whole : directive_spelling (λ e. e) b.directive ≡ h.front ++ t ∷ b.more = b.parts ∙ simp append_assoc in
-      written_no_syntax b.directive b.written f (ap directive_at whole ∙ h.again t after b.more is) s;
-}
+stops_there : (ts : List Token) (f : SourceFault) → EndsOnce ts → f.code ≡ codes.Syntax → Halts ts f → StopsAt ts f.at
+stops_there ts f once s h = go h.rest refl
+  where
+    go : (rest : List Token) → h.rest ≡ rest → StopsAt ts f.at
+    go [] is =
+        let all : ts ≡ h.front = h.parts ∙ ap (λ (w : List Token). h.front ++ w) is ∙ append-nil h.front in
+        let last : ends ts ≡ true = ap ends once.parts ∙ ends_last once.front (token kinds.DirectiveEnd once.end) in
+        let none : ends ts ≡ false = ap ends all ∙ h.goes_on in
+        absurd cc
+    go (t ∷ after) is = record {
+      front = h.front;
+      first = t;
+      after = after;
+      parts = h.parts ∙ ap (λ (w : List Token). h.front ++ w) is;
+      begins = h.begins;
+      place = ap place (sym is) ∙ h.place;
+      stops = λ b.
+          let whole : directive_spelling (λ e. e) b.directive ≡ h.front ++ t ∷ b.more = b.parts ∙ simp append_assoc in
+          written_no_syntax b.directive b.written f (ap directive_at whole ∙ h.again t after b.more is) s;
+    }
+
+-- the end stands at no other place
+only_last : (ts : List Token) → EndsOnce ts → (front : List Token) (t : Token) (after : List Token) → ts ≡ front ++ t ∷ after → t.kind ≡ kinds.DirectiveEnd → after ≡ []
+only_last ts once front t after parts is = go once.front front once.endless (sym once.parts ∙ parts)
+  where
+    last : Token
+    last = token kinds.DirectiveEnd once.end
+
+    go : (xs ys : List Token) → All NoEnd xs → xs ++ last ∷ [] ≡ ys ++ t ∷ after → after ≡ []
+    go [] [] none e = let tail : [] ≡ after = cc in sym tail
+    go [] (y ∷ []) none e = absurd cc
+    go [] (y ∷ (z ∷ ys)) none e = absurd cc
+    go (x ∷ xs) [] none e = let same : x ≡ t = cc in absurd (All-head NoEnd x xs none (ap (λ (u : Token). u.kind) same ∙ is))
+    go (x ∷ xs) (y ∷ ys) none e = let tail : xs ++ last ∷ [] ≡ ys ++ t ∷ after = cc in go xs ys (All-tail NoEnd x xs none) tail
 
 -- a directive of these words alone begins with what its words begin with
 begins_name : (hash pragma omp : Span) (n : DirectiveName) (front more : List Token) → name_spelling n ≡ front ++ more → BeginsDirective (opening_spelling hash pragma omp ++ front)
@@ -138,6 +168,7 @@ opening_halts ts at e =
       rest = k.rest;
       parts = k.parts;
       place = k.place;
+      goes_on = k.goes_on;
       begins = record {
         directive = record { hash = k.part.0; pragma = k.part.1; omp = k.part.2; name = directives.Barrier no_span; clauses = []; end = no_span };
         more = k.more ++ (token (directive_word words.Barrier) no_span ∷ token kinds.DirectiveEnd no_span ∷ []);
@@ -168,6 +199,7 @@ record NameHalts (hash pragma omp : Span) (ts : List Token) (f : SourceFault) : 
   parts : ts ≡ front ++ rest
   begins : BeginsDirective (opening_spelling hash pragma omp ++ front)
   place : place rest ≡ f.at
+  goes_on : ends front ≡ false
   again : (t : Token) (after other : List Token) → rest ≡ t ∷ after → directive_name_at (front ++ t ∷ other) ≡ err f
 
 stopped_err : {A : Type 0} (r : Result A ℕ) (f : SourceFault) → stopped r ≡ err f → (at : ℕ) × (r ≡ err at) × (f ≡ fault codes.Syntax at)
@@ -185,6 +217,7 @@ critical_halts hash pragma omp s left ts at e =
       parts = ap (λ (w : List Token). token (directive_word words.Critical) s ∷ mark punctuators.OpenParen left ∷ w) k.parts;
       begins = begins_name hash pragma omp (directives.Critical s (some n)) (token (directive_word words.Critical) s ∷ mark punctuators.OpenParen left ∷ k.front) k.more (ap (λ (w : List Token). token (directive_word words.Critical) s ∷ mark punctuators.OpenParen left ∷ w) k.begins);
       place = k.place;
+      goes_on = ends_both (token (directive_word words.Critical) s ∷ mark punctuators.OpenParen left ∷ []) k.front refl k.goes_on;
       again = λ t after other is. name_after_again words.Critical s (mark punctuators.OpenParen left ∷ (k.front ++ t ∷ other)) (err (fault codes.Syntax at)) (rw (take_mark_again punctuators.OpenParen left (k.front ++ t ∷ other), k.again t after other is) refl);
     }
 
@@ -200,6 +233,7 @@ flush_halts hash pragma omp s left ts at e =
             parts = ap (λ (w : List Token). token (directive_word words.Flush) s ∷ mark punctuators.OpenParen left ∷ w) k.parts;
             begins = begins_name hash pragma omp (directives.Flush s (some (record { open_paren = left; first = k.part.0; rest = k.part.1; close_paren = k.part.2 }))) (token (directive_word words.Flush) s ∷ mark punctuators.OpenParen left ∷ k.front) k.more (ap (λ (w : List Token). token (directive_word words.Flush) s ∷ mark punctuators.OpenParen left ∷ w) k.begins);
             place = k.place;
+            goes_on = ends_both (token (directive_word words.Flush) s ∷ mark punctuators.OpenParen left ∷ []) k.front refl k.goes_on;
             again = λ t after other is. name_after_again words.Flush s (mark punctuators.OpenParen left ∷ (k.front ++ t ∷ other)) (err (fault codes.Syntax at)) (rw (take_mark_again punctuators.OpenParen left (k.front ++ t ∷ other), k.again t after other is) refl);
           }
       | inr wrong ↦ absurd cc
@@ -249,6 +283,7 @@ name_halts hash pragma omp ts f e = elim (choose_cases (take_word directive_word
         parts = refl;
         begins = begins_name hash pragma omp (directives.Barrier no_span) [] (name_spelling (directives.Barrier no_span)) refl;
         place = no_word_place ts ∙ ap (λ (g : SourceFault). g.at) same;
+        goes_on = refl;
         again = λ t after other is.
             let none : take_word directive_word directive_words (t ∷ other) ≡ None = word_looks directive_word directive_words t after other (subst (λ (v : List Token). take_word directive_word directive_words v ≡ None) is w.0) in
             let here : no_word (t ∷ other) ≡ f = ap no_word (sym is) ∙ same in
@@ -340,6 +375,7 @@ record ClausesHalt (hash pragma omp : Span) (n : DirectiveName) (ts : List Token
   parts : ts ≡ front ++ rest
   begins : BeginsDirective (opening_spelling hash pragma omp ++ (name_spelling n ++ front))
   place : place rest ≡ f.at
+  goes_on : ends front ≡ false
   again : (t : Token) (after other : List Token) → rest ≡ t ∷ after → clauses_at n (front ++ t ∷ other) ≡ err f
 
 item_halts : (n : DirectiveName) (all : Items) (us : List Token) (f : SourceFault) → take_end us ≡ None → ((t : Token) (after : List Token) → us ≡ t ∷ after → t.kind ≡ kinds.DirectiveEnd → after ≡ []) → clause_at n (kinds_of all) (comma_at all us).1 ≡ err f → f.code ≡ codes.Syntax → (t : Token) (after other : List Token) → (comma_at all us).1 ≡ t ∷ after → (k : ℕ) → until syntax_at take_end (item_at n) (suc k) all (comma_spelling (comma_at all us).0 ++ t ∷ other) ≡ err f
@@ -375,6 +411,7 @@ clauses_halt hash pragma omp n ts f once h s =
                   parts = whole ∙ ap (λ (v : List Token). spelling e.all ++ v) comma.0 ∙ sym (append_assoc (spelling e.all) (comma_spelling (comma_at e.all e.us).0) (comma_at e.all e.us).1);
                   begins = begins_clauses hash pragma omp n e.all (comma_at e.all e.us).0 each comma.1;
                   place = no_word_place (comma_at e.all e.us).1 ∙ ap (λ (g : SourceFault). g.at) w.1;
+                  goes_on = ends_both (spelling e.all) (comma_spelling (comma_at e.all e.us).0) (ends_items e.all) (ends_comma (comma_at e.all e.us).0);
                   again = λ t after other is. rw append_assoc (clauses_pass n e.all (comma_spelling (comma_at e.all e.us).0 ++ t ∷ other) (err f) each (λ k. item_halts n e.all e.us f l.1 ends wrong s t after other is k));
                 }
             | inr c ↦ absurd cc
@@ -384,7 +421,7 @@ clauses_halt hash pragma omp n ts f once h s =
 -- ---- the whole
 
 halts : (ts : List Token) (f : SourceFault) → EndsOnce ts → directive_at ts ≡ err f → f.code ≡ codes.Syntax → Halts ts f
-unfolding directive_at
+unfolding directive_at opening_spelling
 halts ts f once h s = elim (bind_err (stopped (opening_at ts)) _ f h) [
   | inl e ↦ let r = stopped_err (opening_at ts) f e in subst (Halts ts) (sym r.2) (opening_halts ts r.0 r.1)
   | inr o ↦
@@ -398,6 +435,7 @@ halts ts f once h s = elim (bind_err (stopped (opening_at ts)) _ f h) [
               rest = k.rest;
               begins = k.begins;
               place = k.place;
+              goes_on = ends_both opening k.front refl k.goes_on;
               parts = begin ∙ ap (λ (v : List Token). opening ++ v) k.parts ∙ sym (append_assoc opening k.front k.rest);
               again = λ t after other is. rw (append_assoc, opening_again o.0.0.0 o.0.0.1 o.0.0.2 (k.front ++ t ∷ other), k.again t after other is) refl;
             }
@@ -406,12 +444,13 @@ halts ts f once h s = elim (bind_err (stopped (opening_at ts)) _ f h) [
               let words = directive_name_is o.0.1 n.0 n.1 in
               let spelled : List Token = name_spelling n.0.0 in
               let whole : ts ≡ opening ++ (spelled ++ n.0.1) = begin ∙ ap (λ (v : List Token). opening ++ v) words.parts in
-              let k = clauses_halt o.0.0.0 o.0.0.1 o.0.0.2 n.0.0 n.0.1 f (λ front t after is. once (opening ++ (spelled ++ front)) t after (whole ∙ ap (λ (v : List Token). opening ++ (spelled ++ v)) is ∙ simp append_assoc)) e s in
+              let k = clauses_halt o.0.0.0 o.0.0.1 o.0.0.2 n.0.0 n.0.1 f (λ front t after is. only_last ts once (opening ++ (spelled ++ front)) t after (whole ∙ ap (λ (v : List Token). opening ++ (spelled ++ v)) is ∙ simp append_assoc)) e s in
               record {
                 front = opening ++ (spelled ++ k.front);
                 rest = k.rest;
                 begins = k.begins;
                 place = k.place;
+                goes_on = ends_both opening (spelled ++ k.front) refl (ends_both spelled k.front (ends_words n.0.0) k.goes_on);
                 parts = whole ∙ ap (λ (v : List Token). opening ++ (spelled ++ v)) k.parts ∙ simp append_assoc;
                 again = λ t after other is.
                     let behind : List Token = k.front ++ t ∷ other in
@@ -425,4 +464,4 @@ halts ts f once h s = elim (bind_err (stopped (opening_at ts)) _ f h) [
 ]
 
 pub syntax_stops : (ts : List Token) (f : SourceFault) → EndsOnce ts → directive_at ts ≡ err f → f.code ≡ codes.Syntax → StopsAt ts f.at
-syntax_stops ts f once h s = stops_there ts f s (halts ts f once h s)
+syntax_stops ts f once h s = stops_there ts f once s (halts ts f once h s)

@@ -9,6 +9,7 @@ pub mod Items
 pub mod Names
 pub mod Directives
 pub mod Refused
+pub mod Lasts
 pub mod Stops
 pub mod Halts
 pub mod OneAnswer

@@ -46,11 +46,14 @@ compare (t ∷ front) rest (u ∷ other) left e =
 begins_less : (front more : List Token) → BeginsDirective (front ++ more) → BeginsDirective front
 begins_less front more b = record { directive = b.directive; more = more ++ b.more; written = b.written; parts = b.parts ∙ append_assoc front more b.more }
 
-not_further : (ts : List Token) (a b : ℕ) (x : StopsAt ts a) (y : StopsAt ts b) → GoesFurther x.front x.rest y.front → ⊥
-not_further ts a b x y g = x.stops g.next g.after g.rest_is (begins_less (x.front ++ g.next ∷ []) g.more (subst BeginsDirective g.further_is y.begins))
+not_further : (ts : List Token) (a b : ℕ) (x : StopsAt ts a) (y : StopsAt ts b) → GoesFurther x.front (x.first ∷ x.after) y.front → ⊥
+not_further ts a b x y g =
+    let rest : x.first ∷ x.after ≡ g.next ∷ g.after = g.rest_is in
+    let same : g.next ≡ x.first = cc in
+    x.stops (subst (λ (t : Token). BeginsDirective (x.front ++ t ∷ [])) same (begins_less (x.front ++ g.next ∷ []) g.more (subst BeginsDirective g.further_is y.begins)))
 
 stop_one : (ts : List Token) (a b : ℕ) → StopsAt ts a → StopsAt ts b → a ≡ b
-stop_one ts a b x y = elim (compare x.front x.rest y.front y.rest (sym x.parts ∙ y.parts)) [
+stop_one ts a b x y = elim (compare x.front (x.first ∷ x.after) y.front (y.first ∷ y.after) (sym x.parts ∙ y.parts)) [
   | inl same ↦ sym x.place ∙ ap place same ∙ y.place
   | inr (inl g) ↦ absurd (not_further ts a b x y g)
   | inr (inr g) ↦ absurd (not_further ts b a y x g)

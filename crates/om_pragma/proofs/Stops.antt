@@ -15,17 +15,19 @@ use Rattle.om_pragma.specs.Spelling.{token, mark, name, further_spelling, names_
 use Rattle.om_pragma.specs.Table.{EachBehind}
 use Rattle.om_pragma.specs.Words.{same_kind, same_mark}
 use Rattle.om_pragma.proofs.Arguments.{IsAny, further_is, further_again, some_further, not_closed}
+use Rattle.om_pragma.proofs.Lasts.{ends, ends_last, ends_names}
 use Rattle.om_pragma.proofs.Outcomes.{err, err_is, ok_err, some, known_ok, bind_err}
 use Rattle.om_pragma.proofs.Passing.{until_ends, until_passes, so_many}
 use Rattle.om_pragma.proofs.Taken.{take_kind_is, mark_at_is, name_at_is, mark_again, name_again}
 
--- Reading a part stops at the first of the tokens that are left: the tokens before it begin such a part, and whatever stands behind it,
--- reading stops there.
+-- Reading a part stops at the first of the tokens that are left: the tokens before it begin such a part, and do not end a line;
+-- whatever stands behind it, reading stops there.
 pub record IsStuck {A : Type 0} (r : List Token → Part A) (spell : A → List Token) (ts : List Token) (at : ℕ) : Type 0 where
   pub front : List Token
   pub rest : List Token
   pub parts : ts ≡ front ++ rest
   pub place : place rest ≡ at
+  pub goes_on : ends front ≡ false
   pub part : A
   pub more : List Token
   pub begins : spell part ≡ front ++ more
@@ -107,6 +109,7 @@ no_comma_stuck n all xs us at is each absent e =
       rest = us;
       parts = refl;
       place = w.0;
+      goes_on = ends_names n xs;
       part = (n, xs, no_span);
       more = mark punctuators.CloseParen no_span ∷ [];
       begins = refl;
@@ -132,6 +135,7 @@ no_name_stuck n all xs comma us at is each e =
       rest = us;
       parts = simp append_assoc;
       place = w.0;
+      goes_on = ends_last (name n ∷ flat_map further_spelling xs) (mark punctuators.Comma comma);
       part = (n, xs ++ (comma, no_name) ∷ [], no_span);
       more = name no_name ∷ mark punctuators.CloseParen no_span ∷ [];
       begins = comma_begins;
@@ -149,7 +153,7 @@ unfolding names_at further_at names_spelling
 names_stuck ts at e = elim (bind_err (name_at ts) _ at e) [
   | inl n ↦
       let w = name_wrong ts at n in
-      record { front = []; rest = ts; parts = refl; place = w.0; part = (no_name, [], no_span); more = names_spelling no_name [] no_span; begins = refl; again = λ t after other here. rw (w.1 t after other here) refl }
+      record { front = []; rest = ts; parts = refl; place = w.0; goes_on = refl; part = (no_name, [], no_span); more = names_spelling no_name [] no_span; begins = refl; again = λ t after other here. rw (w.1 t after other here) refl }
   | inr n ↦ elim (bind_err (until place (take_kind (kinds.Punctuator punctuators.CloseParen)) further_at (suc (length n.0.1)) [] n.0.1) _ at n.2) [
     | inl u ↦
         let x = until_ends place (take_kind (kinds.Punctuator punctuators.CloseParen)) further_at further_spelling IsAny further_is some_further (suc (length n.0.1)) [] n.0.1 (err at) (omega arith) u in
@@ -179,11 +183,11 @@ unfolding critical_after
 critical_stuck left ts at e = elim (bind_err (name_at ts) _ at e) [
   | inl n ↦
       let w = name_wrong ts at n in
-      record { front = []; rest = ts; parts = refl; place = w.0; part = (left, no_name, no_span); more = name no_name ∷ mark punctuators.CloseParen no_span ∷ []; begins = refl; again = λ t after other here. rw (w.1 t after other here) refl }
+      record { front = []; rest = ts; parts = refl; place = w.0; goes_on = refl; part = (left, no_name, no_span); more = name no_name ∷ mark punctuators.CloseParen no_span ∷ []; begins = refl; again = λ t after other here. rw (w.1 t after other here) refl }
   | inr n ↦ elim (bind_err (mark_at punctuators.CloseParen n.0.1) _ at n.2) [
     | inl c ↦
         let w = mark_wrong punctuators.CloseParen n.0.1 at c in
-        record { front = name n.0.0 ∷ []; rest = n.0.1; parts = name_at_is ts n.0 n.1; place = w.0; part = (left, n.0.0, no_span); more = mark punctuators.CloseParen no_span ∷ []; begins = refl; again = λ t after other here. rw (name_again n.0.0 (t ∷ other), w.1 t after other here) refl }
+        record { front = name n.0.0 ∷ []; rest = n.0.1; parts = name_at_is ts n.0 n.1; place = w.0; goes_on = refl; part = (left, n.0.0, no_span); more = mark punctuators.CloseParen no_span ∷ []; begins = refl; again = λ t after other here. rw (name_again n.0.0 (t ∷ other), w.1 t after other here) refl }
     | inr c ↦ absurd cc
   ]
 ]
@@ -202,19 +206,19 @@ unfolding opening_at opening_spelling
 opening_stuck ts at e = elim (bind_err (known ts (take_kind kinds.DirectiveBegin ts)) _ at e) [
   | inl b ↦
       let w = kind_wrong kinds.DirectiveBegin ts at b in
-      record { front = []; rest = ts; parts = refl; place = w.0; part = (no_span, no_span, no_span); more = opening_spelling no_span no_span no_span; begins = refl; again = λ t after other here. rw (w.1 t after other here) refl }
+      record { front = []; rest = ts; parts = refl; place = w.0; goes_on = refl; part = (no_span, no_span, no_span); more = opening_spelling no_span no_span no_span; begins = refl; again = λ t after other here. rw (w.1 t after other here) refl }
   | inr b ↦
       let begin = take_kind_is kinds.DirectiveBegin ts b.0.0 b.0.1 (known_ok ts (take_kind kinds.DirectiveBegin ts) b.0 b.1) in
       elim (bind_err (known b.0.1 (take_kind (kinds.Name (codes "pragma")) b.0.1)) _ at b.2) [
         | inl p ↦
             let w = kind_wrong (kinds.Name (codes "pragma")) b.0.1 at p in
-            record { front = token kinds.DirectiveBegin b.0.0 ∷ []; rest = b.0.1; parts = begin; place = w.0; part = (b.0.0, no_span, no_span); more = token (kinds.Name (codes "pragma")) no_span ∷ token (kinds.Name (codes "omp")) no_span ∷ []; begins = refl; again = λ t after other here. rw (kind_read kinds.DirectiveBegin refl b.0.0 (t ∷ other), w.1 t after other here) refl }
+            record { front = token kinds.DirectiveBegin b.0.0 ∷ []; rest = b.0.1; parts = begin; place = w.0; goes_on = refl; part = (b.0.0, no_span, no_span); more = token (kinds.Name (codes "pragma")) no_span ∷ token (kinds.Name (codes "omp")) no_span ∷ []; begins = refl; again = λ t after other here. rw (kind_read kinds.DirectiveBegin refl b.0.0 (t ∷ other), w.1 t after other here) refl }
         | inr p ↦
             let pragma = take_kind_is (kinds.Name (codes "pragma")) b.0.1 p.0.0 p.0.1 (known_ok b.0.1 (take_kind (kinds.Name (codes "pragma")) b.0.1) p.0 p.1) in
             elim (bind_err (known p.0.1 (take_kind (kinds.Name (codes "omp")) p.0.1)) _ at p.2) [
               | inl o ↦
                   let w = kind_wrong (kinds.Name (codes "omp")) p.0.1 at o in
-                  record { front = token kinds.DirectiveBegin b.0.0 ∷ token (kinds.Name (codes "pragma")) p.0.0 ∷ []; rest = p.0.1; parts = begin ∙ ap (λ (w : List Token). token kinds.DirectiveBegin b.0.0 ∷ w) pragma; place = w.0; part = (b.0.0, p.0.0, no_span); more = token (kinds.Name (codes "omp")) no_span ∷ []; begins = refl; again = λ t after other here. rw (kind_read kinds.DirectiveBegin refl b.0.0 (token (kinds.Name (codes "pragma")) p.0.0 ∷ t ∷ other), kind_read (kinds.Name (codes "pragma")) refl p.0.0 (t ∷ other), w.1 t after other here) refl }
+                  record { front = token kinds.DirectiveBegin b.0.0 ∷ token (kinds.Name (codes "pragma")) p.0.0 ∷ []; rest = p.0.1; parts = begin ∙ ap (λ (w : List Token). token kinds.DirectiveBegin b.0.0 ∷ w) pragma; place = w.0; goes_on = refl; part = (b.0.0, p.0.0, no_span); more = token (kinds.Name (codes "omp")) no_span ∷ []; begins = refl; again = λ t after other here. rw (kind_read kinds.DirectiveBegin refl b.0.0 (token (kinds.Name (codes "pragma")) p.0.0 ∷ t ∷ other), kind_read (kinds.Name (codes "pragma")) refl p.0.0 (t ∷ other), w.1 t after other here) refl }
               | inr o ↦ absurd cc
             ]
       ]

@@ -1,5 +1,5 @@
 -- Why the tokens of a directive line are refused, and where.
-use Rattle.std.specs.Prelude.{◌≡◌, ◌≢◌, ℕ, true, false, ◌⊎◌, List, [], ◌∷◌, ◌++◌, Option, None, Result, Ok, Err}
+use Rattle.std.specs.Prelude.{◌≡◌, ◌≢◌, ℕ, true, false, ◌⊎◌, List, [], ◌∷◌, ◌++◌, Option, None, Result, Ok, Err, All}
 use Rattle.std.specs.List.{flat_map}
 use denote.Ref.{Bor}
 use Rattle.om_lexer.specs.declared.fault.FaultCode.{FaultCode}
@@ -20,7 +20,6 @@ use Rattle.om_pragma.specs.declared.tree.DirectiveName.TheVariants as directives
 use Rattle.om_pragma.specs.declared.kind.DirectiveKind.{DirectiveKind}
 use Rattle.om_pragma.specs.declared.kind.DirectiveKind.TheVariants as words
 use Rattle.om_pragma.specs.Expressions.{IsClosed, with_tokens}
-use Rattle.om_pragma.specs.Reading.{place}
 use Rattle.om_pragma.specs.Spelling.{token, name_spelling, opening_spelling, item_spelling, comma_spelling, clause_spelling, directive_spelling}
 use Rattle.om_pragma.specs.Table.{may_stand, kinds_of, IsBetween, IsClause, IsItem, EachBehind, IsDirectiveOf}
 use Rattle.om_pragma.specs.Words.{is_word, directive_word, clause_word}
@@ -117,18 +116,22 @@ pub record BeginsDirective (front : List Token) : Type 0 where
   pub written : EachBehind IsWrittenItem [] directive.clauses
   pub parts : directive_spelling (λ e. e) directive ≡ front ++ more
 
--- the place of a token that no directive has there, after the tokens before it; past every source where none is left
+-- the place of a token that no directive has there, after the tokens before it
 pub record StopsAt (tokens : List Token) (at : ℕ) : Type 0 where
   pub front : List Token
-  pub rest : List Token
-  pub parts : tokens ≡ front ++ rest
+  pub first : Token
+  pub after : List Token
+  pub parts : tokens ≡ front ++ first ∷ after
   pub begins : BeginsDirective front
-  pub stops : (t : Token) (after : List Token) → rest ≡ t ∷ after → BeginsDirective (front ++ t ∷ []) → ⊥
-  pub place : place rest ≡ at
+  pub stops : BeginsDirective (front ++ first ∷ []) → ⊥
+  pub place : first.span.start ≡ at
 
--- the end of the run stands last, if it stands there
-abbrev pub EndsOnce : List Token → Type 0
-EndsOnce tokens = (front : List Token) (t : Token) (after : List Token) → tokens ≡ front ++ t ∷ after → t.kind ≡ kinds.DirectiveEnd → after ≡ []
+-- the end of the run stands last, and nowhere else
+pub record EndsOnce (tokens : List Token) : Type 0 where
+  pub front : List Token
+  pub end : Span
+  pub parts : tokens ≡ front ++ token kinds.DirectiveEnd end ∷ []
+  pub endless : All (λ t. t.kind ≢ kinds.DirectiveEnd) front
 
 -- What tokens are: a directive, or none for this reason; S3 stands at the first token that no directive has there.
 abbrev pub IsAnswer : List Token → Result (Directive (List Token)) SourceFault → Type 0

@@ -31,9 +31,9 @@ use std::alloc::Global;
 ///   directive where a clause is expected. Its place is that word.
 /// - S6: a clause that the directive does not have, that stands there once more, or that is
 ///   wrong inside. Its place is the clause's word.
-/// - S3: any other tokens that are no directive. Its place is the first token that no directive
-///   has there, after the tokens before it; the end of the run is a token too. Tokens that lack
-///   it are S3 at 4294967295, past every source.
+/// - S3: any other tokens that are no directive. Where the end of the run is the last of them and
+///   stands nowhere else, its place is the first token that no directive has there, after the
+///   tokens before it; that end is a token too.
 pub fn directive(alloc: Global, tokens: &[Token]) -> Result<Directive<&[Token]>, SourceFault>
     // What is found is a directive of the table with these tokens.
     ensures found { IfOk result (λ d. IsDirectiveOf tokens.now (with_tokens d)) }
@@ -41,7 +41,7 @@ pub fn directive(alloc: Global, tokens: &[Token]) -> Result<Directive<&[Token]>,
 
     ensures every_directive_is_found { (d : DirectiveOf (List Tokens)) → IsDirectiveOf tokens.now d → IsFound d result }
     ensures refused { IfErr result (λ fault. (fault ≡ no_memory) ⊎ IsRefusal tokens.now fault) }
-    // S3 stands at the first token that no directive has there, where the run's end stands last.
+    // S3 stands at the first token that no directive has there, where the run ends once.
     ensures stops_at_the_first { IfErr result (λ fault. fault.code ≡ Syntax → EndsOnce tokens.now → StopsAt tokens.now fault.at) }
 {
     read(alloc, tokens)
