@@ -18,6 +18,8 @@ KINDS = {
     "assignments": ("int main(void) {\n", "a = b;\n", ""),
     "sums": ("int main(void) {\n", "a = " + "b + " * 500 + "1;\n", ""),
     "parentheses": ("int main(void) {\n", "a = " + "(" * 120 + "1" + ")" * 120 + ";\n", ""),
+    "empty statements": ("int main(void) {\n", ";", ""),
+    "directive lines": ("int main(void) {\n", "#pragma omp barrier\n", ""),
     "data clauses of one line": ("int main(void) {\n#pragma omp parallel ", "private(a)", "\n{"),
 }
 

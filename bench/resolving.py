@@ -3,9 +3,10 @@
 
 It makes sources of that many bytes (1,048,576 if not given, the most that a source may have), each without a `main`: so lexer,
 parser and resolving read all of it, and it is refused at its end. It prints the seconds of each, the best of three on one core,
-and those of a source of half the size. Nothing here is a test: nothing fails but a source that is not refused at its end.
+those of a source of half the size, and the most memory of a run. Nothing here is a test: nothing fails but a source that is not
+refused at its end.
 """
-from timing import compared, filled, seconds_to_end, words
+from timing import compared, filled, peak, seconds_to_end, words
 
 DEPTH = 100
 
@@ -18,10 +19,14 @@ def deep(body):
 GLOBALS = "int " + ",".join(f"g{k}" for k in range(60000)) + ";\n"
 FUNCTIONS = "".join(f"int f{k}(int a) {{ int b; b = a + g1; return b; }}\n" for k in range(255))
 LAST = "int f(void) {\n"
+LISTED = "int " + ",".join(f"v{k}" for k in range(20000)) + ";\n"
+CLAUSES = "".join(f"shared(v{k})" for k in range(20000))
 
 # what stands in front, what is repeated, and what stands behind
 KINDS = {
     "one name": ("int x;\n" + LAST, "x = x;\n", "}"),
+    "empty statements": (LAST, ";", "}"),
+    "empty blocks": (LAST, "{}", "}"),
     "many globals": (GLOBALS + LAST, "g1 = g59999 + g30000;\n", "}"),
     "functions": ("int g1;\n" + FUNCTIONS + LAST, "g1 = f1(f254(g1));\n", "}"),
     "locals": (LAST, "{ int a, b, c; a = b + c; }\n", "}"),
@@ -30,6 +35,8 @@ KINDS = {
     "deep scopes, globals": ("int x;\n" + LAST, deep("x = x; " * 40) + "\n", "}"),
     "nested loops": ("int x;\n" + LAST + "for (int i = 0; ; ) " * 1000 + "{\n", "x = i;\n", "}}"),
     "nested tasks": ("int x;\n" + LAST + "int y[9];\n" + "#pragma omp task shared(y)\n" * 1000 + "{\n", "y[1] = x;\n", "}}"),
+    "barriers": (LAST, "#pragma omp barrier\n", "}"),
+    "data clauses of one line": (LISTED + LAST + "#pragma omp parallel " + CLAUSES + "\n{\n", "v7 = v1;\n", "}}"),
     "directives": ("int x;\n" + LAST + "int y;\n", "#pragma omp parallel default(none) shared(x) private(y)\ny = x;\n", "}"),
     "globals, functions and deep scopes": (GLOBALS + FUNCTIONS + LAST, deep("d0 = d50 + g59999 + f1(d75); " * 20) + "\n", "}"),
 }
@@ -42,7 +49,9 @@ def time_of(program, kind, size):
 def main():
     program, size = words(__doc__, 1048576)
     for kind in KINDS:
-        print(f"{kind}: {compared(time_of(program, kind, size), time_of(program, kind, size // 2))}")
+        whole, half = time_of(program, kind, size), time_of(program, kind, size // 2)
+        memory = peak(program, filled(*KINDS[kind], size)) / 1e6
+        print(f"{kind}: {compared(whole, half)}; {memory:.0f} MB")
 
 
 if __name__ == "__main__":

@@ -38,6 +38,15 @@ def seconds_to_end(program, text, code):
     return seconds(program, text, f"refused {code} line {line} column {column}\n".encode())
 
 
+def peak(program, text):
+    """The most memory that a run on a text takes, in bytes: with the program itself, and without what it never writes."""
+    run = subprocess.Popen([program], stdin=subprocess.PIPE, stdout=subprocess.DEVNULL)
+    run.stdin.write(text)
+    run.stdin.close()
+    _, _, used = os.wait4(run.pid, 0)
+    return used.ru_maxrss * 1024
+
+
 def compared(whole, half):
     """The seconds for a text and for one of half its size, in words."""
     return f"{whole:.3f} s; half of it: {half:.3f} s; ratio {whole / half:.2f}"

@@ -15,7 +15,7 @@ ghost use Rattle.om_tree.specs.Tree as trees;
 ghost use Rattle.om_parser.specs.StatementView.{view_opening};
 ghost use Rattle.om_tree.specs.View.{view_condition, view_expression, view_for_start, view_for_head, view_directive, view_statement, view_block};
 
-use crate::boxed::boxed_before;
+use crate::boxed::{boxed, boxed_before};
 use crate::construct::{LineStart, line_start, misplaced};
 use crate::front::{mark, syntax, take_mark, take_word, too_deep, word};
 use crate::part::{declaration, directive_line, enclosed, enclosed_declaration, expression};
@@ -486,11 +486,7 @@ fn if_of<'a>(
 ) -> Result<(Box<Statement>, &'a [Token]), SourceFault>
     ensures { Makes (λ x. (view_statement x.0.value, x.1.now)) result (trees.If at (view_condition condition.value) (view_statement body.value)) rest.now }
 {
-    boxed_before(
-        alloc,
-        Statement::If(at, Box::into_inner(condition), body),
-        rest,
-    )
+    boxed_before(alloc, Statement::If(at, condition, body), rest)
 }
 
 /// An `if` of these parts, with `else`.
@@ -506,7 +502,6 @@ fn if_else_of<'a>(
 ) -> Result<(Box<Statement>, &'a [Token]), SourceFault>
     ensures { Makes (λ x. (view_statement x.0.value, x.1.now)) result (trees.IfElse at (view_condition condition.value) (view_statement body.value) other (view_statement second.value)) rest.now }
 {
-    let condition = Box::into_inner(condition);
     boxed_before(
         alloc,
         Statement::IfElse(at, condition, body, other, second),
@@ -525,11 +520,7 @@ fn while_of<'a>(
 ) -> Result<(Box<Statement>, &'a [Token]), SourceFault>
     ensures { Makes (λ x. (view_statement x.0.value, x.1.now)) result (trees.While at (view_condition condition.value) (view_statement body.value)) rest.now }
 {
-    boxed_before(
-        alloc,
-        Statement::While(at, Box::into_inner(condition), body),
-        rest,
-    )
+    boxed_before(alloc, Statement::While(at, condition, body), rest)
 }
 
 /// A `for` of these parts.
@@ -542,7 +533,7 @@ fn for_of<'a>(
 ) -> Result<(Box<Statement>, &'a [Token]), SourceFault>
     ensures { Makes (λ x. (view_statement x.0.value, x.1.now)) result (trees.For (view_for_head head.value) (view_statement body.value)) rest.now }
 {
-    boxed_before(alloc, Statement::For(Box::into_inner(head), body), rest)
+    boxed_before(alloc, Statement::For(head, body), rest)
 }
 
 /// A construct of these parts.
@@ -555,7 +546,6 @@ fn construct_of<'a>(
 ) -> Result<(Box<Statement>, &'a [Token]), SourceFault>
     ensures { Makes (λ x. (view_statement x.0.value, x.1.now)) result (trees.Construct (view_directive directive.value) (view_statement body.value)) rest.now }
 {
-    let directive = Box::into_inner(directive);
     boxed_before(alloc, Statement::Construct(directive, body), rest)
 }
 
@@ -571,7 +561,6 @@ fn sections_of<'a>(
 ) -> Result<(Box<Statement>, &'a [Token]), SourceFault>
     ensures { Makes (λ x. (view_statement x.0.value, x.1.now)) result (trees.Sections (view_directive directive.value) open_brace (trees.statements (map view_statement items.items)) close_brace) rest.now }
 {
-    let directive = Box::into_inner(directive);
     boxed_before(
         alloc,
         Statement::Sections(directive, open_brace, items, close_brace),
@@ -589,7 +578,6 @@ fn section_of<'a>(
 ) -> Result<(Box<Statement>, &'a [Token]), SourceFault>
     ensures { Makes (λ x. (view_statement x.0.value, x.1.now)) result (trees.Section (view_directive directive.value) (view_statement first.value)) rest.now }
 {
-    let directive = Box::into_inner(directive);
     boxed_before(alloc, Statement::Section(directive, first), rest)
 }
 
@@ -600,7 +588,6 @@ fn stand_alone(alloc: Global, tokens: &[Token]) -> Result<(Box<Statement>, &[Tok
     ensures { Reads (λ x. (view_statement x.0.value, x.1.now)) result (stand_alone_at (parts accepted).line tokens.now) }
 {
     let (directive, rest) = directive_line(alloc, tokens)?;
-    let directive = Box::into_inner(directive);
     boxed_before(alloc, Statement::StandAlone(directive), rest)
 }
 
@@ -653,6 +640,7 @@ fn declaration_item(
     ensures { Reads (λ x. (view_statement x.0.value, x.1.now)) result (local_item_after (parts accepted) int tokens.now) }
 {
     let (declaration, rest) = declaration(alloc, int, tokens)?;
+    let declaration = boxed(alloc, declaration)?;
     boxed_before(alloc, Statement::Declaration(declaration), rest)
 }
 
@@ -840,7 +828,6 @@ fn do_end(
     let (again, rest) = word(tokens, Keyword::While)?;
     let (condition, rest) = condition(alloc, rest)?;
     let (semicolon, rest) = mark(rest, Punctuator::Semicolon)?;
-    let condition = Box::into_inner(condition);
     let statement = Statement::Do(at, body, again, condition, semicolon);
     boxed_before(alloc, statement, rest)
 }
@@ -908,8 +895,7 @@ fn return_after(
     }
     let (value, rest) = expression(alloc, tokens)?;
     let (semicolon, rest) = mark(rest, Punctuator::Semicolon)?;
-    let value = Some(Box::into_inner(value));
-    boxed_before(alloc, Statement::Return(at, value, semicolon), rest)
+    boxed_before(alloc, Statement::Return(at, Some(value), semicolon), rest)
 }
 
 /// An expression and its semicolon, and the tokens behind them.
@@ -922,6 +908,5 @@ fn expression_statement(
 {
     let (value, rest) = expression(alloc, tokens)?;
     let (semicolon, rest) = mark(rest, Punctuator::Semicolon)?;
-    let statement = Statement::Expression(Box::into_inner(value), semicolon);
-    boxed_before(alloc, statement, rest)
+    boxed_before(alloc, Statement::Expression(value, semicolon), rest)
 }

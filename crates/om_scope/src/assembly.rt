@@ -57,11 +57,10 @@ fn parallel_of(
     alloc: Global,
     directive: &Directive<Expression>,
     clauses: Vec<ResolvedClause>,
-    body: ResolvedStatement,
+    body: Box<ResolvedStatement>,
 ) -> Result<ResolvedStatement, AllocError>
-    ensures { IfOk result (λ found. view_resolved_statement found ≡ parallel_of (view_directive directive.now) (map view_resolved_clause clauses.items) (view_resolved_statement body)) }
+    ensures { IfOk result (λ found. view_resolved_statement found ≡ parallel_of (view_directive directive.now) (map view_resolved_clause clauses.items) (view_resolved_statement body.value)) }
 {
-    let body = Box::new(alloc, body)?;
     let at = directive.hash;
     let captures = captures_of_parallel(alloc, at.start, clauses.as_slice(), &body)?;
     Ok(ResolvedStatement::Parallel(at, clauses, captures, body))
@@ -244,13 +243,35 @@ pub fn loop_construct_of(
     ensures made { IfOk result (λ found. view_resolved_statement found ≡ loop_construct_of (view_directive directive.now) (map view_resolved_clause clauses.items) (view_resolved_loop repeated.value) (view_resolved_statement body.value)) }
 {
     let at = directive.hash;
-    let repeated = Box::into_inner(repeated);
     if is_parallel(traits_of(&directive.name).region) {
-        let inner = ResolvedStatement::Loop(at, Vec::new(alloc), true, repeated, body);
+        let inner = boxed(
+            alloc,
+            shared_loop(at, Vec::new(alloc), true, repeated, body),
+        )?;
         return Ok(parallel_of(alloc, directive, clauses, inner)?);
     }
     let nowait = has_nowait(directive);
-    Ok(ResolvedStatement::Loop(at, clauses, nowait, repeated, body))
+    Ok(shared_loop(at, clauses, nowait, repeated, body))
+}
+
+/// A loop whose iterations threads share, and whether they do not wait behind it.
+fn shared_loop(
+    at: Span,
+    clauses: Vec<ResolvedClause>,
+    nowait: bool,
+    repeated: Box<ResolvedLoop>,
+    body: Box<ResolvedStatement>,
+) -> ResolvedStatement
+    ensures { view_resolved_statement result ≡ resolved.Loop at (map view_resolved_clause clauses.items) nowait (view_resolved_loop repeated.value) (view_resolved_statement body.value) }
+{
+    ResolvedStatement::Loop(at, clauses, nowait, Box::into_inner(repeated), body)
+}
+
+/// An item in a box. When out of memory, it is gone.
+fn boxed<T: Drop>(alloc: Global, item: T) -> Result<Box<T>, AllocError>
+    ensures { IfOk result (λ made. made.value ≡ item) }
+{
+    Ok(Box::new(alloc, item)?)
 }
 
 /// A construct of parts.
@@ -265,11 +286,23 @@ pub fn sections_construct_of(
 {
     let at = directive.hash;
     if is_parallel(traits_of(&directive.name).region) {
-        let inner = ResolvedStatement::Sections(at, Vec::new(alloc), true, parts);
+        let inner = boxed(alloc, shared_parts(at, Vec::new(alloc), true, parts))?;
         return Ok(parallel_of(alloc, directive, clauses, inner)?);
     }
     let nowait = has_nowait(directive);
-    Ok(ResolvedStatement::Sections(at, clauses, nowait, parts))
+    Ok(shared_parts(at, clauses, nowait, parts))
+}
+
+/// Parts that threads share, and whether they do not wait behind them.
+fn shared_parts(
+    at: Span,
+    clauses: Vec<ResolvedClause>,
+    nowait: bool,
+    parts: Vec<ResolvedPart>,
+) -> ResolvedStatement
+    ensures { view_resolved_statement result ≡ resolved.Sections at (map view_resolved_clause clauses.items) nowait (resolved.parts (map view_resolved_part parts.items)) }
+{
+    ResolvedStatement::Sections(at, clauses, nowait, parts)
 }
 
 /// What a clause `schedule` asks for.

@@ -17,6 +17,7 @@ use crate::declaration::local_of;
 use crate::expression::{boxed_expression, check_declared, is_copied_array, is_scalar};
 use crate::fault::refuse_if;
 use crate::flow::Flow;
+use crate::kept::add;
 use crate::listed::Listed;
 use crate::symbols::{Meaning, Symbols};
 use om_lexer::{FaultCode, SourceFault, Span};
@@ -167,7 +168,8 @@ fn list_further_names(
         OnOk result (option_map (λ own. before ++ own) (each (resolved_listed kind symbols.now) (map (λ further. further.1) rest.now)) ≡ Some after) }
 {
     for further in rest {
-        clauses.push(list_name(alloc, symbols, kind, listed, &further.1)?)?;
+        let found = list_name(alloc, symbols, kind, listed, &further.1);
+        add(clauses, found)?;
     }
     Ok(())
 }

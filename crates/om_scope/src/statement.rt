@@ -72,10 +72,10 @@ fn resolve_returned(
     alloc: Global,
     symbols: &Symbols,
     flow: Flow,
-    value: &Option<Expression>,
+    value: &Option<Box<Expression>>,
 ) -> Result<Option<Box<ResolvedExpression>>, SourceFault>
-    ensures checked { Checks result (return_breaches symbols.now flow (option_map view_expression value.now)) }
-    ensures resolved { IfOk result (λ found. resolved_perhaps symbols.now (option_map view_expression value.now) ≡ Some (option_map (λ boxed. view_resolved_expression boxed.value) found)) }
+    ensures checked { Checks result (return_breaches symbols.now flow (option_map (λ boxed. view_expression boxed.value) value.now)) }
+    ensures resolved { IfOk result (λ found. resolved_perhaps symbols.now (option_map (λ boxed. view_expression boxed.value) value.now) ≡ Some (option_map (λ boxed. view_resolved_expression boxed.value) found)) }
 {
     match value {
         None => Ok(None),
@@ -97,10 +97,10 @@ fn resolve_return(
     symbols: &Symbols,
     flow: Flow,
     at: Span,
-    value: &Option<Expression>,
+    value: &Option<Box<Expression>>,
 ) -> Result<ResolvedStatement, SourceFault>
-    ensures checked { Checks result (jump_breaches (not flow.in_construct) at.start ++ return_breaches symbols.now flow (option_map view_expression value.now)) }
-    ensures resolved { IfOk result (λ found. resolved_return symbols.now at (option_map view_expression value.now) ≡ Some (view_resolved_statement found)) }
+    ensures checked { Checks result (jump_breaches (not flow.in_construct) at.start ++ return_breaches symbols.now flow (option_map (λ boxed. view_expression boxed.value) value.now)) }
+    ensures resolved { IfOk result (λ found. resolved_return symbols.now at (option_map (λ boxed. view_expression boxed.value) value.now) ≡ Some (view_resolved_statement found)) }
 {
     check_jump(!flow.in_construct, at.start)?;
     let value = resolve_returned(alloc, symbols, flow, value)?;

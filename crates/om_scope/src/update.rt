@@ -14,6 +14,7 @@ use om_resolved::{
 use om_tree::{
     AssignOperator, BinaryOperator, Expression, PostfixOperator, Statement, same_expression,
 };
+use std::mem;
 
 /// On which side of its operator an assigned value has the target.
 fn value_side(target: &Expression, value: &Expression) -> Side
@@ -140,19 +141,7 @@ fn value_operation(side: Side, value: ResolvedExpression) -> Option<Operation>
                 operand,
             })
         }
-        ResolvedExpression::Constant(_) => None,
-        ResolvedExpression::Variable(_) => None,
-        ResolvedExpression::Element(_, _) => None,
-        ResolvedExpression::Call(_, _) => None,
-        ResolvedExpression::ThreadNumber => None,
-        ResolvedExpression::TeamSize => None,
-        ResolvedExpression::Print(_, _) => None,
-        ResolvedExpression::Unary(_, _) => None,
-        ResolvedExpression::Conditional(_, _, _) => None,
-        ResolvedExpression::Assign(_, _, _) => None,
-        ResolvedExpression::AssignElement(_, _, _, _) => None,
-        ResolvedExpression::Postfix(_, _) => None,
-        ResolvedExpression::PostfixElement(_, _, _) => None,
+        _ => None,
     }
 }
 
@@ -236,25 +225,20 @@ fn expression_update(at: Span, side: Side, expression: ResolvedExpression) -> Op
             let found = step_operation(operator);
             Some(updated(at, array, Some(Box::into_inner(index)), found))
         }
-        ResolvedExpression::Constant(_) => None,
-        ResolvedExpression::Variable(_) => None,
-        ResolvedExpression::Element(_, _) => None,
-        ResolvedExpression::Call(_, _) => None,
-        ResolvedExpression::ThreadNumber => None,
-        ResolvedExpression::TeamSize => None,
-        ResolvedExpression::Print(_, _) => None,
-        ResolvedExpression::Unary(_, _) => None,
-        ResolvedExpression::Binary(_, _, _) => None,
-        ResolvedExpression::Conditional(_, _, _) => None,
+        _ => None,
     }
 }
 
-/// The update that a statement is, whose target stands on that side.
-fn update_of(side: Side, statement: ResolvedStatement) -> Option<ResolvedUpdate>
-    ensures { option_map view_resolved_update result ≡ update_of side (view_resolved_statement statement) }
+/// The update that a statement is, whose target stands on that side. It takes the expression out of
+/// the statement.
+fn update_of(side: Side, statement: &mut ResolvedStatement) -> Option<ResolvedUpdate>
+    ensures { option_map view_resolved_update result ≡ update_of side (view_resolved_statement statement.old) }
 {
     match statement {
-        ResolvedStatement::Expression(at, expression) => expression_update(at, side, expression),
+        ResolvedStatement::Expression(at, expression) => {
+            let expression = mem::replace(expression, ResolvedExpression::ThreadNumber);
+            expression_update(*at, side, expression)
+        }
         ResolvedStatement::Declaration(_, _) => None,
         ResolvedStatement::Block(_, _) => None,
         ResolvedStatement::Empty(_) => None,
@@ -280,7 +264,8 @@ fn update_of(side: Side, statement: ResolvedStatement) -> Option<ResolvedUpdate>
 pub fn with_update(at: Span, side: Side, body: Box<ResolvedStatement>) -> ResolvedStatement
     ensures { view_resolved_statement result ≡ with_update at (update_of side (view_resolved_statement body.value)) }
 {
-    match update_of(side, Box::into_inner(body)) {
+    let mut body = body;
+    match update_of(side, &mut body) {
         Some(update) => ResolvedStatement::Update(at, update),
         None => ResolvedStatement::Empty(at),
     }

@@ -91,22 +91,22 @@ view_directive = map_directive view_expression
 
 -- one layer of a statement, whose parts are trees already
 abbrev pub statement_layer : Statement-F StatementTree → StatementTree
-statement_layer (Statement-F.Declaration d) = trees.LocalDeclaration (view_declaration d)
+statement_layer (Statement-F.Declaration d) = trees.LocalDeclaration (view_declaration d.value)
 statement_layer (Statement-F.Block left items right) = trees.Block left (trees.statements items.items) right
 statement_layer (Statement-F.Empty semicolon) = trees.Empty semicolon
-statement_layer (Statement-F.Expression e semicolon) = trees.Expression (view_expression e) semicolon
-statement_layer (Statement-F.If at c s) = trees.If at (view_condition c) s.value
-statement_layer (Statement-F.IfElse at c s other t) = trees.IfElse at (view_condition c) s.value other t.value
-statement_layer (Statement-F.While at c s) = trees.While at (view_condition c) s.value
-statement_layer (Statement-F.Do at s again c semicolon) = trees.Do at s.value again (view_condition c) semicolon
-statement_layer (Statement-F.For h s) = trees.For (view_for_head h) s.value
-statement_layer (Statement-F.Return at value semicolon) = trees.Return at (option_map view_expression value) semicolon
+statement_layer (Statement-F.Expression e semicolon) = trees.Expression (view_expression e.value) semicolon
+statement_layer (Statement-F.If at c s) = trees.If at (view_condition c.value) s.value
+statement_layer (Statement-F.IfElse at c s other t) = trees.IfElse at (view_condition c.value) s.value other t.value
+statement_layer (Statement-F.While at c s) = trees.While at (view_condition c.value) s.value
+statement_layer (Statement-F.Do at s again c semicolon) = trees.Do at s.value again (view_condition c.value) semicolon
+statement_layer (Statement-F.For h s) = trees.For (view_for_head h.value) s.value
+statement_layer (Statement-F.Return at value semicolon) = trees.Return at (option_map (λ e. view_expression e.value) value) semicolon
 statement_layer (Statement-F.Break at semicolon) = trees.Break at semicolon
 statement_layer (Statement-F.Continue at semicolon) = trees.Continue at semicolon
-statement_layer (Statement-F.Construct d s) = trees.Construct (view_directive d) s.value
-statement_layer (Statement-F.StandAlone d) = trees.StandAlone (view_directive d)
-statement_layer (Statement-F.Sections d left parts right) = trees.Sections (view_directive d) left (trees.statements parts.items) right
-statement_layer (Statement-F.Section d s) = trees.Section (view_directive d) s.value
+statement_layer (Statement-F.Construct d s) = trees.Construct (view_directive d.value) s.value
+statement_layer (Statement-F.StandAlone d) = trees.StandAlone (view_directive d.value)
+statement_layer (Statement-F.Sections d left parts right) = trees.Sections (view_directive d.value) left (trees.statements parts.items) right
+statement_layer (Statement-F.Section d s) = trees.Section (view_directive d.value) s.value
 
 -- a statement without boxes and capacities
 abbrev pub view_statement : Statement → StatementTree

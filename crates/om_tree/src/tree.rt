@@ -172,38 +172,39 @@ pub struct ForHead {
     pub close_paren: Span,
 }
 
-/// A statement or another item of a block (C17 6.8), each word and mark by its span.
+/// A statement or another item of a block (C17 6.8), each word and mark by its span. What is large
+/// is in a box, so that a short statement takes little memory.
 #[derive(Drop)]
 pub enum Statement {
     /// A declaration, which stands only directly in a block.
-    Declaration(Declaration),
+    Declaration(Box<Declaration>),
     /// The items of a block, in braces.
     Block(Span, Vec<Statement>, Span),
     /// A semicolon alone.
     Empty(Span),
     /// An expression and its semicolon.
-    Expression(Expression, Span),
+    Expression(Box<Expression>, Span),
     /// An `if` without `else`.
-    If(Span, Condition, Box<Statement>),
+    If(Span, Box<Condition>, Box<Statement>),
     /// `if`, its condition, the statement where it holds, `else`, the statement where it doesn't.
-    IfElse(Span, Condition, Box<Statement>, Span, Box<Statement>),
-    While(Span, Condition, Box<Statement>),
+    IfElse(Span, Box<Condition>, Box<Statement>, Span, Box<Statement>),
+    While(Span, Box<Condition>, Box<Statement>),
     /// `do`, the body, `while`, the condition, the semicolon.
-    Do(Span, Box<Statement>, Span, Condition, Span),
-    For(ForHead, Box<Statement>),
+    Do(Span, Box<Statement>, Span, Box<Condition>, Span),
+    For(Box<ForHead>, Box<Statement>),
     /// `return`, perhaps a value, the semicolon.
-    Return(Span, Option<Expression>, Span),
+    Return(Span, Option<Box<Expression>>, Span),
     Break(Span, Span),
     Continue(Span, Span),
     /// A directive and the statement that it is for.
-    Construct(Directive<Expression>, Box<Statement>),
+    Construct(Box<Directive<Expression>>, Box<Statement>),
     /// A directive that is for no statement.
-    StandAlone(Directive<Expression>),
+    StandAlone(Box<Directive<Expression>>),
     /// `sections` or `parallel sections`, and in braces the items of its parts. The first item
     /// begins a part, and so does each [`Statement::Section`].
-    Sections(Directive<Expression>, Span, Vec<Statement>, Span),
+    Sections(Box<Directive<Expression>>, Span, Vec<Statement>, Span),
     /// `section`, and the first item of the part that it begins.
-    Section(Directive<Expression>, Box<Statement>),
+    Section(Box<Directive<Expression>>, Box<Statement>),
 }
 
 /// The block of a function (C17 6.8.2).

@@ -20,7 +20,7 @@ use Rattle.om_scope.proofs.statement.+statement.Goals as goal
 pub resolve_statement-returns-in-Construct-clause-resolved : goal.resolve_statement-returns-in-Construct-clause-resolved
 unfolding resolved_statement
 resolve_statement-returns-in-Construct-clause-resolved t c =
-    let h = rw c.deref-in-Construct.ensures at c.resolve_construct.ensures.resolved in
+    let h = rw (c.deref-in-Construct.ensures, c.deref-in-Construct-2.ensures) at c.resolve_construct.ensures.resolved in
     rw (c.in-Construct.is, view_construct c.in-Construct.directive c.in-Construct.body) h
 
 pub resolve_body-returns-clause-in_scope : goal.resolve_body-returns-clause-in_scope
