@@ -10,11 +10,9 @@ mod written;
 
 use crate::cases::judge;
 use anyhow::{Result, ensure};
+use om_parser::STACK_SIZE;
 use std::io;
 use std::thread::Builder;
-
-/// Bytes of stack for the deepest sources, as many as the program `ompback` takes.
-const STACK_SIZE: usize = 256 << 20;
 
 fn main(rt: HostRuntime) -> Result<()> {
     let alloc = rt.alloc();

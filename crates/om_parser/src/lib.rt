@@ -13,4 +13,4 @@ mod part;
 mod statement;
 mod unit;
 
-pub use unit::{one_tree, parse};
+pub use unit::{STACK_SIZE, one_tree, parse};

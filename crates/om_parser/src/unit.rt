@@ -25,17 +25,11 @@ use om_pragma::Name;
 use om_tree::{Function, FunctionHead, Item, ResultType, Unit};
 use std::alloc::Global;
 
-/// How deep parentheses may nest in an expression.
-pub const NESTING_LIMIT: usize = 128;
-
-/// How many tokens a whole expression may have.
-pub const TOKEN_LIMIT: usize = 4096;
-
-/// How deep blocks may nest.
-pub const BLOCK_LIMIT: usize = 128;
-
-/// How many statements may stand round a statement, the function's block among them.
-pub const STATEMENT_LIMIT: usize = 1024;
+/// How many bytes of stack a thread should have that parses, and works with what is found.
+///
+/// The deepest source that keeps the limits needs a quarter of them where nothing is optimised. That is
+/// measured, and no clause says it. What is not used takes no memory.
+pub const STACK_SIZE: usize = 256 << 20;
 
 /// The tree of these tokens, the last of which is the end of the source (C17 6.9).
 ///
@@ -53,11 +47,14 @@ pub const STATEMENT_LIMIT: usize = 1024;
 ///   is that of the word `atomic`.
 /// - S16: at this token an expression has more than `TOKEN_LIMIT` tokens, parentheses nest
 ///   deeper than `NESTING_LIMIT` (those of a clause count) or blocks deeper than `BLOCK_LIMIT`, or a
-///   statement begins round which more than `STATEMENT_LIMIT` stand (the braces of `sections` are one).
+///   statement begins round which more than `STATEMENT_LIMIT` stand (the braces of `sections` are
+///   one). These limits are those of `om_tree`.
 ///
-/// S5 and S6 are of whole lines, and what stands before such a line begins a well-formed unit that
-/// goes on with a line there. So do the tokens up to that of an S16, the token with them. Where a
-/// source has several faults, no clause says which of them is given.
+/// S5, and S6 of a clause, are of whole lines, and what stands before such a line begins a
+/// well-formed unit that goes on with a line there. So do the tokens up to that of an S16, the token
+/// with them. Where a source has several faults, no clause says which of them is given.
+///
+/// A source may nest deep: the call should have [`STACK_SIZE`] bytes of stack.
 pub fn parse(alloc: Global, tokens: &[Token]) -> Result<Unit, SourceFault>
     // What is found is well-formed, has these tokens, and keeps the limits.
     ensures found { IfOk result (λ unit. IsTreeOf tokens.now (view_unit unit)) }

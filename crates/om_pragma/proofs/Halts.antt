@@ -110,16 +110,19 @@ record Halts (ts : List Token) (f : SourceFault) : Type 0 where
   goes_on : ends front ≡ false
   again : (t : Token) (after other : List Token) → rest ≡ t ∷ after → directive_at (front ++ t ∷ other) ≡ err f
 
-stops_there : (ts : List Token) (f : SourceFault) → EndsOnce ts → f.code ≡ codes.Syntax → Halts ts f → StopsAt ts f.at
-stops_there ts f once s h = go h.rest refl
+-- a line's end stands only last
+abbrev EndsLast : List Token → Type 0
+EndsLast ts = (front : List Token) (t : Token) (after : List Token) → ts ≡ front ++ t ∷ after → t.kind ≡ kinds.DirectiveEnd → after ≡ []
+
+-- or all of the tokens begin a directive, and do not end the line
+stops_or_runs_out : (ts : List Token) (f : SourceFault) → f.code ≡ codes.Syntax → Halts ts f → StopsAt ts f.at ⊎ ((ends ts ≡ false) × BeginsDirective ts)
+stops_or_runs_out ts f s h = go h.rest refl
   where
-    go : (rest : List Token) → h.rest ≡ rest → StopsAt ts f.at
+    go : (rest : List Token) → h.rest ≡ rest → StopsAt ts f.at ⊎ ((ends ts ≡ false) × BeginsDirective ts)
     go [] is =
         let all : ts ≡ h.front = h.parts ∙ ap (λ (w : List Token). h.front ++ w) is ∙ append-nil h.front in
-        let last : ends ts ≡ true = ap ends once.parts ∙ ends_last once.front (token kinds.DirectiveEnd once.end) in
-        let none : ends ts ≡ false = ap ends all ∙ h.goes_on in
-        absurd cc
-    go (t ∷ after) is = record {
+        inr (ap ends all ∙ h.goes_on, subst BeginsDirective (sym all) h.begins)
+    go (t ∷ after) is = inl (record {
       front = h.front;
       first = t;
       after = after;
@@ -129,10 +132,10 @@ stops_there ts f once s h = go h.rest refl
       stops = λ b.
           let whole : directive_spelling (λ e. e) b.directive ≡ h.front ++ t ∷ b.more = b.parts ∙ simp append_assoc in
           written_no_syntax b.directive b.written f (ap directive_at whole ∙ h.again t after b.more is) s;
-    }
+    })
 
 -- the end stands at no other place
-only_last : (ts : List Token) → EndsOnce ts → (front : List Token) (t : Token) (after : List Token) → ts ≡ front ++ t ∷ after → t.kind ≡ kinds.DirectiveEnd → after ≡ []
+only_last : (ts : List Token) → EndsOnce ts → EndsLast ts
 only_last ts once front t after parts is = go once.front front once.endless (sym once.parts ∙ parts)
   where
     last : Token
@@ -420,7 +423,7 @@ clauses_halt hash pragma omp n ts f once h s =
 
 -- ---- the whole
 
-halts : (ts : List Token) (f : SourceFault) → EndsOnce ts → directive_at ts ≡ err f → f.code ≡ codes.Syntax → Halts ts f
+halts : (ts : List Token) (f : SourceFault) → EndsLast ts → directive_at ts ≡ err f → f.code ≡ codes.Syntax → Halts ts f
 unfolding directive_at opening_spelling
 halts ts f once h s = elim (bind_err (stopped (opening_at ts)) _ f h) [
   | inl e ↦ let r = stopped_err (opening_at ts) f e in subst (Halts ts) (sym r.2) (opening_halts ts r.0 r.1)
@@ -444,7 +447,7 @@ halts ts f once h s = elim (bind_err (stopped (opening_at ts)) _ f h) [
               let words = directive_name_is o.0.1 n.0 n.1 in
               let spelled : List Token = name_spelling n.0.0 in
               let whole : ts ≡ opening ++ (spelled ++ n.0.1) = begin ∙ ap (λ (v : List Token). opening ++ v) words.parts in
-              let k = clauses_halt o.0.0.0 o.0.0.1 o.0.0.2 n.0.0 n.0.1 f (λ front t after is. only_last ts once (opening ++ (spelled ++ front)) t after (whole ∙ ap (λ (v : List Token). opening ++ (spelled ++ v)) is ∙ simp append_assoc)) e s in
+              let k = clauses_halt o.0.0.0 o.0.0.1 o.0.0.2 n.0.0 n.0.1 f (λ front t after is. once (opening ++ (spelled ++ front)) t after (whole ∙ ap (λ (v : List Token). opening ++ (spelled ++ v)) is ∙ simp append_assoc)) e s in
               record {
                 front = opening ++ (spelled ++ k.front);
                 rest = k.rest;
@@ -464,4 +467,23 @@ halts ts f once h s = elim (bind_err (stopped (opening_at ts)) _ f h) [
 ]
 
 pub syntax_stops : (ts : List Token) (f : SourceFault) → EndsOnce ts → directive_at ts ≡ err f → f.code ≡ codes.Syntax → StopsAt ts f.at
-syntax_stops ts f once h s = stops_there ts f once s (halts ts f once h s)
+syntax_stops ts f once h s = elim (stops_or_runs_out ts f s (halts ts f (only_last ts once) h s)) [
+  | inl stops ↦ stops
+  | inr out ↦
+      let last : ends ts ≡ true = ap ends once.parts ∙ ends_last once.front (token kinds.DirectiveEnd once.end) in
+      let none : ends ts ≡ false = out.0 in
+      absurd cc
+]
+
+pub endless_stops : (ts : List Token) (f : SourceFault) → All NoEnd ts → directive_at ts ≡ err f → f.code ≡ codes.Syntax → StopsAt ts f.at ⊎ BeginsDirective ts
+endless_stops ts f endless h s = elim (stops_or_runs_out ts f s (halts ts f never h s)) [
+  | inl stops ↦ inl stops
+  | inr out ↦ inr out.1
+]
+  where
+    there : (front : List Token) (t : Token) (after : List Token) → All NoEnd (front ++ t ∷ after) → NoEnd t
+    there [] t after each = All-head NoEnd t after each
+    there (u ∷ front) t after each = there front t after (All-tail NoEnd u (front ++ t ∷ after) each)
+
+    never : EndsLast ts
+    never front t after parts is = absurd (there front t after (subst (All NoEnd) parts endless) is)

@@ -1,6 +1,6 @@
 -- What `directive` promises, from what is read.
 use Rattle.std.proofs.Common.{◌≡◌, ◌≤◌, List, length, Result, Ok, Err, sym, ap, ◌∙◌, ◌⊎◌, inl, inr, arith}
-use Rattle.std.specs.Prelude.{IfOk, IfErr}
+use Rattle.std.specs.Prelude.{◌≢◌, All, IfOk, IfErr}
 use Rattle.std.proofs.lemmas.List.{length-map}
 use denote.Ref.{Bor}
 use Rattle.om_lexer.specs.Faults.{no_memory}
@@ -10,10 +10,11 @@ use Rattle.om_lexer.specs.declared.token.Token.{Token}
 use Rattle.om_pragma.specs.declared.tree.Directive.{Directive}
 use Rattle.om_pragma.specs.Expressions.{expressions, tokens_in, with_tokens, IsClosed}
 use Rattle.om_pragma.specs.Reading.{directive_at, Reads}
-use Rattle.om_pragma.specs.Refusals.{IsRefusal, IsFound, StopsAt, EndsOnce}
+use Rattle.om_lexer.specs.declared.token.TokenKind.TheVariants as kinds
+use Rattle.om_pragma.specs.Refusals.{IsRefusal, IsFound, BeginsDirective, StopsAt, EndsOnce}
 use Rattle.om_pragma.specs.Table.{IsDirectiveOf}
 use Rattle.om_pragma.proofs.Directives.{directive_is, read_again}
-use Rattle.om_pragma.proofs.Halts.{syntax_stops}
+use Rattle.om_pragma.proofs.Halts.{syntax_stops, endless_stops}
 use Rattle.om_pragma.proofs.Mapping.{mapped_expressions}
 use Rattle.om_pragma.proofs.OneExpression.{one_expression}
 use Rattle.om_pragma.proofs.Outcomes.{ok_is, ok_err}
@@ -44,3 +45,8 @@ module _ (ts : List Token) where
   is_first (Ok d) h = tt
   is_first (Err f) (inl memory) = λ syntax once. let both : no_memory.code ≡ codes.Syntax = ap (λ (g : SourceFault). g.code) (sym memory) ∙ syntax in absurd cc
   is_first (Err f) (inr e) = λ syntax once. syntax_stops ts f once e syntax
+
+  pub is_first_or_out : (r : Result (Directive (Bor (List Token))) SourceFault) → Reads with_tokens r (directive_at ts) → IfErr r (λ f. f.code ≡ codes.Syntax → All (λ t. t.kind ≢ kinds.DirectiveEnd) ts → StopsAt ts f.at ⊎ BeginsDirective ts)
+  is_first_or_out (Ok d) h = tt
+  is_first_or_out (Err f) (inl memory) = λ syntax endless. let both : no_memory.code ≡ codes.Syntax = ap (λ (g : SourceFault). g.code) (sym memory) ∙ syntax in absurd cc
+  is_first_or_out (Err f) (inr e) = λ syntax endless. endless_stops ts f endless e syntax

@@ -1,13 +1,14 @@
 //! Reading the tokens of a directive line.
 
-ghost use Rattle.std.specs.Prelude.{◌≡◌, ◌≤◌, ◌⊎◌, ℕ, suc, List, [], IfOk, IfErr, Result, length, map};
+ghost use Rattle.std.specs.Prelude.{◌≡◌, ◌≢◌, ◌≤◌, ◌⊎◌, All, ℕ, suc, List, [], IfOk, IfErr, Result, length, map};
 ghost use Rattle.om_lexer.specs.declared.fault.FaultCode.TheVariants.{BadClause, Syntax};
 ghost use Rattle.om_lexer.specs.declared.token.Token.{Token as Tokens};
+ghost use Rattle.om_lexer.specs.declared.token.TokenKind.TheVariants.{DirectiveEnd};
 ghost use Rattle.om_lexer.specs.Faults.{no_memory};
 ghost use Rattle.om_pragma.specs.declared.tree.Directive.{Directive as DirectiveOf};
 ghost use Rattle.om_pragma.specs.Expressions.{expressions, map_clause, map_item, tokens_in, with_tokens};
 ghost use Rattle.om_pragma.specs.Reading.{take_kind, fault, stop_fault, stopped, in_clause, no_word, opening_at, critical_after, critical_at, flush_at, parallel_at, name_after, directive_name_at, comma_at, clause_at, item_at, until, syntax_at, take_end, clauses_at, directive_at, Gets, Reads};
-ghost use Rattle.om_pragma.specs.Refusals.{IsRefusal, IsFound, EndsOnce, StopsAt};
+ghost use Rattle.om_pragma.specs.Refusals.{IsRefusal, IsFound, BeginsDirective, EndsOnce, StopsAt};
 ghost use Rattle.om_pragma.specs.Table.{IsDirectiveOf, kinds_of};
 
 use crate::argument::{clause_after, list_after};
@@ -31,9 +32,9 @@ use std::alloc::Global;
 ///   directive where a clause is expected. Its place is that word.
 /// - S6: a clause that the directive does not have, that stands there once more, or that is
 ///   wrong inside. Its place is the clause's word.
-/// - S3: any other tokens that are no directive. Where the end of the run is the last of them and
-///   stands nowhere else, its place is the first token that no directive has there, after the
-///   tokens before it; that end is a token too.
+/// - S3: any other tokens that are no directive. Its place is the first token that no directive has
+///   there, after the tokens before it; the end of the run is a token too, which must stand nowhere
+///   but last. Where it is missing and all of the tokens begin a directive, no clause says the place.
 pub fn directive(alloc: Global, tokens: &[Token]) -> Result<Directive<&[Token]>, SourceFault>
     // What is found is a directive of the table with these tokens.
     ensures found { IfOk result (λ d. IsDirectiveOf tokens.now (with_tokens d)) }
@@ -43,6 +44,8 @@ pub fn directive(alloc: Global, tokens: &[Token]) -> Result<Directive<&[Token]>,
     ensures refused { IfErr result (λ fault. (fault ≡ no_memory) ⊎ IsRefusal tokens.now fault) }
     // S3 stands at the first token that no directive has there, where the run ends once.
     ensures stops_at_the_first { IfErr result (λ fault. fault.code ≡ Syntax → EndsOnce tokens.now → StopsAt tokens.now fault.at) }
+    // So it does where the run has no end, or all of its tokens begin a directive.
+    ensures runs_out { IfErr result (λ fault. fault.code ≡ Syntax → All (λ t. t.kind ≢ DirectiveEnd) tokens.now → StopsAt tokens.now fault.at ⊎ BeginsDirective tokens.now) }
 {
     read(alloc, tokens)
 }
