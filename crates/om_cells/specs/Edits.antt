@@ -1,5 +1,5 @@
 -- What edits make of a control.
-use Rattle.std.specs.Prelude.{ℕ, ◌+◌, ◌<◌, ◌^◌, Option, None, Some, option_to_list, List, [], ◌∷◌, ◌++◌, drop}
+use Rattle.std.specs.Prelude.{ℕ, ◌+◌, ◌<◌, ◌^◌, Option, None, option_to_list, List, [], ◌∷◌, ◌++◌, drop}
 use Rattle.om_code.specs.declared.frame.Operand.{Operand}
 use Rattle.om_cells.specs.declared.control.Home.{Home}
 use Rattle.om_cells.specs.declared.control.Frame.{Frame}
