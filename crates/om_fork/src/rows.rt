@@ -11,9 +11,7 @@ ghost use Rattle.om_fork.specs.Barriers.{barrier};
 ghost use Rattle.om_fork.specs.Rows.{sync_of, team_at_end, begin_row, reached_row, is_misplaced_barrier, arrive_row, kept, departed, depart_row, region_end, left_records, left, left_row, leave_row};
 
 use crate::barrier::{is_open, name_barrier, put_kept};
-use om_cells::{
-    Blocked, Context, Edit, Kind, SharedPile, Stack, Store, Tail, Team, Update, Val,
-};
+use om_cells::{Blocked, Context, Edit, Kind, SharedPile, Stack, Store, Tail, Team, Update, Val};
 use om_code::frame::Fault;
 use om_code::instruction::Barrier;
 use om_code::raw::Slot;
