@@ -54,22 +54,26 @@ fn drive_two<L: Sitting + Send + Sync, R: Threads + Wait + Sync>(
         answers,
         fault,
     } = drive(rt, alloc, &session, crew, orders.as_slice());
-    let Ok(Closed {
-        book,
-        calls,
-        standing,
-        ..
-    }) = session.close(seats)
+    let Ok(
+        Closed {
+            book,
+            calls,
+            standing,
+            ..
+        },
+    ) = session.close(seats)
     else {
         return Ok(false);
     };
     let answered = answers.iter().filter(|answer| answer.reply.is_ok()).count();
-    Ok(fault.is_none()
-        && answers.len() == 400
-        && answered == 400
-        && calls == 400
-        && standing == 400
-        && book.records() == 400)
+    Ok(
+        fault.is_none()
+            && answers.len() == 400
+            && answered == 400
+            && calls == 400
+            && standing == 400
+            && book.records() == 400,
+    )
 }
 
 /// A gate that holds nobody back.

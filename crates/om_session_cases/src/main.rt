@@ -21,7 +21,10 @@ fn main(rt: HostRuntime) -> Result<()> {
         ("a free run is recorded", free_run_is_recorded(&rt, alloc)?),
         ("free runs end tasks", free_runs_end_tasks(&rt, alloc)?),
         ("all orders are answered", all_are_answered(&rt, alloc)?),
-        ("both workers are inside at once", both_are_inside_at_once(&rt, alloc)?),
+        (
+            "both workers are inside at once",
+            both_are_inside_at_once(&rt, alloc)?,
+        ),
     ];
     let mut wrong = 0u32;
     for (name, is_right) in checks {
