@@ -10,7 +10,7 @@ use Rattle.std.specs.declared.cmp.Ordering.TheVariants.{Less, Equal, Greater}
 use Rattle.std.proofs.lemmas.Cmp.{nat_list_cmp_total}
 use Rattle.std.proofs.lemmas.List.Elements.{Contains-append_left, Contains-append_right, Contains-append_cases, Contains-push, Contains-push_cases}
 use Rattle.std.proofs.lemmas.Map.Lookups.{exact_bytes}
-use Rattle.om_view.specs.Ready.{placed, inserted}
+use Rattle.om_recorder.specs.Ready.{placed, inserted}
 
 abbrev compared : List ℕ → List ℕ → Ordering
 compared a b = slice_cmp nat_cmp a b

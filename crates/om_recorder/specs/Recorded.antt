@@ -1,9 +1,12 @@
 -- A machine whose calls are recorded, at most 200,000 of them.
-use Rattle.std.specs.Prelude.{ℕ, ◌+◌, ◌≤◌, Bool, nat_le}
+use Rattle.std.specs.Prelude.{ℕ, ◌+◌, ◌≤◌, Bool, true, false, nat_le}
 use Rattle.om_code.specs.declared.raw.Raw.{Raw}
 use Rattle.om_cells.specs.declared.step.Choice.{Choice}
 use Rattle.om_cells.specs.declared.step.Label.{Label}
-use Rattle.om_history.specs.Runs.{no_history, after_step, after_undo}
+use Rattle.om_history.specs.declared.reply.StepReply.{StepReply}
+use Rattle.om_history.specs.declared.reply.StepReply.TheVariants as step_reply
+use Rattle.om_history.specs.declared.reply.UndoReply.{UndoReply}
+use Rattle.om_history.specs.Runs.{no_history, after_step, after_undo, reply_to_step, reply_to_undo}
 use Rattle.om_history.specs.Cones.{after_roll}
 use Rattle.om_undo.specs.Machines.{MachineView, rules_for}
 
@@ -26,6 +29,18 @@ after_look r = record { machine = r.machine; records = r.records + 1 }
 
 abbrev pub label_of : ℕ → Choice → Label
 label_of worker choice = record { worker = worker; choice = choice }
+
+-- what a machine replies to a step, and to an undo
+abbrev pub step_reply_of : MachineView → Label → StepReply
+step_reply_of m label = reply_to_step (rules_for m) m.history label
+
+abbrev pub undo_reply_of : MachineView → ℕ → UndoReply
+undo_reply_of m worker = reply_to_undo (rules_for m) m.history worker
+
+-- a step was made
+abbrev pub is_done : StepReply → Bool
+is_done (step_reply.Done serial line fault) = true
+is_done _ = false
 
 -- the machine after a step, an undo and a roll
 abbrev pub stepped : MachineView → Label → MachineView

@@ -12,9 +12,9 @@ use Rattle.om_history.specs.Laws.{steps_from}
 use Rattle.om_history.specs.Runs.{label_of}
 use Rattle.om_undo.specs.Laws.{OneReadyList}
 use Rattle.om_undo.specs.Machines.{MachineView, rules_for, state_in}
-use Rattle.om_view.specs.Ready.{inserted, ready_among, ready_names, tasks_of}
-use Rattle.om_view.proofs.Inserted.{Ascend, inserted_ascends, inserted_has, inserted_there, inserted_keeps, first_or_behind}
-use Rattle.om_view.proofs.Touched.{replay_at}
+use Rattle.om_recorder.specs.Ready.{inserted, ready_among, ready_names, tasks_of}
+use Rattle.om_recorder.proofs.Inserted.{Ascend, inserted_ascends, inserted_has, inserted_there, inserted_keeps, first_or_behind}
+use Rattle.om_recorder.proofs.Touched.{replay_at}
 
 abbrev IsReadyAt : State → List ℕ → Type 0
 IsReadyAt s n = is_ready (task_in (s (obj.Task n))) ≡ true
