@@ -1,5 +1,5 @@
 -- What the journal of a free run says, and the seats of its session.
-use Rattle.std.specs.Prelude.{◌≡◌, ◌≢◌, ◌<◌, ◌+◌, ℕ, zero, suc, Bool, cond, List, [], ◌∷◌, ◌++◌, length, map, refl}
+use Rattle.std.specs.Prelude.{◌≡◌, ◌≢◌, ◌<◌, ◌+◌, ℕ, zero, suc, cond, List, [], ◌∷◌, ◌++◌, length, map, refl}
 use Rattle.std.specs.List.{AllByRecursion}
 use Rattle.std.proofs.Common.{sym, ◌∙◌, ap, subst, arith, length-append}
 use Rattle.std.proofs.lemmas.List.{length-map, map-append}
@@ -19,7 +19,7 @@ use Rattle.om_history.specs.declared.reply.StepReply.TheVariants as step_reply
 use Rattle.om_book.specs.declared.reply.Reply.TheVariants as reply
 use Rattle.om_undo.specs.Machines.{MachineView}
 use Rattle.om_recorder.specs.Calls.{left_by, makes_step, steps_made, commands_of, recorded_calls}
-use Rattle.om_recorder.specs.Recorded.{Recorded, is_done}
+use Rattle.om_recorder.specs.Recorded.{is_done}
 
 -- the commands alone decide what a journal leaves
 pub left_same : (m : MachineView) (journal : List JournalRecord) → journals.left_by m journal ≡ left_by m (commands_of journal)

@@ -1,4 +1,3 @@
-use Rattle.std.proofs.Common.{◌∙◌, ap}
 use Rattle.om_recorder.specs.Calls.{commands_of}
 use Rattle.om_recorder.proofs.Freeing.{behind_book}
 use Rattle.om_recorder.proofs.recorder.Recorder.behind.Goals as goal
