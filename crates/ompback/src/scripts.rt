@@ -7,8 +7,9 @@ use om_shell::{Options, ShellFault, run};
 use std::alloc::{AllocError, Global};
 use std::io;
 use std::io::{ErrorKind, Read, Write};
+use std::sync::Wait;
 use std::test::Fail;
-use std::thread::Builder;
+use std::thread::{Builder, Threads};
 
 // Gives its bytes at most `most` at a time, and fails at the read after `reads_left` of them.
 #[derive(Drop)]
@@ -63,7 +64,8 @@ struct Told {
 }
 
 // A run of this many workers over these ends.
-fn run_over(
+fn run_over<R: Threads + Wait + Sync>(
+    rt: &R,
     alloc: Global,
     workers: u8,
     source: Option<&[u8]>,
@@ -77,7 +79,13 @@ fn run_over(
         bytes: Vec::new(alloc),
         writes_left,
     };
-    let ended = run(alloc, &mut reader, &mut writer, Options { workers, source });
+    let ended = run(
+        rt,
+        alloc,
+        &mut reader,
+        &mut writer,
+        Options { workers, source },
+    );
     let has_machine = ended.as_ref().is_ok_and(|ended| ended.debugger.is_some());
     Told {
         status: ended.map(|ended| ended.status),
@@ -87,13 +95,13 @@ fn run_over(
 }
 
 // A run of two workers whose source stands in the input, and whose ends never fail.
-fn answered(alloc: Global, input: &[u8], most: usize) -> Told {
+fn answered<R: Threads + Wait + Sync>(rt: &R, alloc: Global, input: &[u8], most: usize) -> Told {
     let reader = Pieces {
         bytes: input,
         most,
         reads_left: 1000,
     };
-    run_over(alloc, 2, None, reader, 1000)
+    run_over(rt, alloc, 2, None, reader, 1000)
 }
 
 // The stored run.
@@ -106,7 +114,7 @@ const OUTPUT: &[u8] =
 #[test]
 fn answers_in_any_pieces(rt: HostRuntime) {
     for most in [1, 2, 3, 7, 4096] {
-        let told = answered(rt.alloc(), INPUT, most);
+        let told = answered(&rt, rt.alloc(), INPUT, most);
         assert_eq!(rt; told.status, Ok(0));
         assert!(rt; told.has_machine);
         assert_eq!(rt; told.text.as_slice(), OUTPUT, "in pieces of {most}");
@@ -192,7 +200,7 @@ const SCRIPTS: [(&[u8], u8, &[u8]); 16] = [
 #[test]
 fn writes_the_worked_scripts(rt: HostRuntime) {
     for (input, status, output) in SCRIPTS {
-        let told = answered(rt.alloc(), input, 4096);
+        let told = answered(&rt, rt.alloc(), input, 4096);
         assert_eq!(rt; told.status, Ok(status));
         assert_eq!(rt; told.has_machine, status == 0);
         assert_eq!(rt; told.text.as_slice(), output);
@@ -234,10 +242,10 @@ fn nested(
 }
 
 // How many nests, from the first on, are accepted.
-fn nests_resolved(alloc: Global) -> Result<usize, AllocError> {
+fn nests_resolved<R: Threads + Wait + Sync>(rt: &R, alloc: Global) -> Result<usize, AllocError> {
     for (index, (front, middle, back, times)) in NESTS.iter().enumerate() {
         let source = nested(alloc, front, middle, back, *times)?;
-        let told = answered(alloc, source.as_slice(), 4096);
+        let told = answered(rt, alloc, source.as_slice(), 4096);
         if !told.text.is_empty() {
             return Ok(index);
         }
@@ -250,7 +258,7 @@ fn takes_the_deepest_nests(rt: HostRuntime) -> Result<(), Fail> {
     let alloc = rt.alloc();
     let thread = Builder::new()
         .stack_size(STACK_SIZE)
-        .spawn(&rt, move || nests_resolved(alloc))?;
+        .spawn(&rt, move || nests_resolved(&rt, alloc))?;
     assert_eq!(rt; thread.join(&rt)?, NESTS.len());
     Ok(())
 }
@@ -268,7 +276,7 @@ fn takes_a_source_that_is_handed_in(rt: HostRuntime) {
         most: 4096,
         reads_left: 1000,
     };
-    let told = run_over(rt.alloc(), 1, Some(SOURCE), reader, 1000);
+    let told = run_over(&rt, rt.alloc(), 1, Some(SOURCE), reader, 1000);
     assert_eq!(rt; told.status, Ok(0));
     assert_eq!(rt; told.text.as_slice(), ANSWERS);
 }
@@ -281,7 +289,7 @@ fn each_read_fails_in_turn(rt: HostRuntime) {
             most: 2,
             reads_left,
         };
-        let told = run_over(rt.alloc(), 2, None, reader, 1000);
+        let told = run_over(&rt, rt.alloc(), 2, None, reader, 1000);
         assert!(rt; matches!(told.status, Ok(0) | Err(ShellFault::Read)));
         assert!(rt; OUTPUT.starts_with(told.text.as_slice()));
     }
@@ -295,7 +303,7 @@ fn each_write_fails_in_turn(rt: HostRuntime) {
             most: 4096,
             reads_left: 1000,
         };
-        let told = run_over(rt.alloc(), 2, None, reader, writes_left);
+        let told = run_over(&rt, rt.alloc(), 2, None, reader, writes_left);
         assert!(rt; told.status == Err(ShellFault::Write));
         assert!(rt; OUTPUT.starts_with(told.text.as_slice()));
     }
