@@ -1,5 +1,5 @@
 -- What edits make of a control.
-use Rattle.std.specs.Prelude.{ℕ, ◌+◌, ◌<◌, ◌^◌, Option, None, Some, option_to_list, List, [], ◌∷◌, ◌++◌, drop}
+use Rattle.std.specs.Prelude.{ℕ, ◌+◌, ◌<◌, ◌^◌, Option, None, option_to_list, List, [], ◌∷◌, ◌++◌, drop}
 use Rattle.om_code.specs.declared.frame.Operand.{Operand}
 use Rattle.om_cells.specs.declared.control.Home.{Home}
 use Rattle.om_cells.specs.declared.control.Frame.{Frame}
@@ -9,6 +9,8 @@ use Rattle.om_cells.specs.declared.control.Stack.{Stack}
 use Rattle.om_cells.specs.declared.control.Control.{Control}
 use Rattle.om_cells.specs.declared.control.Control.TheVariants.{Idle, Running, Faulted, Ended}
 use Rattle.om_cells.specs.declared.edit.Edit.{Edit}
+use Rattle.om_cells.specs.declared.edit.Outlook.{Outlook}
+use Rattle.om_cells.specs.declared.edit.Outlook.TheVariants.{Runs, Returns, Fails, Ends}
 use Rattle.om_cells.specs.declared.edit.Edit.TheVariants.{Go, BeginFrame, EndFrame, BeginContext, EndContext, Open, Close, Replace, CountBirth, CountRegion, CountPhase, Fail, End}
 
 -- a frame at a place, with so many operands taken and then one pushed
@@ -55,6 +57,13 @@ edited CountRegion stack = Running (record stack { top = record stack.top { regi
 edited CountPhase stack = Running (record stack { top = record stack.top { phase = stack.top.phase + 1 } })
 edited (Fail fault) stack = Faulted fault stack
 edited (End value) stack = Ended value
+
+-- the control of a worker that goes on so after an edit of a stack
+abbrev pub foreseen : Outlook → Stack → Control
+foreseen Runs stack = Running stack
+foreseen Returns stack = context_ended stack.below
+foreseen (Fails fault) stack = Faulted fault stack
+foreseen (Ends value) stack = Ended value
 
 -- the control after an edit: one that doesn't run stays
 abbrev pub changed_by : Edit → Control → Control

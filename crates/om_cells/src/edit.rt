@@ -1,9 +1,11 @@
 //! Edits: what a step makes of its own control, as data as small as what changes.
 
-ghost use Rattle.std.specs.Prelude.{◌≡◌, IfOk, OnOk, ◌<◌, ◌+◌, ◌^◌};
-ghost use Rattle.om_cells.specs.Edits.{frame_at, frame_begun, value_given, context_begun, context_ended, edited, changed_by, changed, HasRoom, HaveRoom, Counts};
+ghost use Rattle.std.specs.Prelude.{◌≡◌, IfOk, OnOk, unwrap_or, ◌<◌, ◌+◌, ◌^◌};
+ghost use Rattle.om_cells.specs.Edits.{frame_at, frame_begun, value_given, context_begun, context_ended, foreseen, edited, changed_by, changed, HasRoom, HaveRoom, Counts};
 
 use crate::control::{Construct, Context, Control, Frame, Home, Stack};
+use crate::shared::Shared;
+use crate::shared_pile::SharedPile;
 use om_code::frame::{Fault, Operand};
 use om_seq::{Pile, Seq};
 use std::alloc::{AllocError, Global};
@@ -24,7 +26,7 @@ pub enum Edit {
         to: u32,
         takes: u32,
         body: u32,
-        homes: Seq<Home>,
+        homes: Shared<Seq<Home>>,
     },
     /// The running frame ends, with a value for the frame that waits for it.
     EndFrame(Operand),
@@ -33,11 +35,11 @@ pub enum Edit {
     /// The running context ends. The one below runs on; where there is none, the worker is idle.
     EndContext,
     /// The running context enters a region.
-    Open(Construct),
+    Open(Shared<Construct>),
     /// The running context leaves its innermost region.
     Close,
     /// The running context's innermost region becomes this one.
-    Replace(Construct),
+    Replace(Shared<Construct>),
     /// A team, a task or a group is born of the running context.
     CountBirth,
     /// The running context meets a worksharing region.
@@ -66,7 +68,12 @@ impl Frame {
 
 impl Context {
     /// Lets the running frame wait, and begins one of this body with these slots.
-    fn begin_frame(&mut self, alloc: Global, body: u32, homes: Seq<Home>) -> Result<(), AllocError>
+    fn begin_frame(
+        &mut self,
+        alloc: Global,
+        body: u32,
+        homes: Shared<Seq<Home>>,
+    ) -> Result<(), AllocError>
         requires { self.old.frames + 1 < 2 ^ 64 }
         ensures { OnOk result (self.new ≡ frame_begun body homes self.old) }
     {
@@ -79,49 +86,68 @@ impl Context {
         };
         self.frames += 1;
         let waits = mem::replace(&mut self.frame, frame);
-        self.callers.push(waits)
+        let waits = Shared::of(alloc, waits)?;
+        self.callers.put(alloc, 0, waits)
     }
 
     /// Ends the running frame, with a value for the one that waits for it.
-    fn end_frame(&mut self, value: Operand) -> Result<(), AllocError>
+    fn end_frame(&mut self, alloc: Global, value: Operand) -> Result<(), AllocError>
         ensures { OnOk result (self.new ≡ value_given value self.old.callers self.old) }
     {
-        let Some(mut frame) = self.callers.pop() else {
+        let Some(waits) = self.callers.top() else {
             return Ok(());
         };
+        let mut frame = waits.copy(alloc)?;
         frame.operands.push(value)?;
         self.frame = frame;
-        Ok(())
+        self.callers.drop_top(alloc, 1)
     }
 }
 
 impl Stack {
     /// Begins a context, which runs.
-    fn begin_context(&mut self, context: Context) -> Result<(), AllocError>
+    fn begin_context(&mut self, alloc: Global, context: Context) -> Result<(), AllocError>
         ensures { OnOk result (self.new ≡ context_begun context self.old) }
     {
         let left = mem::replace(&mut self.top, context);
-        self.below.push(left)
+        let left = Shared::of(alloc, left)?;
+        self.below.put(alloc, 0, left)
     }
 }
 
-/// The control after the running context of a stack ends.
-fn after_context(stack: Stack) -> Control
-    ensures { result ≡ context_ended stack.below }
+/// The control after a context ends that runs above these.
+fn after_context(alloc: Global, below: &SharedPile<Context>) -> Result<Control, AllocError>
+    ensures { IfOk result (λ control. control ≡ context_ended below.now) }
 {
-    let Stack { top: _, mut below } = stack;
-    match below.pop() {
-        Some(top) => Control::Running(Stack { top, below }),
-        None => Control::Idle,
-    }
+    let Some(left) = below.top() else {
+        return Ok(Control::Idle);
+    };
+    let mut rest = below.copy()?;
+    rest.drop_top(alloc, 1)?;
+    Ok(Control::Running(Stack {
+        top: left.copy(alloc)?,
+        below: rest,
+    }))
 }
 
-/// The control after an edit of a stack.
-fn edited(alloc: Global, stack: Stack, edit: Edit) -> Result<Control, AllocError>
-    requires { Counts edit stack }
-    ensures { IfOk result (λ control. control ≡ edited edit stack) }
+/// How a worker goes on after an edit of its stack.
+#[derive(Clone, Copy)]
+enum Outlook {
+    /// It runs on with that stack.
+    Runs,
+    /// It runs what its context left, or is idle.
+    Returns,
+    /// It meets a fault with that stack.
+    Fails(Fault),
+    /// The initial task has ended, with a value.
+    Ends(i32),
+}
+
+/// Edits a stack that runs. After an error the stack is any.
+fn edit_stack(alloc: Global, stack: &mut Stack, edit: Edit) -> Result<Outlook, AllocError>
+    requires { Counts edit stack.old }
+    ensures { IfOk result (λ outlook. foreseen outlook stack.new ≡ edited edit stack.old) }
 {
-    let mut stack = stack;
     match edit {
         Edit::Go { to, takes, pushed } => stack.top.frame.go(to, takes, pushed)?,
         Edit::BeginFrame {
@@ -133,22 +159,31 @@ fn edited(alloc: Global, stack: Stack, edit: Edit) -> Result<Control, AllocError
             stack.top.frame.go(to, takes, None)?;
             stack.top.begin_frame(alloc, body, homes)?;
         }
-        Edit::EndFrame(value) => stack.top.end_frame(value)?,
-        Edit::BeginContext(context) => stack.begin_context(context)?,
-        Edit::EndContext => return Ok(after_context(stack)),
-        Edit::Open(construct) => stack.top.constructs.push(construct)?,
-        Edit::Close => stack.top.constructs.drop_top(1),
-        Edit::Replace(construct) => {
-            stack.top.constructs.drop_top(1);
-            stack.top.constructs.push(construct)?;
-        }
+        Edit::EndFrame(value) => stack.top.end_frame(alloc, value)?,
+        Edit::BeginContext(context) => stack.begin_context(alloc, context)?,
+        Edit::EndContext => return Ok(Outlook::Returns),
+        Edit::Open(construct) => stack.top.constructs.put(alloc, 0, construct)?,
+        Edit::Close => stack.top.constructs.drop_top(alloc, 1)?,
+        Edit::Replace(construct) => stack.top.constructs.put(alloc, 1, construct)?,
         Edit::CountBirth => stack.top.births += 1,
         Edit::CountRegion => stack.top.regions += 1,
         Edit::CountPhase => stack.top.phase += 1,
-        Edit::Fail(fault) => return Ok(Control::Faulted(fault, stack)),
-        Edit::End(value) => return Ok(Control::Ended(value)),
+        Edit::Fail(fault) => return Ok(Outlook::Fails(fault)),
+        Edit::End(value) => return Ok(Outlook::Ends(value)),
     }
-    Ok(Control::Running(stack))
+    Ok(Outlook::Runs)
+}
+
+/// The control of a worker that goes on so after an edit of this stack, where it doesn't run on with it.
+fn instead(alloc: Global, outlook: Outlook, stack: &Stack) -> Result<Option<Control>, AllocError>
+    ensures { IfOk result (λ control. unwrap_or control (Control.Running stack.now) ≡ foreseen outlook stack.now) }
+{
+    match outlook {
+        Outlook::Runs => Ok(None),
+        Outlook::Returns => Ok(Some(after_context(alloc, &stack.below)?)),
+        Outlook::Fails(fault) => Ok(Some(Control::Faulted(fault, stack.copy(alloc)?))),
+        Outlook::Ends(value) => Ok(Some(Control::Ended(value))),
+    }
 }
 
 impl Control {
@@ -157,9 +192,14 @@ impl Control {
         requires { HasRoom edit self.old }
         ensures { OnOk result (self.new ≡ changed_by edit self.old) }
     {
-        match mem::replace(self, Control::Idle) {
-            Control::Running(stack) => *self = edited(alloc, stack, edit)?,
-            other => *self = other,
+        match self {
+            Control::Running(stack) => {
+                let outlook = edit_stack(alloc, stack, edit)?;
+                if let Some(control) = instead(alloc, outlook, stack)? {
+                    drop(mem::replace(self, control));
+                }
+            }
+            Control::Idle | Control::Faulted(_, _) | Control::Ended(_) => drop(edit),
         }
         Ok(())
     }

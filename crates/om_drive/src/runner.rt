@@ -1,7 +1,7 @@
 //! A worker that runs freely: it makes its rounds over one debuggee, behind a gate.
 
 ghost use Rattle.std.specs.Prelude.{◌≡◌, ◌<◌, ◌≤◌, ◌+◌, cond, IfOk, OnErr};
-ghost use Rattle.om_book.specs.Runs.{is_done, IsInRange};
+ghost use Rattle.om_book.specs.Runs.{IsInRange};
 ghost use Rattle.om_drive.specs.Steps.{makes_step, steps_in, waits_for_tasks};
 
 use crate::worker::{Debuggee, Gate, says_yes};
@@ -17,6 +17,15 @@ pub(crate) struct Runner<G: Gate + Drop, D: Debuggee + Drop> {
     pub(crate) gate: G,
     pub(crate) debuggee: D,
     pub(crate) worker: u8,
+}
+
+/// What came of a step that was asked for.
+#[derive(Clone, Copy)]
+struct Came {
+    /// Whether it was made.
+    made: bool,
+    /// Whether it waits at a barrier or for tasks, so that another task may be begun there.
+    waits: bool,
 }
 
 /// What came of a worker's rounds.
@@ -77,14 +86,11 @@ impl<G: Gate + Drop, D: Debuggee + Drop> Runner<G, D> {
             ≡ steps_in (D.made self.old.debuggee) + cond made 1 0) }
         ensures none_on_error { OnErr result (steps_in (D.made self.new.debuggee) ≡ steps_in (D.made self.old.debuggee)) }
     {
-        let reply = self.step(rt, Choice::Next)?;
-        if reply.is_done() {
-            return Ok(true);
-        }
-        if waits_for_tasks(&reply) {
+        let came = self.step(rt, Choice::Next)?;
+        if came.waits && !came.made {
             return self.start_first(rt);
         }
-        Ok(false)
+        Ok(came.made)
     }
 
     /// Starts the first task that is ready, if there is one. Whether it was begun.
@@ -99,8 +105,8 @@ impl<G: Gate + Drop, D: Debuggee + Drop> Runner<G, D> {
         let Some(task) = self.first_ready(rt)? else {
             return Ok(false);
         };
-        let reply = self.step(rt, Choice::Start(task))?;
-        Ok(reply.is_done())
+        let came = self.step(rt, Choice::Start(task))?;
+        Ok(came.made)
     }
 
     /// The first task that is ready.
@@ -114,17 +120,20 @@ impl<G: Gate + Drop, D: Debuggee + Drop> Runner<G, D> {
     }
 
     /// Steps by a choice.
-    fn step<R: Wait>(&mut self, rt: &R, choice: Choice) -> Result<Reply, CallError>
+    fn step<R: Wait>(&mut self, rt: &R, choice: Choice) -> Result<Came, CallError>
         requires { self.old.worker < (D.place self.old.debuggee).workers }
         ensures place { D.place self.new.debuggee ≡ D.place self.old.debuggee }
         ensures worker { self.new.worker ≡ self.old.worker }
-        ensures steps { IfOk result (λ x. steps_in (D.made self.new.debuggee)
-            ≡ steps_in (D.made self.old.debuggee) + cond (is_done x) 1 0) }
+        ensures steps { IfOk result (λ came. steps_in (D.made self.new.debuggee)
+            ≡ steps_in (D.made self.old.debuggee) + cond came.made 1 0) }
         ensures none_on_error { OnErr result (steps_in (D.made self.new.debuggee) ≡ steps_in (D.made self.old.debuggee)) }
     {
         let worker = self.worker;
         let reply = self.debuggee.call(rt, Command::Step { worker, choice })?;
-        Ok(reply)
+        Ok(Came {
+            made: reply.is_done(),
+            waits: waits_for_tasks(&reply),
+        })
     }
 }
 

@@ -119,8 +119,13 @@ impl<G: Gate + Drop, D: Debuggee + Drop> Worker<G, D> {
             return false;
         }
         let answer = self.answer(rt, order);
-        answers.send(rt, answer).is_ok()
+        is_taken(rt, answers, answer)
     }
+}
+
+/// Whether somebody takes an item that is sent.
+fn is_taken<T: Drop, R: Wait>(rt: &R, sender: &Sender<T>, item: T) -> bool {
+    sender.send(rt, item).is_ok()
 }
 
 /// Asks a gate again and again; whether it said yes in the end.

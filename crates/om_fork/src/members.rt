@@ -5,7 +5,9 @@ ghost use Rattle.om_cells.specs.Stores.{state_of};
 ghost use Rattle.om_cells.specs.declared.value.Val.TheVariants as value;
 ghost use Rattle.om_fork.specs.Teams.{first_frame, member, workers_from, busy_in, member_controls, member_cells, member_puts};
 
-use om_cells::{Context, Control, Frame, Home, Kind, Stack, Store, Team, Update, Val};
+use om_cells::{
+    Context, Control, Frame, Home, Kind, Shared, SharedPile, Stack, Store, Team, Update, Val,
+};
 use om_foot::{Access, Mode, Name, Obj};
 use om_row::names::{name, name_given};
 use om_row::updates::put_ints;
@@ -13,7 +15,7 @@ use om_seq::{Pile, Seq};
 use std::alloc::{AllocError, Global};
 
 /// The frame with which a task begins on a body. It takes no memory.
-pub fn first_frame(alloc: Global, body: u32, homes: Seq<Home>) -> Frame
+pub fn first_frame(alloc: Global, body: u32, homes: Shared<Seq<Home>>) -> Frame
     ensures { result ≡ first_frame body homes }
 {
     Frame {
@@ -85,17 +87,17 @@ pub(crate) fn member(alloc: Global, team: &Team, frame: &Frame) -> Result<Contex
 {
     let frame = frame.copy(alloc)?;
     Ok(Context {
-        task: member_name(&team.name, team.number),
+        task: Shared::of(alloc, member_name(&team.name, team.number))?,
         kind: Kind::Implicit,
-        team: *team,
+        team: Shared::of(alloc, *team)?,
         phase: 0,
         births: 0,
         regions: 0,
         frames: 1,
-        group: None,
-        constructs: Pile::new(alloc),
+        group: Shared::of(alloc, None)?,
+        constructs: SharedPile::new(alloc)?,
         frame,
-        callers: Pile::new(alloc),
+        callers: SharedPile::new(alloc)?,
     })
 }
 
@@ -110,7 +112,7 @@ fn put_member(
     ensures { OnOk result (updates.new ≡ updates.old ++ Update.Put (value.Control (Control.Running (record { top = member team.now frame.now; below = [] }))) ∷ []) }
 {
     let top = member(alloc, team, frame)?;
-    let below = Pile::new(alloc);
+    let below = SharedPile::new(alloc)?;
     updates.push(Update::Put(Val::Control(Control::Running(Stack { top, below }))))
 }
 

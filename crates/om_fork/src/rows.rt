@@ -11,7 +11,7 @@ ghost use Rattle.om_fork.specs.Barriers.{barrier};
 ghost use Rattle.om_fork.specs.Rows.{sync_of, team_at_end, begin_row, reached_row, is_misplaced_barrier, arrive_row, kept, departed, depart_row, region_end, left_records, left, left_row, leave_row};
 
 use crate::barrier::{is_open, name_barrier, put_kept};
-use om_cells::{Blocked, Context, Edit, Kind, Stack, Store, Tail, Team, Update, Val};
+use om_cells::{Blocked, Context, Edit, Kind, SharedPile, Stack, Store, Tail, Team, Update, Val};
 use om_code::frame::Fault;
 use om_code::instruction::Barrier;
 use om_code::raw::Slot;
@@ -21,7 +21,7 @@ use om_foot::{Access, Mode, Name, Obj};
 use om_row::names::{is_misplaced, name, name_events, own_cells};
 use om_row::updates::{put_deaths, put_event};
 use om_row::{Answer, Row};
-use om_seq::{Pile, Seq};
+use om_seq::Seq;
 use std::alloc::{AllocError, Global};
 
 /// A worker that carries out an instruction, and the place in the body at which it goes on.
@@ -50,10 +50,10 @@ pub fn begin(alloc: Global, going: Going, context: &Context) -> Result<Answer, A
     name_events(&mut names, going.worker)?;
     let begun = Record::ImplicitTask {
         endpoint: Endpoint::Begin,
-        team: context.team.name,
-        task: context.task,
-        size: context.team.size,
-        number: context.team.number,
+        team: context.team.get().name,
+        task: *context.task.get(),
+        size: context.team.get().size,
+        number: context.team.get().number,
         flag: TaskFlag::Implicit,
     };
     let row = recorded(alloc, going.to, begun)?;
@@ -120,8 +120,8 @@ fn reached_turn(
     let begun = Record::SyncRegion {
         sync: sync_of(barrier),
         endpoint: Endpoint::Begin,
-        team: context.team.name,
-        task: context.task,
+        team: context.team.get().name,
+        task: *context.task.get(),
     };
     put_event(alloc, &mut updates, begun)?;
     Row::goes(alloc, to, 0, None, updates)
@@ -137,7 +137,7 @@ fn reached(
     requires { context.now.phase + 1 < 2 ^ 64 }
     ensures { (s : State) → IfOk result (λ answer. answer ≡ answered (reached_row going.worker going.to barrier context.now) s) }
 {
-    let names = reached_names(alloc, going.worker, &context.team)?;
+    let names = reached_names(alloc, going.worker, context.team.get())?;
     let row = reached_turn(alloc, going.to, barrier, context)?;
     Ok(Answer { names, row })
 }
@@ -170,7 +170,7 @@ fn barrier_names(
     ensures { IfOk result (λ names. names ≡ barrier context.now.team context.now.phase ++ (own.now ++ events worker ∷ [])) }
 {
     let mut names = Seq::new(alloc);
-    name_barrier(&mut names, &context.team, context.phase)?;
+    name_barrier(&mut names, context.team.get(), context.phase)?;
     names.append(Seq::of(Vec::from_slice(alloc, own)?))?;
     name_events(&mut names, worker)?;
     Ok(names)
@@ -185,12 +185,12 @@ fn departed_updates(
     ensures { IfOk result (λ updates. updates ≡ kept context.now.team.size ++ event (Record.SyncRegion (sync_of barrier) Endpoint.End (team_at_end barrier context.now.team.name) context.now.task) ∷ []) }
 {
     let mut updates = Seq::new(alloc);
-    put_kept(&mut updates, context.team.size)?;
+    put_kept(&mut updates, context.team.get().size)?;
     let ended = Record::SyncRegion {
         sync: sync_of(barrier),
         endpoint: Endpoint::End,
-        team: team_at_end(barrier, &context.team.name),
-        task: context.task,
+        team: team_at_end(barrier, &context.team.get().name),
+        task: *context.task.get(),
     };
     put_event(alloc, &mut updates, ended)?;
     Ok(updates)
@@ -233,7 +233,7 @@ pub fn depart(
     ensures { IfOk result (λ answer. answer ≡ answered (depart_row going.worker going.to barrier context.now) (state_of store.now)) }
 {
     let names = barrier_names(alloc, going.worker, context, &[])?;
-    let opens = is_open(alloc, store, &context.team, context.phase);
+    let opens = is_open(alloc, store, context.team.get(), context.phase);
     let row = departed(alloc, going.to, barrier, context, opens)?;
     Ok(Answer { names, row })
 }
@@ -242,7 +242,7 @@ pub fn depart(
 fn put_region_end(
     records: &mut Seq<Record>,
     team: &Team,
-    below: &Pile<Context>,
+    below: &SharedPile<Context>,
 ) -> Result<(), AllocError>
     ensures { OnOk result (records.new ≡ records.old ++ region_end team.now.name team.now.number below.now) }
 {
@@ -254,7 +254,7 @@ fn put_region_end(
     };
     records.push(Record::ParallelEnd {
         team: team.name,
-        task: maker.task,
+        task: *maker.task.get(),
     })
 }
 
@@ -262,7 +262,7 @@ fn put_region_end(
 fn left_records(
     alloc: Global,
     context: &Context,
-    below: &Pile<Context>,
+    below: &SharedPile<Context>,
 ) -> Result<Seq<Record>, AllocError>
     ensures { IfOk result (λ records. records ≡ left_records context.now below.now) }
 {
@@ -270,18 +270,18 @@ fn left_records(
         sync: Sync::BarrierParallel,
         endpoint: Endpoint::End,
         team: Name::empty(),
-        task: context.task,
+        task: *context.task.get(),
     };
     let mut records = Seq::one(alloc, barrier_end)?;
     records.push(Record::ImplicitTask {
         endpoint: Endpoint::End,
         team: Name::empty(),
-        task: context.task,
+        task: *context.task.get(),
         size: 0,
-        number: context.team.number,
+        number: context.team.get().number,
         flag: TaskFlag::Implicit,
     })?;
-    put_region_end(&mut records, &context.team, below)?;
+    put_region_end(&mut records, context.team.get(), below)?;
     Ok(records)
 }
 
@@ -289,13 +289,13 @@ fn left_records(
 fn left_updates(
     alloc: Global,
     context: &Context,
-    below: &Pile<Context>,
+    below: &SharedPile<Context>,
     own: &[Access],
 ) -> Result<Seq<Update>, AllocError>
     ensures { IfOk result (λ updates. updates ≡ kept context.now.team.size ++ (deaths own.now ++ Update.Append (Tail.Events (left_records context.now below.now)) ∷ [])) }
 {
     let mut updates = Seq::new(alloc);
-    put_kept(&mut updates, context.team.size)?;
+    put_kept(&mut updates, context.team.get().size)?;
     put_deaths(&mut updates, own)?;
     let records = left_records(alloc, context, below)?;
     updates.push(Update::Append(Tail::Events(records)))?;
@@ -306,7 +306,7 @@ fn left_updates(
 fn left(
     alloc: Global,
     context: &Context,
-    below: &Pile<Context>,
+    below: &SharedPile<Context>,
     own: &[Access],
     opens: bool,
 ) -> Result<Row, AllocError>
@@ -333,7 +333,7 @@ fn left_answer(
 {
     let context = &stack.top;
     let names = barrier_names(alloc, worker, context, own)?;
-    let opens = is_open(alloc, store, &context.team, context.phase);
+    let opens = is_open(alloc, store, context.team.get(), context.phase);
     let row = left(alloc, context, &stack.below, own, opens)?;
     Ok(Answer { names, row })
 }
@@ -357,7 +357,7 @@ pub fn leave(
         Kind::Initial | Kind::Explicit => return Ok(Answer::decided(alloc, Row::Lacks)),
         Kind::Implicit => {}
     }
-    if stack.below.is_empty() && stack.top.team.number == 0 {
+    if stack.below.is_empty() && stack.top.team.get().number == 0 {
         return Ok(Answer::decided(alloc, Row::Lacks));
     }
     let own = own_cells(alloc, &stack.top, slots)?;

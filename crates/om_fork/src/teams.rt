@@ -12,7 +12,7 @@ ghost use Rattle.om_fork.specs.Rows.{team_updates, forked, team_row, team_of, na
 use crate::members::{
     busy, first_frame, member, name_members, name_workers, put_given, put_members,
 };
-use om_cells::{Blocked, Context, Edit, Frame, Store, Team, Update};
+use om_cells::{Blocked, Context, Edit, Frame, Shared, Store, Team, Update};
 use om_code::frame::Fault;
 use om_code::print::ints_on;
 use om_code::raw::Body;
@@ -66,13 +66,13 @@ fn team_of(workers: u8, context: &Context, asked: Option<u32>) -> Team
     requires few { length context.now.task ≤ 62 }
     ensures { result ≡ team_of workers context.now asked }
 {
-    let size = size_of(workers, context.team.level, asked);
-    match context.task.child(context.births + 1) {
+    let size = size_of(workers, context.team.get().level, asked);
+    match context.task.get().child(context.births + 1) {
         Some(name) => Team {
             name,
             number: 0,
             size,
-            level: level_of(size, context.team.level),
+            level: level_of(size, context.team.get().level),
         },
         None => unreachable!(),
     }
@@ -153,7 +153,7 @@ fn made(
     ensures { IfOk result (λ row. row ≡ forked forking.now.launch forking.now.context.now.task team.now frame.now values.now None) }
 {
     let edits = fork_edits(alloc, forking.launch, team, frame)?;
-    let updates = team_updates(alloc, &forking.context.task, team, frame, values)?;
+    let updates = team_updates(alloc, forking.context.task.get(), team, frame, values)?;
     Ok(Row::Goes { edits, updates })
 }
 
@@ -172,6 +172,7 @@ fn forked(
         return Ok(Row::Blocked(Blocked::Busy(worker)));
     }
     let homes = homes_in(alloc, forking.context, forking.body.slots.as_slice())?;
+    let homes = Shared::of(alloc, homes)?;
     let frame = &first_frame(alloc, forking.launch.body, homes);
     made(alloc, forking, team, frame, values)
 }
@@ -205,7 +206,7 @@ fn named(
     requires { forking.now.context.now.births + 1 < 2 ^ 64 }
     ensures { IfOk result (λ answer. answer ≡ answered (named_row forking.now.worker forking.now.workers forking.now.launch forking.now.body.now forking.now.context.now asked values.now) (state_of store.now)) }
 {
-    if forking.context.task.as_slice().len() > 62 {
+    if forking.context.task.get().as_slice().len() > 62 {
         return Ok(Answer::decided(alloc, Row::Faults(Fault::Name)));
     }
     let team = &team_of(forking.workers, forking.context, asked);

@@ -10,8 +10,8 @@ pub(crate) fn call_laws() {
     om_pragma::one_answer();
     om_pragma::first_value();
     om_parser::one_tree();
-    om_scope::laws::numbers_name_globals();
-    om_scope::laws::unbroken_trees_resolve();
-    om_scope::laws::unbroken_expressions_are_whole();
-    om_scope::laws::unbroken_statements_are_whole();
+    om_whole::laws::numbers_name_globals();
+    om_whole::laws::unbroken_trees_resolve();
+    om_whole::laws::unbroken_expressions_are_whole();
+    om_whole::laws::unbroken_statements_are_whole();
 }

@@ -74,7 +74,7 @@ fn take_addition_back(store: &mut Store, object: &Obj, update: Update)
 {
     match update {
         Update::Add(number) => store.subtract(object, number),
-        _ => {}
+        other => drop(other),
     }
 }
 
@@ -85,11 +85,9 @@ fn take_write_back(store: &mut Store, object: &Obj, update: Update)
     ensures kept { (q : Obj) → is_kept store.new q ≡ is_kept store.old q }
 {
     match update {
-        Update::Put(value) => {
-            let _now = store.put_present(object, value);
-        }
+        Update::Put(value) => drop(store.put_present(object, value)),
         Update::Cut(count) => store.cut(object, count),
-        _ => {}
+        other => drop(other),
     }
 }
 
@@ -101,7 +99,7 @@ fn take_back(store: &mut Store, access: &Access, update: Update)
     ensures kept { (q : Obj) → is_kept store.new q ≡ is_kept store.old q }
 {
     match access.mode {
-        Mode::Read => {}
+        Mode::Read => drop(update),
         Mode::Write => take_write_back(store, &access.object, update),
         Mode::Add => take_addition_back(store, &access.object, update),
     }
@@ -118,7 +116,8 @@ fn exchange(store: &mut Store, access: &Access, update: &mut Update) -> Result<(
     ensures kept { (q : Obj) → is_kept store.new q ≡ is_kept store.old q }
 {
     let wanted = mem::replace(update, Update::Keep);
-    *update = make(store, access, wanted)?;
+    let back = make(store, access, wanted)?;
+    drop(mem::replace(update, back));
     Ok(())
 }
 

@@ -7,6 +7,8 @@ use crate::laws::call_laws;
 use crate::session::{Session, session_of, written};
 use om_shell::ShellFault;
 use std::alloc::{AllocError, Global};
+use std::sync::Wait;
+use std::thread::Threads;
 
 /// What is said of the cases.
 #[derive(Drop)]
@@ -20,7 +22,11 @@ pub(crate) struct Report {
 }
 
 /// Judges the cases of an input.
-pub(crate) fn judge(alloc: Global, input: &str) -> Result<Report, AllocError> {
+pub(crate) fn judge<R: Threads + Wait + Sync>(
+    rt: &R,
+    alloc: Global,
+    input: &str,
+) -> Result<Report, AllocError> {
     call_laws();
     let mut report = Report {
         text: String::new(alloc),
@@ -28,7 +34,7 @@ pub(crate) fn judge(alloc: Global, input: &str) -> Result<Report, AllocError> {
         wrong: 0,
     };
     for case in input.split("\n== ").skip(1) {
-        add_case(alloc, &mut report, case)?;
+        add_case(rt, alloc, &mut report, case)?;
     }
     let total = format!(in alloc; "{} cases, {} wrong\n", report.cases, report.wrong)?;
     report.text.push_str(total.as_str())?;
@@ -36,10 +42,15 @@ pub(crate) fn judge(alloc: Global, input: &str) -> Result<Report, AllocError> {
 }
 
 /// Adds the line of a case.
-fn add_case(alloc: Global, report: &mut Report, case: &str) -> Result<(), AllocError> {
+fn add_case<R: Threads + Wait + Sync>(
+    rt: &R,
+    alloc: Global,
+    report: &mut Report,
+    case: &str,
+) -> Result<(), AllocError> {
     report.cases = report.cases.saturating_add(1);
     let head = case.lines().next().unwrap_or("");
-    let verdict = verdict(alloc, case)?;
+    let verdict = verdict(rt, alloc, case)?;
     if !verdict.is_empty() {
         report.wrong = report.wrong.saturating_add(1);
     }
@@ -48,13 +59,17 @@ fn add_case(alloc: Global, report: &mut Report, case: &str) -> Result<(), AllocE
 }
 
 /// What is wrong with a case; nothing where it is right.
-fn verdict(alloc: Global, case: &str) -> Result<String, AllocError> {
+fn verdict<R: Threads + Wait + Sync>(
+    rt: &R,
+    alloc: Global,
+    case: &str,
+) -> Result<String, AllocError> {
     match session_of(case) {
         Some(session) if 1 <= session.workers && session.workers <= 32 => {
             difference(
                 alloc,
                 &session,
-                written(alloc, session.workers, session.input),
+                written(rt, alloc, session.workers, session.input),
             )
         }
         _ => String::from_str(alloc, " is no session"),

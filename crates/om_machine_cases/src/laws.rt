@@ -1,4 +1,4 @@
-//! The laws of the machine.
+//! The laws of the machine and of scripts.
 
 /// Calls each law.
 pub(crate) fn call_laws() {
@@ -23,4 +23,5 @@ pub(crate) fn call_laws() {
     om_undo::laws::steady_rules();
     om_undo::laws::small_counts();
     om_undo::laws::one_ready_list();
+    om_shell::laws::one_script();
 }

@@ -13,7 +13,7 @@ use std::io;
 fn main(rt: HostRuntime) -> Result<()> {
     let alloc = rt.alloc();
     let input = io::read_to_string(alloc, rt.stdin())?;
-    let report = judge(alloc, input.as_str())?;
+    let report = judge(&rt, alloc, input.as_str())?;
     print!(rt; "{}", report.text)?;
     ensure!(report.wrong == 0, "{} cases are wrong", report.wrong);
     Ok(())

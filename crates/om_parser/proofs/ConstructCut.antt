@@ -19,30 +19,24 @@ use Rattle.om_pragma.specs.Words.{directive_word}
 use Rattle.om_parser.specs.declared.construct.LineStart.{LineStart}
 use Rattle.om_parser.specs.declared.construct.LineStart.TheVariants as lines
 use Rattle.om_tree.specs.AtomicForms.{has_atomic_form}
-use Rattle.om_parser.specs.ConstructReading.{LineReader, PartsReader, line_start, from_word, misplaced, unknown_line, stand_alone_at, item_of, part_item_at, section_at, bad_atomic, atomic_of, atomic_after, constructed_after, sections_after, construct_after, construct_at, line_of}
+use Rattle.om_parts.specs.PartReading.{LineReader}
+use Rattle.om_parser.specs.ConstructReading.{PartsReader, line_start, from_word, misplaced, unknown_line, stand_alone_at, item_of, part_item_at, section_at, bad_atomic, atomic_of, atomic_after, constructed_after, sections_after, construct_after, construct_at, line_of}
 use Rattle.om_parser.specs.Faults.{IsStopped}
 use Rattle.om_tree.specs.Formed.{IsLine, IsConstruct, IsStatement, IsBody, IsSectionItem, AreSome, AreSectionItems}
 use Rattle.om_tree.specs.Limits.{Limits}
 use Rattle.om_tree.specs.Places.{Place, Behind, Either, AtDepth, AtBrace, IsOverInside, IsOverInItems, IsOverInStatement}
-use Rattle.om_parser.specs.Reading.{Reader}
+use Rattle.om_parts.specs.Reading.{Reader}
 use Rattle.om_tree.specs.Spelling.{token, mark, expression_spelling, statement_spelling}
 use Rattle.om_tree.specs.Tree.{ExpressionTree, StatementTree, StatementsTree, Empty, Construct, Sections, Section}
-use Rattle.om_parser.proofs.Outcomes.{ok, bind_err, after_front}
+use Rattle.om_parser.proofs.Outcomes.{ok, bind_err, after_front, err_is}
 use Rattle.om_parser.proofs.LineStarts.{start_of_directive, line_start_is}
-use Rattle.om_parser.proofs.ExpressionCut.{err_is}
-use Rattle.om_parser.proofs.ItemsSound.{IsSound}
-use Rattle.om_parser.proofs.LineCut.{IsFirstLineFault}
-use Rattle.om_parser.proofs.LineSound.{IsWholeLine}
-use Rattle.om_parser.proofs.StatementSound.{IsStatementSound, body_is_part, braces_spelling}
-use Rattle.om_parser.proofs.Stopped.{Stops, syntax_plain, within_larger}
+use Rattle.om_parts.specs.Laws.{IsSound, IsWholeLine, Stops, IsLineCut}
+use Rattle.om_parser.proofs.StatementParts.{IsStatementSound, body_is_part, braces_spelling}
+use Rattle.om_parser.proofs.Stopped.{syntax_plain, within_larger}
 
 -- a statement that may be a part of another
 abbrev pub IsPart : StatementTree → Type 0
 IsPart s = IsStatement s × IsBody s
-
--- the reader of lines stops so at a line
-abbrev pub IsLineCut : Limits → LineReader → Type 0
-IsLineCut l r = (hash : Span) (us : List Token) (f : SourceFault) → r (token kinds.DirectiveBegin hash ∷ us) ≡ Err f → Stops f → IsFirstLineFault l (token kinds.DirectiveBegin hash ∷ us) f
 
 -- a statement stops so, where so many statements and blocks stand round it
 abbrev pub IsStatementStopped : Limits → (depth nested : ℕ) → List Token → SourceFault → Type 0

@@ -1,5 +1,6 @@
 -- What the head of a function spells is read again as that head.
-use Rattle.std.proofs.Common.{◌≡◌, List, [], ◌∷◌, ◌++◌, length, Option, Some, None, refl, append_assoc, inl, inr}
+use Rattle.std.proofs.Common.{◌≡◌, List, [], ◌∷◌, ◌++◌, length, Option, Some, None, refl, append_assoc, inl, inr, All}
+use Rattle.std.proofs.lemmas.List.Elements.{All-nil, All-cons}
 use Rattle.std.specs.List.{flat_map}
 use Rattle.om_lexer.specs.declared.token.Keyword.TheVariants as keywords
 use Rattle.om_lexer.specs.declared.token.Punctuator.TheVariants as punctuators
@@ -8,16 +9,19 @@ use Rattle.om_lexer.specs.declared.token.Token.{Token}
 use Rattle.om_pragma.specs.declared.name.Name as names
 use Rattle.om_tree.specs.declared.tree.Parameter.{Parameter}
 use Rattle.om_parser.specs.FunctionReading.{parameter_at, further_parameter_at, listed_at, parameters_at, head_after}
-use Rattle.om_parser.specs.Reading.{Outcome, take, same_mark, same_word, take_mark, take_word, take_name}
-use Rattle.om_parser.specs.Repetition.{optional, until}
+use Rattle.om_parts.specs.Reading.{Outcome, take, same_mark, same_word, take_mark, take_word, take_name}
+use Rattle.om_parts.specs.Repetition.{optional, until}
 use Rattle.om_tree.specs.Spelling.{mark, word, name, perhaps, behind_comma, parameter_spelling, parameters_spelling}
 use Rattle.om_tree.specs.Tree.{ParametersTree, NoParameters, Void, Listed, HeadTree}
 use Rattle.om_parser.proofs.Outcomes.{ok}
-use Rattle.om_parser.proofs.Again.{take_mark_again, take_word_again, mark_again, word_again, IsAnswer}
-use Rattle.om_parser.proofs.DeclarationSound.{IsAny}
-use Rattle.om_parser.proofs.DeclarationComplete.{all_any}
-use Rattle.om_parser.proofs.FunctionSound.{further_parameter_some}
+use Rattle.om_parser.proofs.Again.{take_mark_again, take_word_again, mark_again, word_again}
+use Rattle.om_parts.specs.Laws.{IsAnswer}
+use Rattle.om_parser.proofs.FunctionSound.{IsAny, further_parameter_some}
 use Rattle.om_parser.proofs.ItemsComplete.{AreAgain, until_again}
+
+all_any : {A : Type 0} (xs : List A) → All (λ (x : A). Unit {0}) xs
+all_any [] = All-nil (λ x. Unit {0})
+all_any (x ∷ xs) = All-cons (λ x. Unit {0}) x xs tt (all_any xs)
 
 -- what stands behind a parameter: a comma or the right parenthesis
 data EndsParameter : List Token → Type 0 where

@@ -1,5 +1,5 @@
 -- The head of a function that is read is spelled as the tokens were.
-use Rattle.std.proofs.Common.{◌≡◌, ◌<◌, List, [], ◌∷◌, ◌++◌, length, refl, ap, subst, ◌∙◌, arith, append_assoc, length-append, true, inl, inr}
+use Rattle.std.proofs.Common.{◌≡◌, ◌<◌, List, [], ◌∷◌, ◌++◌, length, Option, Some, None, refl, ap, subst, ◌∙◌, arith, append_assoc, length-append, true, inl, inr}
 use Rattle.std.specs.List.{flat_map}
 use Rattle.std.specs.Prelude.{is_some}
 use Rattle.std.proofs.lemmas.Bool.{and_parts, and_from}
@@ -13,14 +13,22 @@ use Rattle.om_tree.specs.declared.tree.Parameter.{Parameter}
 use Rattle.om_tree.specs.declared.tree.ResultType.{ResultType}
 use Rattle.om_parser.specs.FunctionReading.{parameter_at, further_parameter_at, listed_at, parameters_at, head_after, are_named}
 use Rattle.om_tree.specs.Formed.{AreNamed}
-use Rattle.om_parser.specs.Reading.{take_mark, take_word, take_name, mark_at, word_at}
-use Rattle.om_parser.specs.Repetition.{optional, until}
+use Rattle.om_parts.specs.Reading.{take_mark, take_word, take_name, mark_at, word_at}
+use Rattle.om_parts.specs.Repetition.{optional, until}
 use Rattle.om_tree.specs.Spelling.{mark, word, name, perhaps, behind_comma, result_spelling, parameter_spelling, parameters_spelling, head_spelling}
 use Rattle.om_tree.specs.Tree.{ParametersTree, NoParameters, Void, Listed, HeadTree}
-use Rattle.om_parser.proofs.Outcomes.{ok, ok_is, bind_ok, choose_cases, after_front, after_token}
+use Rattle.om_parser.proofs.Outcomes.{ok, ok_is, some, bind_ok, choose_cases, after_front, after_token}
 use Rattle.om_parser.proofs.Taken.{take_mark_is, take_word_is, take_name_is, mark_at_is, word_at_is}
-use Rattle.om_parser.proofs.ItemsSound.{IsRead, IsSound, until_sound}
-use Rattle.om_parser.proofs.DeclarationSound.{IsAny, optional_is}
+use Rattle.om_parts.specs.Laws.{IsRead, IsSound}
+use Rattle.om_parser.proofs.ItemsSound.{until_sound}
+
+abbrev pub IsAny : {A : Type 0} → A → Type 0
+IsAny a = Unit {0}
+
+-- a token that may stand there
+optional_is : {A : Type 0} (spell : A → List Token) (found : Option (A × List Token)) (ts : List Token) → ((x : A) (us : List Token) → found ≡ some (x, us) → ts ≡ spell x ++ us) → ts ≡ perhaps spell (optional found ts).0 ++ (optional found ts).1
+optional_is spell (Some x) ts is = is x.0 x.1 refl
+optional_is spell None ts is = refl
 
 parameter_sound : IsSound parameter_spelling IsAny parameter_at
 unfolding parameter_at

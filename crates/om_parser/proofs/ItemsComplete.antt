@@ -1,29 +1,15 @@
 -- Several well-formed items are read again, within the limits.
 use Rattle.std.proofs.Common.{◌≡◌, ℕ, zero, suc, ◌<◌, ◌≤◌, List, [], ◌∷◌, ◌++◌, length, None, refl, sym, subst, arith, append_assoc, length-append, inl, All}
 use Rattle.std.specs.List.{flat_map}
-use Rattle.std.proofs.lemmas.List.Elements.{All-nil, All-cons, All-head, All-tail}
+use Rattle.std.proofs.lemmas.List.Elements.{All-head, All-tail}
 use Rattle.om_lexer.specs.declared.token.Span.{Span}
 use Rattle.om_lexer.specs.declared.token.Token.{Token}
-use Rattle.om_parser.specs.Reading.{Reader}
-use Rattle.om_parser.specs.Repetition.{until}
+use Rattle.om_parts.specs.Reading.{Reader}
+use Rattle.om_parts.specs.Repetition.{until}
 use Rattle.om_parser.proofs.Outcomes.{some}
-use Rattle.om_parser.proofs.Again.{IsAnswer, bind_answer}
+use Rattle.om_parts.specs.Laws.{IsAnswer}
+use Rattle.om_parser.proofs.Again.{bind_answer}
 use Rattle.om_parser.proofs.Loops.{Ender}
-
--- each part of what all elements have
-pub all_front : {A : Type 0} (P : A → Type 0) (xs ys : List A) → All P (xs ++ ys) → All P xs
-all_front P [] ys h = All-nil P
-all_front P (x ∷ xs) ys h = All-cons P x xs (All-head P x (xs ++ ys) h) (all_front P xs ys (All-tail P x (xs ++ ys) h))
-
-pub all_back : {A : Type 0} (P : A → Type 0) (xs ys : List A) → All P (xs ++ ys) → All P ys
-all_back P [] ys h = h
-all_back P (x ∷ xs) ys h = all_back P xs ys (All-tail P x (xs ++ ys) h)
-
-pub flat_all : {A B : Type 0} (P : B → Type 0) (f : A → List B) (xs : List A) → All P (flat_map f xs) → All (λ x. All P (f x)) xs
-flat_all P f [] h = All-nil (λ x. All P (f x))
-flat_all P f (x ∷ xs) h = All-cons (λ x. All P (f x)) x xs (all_front P (f x) (flat_map f xs) h) (flat_all P f xs (all_back P (f x) (flat_map f xs) h))
-
--- ---- several items
 
 -- items of which each is read again where such tokens follow
 pub record AreAgain {A : Type 0} (spell : A → List Token) (P F : A → Type 0) (MayFollow : List Token → Type 0) (ender : Ender) (item : Reader A) : Type 0 where

@@ -1,27 +1,18 @@
 -- Several items that are read are each well-formed, and spelled as the tokens were.
 use Rattle.std.proofs.Common.{◌≡◌, ℕ, zero, suc, List, [], ◌∷◌, ◌++◌, subst, ◌∙◌, append_assoc, inl, inr, All}
 use Rattle.std.specs.List.{flat_map}
-use Rattle.std.proofs.lemmas.List.Elements.{All-nil, All-cons, All-append, All-head, All-tail}
+use Rattle.std.proofs.lemmas.List.Elements.{All-nil, All-cons}
 use Rattle.om_lexer.specs.declared.token.Span.{Span}
 use Rattle.om_lexer.specs.declared.token.Token.{Token}
-use Rattle.om_parser.specs.Reading.{Reader}
-use Rattle.om_parser.specs.Repetition.{until}
+use Rattle.om_parts.specs.Reading.{Reader}
+use Rattle.om_parts.specs.Repetition.{until}
 use Rattle.om_parser.proofs.Outcomes.{ok, ok_is, some, bind_ok, choose_cases, after_front}
 use Rattle.om_parser.proofs.Loops.{Ender}
-
--- an item of such a kind that stands at the front
-pub record IsRead {A : Type 0} (spell : A → List Token) (P : A → Type 0) (ts : List Token) (x : A × List Token) : Type 0 where
-  pub parts : ts ≡ spell x.0 ++ x.1
-  pub formed : P x.0
-
-abbrev pub IsSound : {A : Type 0} → (A → List Token) → (A → Type 0) → Reader A → Type 0
-IsSound {A} spell P r = (ts : List Token) (x : A × List Token) → r ts ≡ ok x → IsRead spell P ts x
+use Rattle.om_parts.specs.Laws.{IsSound}
 
 -- a token that ends a list of items, and what is behind it
 abbrev pub EndsBy : (Span → Token) → Ender → Type 0
 EndsBy last ender = (ts : List Token) (s : Span) (us : List Token) → ender ts ≡ some (s, us) → ts ≡ last s ∷ us
-
--- ---- several items
 
 pub record AreRead {A : Type 0} (spell : A → List Token) (P : A → Type 0) (last : Span → Token) (ts : List Token) (x : List A × Span × List Token) : Type 0 where
   pub parts : ts ≡ (flat_map spell x.0 ++ last x.1 ∷ []) ++ x.2
@@ -43,7 +34,3 @@ until_sound spell P last ender item ends sound (suc k) ts x h =
             formed = All-cons P a.0.0 b.0.0 one.formed more.formed;
           })
     ]
-
-pub all_flat : {A B : Type 0} (P : B → Type 0) (f : A → List B) (xs : List A) → All (λ x. All P (f x)) xs → All P (flat_map f xs)
-all_flat P f [] h = All-nil P
-all_flat P f (x ∷ xs) h = All-append P (f x) (flat_map f xs) (All-head (λ y. All P (f y)) x xs h) (all_flat P f xs (All-tail (λ y. All P (f y)) x xs h))

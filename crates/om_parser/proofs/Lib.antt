@@ -1,51 +1,32 @@
-pub mod Views
-pub mod Outcomes
-pub mod Taken
-pub mod ExpressionSound
-pub mod Chains
-pub mod Prefixes
-pub mod Loops
-pub mod ItemsSound
-pub mod LineRuns
-pub mod LineTokens
-pub mod LineParts
-pub mod LineViews
-pub mod LineAnswers
-pub mod LineSound
-pub mod LineComplete
-pub mod LineStands
-pub mod LineCut
-pub mod LineStarts
-pub mod StatementSound
-pub mod PartsSound
-pub mod DeclarationSound
-pub mod FunctionSound
-pub mod UnitSound
-pub mod AtomicKinds
-pub mod Shorter
-pub mod Started
-pub mod Again
-pub mod ExpressionComplete
-pub mod Forms
-pub mod ItemsComplete
-pub mod StatementComplete
-pub mod PartsComplete
-pub mod DeclarationComplete
-pub mod FunctionComplete
-pub mod UnitComplete
-pub mod OneTree
-pub mod ExpressionCut
-pub mod ItemsCut
-pub mod DeclarationCut
-pub mod FunctionCut
-pub mod Refusals
-pub mod ExpressionRefusals
-pub mod DeclarationRefusals
-pub mod FunctionRefusals
-pub mod Stopped
-pub mod ConstructCut
-pub mod StatementCut
-pub mod PartsCut
-pub mod UnitCut
-pub mod UnitRefusals
-pub mod Promises
+mod Outcomes
+mod Taken
+mod Again
+mod Loops
+mod ItemsSound
+mod ItemsComplete
+mod Given
+mod LineStarts
+mod Begins
+mod StatementParts
+mod ItemSound
+mod StatementSound
+mod FunctionSound
+mod UnitSound
+mod AtomicKinds
+mod Shorter
+mod Started
+mod Forms
+mod StatementTokens
+mod ProductionsComplete
+mod StatementComplete
+mod FunctionComplete
+mod UnitComplete
+mod OneTree
+mod Stopped
+mod FunctionPlain
+mod ConstructCut
+mod ItemsStopped
+mod StatementCut
+mod UnitCut
+mod UnitRefusals
+mod Promises

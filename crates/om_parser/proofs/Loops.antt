@@ -5,8 +5,8 @@ use Rattle.om_lexer.specs.Faults.{no_memory}
 use Rattle.om_lexer.specs.declared.fault.SourceFault.{SourceFault}
 use Rattle.om_lexer.specs.declared.token.Span.{Span}
 use Rattle.om_lexer.specs.declared.token.Token.{Token}
-use Rattle.om_parser.specs.Reading.{◌>>=◌, Outcome, Reader}
-use Rattle.om_parser.specs.Repetition.{until}
+use Rattle.om_parts.specs.Reading.{◌>>=◌, Outcome, Reader}
+use Rattle.om_parts.specs.Repetition.{until}
 use Rattle.om_parser.proofs.Outcomes.{ok, some}
 
 abbrev pub Ender : Type 0

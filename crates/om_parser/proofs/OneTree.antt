@@ -7,6 +7,7 @@ use Rattle.om_tree.specs.Sizes.{longest_of, brackets_of, blocks_of, height_of, H
 use Rattle.om_tree.specs.Spelling.{unit_spelling}
 use Rattle.om_tree.specs.Tree.{ItemTree, Declaration, Prototype, Function, UnitTree, statements}
 use Rattle.om_parser.specs.UnitReading.{unit_at}
+use Rattle.om_parts.specs.Laws.{PartsAreReadAgain, GlobalsAreReadAgain}
 use Rattle.om_parser.proofs.Outcomes.{ok, ok_is}
 use Rattle.om_parser.proofs.Forms.{IsKeptItem, no_forms_of}
 use Rattle.om_parser.proofs.UnitComplete.{unit_again}
@@ -73,19 +74,19 @@ some_nested : (items : List ItemTree) → 1 ≤ (large items).nested
 some_nested [] = omega arith
 some_nested (i ∷ items) = let le = some_nested items in omega (arith, le)
 
-read_whole : (l : Limits) → 1 ≤ l.nested → (u : UnitTree) → IsUnit u → All (IsKeptItem l) u.items → unit_at l (unit_spelling u) ≡ ok u
-read_whole l one u f w = elim (unit_again l one u f) [
+read_whole : PartsAreReadAgain → GlobalsAreReadAgain → (l : Limits) → 1 ≤ l.nested → (u : UnitTree) → IsUnit u → All (IsKeptItem l) u.items → unit_at l (unit_spelling u) ≡ ok u
+read_whole again globals l one u f w = elim (unit_again again globals l one u f) [
   | inl e ↦ e
   | inr (stop, e, never) ↦ absurd (never w)
 ]
 
-pub same_unit : (t u : UnitTree) → IsUnit t → IsUnit u → unit_spelling t ≡ unit_spelling u → t ≡ u
-same_unit t u f g e =
+pub same_unit : PartsAreReadAgain → GlobalsAreReadAgain → (t u : UnitTree) → IsUnit t → IsUnit u → unit_spelling t ≡ unit_spelling u → t ≡ u
+same_unit again globals t u f g e =
     let a = large t.items in
     let b = large u.items in
     let l : Limits = both a b in
     let some = some_nested t.items in
     let one : 1 ≤ l.nested = omega (arith, some) in
-    let x = read_whole l one t f (wider a l (first_wider a b) t.items (large_enough t.items)) in
-    let y = read_whole l one u g (wider b l (second_wider a b) u.items (large_enough u.items)) in
+    let x = read_whole again globals l one t f (wider a l (first_wider a b) t.items (large_enough t.items)) in
+    let y = read_whole again globals l one u g (wider b l (second_wider a b) u.items (large_enough u.items)) in
     ok_is t u (sym x ∙ ap (unit_at l) e ∙ y)

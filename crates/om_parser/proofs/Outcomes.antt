@@ -2,7 +2,7 @@
 use Rattle.std.proofs.Common.{◌≡◌, List, ◌∷◌, ◌++◌, Option, Some, None, Ok, Err, refl, ap, ◌∙◌, sym, cond, Bool, true, false, ◌⊎◌, inl, inr, append_assoc}
 use Rattle.om_lexer.specs.declared.fault.SourceFault.{SourceFault}
 use Rattle.om_lexer.specs.declared.token.Token.{Token}
-use Rattle.om_parser.specs.Reading.{◌>>=◌, Outcome, choose, known}
+use Rattle.om_parts.specs.Reading.{◌>>=◌, Outcome, choose, known}
 
 abbrev pub ok : {A : Type 0} → A → Outcome A
 ok x = Ok x
@@ -15,6 +15,9 @@ ok_is x y e = cc
 
 pub some_is : {A : Type 0} (x y : A) → some x ≡ some y → x ≡ y
 some_is x y e = cc
+
+pub err_is : {A : Type 0} (e f : SourceFault) → ◌≡◌ {A = Outcome A} (Err e) (Err f) → e ≡ f
+err_is e f h = cc
 
 pub bind_ok : {A B : Type 0} (r : Outcome A) (f : A → Outcome B) (y : B) → (r >>= f) ≡ ok y → (x : A) × (r ≡ ok x) × (f x ≡ ok y)
 bind_ok (Ok x) f y e = (x, refl, e)

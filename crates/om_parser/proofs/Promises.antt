@@ -12,14 +12,14 @@ use Rattle.om_tree.specs.Limits.{accepted}
 use Rattle.om_parser.specs.LineFaults.{IsRefusedLine}
 use Rattle.om_tree.specs.Sizes.{IsItemWithin, IsWithinLimits, HasItemForms, AtomicsHaveForms}
 use Rattle.om_parser.specs.Parsing.{IsTreeOf, IsTreeOrMemory, IsLimitPassed}
-use Rattle.om_parser.specs.Reading.{Reads}
+use Rattle.om_parts.specs.Reading.{Reads}
 use Rattle.om_tree.specs.Tree.{UnitTree}
 use Rattle.om_parser.specs.UnitReading.{unit_at}
 use Rattle.om_tree.specs.View.{view_unit}
-use Rattle.om_parser.proofs.Outcomes.{ok, ok_is}
-use Rattle.om_parser.proofs.Again.{IsAnswer}
-use Rattle.om_parser.proofs.ExpressionCut.{err_is}
+use Rattle.om_parser.proofs.Outcomes.{ok, ok_is, err_is}
+use Rattle.om_parts.specs.Laws.{IsAnswer}
 use Rattle.om_parser.proofs.Forms.{IsKeptItem}
+use Rattle.om_parser.proofs.Given.{PartLaws}
 use Rattle.om_parser.proofs.UnitSound.{unit_sound}
 use Rattle.om_parser.proofs.UnitComplete.{unit_again}
 use Rattle.om_parser.proofs.UnitRefusals.{unit_refuses, too_deep_unit, unknown_in_unit, bad_in_unit}
@@ -27,24 +27,24 @@ use Rattle.om_parser.proofs.UnitRefusals.{unit_refuses, too_deep_unit, unknown_i
 memory_only : (f : SourceFault) → f ≡ no_memory → f.code ≡ codes.Memory
 memory_only f e = ap (λ (g : SourceFault). g.code) e
 
-module _ (ts : List Token) where
+module _ (laws : PartLaws) (ts : List Token) where
   pub is_found : (r : Result units.Unit SourceFault) → Reads view_unit r (unit_at accepted ts) → IfOk r (λ unit. IsTreeOf ts (view_unit unit))
-  is_found (Ok u) h = let s = unit_sound accepted (omega arith) ts (view_unit u) h in record { formed = s.0; spelled = s.1 }
+  is_found (Ok u) h = let s = unit_sound laws.sound laws.globals_sound accepted (omega arith) ts (view_unit u) h in record { formed = s.0; spelled = s.1 }
   is_found (Err f) h = tt
 
   pub is_within : (r : Result units.Unit SourceFault) → Reads view_unit r (unit_at accepted ts) → IfOk r (λ unit. IsWithinLimits (view_unit unit))
   unfolding IsWithinLimits
-  is_within (Ok u) h = All-weaker (IsKeptItem accepted) (IsItemWithin accepted) (λ i k. k.0) (view_unit u).items (unit_sound accepted (omega arith) ts (view_unit u) h).2
+  is_within (Ok u) h = All-weaker (IsKeptItem accepted) (IsItemWithin accepted) (λ i k. k.0) (view_unit u).items (unit_sound laws.sound laws.globals_sound accepted (omega arith) ts (view_unit u) h).2
   is_within (Err f) h = tt
 
   pub has_forms : (r : Result units.Unit SourceFault) → Reads view_unit r (unit_at accepted ts) → IfOk r (λ unit. AtomicsHaveForms (view_unit unit))
   unfolding AtomicsHaveForms
-  has_forms (Ok u) h = All-weaker (IsKeptItem accepted) (HasItemForms true) (λ i k. k.1) (view_unit u).items (unit_sound accepted (omega arith) ts (view_unit u) h).2
+  has_forms (Ok u) h = All-weaker (IsKeptItem accepted) (HasItemForms true) (λ i k. k.1) (view_unit u).items (unit_sound laws.sound laws.globals_sound accepted (omega arith) ts (view_unit u) h).2
   has_forms (Err f) h = tt
 
   -- a tree with these tokens is read again
   again : (u : UnitTree) → IsTreeOf ts u → IsAnswer (All (IsKeptItem accepted) u.items) (unit_at accepted ts) u
-  again u t = subst (λ us. IsAnswer (All (IsKeptItem accepted) u.items) (unit_at accepted us) u) t.spelled (unit_again accepted (omega arith) u t.formed)
+  again u t = subst (λ us. IsAnswer (All (IsKeptItem accepted) u.items) (unit_at accepted us) u) t.spelled (unit_again laws.again laws.globals_again accepted (omega arith) u t.formed)
 
   keeps : (u : UnitTree) → IsWithinLimits u → AtomicsHaveForms u → All (IsKeptItem accepted) u.items
   unfolding IsWithinLimits AtomicsHaveForms
@@ -72,19 +72,19 @@ module _ (ts : List Token) where
   pub is_too_deep : (r : Result units.Unit SourceFault) → Reads view_unit r (unit_at accepted ts) → IfErr r (λ f. f.code ≡ codes.TooDeep → IsLimitPassed ts f.at)
   is_too_deep (Ok u) h = tt
   is_too_deep (Err f) (inl memory) = λ deep. let m = memory_only f memory in absurd cc
-  is_too_deep (Err f) (inr e) = λ deep. too_deep_unit accepted (omega arith) ts f e deep
+  is_too_deep (Err f) (inr e) = λ deep. too_deep_unit laws accepted (omega arith) ts f e deep
 
   pub is_unknown : (r : Result units.Unit SourceFault) → Reads view_unit r (unit_at accepted ts) → IfErr r (λ f. f.code ≡ codes.UnknownDirective → IsRefusedLine ts f)
   is_unknown (Ok u) h = tt
   is_unknown (Err f) (inl memory) = λ unknown. let m = memory_only f memory in absurd cc
-  is_unknown (Err f) (inr e) = λ unknown. unknown_in_unit accepted (omega arith) ts f e unknown
+  is_unknown (Err f) (inr e) = λ unknown. unknown_in_unit laws accepted (omega arith) ts f e unknown
 
   pub is_bad_clause : (r : Result units.Unit SourceFault) → Reads view_unit r (unit_at accepted ts) → IfErr r (λ f. f.code ≡ codes.BadClause → IsRefusedLine ts f ⊎ IsBadAtomic ts f.at)
   is_bad_clause (Ok u) h = tt
   is_bad_clause (Err f) (inl memory) = λ bad. let m = memory_only f memory in absurd cc
-  is_bad_clause (Err f) (inr e) = λ bad. bad_in_unit accepted (omega arith) ts f e bad
+  is_bad_clause (Err f) (inr e) = λ bad. bad_in_unit laws accepted (omega arith) ts f e bad
 
   pub is_no_other : (r : Result units.Unit SourceFault) → Reads view_unit r (unit_at accepted ts) → IfErr r (λ f. (f ≡ no_memory) ⊎ (f.code ≡ codes.Syntax) ⊎ (f.code ≡ codes.TooDeep) ⊎ (f.code ≡ codes.UnknownDirective) ⊎ (f.code ≡ codes.BadClause))
   is_no_other (Ok u) h = tt
   is_no_other (Err f) (inl memory) = inl memory
-  is_no_other (Err f) (inr e) = inr (unit_refuses accepted (omega arith) ts f e)
+  is_no_other (Err f) (inr e) = inr (unit_refuses laws accepted (omega arith) ts f e)

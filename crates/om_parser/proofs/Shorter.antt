@@ -8,13 +8,15 @@ use Rattle.om_pragma.specs.Spelling.{opening_spelling, directive_spelling}
 use Rattle.om_parser.specs.declared.statement.Inside.{Inside}
 use Rattle.om_tree.specs.Formed.{IsStatement}
 use Rattle.om_tree.specs.Limits.{Limits}
-use Rattle.om_parser.specs.Reading.{take_mark}
+use Rattle.om_parts.specs.Reading.{take_mark}
 use Rattle.om_tree.specs.Spelling.{mark, expression_spelling, for_head_spelling, declaration_spelling, statement_spelling, statements_spelling}
-use Rattle.om_parser.specs.StatementReading.{Parts, item_at, statement_at}
+use Rattle.om_parts.specs.PartReading.{Parts}
+use Rattle.om_parser.specs.StatementReading.{item_at, statement_at}
 use Rattle.om_tree.specs.Tree.{ExpressionTree, StatementTree, LocalDeclaration, Block, Empty, Expression, If, IfElse, While, Do, For, Return, Break, Continue, Construct, StandAlone, Sections, Section}
 use Rattle.om_parser.proofs.Outcomes.{ok, some}
 use Rattle.om_parser.proofs.Taken.{take_mark_is}
-use Rattle.om_parser.proofs.StatementSound.{ArePartsSound, item_sound}
+use Rattle.om_parts.specs.Laws.{ArePartsSound}
+use Rattle.om_parser.proofs.StatementSound.{item_sound}
 
 pub brace_shorter : (ts : List Token) (s : Span) (us : List Token) → take_mark punctuators.CloseBrace ts ≡ some (s, us) → length us < length ts
 brace_shorter ts s us e = omega (arith, ap length (take_mark_is punctuators.CloseBrace ts s us e))

@@ -1,6 +1,5 @@
 -- Reading that stops by another code than that of syntax: in a part, and in the tree round it.
-use Rattle.std.proofs.Common.{◌≡◌, ℕ, List, ◌++◌, Option, Some, None, Ok, Err, sym, ap, subst, ◌∙◌, append_assoc, inl, inr}
-use Rattle.om_lexer.specs.declared.fault.FaultCode.TheVariants as codes
+use Rattle.std.proofs.Common.{◌≡◌, ℕ, zero, suc, List, ◌++◌, Option, Some, None, Ok, Err, sym, ap, subst, ◌∙◌, append_assoc, inl, inr}
 use Rattle.om_lexer.specs.declared.fault.SourceFault.{SourceFault}
 use Rattle.om_lexer.specs.declared.token.Keyword.{Keyword}
 use Rattle.om_lexer.specs.declared.token.Punctuator.{Punctuator}
@@ -10,18 +9,11 @@ use Rattle.om_parser.specs.Faults.{IsBadAtomic, IsStopped}
 use Rattle.om_tree.specs.Limits.{Limits}
 use Rattle.om_parser.specs.LineFaults.{IsLineFault}
 use Rattle.om_tree.specs.Places.{Place, IsPassed}
-use Rattle.om_parser.specs.Reading.{◌>>=◌, Outcome, syntax, known, mark_at, word_at}
-use Rattle.om_parser.proofs.Outcomes.{ok}
-use Rattle.om_parser.proofs.ExpressionCut.{err_is, IsNeverDeep}
-use Rattle.om_parser.proofs.Refusals.{IsRefusal, Refuses}
-
--- a fault of another code than that of syntax
-abbrev pub Stops : SourceFault → Type 0
-Stops f = f.code ≡ codes.Syntax → ⊥
-
--- a limit is passed in a part
-abbrev pub IsTooDeep : {A : Type 0} → (A → List Token) → (A → Type 0) → (A → Place) → List Token → SourceFault → Type 0
-IsTooDeep spelling IsFormed over tokens f = (f.code ≡ codes.TooDeep) × IsPassed spelling IsFormed over tokens f.at
+use Rattle.om_parts.specs.Reading.{◌>>=◌, Outcome, Reader, choose, syntax, known, mark_at, word_at}
+use Rattle.om_parts.specs.Repetition.{until}
+use Rattle.om_parser.proofs.Loops.{Ender}
+use Rattle.om_parser.proofs.Outcomes.{ok, err_is}
+use Rattle.om_parts.specs.Laws.{Stops}
 
 -- a reader that is refused by syntax alone
 abbrev pub IsPlain : {A : Type 0} → Outcome A → Type 0
@@ -38,16 +30,17 @@ pub bind_plain : {A B : Type 0} (read : Outcome A) (g : A → Outcome B) → IsP
 bind_plain (Ok x) g first second f e stops = second x f e stops
 bind_plain (Err d) g first second f e stops = first f (ap (λ (c : SourceFault). Err c) (err_is d f e)) stops
 
--- what is refused by syntax or a limit
-pub stops_too_deep : (f : SourceFault) → IsRefusal f → Stops f → f.code ≡ codes.TooDeep
-stops_too_deep f refused stops = elim refused [
-  | inl wrong ↦ absurd (stops wrong)
-  | inr deep ↦ deep
-]
+pub ok_plain : {A : Type 0} (x : A) → IsPlain (ok x)
+ok_plain x f e stops = absurd cc
 
--- what is refused by syntax or a limit, and by no limit
-pub never_stops : {A : Type 0} (read : Outcome A) → Refuses read → IsNeverDeep read → IsPlain read
-never_stops read refuses never f e stops = never f e (stops_too_deep f (refuses f e) stops)
+pub choose_plain : {A B : Type 0} (o : Option A) (g : A → Outcome B) (z : Outcome B) → ((x : A) → IsPlain (g x)) → IsPlain z → IsPlain (choose o g z)
+choose_plain (Some x) g z first second = first x
+choose_plain None g z first second = second
+
+pub until_plain : {A : Type 0} (ender : Ender) (item : Reader A) → ((ts : List Token) → IsPlain (item ts)) → (k : ℕ) (ts : List Token) → IsPlain (until ender item k ts)
+unfolding until
+until_plain ender item plain zero ts = bind_plain (item ts) _ (plain ts) (λ a. syntax_plain ts)
+until_plain ender item plain (suc k) ts = choose_plain (ender ts) _ _ (λ e. ok_plain _) (bind_plain (item ts) _ (plain ts) (λ a. bind_plain (until ender item k a.1) _ (until_plain ender item plain k a.1) (λ b. ok_plain _)))
 
 pub mark_plain : (q : Punctuator) (ts : List Token) → IsPlain (mark_at q ts)
 unfolding mark_at

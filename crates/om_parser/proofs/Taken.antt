@@ -10,9 +10,8 @@ use Rattle.om_lexer.specs.declared.token.Token.{Token}
 use Rattle.om_lexer.specs.declared.token.TokenKind.{TokenKind}
 use Rattle.om_lexer.specs.declared.token.TokenKind.TheVariants as kinds
 use Rattle.om_pragma.specs.declared.name.Name as names
-use Rattle.om_pragma.specs.declared.name.Number.{Number}
-use Rattle.om_parser.specs.Reading.{take, same_mark, same_word, mark_of, word_of, name_of, number_of, take_mark, take_word, take_name, take_number, mark_at, word_at, name_at, number_at}
-use Rattle.om_tree.specs.Spelling.{token, mark, word, name, number}
+use Rattle.om_parts.specs.Reading.{take, same_mark, same_word, mark_of, word_of, name_of, take_mark, take_word, take_name, mark_at, word_at, name_at}
+use Rattle.om_tree.specs.Spelling.{token, mark, word, name}
 use Rattle.om_parser.proofs.Outcomes.{ok, some, some_is, choose_cases, known_ok, cond_some}
 
 pub take_is : {A : Type 0} (f : Token → Option A) (ts : List Token) (x : A) (us : List Token) → take f ts ≡ some (x, us) → (t : Token) × (ts ≡ t ∷ us) × (f t ≡ some x)
@@ -43,10 +42,6 @@ name_is : (k : TokenKind) (s : Span) (n : names.Name) → name_of k s ≡ some n
 name_is (kinds.Name text) s n e = ap name (some_is _ n e)
 name_is _ s n e = absurd cc
 
-number_is : (k : TokenKind) (s : Span) (n : Number) → number_of k s ≡ some n → token k s ≡ number n
-number_is (kinds.Constant value) s n e = ap number (some_is _ n e)
-number_is _ s n e = absurd cc
-
 pub take_mark_is : (p : Punctuator) (ts : List Token) (s : Span) (us : List Token) → take_mark p ts ≡ some (s, us) → ts ≡ mark p s ∷ us
 unfolding take_mark
 take_mark_is p ts s us e =
@@ -68,12 +63,6 @@ take_name_is ts n us e =
     let t = take_is (λ t. name_of t.kind t.span) ts n us e in
     t.1 ∙ ap (λ u. u ∷ us) (name_is t.0.kind t.0.span n t.2)
 
-pub take_number_is : (ts : List Token) (n : Number) (us : List Token) → take_number ts ≡ some (n, us) → ts ≡ number n ∷ us
-unfolding take_number
-take_number_is ts n us e =
-    let t = take_is (λ t. number_of t.kind t.span) ts n us e in
-    t.1 ∙ ap (λ u. u ∷ us) (number_is t.0.kind t.0.span n t.2)
-
 pub mark_at_is : (p : Punctuator) (ts : List Token) (x : Span × List Token) → mark_at p ts ≡ ok x → ts ≡ mark p x.0 ∷ x.1
 unfolding mark_at
 mark_at_is p ts x e = take_mark_is p ts x.0 x.1 (known_ok ts (take_mark p ts) x e)
@@ -85,7 +74,3 @@ word_at_is w ts x e = take_word_is w ts x.0 x.1 (known_ok ts (take_word w ts) x 
 pub name_at_is : (ts : List Token) (x : names.Name × List Token) → name_at ts ≡ ok x → ts ≡ name x.0 ∷ x.1
 unfolding name_at
 name_at_is ts x e = take_name_is ts x.0 x.1 (known_ok ts (take_name ts) x e)
-
-pub number_at_is : (ts : List Token) (x : Number × List Token) → number_at ts ≡ ok x → ts ≡ number x.0 ∷ x.1
-unfolding number_at
-number_at_is ts x e = take_number_is ts x.0 x.1 (known_ok ts (take_number ts) x e)

@@ -6,27 +6,25 @@ use Rattle.om_lexer.specs.declared.token.Punctuator.TheVariants as punctuators
 use Rattle.om_lexer.specs.declared.token.Span.{Span}
 use Rattle.om_lexer.specs.declared.token.Token.{Token}
 use Rattle.om_lexer.specs.declared.token.TokenKind.TheVariants as kinds
-use Rattle.om_parser.specs.declared.declaration.Initial.TheVariants as initials
 use Rattle.om_tree.specs.declared.tree.ResultType.{ResultType}
 use Rattle.om_tree.specs.declared.tree.ResultType.TheVariants as results
-use Rattle.om_parser.specs.DeclarationReading.{initial_at, declaration_after}
-use Rattle.om_tree.specs.Formed.{IsSignedConstant, IsGlobalDeclaration, IsFunction, IsItem, IsUnit}
+use Rattle.om_tree.specs.Formed.{IsGlobalDeclaration, IsFunction, IsItem, IsUnit}
 use Rattle.om_tree.specs.Limits.{Limits}
-use Rattle.om_parser.specs.Reading.{take, same_mark, take_mark}
-use Rattle.om_parser.specs.Repetition.{until}
-use Rattle.om_tree.specs.Spelling.{token, mark, name, expression_spelling, block_spelling, declarator_spelling, declaration_spelling, parameters_spelling, head_spelling, item_spelling, unit_spelling}
-use Rattle.om_parser.specs.PartReading.{parts, block_at}
-use Rattle.om_tree.specs.Tree.{ExpressionTree, DeclarationTree, HeadTree, FunctionTree, ItemTree, Declaration, Prototype, Function, UnitTree}
+use Rattle.om_parts.specs.Reading.{take, same_mark, take_mark}
+use Rattle.om_parts.specs.Repetition.{until}
+use Rattle.om_tree.specs.Spelling.{token, mark, name, block_spelling, declarator_spelling, declaration_spelling, parameters_spelling, head_spelling, item_spelling, unit_spelling}
+use Rattle.om_parts.specs.PartReading.{parts}
+use Rattle.om_parser.specs.StatementReading.{block_at}
+use Rattle.om_tree.specs.Tree.{DeclarationTree, HeadTree, FunctionTree, ItemTree, Declaration, Prototype, Function, UnitTree}
 use Rattle.om_parser.specs.UnitReading.{function_after, prototype_after, void_after, int_after, item_at, take_end, unit_at}
-use Rattle.om_parser.proofs.Again.{take_mark_again, take_word_again, mark_again, word_again, name_again, IsAnswer, bind_answer}
+use Rattle.om_parser.proofs.Again.{take_mark_again, take_word_again, mark_again, word_again, name_again, bind_answer}
+use Rattle.om_parts.specs.Laws.{IsAnswer, PartsAreReadAgain, GlobalsAreReadAgain}
+use Rattle.om_parser.proofs.Outcomes.{ok}
 use Rattle.om_parser.proofs.ItemsComplete.{AreAgain, until_again}
-use Rattle.om_parser.proofs.DeclarationSound.{IsAny}
-use Rattle.om_parser.proofs.DeclarationComplete.{EndsDeclarator, constant_again, declaration_rest, declaration_again, rest_is, all_any, no_parameters}
 use Rattle.om_parser.proofs.Forms.{IsKeptItem}
 use Rattle.om_parser.proofs.FunctionSound.{is_named}
 use Rattle.om_parser.proofs.FunctionComplete.{head_again, int_is_no_void}
 use Rattle.om_parser.proofs.StatementComplete.{function_block_again}
-use Rattle.om_parser.proofs.PartsComplete.{parts_again}
 use Rattle.om_parser.proofs.UnitSound.{item_some}
 
 no_semicolon : (s : Span) (ts : List Token) → take_mark punctuators.Semicolon (mark punctuators.OpenBrace s ∷ ts) ≡ None
@@ -46,20 +44,15 @@ head_unended h rest = go h.result
     go (results.Int at) = refl
     go (results.Void at) = refl
 
-module _ (l : Limits) (one : 1 ≤ l.nested) where
+module _ (again : PartsAreReadAgain) (globals : GlobalsAreReadAgain) (l : Limits) (one : 1 ≤ l.nested) where
   abbrev IsSmallItem : ItemTree → Type 0
   IsSmallItem i = IsKeptItem l i
-
-  constant_answer : (e : ExpressionTree) (rest : List Token) → IsSignedConstant e → EndsDeclarator rest → IsAnswer (IsAny e) (initial_at l initials.Constant (expression_spelling e ++ rest)) (e, rest)
-  unfolding initial_at
-  constant_answer e rest f ends = inl (constant_again e rest f)
 
   declaration_answer : (d : DeclarationTree) (rest : List Token) → IsGlobalDeclaration d → IsAnswer (IsSmallItem (Declaration d)) ((item_at l) (item_spelling (Declaration d) ++ rest)) (Declaration d, rest)
   unfolding item_at int_after item_spelling
   declaration_answer d rest f =
-      let back : List Token = declaration_rest d rest in
-      subst (λ us. IsAnswer (IsSmallItem (Declaration d)) ((item_at l) us) (Declaration d, rest)) (rest_is d rest) (rw (int_is_no_void d.int (name d.first.name ∷ back), word_again keywords.Int d.int (name d.first.name ∷ back), name_again d.first.name back, no_parameters d rest)
-      (bind_answer (declaration_after (initial_at l initials.Constant) d.int d.first.name back) _ (d, rest) (Declaration d, rest) (λ w. all_any _) (declaration_again IsSignedConstant IsAny (initial_at l initials.Constant) constant_answer d rest f) (inl refl)))
+      let g = globals d rest f in
+      inl (subst (λ us. (item_at l) us ≡ ok (Declaration d, rest)) g.parts (rw (int_is_no_void d.int (name d.first.name ∷ g.behind), word_again keywords.Int d.int (name d.first.name ∷ g.behind), name_again d.first.name g.behind, g.no_function, g.read) refl))
 
   -- an item whose head is read again
   after_head : (h : HeadTree) (i : ItemTree) (rest us : List Token) → IsAnswer (IsSmallItem i) (function_after l h us) (i, rest) → IsAnswer (IsSmallItem i) (item_at l (head_spelling h ++ us)) (i, rest)
@@ -88,7 +81,7 @@ module _ (l : Limits) (one : 1 ≤ l.nested) where
   function_answer f rest formed =
       let body : List Token = block_spelling f.body ++ rest in
       rw (not_prototype f rest, is_named f.head.parameters formed.0)
-      (bind_answer ((block_at l) body) _ (f.body, rest) (Function f, rest) (λ w. w) (function_block_again (parts l) l (parts_again l one) l.statements l.blocks f.body rest formed.1) (inl refl))
+      (bind_answer ((block_at l) body) _ (f.body, rest) (Function f, rest) (λ w. w) (function_block_again (parts l) l (again l one) l.statements l.blocks f.body rest formed.1) (inl refl))
 
   item_again : (i : ItemTree) (rest : List Token) → IsItem i → IsAnswer (IsSmallItem i) ((item_at l) (item_spelling i ++ rest)) (i, rest)
   unfolding IsItem item_spelling

@@ -9,19 +9,19 @@ use Rattle.om_lexer.specs.declared.token.Punctuator.TheVariants as punctuators
 use Rattle.om_lexer.specs.declared.token.Span.{Span}
 use Rattle.om_lexer.specs.declared.token.Token.{Token}
 use Rattle.om_lexer.specs.declared.token.TokenKind.TheVariants as kinds
-use Rattle.om_parser.specs.declared.declaration.Initial.TheVariants as initials
 use Rattle.om_pragma.specs.declared.name.Name as names
 use Rattle.om_tree.specs.declared.tree.ResultType.{ResultType}
 use Rattle.om_tree.specs.declared.tree.ResultType.TheVariants as results
-use Rattle.om_parser.specs.DeclarationReading.{initial_at, declaration_after}
 use Rattle.om_parser.specs.Faults.{IsStopped}
 use Rattle.om_tree.specs.Formed.{IsFunction, IsItem, IsUnit}
 use Rattle.om_parser.specs.FunctionReading.{are_named, head_after}
 use Rattle.om_tree.specs.Limits.{Limits}
-use Rattle.om_parser.specs.PartReading.{parts, block_at}
+use Rattle.om_parts.specs.PartReading.{parts, global_at}
+use Rattle.om_parser.proofs.Given.{PartLaws}
+use Rattle.om_parser.specs.StatementReading.{block_at}
 use Rattle.om_tree.specs.Places.{IsOverInItem, IsOverInUnitItems, IsOverInUnit}
-use Rattle.om_parser.specs.Reading.{take_mark, take_word, mark_at, word_at, name_at}
-use Rattle.om_parser.specs.Repetition.{until}
+use Rattle.om_parts.specs.Reading.{take_mark, take_word, mark_at, word_at, name_at}
+use Rattle.om_parts.specs.Repetition.{until}
 use Rattle.om_tree.specs.Spelling.{token, mark, word, name, result_spelling, block_spelling, head_spelling, item_spelling, unit_spelling}
 use Rattle.om_tree.specs.Tree.{HeadTree, Function}
 use Rattle.om_parser.specs.UnitReading.{function_after, prototype_after, void_after, int_after, item_at, take_end, unit_at}
@@ -29,16 +29,12 @@ use Rattle.om_parser.proofs.Outcomes.{bind_err, choose_cases}
 use Rattle.om_parser.proofs.Taken.{take_mark_is, take_word_is, mark_at_is, word_at_is, name_at_is}
 use Rattle.om_parser.proofs.FunctionSound.{head_sound, named_is}
 use Rattle.om_parser.proofs.UnitSound.{or_else, item_sound}
-use Rattle.om_parser.proofs.Stopped.{Stops, IsPlain, syntax_plain, known_plain, bind_plain, never_stops, within_larger}
-use Rattle.om_parser.proofs.DeclarationCut.{constant_never_deep, declaration_never_deep}
-use Rattle.om_parser.proofs.DeclarationRefusals.{constant_refuses, declaration_refuses}
-use Rattle.om_parser.proofs.FunctionCut.{head_never_deep}
-use Rattle.om_parser.proofs.FunctionRefusals.{head_refuses}
+use Rattle.om_parts.specs.Laws.{Stops}
+use Rattle.om_parser.proofs.Stopped.{IsPlain, syntax_plain, known_plain, bind_plain, within_larger}
+use Rattle.om_parser.proofs.FunctionPlain.{head_plain}
 use Rattle.om_parser.proofs.StatementCut.{function_block_cut}
-use Rattle.om_parser.proofs.PartsSound.{parts_sound}
-use Rattle.om_parser.proofs.PartsCut.{parts_cut}
 
-module _ (l : Limits) (one : 1 ≤ l.nested) where
+module _ (laws : PartLaws) (l : Limits) (one : 1 ≤ l.nested) where
   abbrev IsItemCut : List Token → SourceFault → Type 0
   IsItemCut ts f = IsStopped item_spelling IsItem (IsOverInItem l) l ts f
 
@@ -52,14 +48,14 @@ module _ (l : Limits) (one : 1 ≤ l.nested) where
           | inr (b, read, no_err) ↦ absurd cc
           | inl d ↦ within_larger item_spelling IsItem (IsOverInItem l) (head_spelling h) [] (λ b. Function (record { head = h; body = b })) (head_spelling h ++ ts) ts f
               (λ b is. (named_is h.parameters named.0, is)) (λ b. ap (λ w. head_spelling h ++ w) (sym (append-nil (block_spelling b)))) (λ b before t over. (before, refl, over)) refl
-              (function_block_cut (parts l) l one (parts_sound l one) (parts_cut l one) ts f d stops)
+              (function_block_cut (parts l) l one (laws.sound l one) (laws.stop l one) ts f d stops)
         ]
   ]
 
   prototype_cut : (result : ResultType) (n : names.Name) (left : Span) (ts : List Token) (f : SourceFault) → prototype_after l result n left ts ≡ Err f → Stops f → IsItemCut (result_spelling result ∷ name n ∷ mark punctuators.OpenParen left ∷ ts) f
   unfolding prototype_after
   prototype_cut result n left ts f e stops = elim (bind_err (head_after result n left ts) _ f e) [
-    | inl wrong ↦ absurd (never_stops (head_after result n left ts) (head_refuses result n left ts) (head_never_deep result n left ts) f wrong stops)
+    | inl wrong ↦ absurd (head_plain result n left ts f wrong stops)
     | inr (h, read, g) ↦ subst (λ w. IsItemCut w f) (sym (head_sound result n left ts h read)) (function_cut h.0 h.1 f g stops)
   ]
 
@@ -75,9 +71,8 @@ module _ (l : Limits) (one : 1 ≤ l.nested) where
     ]
   ]
 
-  global_plain : (int : Span) (n : names.Name) (ts : List Token) → IsPlain (declaration_after (initial_at l initials.Constant) int n ts)
-  unfolding initial_at
-  global_plain int n ts = never_stops (declaration_after (initial_at l initials.Constant) int n ts) (declaration_refuses (initial_at l initials.Constant) constant_refuses int n ts) (declaration_never_deep (initial_at l initials.Constant) constant_never_deep int n ts)
+  global_plain : (int : Span) (n : names.Name) (ts : List Token) → IsPlain (global_at int n ts)
+  global_plain int n ts f h stops = stops (laws.globals_stop int n ts f h)
 
   int_cut : (int : Span) (ts : List Token) (f : SourceFault) → int_after l int ts ≡ Err f → Stops f → IsItemCut (word keywords.Int int ∷ ts) f
   unfolding int_after name_at
@@ -87,7 +82,7 @@ module _ (l : Limits) (one : 1 ≤ l.nested) where
       | inl (p, taken, k) ↦
           let front : ts ≡ name n.0 ∷ mark punctuators.OpenParen p.0 ∷ p.1 = name_at_is ts n named ∙ ap (λ w. name n.0 ∷ w) (take_mark_is punctuators.OpenParen n.1 p.0 p.1 taken) in
           subst (λ w. IsItemCut (word keywords.Int int ∷ w) f) (sym front) (prototype_cut (results.Int int) n.0 p.0 p.1 f k stops)
-      | inr (none, k) ↦ absurd (bind_plain (declaration_after (initial_at l initials.Constant) int n.0 n.1) _ (global_plain int n.0 n.1) (λ d f h stops. absurd cc) f k stops)
+      | inr (none, k) ↦ absurd (bind_plain (global_at int n.0 n.1) _ (global_plain int n.0 n.1) (λ d f h stops. absurd cc) f k stops)
     ]
   ]
 
@@ -120,7 +115,7 @@ module _ (l : Limits) (one : 1 ≤ l.nested) where
       | inr (a, reads, e) ↦ elim (bind_err (until take_end (item_at l) k a.1) _ f e) [
         | inr (b, read, no_err) ↦ absurd cc
         | inl fails ↦
-            let first = item_sound l one ts a reads in
+            let first = item_sound laws.sound laws.globals_sound l one ts a reads in
             within_larger (flat_map item_spelling) (All IsItem) (IsOverInUnitItems l) (item_spelling a.0) [] (λ items. a.0 ∷ items) ts a.1 f (λ items is. All-cons IsItem a.0 items first.formed.0 is) (λ items. ap (λ w. item_spelling a.0 ++ w) (sym (append-nil (flat_map item_spelling items)))) (λ items before t over. inr (before, refl, over)) first.parts (items_cut k a.1 f fails stops)
       ]
     ]

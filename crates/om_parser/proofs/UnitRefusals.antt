@@ -8,10 +8,12 @@ use Rattle.om_pragma.specs.Refusals.{IsWordFault}
 use Rattle.om_parser.specs.Faults.{IsBadAtomic}
 use Rattle.om_tree.specs.Formed.{IsUnit}
 use Rattle.om_tree.specs.Limits.{Limits}
-use Rattle.om_parser.specs.LineFaults.{IsWrongLine, IsLineFault, IsPassedInLine, IsRefusedLine}
+use Rattle.om_parts.specs.WrongLines.{IsWrongLine}
+use Rattle.om_parser.specs.LineFaults.{IsLineFault, IsPassedInLine, IsRefusedLine}
 use Rattle.om_tree.specs.Places.{IsOverInUnit, IsPassed}
 use Rattle.om_tree.specs.Spelling.{unit_spelling}
 use Rattle.om_parser.specs.UnitReading.{unit_at}
+use Rattle.om_parser.proofs.Given.{PartLaws}
 use Rattle.om_parser.proofs.UnitCut.{unit_cut}
 
 -- the codes by which a unit is refused
@@ -31,11 +33,11 @@ syntax_or_not : (code : FaultCode) → (code ≡ codes.Syntax) ⊎ (code ≡ cod
 syntax_or_not codes.Syntax = inl refl
 syntax_or_not _ = inr (λ e. absurd cc)
 
-module _ (l : Limits) (one : 1 ≤ l.nested) (ts : List Token) (f : SourceFault) (fails : unit_at l ts ≡ Err f) where
+module _ (laws : PartLaws) (l : Limits) (one : 1 ≤ l.nested) (ts : List Token) (f : SourceFault) (fails : unit_at l ts ≡ Err f) where
   pub unit_refuses : IsUnitRefusal f
   unit_refuses = elim (syntax_or_not f.code) [
     | inl wrong ↦ inl wrong
-    | inr stops ↦ elim (unit_cut l one ts f fails stops) [
+    | inr stops ↦ elim (unit_cut laws l one ts f fails stops) [
       | inl (deep, passed) ↦ inr (inl deep)
       | inr (inl c) ↦ line_code l c.line f c.wrong
       | inr (inr (bad, atomic)) ↦ inr (inr (inr bad))
@@ -43,7 +45,7 @@ module _ (l : Limits) (one : 1 ≤ l.nested) (ts : List Token) (f : SourceFault)
   ]
 
   pub too_deep_unit : f.code ≡ codes.TooDeep → IsPassed unit_spelling IsUnit (IsOverInUnit l) ts f.at ⊎ IsPassedInLine l ts f.at
-  too_deep_unit is = elim (unit_cut l one ts f fails (λ wrong. absurd cc)) [
+  too_deep_unit is = elim (unit_cut laws l one ts f fails (λ wrong. absurd cc)) [
     | inl (deep, passed) ↦ inl passed
     | inr (inl c) ↦ elim c.wrong [
       | inl (deep, passed) ↦ inr (record { line = c.line; has_line = c.has_line; passed = passed })
@@ -60,14 +62,14 @@ module _ (l : Limits) (one : 1 ≤ l.nested) (ts : List Token) (f : SourceFault)
   ]
 
   pub unknown_in_unit : f.code ≡ codes.UnknownDirective → IsRefusedLine ts f
-  unknown_in_unit is = elim (unit_cut l one ts f fails (λ wrong. absurd cc)) [
+  unknown_in_unit is = elim (unit_cut laws l one ts f fails (λ wrong. absurd cc)) [
     | inl (deep, passed) ↦ absurd cc
     | inr (inl c) ↦ refused_line (λ deep. absurd cc) c
     | inr (inr (bad, atomic)) ↦ absurd cc
   ]
 
   pub bad_in_unit : f.code ≡ codes.BadClause → IsRefusedLine ts f ⊎ IsBadAtomic ts f.at
-  bad_in_unit is = elim (unit_cut l one ts f fails (λ wrong. absurd cc)) [
+  bad_in_unit is = elim (unit_cut laws l one ts f fails (λ wrong. absurd cc)) [
     | inl (deep, passed) ↦ absurd cc
     | inr (inl c) ↦ inl (refused_line (λ deep. absurd cc) c)
     | inr (inr (bad, atomic)) ↦ inr atomic

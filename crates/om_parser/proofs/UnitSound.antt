@@ -10,28 +10,26 @@ use Rattle.om_lexer.specs.declared.token.Span.{Span}
 use Rattle.om_lexer.specs.declared.token.Token.{Token}
 use Rattle.om_lexer.specs.declared.token.TokenKind.{TokenKind}
 use Rattle.om_lexer.specs.declared.token.TokenKind.TheVariants as kinds
-use Rattle.om_parser.specs.declared.declaration.Initial.TheVariants as initials
 use Rattle.om_pragma.specs.declared.name.Name as names
 use Rattle.om_tree.specs.declared.tree.ResultType.{ResultType}
 use Rattle.om_tree.specs.declared.tree.ResultType.TheVariants as results
-use Rattle.om_parser.specs.DeclarationReading.{initial_at, declaration_after}
-use Rattle.om_tree.specs.Formed.{IsSignedConstant, IsFunction, IsItem, IsUnit}
+use Rattle.om_tree.specs.Formed.{IsFunction, IsItem, IsUnit}
 use Rattle.om_parser.specs.FunctionReading.{are_named, head_after}
 use Rattle.om_tree.specs.Limits.{Limits}
-use Rattle.om_parser.specs.Reading.{Reader, Outcome, take_mark, take_word, mark_at, word_at, name_at}
-use Rattle.om_parser.specs.Repetition.{until}
-use Rattle.om_tree.specs.Spelling.{token, mark, word, name, result_spelling, expression_spelling, block_spelling, declaration_spelling, head_spelling, item_spelling, unit_spelling}
-use Rattle.om_parser.specs.PartReading.{parts, block_at}
+use Rattle.om_parts.specs.Reading.{Reader, Outcome, take_mark, take_word, mark_at, word_at, name_at}
+use Rattle.om_parts.specs.Repetition.{until}
+use Rattle.om_tree.specs.Spelling.{token, mark, word, name, result_spelling, block_spelling, declaration_spelling, head_spelling, item_spelling, unit_spelling}
+use Rattle.om_parts.specs.PartReading.{parts, global_at}
+use Rattle.om_parser.specs.StatementReading.{block_at}
 use Rattle.om_tree.specs.Tree.{HeadTree, ItemTree, Declaration, Prototype, Function, UnitTree}
 use Rattle.om_parser.specs.UnitReading.{function_after, prototype_after, void_after, int_after, item_at, end_of, take_end, unit_at}
 use Rattle.om_parser.proofs.Outcomes.{ok, ok_is, some, some_is, bind_ok, choose_cases, after_front}
 use Rattle.om_parser.proofs.Taken.{take_mark_is, take_word_is, mark_at_is, word_at_is, name_at_is}
-use Rattle.om_parser.proofs.ItemsSound.{IsRead, IsSound, until_sound}
-use Rattle.om_parser.proofs.DeclarationSound.{constant_sound, declaration_after_sound}
+use Rattle.om_parts.specs.Laws.{IsRead, IsSound, PartsAreSound, GlobalsAreSound}
+use Rattle.om_parser.proofs.ItemsSound.{until_sound}
 use Rattle.om_parser.proofs.Forms.{IsKeptItem}
 use Rattle.om_parser.proofs.FunctionSound.{head_sound, named_is}
 use Rattle.om_parser.proofs.StatementSound.{function_block_sound}
-use Rattle.om_parser.proofs.PartsSound.{parts_sound}
 
 pub take_end_is : (ts : List Token) (s : Span) (us : List Token) → take_end ts ≡ some (s, us) → (ts ≡ token kinds.End s ∷ us) × (us ≡ [])
 unfolding take_end
@@ -64,7 +62,7 @@ pub or_else : {A : Type 0} (b : Bool) (first other : Outcome A) (f : SourceFault
 or_else true first other f h never = (refl, h)
 or_else false first other f h never = absurd (never h)
 
-module _ (l : Limits) (one : 1 ≤ l.nested) where
+module _ (sound : PartsAreSound) (globals : GlobalsAreSound) (l : Limits) (one : 1 ≤ l.nested) where
   abbrev pub IsGoodItem : ItemTree → Type 0
   IsGoodItem i = IsItem i × IsKeptItem l i
 
@@ -78,7 +76,7 @@ module _ (l : Limits) (one : 1 ≤ l.nested) where
     | inr g ↦
         let named = only_if (are_named h.parameters) _ _ x g.1 (λ y d. absurd cc) in
         let b = bind_ok (block_at l ts) _ x named.1 in
-        let body = function_block_sound (parts l) l one (parts_sound l one) l.statements l.blocks ts b.0 b.1 in
+        let body = function_block_sound (parts l) l one (sound l one) l.statements l.blocks ts b.0 b.1 in
         subst (IsRead item_spelling IsGoodItem (head_spelling h ++ ts)) (ok_is (Function (record { head = h; body = b.0.0 }), b.0.1) x b.2) (record {
           parts = after_front (head_spelling h ++ ts) (head_spelling h) ts (block_spelling b.0.0) b.0.1 refl body.parts;
           formed = ((named_is h.parameters named.0, body.formed.formed), (body.formed.room_for, body.formed.forms));
@@ -99,10 +97,6 @@ module _ (l : Limits) (one : 1 ≤ l.nested) where
       let front : ts ≡ name n.0.0 ∷ mark punctuators.OpenParen p.0.0 ∷ p.0.1 = name_at_is ts n.0 n.1 ∙ ap (λ w. name n.0.0 ∷ w) (mark_at_is punctuators.OpenParen n.0.1 p.0 p.1) in
       subst (λ w. IsRead item_spelling IsGoodItem (word keywords.Void void ∷ w) x) (sym front) (prototype_sound (results.Void void) n.0.0 p.0.0 p.0.1 x p.2)
 
-  global_sound : IsSound expression_spelling IsSignedConstant (initial_at l initials.Constant)
-  unfolding initial_at
-  global_sound ts x h = constant_sound ts x h
-
   int_sound : (int : Span) (ts : List Token) (x : ItemTree × List Token) → int_after l int ts ≡ ok x → IsRead item_spelling IsGoodItem (word keywords.Int int ∷ ts) x
   unfolding int_after item_spelling IsItem
   int_sound int ts x e =
@@ -110,8 +104,8 @@ module _ (l : Limits) (one : 1 ≤ l.nested) where
       subst (λ w. IsRead item_spelling IsGoodItem (word keywords.Int int ∷ w) x) (sym (name_at_is ts n.0 n.1)) (elim (choose_cases (take_mark punctuators.OpenParen n.0.1) _ _ (ok x) n.2) [
         | inl p ↦ subst (λ w. IsRead item_spelling IsGoodItem (word keywords.Int int ∷ name n.0.0 ∷ w) x) (sym (take_mark_is punctuators.OpenParen n.0.1 p.0.0 p.0.1 p.1)) (prototype_sound (results.Int int) n.0.0 p.0.0 p.0.1 x p.2)
         | inr g ↦
-            let d = bind_ok (declaration_after (initial_at l initials.Constant) int n.0.0 n.0.1) _ x g.1 in
-            let r = declaration_after_sound IsSignedConstant (initial_at l initials.Constant) global_sound int n.0.0 n.0.1 d.0 d.1 in
+            let d = bind_ok (global_at int n.0.0 n.0.1) _ x g.1 in
+            let r = globals int n.0.0 n.0.1 d.0 d.1 in
             subst (IsRead item_spelling IsGoodItem (word keywords.Int int ∷ name n.0.0 ∷ n.0.1)) (ok_is (Declaration d.0.0, d.0.1) x d.2) (record { parts = r.parts; formed = (r.formed, (tt, tt)) })
       ])
 
@@ -148,5 +142,5 @@ item_some (Function f) = head_some f.head (block_spelling f.body)
 pub end_shorter : (ts : List Token) (s : Span) (us : List Token) → take_end ts ≡ some (s, us) → length us < length ts
 end_shorter ts s us e = omega (arith, ap length (take_end_is ts s us e).0)
 
-pub item_shorter : (l : Limits) → 1 ≤ l.nested → (ts : List Token) (i : ItemTree) (us : List Token) → (item_at l) ts ≡ ok (i, us) → length us < length ts
-item_shorter l one ts i us e = let r = item_sound l one ts (i, us) e in omega (arith, ap length r.parts, length-append (item_spelling i) us, item_some i)
+pub item_shorter : PartsAreSound → GlobalsAreSound → (l : Limits) → 1 ≤ l.nested → (ts : List Token) (i : ItemTree) (us : List Token) → (item_at l) ts ≡ ok (i, us) → length us < length ts
+item_shorter sound globals l one ts i us e = let r = item_sound sound globals l one ts (i, us) e in omega (arith, ap length r.parts, length-append (item_spelling i) us, item_some i)

@@ -14,7 +14,8 @@ use Rattle.om_pragma.specs.Words.{begun_by}
 use Rattle.om_parser.specs.declared.construct.LineStart.{LineStart}
 use Rattle.om_parser.specs.declared.construct.LineStart.TheVariants as lines
 use Rattle.om_tree.specs.AtomicForms.{has_atomic_form}
-use Rattle.om_parser.specs.Reading.{◌>>=◌, choose, Outcome, Reader, syntax}
+use Rattle.om_parts.specs.PartReading.{LineReader}
+use Rattle.om_parts.specs.Reading.{◌>>=◌, choose, Outcome, Reader, syntax}
 use Rattle.om_tree.specs.Tree.{ExpressionTree, StatementTree, Construct, StandAlone, Sections, Section, StatementsTree}
 
 -- ---- which directive a line is, by its first word
@@ -46,10 +47,6 @@ from_word (hash ∷ pragma ∷ omp ∷ ts) = ts
 from_word _ = []
 
 -- ---- directives in blocks and in parts of `sections`
-
--- what reads a directive line
-abbrev pub LineReader : Type 0
-LineReader = Reader (Directive ExpressionTree)
 
 -- a line that may not stand here: no tree goes on with its word
 unfoldable pub misplaced : {A : Type 0} → List Token → Outcome A

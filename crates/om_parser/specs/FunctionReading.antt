@@ -7,8 +7,8 @@ use Rattle.om_lexer.specs.declared.token.Span.{Span}
 use Rattle.om_pragma.specs.declared.name.Name as names
 use Rattle.om_tree.specs.declared.tree.Parameter.{Parameter}
 use Rattle.om_tree.specs.declared.tree.ResultType.{ResultType}
-use Rattle.om_parser.specs.Reading.{◌>>=◌, choose, Reader, take_mark, take_word, take_name, mark_at, word_at}
-use Rattle.om_parser.specs.Repetition.{optional, until}
+use Rattle.om_parts.specs.Reading.{◌>>=◌, choose, Reader, take_mark, take_word, take_name, mark_at, word_at}
+use Rattle.om_parts.specs.Repetition.{optional, until}
 use Rattle.om_tree.specs.Tree.{ParametersTree, NoParameters, Void, Listed, HeadTree}
 
 -- `int` and a name, where one stands (C17 6.7.6.3)

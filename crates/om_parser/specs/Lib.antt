@@ -1,14 +1,8 @@
 pub mod Parsing
-pub mod Reading
-pub mod ExpressionReading
-pub mod Repetition
-pub mod DeclarationReading
 pub mod FunctionReading
 pub mod ConstructReading
 pub mod StatementReading
 pub mod StatementView
-pub mod LineReading
 pub mod LineFaults
 pub mod Faults
-pub mod PartReading
 pub mod UnitReading

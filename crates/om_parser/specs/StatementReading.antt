@@ -8,25 +8,17 @@ use Rattle.om_lexer.specs.declared.token.Span.{Span}
 use Rattle.om_lexer.specs.declared.token.Token.{Token}
 use Rattle.om_lexer.specs.declared.token.TokenKind.{TokenKind}
 use Rattle.om_lexer.specs.declared.token.TokenKind.TheVariants as kinds
-use Rattle.om_parser.specs.ConstructReading.{LineReader, PartsReader, line_start, part_item_at, section_item_at, line_of}
+use Rattle.om_tree.specs.Limits.{Limits, accepted}
+use Rattle.om_parser.specs.declared.statement.Room.{Room}
+use Rattle.om_parts.specs.PartReading.{Parts, parts}
+use Rattle.om_parser.specs.ConstructReading.{PartsReader, line_start, part_item_at, section_item_at, line_of}
 use Rattle.om_parser.specs.declared.statement.Inside.{Inside}
 use Rattle.om_parser.specs.declared.statement.Inside.TheVariants as insides
-use Rattle.om_parser.specs.declared.statement.Start.{Start}
-use Rattle.om_parser.specs.declared.statement.Start.TheVariants as starts
-use Rattle.om_parser.specs.Reading.{◌>>=◌, choose, Outcome, Reader, syntax, too_deep, take_mark, take_word, mark_at, word_at}
-use Rattle.om_parser.specs.Repetition.{until}
-use Rattle.om_tree.specs.Tree.{ExpressionTree, DeclarationTree, ConditionTree, ForStartTree, Nothing, StartExpression, StartDeclaration, ForHeadTree, StatementTree, LocalDeclaration, Block, Empty, Expression, If, IfElse, While, Do, For, Return, Break, Continue, statements, BlockTree}
-
--- the readers of the parts of statements that are no statements
-pub record Parts : Type 0 where
-  -- a whole expression, and one that stands in the parentheses of a statement
-  pub expression : Reader ExpressionTree
-  pub enclosed : Reader ExpressionTree
-  -- a declaration behind its `int`, and one in the parentheses of a `for`
-  pub declaration : Span → Reader DeclarationTree
-  pub enclosed_declaration : Span → Reader DeclarationTree
-  -- a directive line
-  pub line : LineReader
+use Rattle.om_parser.specs.declared.start.Start.{Start}
+use Rattle.om_parser.specs.declared.start.Start.TheVariants as starts
+use Rattle.om_parts.specs.Reading.{◌>>=◌, choose, Outcome, Reader, syntax, too_deep, take_mark, take_word, mark_at, word_at}
+use Rattle.om_parts.specs.Repetition.{until}
+use Rattle.om_tree.specs.Tree.{ExpressionTree, ConditionTree, ForStartTree, Nothing, StartExpression, StartDeclaration, ForHeadTree, StatementTree, LocalDeclaration, Block, Empty, Expression, If, IfElse, While, Do, For, Return, Break, Continue, statements, BlockTree}
 
 -- ---- what a first token begins
 
@@ -243,3 +235,19 @@ block_with p checked room blocks ts = do
   o ← mark_at punctuators.OpenBrace ts
   x ← block_items_after p (statement_at p checked room) blocks o.0 o.1
   Ok (record { open_brace = o.0; items = x.0; close_brace = x.1 }, x.2)
+
+-- the same with the limits
+unfoldable pub block_at : Limits → Reader BlockTree
+block_at l = block_with (parts l) l.checked l.statements l.blocks
+
+-- a statement in this room
+abbrev pub statement_in : Room → Reader StatementTree
+statement_in room = statement_at (parts accepted) room.checked room.statements room.blocks
+
+-- the same where the forms of `atomic` are checked or not
+abbrev pub statement_if : Room → (checked : Bool) → Reader StatementTree
+statement_if room checked = statement_at (parts accepted) checked room.statements room.blocks
+
+-- the braces of `sections` in this room
+abbrev pub parts_in : Room → PartsReader
+parts_in room = parts_at (parts accepted) room.checked room.statements room.blocks

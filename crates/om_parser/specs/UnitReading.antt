@@ -6,16 +6,15 @@ use Rattle.om_lexer.specs.declared.token.Span.{Span}
 use Rattle.om_lexer.specs.declared.token.Token.{Token}
 use Rattle.om_lexer.specs.declared.token.TokenKind.{TokenKind}
 use Rattle.om_lexer.specs.declared.token.TokenKind.TheVariants as kinds
-use Rattle.om_parser.specs.declared.declaration.Initial.TheVariants as initials
 use Rattle.om_pragma.specs.declared.name.Name as names
 use Rattle.om_tree.specs.declared.tree.ResultType.{ResultType}
 use Rattle.om_tree.specs.declared.tree.ResultType.TheVariants as results
-use Rattle.om_parser.specs.DeclarationReading.{initial_at, declaration_after}
+use Rattle.om_parts.specs.PartReading.{global_at}
 use Rattle.om_parser.specs.FunctionReading.{are_named, head_after}
 use Rattle.om_tree.specs.Limits.{Limits}
-use Rattle.om_parser.specs.Reading.{◌>>=◌, choose, Outcome, Reader, syntax, take_mark, take_word, mark_at, word_at, name_at}
-use Rattle.om_parser.specs.Repetition.{until}
-use Rattle.om_parser.specs.PartReading.{block_at}
+use Rattle.om_parts.specs.Reading.{◌>>=◌, choose, Outcome, Reader, syntax, take_mark, take_word, mark_at, word_at, name_at}
+use Rattle.om_parts.specs.Repetition.{until}
+use Rattle.om_parser.specs.StatementReading.{block_at}
 use Rattle.om_tree.specs.Tree.{HeadTree, ItemTree, Declaration, Prototype, Function, UnitTree}
 
 -- ---- functions
@@ -45,7 +44,7 @@ int_after l int ts = do
   n ← name_at ts
   choose (take_mark punctuators.OpenParen n.1)
       (λ p. prototype_after l (results.Int int) n.0 p.0 p.1)
-      (declaration_after (initial_at l initials.Constant) int n.0 n.1 >>= λ d. Ok (Declaration d.0, d.1))
+      (global_at int n.0 n.1 >>= λ d. Ok (Declaration d.0, d.1))
 
 -- a declaration, a prototype or a function (C17 6.9)
 unfoldable pub item_at : Limits → Reader ItemTree

@@ -4,13 +4,13 @@ ghost use Rattle.std.specs.Prelude.{◌≡◌, length, is_some, Ok};
 ghost use Rattle.std.specs.List.{list_all};
 ghost use Rattle.om_lexer.specs.declared.token.Punctuator.TheVariants.{CloseParen};
 ghost use Rattle.om_parser.specs.FunctionReading.{parameter_at, further_parameter_at, listed_at, parameters_at, head_after, are_named};
-ghost use Rattle.om_parser.specs.Reading.{take_mark, take_name, Reads};
-ghost use Rattle.om_parser.specs.Repetition.{optional, until};
+ghost use Rattle.om_parts.specs.Reading.{take_mark, take_name, Reads};
+ghost use Rattle.om_parts.specs.Repetition.{optional, until};
 ghost use Rattle.om_tree.specs.View.{view_parameters, view_head};
 
-use crate::boxed::boxed_before;
-use crate::front::{mark, name, take_mark, take_word, word};
 use om_lexer::{Keyword, Punctuator, SourceFault, Span, Token, TokenKind};
+use om_parts::boxed::boxed_before;
+use om_parts::front::{mark, name, take_mark, take_word, word};
 use om_pragma::Name;
 use om_tree::{FunctionHead, Parameter, Parameters, ResultType};
 use std::alloc::Global;
@@ -24,7 +24,8 @@ pub fn head_after(
     open_paren: Span,
     tokens: &[Token],
 ) -> Result<(Box<FunctionHead>, &[Token]), SourceFault>
-    ensures { Reads (λ x. (view_head x.0.value, x.1.now)) result (head_after result_type name open_paren tokens.now) }
+    ensures { Reads (λ x. (view_head x.0.value, x.1.now)) result
+        (head_after result_type name open_paren tokens.now) }
 {
     let (parameters, close_paren, rest) = parameters(alloc, tokens)?;
     let head = FunctionHead {
@@ -45,7 +46,7 @@ pub fn are_named(parameters: &Parameters) -> bool
     match parameters {
         Parameters::Nothing => true,
         Parameters::Void(_) => true,
-        Parameters::Listed(first, rest) => first.name.is_some() && all_named(rest),
+        Parameters::Listed { first, rest } => first.name.is_some() && all_named(rest),
     }
 }
 
@@ -80,7 +81,14 @@ fn listed(alloc: Global, tokens: &[Token]) -> Result<(Parameters, Span, &[Token]
 {
     let (first, rest) = parameter(alloc, tokens)?;
     let (others, close_paren, rest) = further_parameters(alloc, rest)?;
-    Ok((Parameters::Listed(first, others), close_paren, rest))
+    Ok((
+        Parameters::Listed {
+            first,
+            rest: others,
+        },
+        close_paren,
+        rest,
+    ))
 }
 
 /// Parameters behind commas up to a right parenthesis, its span, and the tokens behind it.
@@ -88,7 +96,8 @@ fn further_parameters(
     alloc: Global,
     tokens: &[Token],
 ) -> Result<(Vec<(Span, Parameter)>, Span, &[Token]), SourceFault>
-    ensures { Reads (λ x. (x.0.items, x.1, x.2.now)) result (until (take_mark CloseParen) further_parameter_at (length tokens.now) tokens.now) }
+    ensures { Reads (λ x. (x.0.items, x.1, x.2.now)) result
+        (until (take_mark CloseParen) further_parameter_at (length tokens.now) tokens.now) }
 {
     let mut parameters = Vec::new(alloc);
     let mut rest = tokens;
@@ -126,7 +135,7 @@ fn parameter(alloc: Global, tokens: &[Token]) -> Result<(Parameter, &[Token]), S
 }
 
 /// The name that stands first, if one does, and the tokens behind it.
-#[tactic(auto, unfolding(crate::specs::Reading::name_at, crate::specs::Reading::take_name, crate::specs::Reading::take))]
+#[tactic(auto, unfolding(om_parts::specs::Reading::name_at, om_parts::specs::Reading::take_name, om_parts::specs::Reading::take))]
 fn optional_name(alloc: Global, tokens: &[Token]) -> Result<(Option<Name>, &[Token]), SourceFault>
     ensures { Reads (λ x. (x.0, x.1.now)) result (Ok (optional (take_name tokens.now) tokens.now)) }
 {

@@ -1,15 +1,12 @@
-//! The parser: the tokens of a C source to its tree (C17 6.5 to 6.9).
+//! The parser: the tokens of a C source to its tree (C17 6.8, 6.9).
 #![tactic(auto)]
 
-mod boxed;
+mod assembly;
 mod construct;
-mod declaration;
-mod expression;
-mod front;
 mod function;
-mod line;
-mod operator;
-mod part;
+mod opening;
+mod simple;
+mod start;
 mod statement;
 mod unit;
 

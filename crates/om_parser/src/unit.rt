@@ -9,33 +9,34 @@ ghost use Rattle.om_tree.specs.Limits.{accepted};
 ghost use Rattle.om_parser.specs.LineFaults.{IsRefusedLine};
 ghost use Rattle.om_tree.specs.Sizes.{AtomicsHaveForms, IsWithinLimits};
 ghost use Rattle.om_parser.specs.Parsing.{IsTreeOf, IsTreeOrMemory, IsLimitPassed};
-ghost use Rattle.om_parser.specs.Reading.{Reads};
+ghost use Rattle.om_parts.specs.Reading.{Reads};
 ghost use Rattle.om_tree.specs.Spelling.{unit_spelling};
 ghost use Rattle.om_tree.specs.Tree.{UnitTree};
-ghost use Rattle.om_parser.specs.Repetition.{until};
+ghost use Rattle.om_parts.specs.Repetition.{until};
 ghost use Rattle.om_parser.specs.UnitReading.{function_after, prototype_after, void_after, int_after, item_at, take_end, unit_at};
 ghost use Rattle.om_tree.specs.View.{view_head, view_item, view_unit};
 
-use crate::declaration::{Initial, declaration_after};
-use crate::front::{mark, name, syntax, take_mark, take_word, word};
 use crate::function::{are_named, head_after};
 use crate::statement::block;
 use om_lexer::{Keyword, Punctuator, SourceFault, Span, Token, TokenKind};
+use om_parts::front::{mark, name, syntax, take_mark, take_word, word};
+use om_parts::laws::{globals, parts_are_read_again, parts_are_sound, parts_stop_so};
+use om_parts::part::global_declaration;
 use om_pragma::Name;
 use om_tree::{Function, FunctionHead, Item, ResultType, Unit};
 use std::alloc::Global;
 
 /// How many bytes of stack a thread should have that parses, and works with what is found.
 ///
-/// The deepest source that keeps the limits needs a quarter of them where nothing is optimised. That is
-/// measured, and no clause says it. What is not used takes no memory.
+/// The deepest source that keeps the limits needs a quarter of them where nothing is optimised.
+/// That is measured, and no clause says it. What is not used takes no memory.
 pub const STACK_SIZE: usize = 256 << 20;
 
 /// The tree of these tokens, the last of which is the end of the source (C17 6.9).
 ///
-/// The grammar is that of declarations of `int` variables and arrays, of prototypes, and of functions
-/// with every statement of C17 6.8 over the expressions of C17 6.5, and with the directives of
-/// OpenMP API 5.2 that `om_pragma` has before or among them.
+/// The grammar is that of declarations of `int` variables and arrays, of prototypes, and of
+/// functions with every statement of C17 6.8 over the expressions of C17 6.5, and with the
+/// directives of OpenMP API 5.2 that `om_pragma` has before or among them.
 /// Refusals:
 /// - S0 at byte 0: no memory.
 /// - S3: no tree of any size has these tokens. No clause says at which byte.
@@ -43,16 +44,16 @@ pub const STACK_SIZE: usize = 256 << 20;
 ///   stand. Its place is that of the word.
 /// - S6: in a directive line the word of a clause stands that the directive does not have, or not
 ///   once more, or behind which nothing stands that makes it a clause; its place is that of the
-///   word. Or the statement of an `atomic` has none of its forms (OpenMP API 5.2, 15.8.4); its place
-///   is that of the word `atomic`.
-/// - S16: at this token an expression has more than `TOKEN_LIMIT` tokens, parentheses nest
-///   deeper than `NESTING_LIMIT` (those of a clause count) or blocks deeper than `BLOCK_LIMIT`, or a
+///   word. Or the statement of an `atomic` has none of its forms (OpenMP API 5.2, 15.8.4); its
+///   place is that of the word `atomic`.
+/// - S16: at this token an expression has more than `TOKEN_LIMIT` tokens, parentheses nest deeper
+///   than `NESTING_LIMIT` (those of a clause count) or blocks deeper than `BLOCK_LIMIT`, or a
 ///   statement begins round which more than `STATEMENT_LIMIT` stand (the braces of `sections` are
 ///   one). These limits are those of `om_tree`.
 ///
 /// S5, and S6 of a clause, are of whole lines, and what stands before such a line begins a
-/// well-formed unit that goes on with a line there. So do the tokens up to that of an S16, the token
-/// with them. Where a source has several faults, no clause says which of them is given.
+/// well-formed unit that goes on with a line there. So do the tokens up to that of an S16, the
+/// token with them. Where a source has several faults, no clause says which of them is given.
 ///
 /// A source may nest deep: the call should have [`STACK_SIZE`] bytes of stack.
 pub fn parse(alloc: Global, tokens: &[Token]) -> Result<Unit, SourceFault>
@@ -62,21 +63,35 @@ pub fn parse(alloc: Global, tokens: &[Token]) -> Result<Unit, SourceFault>
     ensures atomics_have_forms { IfOk result (λ unit. AtomicsHaveForms (view_unit unit)) }
 
     // A well-formed tree within the limits is found, where each `atomic` has one of its forms.
-    ensures every_tree_is_found { (unit : UnitTree) → IsTreeOf tokens.now unit → IsWithinLimits unit → AtomicsHaveForms unit → IsTreeOrMemory unit result }
+    ensures every_tree_is_found { (unit : UnitTree) → IsTreeOf tokens.now unit →
+        IsWithinLimits unit → AtomicsHaveForms unit → IsTreeOrMemory unit result }
 
-    ensures syntax_has_no_tree { IfErr result (λ fault. fault.code ≡ Syntax → (unit : UnitTree) → ¬ IsTreeOf tokens.now unit) }
-    ensures too_deep_passes_a_limit { IfErr result (λ fault. fault.code ≡ TooDeep → IsLimitPassed tokens.now fault.at) }
-    ensures unknown_word { IfErr result (λ fault. fault.code ≡ UnknownDirective → IsRefusedLine tokens.now fault) }
-    ensures bad_clause { IfErr result (λ fault. fault.code ≡ BadClause → IsRefusedLine tokens.now fault ⊎ IsBadAtomic tokens.now fault.at) }
-    ensures no_other_refusal { IfErr result (λ fault. (fault ≡ no_memory) ⊎ (fault.code ≡ Syntax) ⊎ (fault.code ≡ TooDeep) ⊎ (fault.code ≡ UnknownDirective) ⊎ (fault.code ≡ BadClause)) }
+    ensures syntax_has_no_tree { IfErr result (λ fault. fault.code ≡ Syntax → (unit : UnitTree) →
+        ¬ IsTreeOf tokens.now unit) }
+    ensures too_deep_passes_a_limit { IfErr result (λ fault. fault.code ≡ TooDeep →
+        IsLimitPassed tokens.now fault.at) }
+    ensures unknown_word { IfErr result (λ fault. fault.code ≡ UnknownDirective →
+        IsRefusedLine tokens.now fault) }
+    ensures bad_clause { IfErr result (λ fault. fault.code ≡ BadClause →
+        IsRefusedLine tokens.now fault ⊎ IsBadAtomic tokens.now fault.at) }
+    ensures no_other_refusal { IfErr result (λ fault. (fault ≡ no_memory) ⊎ (fault.code ≡ Syntax)
+        ⊎ (fault.code ≡ TooDeep) ⊎ (fault.code ≡ UnknownDirective) ⊎ (fault.code ≡ BadClause)) }
 {
+    parts_are_sound();
+    parts_are_read_again();
+    parts_stop_so();
+    globals();
     unit(alloc, tokens)
 }
 
 /// Two well-formed units that have the same tokens are one.
 pub fn one_tree()
-    ensures { (unit other : UnitTree) → IsUnit unit → IsUnit other → unit_spelling unit ≡ unit_spelling other → unit ≡ other }
-{}
+    ensures { (unit other : UnitTree) → IsUnit unit → IsUnit other → unit_spelling unit
+        ≡ unit_spelling other → unit ≡ other }
+{
+    parts_are_read_again();
+    globals();
+}
 
 /// The unit that these tokens are.
 #[tactic(auto, unfolding(crate::specs::UnitReading::unit_at))]
@@ -89,8 +104,11 @@ fn unit(alloc: Global, tokens: &[Token]) -> Result<Unit, SourceFault>
 
 /// Declarations and functions up to the end of the source, and its span.
 fn items(alloc: Global, tokens: &[Token]) -> Result<(Vec<Item>, Span), SourceFault>
-    ensures { Reads (λ x. (map view_item x.0.items, x.1, [])) result (until take_end (item_at accepted) (length tokens.now) tokens.now) }
+    ensures { Reads (λ x. (map view_item x.0.items, x.1, [])) result
+        (until take_end (item_at accepted) (length tokens.now) tokens.now) }
 {
+    parts_are_sound();
+    globals();
     let mut items = Vec::new(alloc);
     let mut rest = tokens;
     'items: loop {
@@ -148,7 +166,7 @@ fn int_after(alloc: Global, int: Span, tokens: &[Token]) -> Result<(Item, &[Toke
     if let Some((open_paren, rest)) = take_mark(rest, Punctuator::OpenParen) {
         return prototype_after(alloc, ResultType::Int(int), name, open_paren, rest);
     }
-    let (declaration, rest) = declaration_after(alloc, Initial::Constant, int, name, rest)?;
+    let (declaration, rest) = global_declaration(alloc, int, name, rest)?;
     Ok((Item::Declaration(declaration), rest))
 }
 
@@ -161,7 +179,8 @@ fn prototype_after(
     open_paren: Span,
     tokens: &[Token],
 ) -> Result<(Item, &[Token]), SourceFault>
-    ensures { Reads (λ x. (view_item x.0, x.1.now)) result (prototype_after accepted result_type name open_paren tokens.now) }
+    ensures { Reads (λ x. (view_item x.0, x.1.now)) result
+        (prototype_after accepted result_type name open_paren tokens.now) }
 {
     let (head, rest) = head_after(alloc, result_type, name, open_paren, tokens)?;
     function_after(alloc, head, rest)
@@ -174,10 +193,17 @@ fn function_after(
     head: Box<FunctionHead>,
     tokens: &[Token],
 ) -> Result<(Item, &[Token]), SourceFault>
-    ensures { Reads (λ x. (view_item x.0, x.1.now)) result (function_after accepted (view_head head.value) tokens.now) }
+    ensures { Reads (λ x. (view_item x.0, x.1.now)) result
+        (function_after accepted (view_head head.value) tokens.now) }
 {
     if let Some((semicolon, rest)) = take_mark(tokens, Punctuator::Semicolon) {
-        return Ok((Item::Prototype(Box::into_inner(head), semicolon), rest));
+        return Ok((
+            Item::Prototype {
+                head: Box::into_inner(head),
+                semicolon,
+            },
+            rest,
+        ));
     }
     if !are_named(&head.parameters) {
         return Err(syntax(tokens));

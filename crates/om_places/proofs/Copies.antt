@@ -22,17 +22,17 @@ use Rattle.om_resolved.specs.declared.resolved.Side.{Side}
 use Rattle.om_resolved.specs.Beside.{CopiesBehind, Everywhere, EverywhereIn, EverywhereInParts, IsCopyBehind, TreeCopiesBehind}
 use Rattle.om_resolved.specs.ResolvedTree as resolved
 use Rattle.om_resolved.specs.ResolvedTree.{ResolvedClauseTree, ResolvedFunctionTree, ResolvedLoopTree, ResolvedPartsTree, ResolvedStatementTree, ResolvedUpdateTree}
-use Rattle.om_scope.specs.DirectiveRules.{in_construct, names_in, parallel_in, traits_of}
-use Rattle.om_scope.specs.Grouping.{Grouped, grouped, parts_of}
-use Rattle.om_scope.specs.Loops.{Loop, loop_in}
-use Rattle.om_scope.specs.Perhaps.{all_along, each}
-use Rattle.om_scope.specs.Resolution.{resolved_expression, variable_named}
-use Rattle.om_scope.specs.Scopes.{Scopes, after_function, after_item, after_parameters, declarators_of, definitions_of, file_scope, inside, parameters_of}
-use Rattle.om_scope.specs.Sharing.{is_parallel}
-use Rattle.om_scope.specs.StatementResolution.{atomic_of, construct_of, flushed, has_nowait, kind_of, loop_construct_of, parallel_of, resolved_alone, resolved_clause, resolved_clauses, resolved_declarators, resolved_item, resolved_listed, resolved_loop, resolved_loop_construct, resolved_parts, resolved_perhaps, resolved_plain_construct, resolved_repeated, resolved_start, resolved_statement, resolved_statements, schedule_of, sections_construct_of, with_update}
-use Rattle.om_scope.specs.StatementRules.{after_for_start, after_statement, begins_part, in_loop, parts_behind, round_bounds}
-use Rattle.om_scope.specs.UnitResolution.{item_functions, resolution_of, resolved_function}
-use Rattle.om_scope.specs.Updates.{statement_side, update_of}
+use Rattle.om_rules.specs.DirectiveRules.{in_construct, names_in, parallel_in, traits_of}
+use Rattle.om_rules.specs.Grouping.{Grouped, grouped, parts_of}
+use Rattle.om_rules.specs.Loops.{Loop, loop_in}
+use Rattle.om_rules.specs.Perhaps.{all_along, each}
+use Rattle.om_rules.specs.Resolution.{resolved_expression, variable_named}
+use Rattle.om_rules.specs.Scopes.{Scopes, after_function, after_item, after_parameters, declarators_of, definitions_of, file_scope, inside, parameters_of}
+use Rattle.om_rules.specs.Sharing.{is_parallel}
+use Rattle.om_rules.specs.StatementResolution.{atomic_of, construct_of, flushed, has_nowait, kind_of, loop_construct_of, parallel_of, resolved_alone, resolved_clause, resolved_clauses, resolved_declarators, resolved_item, resolved_listed, resolved_loop, resolved_loop_construct, resolved_parts, resolved_perhaps, resolved_plain_construct, resolved_repeated, resolved_start, resolved_statement, resolved_statements, schedule_of, sections_construct_of, with_update}
+use Rattle.om_rules.specs.StatementRules.{after_for_start, after_statement, begins_part, in_loop, parts_behind, round_bounds}
+use Rattle.om_rules.specs.UnitResolution.{item_functions, resolution_of, resolved_function}
+use Rattle.om_rules.specs.Updates.{statement_side, update_of}
 use Rattle.om_tree.specs.Tree.{ExpressionTree, FunctionTree, ItemTree, Declaration, Prototype, Function, StatementTree, LocalDeclaration, Block, Empty, Expression, If, IfElse, While, Do, For, Return, Break, Continue, Construct, StandAlone, Sections, Section, StatementsTree, NoStatements, Statement, statements}
 
 -- in a statement each region's copies stand behind its beginning

@@ -5,7 +5,7 @@ use Rattle.om_lexer.specs.Sources.{IsTokens}
 use Rattle.om_places.specs.Behind.{UnitNamesBehind}
 use Rattle.om_resolved.specs.Beside.{TreeCopiesBehind}
 use Rattle.om_resolved.specs.ResolvedTree.{ResolvedTree}
-use Rattle.om_scope.specs.UnitResolution.{resolution_of}
+use Rattle.om_rules.specs.UnitResolution.{resolution_of}
 use Rattle.om_tree.specs.Spelling.{unit_spelling}
 use Rattle.om_tree.specs.Tree.{UnitTree}
 

@@ -62,13 +62,3 @@ first_goes_on items i more is has = rw (item_is items i more is, has) refl
 
 pub item_shorter : {E : Type 0} (items : List (ClauseItem E)) (i : ClauseItem E) (more : List (ClauseItem E)) → take_item items ≡ some (i, more) → length more + 1 ≡ length items
 item_shorter items i more is = omega (arith, ap length (item_is items i more is))
-
-pub first_is_only : {E : Type 0} (items : List (ClauseItem E)) → length (in_items items) ≤ 1 → in_items items ≡ option_to_list (first_expression items)
-unfolding first_expression
-first_is_only [] few = refl
-first_is_only {E} (i ∷ items) few = go (clause_expression i.clause) (in_items items) refl few (first_is_only items)
-  where
-    go : (o : Option E) (es : List E) → in_items items ≡ es → length (option_to_list o ++ in_items items) ≤ 1 → (length (in_items items) ≤ 1 → in_items items ≡ option_to_list (first_expression items)) → option_to_list o ++ in_items items ≡ option_to_list (or_else o (first_expression items))
-    go None es is few later = later few
-    go (Some e) [] is few later = rw is refl
-    go (Some e) (x ∷ es) is few later = let two = ap length is in absurd (omega (arith, two, few))

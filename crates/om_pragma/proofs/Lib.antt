@@ -16,5 +16,6 @@ pub mod OneAnswer
 pub mod Values
 pub mod Mapping
 pub mod OneExpression
+pub mod Standing
 pub mod Fillings
 pub mod Promises

@@ -21,7 +21,7 @@ use Rattle.om_pragma.specs.declared.kind.DirectiveKind.{DirectiveKind}
 use Rattle.om_pragma.specs.declared.kind.DirectiveKind.TheVariants as words
 use Rattle.om_pragma.specs.Expressions.{IsClosed, with_tokens}
 use Rattle.om_pragma.specs.Spelling.{token, name_spelling, opening_spelling, item_spelling, comma_spelling, clause_spelling, directive_spelling}
-use Rattle.om_pragma.specs.Table.{may_stand, kinds_of, IsBetween, IsClause, IsItem, EachBehind, IsDirectiveOf}
+use Rattle.om_pragma.specs.Table.{may_stand, kinds_of, IsBetween, IsClause, IsItem, EachBehind, IsDirective, IsDirectiveOf}
 use Rattle.om_pragma.specs.Words.{is_word, directive_word, clause_word}
 
 -- the words of a directive go on with this token: to those of a combined one, to the name of `critical` or to the list of `flush`
@@ -47,6 +47,11 @@ pub record StandsClause (tokens : List Token) (name : DirectiveName) (before : L
   pub whole_name : IsWhole name behind_name
   pub formed : EachBehind (IsItem IsClosed name) [] before
   pub between : IsBetween before comma
+
+-- each clause of a directive stands where one is expected
+abbrev pub ClausesStand : Type 0
+ClausesStand = (d : Directive (List Token)) (front rest : List (ClauseItem (List Token))) (i : ClauseItem (List Token)) → IsDirective IsClosed d → d.clauses ≡ front ++ i ∷ rest
+    → StandsClause (directive_spelling (λ e. e) d) d.name front (clause_spelling (λ e. e) i.clause ++ (flat_map (item_spelling (λ e. e)) rest ++ token kinds.DirectiveEnd d.end ∷ []))
 
 -- S5: where the directive must stand, a word stands that the table does not have as one.
 pub record IsUnknownDirective (tokens : List Token) (at : ℕ) : Type 0 where

@@ -1,13 +1,13 @@
 //! Laws of directives and of their refusals, over the definitions alone.
 
-ghost use Rattle.std.specs.Prelude.{◌≡◌, ℕ, List, None, Result, Some};
+ghost use Rattle.std.specs.Prelude.{◌≡◌, ℕ, ◌≤◌, List, length, None, Result, Some};
 ghost use Rattle.om_lexer.specs.declared.fault.FaultCode.{FaultCode};
 ghost use Rattle.om_lexer.specs.declared.fault.SourceFault.{SourceFault};
 ghost use Rattle.om_lexer.specs.declared.token.Token.{Token};
 ghost use Rattle.om_pragma.specs.declared.tree.Directive.{Directive};
-ghost use Rattle.om_pragma.specs.Expressions.{IsClosed};
+ghost use Rattle.om_pragma.specs.Expressions.{expressions, IsClosed};
 ghost use Rattle.om_pragma.specs.Reading.{directive_at, expression_before};
-ghost use Rattle.om_pragma.specs.Refusals.{EndsOnce, IsAnswer, IsWordFault};
+ghost use Rattle.om_pragma.specs.Refusals.{ClausesStand, EndsOnce, IsAnswer, IsWordFault};
 ghost use Rattle.om_pragma.specs.Spelling.{directive_spelling};
 ghost use Rattle.om_pragma.specs.Table.{IsDirective, IsDirectiveOf};
 ghost use Rattle.om_pragma.specs.Values.{StandsAsValue, IsFirstValue};
@@ -15,6 +15,16 @@ ghost use Rattle.om_pragma.specs.Values.{StandsAsValue, IsFirstValue};
 /// Two directives that have the same tokens are one.
 pub fn one_directive()
     ensures { (d other : Directive (List Token)) → IsDirective IsClosed d → IsDirective IsClosed other → directive_spelling (λ e. e) d ≡ directive_spelling (λ e. e) other → d ≡ other }
+{}
+
+/// A directive has one expression at most.
+pub fn one_expression()
+    ensures { (d : Directive (List Token)) → IsDirective IsClosed d → length (expressions d) ≤ 1 }
+{}
+
+/// Each clause of a directive stands where a clause is expected.
+pub fn clauses_stand()
+    ensures { ClausesStand }
 {}
 
 /// S5 and S6 stand at one place at most, and at none in a directive.

@@ -21,7 +21,7 @@ pub use clause::{
     ReductionOperator, Schedule, ScheduleKind, Sharing, Value, ValueClause,
 };
 pub use kind::DirectiveKind;
-pub use laws::{first_value, one_answer, one_directive, one_fault};
+pub use laws::{clauses_stand, first_value, one_answer, one_directive, one_expression, one_fault};
 pub use name::{Name, NameList, Number};
 pub use reading::directive;
 pub use tree::{AtomicKind, Directive, DirectiveName};

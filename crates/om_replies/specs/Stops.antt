@@ -1,4 +1,4 @@
--- The texts of breaks, of watches, and of why a run stopped.
+-- The texts of breaks, of watches, of why a run stopped, and of free runs.
 use Rattle.std.specs.Prelude.{ℕ, List, ◌++◌, Bool, true, false, codes, decimal}
 use Rattle.om_code.specs.declared.raw.Raw.{Raw}
 use Rattle.om_code.specs.Faults.{fault_number}
@@ -32,3 +32,7 @@ stop_text program stop.Stuck = codes "stuck"
 -- how many steps a run made, and why it stopped
 abbrev pub ran_text : Raw → ℕ → Stop → List ℕ
 ran_text program steps why = codes "ran " ++ decimal steps ++ codes " " ++ stop_text program why ++ codes "\n"
+
+-- how many steps a free run made
+abbrev pub freed_text : ℕ → List ℕ
+freed_text steps = codes "freed " ++ decimal steps ++ codes "\n"

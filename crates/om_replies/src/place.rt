@@ -12,13 +12,13 @@ fn push_context(text: &mut Vec<u8>, context: &Context, line: u32) -> Result<(), 
     ensures { OnOk result (text.new.items ≡ text.old.items ++ context_text context.now line) }
 {
     text.extend_from_slice(b"task ")?;
-    context.task.text(text)?;
+    context.task.get().text(text)?;
     text.extend_from_slice(b" team ")?;
-    context.team.name.text(text)?;
+    context.team.get().name.text(text)?;
     text.extend_from_slice(b" number ")?;
-    push_number(text, context.team.number)?;
+    push_number(text, context.team.get().number)?;
     text.extend_from_slice(b" of ")?;
-    push_number(text, context.team.size)?;
+    push_number(text, context.team.get().size)?;
     text.extend_from_slice(b" line ")?;
     push_number(text, line)
 }

@@ -1,7 +1,7 @@
-//! Breaks, watches, and why a run stopped.
+//! Breaks, watches, why a run stopped, and what a free run did.
 
 ghost use Rattle.std.specs.Prelude.{◌≡◌, ◌++◌, OnOk};
-ghost use Rattle.om_replies.specs.Stops.{break_text, watch_text, deleted_text, by_worker, stop_text, ran_text};
+ghost use Rattle.om_replies.specs.Stops.{break_text, watch_text, deleted_text, by_worker, stop_text, ran_text, freed_text};
 
 use crate::number::push_number;
 use crate::object::push_variable;
@@ -104,5 +104,14 @@ pub fn push_ran(
     push_number(text, steps)?;
     text.extend_from_slice(b" ")?;
     push_stop(text, program, stop)?;
+    text.extend_from_slice(b"\n")
+}
+
+/// Appends the reply to `free K`: how many steps were made.
+pub fn push_freed(text: &mut Vec<u8>, steps: u64) -> Result<(), AllocError>
+    ensures { OnOk result (text.new.items ≡ text.old.items ++ freed_text steps) }
+{
+    text.extend_from_slice(b"freed ")?;
+    push_number(text, steps)?;
     text.extend_from_slice(b"\n")
 }

@@ -1,9 +1,8 @@
 -- What an instruction asks of the state, and what comes of the values there.
-use Rattle.std.specs.Prelude.{ℕ, Option, None, Some, List, [], ◌∷◌}
+use Rattle.std.specs.Prelude.{ℕ, Option, List, [], ◌∷◌}
 use Rattle.om_foot.specs.declared.footprint.Access.{Access}
 use Rattle.om_code.specs.declared.frame.Operand.{Operand}
 use Rattle.om_code.specs.declared.frame.Cell.TheVariants as cell
-use Rattle.om_cells.specs.declared.edit.Edit.{Edit}
 use Rattle.om_cells.specs.declared.edit.Edit.TheVariants.{Go}
 use Rattle.om_cells.specs.declared.step.Update.{Update}
 use Rattle.om_cells.specs.declared.value.Val.{Val}

@@ -4,11 +4,11 @@ ghost use Rattle.std.specs.Prelude.{◌≡◌, ◌++◌, ◌∷◌, [], ◌≤�
 ghost use Rattle.om_row.specs.Objects.{read, write, object_of, slot_cells, given_cells, own_slot, own_cells, home_at, home_from, home_for, homes_for, homes_in, innermost, group_name, group_in, is_in_region, is_misplaced_in, is_misplaced};
 ghost use Rattle.om_foot.specs.declared.object.Obj.TheVariants as obj;
 
-use om_cells::{Construct, Context, Home, Kind};
+use om_cells::{Construct, Context, Home, Kind, SharedPile};
 use om_code::instruction::Place;
 use om_code::raw::{Slot, Source};
 use om_foot::{Access, Mode, Name, Obj};
-use om_seq::{Pile, Seq};
+use om_seq::Seq;
 use std::alloc::{AllocError, Global};
 
 /// Appends an access.
@@ -32,8 +32,12 @@ pub fn object_of(context: &Context, place: Place, index: u32) -> Obj
     match place {
         Place::Global(variable) => Obj::Global { variable, index },
         Place::Slot(slot) => {
-            let home = home_at(context.frame.homes.as_slice(), slot);
-            home.cell(&context.task, context.frame.ordinal, slot, index)
+            let frame = &context.frame;
+            let task = context.task.get();
+            match frame.homes.get().as_slice().get(slot as usize) {
+                Some(home) => home.cell(task, frame.ordinal, slot, index),
+                None => Home::Own.cell(task, frame.ordinal, slot, index),
+            }
         }
     }
 }
@@ -57,9 +61,9 @@ pub fn name_slot(
 ) -> Result<(), AllocError>
     ensures { OnOk result (names.new ≡ names.old ++ slot_cells context.now.task context.now.frame.ordinal slot (home_at context.now.frame.homes slot) 0 cells) }
 {
-    let home = &home_at(context.frame.homes.as_slice(), slot);
+    let home = &home_at(context.frame.homes.get().as_slice(), slot);
     for index in 0..cells {
-        let cell = home.cell(&context.task, context.frame.ordinal, slot, index);
+        let cell = home.cell(context.task.get(), context.frame.ordinal, slot, index);
         name(names, cell, Mode::Write)?;
     }
     Ok(())
@@ -95,7 +99,7 @@ fn name_own(
 ) -> Result<(), AllocError>
     ensures { OnOk result (own.new ≡ own.old ++ own_slot context.now slot cells (home_at context.now.frame.homes slot)) }
 {
-    match home_at(context.frame.homes.as_slice(), slot) {
+    match home_at(context.frame.homes.get().as_slice(), slot) {
         Home::Own => name_slot(own, context, slot, cells),
         Home::Elsewhere { .. } => Ok(()),
     }
@@ -166,9 +170,9 @@ pub fn homes_in(alloc: Global, context: &Context, slots: &[Slot]) -> Result<Seq<
     let frame = &context.frame;
     homes_for(
         alloc,
-        &context.task,
+        context.task.get(),
         frame.ordinal,
-        frame.homes.as_slice(),
+        frame.homes.get().as_slice(),
         slots,
     )
 }
@@ -204,11 +208,11 @@ pub fn group_of(context: &Context) -> Option<Name>
             return *name;
         }
     }
-    context.group
+    *context.group.get()
 }
 
 /// Whether a worksharing, masked or critical region is open.
-fn is_in_region(constructs: &Pile<Construct>) -> bool
+fn is_in_region(constructs: &SharedPile<Construct>) -> bool
     ensures { result ≡ is_in_region constructs.now }
 {
     for depth in 0..constructs.len() {

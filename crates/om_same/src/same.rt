@@ -2,6 +2,7 @@
 
 ghost use Rattle.std.specs.Prelude.{◌≡◌, ◌↔◌, IsTrue};
 
+use om_cells::{Shared, SharedPile};
 use om_seq::{Pile, Seq};
 
 /// A type whose values can be told apart at run time: every part of them counts.
@@ -30,6 +31,18 @@ impl<T: Same> Same for Option<T> {
             (Some(one), Some(two)) => one.is_same(two),
             _ => false,
         }
+    }
+}
+
+impl<T: Same> Same for Shared<T> {
+    fn is_same(&self, other: &Shared<T>) -> bool {
+        self.get().is_same(other.get())
+    }
+}
+
+impl<T: Same> Same for SharedPile<T> {
+    fn is_same(&self, other: &SharedPile<T>) -> bool {
+        self.shares().is_same(other.shares())
     }
 }
 

@@ -4,20 +4,20 @@ use Rattle.om_lexer.specs.declared.fault.SourceFault.{SourceFault}
 use Rattle.om_tree.specs.Tree.{DeclaratorTree, ForStartTree, Nothing, StartExpression, StartDeclaration, StatementTree, LocalDeclaration, Block, Empty, Expression, If, IfElse, While, Do, For, Return, Break, Continue, Construct, StandAlone, Sections, Section, StatementsTree, NoStatements, Statement}
 use Rattle.om_pragma.specs.declared.name.Name as names
 use Rattle.om_tree.specs.declared.tree.Parameter.{Parameter}
-use Rattle.om_scope.specs.declared.flow.Flow.{Flow}
+use Rattle.om_rules.specs.declared.flow.Flow.{Flow}
 use Rattle.om_resolved.specs.declared.resolved.Variable.TheVariants as variables
-use Rattle.om_scope.specs.declared.symbols.Meaning.TheVariants as meanings
-use Rattle.om_scope.specs.declared.symbols.Region.{Region}
+use Rattle.om_rules.specs.declared.meaning.Meaning.TheVariants as meanings
+use Rattle.om_rules.specs.declared.region.Region.{Region}
 use Rattle.om_resolved.specs.declared.resolved.Shape.TheVariants as shapes
-use Rattle.om_scope.specs.Faults.{first_of}
-use Rattle.om_scope.specs.Outcomes.{Refuses}
-use Rattle.om_scope.specs.Scopes.{Scope, Scopes, inside, outside, plain, within, declarators_of, shape_of, after_locals, after_parameter_name, after_parameters}
-use Rattle.om_scope.specs.Perhaps.{◌>>=◌}
+use Rattle.om_rules.specs.Faults.{first_of}
+use Rattle.om_rules.specs.Outcomes.{Refuses}
+use Rattle.om_rules.specs.Scopes.{Scope, Scopes, inside, outside, plain, within, declarators_of, shape_of, after_locals, after_parameter_name, after_parameters}
+use Rattle.om_rules.specs.Perhaps.{◌>>=◌}
 use Rattle.om_resolved.specs.ResolvedTree as resolved
 use Rattle.om_resolved.specs.ResolvedTree.{ResolvedStatementTree, ResolvedStatementsTree}
-use Rattle.om_scope.specs.StatementResolution.{resolved_statement, resolved_statements}
-use Rattle.om_scope.specs.StatementRules.{after_for_start, after_statement, after_statements, part_breaches, parts_behind, sections_breaches, statement_breaches, statements_breaches}
-use Rattle.om_scope.proofs.Firsts.{first_of_left}
+use Rattle.om_rules.specs.StatementResolution.{resolved_statement, resolved_statements}
+use Rattle.om_rules.specs.StatementRules.{after_for_start, after_statement, after_statements, part_breaches, parts_behind, sections_breaches, statement_breaches, statements_breaches}
+use Rattle.om_rules.specs.InRow.{first_of_left}
 use Rattle.om_scope.proofs.Statements.{Made, made_step, made_whole}
 
 -- in the same construct or block still

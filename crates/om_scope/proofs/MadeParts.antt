@@ -4,11 +4,11 @@ use Rattle.std.specs.Prelude.{if◌then◌else◌, ◌||◌, nat_eq}
 use Rattle.om_tree.specs.Tree.{StatementTree, StatementsTree}
 use Rattle.om_tree.specs.Tree as trees
 use Rattle.om_resolved.specs.ResolvedTree.{ResolvedStatementTree, ResolvedStatementsTree, NoStatements, Statement, Part, parts}
-use Rattle.om_scope.specs.Grouping.{Grouped, no_items, grouped, parts_of, with_last, with_item}
-use Rattle.om_scope.specs.Perhaps.{◌>>=◌}
-use Rattle.om_scope.specs.Scopes.{Scopes, inside}
-use Rattle.om_scope.specs.StatementResolution.{resolved_parts, resolved_statement}
-use Rattle.om_scope.specs.StatementRules.{begins_part, has_section, parts_behind}
+use Rattle.om_rules.specs.Grouping.{Grouped, no_items, grouped, parts_of, with_last, with_item}
+use Rattle.om_rules.specs.Perhaps.{◌>>=◌}
+use Rattle.om_rules.specs.Scopes.{Scopes, inside}
+use Rattle.om_rules.specs.StatementResolution.{resolved_parts, resolved_statement}
+use Rattle.om_rules.specs.StatementRules.{begins_part, has_section, parts_behind}
 
 -- these statements before those
 abbrev pub join : ResolvedStatementsTree → ResolvedStatementsTree → ResolvedStatementsTree

@@ -1,6 +1,6 @@
 -- Resolved statements, as a loop makes them.
 use Rattle.std.proofs.Common.{◌≡◌, List, [], ◌∷◌, ◌++◌, Option, None, Some, refl, sym, ap, ◌∙◌}
-use Rattle.om_scope.specs.Perhaps.{◌>>=◌}
+use Rattle.om_rules.specs.Perhaps.{◌>>=◌}
 use Rattle.om_resolved.specs.ResolvedTree as resolved
 use Rattle.om_resolved.specs.ResolvedTree.{ResolvedStatementTree, ResolvedStatementsTree, NoStatements, Statement}
 

@@ -1,29 +1,20 @@
--- Parts of statements and expressions that have a function of their own.
-use Rattle.std.specs.Prelude.{pos, List, Option, Some, if◌then◌else◌}
+-- Parts of statements that have a function of their own.
+use Rattle.std.specs.Prelude.{List, Option, Some, if◌then◌else◌}
 use Rattle.om_lexer.specs.declared.token.Span.{Span}
-use Rattle.om_tree.specs.declared.tree.AssignOperator.{AssignOperator}
 use Rattle.om_tree.specs.Tree.{ExpressionTree, DeclarationTree}
 use Rattle.om_scope.specs.declared.assembly.Around.{Around}
 use Rattle.om_scope.specs.declared.assembly.Around.TheVariants as arounds
-use Rattle.om_resolved.specs.declared.resolved.UnaryOperator.{UnaryOperator}
-use Rattle.om_scope.specs.declared.symbols.RegionKind.{RegionKind}
-use Rattle.om_scope.specs.DirectiveRules.{Listed, in_kind}
-use Rattle.om_scope.specs.Perhaps.{◌>>=◌}
-use Rattle.om_scope.specs.Places.{expression_first}
-use Rattle.om_scope.specs.Resolution.{TargetTree, assigned, resolved_expression}
+use Rattle.om_rules.specs.declared.region.RegionKind.{RegionKind}
+use Rattle.om_rules.specs.DirectiveRules.{Listed, in_kind}
+use Rattle.om_rules.specs.Perhaps.{◌>>=◌}
+use Rattle.om_rules.specs.Places.{expression_first}
+use Rattle.om_rules.specs.Resolution.{resolved_expression}
 use Rattle.om_resolved.specs.ResolvedTree as resolved
-use Rattle.om_resolved.specs.ResolvedTree.{ResolvedClauseTree, ResolvedExpressionTree, ResolvedStatementTree}
-use Rattle.om_scope.specs.Scopes.{Scopes, declarators_of}
-use Rattle.om_scope.specs.Sharing.{is_parallel}
-use Rattle.om_scope.specs.StatementResolution.{resolved_declarators, resolved_perhaps, with_update}
-use Rattle.om_scope.specs.Updates.{update_of}
-
--- `++` or `--` before a target, as an assignment of 1
-abbrev pub step_of : AssignOperator → Option TargetTree → Option ResolvedExpressionTree
-step_of operator target = target >>= λ t. Some (assigned t operator (resolved.Constant (pos 1)))
-
-abbrev pub unary_of : UnaryOperator → Option ResolvedExpressionTree → Option ResolvedExpressionTree
-unary_of operator operand = operand >>= λ e. Some (resolved.Unary operator e)
+use Rattle.om_resolved.specs.ResolvedTree.{ResolvedClauseTree, ResolvedStatementTree}
+use Rattle.om_rules.specs.Scopes.{Scopes, declarators_of}
+use Rattle.om_rules.specs.Sharing.{is_parallel}
+use Rattle.om_rules.specs.StatementResolution.{resolved_declarators, resolved_perhaps, with_update}
+use Rattle.om_rules.specs.Updates.{update_of}
 
 -- of a declaration in a block
 abbrev pub resolved_declaration : Scopes → DeclarationTree → Option ResolvedStatementTree

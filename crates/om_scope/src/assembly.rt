@@ -5,18 +5,17 @@ ghost use Rattle.om_lexer.specs.declared.token.Span.{Span};
 ghost use Rattle.om_tree.specs.View.{view_directive, view_expression};
 ghost use Rattle.om_pragma.specs.Expressions.{map_clause, map_item};
 ghost use Rattle.om_pragma.specs.Questions.{atomic_kind};
-ghost use Rattle.om_scope.specs.Checks.{Checks};
+ghost use Rattle.om_rules.specs.Checks.{Checks};
 ghost use Rattle.om_scope.specs.Parts.{with_around};
 ghost use Rattle.om_resolved.specs.ResolvedTree as resolved;
 ghost use Rattle.om_resolved.specs.ResolvedTree.{ResolvedClauseTree, ResolvedStatementTree};
 ghost use Rattle.om_resolved.specs.ResolvedView.{view_resolved_clause, view_resolved_loop, view_resolved_part, view_resolved_statement};
-ghost use Rattle.om_scope.specs.StatementResolution.{atomic_of, clause_schedule, construct_of, critical_name, has_default, has_nowait, loop_construct_of, parallel_of, plain_schedule, schedule_in, schedule_of, sections_construct_of, task_of};
+ghost use Rattle.om_rules.specs.StatementResolution.{atomic_of, clause_schedule, construct_of, critical_name, has_default, has_nowait, loop_construct_of, parallel_of, plain_schedule, schedule_in, schedule_of, sections_construct_of, task_of, with_update};
+ghost use Rattle.om_rules.specs.Updates.{update_of};
 
-use crate::construct::traits_of;
-use crate::declaration::copy_of;
-use crate::symbols::is_parallel;
-use crate::update::with_update;
+use om_forms::update_of;
 use om_lexer::{SourceFault, Span};
+use om_names::{is_parallel, traits_of};
 use om_pragma::{
     AtomicKind, Clause, ClauseItem, ClauseKind, Directive, DirectiveName, Schedule, ScheduleKind,
 };
@@ -26,6 +25,7 @@ use om_resolved::{
 };
 use om_seq::Seq;
 use om_tree::{Expression, Name};
+use om_uses::copy_of;
 use std::alloc::{AllocError, Global};
 
 /// Whether a directive is `nowait`.
@@ -160,7 +160,7 @@ pub struct Setting {
 }
 
 /// What a construct puts round its statement.
-#[tactic(auto, unfolding(crate::specs::StatementResolution::construct_of))]
+#[tactic(auto, unfolding(om_rules::specs::StatementResolution::construct_of))]
 fn around_of(
     alloc: Global,
     setting: Setting,
@@ -185,15 +185,7 @@ fn around_of(
         DirectiveName::Critical(_, name) => around_critical(alloc, name),
         DirectiveName::Taskgroup(_) => Ok(Around::Construct(ConstructKind::Taskgroup)),
         DirectiveName::Atomic(_) => Ok(around_atomic(atomic_kind(directive), setting.side)),
-        DirectiveName::For(_) => Ok(Around::Nothing),
-        DirectiveName::Sections(_) => Ok(Around::Nothing),
-        DirectiveName::Section(_) => Ok(Around::Nothing),
-        DirectiveName::ParallelFor(_, _) => Ok(Around::Nothing),
-        DirectiveName::ParallelSections(_, _) => Ok(Around::Nothing),
-        DirectiveName::Barrier(_) => Ok(Around::Nothing),
-        DirectiveName::Taskwait(_) => Ok(Around::Nothing),
-        DirectiveName::Taskyield(_) => Ok(Around::Nothing),
-        DirectiveName::Flush(_, _) => Ok(Around::Nothing),
+        _ => Ok(Around::Nothing),
     }
 }
 
@@ -212,6 +204,18 @@ fn with_around(
         Around::Construct(kind) => ResolvedStatement::Construct(at, kind, clauses, body),
         Around::Update(side) => with_update(at, side, body),
         Around::Nothing => Box::into_inner(body),
+    }
+}
+
+/// An `atomic` round the update that a statement is, whose target stands on that side. What is no
+/// update becomes an empty statement.
+fn with_update(at: Span, side: Side, body: Box<ResolvedStatement>) -> ResolvedStatement
+    ensures { view_resolved_statement result ≡ with_update at (update_of side (view_resolved_statement body.value)) }
+{
+    let mut body = body;
+    match update_of(side, &mut body) {
+        Some(update) => ResolvedStatement::Update(at, update),
+        None => ResolvedStatement::Empty(at),
     }
 }
 
@@ -324,11 +328,7 @@ fn clause_schedule(otherwise: ResolvedSchedule, clause: &Clause<Expression>) -> 
 {
     match clause {
         Clause::Schedule(_, schedule) => schedule_in(schedule),
-        Clause::Value(_, _, _) => otherwise,
-        Clause::Default(_, _) => otherwise,
-        Clause::Data(_, _, _) => otherwise,
-        Clause::Reduction(_, _) => otherwise,
-        Clause::Plain(_, _) => otherwise,
+        _ => otherwise,
     }
 }
 

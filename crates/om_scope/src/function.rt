@@ -4,31 +4,24 @@ ghost use Rattle.std.specs.Prelude.{◌≡◌, ◌++◌, ◌+◌, ◌<◌, OnOk,
 ghost use Rattle.std.specs.List.{flat_map, list_any};
 ghost use Rattle.std.specs.Str.{bytes_eq};
 ghost use Rattle.om_tree.specs.View.{view_function, view_head, view_parameters};
-ghost use Rattle.om_scope.specs.Checks.{Checks, ChecksExactly};
-ghost use Rattle.om_scope.specs.Scopes.{after_function, after_parameter, after_parameter_name, after_parameters, after_prototype, asks, inside, parameters_of, returns_value, signature_eq, signature_of};
-ghost use Rattle.om_scope.specs.Faults.{breaches_along};
+ghost use Rattle.om_rules.specs.Checks.{Checks, ChecksExactly};
+ghost use Rattle.om_rules.specs.Scopes.{after_function, after_parameter, after_parameter_name, after_parameters, after_prototype, asks, inside, parameters_of, returns_value, signature_eq, signature_of};
+ghost use Rattle.om_rules.specs.Faults.{breaches_along};
 ghost use Rattle.om_resolved.specs.ResolvedTree as resolved;
 ghost use Rattle.om_resolved.specs.ResolvedView.{view_resolved_function, view_resolved_statement};
-ghost use Rattle.om_scope.specs.UnitResolution.{named_parameter, parameter_variable, resolved_function, resolved_inside};
-ghost use Rattle.om_scope.specs.UnitRules.{body_breaches, definition_breaches, flow_of, function_breaches, head_breaches, is_other_main, is_redeclared, next_parameter, parameter_breaches, parameter_name_breaches, parameters_breaches, prototype_breaches};
+ghost use Rattle.om_rules.specs.UnitResolution.{named_parameter, parameter_variable, resolved_function, resolved_inside};
+ghost use Rattle.om_rules.specs.UnitRules.{body_breaches, definition_breaches, flow_of, function_breaches, head_breaches, is_other_main, is_redeclared, next_parameter, parameter_breaches, parameter_name_breaches, parameters_breaches, prototype_breaches};
 
-use crate::declaration::{check_new, copy_of, local_of};
-use crate::fault::refuse_if;
-use crate::flow::Flow;
-use crate::place::head_first;
 use crate::statement::resolve_statements;
-use crate::symbols::{Meaning, Signature, Symbols};
+use om_forms::head_first;
 use om_lexer::{FaultCode, SourceFault, Span};
+use om_names::Symbols;
 use om_resolved::{LocalVariable, ResolvedFunction, ResolvedStatement, Shape};
+use om_rules::{FUNCTION_LIMIT, Flow, Meaning, PARAMETER_LIMIT, Signature};
 use om_seq::Seq;
 use om_tree::{Function, FunctionHead, Name, Parameter, Parameters, ResultType};
+use om_uses::{check_new, copy_of, local_of, refuse_if};
 use std::alloc::{AllocError, Global};
-
-/// How many functions a source may define.
-pub const FUNCTION_LIMIT: usize = 256;
-
-/// How many parameters a function may have.
-pub const PARAMETER_LIMIT: usize = 16;
 
 /// Whether a function returns an `int`.
 fn returns_value(kind: &ResultType) -> bool
@@ -47,7 +40,7 @@ fn parameter_count(parameters: &Parameters) -> usize
     match parameters {
         Parameters::Nothing => 0,
         Parameters::Void(_) => 0,
-        Parameters::Listed(_, rest) => rest.len() + 1,
+        Parameters::Listed { rest, .. } => rest.len() + 1,
     }
 }
 
@@ -96,7 +89,7 @@ fn is_other_main(name: &[u8], signature: Signature) -> bool
 }
 
 /// The name and the signature of a function: S8, S9.
-#[tactic(auto, using(crate::proofs::Firsts::first_of_left))]
+#[tactic(auto, using(om_rules::specs::InRow::first_of_left))]
 fn check_head(symbols: &Symbols, head: &FunctionHead) -> Result<(), SourceFault>
     ensures { ChecksExactly result (head_breaches symbols.now (view_head head.now)) }
 {
@@ -142,7 +135,7 @@ fn declare_parameter_name(
 }
 
 /// Declares a parameter behind so many others: S8, S11.
-#[tactic(auto, using(crate::proofs::Firsts::first_of_left))]
+#[tactic(auto, using(om_rules::specs::InRow::first_of_left))]
 fn declare_parameter(
     alloc: Global,
     symbols: &mut Symbols,
@@ -183,7 +176,7 @@ fn declare_further_parameters(
 }
 
 /// Declares the parameters of a function.
-#[tactic(auto, using(crate::proofs::Firsts::first_of_left))]
+#[tactic(auto, using(om_rules::specs::InRow::first_of_left))]
 fn declare_parameters(
     alloc: Global,
     symbols: &mut Symbols,
@@ -197,7 +190,7 @@ fn declare_parameters(
     match parameters {
         Parameters::Nothing => Ok(()),
         Parameters::Void(_) => Ok(()),
-        Parameters::Listed(first, rest) => {
+        Parameters::Listed { first, rest } => {
             declare_parameter(alloc, symbols, found, 0, first)?;
             declare_further_parameters(alloc, symbols, found, rest.as_slice())
         }
@@ -205,7 +198,7 @@ fn declare_parameters(
 }
 
 /// A function that is declared and not defined.
-#[tactic(auto, using(crate::proofs::Firsts::first_of_left))]
+#[tactic(auto, using(om_rules::specs::InRow::first_of_left))]
 pub fn check_prototype(
     alloc: Global,
     symbols: &mut Symbols,
@@ -223,7 +216,7 @@ pub fn check_prototype(
 }
 
 /// That a definition is not one too many, that of no function before, and keeps the rules of its name.
-#[tactic(auto, using(crate::proofs::Firsts::first_of_left))]
+#[tactic(auto, using(om_rules::specs::InRow::first_of_left))]
 fn check_definition(symbols: &Symbols, head: &FunctionHead) -> Result<(), SourceFault>
     ensures { ChecksExactly result (definition_breaches symbols.now (view_head head.now)) }
 {
@@ -249,7 +242,7 @@ fn flow_of(head: &FunctionHead) -> Flow
 }
 
 /// Begins the definition of a function: its name is declared and defined.
-#[tactic(auto, using(crate::proofs::Firsts::first_of_left))]
+#[tactic(auto, using(om_rules::specs::InRow::first_of_left))]
 fn begin_definition(
     alloc: Global,
     symbols: &mut Symbols,
@@ -265,7 +258,7 @@ fn begin_definition(
 }
 
 /// The parameters and the statements of a function, in a scope of their own.
-#[tactic(auto, using(crate::proofs::Firsts::first_of_left))]
+#[tactic(auto, using(om_rules::specs::InRow::first_of_left))]
 fn resolve_inside(
     alloc: Global,
     symbols: &mut Symbols,
@@ -286,7 +279,7 @@ fn resolve_inside(
 }
 
 /// The definition of a function.
-#[tactic(auto, using(crate::proofs::Firsts::first_of_left), unfolding(crate::specs::UnitResolution::resolved_function))]
+#[tactic(auto, using(om_rules::specs::InRow::first_of_left), unfolding(om_rules::specs::UnitResolution::resolved_function))]
 pub fn resolve_function(
     alloc: Global,
     symbols: &mut Symbols,

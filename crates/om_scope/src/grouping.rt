@@ -1,14 +1,14 @@
 //! The items of `sections` in their parts (OpenMP API 5.2, section 11.3).
 
-ghost use Rattle.std.specs.Prelude.{◌≡◌, ◌<◌, ◌++◌, [], ◌∷◌, false, length, map, Box, List, Ok, OnOk};
+ghost use Rattle.std.specs.Prelude.{◌≡◌, ◌<◌, ◌++◌, [], ◌∷◌, false, length, map, Box, IfOk, List, Ok, OnOk};
 ghost use Rattle.std.specs.Global.{Global};
 ghost use Rattle.om_lexer.specs.declared.fault.SourceFault.{SourceFault};
 ghost use Rattle.om_tree.specs.View.{view_statement};
 ghost use Rattle.om_resolved.specs.ResolvedTree as resolved;
 ghost use Rattle.om_resolved.specs.ResolvedView.{view_resolved_part, view_resolved_statement};
-ghost use Rattle.om_scope.specs.Checks.{Checks};
-ghost use Rattle.om_scope.specs.Grouping.{with_item, with_last};
-ghost use Rattle.om_scope.specs.StatementRules.{begins_part, has_section};
+ghost use Rattle.om_rules.specs.Checks.{Checks};
+ghost use Rattle.om_rules.specs.Grouping.{with_item, with_last};
+ghost use Rattle.om_rules.specs.StatementRules.{begins_part, has_section};
 
 use om_lexer::SourceFault;
 use om_resolved::{ResolvedPart, ResolvedStatement};
@@ -27,22 +27,8 @@ fn has_section(item: &Statement) -> bool
     ensures { result ≡ has_section (view_statement item.now) }
 {
     match item {
-        Statement::Declaration(_) => false,
-        Statement::Block(..) => false,
-        Statement::Empty(_) => false,
-        Statement::Expression(..) => false,
-        Statement::If(..) => false,
-        Statement::IfElse(..) => false,
-        Statement::While(..) => false,
-        Statement::Do(..) => false,
-        Statement::For(..) => false,
-        Statement::Return(..) => false,
-        Statement::Break(..) => false,
-        Statement::Continue(..) => false,
-        Statement::Construct(..) => false,
-        Statement::StandAlone(_) => false,
-        Statement::Sections(..) => false,
-        Statement::Section(..) => true,
+        Statement::Section { .. } => true,
+        _ => false,
     }
 }
 
@@ -51,7 +37,7 @@ fn has_section(item: &Statement) -> bool
 fn extend(part: &mut ResolvedPart, item: ResolvedStatement) -> Result<(), AllocError>
     ensures { OnOk result (view_resolved_part part.new ≡ with_last (view_resolved_statement item) (view_resolved_part part.old)) }
 {
-    Ok(part.items.push(item)?)
+    push(&mut part.items, item)
 }
 
 /// Begins a part with an item.
@@ -62,9 +48,24 @@ fn begin(
 ) -> Result<(), AllocError>
     ensures { OnOk result (map view_resolved_part parts.new.items ≡ map view_resolved_part parts.old.items ++ resolved.Statement (view_resolved_statement item) resolved.NoStatements ∷ []) }
 {
+    let items = one(alloc, item)?;
+    push(parts, ResolvedPart { items })
+}
+
+/// A list of one item. When out of memory, the item is gone.
+fn one<T: Drop>(alloc: Global, item: T) -> Result<Vec<T>, AllocError>
+    ensures { IfOk result (λ made. made.items ≡ item ∷ []) }
+{
     let mut items = Vec::new(alloc);
     items.push(item)?;
-    Ok(parts.push(ResolvedPart { items })?)
+    Ok(items)
+}
+
+/// Adds an item behind those of a list. When out of memory, the item is gone.
+fn push<T: Drop>(items: &mut Vec<T>, item: T) -> Result<(), AllocError>
+    ensures { OnOk result (items.new.items ≡ items.old.items ++ item ∷ []) }
+{
+    Ok(items.push(item)?)
 }
 
 /// Adds an item to the last part.

@@ -2,30 +2,13 @@
 #![tactic(auto)]
 
 mod assembly;
-mod bounds;
-mod canonical;
-mod constant;
-mod construct;
-mod declaration;
-mod directive;
-mod expression;
-mod fault;
-mod flow;
+mod entering;
 mod function;
-mod globals;
 mod grouping;
-mod kept;
-pub mod laws;
-mod listed;
-mod names;
-mod nesting;
-mod place;
-mod print;
-mod sightings;
+mod head;
+mod simple;
 mod statement;
-mod symbols;
 mod unit;
-mod update;
 
-pub use globals::GLOBAL_CELL_LIMIT;
+pub use om_rules::GLOBAL_CELL_LIMIT;
 pub use unit::resolve;

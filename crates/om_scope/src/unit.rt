@@ -6,26 +6,29 @@ ghost use Rattle.om_lexer.specs.Faults.{no_memory};
 ghost use Rattle.om_tree.specs.Formed.{IsUnit};
 ghost use Rattle.om_tree.specs.Sizes.{AtomicsHaveForms};
 ghost use Rattle.om_tree.specs.View.{view_item, view_unit};
-ghost use Rattle.om_scope.specs.Breaches.{breaches_of, is_main, main_breaches};
-ghost use Rattle.om_scope.specs.Checks.{Checks, ChecksExactly};
-ghost use Rattle.om_scope.specs.Faults.{first_of};
-ghost use Rattle.om_scope.specs.Perhaps.{all_along};
+ghost use Rattle.om_rules.specs.Breaches.{breaches_of, is_main, main_breaches};
+ghost use Rattle.om_rules.specs.Checks.{Checks, ChecksExactly};
+ghost use Rattle.om_rules.specs.Faults.{first_of};
+ghost use Rattle.om_rules.specs.Perhaps.{all_along};
 ghost use Rattle.om_resolved.specs.ResolvedView.{view_resolved, view_resolved_function};
-ghost use Rattle.om_scope.specs.Scopes.{after_definition, after_item, definitions_of, file_scope, nothing_declared};
-ghost use Rattle.om_scope.specs.UnitResolution.{globals_of, item_functions, items_resolution, resolution_of};
-ghost use Rattle.om_scope.specs.UnitRules.{item_breaches, items_breaches};
+ghost use Rattle.om_rules.specs.Scopes.{after_definition, after_item, definitions_of, file_scope, nothing_declared};
+ghost use Rattle.om_rules.specs.UnitResolution.{globals_of, item_functions, items_resolution, resolution_of};
+ghost use Rattle.om_rules.specs.UnitRules.{item_breaches, items_breaches};
 ghost use Rattle.om_resolved.specs.Beside.{TreeAtomicsAssign};
 ghost use Rattle.om_resolved.specs.Uses.{IsResolved};
 ghost use Rattle.om_resolved.specs.Whole.{IsWholeTree};
 
 use crate::function::{check_prototype, resolve_function};
-use crate::globals::declare_globals;
-use crate::names::Names;
-use crate::symbols::{Symbols, add_predeclared};
 use om_lexer::{FaultCode, SourceFault};
+use om_names::{Symbols, add_predeclared};
 use om_resolved::{GlobalVariable, Resolved, ResolvedFunction};
+use om_rules::Names;
 use om_seq::Seq;
 use om_tree::{Item, Unit};
+use om_uses::declare_globals;
+use om_whole::laws::{
+    atomics_assign, unbroken_trees_are_resolved, unbroken_trees_are_whole,
+};
 use std::alloc::{AllocError, Global};
 
 /// Adds the function that an item defines.
@@ -34,7 +37,7 @@ fn add_definition(alloc: Global, names: &mut Names, item: &Item) -> Result<(), A
 {
     match item {
         Item::Declaration(_) => Ok(()),
-        Item::Prototype(_, _) => Ok(()),
+        Item::Prototype { .. } => Ok(()),
         Item::Function(function) => names.add(alloc, function.head.name.text.as_slice()),
     }
 }
@@ -61,7 +64,7 @@ fn definitions_of(alloc: Global, items: &[Item]) -> Result<Names, AllocError>
 }
 
 /// Resolves an item in the scopes behind those before it.
-#[tactic(auto, unfolding(crate::specs::UnitResolution::item_functions))]
+#[tactic(auto, unfolding(om_rules::specs::UnitResolution::item_functions))]
 fn resolve_item(
     alloc: Global,
     symbols: &mut Symbols,
@@ -78,7 +81,7 @@ fn resolve_item(
 {
     match item {
         Item::Declaration(declaration) => declare_globals(alloc, symbols, globals, declaration),
-        Item::Prototype(head, _) => check_prototype(alloc, symbols, head),
+        Item::Prototype { head, .. } => check_prototype(alloc, symbols, head),
         Item::Function(function) => {
             functions.push(resolve_function(alloc, symbols, function)?)?;
             Ok(())
@@ -144,7 +147,7 @@ fn is_main(item: &Item) -> bool
 {
     match item {
         Item::Declaration(_) => false,
-        Item::Prototype(_, _) => false,
+        Item::Prototype { .. } => false,
         Item::Function(function) => function.head.name.text.as_slice() == b"main".as_slice(),
     }
 }
@@ -188,7 +191,7 @@ fn check_main(unit: &Unit) -> Result<(), SourceFault>
 /// - S14 at a jump out of a construct or outside of a loop, or at the word of a directive where no
 ///   worksharing construct and no barrier may stand.
 /// - S15 at the end of the source: no function is named `main`.
-#[tactic(auto, using(crate::proofs::Firsts::first_of_left), unfolding(crate::specs::Breaches::breaches_of, crate::specs::UnitResolution::resolution_of))]
+#[tactic(auto, using(om_rules::specs::InRow::first_of_left), unfolding(om_rules::specs::Breaches::breaches_of, om_rules::specs::UnitResolution::resolution_of))]
 pub fn resolve(alloc: Global, unit: Unit) -> Result<Resolved, SourceFault>
     ensures no_breach { OnOk result (breaches_of (view_unit unit) ≡ []) }
     ensures resolved { IfOk result (λ resolved. resolution_of (view_unit unit) ≡ Some (view_resolved resolved)) }
@@ -199,5 +202,8 @@ pub fn resolve(alloc: Global, unit: Unit) -> Result<Resolved, SourceFault>
 {
     let resolved = resolve_items(alloc, unit.items.as_slice())?;
     check_main(&unit)?;
+    unbroken_trees_are_resolved();
+    unbroken_trees_are_whole();
+    atomics_assign();
     Ok(resolved)
 }

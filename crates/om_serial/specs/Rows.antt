@@ -1,5 +1,5 @@
 -- The rows of serial instructions: those of the frame machine, with objects for variables and updates for what is put.
-use Rattle.std.specs.Prelude.{ℕ, ◌+◌, ℤ, pos, nat_le, if◌then◌else◌, Option, None, Some, option_map, unwrap_or, Result, Ok, Err, List, [], ◌∷◌, ◌++◌, length}
+use Rattle.std.specs.Prelude.{ℕ, ◌+◌, ℤ, pos, nat_le, if◌then◌else◌, Option, None, Some, unwrap_or, Result, Ok, Err, List, [], ◌∷◌, ◌++◌, length}
 use Rattle.om_foot.specs.declared.object.Obj.TheVariants as obj
 use Rattle.om_foot.specs.declared.footprint.Access.{Access}
 use Rattle.om_code.specs.declared.instruction.Instr.{Instr}
@@ -28,7 +28,6 @@ use Rattle.om_cells.specs.declared.edit.Edit.TheVariants.{Go, BeginFrame, EndFra
 use Rattle.om_cells.specs.declared.step.Tail.TheVariants.{Bytes}
 use Rattle.om_cells.specs.declared.step.Update.{Update}
 use Rattle.om_cells.specs.declared.step.Update.TheVariants.{Put, Keep, Append}
-use Rattle.om_cells.specs.declared.value.Val.{Val}
 use Rattle.om_cells.specs.declared.value.Val.TheVariants as value
 use Rattle.om_cells.specs.Values.{cell_in}
 use Rattle.om_row.specs.declared.row.Launch.{Launch}

@@ -82,7 +82,7 @@ fn naming(alloc: Global, next: u32, access: &Access, turn: Turn) -> Result<Answe
     requires { next + 1 < 2 ^ 32 }
     ensures { IfOk result (λ answer. answer ≡ record { names = access.now ∷ []; row = row_of (next + 1) [] turn }) }
 {
-    let mut names = Seq::new(alloc);
+    let mut names = Seq::of(Vec::with_capacity(alloc, 1)?);
     name(&mut names, access.object, access.mode)?;
     let row = row_of(alloc, next, Seq::new(alloc), turn)?;
     Ok(Answer { names, row })

@@ -7,7 +7,7 @@ ghost use Rattle.om_row.specs.Rows.{answered};
 ghost use Rattle.om_serial.specs.Rows.{number_row, call_row, return_row, reduced, reduce_row};
 
 use crate::acts::{read, write};
-use om_cells::{Context, Edit, Store, Update};
+use om_cells::{Context, Edit, Shared, Store, Update};
 use om_code::arithmetic::combine;
 use om_code::frame::{Cell, Fault, Operand};
 use om_code::instruction::{Place, Reduction};
@@ -52,12 +52,13 @@ pub fn call(
     let mut names = Seq::new(alloc);
     name_given(
         &mut names,
-        &context.task,
+        context.task.get(),
         context.frames,
         body.given.as_slice(),
     )?;
     let mut updates = Seq::new(alloc);
     put_ints(&mut updates, values.as_slice())?;
+    let homes = Shared::of(alloc, homes)?;
     let begin = Edit::BeginFrame {
         to: launch.to,
         takes: launch.takes,

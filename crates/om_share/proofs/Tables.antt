@@ -1,5 +1,5 @@
 -- Rows of the table from their parts.
-use Rattle.std.proofs.Common.{◌≡◌, subst, ℕ, ◌+◌, ℤ, arith, Bool, true, Option, None, Some}
+use Rattle.std.proofs.Common.{◌≡◌, subst, ℕ, ℤ, arith, Bool, true, Option, None, Some}
 use Rattle.std.specs.Prelude.{Result, IfOk}
 use Rattle.std.proofs.lemmas.Grind.{common_steps}
 use Rattle.om_code.specs.declared.instruction.LoopForm.{LoopForm}

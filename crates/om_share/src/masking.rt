@@ -8,7 +8,7 @@ ghost use Rattle.om_row.specs.Rows.{answered};
 ghost use Rattle.om_share.specs.Rows.{filtered_row, masked_row, is_masked, end_masked_row};
 
 use crate::parts::{At, Branch, edits, jump, own_events, recorded};
-use om_cells::{Construct, Context, Edit};
+use om_cells::{Construct, Context, Edit, Shared};
 use om_events::{Endpoint, Record};
 use om_row::names::innermost;
 use om_row::{Answer, Row};
@@ -20,8 +20,8 @@ fn masked_record(context: &Context, endpoint: Endpoint) -> Record
 {
     Record::Masked {
         endpoint,
-        team: context.team.name,
-        task: context.task,
+        team: context.team.get().name,
+        task: *context.task.get(),
     }
 }
 
@@ -36,7 +36,8 @@ fn filter(
     ensures { (s : State) → IfOk result (λ answer. answer ≡ answered (filtered_row worker branch.to branch.otherwise context.now runs) s) }
 {
     if runs {
-        let edits = edits(alloc, branch.to, 1, Edit::Open(Construct::Masked))?;
+        let region = Edit::Open(Shared::of(alloc, Construct::Masked)?);
+        let edits = edits(alloc, branch.to, 1, region)?;
         let entry = masked_record(context, Endpoint::Begin);
         return recorded(alloc, worker, edits, entry);
     }
@@ -65,7 +66,7 @@ pub fn masked(
     let Some(number) = number else {
         return Ok(Answer::decided(alloc, Row::Lacks));
     };
-    let runs = is_thread(number, context.team.number);
+    let runs = is_thread(number, context.team.get().number);
     filter(alloc, context, worker, branch, runs)
 }
 

@@ -5,7 +5,7 @@ ghost use Rattle.om_row.specs.Objects.{write, events, event, innermost};
 ghost use Rattle.om_row.specs.Rows.{goes};
 ghost use Rattle.om_share.specs.Rows.{edits, begun, share_of, share_in};
 
-use om_cells::{Construct, Context, Edit, Share, Update};
+use om_cells::{Construct, Context, Edit, Share, Shared, Update};
 use om_events::{Endpoint, Record, Work};
 use om_foot::{Access, Mode, Obj};
 use om_row::names::{innermost, name, name_events};
@@ -59,7 +59,7 @@ pub(crate) fn begun(
     };
     let mut edits = Seq::one(alloc, go)?;
     edits.push(Edit::CountRegion)?;
-    edits.push(Edit::Open(*region))?;
+    edits.push(Edit::Open(Shared::of(alloc, *region)?))?;
     Ok(edits)
 }
 
@@ -145,8 +145,8 @@ pub(crate) fn work_record(context: &Context, work: Work, endpoint: Endpoint, cou
     Record::Work {
         work,
         endpoint,
-        team: context.team.name,
-        task: context.task,
+        team: context.team.get().name,
+        task: *context.task.get(),
         count,
     }
 }

@@ -11,7 +11,7 @@ ghost use Rattle.om_share.specs.Rows.{is_right_schedule, is_right_form, loop_of,
 
 use crate::chunk::{Chunk, chunk_within, count_of, static_chunk, step_size};
 use crate::parts::{At, Branch, begun, edits, jump, recorded, share_in, work_record, written};
-use om_cells::{Construct, Context, Edit, Share, Sharing, Store, Update, Val};
+use om_cells::{Construct, Context, Edit, Share, Shared, Sharing, Store, Update, Val};
 use om_code::frame::{Cell, Fault};
 use om_code::instruction::{LoopForm, Place, Schedule};
 use om_events::{Endpoint, Work};
@@ -170,7 +170,8 @@ fn take(
     let Some(chunk) = chunk else {
         return jump(alloc, branch.otherwise, 0);
     };
-    let region = Edit::Replace(in_chunk(share, share.taken + 1, chunk));
+    let region = in_chunk(share, share.taken + 1, chunk);
+    let region = Edit::Replace(Shared::of(alloc, region)?);
     let edits = edits(alloc, branch.to, 0, region)?;
     let updates = Seq::new(alloc);
     Ok(Row::Goes { edits, updates })
@@ -188,7 +189,8 @@ fn give(
     let Some(chunk) = chunk else {
         return jump(alloc, branch.otherwise, 0);
     };
-    let region = Edit::Replace(in_chunk(share, share.taken, chunk));
+    let region = in_chunk(share, share.taken, chunk);
+    let region = Edit::Replace(Shared::of(alloc, region)?);
     let edits = edits(alloc, branch.to, 0, region)?;
     let updates = Seq::one(alloc, Update::Put(Val::Number(chunk.end)))?;
     Ok(Row::Goes { edits, updates })
@@ -204,7 +206,7 @@ fn grab_static(
 ) -> Result<Answer, AllocError>
     ensures { (s : State) → IfOk result (λ answer. answer ≡ answered (static_row branch.to branch.otherwise context.now share size) s) }
 {
-    let team = &context.team;
+    let team = context.team.get();
     if team.number >= team.size {
         return Ok(Answer::decided(alloc, Row::Lacks));
     }
@@ -233,7 +235,7 @@ fn work_of_team(context: &Context, share: Share) -> Obj
     ensures { result ≡ obj.Work context.now.team.name share.region }
 {
     Obj::Work {
-        team: context.team.name,
+        team: context.team.get().name,
         region: share.region,
     }
 }
@@ -307,7 +309,8 @@ fn next_iteration(
     let variable = &object_of(context, Place::Slot(slot), 0);
     let names = written(alloc, variable)?;
     let next = share.next + 1;
-    let region = Edit::Replace(Construct::Share(Share { next, ..share }));
+    let region = Construct::Share(Share { next, ..share });
+    let region = Edit::Replace(Shared::of(alloc, region)?);
     let edits = edits(alloc, branch.to, 0, region)?;
     let updates = Seq::one(alloc, Update::Put(Val::Cell(Cell::Int(value))))?;
     let row = Row::Goes { edits, updates };

@@ -82,7 +82,7 @@ pub fn single(
         return Ok(Answer::decided(alloc, Row::Faults(Fault::Nesting)));
     }
     let work = &Obj::Work {
-        team: context.team.name,
+        team: context.team.get().name,
         region: context.regions,
     };
     let is_first = store.number(alloc, work) == 0;

@@ -7,3 +7,4 @@ mod SessionLaws
 mod Refusals
 mod ServeLaws
 mod RunLaws
+mod OneScripts

@@ -9,8 +9,8 @@ use Rattle.om_parser.specs.Faults.{IsBadAtomic}
 use Rattle.om_parser.specs.LineFaults.{IsRefusedLine}
 use Rattle.om_parser.specs.Parsing.{IsTreeOf, IsLimitPassed}
 use Rattle.om_tree.specs.Tree.{UnitTree}
-use Rattle.om_scope.specs.Breaches.{breaches_of}
-use Rattle.om_scope.specs.Faults.{first_of}
+use Rattle.om_rules.specs.Breaches.{breaches_of}
+use Rattle.om_rules.specs.Faults.{first_of}
 use Rattle.om_resolved.specs.ResolvedTree.{ResolvedTree}
 use Rattle.om_lower.specs.Limits.{IsTooMany}
 use Rattle.om_shell.specs.Verdict.{IsTreeOfSource, IsResolutionOfSource, IsRefused, by_lexer, by_parser, by_names, by_code}

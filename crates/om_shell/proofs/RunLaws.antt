@@ -5,6 +5,7 @@ use Rattle.std.proofs.KnownBytes.{Appends-nil, Consumes-trans}
 use Rattle.om_lexer.specs.declared.fault.SourceFault.{SourceFault}
 use Rattle.om_view.specs.declared.debuggee.Debuggee.{Debuggee}
 use Rattle.om_view.specs.declared.debugger.Debugger.{Debugger}
+use Rattle.om_view.specs.Freed.{FreeRun}
 use Rattle.om_shell.specs.declared.fault.ShellFault.{ShellFault}
 use Rattle.om_shell.specs.declared.fault.ShellFault.TheVariants.{Read, Memory}
 use Rattle.om_shell.specs.Ends.{RunsToEnd, BreaksOffRun, WritesScript}
@@ -18,9 +19,9 @@ use Rattle.om_shell.specs.Verdict.{IsVerdict}
 use Rattle.om_shell.proofs.Advances.{Done_then, Breaks_then}
 
 -- reading a source up to behind the mark's line
-abbrev pub Marked_advance : (ra rb w : Option (List ℕ)) (pending source rest : List ℕ) (at after workers : ℕ) (verdict : Result Debuggee SourceFault) → Consumes ra rb pending → IsMarked pending at after
-    → source ≡ take at pending → rest ≡ drop after pending → Advance ra rb w w [] rest (script_by verdict workers None) (due_for verdict workers source)
-Marked_advance ra rb w pending source rest at after workers verdict read p e d = record {
+abbrev pub Marked_advance : (ra rb w : Option (List ℕ)) (pending source rest : List ℕ) (at after workers : ℕ) (verdict : Result Debuggee SourceFault) (runs : List FreeRun) → Consumes ra rb pending → IsMarked pending at after
+    → source ≡ take at pending → rest ≡ drop after pending → Advance ra rb w w [] rest (script_by verdict workers runs None) (due_for verdict workers runs source)
+Marked_advance ra rb w pending source rest at after workers verdict runs read p e d = record {
   taken = pending;
   handled = take after pending;
   text = [];
@@ -28,7 +29,7 @@ Marked_advance ra rb w pending source rest at after workers verdict read p e d =
   whole = p.whole;
   consumes = read;
   appends = Appends-nil w;
-  is = λ future. ap (λ l. transcript_of verdict workers l (commands_in (parts_of (take after pending ++ future)))) (p.source future ∙ sym e) ∙ ap (λ l. transcript_of verdict workers source l) (p.commands future);
+  is = λ future. ap (λ l. transcript_of verdict workers runs l (commands_in (parts_of (take after pending ++ future)))) (p.source future ∙ sym e) ∙ ap (λ l. transcript_of verdict workers runs source l) (p.commands future);
 }
 
 -- whatever follows the mark's line, the source stays
@@ -41,12 +42,14 @@ pub Runs_marked : (ra rb rc w wc : Option (List ℕ)) (pending source rest : Lis
     → source ≡ take at pending → rest ≡ drop after pending → Serves rb rc w wc rest workers source status view → RunsToEnd ra rc w wc workers None status view
 Runs_marked ra rb rc w wc pending source rest at after workers status view read p e d q =
     let verdict = q.verdict in
-    let done = Done_then ra rb rc w w wc [] rest (script_by verdict workers None) (due_for verdict workers source) view (Marked_advance ra rb w pending source rest at after workers verdict read p e d) q.done in
+    let runs = q.runs in
+    let done = Done_then ra rb rc w w wc [] rest (script_by verdict workers runs None) (due_for verdict workers runs source) view (Marked_advance ra rb w pending source rest at after workers verdict runs read p e d) q.done in
     let same = marked_source pending source q.done.taken at after p e in
     record {
       taken = pending ++ q.done.taken;
       verdict = verdict;
       judged = subst (λ l. IsVerdict l verdict) (sym same) q.judged;
+      runs = runs;
       consumes = done.consumes;
       appends = done.appends;
       view_is = done.left;
@@ -64,13 +67,15 @@ pub Runs_unmarked : (ra rb wa wb : Option (List ℕ)) (pending source : List ℕ
     → source ≡ take at pending → ServesAlone wa wb workers source status view → RunsToEnd ra rb wa wb workers None status view
 Runs_unmarked ra rb wa wb pending source at workers status view read end p e q =
     let verdict = q.verdict in
+    let runs : List FreeRun = [] in
     let same : source_in (parts_of pending) ≡ source = p.source ∙ sym e in
-    let all : script_by verdict workers None pending ≡ transcript_of verdict workers source [] =
-    ap (λ l. transcript_of verdict workers l (commands_in (parts_of pending))) same ∙ ap (λ l. transcript_of verdict workers source l) p.commands in
+    let all : script_by verdict workers runs None pending ≡ transcript_of verdict workers runs source [] =
+    ap (λ l. transcript_of verdict workers runs l (commands_in (parts_of pending))) same ∙ ap (λ l. transcript_of verdict workers runs source l) p.commands in
     record {
       taken = pending;
       verdict = verdict;
       judged = subst (λ l. IsVerdict l verdict) (sym same) q.judged;
+      runs = runs;
       consumes = read;
       appends = subst (λ (t : Transcript Debugger). Appends wa wb t.text) (sym all) q.appends;
       view_is = q.view_is ∙ sym (ap (λ (t : Transcript Debugger). t.view) all);
@@ -84,6 +89,7 @@ Runs_given ra rb wa wb source workers status view q = record {
   taken = q.done.taken;
   verdict = q.verdict;
   judged = q.judged;
+  runs = q.runs;
   consumes = q.done.consumes;
   appends = q.done.appends;
   view_is = q.done.left;
@@ -110,15 +116,15 @@ Breaks_reading ra rb w workers fault p = record {
 }
 
 -- a part of a script that has a verdict
-begun : (ra rb wa wb : Option (List ℕ)) (workers : ℕ) (given : Option (List ℕ)) (fault : ShellFault) (verdict : Result Debuggee SourceFault)
-    → (part : BreaksOff ra rb wa wb [] (script_by verdict workers given) fault) → IsVerdict (source_of given part.taken) verdict → BreaksOffRun ra rb wa wb workers given fault
-begun ra rb wa wb workers given fault verdict part judged = record {
+begun : (ra rb wa wb : Option (List ℕ)) (workers : ℕ) (given : Option (List ℕ)) (fault : ShellFault) (verdict : Result Debuggee SourceFault) (runs : List FreeRun)
+    → (part : BreaksOff ra rb wa wb [] (script_by verdict workers runs given) fault) → IsVerdict (source_of given part.taken) verdict → BreaksOffRun ra rb wa wb workers given fault
+begun ra rb wa wb workers given fault verdict runs part judged = record {
   taken = part.taken;
   text = part.text;
   consumes = part.consumes;
   appends = part.appends;
-  begins = inr (record { verdict = verdict; judged = judged; begins = part.begins });
-  answered = λ is_read. inr (record { verdict = verdict; judged = judged; answers = part.answered is_read });
+  begins = inr (record { verdict = verdict; judged = judged; runs = runs; begins = part.begins });
+  answered = λ is_read. inr (record { verdict = verdict; judged = judged; runs = runs; answers = part.answered is_read });
 }
 
 pub Breaks_marked : (ra rb rc w wc : Option (List ℕ)) (pending source rest : List ℕ) (at after workers : ℕ) (fault : ShellFault) → Consumes ra rb pending → IsMarked pending at after
@@ -126,21 +132,21 @@ pub Breaks_marked : (ra rb rc w wc : Option (List ℕ)) (pending source rest : L
 Breaks_marked ra rb rc w wc pending source rest at after workers fault read p e d (inl q) =
     unwritten ra rc w wc (pending ++ []) workers None fault (Consumes-trans _ _ _ _ _ read q.consumes) q.appends q.no_read
 Breaks_marked ra rb rc w wc pending source rest at after workers fault read p e d (inr q) =
-    begun ra rc w wc workers None fault q.verdict
-    (Breaks_then ra rb rc w w wc [] rest (script_by q.verdict workers None) (due_for q.verdict workers source) fault (Marked_advance ra rb w pending source rest at after workers q.verdict read p e d) q.part)
+    begun ra rc w wc workers None fault q.verdict q.runs
+    (Breaks_then ra rb rc w w wc [] rest (script_by q.verdict workers q.runs None) (due_for q.verdict workers q.runs source) fault (Marked_advance ra rb w pending source rest at after workers q.verdict q.runs read p e d) q.part)
     (subst (λ l. IsVerdict l q.verdict) (sym (marked_source pending source q.part.taken at after p e)) q.judged)
 
 pub Breaks_given : (ra rb wa wb : Option (List ℕ)) (source : List ℕ) (workers : ℕ) (fault : ShellFault) → BreaksOffServing ra rb wa wb [] workers source fault → BreaksOffRun ra rb wa wb workers (Some source) fault
 Breaks_given ra rb wa wb source workers fault (inl q) = unwritten ra rb wa wb [] workers (Some source) fault q.consumes q.appends q.no_read
-Breaks_given ra rb wa wb source workers fault (inr q) = begun ra rb wa wb workers (Some source) fault q.verdict q.part q.judged
+Breaks_given ra rb wa wb source workers fault (inr q) = begun ra rb wa wb workers (Some source) fault q.verdict q.runs q.part q.judged
 
 alone : (ra rb wa wb : Option (List ℕ)) (pending source : List ℕ) (at workers : ℕ) (fault : ShellFault) → Consumes ra rb pending → IsUnmarked pending at
     → source ≡ take at pending → fault ≢ Read → Appends wa wb [] ⊎ ServesAlonePart wa wb workers source → BreaksOffRun ra rb wa wb workers None fault
 alone ra rb wa wb pending source at workers fault read p e other (inl wrote) = unwritten ra rb wa wb pending workers None fault read wrote other
 alone ra rb wa wb pending source at workers fault read p e other (inr q) =
     let same : source_in (parts_of pending) ≡ source = p.source ∙ sym e in
-    let all : script_by q.verdict workers None pending ≡ transcript_of q.verdict workers source [] =
-    ap (λ l. transcript_of q.verdict workers l (commands_in (parts_of pending))) same ∙ ap (λ l. transcript_of q.verdict workers source l) p.commands in
+    let all : script_by q.verdict workers [] None pending ≡ transcript_of q.verdict workers [] source [] =
+    ap (λ l. transcript_of q.verdict workers [] l (commands_in (parts_of pending))) same ∙ ap (λ l. transcript_of q.verdict workers [] source l) p.commands in
     record {
       taken = pending;
       text = q.part.sent;
@@ -149,6 +155,7 @@ alone ra rb wa wb pending source at workers fault read p e other (inr q) =
       begins = inr (record {
         verdict = q.verdict;
         judged = subst (λ l. IsVerdict l q.verdict) (sym same) q.judged;
+        runs = [];
         begins = record { rest = q.part.begins.rest; is = ap (λ (t : Transcript Debugger). t.text) all ∙ q.part.begins.is };
       });
       answered = λ is_read. absurd (other is_read);
@@ -158,15 +165,16 @@ pub Breaks_unmarked : (ra rb wa wb : Option (List ℕ)) (pending source : List �
     → source ≡ take at pending → BreaksOffAlone wa wb workers source fault → BreaksOffRun ra rb wa wb workers None fault
 Breaks_unmarked ra rb wa wb pending source at workers fault read p e q = alone ra rb wa wb pending source at workers fault read p e q.no_read q.part
 
-whole_of : (wa wb : Option (List ℕ)) (workers : ℕ) (given : Option (List ℕ)) (input taken rest : List ℕ) (verdict : Result Debuggee SourceFault) → input ≡ taken ++ rest → IsVerdict (source_of given taken) verdict
-    → Appends wa wb (script_by verdict workers given taken).text → source_of given (taken ++ rest) ≡ source_of given taken → script_by verdict workers given (taken ++ rest) ≡ script_by verdict workers given taken
+whole_of : (wa wb : Option (List ℕ)) (workers : ℕ) (given : Option (List ℕ)) (input taken rest : List ℕ) (verdict : Result Debuggee SourceFault) (runs : List FreeRun) → input ≡ taken ++ rest → IsVerdict (source_of given taken) verdict
+    → Appends wa wb (script_by verdict workers runs given taken).text → source_of given (taken ++ rest) ≡ source_of given taken → script_by verdict workers runs given (taken ++ rest) ≡ script_by verdict workers runs given taken
     → WritesScript wa wb workers given input
-whole_of wa wb workers given input taken rest verdict e judged wrote same_source same_script = record {
-  script = script_by verdict workers given taken;
+whole_of wa wb workers given input taken rest verdict runs e judged wrote same_source same_script = record {
+  script = script_by verdict workers runs given taken;
   is_script = record {
     verdict = verdict;
     judged = subst (λ l. IsVerdict l verdict) (sym (ap (source_of given) e ∙ same_source)) judged;
-    is = sym (ap (script_by verdict workers given) e ∙ same_script);
+    runs = runs;
+    is = sym (ap (script_by verdict workers runs given) e ∙ same_script);
   };
   appends = wrote;
 }
@@ -178,9 +186,9 @@ Runs_whole None rb wa wb workers given status view p = tt
 Runs_whole (Some input) None wa wb workers given status view p = absurd p.consumes
 Runs_whole (Some input) (Some rest) wa wb workers given status view p =
     elim p.stops [
-      | inl end ↦ whole_of wa wb workers given input p.taken rest p.verdict p.consumes p.judged p.appends
-          (ap (λ l. source_of given (p.taken ++ l)) end ∙ ap (source_of given) (append-nil p.taken)) (ap (λ l. script_by p.verdict workers given (p.taken ++ l)) end ∙ ap (script_by p.verdict workers given) (append-nil p.taken))
-      | inr settled ↦ whole_of wa wb workers given input p.taken rest p.verdict p.consumes p.judged p.appends (settled.source rest) (settled.script rest)
+      | inl end ↦ whole_of wa wb workers given input p.taken rest p.verdict p.runs p.consumes p.judged p.appends
+          (ap (λ l. source_of given (p.taken ++ l)) end ∙ ap (source_of given) (append-nil p.taken)) (ap (λ l. script_by p.verdict workers p.runs given (p.taken ++ l)) end ∙ ap (script_by p.verdict workers p.runs given) (append-nil p.taken))
+      | inr settled ↦ whole_of wa wb workers given input p.taken rest p.verdict p.runs p.consumes p.judged p.appends (settled.source rest) (settled.script rest)
     ]
 
 pub IfErr_weaker : {T E : Type 0} (r : Result T E) (P Q : E → Type 0) → ((e : E) → P e → Q e) → IfErr r P → IfErr r Q

@@ -7,6 +7,7 @@ use Rattle.om_lexer.specs.declared.fault.SourceFault.{SourceFault}
 use Rattle.om_lexer.specs.Faults.{no_memory}
 use Rattle.om_view.specs.declared.debuggee.Debuggee.{Debuggee}
 use Rattle.om_view.specs.declared.debugger.Debugger.{Debugger}
+use Rattle.om_view.specs.Freed.{FreeRun}
 use Rattle.om_shell.specs.declared.fault.ShellFault.{ShellFault}
 use Rattle.om_shell.specs.declared.fault.ShellFault.TheVariants.{Read}
 use Rattle.om_shell.specs.Places.{refusal_text}
@@ -27,7 +28,8 @@ Serves_refused r wa wb pending workers source fault refused wrote = record {
   verdict = Err fault;
   judged = refused;
   status_is = refl;
-  done = Done_unread r wa wb pending (record { text = refusal_text source fault; view = None }) (due_for (Err fault) workers source) (λ bytes. refl) wrote;
+  runs = [];
+  done = Done_unread r wa wb pending (record { text = refusal_text source fault; view = None }) (due_for (Err fault) workers [] source) (λ bytes. refl) wrote;
 }
 
 pub ServesPart_refused : (r wa wb : Option (List ℕ)) (pending : List ℕ) (workers : ℕ) (source : List ℕ) (fault : SourceFault) (e : ShellFault) → IsRefused source fault
@@ -35,17 +37,18 @@ pub ServesPart_refused : (r wa wb : Option (List ℕ)) (pending : List ℕ) (wor
 ServesPart_refused r wa wb pending workers source fault e refused other part = record {
   verdict = Err fault;
   judged = refused;
-  part = Breaks_after r r r wa wa wb pending pending [] part.sent (due_for (Err fault) workers source) (due_for (Err fault) workers source) e
-      (Advance_none r wa pending (due_for (Err fault) workers source)) (Consumes-nil r) part.appends part.begins other;
+  runs = [];
+  part = Breaks_after r r r wa wa wb pending pending [] part.sent (due_for (Err fault) workers [] source) (due_for (Err fault) workers [] source) e
+      (Advance_none r wa pending (due_for (Err fault) workers [] source)) (Consumes-nil r) part.appends part.begins other;
 }
 
 pub Serves_accepted : (ra rb wa wb : Option (List ℕ)) (pending : List ℕ) (workers : ℕ) (source : List ℕ) (debuggee : Debuggee) (status : ℕ) (view : Option Debugger) → IsDebuggeeOf source debuggee
-    → status ≡ 0 → IsDone ra rb wa wb pending (due (opened debuggee workers)) view → Serves ra rb wa wb pending workers source status view
-Serves_accepted ra rb wa wb pending workers source debuggee status view accepted e done = record { verdict = Ok debuggee; judged = accepted; status_is = e; done = done }
+    → status ≡ 0 → ((runs : List FreeRun) × IsDone ra rb wa wb pending (due (opened debuggee workers) runs) view) → Serves ra rb wa wb pending workers source status view
+Serves_accepted ra rb wa wb pending workers source debuggee status view accepted e done = record { verdict = Ok debuggee; judged = accepted; status_is = e; runs = done.0; done = done.1 }
 
 pub ServesPart_accepted : (ra rb wa wb : Option (List ℕ)) (pending : List ℕ) (workers : ℕ) (source : List ℕ) (debuggee : Debuggee) (fault : ShellFault) → IsDebuggeeOf source debuggee
-    → BreaksOff ra rb wa wb pending (due (opened debuggee workers)) fault → ServesPart ra rb wa wb pending workers source fault
-ServesPart_accepted ra rb wa wb pending workers source debuggee fault accepted part = record { verdict = Ok debuggee; judged = accepted; part = part }
+    → ((runs : List FreeRun) × BreaksOff ra rb wa wb pending (due (opened debuggee workers) runs) fault) → ServesPart ra rb wa wb pending workers source fault
+ServesPart_accepted ra rb wa wb pending workers source debuggee fault accepted part = record { verdict = Ok debuggee; judged = accepted; runs = part.0; part = part.1 }
 
 pub untouched : (r w : Option (List ℕ)) (fault : ShellFault) → fault ≢ Read → IsUntouched r r w w fault
 untouched r w fault other = record { consumes = Consumes-nil r; appends = Appends-nil w; no_read = other }

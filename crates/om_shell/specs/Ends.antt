@@ -4,6 +4,7 @@ use Rattle.std.specs.Io.KnownBytes.{Consumes, Appends, IsAtEnd}
 use Rattle.om_lexer.specs.declared.fault.SourceFault.{SourceFault}
 use Rattle.om_view.specs.declared.debuggee.Debuggee.{Debuggee}
 use Rattle.om_view.specs.declared.debugger.Debugger.{Debugger}
+use Rattle.om_view.specs.Freed.{FreeRun}
 use Rattle.om_shell.specs.declared.fault.ShellFault.{ShellFault}
 use Rattle.om_shell.specs.declared.fault.ShellFault.TheVariants.{Read}
 use Rattle.om_shell.specs.Lines.{parts_of, has_mark}
@@ -18,9 +19,9 @@ status_of (Ok debuggee) = 0
 status_of (Err fault) = 1
 
 -- nothing that could follow changes the source or the script
-pub record IsSettled (verdict : Result Debuggee SourceFault) (workers : ℕ) (given : Option (List ℕ)) (taken : List ℕ) : Type 0 where
+pub record IsSettled (verdict : Result Debuggee SourceFault) (workers : ℕ) (runs : List FreeRun) (given : Option (List ℕ)) (taken : List ℕ) : Type 0 where
   pub source : (future : List ℕ) → source_of given (taken ++ future) ≡ source_of given taken
-  pub script : (future : List ℕ) → script_by verdict workers given (taken ++ future) ≡ script_by verdict workers given taken
+  pub script : (future : List ℕ) → script_by verdict workers runs given (taken ++ future) ≡ script_by verdict workers runs given taken
 
 -- A run that came to its end: it wrote the script of the bytes that it took and nothing else, and left its view;
 -- and the input has ended, or nothing that could follow changes the script.
@@ -28,17 +29,19 @@ pub record RunsToEnd (left_before left_after held_before held_after : Option (Li
   pub taken : List ℕ
   pub verdict : Result Debuggee SourceFault
   pub judged : IsVerdict (source_of given taken) verdict
+  pub runs : List FreeRun
   pub consumes : Consumes left_before left_after taken
-  pub appends : Appends held_before held_after (script_by verdict workers given taken).text
-  pub view_is : view ≡ (script_by verdict workers given taken).view
+  pub appends : Appends held_before held_after (script_by verdict workers runs given taken).text
+  pub view_is : view ≡ (script_by verdict workers runs given taken).view
   pub status_is : status ≡ status_of verdict
-  pub stops : IsAtEnd left_after ⊎ IsSettled verdict workers given taken
+  pub stops : IsAtEnd left_after ⊎ IsSettled verdict workers runs given taken
 
 -- the text is a beginning of a script of the bytes that were taken
 pub record BeginsScript (workers : ℕ) (given : Option (List ℕ)) (taken text : List ℕ) : Type 0 where
   pub verdict : Result Debuggee SourceFault
   pub judged : IsVerdict (source_of given taken) verdict
-  pub begins : IsBeginning text (script_by verdict workers given taken).text
+  pub runs : List FreeRun
+  pub begins : IsBeginning text (script_by verdict workers runs given taken).text
 
 -- the mark's line was not yet read
 abbrev pub HasOpenSource : Option (List ℕ) → List ℕ → Type 0
@@ -49,7 +52,8 @@ HasOpenSource None taken = has_mark (parts_of taken) ≡ false
 pub record AnswersLines (workers : ℕ) (given : Option (List ℕ)) (taken text : List ℕ) : Type 0 where
   pub verdict : Result Debuggee SourceFault
   pub judged : IsVerdict (source_of given taken) verdict
-  pub answers : AnswersWholeLines taken text (script_by verdict workers given)
+  pub runs : List FreeRun
+  pub answers : AnswersWholeLines taken text (script_by verdict workers runs given)
 
 -- A run that a fault broke off: nothing was written, or a beginning of the script of the bytes that were taken. Where
 -- a read failed, all whole lines before it were answered; none is while the source is still read.

@@ -9,3 +9,4 @@ pub mod Verdict
 pub mod Script
 pub mod Ends
 pub mod Serving
+pub mod Laws

@@ -1,4 +1,5 @@
--- The script: what a run writes for the bytes that it takes, and the view that it leaves.
+-- The script: what a run writes for the bytes that it takes, and the view that it leaves. What the free runs among its
+-- commands do depends on the order in which their threads come to the lock, so a list of that is part of a script.
 use Rattle.std.specs.Prelude.{◌≡◌, ℕ, List, Option, None, Some, Result, Ok, Err}
 use Rattle.std.specs.Str.Lines.{lines}
 use Rattle.om_lexer.specs.declared.fault.SourceFault.{SourceFault}
@@ -9,6 +10,7 @@ use Rattle.om_shell.specs.Transcript.{Transcript}
 use Rattle.om_shell.specs.Verdict.{IsVerdict}
 use Rattle.om_view.specs.declared.debuggee.Debuggee.{Debuggee}
 use Rattle.om_view.specs.declared.debugger.Debugger.{Debugger}
+use Rattle.om_view.specs.Freed.{FreeRun}
 use Rattle.om_view.specs.Views.{opened}
 
 -- the source of a run: it is handed in, or stands in front of the mark's line
@@ -22,16 +24,17 @@ commands_of (Some source) input = lines input
 commands_of None input = commands_in (parts_of input)
 
 -- the replies to the commands, by a source's program and its names; or the one line of its refusal, and then no command is run
-abbrev pub transcript_of : Result Debuggee SourceFault → ℕ → List ℕ → List (List ℕ) → Transcript Debugger
-transcript_of (Ok debuggee) workers source commands = session (opened debuggee workers) commands
-transcript_of (Err fault) workers source commands = record { text = refusal_text source fault; view = None }
+abbrev pub transcript_of : Result Debuggee SourceFault → ℕ → List FreeRun → List ℕ → List (List ℕ) → Transcript Debugger
+transcript_of (Ok debuggee) workers runs source commands = session (opened debuggee workers) runs commands
+transcript_of (Err fault) workers runs source commands = record { text = refusal_text source fault; view = None }
 
 -- what a verdict on the source makes of a run's input
-abbrev pub script_by : Result Debuggee SourceFault → ℕ → Option (List ℕ) → List ℕ → Transcript Debugger
-script_by verdict workers given input = transcript_of verdict workers (source_of given input) (commands_of given input)
+abbrev pub script_by : Result Debuggee SourceFault → ℕ → List FreeRun → Option (List ℕ) → List ℕ → Transcript Debugger
+script_by verdict workers runs given input = transcript_of verdict workers runs (source_of given input) (commands_of given input)
 
 -- a script of a run's input
 pub record IsScript (workers : ℕ) (given : Option (List ℕ)) (input : List ℕ) (script : Transcript Debugger) : Type 0 where
   pub verdict : Result Debuggee SourceFault
   pub judged : IsVerdict (source_of given input) verdict
-  pub is : script ≡ script_by verdict workers given input
+  pub runs : List FreeRun
+  pub is : script ≡ script_by verdict workers runs given input

@@ -5,6 +5,7 @@ use Rattle.std.specs.Str.Lines.{lines}
 use Rattle.om_lexer.specs.declared.fault.SourceFault.{SourceFault}
 use Rattle.om_view.specs.declared.debuggee.Debuggee.{Debuggee}
 use Rattle.om_view.specs.declared.debugger.Debugger.{Debugger}
+use Rattle.om_view.specs.Freed.{FreeRun}
 use Rattle.om_shell.specs.declared.fault.ShellFault.{ShellFault}
 use Rattle.om_shell.specs.declared.fault.ShellFault.TheVariants.{Read}
 use Rattle.om_shell.specs.Ends.{status_of}
@@ -14,21 +15,23 @@ use Rattle.om_shell.specs.Transcript.{Transcript}
 use Rattle.om_shell.specs.Verdict.{IsVerdict}
 
 -- what is due for the bytes behind a source
-abbrev pub due_for : Result Debuggee SourceFault → ℕ → List ℕ → List ℕ → Transcript Debugger
-due_for verdict workers source bytes = transcript_of verdict workers source (lines bytes)
+abbrev pub due_for : Result Debuggee SourceFault → ℕ → List FreeRun → List ℕ → List ℕ → Transcript Debugger
+due_for verdict workers runs source bytes = transcript_of verdict workers runs source (lines bytes)
 
 -- by a verdict on the source, all that was due is done
 pub record Serves (left_before left_after held_before held_after : Option (List ℕ)) (pending : List ℕ) (workers : ℕ) (source : List ℕ) (status : ℕ) (view : Option Debugger) : Type 0 where
   pub verdict : Result Debuggee SourceFault
   pub judged : IsVerdict source verdict
   pub status_is : status ≡ status_of verdict
-  pub done : IsDone left_before left_after held_before held_after pending (due_for verdict workers source) view
+  pub runs : List FreeRun
+  pub done : IsDone left_before left_after held_before held_after pending (due_for verdict workers runs source) view
 
 -- by a verdict on the source, a part of what was due is done
 pub record ServesPart (left_before left_after held_before held_after : Option (List ℕ)) (pending : List ℕ) (workers : ℕ) (source : List ℕ) (fault : ShellFault) : Type 0 where
   pub verdict : Result Debuggee SourceFault
   pub judged : IsVerdict source verdict
-  pub part : BreaksOff left_before left_after held_before held_after pending (due_for verdict workers source) fault
+  pub runs : List FreeRun
+  pub part : BreaksOff left_before left_after held_before held_after pending (due_for verdict workers runs source) fault
 
 -- no read failed, and nothing was taken or written
 pub record IsUntouched (left_before left_after held_before held_after : Option (List ℕ)) (fault : ShellFault) : Type 0 where
@@ -45,13 +48,13 @@ pub record ServesAlone (held_before held_after : Option (List ℕ)) (workers : �
   pub verdict : Result Debuggee SourceFault
   pub judged : IsVerdict source verdict
   pub status_is : status ≡ status_of verdict
-  pub appends : Appends held_before held_after (transcript_of verdict workers source []).text
-  pub view_is : view ≡ (transcript_of verdict workers source []).view
+  pub appends : Appends held_before held_after (transcript_of verdict workers [] source []).text
+  pub view_is : view ≡ (transcript_of verdict workers [] source []).view
 
 pub record ServesAlonePart (held_before held_after : Option (List ℕ)) (workers : ℕ) (source : List ℕ) : Type 0 where
   pub verdict : Result Debuggee SourceFault
   pub judged : IsVerdict source verdict
-  pub part : AppendsPart held_before held_after (transcript_of verdict workers source []).text
+  pub part : AppendsPart held_before held_after (transcript_of verdict workers [] source []).text
 
 pub record BreaksOffAlone (held_before held_after : Option (List ℕ)) (workers : ℕ) (source : List ℕ) (fault : ShellFault) : Type 0 where
   pub no_read : fault ≢ Read

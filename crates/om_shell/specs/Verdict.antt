@@ -9,10 +9,10 @@ use Rattle.om_parser.specs.LineFaults.{IsRefusedLine}
 use Rattle.om_tree.specs.Sizes.{IsWithinLimits, AtomicsHaveForms}
 use Rattle.om_parser.specs.Parsing.{IsTreeOf, IsLimitPassed}
 use Rattle.om_tree.specs.Tree.{UnitTree}
-use Rattle.om_scope.specs.Breaches.{breaches_of}
-use Rattle.om_scope.specs.Faults.{first_of}
+use Rattle.om_rules.specs.Breaches.{breaches_of}
+use Rattle.om_rules.specs.Faults.{first_of}
 use Rattle.om_resolved.specs.ResolvedTree.{ResolvedTree}
-use Rattle.om_scope.specs.UnitResolution.{resolution_of}
+use Rattle.om_rules.specs.UnitResolution.{resolution_of}
 use Rattle.om_lower.specs.Limits.{AreWithin, IsTooMany}
 use Rattle.om_rows.specs.Code.{IsCodeOf}
 use Rattle.om_view.specs.declared.debuggee.Debuggee.{Debuggee}

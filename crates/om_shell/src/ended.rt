@@ -18,6 +18,15 @@ pub struct Ended {
 }
 
 impl Ended {
+    /// The exit status alone.
+    pub fn into_status(self) -> u8
+        ensures { result ≡ self.status }
+    {
+        let Ended { status, debugger } = self;
+        drop(debugger);
+        status
+    }
+
     /// The end of a run of an accepted source.
     pub(crate) fn accepted(debugger: Debugger) -> Ended
         ensures status { result.status ≡ 0 }

@@ -56,7 +56,7 @@ fn names_in(alloc: Global, resolved: &Resolved) -> Result<Names, SourceFault>
 ///
 /// The passes run in turn, and the first that refuses answers; nothing is kept then. Out of memory is S0 in any of
 /// them.
-pub(crate) fn debuggee_of(alloc: Global, source: &[u8]) -> Result<Debuggee, SourceFault>
+pub fn debuggee_of(alloc: Global, source: &[u8]) -> Result<Debuggee, SourceFault>
     ensures debuggee { IfOk result (λ debuggee. IsDebuggeeOf source.now debuggee) }
     ensures refused { IfErr result (λ fault. fault ≢ no_memory → IsRefused source.now fault) }
 {

@@ -5,7 +5,9 @@ mod conversation;
 mod ended;
 mod fault;
 mod front_end;
+mod host;
 mod input;
+pub mod laws;
 mod lines;
 mod options;
 mod output;
@@ -17,5 +19,6 @@ mod source;
 
 pub use ended::Ended;
 pub use fault::ShellFault;
+pub use front_end::debuggee_of;
 pub use options::Options;
 pub use shell::run;

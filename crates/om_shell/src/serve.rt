@@ -1,10 +1,11 @@
 //! What is done for a source that is read: its commands are answered, or its refusal is told.
-ghost use Rattle.std.specs.Prelude.{◌≡◌, ◌<◌, ◌≤◌, ◌+◌, ◌*◌, ◌^◌, ◌≢◌, [], None, Some, length, IfOk, IfErr, OnOk};
+ghost use Rattle.std.specs.Prelude.{◌≡◌, ◌<◌, ◌≤◌, ◌+◌, ◌*◌, ◌^◌, ◌≢◌, List, [], None, Some, length, IfOk, IfErr, OnOk};
 ghost use Rattle.std.specs.Io.KnownBytes.{Appends};
 ghost use Rattle.om_lexer.specs.declared.fault.FaultCode.TheVariants.{Memory};
 ghost use Rattle.om_shell.specs.Places.{refusal_text};
 ghost use Rattle.om_shell.specs.Progress.{AppendsPart, BreaksOff, IsDone};
 ghost use Rattle.om_shell.specs.Sessions.{due};
+ghost use Rattle.om_view.specs.Freed.{FreeRun};
 ghost use Rattle.om_view.specs.Views.{opened};
 ghost use Rattle.om_shell.specs.Serving.{Serves, BreaksOffServing, ServesAlone, BreaksOffAlone};
 
@@ -12,6 +13,7 @@ use crate::conversation::converse;
 use crate::ended::Ended;
 use crate::fault::ShellFault;
 use crate::front_end::debuggee_of;
+use crate::host::Host;
 use crate::input::Input;
 use crate::output::send;
 use crate::refusal::push_refusal;
@@ -20,6 +22,8 @@ use om_lexer::{FaultCode, SourceFault};
 use om_view::Debuggee;
 use std::alloc::Global;
 use std::io::{Read, Write};
+use std::sync::Wait;
+use std::thread::Threads;
 
 // Tells why a source is refused.
 fn tell<W: Write>(
@@ -37,8 +41,8 @@ fn tell<W: Write>(
 }
 
 // Answers the commands to a program.
-fn answer_commands<R: Read, W: Write>(
-    alloc: Global,
+fn answer_commands<H: Threads + Wait + Sync, R: Read, W: Write>(
+    host: &Host<'_, H>,
     workers: u8,
     debuggee: Debuggee,
     input: &mut Input,
@@ -48,21 +52,23 @@ fn answer_commands<R: Read, W: Write>(
     requires at_least_one { 0 < workers }
     requires at_most_32 { workers ≤ 32 }
     ensures status { IfOk result (λ ended. ended.status ≡ 0) }
-    ensures done { IfOk result (λ ended. IsDone (R.remaining reader.old) (R.remaining reader.new) (W.contents writer.old) (W.contents writer.new)
-        input.old.pending.items (due (opened debuggee workers)) ended.debugger) }
-    ensures broken_off { IfErr result (BreaksOff (R.remaining reader.old) (R.remaining reader.new) (W.contents writer.old) (W.contents writer.new)
-        input.old.pending.items (due (opened debuggee workers))) }
+    ensures done { IfOk result (λ ended. (runs : List FreeRun)
+        × IsDone (R.remaining reader.old) (R.remaining reader.new) (W.contents writer.old) (W.contents writer.new)
+        input.old.pending.items (due (opened debuggee workers) runs) ended.debugger) }
+    ensures broken_off { IfErr result (λ fault. (runs : List FreeRun)
+        × BreaksOff (R.remaining reader.old) (R.remaining reader.new) (W.contents writer.old) (W.contents writer.new)
+        input.old.pending.items (due (opened debuggee workers) runs) fault) }
 {
-    let mut session = Session::new(alloc, debuggee, workers).map_err(|_| ShellFault::Memory)?;
-    converse(alloc, &mut session, input, reader, writer)?;
+    let mut session = Session::new(host.alloc, debuggee, workers).map_err(|_| ShellFault::Memory)?;
+    converse(host, &mut session, input, reader, writer)?;
     Ok(Ended::accepted(session.into_debugger()))
 }
 
 /// Serves a source and the commands behind it.
 ///
 /// When out of memory for its program, nothing is read or written.
-pub(crate) fn serve<R: Read, W: Write>(
-    alloc: Global,
+pub(crate) fn serve<H: Threads + Wait + Sync, R: Read, W: Write>(
+    host: &Host<'_, H>,
     workers: u8,
     source: &[u8],
     input: &mut Input,
@@ -76,8 +82,9 @@ pub(crate) fn serve<R: Read, W: Write>(
     ensures broken_off { IfErr result (BreaksOffServing (R.remaining reader.old) (R.remaining reader.new) (W.contents writer.old) (W.contents writer.new)
         input.old.pending.items workers source.now) }
 {
+    let alloc = host.alloc;
     match debuggee_of(alloc, source) {
-        Ok(debuggee) => answer_commands(alloc, workers, debuggee, input, reader, writer),
+        Ok(debuggee) => answer_commands(host, workers, debuggee, input, reader, writer),
         Err(fault) => {
             if fault.code == FaultCode::Memory {
                 return Err(ShellFault::Memory);

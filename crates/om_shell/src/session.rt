@@ -1,14 +1,18 @@
 //! A session: a debugger, and the text of its last answer.
-ghost use Rattle.std.specs.Prelude.{◌≡◌, ◌≢◌, ◌<◌, ◌≤◌, not, IfOk, IfErr, OnOk};
+ghost use Rattle.std.specs.Prelude.{◌≡◌, ◌≢◌, ◌<◌, ◌≤◌, ℕ, List, IfOk, IfErr};
 ghost use Rattle.std.specs.Io.KnownBytes.{Appends};
 ghost use Rattle.om_shell.specs.Progress.{AppendsPart};
-ghost use Rattle.om_view.specs.Views.{answered, opened};
+ghost use Rattle.om_view.specs.Freed.{FreeRun};
+ghost use Rattle.om_view.specs.Views.{answered, opened, IsAnswered};
 
 use crate::fault::ShellFault;
+use crate::host::Host;
 use crate::output::send;
 use om_view::{Debuggee, Debugger};
 use std::alloc::{AllocError, Global};
 use std::io::Write;
+use std::sync::Wait;
+use std::thread::Threads;
 
 /// A debugger, and the text of its last answer.
 #[derive(Drop)]
@@ -38,33 +42,36 @@ impl Session {
         debugger
     }
 
-    /// Answers one line, and says whether the session goes on.
+    /// Answers one line, and says whether the session is over.
     ///
     /// After a fault a beginning of the answer was written.
-    pub(crate) fn answer<W: Write>(
+    #[tactic(auto, using(crate::proofs::SessionLaws::part_of, crate::proofs::SessionLaws::no_part))]
+    pub(crate) fn answer<R: Threads + Wait + Sync, W: Write>(
         &mut self,
-        alloc: Global,
+        host: &Host<'_, R>,
         line: &[u8],
         writer: &mut W,
     ) -> Result<bool, ShellFault>
-        ensures more { IfOk result (λ more. more ≡ not (answered self.old.debugger line.now).quits) }
-        ensures view { OnOk result (self.new.debugger ≡ (answered self.old.debugger line.now).view) }
-        ensures text { OnOk result (Appends (W.contents writer.old) (W.contents writer.new) (answered self.old.debugger line.now).text) }
+        ensures answered { IfOk result (λ quits. (text : List ℕ) × (Appends (W.contents writer.old) (W.contents writer.new) text)
+            × IsAnswered self.old.debugger line.now text self.new.debugger quits) }
         ensures begun_on_error { IfErr result (λ fault. (fault ≢ ShellFault.Read)
-            × AppendsPart (W.contents writer.old) (W.contents writer.new) (answered self.old.debugger line.now).text) }
+            × ((runs : List FreeRun) × AppendsPart (W.contents writer.old) (W.contents writer.new) (answered self.old.debugger runs line.now).text)) }
     {
-        let quits = self.follow(alloc, line).map_err(|_| ShellFault::Memory)?;
+        let quits = self.follow(host, line).map_err(|_| ShellFault::Memory)?;
         send(writer, &self.text)?;
-        Ok(!quits)
+        Ok(quits)
     }
 
     // Answers one line; the answer is the text then. Says whether the session is over.
-    fn follow(&mut self, alloc: Global, line: &[u8]) -> Result<bool, AllocError>
-        ensures quits { IfOk result (λ quits. quits ≡ (answered self.old.debugger line.now).quits) }
-        ensures view { OnOk result (self.new.debugger ≡ (answered self.old.debugger line.now).view) }
-        ensures text { OnOk result (self.new.text.items ≡ (answered self.old.debugger line.now).text) }
+    fn follow<R: Threads + Wait + Sync>(
+        &mut self,
+        host: &Host<'_, R>,
+        line: &[u8],
+    ) -> Result<bool, AllocError>
+        ensures { IfOk result (λ quits. IsAnswered self.old.debugger line.now self.new.text.items self.new.debugger quits) }
     {
         self.text.clear();
-        self.debugger.answer(alloc, line, &mut self.text)
+        self.debugger
+            .answer(host.rt, host.alloc, line, &mut self.text)
     }
 }

@@ -5,12 +5,15 @@ ghost use Rattle.om_shell.specs.Ends.{RunsToEnd, BreaksOffRun, WritesScript};
 
 use crate::ended::Ended;
 use crate::fault::ShellFault;
+use crate::host::Host;
 use crate::input::Input;
 use crate::options::Options;
 use crate::serve::{serve, serve_alone};
 use crate::source::read_source;
 use std::alloc::Global;
 use std::io::{Read, Write};
+use std::sync::Wait;
+use std::thread::Threads;
 
 // A copy of the first bytes.
 fn source_bytes(alloc: Global, bytes: &[u8], end: usize) -> Result<Vec<u8>, ShellFault>
@@ -22,8 +25,8 @@ fn source_bytes(alloc: Global, bytes: &[u8], end: usize) -> Result<Vec<u8>, Shel
 }
 
 // A run whose source stands at the front of the input.
-fn run_from_input<R: Read, W: Write>(
-    alloc: Global,
+fn run_from_input<H: Threads + Wait + Sync, R: Read, W: Write>(
+    host: &Host<'_, H>,
     workers: u8,
     reader: &mut R,
     writer: &mut W,
@@ -35,20 +38,20 @@ fn run_from_input<R: Read, W: Write>(
     ensures broken_off { IfErr result (BreaksOffRun (R.remaining reader.old) (R.remaining reader.new) (W.contents writer.old) (W.contents writer.new)
         workers None) }
 {
-    let mut input = Input::new(alloc);
+    let mut input = Input::new(host.alloc);
     let (end, after) = read_source(&mut input, reader)?;
-    let source = source_bytes(alloc, &input.pending, end)?;
+    let source = source_bytes(host.alloc, &input.pending, end)?;
     match after {
         Some(after) => {
             input.discard(after);
-            serve(alloc, workers, &source, &mut input, reader, writer)
+            serve(host, workers, &source, &mut input, reader, writer)
         }
-        None => serve_alone(alloc, workers, &source, writer),
+        None => serve_alone(host.alloc, workers, &source, writer),
     }
 }
 
-fn run_by<R: Read, W: Write>(
-    alloc: Global,
+fn run_by<H: Threads + Wait + Sync, R: Read, W: Write>(
+    host: &Host<'_, H>,
     reader: &mut R,
     writer: &mut W,
     workers: u8,
@@ -63,14 +66,14 @@ fn run_by<R: Read, W: Write>(
 {
     match source {
         Some(source) => serve(
-            alloc,
+            host,
             workers,
             source,
-            &mut Input::new(alloc),
+            &mut Input::new(host.alloc),
             reader,
             writer,
         ),
-        None => run_from_input(alloc, workers, reader, writer),
+        None => run_from_input(host, workers, reader, writer),
     }
 }
 
@@ -78,11 +81,12 @@ fn run_by<R: Read, W: Write>(
 ///
 /// Bytes are taken from the reader in pieces, up to 2^32 of them, and each reply is written and flushed before the
 /// next read. Without a fault it stops at the end of the input, at the command `quit`, or where a source that was read
-/// to its end is refused. Faults:
+/// to its end is refused. A free run starts threads by `rt`, and joins them before its reply. Faults:
 /// - `Read` (H3): a read failed, or 2^32 reads were made.
 /// - `Write` (H4): a write or a flush failed.
 /// - `Memory` (H5): there was no memory, in whatever part.
-pub fn run<R: Read, W: Write>(
+pub fn run<H: Threads + Wait + Sync, R: Read, W: Write>(
+    rt: &H,
     alloc: Global,
     reader: &mut R,
     writer: &mut W,
@@ -103,5 +107,6 @@ pub fn run<R: Read, W: Write>(
     ensures begun_on_error { IfErr result (BreaksOffRun (R.remaining reader.old) (R.remaining reader.new) (W.contents writer.old) (W.contents writer.new)
         options.entry.workers (option_copied options.entry.source)) }
 {
-    run_by(alloc, reader, writer, options.workers, options.source)
+    let host = Host { rt, alloc };
+    run_by(&host, reader, writer, options.workers, options.source)
 }

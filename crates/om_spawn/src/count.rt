@@ -49,7 +49,7 @@ pub(crate) fn name_counts(
     ensures { OnOk result (names.new ≡ names.old ++ counts parent.now context.now group.now) }
 {
     let pending = Obj::Pending {
-        team: context.team.name,
+        team: context.team.get().name,
         phase: context.phase,
     };
     name(names, Obj::Kids(*parent), Mode::Add)?;

@@ -9,7 +9,9 @@ ghost use Rattle.om_spawn.specs.Tasks.{first_frame, task_context};
 ghost use Rattle.om_spawn.specs.Rows.{begun_updates, ready_for, start_row};
 
 use crate::part::{name_with_events, update_with_event};
-use om_cells::{Blocked, Context, Edit, Frame, Home, Kind, Ready, Store, Task, Update, Val};
+use om_cells::{
+    Blocked, Context, Edit, Frame, Home, Kind, Ready, Shared, SharedPile, Store, Task, Update, Val,
+};
 use om_events::{Record, TaskStatus};
 use om_foot::{Mode, Name, Obj};
 use om_row::{Answer, Row};
@@ -29,16 +31,15 @@ pub struct Starting {
 }
 
 /// The frame with which a task begins on a body.
-fn first_frame(alloc: Global, body: u32, homes: &[Home]) -> Result<Frame, AllocError>
+fn first_frame(alloc: Global, body: u32, homes: &Shared<Seq<Home>>) -> Result<Frame, AllocError>
     ensures { IfOk result (λ frame. frame ≡ first_frame body homes.now) }
 {
-    let homes = Seq::of(Vec::from_slice(alloc, homes)?);
     Ok(Frame {
         body,
         next: 0,
         ordinal: 0,
         operands: Pile::new(alloc),
-        homes,
+        homes: homes.copy()?,
     })
 }
 
@@ -51,19 +52,19 @@ fn task_context(
 ) -> Result<Context, AllocError>
     ensures { IfOk result (λ context. context ≡ task_context name.now on.now ready.now) }
 {
-    let frame = first_frame(alloc, ready.body, ready.homes.as_slice())?;
+    let frame = first_frame(alloc, ready.body, &ready.homes)?;
     Ok(Context {
-        task: *name,
+        task: Shared::of(alloc, *name)?,
         kind: Kind::Explicit,
-        team: on.team,
+        team: on.team.copy()?,
         phase: ready.phase,
         births: 0,
         regions: 0,
         frames: 1,
-        group: ready.group,
-        constructs: Pile::new(alloc),
+        group: ready.group.copy()?,
+        constructs: SharedPile::new(alloc)?,
         frame,
-        callers: Pile::new(alloc),
+        callers: SharedPile::new(alloc)?,
     })
 }
 
@@ -104,7 +105,7 @@ fn ready_for<'a>(store: &'a Store, name: &Name, team: &Name) -> Option<&'a Ready
 {
     match store.task(name) {
         Some(Task::Ready(ready)) => {
-            if ready.team == *team {
+            if *ready.team.get() == *team {
                 Some(ready)
             } else {
                 None
@@ -136,11 +137,11 @@ pub fn start(
         return Ok(Answer::decided(alloc, Row::Blocked(Blocked::Task)));
     }
     let names = name_with_events(alloc, &Obj::Task(*name), Mode::Write, starting.worker)?;
-    let Some(ready) = ready_for(store, name, &on.team.name) else {
+    let Some(ready) = ready_for(store, name, &on.team.get().name) else {
         let row = Row::Blocked(Blocked::Task);
         return Ok(Answer { names, row });
     };
-    let updates = begun_updates(alloc, starting.worker, &on.task, status, name)?;
+    let updates = begun_updates(alloc, starting.worker, on.task.get(), status, name)?;
     let edits = beginning(alloc, name, on, ready)?;
     let row = Row::Goes { edits, updates };
     Ok(Answer { names, row })

@@ -1,6 +1,7 @@
 //! The rows that make and end explicit tasks.
 
 ghost use Rattle.std.specs.Prelude.{◌≡◌, ◌∷◌, [], ◌+◌, ◌<◌, ◌≤◌, ◌^◌, ◌++◌, IfOk, OnOk, length};
+ghost use Rattle.om_foot.specs.Names.{parent_of};
 ghost use Rattle.om_cells.specs.State.{State};
 ghost use Rattle.om_cells.specs.declared.value.Task.TheVariants as task;
 ghost use Rattle.om_cells.specs.declared.value.Val.TheVariants as value;
@@ -10,7 +11,7 @@ ghost use Rattle.om_spawn.specs.Rows.{made_names, values_given, made_row, spawn_
 
 use crate::count::{add_to_counts, name_counts};
 use crate::part::{go_and, name_one};
-use om_cells::{Context, Edit, Kind, Ready, Stack, Task, Update, Val};
+use om_cells::{Context, Edit, Kind, Ready, Shared, Stack, Task, Update, Val};
 use om_code::frame::Fault;
 use om_code::print::ints_on;
 use om_code::raw::{Body, Slot};
@@ -45,7 +46,7 @@ fn made_names(
 {
     let mut names = name_one(alloc, &Obj::Task(*new), Mode::Write)?;
     name_given(&mut names, new, 0, body.given.as_slice())?;
-    name_counts(&mut names, &context.task, context, &group_of(context))?;
+    name_counts(&mut names, context.task.get(), context, &group_of(context))?;
     name_events(&mut names, worker)?;
     Ok(names)
 }
@@ -60,13 +61,16 @@ fn ready_of(
     ensures { IfOk result (λ ready. ready ≡ ready_of making.now body.now context.now) }
 {
     let homes = homes_in(alloc, context, body.slots.as_slice())?;
+    let homes = Shared::of(alloc, homes)?;
+    let team = Shared::of(alloc, context.team.get().name)?;
+    let group = Shared::of(alloc, group_of(context))?;
     Ok(Ready {
         body: making.launch.body,
         line: making.line,
         homes,
-        team: context.team.name,
+        team,
         phase: context.phase,
-        group: group_of(context),
+        group,
     })
 }
 
@@ -81,7 +85,7 @@ fn give_values(
     ensures { OnOk result (updates.new ≡ updates.old ++ values_given context.now new.now values.now) }
 {
     let entry = Record::TaskCreate {
-        task: context.task,
+        task: *context.task.get(),
         new: *new,
     };
     put_ints(updates, values)?;
@@ -113,7 +117,7 @@ fn made(
     requires { context.now.births + 1 < 2 ^ 64 }
     ensures { IfOk result (λ answer. (s : State) → answer ≡ answered (made_row making.now body.now context.now values.now (born context.now)) s) }
 {
-    let Some(new) = &context.task.child(context.births + 1) else {
+    let Some(new) = &context.task.get().child(context.births + 1) else {
         return Ok(Answer::decided(alloc, Row::Faults(Fault::Name)));
     };
     let names = made_names(alloc, making.worker, body, context, new)?;
@@ -158,9 +162,9 @@ fn ended_names(
 ) -> Result<Seq<Access>, AllocError>
     ensures { IfOk result (λ names. names ≡ ended_names worker context.now own parent.now) }
 {
-    let mut names = name_one(alloc, &Obj::Task(context.task), Mode::Write)?;
+    let mut names = name_one(alloc, &Obj::Task(*context.task.get()), Mode::Write)?;
     names.append(own)?;
-    name_counts(&mut names, parent, context, &context.group)?;
+    name_counts(&mut names, parent, context, context.group.get())?;
     name_events(&mut names, worker)?;
     Ok(names)
 }
@@ -175,22 +179,34 @@ fn ended_updates(
     ensures { IfOk result (λ updates. updates ≡ ended_updates context.now own.now next.now) }
 {
     let entry = Record::TaskSchedule {
-        prior: context.task,
+        prior: *context.task.get(),
         status: TaskStatus::Complete,
         next: *next,
     };
     let mut updates = Seq::one(alloc, Update::Put(Val::Task(Task::Done)))?;
     put_deaths(&mut updates, own)?;
-    add_to_counts(&mut updates, -1, &context.group)?;
+    add_to_counts(&mut updates, -1, context.group.get())?;
     put_event(alloc, &mut updates, entry)?;
     Ok(updates)
 }
 
-/// The row of the end of a task.
-fn ended(alloc: Global, context: &Context, own: &[Access], next: &Name) -> Result<Row, AllocError>
-    ensures { IfOk result (λ row. row ≡ Row.Goes (Edit.EndContext ∷ []) (ended_updates context.now own.now next.now)) }
+/// The name of the parent of a context's task.
+fn parent_of(context: &Context) -> Option<Name>
+    ensures { result ≡ parent_of context.now.task }
 {
-    let updates = ended_updates(alloc, context, own, next)?;
+    context.task.get().parent()
+}
+
+/// The row of the end of a task, above a context that goes on.
+fn ended(
+    alloc: Global,
+    context: &Context,
+    own: &[Access],
+    next: &Context,
+) -> Result<Row, AllocError>
+    ensures { IfOk result (λ row. row ≡ Row.Goes (Edit.EndContext ∷ []) (ended_updates context.now own.now next.now.task)) }
+{
+    let updates = ended_updates(alloc, context, own, next.task.get())?;
     let edits = Seq::one(alloc, Edit::EndContext)?;
     Ok(Row::Goes { edits, updates })
 }
@@ -210,13 +226,13 @@ pub fn task_end(
     let context = &stack.top;
     let (Kind::Explicit, Some(parent), Some(next)) = (
         context.kind,
-        &context.task.parent(),
+        &parent_of(context),
         stack.below.top(),
     ) else {
         return Ok(Answer::decided(alloc, Row::Lacks));
     };
     let own = own_cells(alloc, context, slots)?;
-    let row = ended(alloc, context, own.as_slice(), &next.task)?;
+    let row = ended(alloc, context, own.as_slice(), next)?;
     let names = ended_names(alloc, worker, context, own, parent)?;
     Ok(Answer { names, row })
 }

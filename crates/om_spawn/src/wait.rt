@@ -12,7 +12,7 @@ ghost use Rattle.om_spawn.specs.Rows.{sync_event, wait_begin_row, waited, wait_e
 
 use crate::count::is_zero;
 use crate::part::{go_and, name_with_events, update_with_event};
-use om_cells::{Blocked, Construct, Context, Edit, Kind, Store, Update};
+use om_cells::{Blocked, Construct, Context, Edit, Kind, Shared, Store, Update};
 use om_code::frame::Fault;
 use om_code::serial::int_at;
 use om_events::{Endpoint, Record, Sync, TaskFlag};
@@ -30,8 +30,8 @@ fn sync_event(sync: Sync, endpoint: Endpoint, context: &Context) -> Record
     Record::SyncRegion {
         sync,
         endpoint,
-        team: context.team.name,
-        task: context.task,
+        team: context.team.get().name,
+        task: *context.task.get(),
     }
 }
 
@@ -94,7 +94,7 @@ pub fn wait_end(
 ) -> Result<Answer, AllocError>
     ensures { IfOk result (λ answer. answer ≡ answered (wait_end_row worker to context.now) (state_of store.now)) }
 {
-    let kids = &Obj::Kids(context.task);
+    let kids = &Obj::Kids(*context.task.get());
     let row = waited(alloc, to, context, is_zero(alloc, store, kids))?;
     let names = name_with_events(alloc, kids, Mode::Read, worker)?;
     Ok(Answer { names, row })
@@ -105,7 +105,8 @@ fn opening(alloc: Global, to: u32, group: &Name) -> Result<Seq<Edit>, AllocError
     ensures { IfOk result (λ edits. edits ≡ Edit.Go to 0 None ∷ Edit.CountBirth ∷ Edit.Open (Construct.Group group.now) ∷ []) }
 {
     let mut edits = go_and(alloc, to, 0, Edit::CountBirth)?;
-    edits.push(Edit::Open(Construct::Group(*group)))?;
+    let region = Shared::of(alloc, Construct::Group(*group))?;
+    edits.push(Edit::Open(region))?;
     Ok(edits)
 }
 
@@ -121,7 +122,7 @@ pub fn group_begin(
     requires { context.now.births + 1 < 2 ^ 64 }
     ensures { IfOk result (λ answer. (s : State) → answer ≡ answered (group_begin_row worker to context.now) s) }
 {
-    let Some(group) = &context.task.child(context.births + 1) else {
+    let Some(group) = &context.task.get().child(context.births + 1) else {
         return Ok(Answer::decided(alloc, Row::Faults(Fault::Name)));
     };
     let names = events_of(alloc, worker)?;
@@ -187,7 +188,7 @@ fn finished(alloc: Global, context: &Context, value: i32, is_over: bool) -> Resu
     let entry = Record::ImplicitTask {
         endpoint: Endpoint::End,
         team: Name::empty(),
-        task: context.task,
+        task: *context.task.get(),
         size: 0,
         number: 1,
         flag: TaskFlag::Initial,
@@ -224,7 +225,7 @@ pub fn finish(
         return Ok(Answer::decided(alloc, Row::Lacks));
     };
     let pending = &Obj::Pending {
-        team: context.team.name,
+        team: context.team.get().name,
         phase: context.phase,
     };
     let row = finished(alloc, context, value, is_zero(alloc, store, pending))?;

@@ -5,12 +5,11 @@ ghost use Rattle.om_foot.specs.Names.{is_below};
 ghost use Rattle.om_code.specs.Places.{instruction_at};
 ghost use Rattle.om_task.specs.Rules.{leaving, departs, admits_on, admits_all};
 
-use om_cells::{Context, Stack};
+use om_cells::{Context, SharedPile, Stack};
 use om_code::instruction::Instr;
 use om_code::program::Program;
 use om_events::TaskStatus;
 use om_foot::{Name, is_descendant};
-use om_seq::Pile;
 
 /// The instruction at which a context stands.
 pub(crate) fn instruction(program: &Program, context: &Context) -> Option<Instr>
@@ -56,11 +55,11 @@ fn admits_on(program: &Program, name: &Name, context: &Context) -> bool
     if departs(instruction(program, context)) {
         return true;
     }
-    is_below(name, &context.task)
+    is_below(name, context.task.get())
 }
 
 /// Whether a task may be started where these contexts are left for it.
-fn admits_below(program: &Program, name: &Name, contexts: &Pile<Context>) -> bool
+fn admits_below(program: &Program, name: &Name, contexts: &SharedPile<Context>) -> bool
     ensures { result ≡ admits_all program.now name.now contexts.now }
 {
     for depth in 0..contexts.len() {

@@ -98,7 +98,8 @@ fn control_answer(
     }
 }
 
-/// What comes of edits of a control and of further updates.
+/// What comes of edits of a control and of further updates. What takes them back is kept in their
+/// place, so they have no room to spare.
 fn going(
     alloc: Global,
     control: &Control,
@@ -110,9 +111,10 @@ fn going(
 {
     let mut changed = control.copy(alloc)?;
     changed.change(alloc, edits)?;
-    let mut updates = updates;
-    updates.push_front(Update::Put(Val::Control(changed)))?;
-    Ok(Outcome::Updates(updates))
+    let mut all = Seq::of(Vec::with_capacity(alloc, updates.len().saturating_add(1))?);
+    all.push(Update::Put(Val::Control(changed)))?;
+    all.append(updates)?;
+    Ok(Outcome::Updates(all))
 }
 
 /// What comes of a row.
@@ -144,6 +146,19 @@ pub fn line(program: &Program, control: &Control) -> u32
     }
 }
 
+/// What a worker's step touches that names these objects beside its control. It is kept as long as
+/// the step stands, so it has no room to spare.
+fn footprint(alloc: Global, worker: u8, names: Seq<Access>) -> Result<Seq<Access>, AllocError>
+    ensures { IfOk result (λ footprint. footprint ≡ record { object = obj.Control worker; mode = Mode.Write } ∷ names) }
+{
+    let mut footprint = Seq::of(Vec::with_capacity(alloc, names.len().saturating_add(1))?);
+    let object = Obj::Control(worker);
+    let mode = Mode::Write;
+    footprint.push(Access { object, mode })?;
+    footprint.append(names)?;
+    Ok(footprint)
+}
+
 /// The plan of a worker's step that has this control.
 fn control_plan(
     alloc: Global,
@@ -158,12 +173,8 @@ fn control_plan(
 {
     let Answer { names, row } = control_answer(alloc, program, store, control, planning)?;
     let outcome = outcome(alloc, control, row)?;
-    let mut footprint = names;
-    let object = Obj::Control(planning.label.worker);
-    let mode = Mode::Write;
-    footprint.push_front(Access { object, mode })?;
     Ok(Step {
-        footprint,
+        footprint: footprint(alloc, planning.label.worker, names)?,
         outcome,
         line: line(program, control),
     })

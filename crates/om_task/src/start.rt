@@ -9,7 +9,7 @@ ghost use Rattle.om_cells.specs.Stores.{state_of};
 ghost use Rattle.om_task.specs.Sites.{body_of};
 ghost use Rattle.om_task.specs.Rules.{first_context, first_control, first_records, initial_in, start_of};
 
-use om_cells::{Context, Control, Frame, Kind, Stack, Store, Team, Val};
+use om_cells::{Context, Control, Frame, Kind, Shared, SharedPile, Stack, Store, Team, Val};
 use om_code::frame::Cell;
 use om_code::program::Program;
 use om_code::raw::{Body, GlobalVariable};
@@ -51,13 +51,13 @@ fn first_frame(alloc: Global, program: &Program) -> Result<Frame, AllocError>
         next: 0,
         ordinal: 0,
         operands: Pile::new(alloc),
-        homes,
+        homes: Shared::of(alloc, homes)?,
     })
 }
 
 /// The context of the initial task, with its frame.
-fn first_context(alloc: Global, frame: Frame) -> Context
-    ensures { result ≡ record { task = 0 ∷ []; kind = Kind.Initial; team = record { name = []; number = 0; size = 1; level = 0 }; phase = 0; births = 0; regions = 0; frames = 1; group = None; constructs = []; frame = frame; callers = [] } }
+fn first_context(alloc: Global, frame: Frame) -> Result<Context, AllocError>
+    ensures { IfOk result (λ context. context ≡ record { task = 0 ∷ []; kind = Kind.Initial; team = record { name = []; number = 0; size = 1; level = 0 }; phase = 0; births = 0; regions = 0; frames = 1; group = None; constructs = []; frame = frame; callers = [] }) }
 {
     let team = Team {
         name: Name::empty(),
@@ -65,19 +65,19 @@ fn first_context(alloc: Global, frame: Frame) -> Context
         size: 1,
         level: 0,
     };
-    Context {
-        task: first_task(),
+    Ok(Context {
+        task: Shared::of(alloc, first_task())?,
         kind: Kind::Initial,
-        team,
+        team: Shared::of(alloc, team)?,
         phase: 0,
         births: 0,
         regions: 0,
         frames: 1,
-        group: None,
-        constructs: Pile::new(alloc),
+        group: Shared::of(alloc, None)?,
+        constructs: SharedPile::new(alloc)?,
         frame,
-        callers: Pile::new(alloc),
-    }
+        callers: SharedPile::new(alloc)?,
+    })
 }
 
 /// The control of the worker that runs the initial task.
@@ -85,8 +85,8 @@ fn first_control(alloc: Global, program: &Program) -> Result<Val, AllocError>
     ensures { IfOk result (λ v. v ≡ value.Control (first_control program.now 0)) }
 {
     let frame = first_frame(alloc, program)?;
-    let top = first_context(alloc, frame);
-    let below = Pile::new(alloc);
+    let top = first_context(alloc, frame)?;
+    let below = SharedPile::new(alloc)?;
     Ok(Val::Control(Control::Running(Stack { top, below })))
 }
 

@@ -74,8 +74,8 @@ fn frame_answer(
     let context = &stack.top;
     let operands = &context.frame.operands;
     match doing.instruction {
-        Instr::ThreadNumber => om_serial::number(alloc, context, context.team.number),
-        Instr::TeamSize => om_serial::number(alloc, context, context.team.size),
+        Instr::ThreadNumber => om_serial::number(alloc, context, context.team.get().number),
+        Instr::TeamSize => om_serial::number(alloc, context, context.team.get().size),
         Instr::Call { body, values } => {
             let ints = ints_on(alloc, usize::from(values), operands)?;
             let launch = launch(stack, u32::from(values), body);

@@ -29,40 +29,102 @@ pub fn same_expression(one: &Expression, other: &Expression) -> bool
         (Expression::Text(text), Expression::Text(other)) => {
             text.value.as_slice() == other.value.as_slice()
         }
-        (Expression::Paren(_, inner, _), Expression::Paren(_, other, _)) => {
+        (Expression::Paren { inner, .. }, Expression::Paren { inner: other, .. }) => {
             same_expression(inner, other)
         }
-        (Expression::Index(name, _, index, _), Expression::Index(other, _, other_index, _)) => {
-            same_name(name, other) && same_expression(index, other_index)
-        }
-        (Expression::Call(name, _, values, _), Expression::Call(other, _, others, _)) => {
-            same_name(name, other) && same_arguments(values, others)
-        }
-        (Expression::Prefix(operator, _, inner), Expression::Prefix(other, _, other_inner)) => {
-            *operator == *other && same_expression(inner, other_inner)
-        }
-        (Expression::Postfix(inner, operator, _), Expression::Postfix(other_inner, other, _)) => {
-            *operator == *other && same_expression(inner, other_inner)
-        }
         (
-            Expression::Binary(left, operator, _, right),
-            Expression::Binary(other_left, other, _, other_right),
+            Expression::Index { name, index, .. },
+            Expression::Index {
+                name: other,
+                index: other_index,
+                ..
+            },
+        ) => { same_name(name, other) && same_expression(index, other_index) }
+        (
+            Expression::Call {
+                name,
+                arguments: values,
+                ..
+            },
+            Expression::Call {
+                name: other,
+                arguments: others,
+                ..
+            },
+        ) => { same_name(name, other) && same_arguments(values, others) }
+        (
+            Expression::Prefix {
+                operator,
+                operand: inner,
+                ..
+            },
+            Expression::Prefix {
+                operator: other,
+                operand: other_inner,
+                ..
+            },
+        ) => { *operator == *other && same_expression(inner, other_inner) }
+        (
+            Expression::Postfix {
+                operand: inner,
+                operator,
+                ..
+            },
+            Expression::Postfix {
+                operand: other_inner,
+                operator: other,
+                ..
+            },
+        ) => { *operator == *other && same_expression(inner, other_inner) }
+        (
+            Expression::Binary {
+                left,
+                operator,
+                right,
+                ..
+            },
+            Expression::Binary {
+                left: other_left,
+                operator: other,
+                right: other_right,
+                ..
+            },
         ) => {
             *operator == *other
                 && same_expression(left, other_left)
                 && same_expression(right, other_right)
         }
         (
-            Expression::Conditional(condition, _, value, _, alternative),
-            Expression::Conditional(other, _, other_value, _, other_alternative),
+            Expression::Conditional {
+                condition,
+                value,
+                other: alternative,
+                ..
+            },
+            Expression::Conditional {
+                condition: other,
+                value: other_value,
+                other: other_alternative,
+                ..
+            },
         ) => {
             same_expression(condition, other)
                 && same_expression(value, other_value)
                 && same_expression(alternative, other_alternative)
         }
         (
-            Expression::Assign(left, operator, _, right),
-            Expression::Assign(other_left, other, _, other_right),
+            Expression::Assign {
+                target: left,
+                operator,
+                value: right,
+                ..
+            },
+            Expression::Assign {
+                target: other_left,
+                operator: other,
+                value: other_right,
+                ..
+            },
         ) => {
             *operator == *other
                 && same_expression(left, other_left)
@@ -108,17 +170,26 @@ fn contains(expression: &Expression, target: &Expression) -> bool
     }
     match expression {
         Expression::Name(_) | Expression::Constant(_) | Expression::Text(_) => false,
-        Expression::Paren(_, part, _)
-        | Expression::Index(_, _, part, _)
-        | Expression::Prefix(_, _, part)
-        | Expression::Postfix(part, _, _) => contains(part, target),
-        Expression::Call(_, _, values, _) => any_contains(values, target),
-        Expression::Conditional(condition, _, value, _, other) => {
-            contains(condition, target) || contains(value, target) || contains(other, target)
-        }
-        Expression::Binary(left, _, _, right) | Expression::Assign(left, _, _, right) => {
-            contains(left, target) || contains(right, target)
-        }
+        Expression::Paren { inner: part, .. }
+        | Expression::Index { index: part, .. }
+        | Expression::Prefix { operand: part, .. }
+        | Expression::Postfix { operand: part, .. } => contains(part, target),
+        Expression::Call {
+            arguments: values,
+            ..
+        } => any_contains(values, target),
+        Expression::Conditional {
+            condition,
+            value,
+            other,
+            ..
+        } => { contains(condition, target) || contains(value, target) || contains(other, target) }
+        Expression::Binary { left, right, .. }
+        | Expression::Assign {
+            target: left,
+            value: right,
+            ..
+        } => { contains(left, target) || contains(right, target) }
     }
 }
 
@@ -142,7 +213,7 @@ fn is_place(expression: &Expression) -> bool
 {
     match expression {
         Expression::Name(_) => true,
-        Expression::Index(..) => true,
+        Expression::Index { .. } => true,
         _ => false,
     }
 }
@@ -174,9 +245,12 @@ fn is_operation_on(target: &Expression, value: &Expression) -> bool
     ensures { result ≡ is_operation_on (view_expression target.now) (view_expression value.now) }
 {
     match value {
-        Expression::Binary(left, operator, _, right) => {
-            is_atomic_operator(*operator) && is_one_operand(target, left, right)
-        }
+        Expression::Binary {
+            left,
+            operator,
+            right,
+            ..
+        } => { is_atomic_operator(*operator) && is_one_operand(target, left, right) }
         _ => false,
     }
 }
@@ -209,11 +283,21 @@ fn is_update(expression: &Expression) -> bool
     ensures { result ≡ is_update (view_expression expression.now) }
 {
     match expression {
-        Expression::Prefix(operator, _, target) => is_step(*operator) && is_place(target),
-        Expression::Postfix(target, _, _) => is_place(target),
-        Expression::Assign(target, operator, _, value) => {
-            is_place(target) && is_updated(target, *operator, value)
-        }
+        Expression::Prefix {
+            operator,
+            operand: target,
+            ..
+        } => is_step(*operator) && is_place(target),
+        Expression::Postfix {
+            operand: target,
+            ..
+        } => is_place(target),
+        Expression::Assign {
+            target,
+            operator,
+            value,
+            ..
+        } => { is_place(target) && is_updated(target, *operator, value) }
         _ => false,
     }
 }
@@ -224,9 +308,12 @@ fn is_read(expression: &Expression) -> bool
     ensures { result ≡ is_read (view_expression expression.now) }
 {
     match expression {
-        Expression::Assign(target, AssignOperator::Set, _, value) => {
-            is_place(target) && is_place(value)
-        }
+        Expression::Assign {
+            target,
+            operator: AssignOperator::Set,
+            value,
+            ..
+        } => { is_place(target) && is_place(value) }
         _ => false,
     }
 }
@@ -237,7 +324,11 @@ fn is_write(expression: &Expression) -> bool
     ensures { result ≡ is_write (view_expression expression.now) }
 {
     match expression {
-        Expression::Assign(target, AssignOperator::Set, _, _) => is_place(target),
+        Expression::Assign {
+            target,
+            operator: AssignOperator::Set,
+            ..
+        } => is_place(target),
         _ => false,
     }
 }
@@ -247,7 +338,11 @@ fn is_write(expression: &Expression) -> bool
 pub fn has_atomic_form(kind: AtomicKind, statement: &Statement) -> bool
     ensures { result ≡ has_atomic_form kind (view_statement statement.now) }
 {
-    let Statement::Expression(expression, _) = statement else {
+    let Statement::Expression {
+        value: expression,
+        ..
+    } = statement
+    else {
         return false;
     };
     match kind {

@@ -84,7 +84,7 @@ pub enum AssignOperator {
     Remainder,
 }
 
-/// An expression (C17 6.5). The spans are those of the tokens between its parts.
+/// An expression (C17 6.5). The spans are those of the tokens round its parts.
 #[derive(Drop)]
 pub enum Expression {
     Name(Name),
@@ -92,19 +92,57 @@ pub enum Expression {
     /// The format of `printf`, its first argument.
     Text(Text),
     /// An expression in parentheses.
-    Paren(Span, Box<Expression>, Span),
+    Paren {
+        open_paren: Span,
+        inner: Box<Expression>,
+        close_paren: Span,
+    },
     /// An element of an array: its name, and its index in brackets.
-    Index(Name, Span, Box<Expression>, Span),
-    /// A call: the function's name, and the arguments in parentheses, each behind the span of its
-    /// comma, which the first lacks.
-    Call(Name, Span, Vec<(Option<Span>, Expression)>, Span),
-    Prefix(PrefixOperator, Span, Box<Expression>),
-    Postfix(Box<Expression>, PostfixOperator, Span),
-    Binary(Box<Expression>, BinaryOperator, Span, Box<Expression>),
-    /// The condition, `?`, the value where it holds, `:`, the value where it doesn't.
-    Conditional(Box<Expression>, Span, Box<Expression>, Span, Box<Expression>),
-    /// The assigned, and its new value.
-    Assign(Box<Expression>, AssignOperator, Span, Box<Expression>),
+    Index {
+        name: Name,
+        open_bracket: Span,
+        index: Box<Expression>,
+        close_bracket: Span,
+    },
+    /// A call: the function's name, and the arguments in parentheses.
+    Call {
+        name: Name,
+        open_paren: Span,
+        /// Each behind the span of its comma, which the first lacks.
+        arguments: Vec<(Option<Span>, Expression)>,
+        close_paren: Span,
+    },
+    Prefix {
+        operator: PrefixOperator,
+        operator_span: Span,
+        operand: Box<Expression>,
+    },
+    Postfix {
+        operand: Box<Expression>,
+        operator: PostfixOperator,
+        operator_span: Span,
+    },
+    Binary {
+        left: Box<Expression>,
+        operator: BinaryOperator,
+        operator_span: Span,
+        right: Box<Expression>,
+    },
+    Conditional {
+        condition: Box<Expression>,
+        question: Span,
+        /// The value where the condition holds.
+        value: Box<Expression>,
+        colon: Span,
+        /// The value where it doesn't.
+        other: Box<Expression>,
+    },
+    Assign {
+        target: Box<Expression>,
+        operator: AssignOperator,
+        operator_span: Span,
+        value: Box<Expression>,
+    },
 }
 
 /// The length of an array in its brackets.
@@ -155,7 +193,7 @@ pub struct Condition {
 pub enum ForStart {
     /// Nothing but the semicolon.
     Nothing(Span),
-    Expression(Expression, Span),
+    Expression { value: Expression, semicolon: Span },
     Declaration(Declaration),
 }
 
@@ -178,33 +216,81 @@ pub struct ForHead {
 pub enum Statement {
     /// A declaration, which stands only directly in a block.
     Declaration(Box<Declaration>),
-    /// The items of a block, in braces.
-    Block(Span, Vec<Statement>, Span),
+    Block {
+        open_brace: Span,
+        items: Vec<Statement>,
+        close_brace: Span,
+    },
     /// A semicolon alone.
     Empty(Span),
-    /// An expression and its semicolon.
-    Expression(Box<Expression>, Span),
+    Expression {
+        value: Box<Expression>,
+        semicolon: Span,
+    },
     /// An `if` without `else`.
-    If(Span, Box<Condition>, Box<Statement>),
-    /// `if`, its condition, the statement where it holds, `else`, the statement where it doesn't.
-    IfElse(Span, Box<Condition>, Box<Statement>, Span, Box<Statement>),
-    While(Span, Box<Condition>, Box<Statement>),
-    /// `do`, the body, `while`, the condition, the semicolon.
-    Do(Span, Box<Statement>, Span, Box<Condition>, Span),
-    For(Box<ForHead>, Box<Statement>),
-    /// `return`, perhaps a value, the semicolon.
-    Return(Span, Option<Box<Expression>>, Span),
-    Break(Span, Span),
-    Continue(Span, Span),
+    If {
+        word: Span,
+        condition: Box<Condition>,
+        body: Box<Statement>,
+    },
+    IfElse {
+        word: Span,
+        condition: Box<Condition>,
+        /// The statement where the condition holds.
+        body: Box<Statement>,
+        else_word: Span,
+        /// The statement where it doesn't.
+        else_body: Box<Statement>,
+    },
+    While {
+        word: Span,
+        condition: Box<Condition>,
+        body: Box<Statement>,
+    },
+    Do {
+        word: Span,
+        body: Box<Statement>,
+        while_word: Span,
+        condition: Box<Condition>,
+        semicolon: Span,
+    },
+    For {
+        head: Box<ForHead>,
+        body: Box<Statement>,
+    },
+    Return {
+        word: Span,
+        value: Option<Box<Expression>>,
+        semicolon: Span,
+    },
+    Break {
+        word: Span,
+        semicolon: Span,
+    },
+    Continue {
+        word: Span,
+        semicolon: Span,
+    },
     /// A directive and the statement that it is for.
-    Construct(Box<Directive<Expression>>, Box<Statement>),
+    Construct {
+        directive: Box<Directive<Expression>>,
+        body: Box<Statement>,
+    },
     /// A directive that is for no statement.
     StandAlone(Box<Directive<Expression>>),
     /// `sections` or `parallel sections`, and in braces the items of its parts. The first item
     /// begins a part, and so does each [`Statement::Section`].
-    Sections(Box<Directive<Expression>>, Span, Vec<Statement>, Span),
+    Sections {
+        directive: Box<Directive<Expression>>,
+        open_brace: Span,
+        items: Vec<Statement>,
+        close_brace: Span,
+    },
     /// `section`, and the first item of the part that it begins.
-    Section(Box<Directive<Expression>>, Box<Statement>),
+    Section {
+        directive: Box<Directive<Expression>>,
+        first: Box<Statement>,
+    },
 }
 
 /// The block of a function (C17 6.8.2).
@@ -235,8 +321,11 @@ pub struct Parameter {
 pub enum Parameters {
     Nothing,
     Void(Span),
-    /// The first, and each further one behind the span of its comma.
-    Listed(Parameter, Vec<(Span, Parameter)>),
+    Listed {
+        first: Parameter,
+        /// Each further one behind the span of its comma.
+        rest: Vec<(Span, Parameter)>,
+    },
 }
 
 /// A function's result, name and parameters (C17 6.7.6.3).
@@ -260,8 +349,8 @@ pub struct Function {
 #[derive(Drop)]
 pub enum Item {
     Declaration(Declaration),
-    /// A function that is declared, and the semicolon.
-    Prototype(FunctionHead, Span),
+    /// A function that is declared.
+    Prototype { head: FunctionHead, semicolon: Span },
     Function(Function),
 }
 

@@ -1,4 +1,2 @@
-mod Inserted
-mod Touched
-mod ReadyNames
 mod Bounded
+pub mod Answering

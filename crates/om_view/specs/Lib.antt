@@ -1,5 +1,3 @@
-pub mod Recorded
-pub mod Ready
 pub mod Variables
 pub mod Locals
 pub mod Said
@@ -7,5 +5,6 @@ pub mod Looks
 pub mod Moves
 pub mod Stops
 pub mod Runs
+pub mod Freed
 pub mod Marked
 pub mod Views

@@ -2,31 +2,17 @@
 use Rattle.std.specs.Prelude.{ℕ, zero, suc, Bool, true, false, cond, ◌&&◌, nat_eq}
 use Rattle.om_cells.specs.declared.step.Choice.{Choice}
 use Rattle.om_cells.specs.declared.step.Choice.TheVariants.{Next}
-use Rattle.om_cells.specs.declared.step.Label.{Label}
-use Rattle.om_history.specs.declared.reply.StepReply.{StepReply}
-use Rattle.om_history.specs.declared.reply.StepReply.TheVariants as step_reply
 use Rattle.om_history.specs.declared.reply.UndoReply.{UndoReply}
 use Rattle.om_history.specs.declared.reply.UndoReply.TheVariants as undo_reply
-use Rattle.om_history.specs.Runs.{reply_to_step, reply_to_undo}
 use Rattle.om_history.specs.Cones.{reply_to_roll}
+use Rattle.om_recorder.specs.Recorded.{Recorded, is_done, label_of, recorded_step, recorded_undo, recorded_roll, step_reply_of, undo_reply_of}
 use Rattle.om_replies.specs.Steps.{step_text, undo_text}
 use Rattle.om_replies.specs.Lists.{roll_text}
-use Rattle.om_undo.specs.Machines.{MachineView, rules_for}
+use Rattle.om_undo.specs.Machines.{rules_for}
 use Rattle.om_view.specs.Looks.{line_at}
-use Rattle.om_view.specs.Recorded.{Recorded, label_of, recorded_step, recorded_undo, recorded_roll}
 use Rattle.om_view.specs.Said.{Said, unless_full}
 
--- what a machine replies to a step, and to an undo
-abbrev pub step_reply_of : MachineView → Label → StepReply
-step_reply_of m label = reply_to_step (rules_for m) m.history label
-
-abbrev pub undo_reply_of : MachineView → ℕ → UndoReply
-undo_reply_of m worker = reply_to_undo (rules_for m) m.history worker
-
-abbrev pub is_done : StepReply → Bool
-is_done (step_reply.Done serial line fault) = true
-is_done _ = false
-
+-- a step was taken back
 abbrev pub is_undone : UndoReply → Bool
 is_undone (undo_reply.Undone serial line) = true
 is_undone _ = false

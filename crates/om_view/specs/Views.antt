@@ -1,11 +1,11 @@
 -- What a line of commands is answered, and what it leaves.
-use Rattle.std.specs.Prelude.{ℕ, Bool, true, false, List, [], Option, None, Some}
+use Rattle.std.specs.Prelude.{◌≡◌, ℕ, Bool, true, false, List, [], ◌∷◌, ◌++◌, Option, None, Some}
 use Rattle.om_cells.specs.declared.step.Choice.TheVariants.{Next, Start}
 use Rattle.om_cells.specs.Values.{control_in}
 use Rattle.om_command.specs.declared.command.Command.{Command}
 use Rattle.om_command.specs.declared.command.Command.TheVariants as command
 use Rattle.om_command.specs.declared.command.CommandFault.{CommandFault}
-use Rattle.om_command.specs.declared.command.CommandFault.TheVariants.{UnknownCommand, BadArgument}
+use Rattle.om_command.specs.declared.command.CommandFault.TheVariants.{BadArgument}
 use Rattle.om_command.specs.declared.command.Request.{Request}
 use Rattle.om_command.specs.declared.command.Request.TheVariants as request
 use Rattle.om_command.specs.declared.command.Variable.{Variable}
@@ -20,11 +20,12 @@ use Rattle.om_view.specs.declared.debugger.Debugger.{Debugger}
 use Rattle.om_view.specs.declared.local.Seen.{Seen}
 use Rattle.om_view.specs.declared.local.Seen.TheVariants as seen
 use Rattle.om_view.specs.declared.marks.Marks.{Marks}
+use Rattle.om_view.specs.Freed.{FreeRun, no_run, free_said}
 use Rattle.om_view.specs.Looks.{local_said, print_said, where_said, history_said, events_said, output_said, tasks_said}
 use Rattle.om_view.specs.Locals.{seen_by}
 use Rattle.om_view.specs.Marked.{with_break, with_watch, without_break}
 use Rattle.om_view.specs.Moves.{step_said, undo_said, next_said, back_said, roll_said}
-use Rattle.om_view.specs.Recorded.{started}
+use Rattle.om_recorder.specs.Recorded.{started}
 use Rattle.om_view.specs.Runs.{run_within}
 use Rattle.om_view.specs.Said.{Said}
 use Rattle.om_view.specs.Stops.{has_line}
@@ -35,11 +36,12 @@ pub record Told : Type 0 where
   pub text : List ℕ
   pub view : Debugger
 
--- what is written for a line, what it leaves, and whether the session is over
+-- what is written for a line, what it leaves, whether the session is over, and the free runs that are still to come
 pub record Answer : Type 0 where
   pub text : List ℕ
   pub view : Debugger
   pub quits : Bool
+  pub runs : List FreeRun
 
 -- at the start of a program nothing is marked
 abbrev pub opened : Debuggee → ℕ → Debugger
@@ -75,43 +77,73 @@ local_told d variable seen.Global = global_told d variable
 local_told d variable (seen.Cell cell) = called d (local_said variable cell d.recorder)
 local_told d variable seen.Nothing = refused d BadArgument
 
--- what a command is answered. `free K` is refused today
-abbrev pub obeyed : Debugger → Command → Told
-obeyed d (command.Step worker) = called d (step_said worker Next d.recorder)
-obeyed d (command.Start worker task) = called d (step_said worker (Start task) d.recorder)
-obeyed d (command.Undo worker) = called d (undo_said worker d.recorder)
-obeyed d (command.Next worker) = called d (next_said 9999 worker d.recorder)
-obeyed d (command.Back worker) = called d (back_said 9999 worker d.recorder)
-obeyed d (command.Print variable) = global_told d variable
-obeyed d (command.PrintLocal worker variable) =
+-- what a command is answered, by what the free run does if it is one
+abbrev pub obeyed : Debugger → FreeRun → Command → Told
+obeyed d run (command.Step worker) = called d (step_said worker Next d.recorder)
+obeyed d run (command.Start worker task) = called d (step_said worker (Start task) d.recorder)
+obeyed d run (command.Undo worker) = called d (undo_said worker d.recorder)
+obeyed d run (command.Next worker) = called d (next_said 9999 worker d.recorder)
+obeyed d run (command.Back worker) = called d (back_said 9999 worker d.recorder)
+obeyed d run (command.Print variable) = global_told d variable
+obeyed d run (command.PrintLocal worker variable) =
     local_told d variable (seen_by d.names variable (control_in (state_in d.recorder.machine (object.Control worker))))
-obeyed d (command.Where worker) = called d (where_said worker d.recorder)
-obeyed d command.History = called d (history_said d.recorder)
-obeyed d (command.Events worker) = called d (events_said worker d.recorder)
-obeyed d command.Output = called d (output_said d.recorder)
-obeyed d command.Tasks = called d (tasks_said d.recorder)
-obeyed d (command.Break line) = marked d (break_text line) (with_break line d.marks)
-obeyed d (command.Watch variable) = by_cell d (cell_of d.recorder.machine.program variable)
+obeyed d run (command.Where worker) = called d (where_said worker d.recorder)
+obeyed d run command.History = called d (history_said d.recorder)
+obeyed d run (command.Events worker) = called d (events_said worker d.recorder)
+obeyed d run command.Output = called d (output_said d.recorder)
+obeyed d run command.Tasks = called d (tasks_said d.recorder)
+obeyed d run (command.Break line) = marked d (break_text line) (with_break line d.marks)
+obeyed d run (command.Watch variable) = by_cell d (cell_of d.recorder.machine.program variable)
     (λ cell. marked d (watch_text d.recorder.machine.program cell) (with_watch cell d.marks))
-obeyed d (command.Delete line) = marked d (deleted_text line (has_line d.marks.breaks line)) (without_break line d.marks)
-obeyed d (command.Run steps) = called d (run_within steps 0 d.marks d.recorder)
-obeyed d (command.Free rounds) = refused d UnknownCommand
-obeyed d (command.Roll serial) = called d (roll_said serial d.recorder)
-obeyed d command.Quit = told d []
+obeyed d run (command.Delete line) = marked d (deleted_text line (has_line d.marks.breaks line)) (without_break line d.marks)
+obeyed d run (command.Run steps) = called d (run_within steps 0 d.marks d.recorder)
+obeyed d run (command.Free rounds) = called d (free_said run d.recorder)
+obeyed d run (command.Roll serial) = called d (roll_said serial d.recorder)
+obeyed d run command.Quit = told d []
 
 -- what is asked is answered
-abbrev pub answer_to : Debugger → Request → Told
-answer_to d request.Nothing = told d []
-answer_to d (request.Command c) = obeyed d c
-answer_to d (request.Fault fault) = refused d fault
+abbrev pub answer_to : Debugger → FreeRun → Request → Told
+answer_to d run request.Nothing = told d []
+answer_to d run (request.Command c) = obeyed d run c
+answer_to d run (request.Fault fault) = refused d fault
 
 -- only `quit` ends a session
 abbrev pub is_quit : Request → Bool
 is_quit (request.Command command.Quit) = true
 is_quit _ = false
 
+-- how many rounds a free run is asked for, where one is
+abbrev pub rounds_asked : Request → Option ℕ
+rounds_asked (request.Command (command.Free rounds)) = Some rounds
+rounds_asked _ = None
+
+abbrev pub first_run : List FreeRun → FreeRun
+first_run [] = no_run
+first_run (run ∷ runs) = run
+
+abbrev pub further_runs : List FreeRun → List FreeRun
+further_runs [] = []
+further_runs (run ∷ runs) = runs
+
+-- the free runs that are to come behind a request
+abbrev pub runs_behind : Option ℕ → List FreeRun → List FreeRun
+runs_behind None runs = runs
+runs_behind (Some rounds) runs = further_runs runs
+
+-- what a request is answered, by what the free runs from here on do
+abbrev pub answer_by : Debugger → List FreeRun → Request → Answer
+answer_by d runs asked = record {
+  text = (answer_to d (first_run runs) asked).text;
+  view = (answer_to d (first_run runs) asked).view;
+  quits = is_quit asked;
+  runs = runs_behind (rounds_asked asked) runs;
+}
+
 -- what a line is answered
-unfoldable pub answered : Debugger → List ℕ → Answer
-answered d line =
-    let asked = request_of d.recorder.machine.workers line in
-    record { text = (answer_to d asked).text; view = (answer_to d asked).view; quits = is_quit asked }
+unfoldable pub answered : Debugger → List FreeRun → List ℕ → Answer
+answered d runs line = answer_by d runs (request_of d.recorder.machine.workers line)
+
+-- the free runs that a line has; and whatever runs follow these, this is what it is answered
+pub record IsAnswered (d : Debugger) (line text : List ℕ) (view : Debugger) (quits : Bool) : Type 0 where
+  pub runs : List FreeRun
+  pub is : (later : List FreeRun) → answered d (runs ++ later) line ≡ record { text = text; view = view; quits = quits; runs = later }

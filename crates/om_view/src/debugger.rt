@@ -1,25 +1,30 @@
 //! A debugger: a line of commands comes in, and a text goes out.
 
-ghost use Rattle.std.specs.Prelude.{◌≡◌, ◌≤◌, ◌++◌, IfOk, OnOk};
+ghost use Rattle.std.specs.Prelude.{◌≡◌, ◌≤◌, ◌++◌, ℕ, List, None, IfOk, OnOk};
 ghost use Rattle.om_command.specs.Commands.{AsksWorkerBelow, HasWorkerBelow};
-ghost use Rattle.om_view.specs.Views.{opened, obeyed, answer_to, is_quit, answered};
+ghost use Rattle.om_command.specs.declared.command.Request.TheVariants as request;
+ghost use Rattle.om_view.specs.Freed.{no_run};
+ghost use Rattle.om_view.specs.Views.{opened, obeyed, answer_to, is_quit, rounds_asked, IsAnswered};
 ghost use Rattle.om_command.specs.declared.command.Command.TheVariants as command;
 
 use crate::debuggee::Debuggee;
+use crate::freed::free;
 use crate::local::{Seen, worker_sees};
 use crate::looks::{events, history, output, place, print, print_local, tasks};
 use crate::marks::Marks;
 use crate::moves::{back, next, roll, step, undo};
-use crate::recorder::Recorder;
 use crate::runs::run;
 use crate::variable::cell_of;
 use om_cells::Choice;
 use om_command::{Command, CommandFault, Request, Variable, request_of};
+use om_recorder::Recorder;
 use om_replies::{push_break, push_command_fault, push_deleted, push_watch};
 use om_seq::Seq;
 use om_undo::Machine;
 use om_visible::Names;
 use std::alloc::{AllocError, Global};
+use std::sync::Wait;
+use std::thread::Threads;
 
 /// A machine whose calls are recorded, the names of its program, and where its runs stop.
 #[derive(Drop)]
@@ -53,28 +58,39 @@ impl Debugger {
     {
         let Debugger {
             recorder,
-            names: _,
-            marks: _,
+            names,
+            marks,
         } = self;
+        drop(names);
+        drop(marks);
         recorder.into_machine()
     }
 
-    /// Appends the answer to a line, and says whether the session is over.
+    /// Appends the answer to a line, and says whether the session is over. A free run starts a
+    /// thread for each worker, and ends when all have made their rounds.
     ///
     /// Out of memory is its only error; the debugger is of no use then.
-    pub fn answer(
+    pub fn answer<R: Threads + Wait + Sync>(
         &mut self,
+        rt: &R,
         alloc: Global,
         line: &[u8],
         text: &mut Vec<u8>,
     ) -> Result<bool, AllocError>
-        ensures quits { IfOk result (λ quits. quits ≡ (answered self.old line.now).quits) }
-        ensures text { OnOk result (text.new.items ≡ text.old.items ++ (answered self.old line.now).text) }
-        ensures view { OnOk result (self.new ≡ (answered self.old line.now).view) }
+        ensures { IfOk result (λ quits. (said : List ℕ) × (text.new.items ≡ text.old.items ++ said)
+            × IsAnswered self.old line.now said self.new quits) }
     {
         let request = request_of(alloc, self.recorder.machine().workers(), line)?;
-        self.answer_to(alloc, &request, text)?;
-        Ok(is_quit(&request))
+        match rounds_asked(&request) {
+            Some(rounds) => {
+                free(rt, alloc, &mut self.recorder, rounds, text)?;
+                Ok(false)
+            }
+            None => {
+                self.answer_to(alloc, &request, text)?;
+                Ok(is_quit(&request))
+            }
+        }
     }
 
     // Appends the answer to what is asked.
@@ -84,9 +100,10 @@ impl Debugger {
         request: &Request,
         text: &mut Vec<u8>,
     ) -> Result<(), AllocError>
-        requires { AsksWorkerBelow self.old.recorder.machine.workers request.now }
-        ensures text { OnOk result (text.new.items ≡ text.old.items ++ (answer_to self.old request.now).text) }
-        ensures view { OnOk result (self.new ≡ (answer_to self.old request.now).view) }
+        requires in_range { AsksWorkerBelow self.old.recorder.machine.workers request.now }
+        requires no_free_run { rounds_asked request.now ≡ None }
+        ensures text { OnOk result (text.new.items ≡ text.old.items ++ (answer_to self.old no_run request.now).text) }
+        ensures view { OnOk result (self.new ≡ (answer_to self.old no_run request.now).view) }
     {
         match request {
             Request::Nothing => Ok(()),
@@ -102,9 +119,10 @@ impl Debugger {
         command: &Command,
         text: &mut Vec<u8>,
     ) -> Result<(), AllocError>
-        requires { HasWorkerBelow self.old.recorder.machine.workers command.now }
-        ensures text { OnOk result (text.new.items ≡ text.old.items ++ (obeyed self.old command.now).text) }
-        ensures view { OnOk result (self.new ≡ (obeyed self.old command.now).view) }
+        requires in_range { HasWorkerBelow self.old.recorder.machine.workers command.now }
+        requires no_free_run { rounds_asked (request.Command command.now) ≡ None }
+        ensures text { OnOk result (text.new.items ≡ text.old.items ++ (obeyed self.old no_run command.now).text) }
+        ensures view { OnOk result (self.new ≡ (obeyed self.old no_run command.now).view) }
     {
         let recorder = &mut self.recorder;
         match command {
@@ -128,7 +146,7 @@ impl Debugger {
             Command::Watch(variable) => self.set_watch(variable, text),
             Command::Delete(line) => self.delete(alloc, *line, text),
             Command::Run(steps) => run(alloc, recorder, &self.marks, *steps, text),
-            Command::Free(_) => push_command_fault(text, CommandFault::UnknownCommand),
+            Command::Free(_) => unreachable!(),
             Command::Roll(serial) => roll(alloc, recorder, *serial, text),
             Command::Quit => Ok(()),
         }
@@ -141,8 +159,8 @@ impl Debugger {
         variable: &Variable,
         text: &mut Vec<u8>,
     ) -> Result<(), AllocError>
-        ensures text { OnOk result (text.new.items ≡ text.old.items ++ (obeyed self.old (command.Print variable.now)).text) }
-        ensures view { OnOk result (self.new ≡ (obeyed self.old (command.Print variable.now)).view) }
+        ensures text { OnOk result (text.new.items ≡ text.old.items ++ (obeyed self.old no_run (command.Print variable.now)).text) }
+        ensures view { OnOk result (self.new ≡ (obeyed self.old no_run (command.Print variable.now)).view) }
     {
         match cell_of(self.recorder.machine().program(), variable) {
             Some(cell) => print(alloc, &mut self.recorder, cell, text),
@@ -158,8 +176,8 @@ impl Debugger {
         variable: &Variable,
         text: &mut Vec<u8>,
     ) -> Result<(), AllocError>
-        ensures text { OnOk result (text.new.items ≡ text.old.items ++ (obeyed self.old (command.PrintLocal worker variable.now)).text) }
-        ensures view { OnOk result (self.new ≡ (obeyed self.old (command.PrintLocal worker variable.now)).view) }
+        ensures text { OnOk result (text.new.items ≡ text.old.items ++ (obeyed self.old no_run (command.PrintLocal worker variable.now)).text) }
+        ensures view { OnOk result (self.new ≡ (obeyed self.old no_run (command.PrintLocal worker variable.now)).view) }
     {
         let machine = self.recorder.machine();
         match worker_sees(alloc, machine, &self.names, worker, variable)? {
@@ -171,8 +189,8 @@ impl Debugger {
 
     // Answers `break L`.
     fn set_break(&mut self, line: u64, text: &mut Vec<u8>) -> Result<(), AllocError>
-        ensures text { OnOk result (text.new.items ≡ text.old.items ++ (obeyed self.old (command.Break line)).text) }
-        ensures view { OnOk result (self.new ≡ (obeyed self.old (command.Break line)).view) }
+        ensures text { OnOk result (text.new.items ≡ text.old.items ++ (obeyed self.old no_run (command.Break line)).text) }
+        ensures view { OnOk result (self.new ≡ (obeyed self.old no_run (command.Break line)).view) }
     {
         self.marks.set_break(line)?;
         push_break(text, line)
@@ -180,8 +198,8 @@ impl Debugger {
 
     // Answers `watch VAR`.
     fn set_watch(&mut self, variable: &Variable, text: &mut Vec<u8>) -> Result<(), AllocError>
-        ensures text { OnOk result (text.new.items ≡ text.old.items ++ (obeyed self.old (command.Watch variable.now)).text) }
-        ensures view { OnOk result (self.new ≡ (obeyed self.old (command.Watch variable.now)).view) }
+        ensures text { OnOk result (text.new.items ≡ text.old.items ++ (obeyed self.old no_run (command.Watch variable.now)).text) }
+        ensures view { OnOk result (self.new ≡ (obeyed self.old no_run (command.Watch variable.now)).view) }
     {
         match cell_of(self.recorder.machine().program(), variable) {
             Some(cell) => {
@@ -194,8 +212,8 @@ impl Debugger {
 
     // Answers `delete L`.
     fn delete(&mut self, alloc: Global, line: u64, text: &mut Vec<u8>) -> Result<(), AllocError>
-        ensures text { OnOk result (text.new.items ≡ text.old.items ++ (obeyed self.old (command.Delete line)).text) }
-        ensures view { OnOk result (self.new ≡ (obeyed self.old (command.Delete line)).view) }
+        ensures text { OnOk result (text.new.items ≡ text.old.items ++ (obeyed self.old no_run (command.Delete line)).text) }
+        ensures view { OnOk result (self.new ≡ (obeyed self.old no_run (command.Delete line)).view) }
     {
         let was_set = self.marks.delete(alloc, line)?;
         push_deleted(text, line, was_set)
@@ -210,4 +228,23 @@ fn is_quit(request: &Request) -> bool
         Request::Command(command) => matches!(command, Command::Quit),
         Request::Nothing | Request::Fault(_) => false,
     }
+}
+
+// How many rounds a free run is asked for, where one is.
+fn rounds_asked(request: &Request) -> Option<u64>
+    ensures { result ≡ rounds_asked request.now }
+{
+    match request {
+        Request::Command(command) => free_rounds(command),
+        Request::Nothing | Request::Fault(_) => None,
+    }
+}
+
+fn free_rounds(command: &Command) -> Option<u64>
+    ensures { result ≡ rounds_asked (request.Command command.now) }
+{
+    if let Command::Free(rounds) = command {
+        return Some(*rounds);
+    }
+    None
 }

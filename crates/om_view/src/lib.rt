@@ -3,11 +3,11 @@
 
 mod debuggee;
 mod debugger;
+mod freed;
 mod local;
 mod looks;
 mod marks;
 mod moves;
-mod recorder;
 mod runs;
 mod stops;
 mod variable;
@@ -15,4 +15,3 @@ mod variable;
 pub use debuggee::Debuggee;
 pub use debugger::Debugger;
 pub use marks::Marks;
-pub use recorder::Recorder;

@@ -7,7 +7,7 @@ ghost use Rattle.om_undo.specs.Machines.{state_in};
 ghost use Rattle.om_view.specs.Locals.{cell_seen, local_seen, seen_by, seen_in};
 
 use crate::variable::element_at;
-use om_cells::{Context, Control};
+use om_cells::{Context, Control, Val};
 use om_code::instruction::Place;
 use om_command::Variable;
 use om_foot::Obj;
@@ -71,6 +71,16 @@ fn seen_by(names: &Names, variable: &Variable, control: &Control) -> Result<Seen
     }
 }
 
+// What a variable is for a worker whose control this value is. Its only error is out of memory.
+fn seen_at(names: &Names, variable: &Variable, value: &Val) -> Result<Seen, AllocError>
+    ensures { IfOk result (λ seen. seen ≡ seen_by names.now variable.now (control_in value.now)) }
+{
+    match value.control() {
+        Some(control) => seen_by(names, variable, control),
+        None => Ok(Seen::Global),
+    }
+}
+
 /// What a worker sees by the name of a variable. Its only error is out of memory.
 pub(crate) fn worker_sees(
     alloc: Global,
@@ -82,8 +92,5 @@ pub(crate) fn worker_sees(
     ensures { IfOk result (λ seen. seen ≡ seen_by names.now variable.now (control_in (state_in machine.now (object.Control worker)))) }
 {
     let value = machine.look(alloc, &Obj::Control(worker))?;
-    match value.control() {
-        Some(control) => seen_by(names, variable, control),
-        None => Ok(Seen::Global),
-    }
+    seen_at(names, variable, &value)
 }

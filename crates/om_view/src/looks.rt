@@ -9,11 +9,11 @@ ghost use Rattle.om_replies.specs.Places.{where_text};
 ghost use Rattle.om_cells.specs.Values.{control_in};
 ghost use Rattle.om_view.specs.Looks.{line_at, local_said, print_said, where_said, history_said, events_said, output_said, directive_line, ready_line, tasks_text, tasks_said};
 
-use crate::recorder::Recorder;
 use om_cells::value::Task;
 use om_cells::{Control, Val};
 use om_command::Variable;
 use om_foot::{Name, Obj};
+use om_recorder::Recorder;
 use om_replies::{
     GlobalCell, push_events, push_full, push_history, push_local, push_no_tasks, push_output,
     push_print, push_task, push_where,

@@ -1,18 +1,19 @@
 //! Runs: the least worker that has a move makes it, so many times at most.
 
-ghost use Rattle.std.specs.Prelude.{◌≡◌, ◌<◌, ◌≤◌, ◌+◌, ◌++◌, IfOk, IfSome, OnOk, Some, unwrap_or};
+ghost use Rattle.std.specs.Prelude.{◌≡◌, ◌<◌, ◌≤◌, ◌+◌, ◌++◌, IfOk, IfSome, OnOk, Some, cond, unwrap_or};
 ghost use Rattle.std.specs.Option.{option_copied};
 ghost use Rattle.om_cells.specs.declared.control.Control.TheVariants as controls;
+ghost use Rattle.om_cells.specs.Values.{control_in};
 ghost use Rattle.om_replies.specs.Stops.{ran_text};
 ghost use Rattle.om_undo.specs.Machines.{state_in};
 ghost use Rattle.om_view.specs.Runs.{can_step, start_among, move_of, move_among, first_move, has_ended, stop_without_move, moved_by, left_by, moved_of, after_move, run_within};
 
 use crate::marks::Marks;
 use crate::moves::is_done;
-use crate::recorder::{Recorder, ready_in};
 use crate::stops::step_and_stop;
-use om_cells::{Choice, Control, Label};
+use om_cells::{Choice, Control, Label, Val};
 use om_foot::{Name, Obj};
+use om_recorder::{Recorder, ready_in};
 use om_replies::{Stop, push_full, push_ran};
 use om_undo::Machine;
 use std::alloc::{AllocError, Global};
@@ -99,16 +100,23 @@ fn has_ended(control: Option<&Control>) -> bool
     }
 }
 
+// Why a run stops where no worker has a move, by the control of the initial task's worker.
+fn stop_of(value: &Val) -> Stop
+    ensures { result ≡ cond (has_ended (control_in value.now)) Stop.Ended Stop.Stuck }
+{
+    if has_ended(value.control()) {
+        Stop::Ended
+    } else {
+        Stop::Stuck
+    }
+}
+
 // Why a run stops where no worker has a move.
 fn stop_without_move(alloc: Global, machine: &Machine) -> Result<Stop, AllocError>
     ensures { IfOk result (λ stop. stop ≡ stop_without_move machine.now) }
 {
     let value = machine.look(alloc, &Obj::Control(0))?;
-    if has_ended(value.control()) {
-        Ok(Stop::Ended)
-    } else {
-        Ok(Stop::Stuck)
-    }
+    Ok(stop_of(&value))
 }
 
 // Tells that a run stops where no worker has a move.

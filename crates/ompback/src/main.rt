@@ -6,24 +6,20 @@ ghost use Rattle.std.specs.Prelude.{◌<◌, ◌≤◌};
 mod file;
 mod outcome;
 #[cfg(test)]
-mod scripts;
-#[cfg(test)]
 mod tests;
 mod words;
 
 use crate::file::read_all;
 use crate::outcome::{Outcome, status};
 use crate::words::{Words, words_in};
+use om_parser::STACK_SIZE;
 use om_shell::{Options, ShellFault, run};
 use std::alloc::{AllocError, Global};
 use std::io;
 use std::process::ExitCode;
-use std::rt::Files;
-use std::thread::Builder;
-
-/// How many bytes of stack the front end has. The deepest sources that pass every limit of nesting want a quarter
-/// of it where the program is not optimised; what is not used takes no memory.
-const STACK_SIZE: usize = 256 << 20;
+use std::rt::{Files, Runtime};
+use std::sync::Wait;
+use std::thread::{Builder, Threads};
 
 // The source in a file, if one is named.
 fn source_in<R: Files>(
@@ -41,7 +37,11 @@ fn source_in<R: Files>(
 }
 
 // Runs the shell over standard input and output, and answers its status.
-fn session<R: Files + Input + Print>(rt: &R, alloc: Global, words: Words) -> Result<u8, ShellFault>
+fn session<R: Files + Input + Print + Threads + Wait + Sync>(
+    rt: &R,
+    alloc: Global,
+    words: Words,
+) -> Result<u8, ShellFault>
     requires least { 0 < words.workers }
     requires most { words.workers ≤ 32 }
 {
@@ -55,13 +55,16 @@ fn session<R: Files + Input + Print>(rt: &R, alloc: Global, words: Words) -> Res
             None => None,
         },
     };
-    let ended = run(alloc, &mut reader, &mut writer, options)?;
-    Ok(ended.status)
+    let ended = run(rt, alloc, &mut reader, &mut writer, options)?;
+    Ok(ended.into_status())
 }
 
 // Does what the words of the command line ask for, the first of which names the program.
-fn outcome_for(rt: &HostRuntime, words: &[&str]) -> Result<Outcome, AllocError> {
-    let alloc = rt.alloc();
+fn outcome_for<R: Runtime + AllocGlobal + Threads + Wait + Sync>(
+    rt: &R,
+    alloc: Global,
+    words: &[&str],
+) -> Result<Outcome, AllocError> {
     match words_in(alloc, words) {
         Ok(words) => match session(rt, alloc, words) {
             Ok(status) => Ok(Outcome::Ran(status)),
@@ -76,13 +79,15 @@ fn outcome_for(rt: &HostRuntime, words: &[&str]) -> Result<Outcome, AllocError> 
 }
 
 // Reads the command line and does what it asks for.
-fn program(rt: &HostRuntime) -> Result<Outcome, AllocError> {
-    let alloc = rt.alloc();
+fn program<R: Runtime + AllocGlobal + Threads + Wait + Sync>(
+    rt: &R,
+    alloc: Global,
+) -> Result<Outcome, AllocError> {
     match std::env::args(rt) {
         Ok(args) => {
             let words: Vec<String> = args.collect(alloc)?;
             let words: Vec<&str> = words.iter().map(|word| word.as_str()).collect(alloc)?;
-            outcome_for(rt, words.as_slice())
+            outcome_for(rt, alloc, words.as_slice())
         }
         Err(error) if error.kind() == io::ErrorKind::OutOfMemory => Err(AllocError),
         Err(error) => {
@@ -93,9 +98,10 @@ fn program(rt: &HostRuntime) -> Result<Outcome, AllocError> {
 }
 
 fn main(rt: HostRuntime) -> ExitCode {
+    let alloc = rt.alloc();
     let thread = Builder::new()
         .stack_size(STACK_SIZE)
-        .spawn(&rt, move || program(&rt));
+        .spawn(&rt, move || program(&rt, alloc));
     let outcome = match thread.map(|thread| thread.join(&rt)) {
         Ok(Ok(outcome)) => outcome,
         _ => Outcome::Fault(ShellFault::Memory),

@@ -25,6 +25,7 @@ With FILE, standard input holds commands alone. Each is a line:
   back W        takes back steps of worker W until its line changes
   roll S        takes back step S, with all that depends on it
   run K         at most K steps, each by the lowest worker that has a move
+  free K        K rounds of every worker, all at once, each in a thread of its own
   break L       `run` stops where a worker comes to line L
   watch VAR     `run` stops where the value of a global variable changes
   delete L      takes `break L` back

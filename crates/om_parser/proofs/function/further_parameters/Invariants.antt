@@ -1,8 +1,8 @@
 use Rattle.std.proofs.Common.{length}
 use Rattle.om_lexer.specs.declared.token.Punctuator.TheVariants.{CloseParen}
 use Rattle.om_parser.specs.FunctionReading.{further_parameter_at}
-use Rattle.om_parser.specs.Reading.{take_mark}
-use Rattle.om_parser.specs.Repetition.{until}
+use Rattle.om_parts.specs.Reading.{take_mark}
+use Rattle.om_parts.specs.Repetition.{until}
 use Rattle.om_parser.proofs.Loops.{GoesOn}
 use Rattle.om_parser.proofs.function.further_parameters.Given as goal
 

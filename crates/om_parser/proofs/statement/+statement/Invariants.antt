@@ -1,9 +1,9 @@
 use Rattle.std.proofs.Common.{◌+◌, ◌*◌, length, map}
 use Rattle.om_lexer.specs.declared.token.Punctuator.TheVariants.{CloseBrace}
 use Rattle.om_tree.specs.Limits.{accepted}
-use Rattle.om_parser.specs.PartReading.{parts}
-use Rattle.om_parser.specs.Reading.{take_mark}
-use Rattle.om_parser.specs.Repetition.{until}
+use Rattle.om_parts.specs.PartReading.{parts}
+use Rattle.om_parts.specs.Reading.{take_mark}
+use Rattle.om_parts.specs.Repetition.{until}
 use Rattle.om_parser.specs.StatementReading.{item_at, statement_at}
 use Rattle.om_tree.specs.View.{view_statement}
 use Rattle.om_parser.proofs.Loops.{GoesOn}

@@ -2,7 +2,7 @@ use Rattle.std.proofs.Common.{◌≡◌, [], ◌∷◌, ◌++◌, length, map, s
 use Rattle.std.proofs.lemmas.Result.{err_from_is_err_and}
 use Rattle.std.proofs.lemmas.List.{map_push}
 use Rattle.om_tree.specs.Limits.{accepted}
-use Rattle.om_parser.specs.Repetition.{until}
+use Rattle.om_parts.specs.Repetition.{until}
 use Rattle.om_parser.specs.UnitReading.{take_end, item_at}
 use Rattle.om_tree.specs.View.{view_item}
 use Rattle.om_parser.proofs.Loops.{until_begins, until_ends, until_fails, until_goes_on}
@@ -21,9 +21,9 @@ returns-in_err-next c =
     rw (p.1, p.2) (until_fails take_end (item_at accepted) (map view_item c.items.items.items) c.items.rest.now (until take_end (item_at accepted) (length c.args.tokens.now) c.args.tokens.now) c.in_err-next.field-0.0 (sym c.in_default.ensures) c.in_err-next.ensures c.items.invariant)
 
 pub items-smaller : goal.items-smaller
-items-smaller c = item_shorter accepted (omega arith) c.items.rest.now (view_item c.in_ok-next.next) c.in_ok-next.after.now c.in_ok-next.ensures
+items-smaller c = item_shorter c.parts_are_sound.ensures c.globals.ensures.sound accepted (omega arith) c.items.rest.now (view_item c.in_ok-next.next) c.in_ok-next.after.now c.in_ok-next.ensures
 
 pub items-preserved : goal.items-preserved
 items-preserved c =
     let pushed : map view_item c.push.new.self.items ≡ map view_item c.items.items.items ++ view_item c.in_ok-next.next ∷ [] = rw c.in_ok-push.ensures.items (map_push _ c.items.items.items c.in_ok-next.next) in
-    rw pushed (until_goes_on take_end (item_at accepted) (map view_item c.items.items.items) c.items.rest.now (until take_end (item_at accepted) (length c.args.tokens.now) c.args.tokens.now) (view_item c.in_ok-next.next) c.in_ok-next.after.now (sym c.in_default.ensures) c.in_ok-next.ensures (item_shorter accepted (omega arith) c.items.rest.now (view_item c.in_ok-next.next) c.in_ok-next.after.now c.in_ok-next.ensures) c.items.invariant)
+    rw pushed (until_goes_on take_end (item_at accepted) (map view_item c.items.items.items) c.items.rest.now (until take_end (item_at accepted) (length c.args.tokens.now) c.args.tokens.now) (view_item c.in_ok-next.next) c.in_ok-next.after.now (sym c.in_default.ensures) c.in_ok-next.ensures (item_shorter c.parts_are_sound.ensures c.globals.ensures.sound accepted (omega arith) c.items.rest.now (view_item c.in_ok-next.next) c.in_ok-next.after.now c.in_ok-next.ensures) c.items.invariant)

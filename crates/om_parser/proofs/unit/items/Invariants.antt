@@ -1,6 +1,6 @@
 use Rattle.std.proofs.Common.{length, map}
 use Rattle.om_tree.specs.Limits.{accepted}
-use Rattle.om_parser.specs.Repetition.{until}
+use Rattle.om_parts.specs.Repetition.{until}
 use Rattle.om_parser.specs.UnitReading.{take_end, item_at}
 use Rattle.om_tree.specs.View.{view_item}
 use Rattle.om_parser.proofs.Loops.{GoesOn}

@@ -1,5 +1,5 @@
 use Rattle.om_resolved.specs.Beside.{TreeCopiesBehind}
-use Rattle.om_scope.specs.UnitResolution.{resolution_of}
+use Rattle.om_rules.specs.UnitResolution.{resolution_of}
 use Rattle.om_places.proofs.Steps.{if_given}
 use Rattle.om_places.proofs.laws.sources_have_copies_behind.Goals as goal
 

@@ -1,5 +1,5 @@
 use Rattle.std.proofs.lemmas.Result.{err_from_is_err_and}
-use Rattle.om_scope.proofs.Firsts.{first_of_left}
+use Rattle.om_rules.specs.InRow.{first_of_left}
 use Rattle.om_scope.proofs.function.resolve_function.Goals as goal
 
 pub returns-in_err-begin_definition-clause-checked : goal.returns-in_err-begin_definition-clause-checked

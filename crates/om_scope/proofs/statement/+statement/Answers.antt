@@ -2,13 +2,13 @@ use Rattle.std.proofs.Common.{◌≡◌, Some, length, map, option_map, ap, sym,
 use Rattle.std.proofs.lemmas.List.{drop_all}
 use Rattle.std.proofs.lemmas.Result.{err_from_is_err_and}
 use Rattle.om_tree.specs.View.{view_directive, view_for_start, view_statement}
-use Rattle.om_scope.specs.LoopViews.{view_loop}
-use Rattle.om_scope.specs.Loops.{loop_in}
+use Rattle.om_forms.specs.LoopViews.{view_loop}
+use Rattle.om_rules.specs.Loops.{loop_in}
 use Rattle.om_resolved.specs.ResolvedView.{view_resolved_part, view_resolved_statement}
-use Rattle.om_scope.specs.Grouping.{with_item}
-use Rattle.om_scope.specs.Scopes.{outside}
-use Rattle.om_scope.specs.StatementResolution.{resolved_statement}
-use Rattle.om_scope.specs.StatementRules.{after_for_start, after_statement, after_statements}
+use Rattle.om_rules.specs.Grouping.{with_item}
+use Rattle.om_rules.specs.Scopes.{outside}
+use Rattle.om_rules.specs.StatementResolution.{resolved_statement}
+use Rattle.om_rules.specs.StatementRules.{after_for_start, after_statement, after_statements}
 use Rattle.om_scope.proofs.Blocks.{block_outside, body_outside, construct_outside, for_outside, parts_refuse, parts_step, statements_made, statements_refuse, statements_step, statements_whole}
 use Rattle.om_scope.proofs.Constructs.{view_construct}
 use Rattle.om_scope.proofs.Founds.{ok_anyway, ok_then}

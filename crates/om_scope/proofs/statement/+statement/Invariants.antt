@@ -2,8 +2,8 @@ use Rattle.std.proofs.Common.{◌≡◌, length, map, drop}
 use Rattle.om_tree.specs.Tree.{statements}
 use Rattle.om_tree.specs.View.{view_statement}
 use Rattle.om_resolved.specs.ResolvedView.{view_resolved_part, view_resolved_statement}
-use Rattle.om_scope.specs.StatementResolution.{resolved_parts, resolved_statements}
-use Rattle.om_scope.specs.StatementRules.{after_statements, sections_breaches, statements_breaches}
+use Rattle.om_rules.specs.StatementResolution.{resolved_parts, resolved_statements}
+use Rattle.om_rules.specs.StatementRules.{after_statements, sections_breaches, statements_breaches}
 use Rattle.om_scope.proofs.MadeParts.{MadeParts}
 use Rattle.om_scope.proofs.Statements.{Made}
 use Rattle.om_scope.proofs.statement.+statement.Given as goal

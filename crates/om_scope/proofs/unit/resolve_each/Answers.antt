@@ -2,10 +2,10 @@ use Rattle.std.proofs.Common.{◌+◌, map, drop, ap, ◌∙◌, append_assoc}
 use Rattle.std.specs.List.{flat_map}
 use Rattle.std.proofs.lemmas.Result.{err_from_is_err_and}
 use Rattle.om_tree.specs.View.{view_item}
-use Rattle.om_scope.specs.Scopes.{after_item}
-use Rattle.om_scope.specs.UnitResolution.{globals_of, item_functions}
-use Rattle.om_scope.specs.UnitRules.{item_breaches}
-use Rattle.om_scope.proofs.Along.{all_along-step, unbroken-refuse, unbroken-step}
+use Rattle.om_rules.specs.Scopes.{after_item}
+use Rattle.om_rules.specs.UnitResolution.{globals_of, item_functions}
+use Rattle.om_rules.specs.UnitRules.{item_breaches}
+use Rattle.om_rules.specs.InRow.{all_along-step, unbroken-refuse, unbroken-step}
 use Rattle.om_scope.proofs.Items.{drop-item}
 use Rattle.om_scope.proofs.unit.resolve_each.Goals as goal
 

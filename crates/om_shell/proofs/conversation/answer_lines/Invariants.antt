@@ -1,12 +1,11 @@
-use Rattle.std.proofs.Common.{◌≤◌, ◌-◌, length, take, drop}
+use Rattle.std.proofs.Common.{◌≤◌, ◌-◌, length, take, drop, false}
 use Rattle.om_shell.specs.Lines.{HasNoLineEnd}
-use Rattle.om_shell.specs.Batch.{Answers}
-use Rattle.om_shell.specs.Sessions.{due}
+use Rattle.om_shell.specs.Sessions.{AnswersBatch}
 use Rattle.om_shell.proofs.conversation.answer_lines.Given as goal
 
 abbrev pub invariant-lines : goal.invariant-lines
 invariant-lines g l = record {
-  answered : Answers (g.W.Write.contents l.initial.writer) (g.W.Write.contents l.writer) l.bytes l.at (due l.initial.session.debugger) (due l.session.debugger);
+  answered : AnswersBatch (g.W.Write.contents l.initial.writer) (g.W.Write.contents l.writer) l.bytes l.at l.initial.session.debugger false l.session.debugger;
   within : l.searched ≤ length (drop l.at l.bytes);
   known : HasNoLineEnd (take l.searched (drop l.at l.bytes));
 }

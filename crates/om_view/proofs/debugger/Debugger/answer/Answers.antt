@@ -1,15 +1,31 @@
-use Rattle.std.proofs.Common.{refl}
-use Rattle.om_view.specs.Views.{answered}
+use Rattle.std.proofs.Common.{◌≡◌, ◌∙◌, ◌∷◌, [], rules}
+use Rattle.om_command.specs.Commands.{request_of}
+use Rattle.om_view.specs.Freed.{free_said, no_run}
+use Rattle.om_view.specs.Views.{answer_to}
+use Rattle.om_view.proofs.Answering.{answered_free, answered_plain}
 use Rattle.om_view.proofs.debugger.Debugger.answer.Goals as goal
 
-pub returns-clause-quits : goal.returns-clause-quits
-unfolding answered
-returns-clause-quits c = rw (c.is_quit.ensures, c.in_ok-request.ensures.asked, c.workers.ensures.same, c.machine.ensures) refl
+pub returns-in-Some : goal.returns-in-Some
+returns-in-Some g c =
+    let d = c.args.self.now in
+    let asked : c.in_ok-request.request ≡ request_of d.recorder.machine.workers c.args.line.now = search rules in
+    let run = c.in_ok-free-in-Some.ensures.0 in (
+      (free_said run d.recorder).text,
+      search rules,
+      record {
+        runs = run ∷ [];
+        is = λ later. answered_free d c.args.line.now c.in_ok-request.request c.in-Some.rounds run later asked (search rules) ∙ search rules;
+      },
+    )
 
-pub returns-clause-text : goal.returns-clause-text
-unfolding answered
-returns-clause-text c = rw (c.in_ok-request.ensures.asked, c.workers.ensures.same, c.machine.ensures) at c.in_ok-answer_to.ensures.text
-
-pub returns-clause-view : goal.returns-clause-view
-unfolding answered
-returns-clause-view c = rw (c.in_ok-request.ensures.asked, c.workers.ensures.same, c.machine.ensures) at c.in_ok-answer_to.ensures.view
+pub returns : goal.returns
+returns g c =
+    let d = c.args.self.now in
+    let asked : c.in_ok-request.request ≡ request_of d.recorder.machine.workers c.args.line.now = search rules in (
+      (answer_to d no_run c.in_ok-request.request).text,
+      search rules,
+      record {
+        runs = [];
+        is = λ later. answered_plain d c.args.line.now c.in_ok-request.request later asked (search rules) ∙ search rules;
+      },
+    )

@@ -1,0 +1,2 @@
+pub mod LoopViews
+pub mod UpdateViews

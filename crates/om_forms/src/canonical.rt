@@ -1,0 +1,421 @@
+//! Canonical loops (OpenMP API 5.2, section 4.4.1).
+
+ghost use Rattle.std.specs.Prelude.{◌≡◌, ◌≤◌, option_map, map};
+ghost use Rattle.om_tree.specs.View.{view_declarator, view_expression, view_for_head, view_for_start, view_further, view_initializer, view_statement};
+ghost use Rattle.om_rules.specs.Loops as loops;
+ghost use Rattle.om_forms.specs.LoopViews.{view_bound, view_loop, view_start};
+
+use om_lexer::Span;
+use om_rules::{Direction, Step};
+use om_tree::{
+    ArrayLength, AssignOperator, BinaryOperator, Declarator, Expression, ForHead, ForStart,
+    Initializer, Name, PostfixOperator, PrefixOperator, Statement,
+};
+
+/// What a loop begins with.
+#[derive(Clone, Copy)]
+pub struct LoopStart<'a> {
+    pub variable: &'a Name,
+    /// Whether the loop declares its variable.
+    pub is_declared: bool,
+    /// The variable's first value.
+    pub from: &'a Expression,
+}
+
+/// Where a loop ends.
+#[derive(Clone, Copy)]
+struct Bound<'a> {
+    comparison: BinaryOperator,
+    direction: Direction,
+    to: &'a Expression,
+}
+
+/// A loop in canonical form.
+#[derive(Clone, Copy)]
+pub struct Loop<'a> {
+    /// The word `for`.
+    pub at: Span,
+    pub start: LoopStart<'a>,
+    /// `<`, `<=`, `>` or `>=`.
+    pub comparison: BinaryOperator,
+    /// The bound that its variable is compared with.
+    pub to: &'a Expression,
+    /// What is added to it: above 0 where it grows, else below 0.
+    pub step: i32,
+}
+
+/// The name that an expression is.
+fn name_in(expression: &Expression) -> Option<&Name>
+    ensures { option_map (λ name. name.now) result ≡ loops.name_in (view_expression expression.now) }
+{
+    match expression {
+        Expression::Name(name) => Some(name),
+        _ => None,
+    }
+}
+
+/// Whether an expression is this name.
+fn is_named(expression: &Expression, name: &[u8]) -> bool
+    ensures { result ≡ loops.is_named (view_expression expression.now) name.now }
+{
+    match expression {
+        Expression::Name(found) => found.text.as_slice() == name,
+        _ => false,
+    }
+}
+
+/// So much, with its sign.
+fn signed(direction: Direction, value: u32) -> i32
+    requires { value ≤ 2147483647 }
+    ensures { result ≡ loops.signed direction value }
+{
+    match direction {
+        Direction::Up => value as i32,
+        Direction::Down => -(value as i32),
+    }
+}
+
+/// A step of 1.
+fn one_step(direction: Direction) -> Step
+    ensures { result ≡ loops.one_step direction }
+{
+    let value = signed(direction, 1);
+    Step { direction, value }
+}
+
+/// A step of so much: 1 or more.
+fn step_of(direction: Direction, value: u32) -> Option<Step>
+    ensures { result ≡ loops.step_of direction value }
+{
+    if 0 < value && value <= 2147483647 {
+        let value = signed(direction, value);
+        Some(Step { direction, value })
+    } else {
+        None
+    }
+}
+
+/// The step by an expression, which is a constant of 1 or more.
+fn stride_in(direction: Direction, expression: &Expression) -> Option<Step>
+    ensures { result ≡ loops.stride_in direction (view_expression expression.now) }
+{
+    match expression {
+        Expression::Constant(number) => step_of(direction, number.value),
+        _ => None,
+    }
+}
+
+/// What `target = value` begins a loop with.
+fn set_start<'a>(
+    operator: AssignOperator,
+    target: &'a Expression,
+    value: &'a Expression,
+) -> Option<LoopStart<'a>>
+    ensures { option_map view_start result ≡ loops.set_start operator (view_expression target.now) (view_expression value.now) }
+{
+    match operator {
+        AssignOperator::Set => {
+            let variable = name_in(target)?;
+            Some(LoopStart {
+                variable,
+                is_declared: false,
+                from: value,
+            })
+        }
+        _ => None,
+    }
+}
+
+/// What an expression begins a loop with.
+fn assigned_start(expression: &Expression) -> Option<LoopStart<'_>>
+    ensures { option_map view_start result ≡ loops.assigned_start (view_expression expression.now) }
+{
+    match expression {
+        Expression::Assign {
+            target,
+            operator,
+            value,
+            ..
+        } => set_start(*operator, target, value),
+        _ => None,
+    }
+}
+
+/// What a variable begins a loop with.
+fn initialized_start<'a>(
+    variable: &'a Name,
+    array: &Option<ArrayLength>,
+    initializer: &'a Option<Initializer>,
+) -> Option<LoopStart<'a>>
+    ensures { option_map view_start result ≡ loops.initialized_start variable.now array.now (option_map view_initializer initializer.now) }
+{
+    match array {
+        Some(_) => None,
+        None => match initializer {
+            None => None,
+            Some(initializer) => Some(LoopStart {
+                variable,
+                is_declared: true,
+                from: &initializer.value,
+            }),
+        },
+    }
+}
+
+/// What a declaration begins a loop with.
+fn declared_start<'a>(first: &'a Declarator, rest: &[(Span, Declarator)]) -> Option<LoopStart<'a>>
+    ensures { option_map view_start result ≡ loops.declared_start (view_declarator first.now) (map view_further rest.now) }
+{
+    match rest {
+        [] => initialized_start(&first.name, &first.array, &first.initializer),
+        [_, ..] => None,
+    }
+}
+
+/// What a `for` begins its loop with.
+fn start_of(start: &ForStart) -> Option<LoopStart<'_>>
+    ensures { option_map view_start result ≡ loops.start_of (view_for_start start.now) }
+{
+    match start {
+        ForStart::Nothing(_) => None,
+        ForStart::Expression {
+            value: expression,
+            ..
+        } => assigned_start(expression),
+        ForStart::Declaration(declaration) => {
+            declared_start(&declaration.first, declaration.rest.as_slice())
+        }
+    }
+}
+
+/// Which way a comparison lets a variable go.
+fn comparison_direction(operator: BinaryOperator) -> Option<Direction>
+    ensures { result ≡ loops.comparison_direction operator }
+{
+    match operator {
+        BinaryOperator::Less => Some(Direction::Up),
+        BinaryOperator::LessEqual => Some(Direction::Up),
+        BinaryOperator::Greater => Some(Direction::Down),
+        BinaryOperator::GreaterEqual => Some(Direction::Down),
+        _ => None,
+    }
+}
+
+/// The bound that a comparison of a variable has.
+fn compared<'a>(operator: BinaryOperator, to: &'a Expression) -> Option<Bound<'a>>
+    ensures { option_map view_bound result ≡ loops.compared operator (view_expression to.now) }
+{
+    let direction = comparison_direction(operator)?;
+    Some(Bound {
+        comparison: operator,
+        direction,
+        to,
+    })
+}
+
+/// The bound that a condition gives a variable.
+fn bound_of<'a>(condition: &'a Expression, name: &[u8]) -> Option<Bound<'a>>
+    ensures { option_map view_bound result ≡ loops.bound_of (view_expression condition.now) name.now }
+{
+    match condition {
+        Expression::Binary {
+            left,
+            operator,
+            right,
+            ..
+        } => {
+            if is_named(left, name) {
+                compared(*operator, right)
+            } else {
+                None
+            }
+        }
+        _ => None,
+    }
+}
+
+/// The step by `++` or `--` before the variable.
+fn prefix_step(operator: PrefixOperator) -> Option<Step>
+    ensures { result ≡ loops.prefix_step operator }
+{
+    match operator {
+        PrefixOperator::Increment => Some(one_step(Direction::Up)),
+        PrefixOperator::Decrement => Some(one_step(Direction::Down)),
+        _ => None,
+    }
+}
+
+/// The step by `++` or `--` behind it.
+fn postfix_step(operator: PostfixOperator) -> Step
+    ensures { result ≡ loops.postfix_step operator }
+{
+    match operator {
+        PostfixOperator::Increment => one_step(Direction::Up),
+        PostfixOperator::Decrement => one_step(Direction::Down),
+    }
+}
+
+/// The step by a sum with the variable, `i + c` or `c + i`.
+fn added_step(left: &Expression, right: &Expression, name: &[u8]) -> Option<Step>
+    ensures { result ≡ loops.added_step (view_expression left.now) (view_expression right.now) name.now }
+{
+    if is_named(left, name) {
+        stride_in(Direction::Up, right)
+    } else if is_named(right, name) {
+        stride_in(Direction::Up, left)
+    } else {
+        None
+    }
+}
+
+/// The step by `i - c`.
+fn subtracted_step(left: &Expression, right: &Expression, name: &[u8]) -> Option<Step>
+    ensures { result ≡ loops.subtracted_step (view_expression left.now) (view_expression right.now) name.now }
+{
+    if is_named(left, name) {
+        stride_in(Direction::Down, right)
+    } else {
+        None
+    }
+}
+
+/// The step by `i + c`, `c + i` or `i - c`.
+fn sum_step(
+    operator: BinaryOperator,
+    left: &Expression,
+    right: &Expression,
+    name: &[u8],
+) -> Option<Step>
+    ensures { result ≡ loops.sum_step operator (view_expression left.now) (view_expression right.now) name.now }
+{
+    match operator {
+        BinaryOperator::Add => added_step(left, right, name),
+        BinaryOperator::Subtract => subtracted_step(left, right, name),
+        _ => None,
+    }
+}
+
+/// The step to a value.
+fn value_step(value: &Expression, name: &[u8]) -> Option<Step>
+    ensures { result ≡ loops.value_step (view_expression value.now) name.now }
+{
+    match value {
+        Expression::Binary {
+            left,
+            operator,
+            right,
+            ..
+        } => { sum_step(*operator, left, right, name) }
+        _ => None,
+    }
+}
+
+/// The step by an assignment to the variable.
+fn assigned_step(operator: AssignOperator, value: &Expression, name: &[u8]) -> Option<Step>
+    ensures { result ≡ loops.assigned_step operator (view_expression value.now) name.now }
+{
+    match operator {
+        AssignOperator::Set => value_step(value, name),
+        AssignOperator::Add => stride_in(Direction::Up, value),
+        AssignOperator::Subtract => stride_in(Direction::Down, value),
+        _ => None,
+    }
+}
+
+/// A loop's step.
+fn step_in(step: &Expression, name: &[u8]) -> Option<Step>
+    ensures { result ≡ loops.step_in (view_expression step.now) name.now }
+{
+    match step {
+        Expression::Prefix {
+            operator,
+            operand,
+            ..
+        } => {
+            if is_named(operand, name) {
+                prefix_step(*operator)
+            } else {
+                None
+            }
+        }
+        Expression::Postfix {
+            operand,
+            operator,
+            ..
+        } => {
+            if is_named(operand, name) {
+                Some(postfix_step(*operator))
+            } else {
+                None
+            }
+        }
+        Expression::Assign {
+            target,
+            operator,
+            value,
+            ..
+        } => {
+            if is_named(target, name) {
+                assigned_step(*operator, value, name)
+            } else {
+                None
+            }
+        }
+        _ => None,
+    }
+}
+
+/// Whether a variable grows.
+fn is_up(direction: Direction) -> bool
+    ensures { result ≡ loops.is_up direction }
+{
+    match direction {
+        Direction::Up => true,
+        Direction::Down => false,
+    }
+}
+
+/// Whether two go the same way.
+fn same_direction(one: Direction, other: Direction) -> bool
+    ensures { result ≡ loops.same_direction one other }
+{
+    if is_up(one) {
+        is_up(other)
+    } else {
+        !is_up(other)
+    }
+}
+
+/// The loop of a `for`, where it is canonical.
+fn loop_of(head: &ForHead) -> Option<Loop<'_>>
+    ensures { option_map view_loop result ≡ loops.loop_of (view_for_head head.now) }
+{
+    let start = start_of(&head.start)?;
+    let condition = head.condition.as_ref()?;
+    let step = head.step.as_ref()?;
+    let name = start.variable.text.as_slice();
+    let bound = bound_of(condition, name)?;
+    let step = step_in(step, name)?;
+    if same_direction(bound.direction, step.direction) {
+        Some(Loop {
+            at: head.word,
+            start,
+            comparison: bound.comparison,
+            to: bound.to,
+            step: step.value,
+        })
+    } else {
+        None
+    }
+}
+
+/// The loop that a statement is, where it is a canonical one (OpenMP API 5.2, section 4.4.1): its
+/// variable, bound and step; nothing where it is another statement.
+pub fn loop_in(statement: &Statement) -> Option<Loop<'_>>
+    ensures { option_map view_loop result ≡ loops.loop_in (view_statement statement.now) }
+{
+    match statement {
+        Statement::For { head, .. } => loop_of(head),
+        _ => None,
+    }
+}

@@ -1,0 +1,206 @@
+//! The updates of `atomic`: target, operator, side and operand.
+
+ghost use Rattle.std.specs.Prelude.{◌≡◌, option_map};
+ghost use Rattle.om_resolved.specs.ResolvedView.{view_resolved_expression, view_resolved_statement, view_resolved_update};
+ghost use Rattle.om_rules.specs.Updates.{binary_operator, expression_side, expression_update, operation, other_operand, statement_side, step_operation, step_operator, update_of, updated, value_operation, value_side};
+ghost use Rattle.om_forms.specs.UpdateViews.{view_operation};
+ghost use Rattle.om_tree.specs.View.{view_expression, view_statement};
+
+use om_lexer::Span;
+use om_resolved::{
+    ResolvedExpression, ResolvedStatement, ResolvedUpdate, Side, UpdateOperator, Variable,
+};
+use om_tree::{
+    AssignOperator, BinaryOperator, Expression, PostfixOperator, Statement, same_expression,
+};
+use std::mem;
+
+/// On which side of its operator an assigned value has the target.
+fn value_side(target: &Expression, value: &Expression) -> Side
+    ensures { result ≡ value_side (view_expression target.now) (view_expression value.now) }
+{
+    match value {
+        Expression::Binary { left, .. } => {
+            if same_expression(target, left) {
+                Side::Left
+            } else {
+                Side::Right
+            }
+        }
+        _ => Side::Left,
+    }
+}
+
+/// On which side an expression has its target, where it is an update.
+fn expression_side(expression: &Expression) -> Side
+    ensures { result ≡ expression_side (view_expression expression.now) }
+{
+    match expression {
+        Expression::Assign { target, value, .. } => value_side(target, value),
+        _ => Side::Left,
+    }
+}
+
+/// On which side a statement has its target, where it is an update. Parentheses tell operands apart:
+/// `a[(0)] = a[0] - a[(0)];` has it on the right.
+pub fn statement_side(statement: &Statement) -> Side
+    ensures { result ≡ statement_side (view_statement statement.now) }
+{
+    match statement {
+        Statement::Expression {
+            value: expression,
+            ..
+        } => expression_side(expression),
+        _ => Side::Left,
+    }
+}
+
+/// What is done to the target of an update.
+#[derive(Drop)]
+pub struct Operation {
+    pub operator: UpdateOperator,
+    pub side: Side,
+    pub operand: ResolvedExpression,
+}
+
+fn binary_operator(operator: BinaryOperator) -> Option<UpdateOperator>
+    ensures { result ≡ binary_operator operator }
+{
+    match operator {
+        BinaryOperator::Add => Some(UpdateOperator::Add),
+        BinaryOperator::Subtract => Some(UpdateOperator::Subtract),
+        BinaryOperator::Multiply => Some(UpdateOperator::Multiply),
+        BinaryOperator::Divide => Some(UpdateOperator::Divide),
+        _ => None,
+    }
+}
+
+/// The operand on the other side.
+fn other_operand(
+    side: Side,
+    left: Box<ResolvedExpression>,
+    right: Box<ResolvedExpression>,
+) -> ResolvedExpression
+    ensures { view_resolved_expression result ≡ other_operand side (view_resolved_expression left.value) (view_resolved_expression right.value) }
+{
+    match side {
+        Side::Left => Box::into_inner(right),
+        Side::Right => Box::into_inner(left),
+    }
+}
+
+/// What an assigned value does to a target on that side.
+fn value_operation(side: Side, value: ResolvedExpression) -> Option<Operation>
+    ensures { option_map view_operation result ≡ value_operation side (view_resolved_expression value) }
+{
+    match value {
+        ResolvedExpression::Binary(left, operator, right) => {
+            let operator = binary_operator(operator)?;
+            let operand = other_operand(side, left, right);
+            Some(Operation {
+                operator,
+                side,
+                operand,
+            })
+        }
+        _ => None,
+    }
+}
+
+/// `x op= e` with a target on the left.
+fn compound(operator: UpdateOperator, operand: ResolvedExpression) -> Operation
+    ensures { view_operation result ≡ record { operator = operator; side = Side.Left; operand = view_resolved_expression operand } }
+{
+    Operation {
+        operator,
+        side: Side::Left,
+        operand,
+    }
+}
+
+/// What an assignment does to its target, which stands on that side in the value.
+fn assignment(side: Side, operator: AssignOperator, value: ResolvedExpression) -> Option<Operation>
+    ensures { option_map view_operation result ≡ operation side operator (view_resolved_expression value) }
+{
+    match operator {
+        AssignOperator::Set => value_operation(side, value),
+        AssignOperator::Add => Some(compound(UpdateOperator::Add, value)),
+        AssignOperator::Subtract => Some(compound(UpdateOperator::Subtract, value)),
+        AssignOperator::Multiply => Some(compound(UpdateOperator::Multiply, value)),
+        AssignOperator::Divide => Some(compound(UpdateOperator::Divide, value)),
+        AssignOperator::Remainder => None,
+    }
+}
+
+fn step_operator(operator: PostfixOperator) -> UpdateOperator
+    ensures { result ≡ step_operator operator }
+{
+    match operator {
+        PostfixOperator::Increment => UpdateOperator::Add,
+        PostfixOperator::Decrement => UpdateOperator::Subtract,
+    }
+}
+
+/// `x++` adds 1, and `x--` subtracts it.
+fn step_operation(operator: PostfixOperator) -> Operation
+    ensures { view_operation result ≡ step_operation operator }
+{
+    compound(step_operator(operator), ResolvedExpression::Constant(1))
+}
+
+/// An update of a variable, or of the element of an array at an index.
+fn updated(
+    at: Span,
+    variable: Variable,
+    index: Option<ResolvedExpression>,
+    found: Operation,
+) -> ResolvedUpdate
+    ensures { view_resolved_update result ≡ updated at variable (option_map view_resolved_expression index) (view_operation found) }
+{
+    ResolvedUpdate {
+        at,
+        variable,
+        index,
+        operator: found.operator,
+        side: found.side,
+        operand: found.operand,
+    }
+}
+
+/// The update that an expression is, whose target stands on that side.
+fn expression_update(at: Span, side: Side, expression: ResolvedExpression) -> Option<ResolvedUpdate>
+    ensures { option_map view_resolved_update result ≡ expression_update at side (view_resolved_expression expression) }
+{
+    match expression {
+        ResolvedExpression::Assign(variable, operator, value) => {
+            let found = assignment(side, operator, Box::into_inner(value))?;
+            Some(updated(at, variable, None, found))
+        }
+        ResolvedExpression::AssignElement(array, index, operator, value) => {
+            let found = assignment(side, operator, Box::into_inner(value))?;
+            Some(updated(at, array, Some(Box::into_inner(index)), found))
+        }
+        ResolvedExpression::Postfix(variable, operator) => {
+            Some(updated(at, variable, None, step_operation(operator)))
+        }
+        ResolvedExpression::PostfixElement(array, index, operator) => {
+            let found = step_operation(operator);
+            Some(updated(at, array, Some(Box::into_inner(index)), found))
+        }
+        _ => None,
+    }
+}
+
+/// The update that a statement is, whose target stands on that side of its operator (OpenMP API 5.2,
+/// section 15.8.4); nothing where it is another statement. It takes the expression out of the statement.
+pub fn update_of(side: Side, statement: &mut ResolvedStatement) -> Option<ResolvedUpdate>
+    ensures { option_map view_resolved_update result ≡ update_of side (view_resolved_statement statement.old) }
+{
+    match statement {
+        ResolvedStatement::Expression(at, expression) => {
+            let expression = mem::replace(expression, ResolvedExpression::ThreadNumber);
+            expression_update(*at, side, expression)
+        }
+        _ => None,
+    }
+}

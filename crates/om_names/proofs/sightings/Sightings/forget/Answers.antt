@@ -1,0 +1,26 @@
+use Rattle.std.proofs.Common.{sym, ap, ◌∙◌, if◌then◌else◌, arith}
+use Rattle.std.specs.Option.{option_copied_mut}
+use Rattle.std.specs.Str.{bytes_eq}
+use Rattle.om_names.specs.Sightings.{seen_in, table_of, without_innermost}
+use Rattle.om_names.proofs.Seen.{popped, seen-absent, seen-write}
+use Rattle.om_names.proofs.sightings.Sightings.forget.Goals as goal
+use Rattle.om_names.proofs.sightings.Sightings.forget.Goals.{in-Some, in_default}
+
+pub returns : goal.returns
+returns c other =
+    let es = c.self.inside.names.entries in
+    let name = c.args.name.now in
+    elim c.match-get_mut.branch [
+      | in-Some w ↦
+          let seen = w.in-Some.seen.now in
+          let left = w.pop-innermost.new.self in
+          ap (λ inside. seen_in (table_of inside.names.entries) other) w.self-inside-is
+          ∙ ap (λ now. seen_in (table_of now) other) (c.get_mut.follows.holds left).0
+          ∙ seen-write without_innermost es name seen left other (sym c.get_mut.ensures.value ∙ ap option_copied_mut w.in-Some.is) (sym (popped seen.items left.items w.pop-innermost.result w.pop-innermost.ensures.items (λ some. w.pop-innermost.ensures.variant.1 (omega (arith, seen.ok.0, some)))))
+          ∙ ap (λ table. if bytes_eq other name then without_innermost (seen_in table other) else seen_in table other) c.self.view_is
+      | in_default w ↦
+          ap (λ inside. seen_in (table_of inside.names.entries) other) w.self-inside-is
+          ∙ ap (λ now. seen_in (table_of now.entries) other) c.get_mut.follows.holds-at-none
+          ∙ seen-absent es name other (sym c.get_mut.ensures.value ∙ ap option_copied_mut w.in_default.is)
+          ∙ ap (λ table. if bytes_eq other name then without_innermost (seen_in table other) else seen_in table other) c.self.view_is
+    ]

@@ -1,0 +1,2 @@
+pub mod Sightings
+pub mod Nesting

@@ -1,0 +1,105 @@
+//! What the clauses of a directive say of variables.
+
+ghost use Rattle.std.specs.Prelude.{◌≡◌, false, OnOk, is_some};
+ghost use Rattle.om_rules.specs.DirectiveRules.{after_name, is_listed, nothing_listed, with_default};
+ghost use Rattle.om_rules.specs.Scopes.{scope_of};
+
+use crate::table::{declares, put};
+use indexmap::IndexMap;
+use om_pragma::{DataSharing, Sharing};
+use om_resolved::{Shape, Variable};
+use om_rules::{Meaning, Names, Region, RegionKind};
+use om_tree::Name;
+use std::alloc::{AllocError, Global};
+use std::marker::Model;
+
+/// What the clauses of a directive say of variables.
+#[derive(Drop)]
+pub struct Listed {
+    default: Option<Sharing>,
+    shared: Names,
+    /// The variables of which the construct has copies.
+    copies: IndexMap<Vec<u8>, Meaning>,
+}
+
+impl Model for Listed {
+    ghost use Rattle.om_rules.specs.DirectiveRules as rules;
+    ghost use Rattle.om_rules.specs.Scopes.{scope_of};
+
+    ghost Value = { rules.Listed };
+
+    ghost view = { λ s. record { default = s.default; shared = s.shared; copies = scope_of s.copies.entries } };
+}
+
+impl Listed {
+    /// Nothing is said.
+    pub fn new(alloc: Global) -> Listed
+        ensures { result ≡ nothing_listed }
+    {
+        Listed {
+            default: None,
+            shared: Names::new(alloc),
+            copies: IndexMap::new(alloc),
+        }
+    }
+
+    /// Whether a clause lists a name.
+    pub fn contains(&self, name: &[u8]) -> bool
+        ensures { result ≡ is_listed self.now name.now }
+    {
+        self.shared.contains(name) || declares(&self.copies, name)
+    }
+
+    /// Whether it has a `default`.
+    pub fn has_default(&self) -> bool
+        ensures { result ≡ is_some self.now.default }
+    {
+        self.default.is_some()
+    }
+
+    /// Notes a `default`.
+    pub fn set_default(&mut self, sharing: Sharing)
+        ensures { self.new ≡ with_default self.old sharing }
+    {
+        self.default = Some(sharing);
+    }
+
+    /// Notes a name that stands in the list of a clause.
+    pub fn add(
+        &mut self,
+        alloc: Global,
+        sharing: DataSharing,
+        name: &Name,
+    ) -> Result<(), AllocError>
+        requires is_new { is_listed self.old name.now.text ≡ false }
+        ensures { OnOk result (self.new ≡ after_name sharing self.old name.now) }
+    {
+        let text = name.text.as_slice();
+        let copy = Meaning::Variable(Variable::Local(name.span.start), Shape::Scalar);
+        match sharing {
+            DataSharing::Shared => self.shared.add(alloc, text),
+            DataSharing::Private => put(&mut self.copies, alloc, text, copy),
+            DataSharing::Firstprivate => put(&mut self.copies, alloc, text, copy),
+        }
+    }
+
+    /// The copies, and what else a construct of this kind says of the variables round it.
+    pub fn into_region(self, kind: RegionKind) -> (IndexMap<Vec<u8>, Meaning>, Region)
+        ensures copies { scope_of result.0.entries ≡ self.copies }
+        ensures region { result.1 ≡ record { kind = kind; default = self.default; shared = self.shared } }
+    {
+        let Listed {
+            default,
+            shared,
+            copies,
+        } = self;
+        (
+            copies,
+            Region {
+                kind,
+                default,
+                shared,
+            },
+        )
+    }
+}

@@ -1,0 +1,9 @@
+pub mod Reading
+pub mod Repetition
+pub mod ExpressionReading
+pub mod DeclarationReading
+pub mod LineReading
+pub mod WrongLines
+pub mod PartReading
+pub mod Made
+pub mod Laws

@@ -1,0 +1,313 @@
+//! Operators, and what an operand may begin with.
+
+ghost use Rattle.std.specs.Prelude.{◌≡◌, ◌-◌, IfOk, nat_le, option_map};
+ghost use Rattle.om_parts.specs.ExpressionReading.{assign_of, binary_of, level_operator, postfix_of, prefix_of, prefixed, take_assign, take_operator, take_text, text_of};
+ghost use Rattle.om_parts.specs.Made.{Takes};
+ghost use Rattle.om_parts.specs.Reading.{take};
+ghost use Rattle.om_tree.specs.Formed.{binary_level, level};
+ghost use Rattle.om_tree.specs.Tree.{Binary, Postfix, Prefix};
+ghost use Rattle.om_tree.specs.View.{view_expression};
+
+use crate::boxed::boxed;
+use om_lexer::{Punctuator, Span, Token, TokenKind};
+use om_pragma::Name;
+use om_seq::Seq;
+use om_tree::{AssignOperator, BinaryOperator, Expression, PostfixOperator, PrefixOperator, Text};
+use std::alloc::{AllocError, Global};
+
+/// The operator before an operand that a token of this kind is (C17 6.5.3).
+fn prefix_operator(kind: &TokenKind) -> Option<PrefixOperator>
+    ensures { result ≡ prefix_of kind.now }
+{
+    match kind {
+        TokenKind::Punctuator(Punctuator::Plus) => Some(PrefixOperator::Plus),
+        TokenKind::Punctuator(Punctuator::Minus) => Some(PrefixOperator::Minus),
+        TokenKind::Punctuator(Punctuator::Bang) => Some(PrefixOperator::Not),
+        TokenKind::Punctuator(Punctuator::PlusPlus) => Some(PrefixOperator::Increment),
+        TokenKind::Punctuator(Punctuator::MinusMinus) => Some(PrefixOperator::Decrement),
+        _ => None,
+    }
+}
+
+/// The operator behind an operand that a token of this kind is (C17 6.5.2.4).
+fn postfix_operator(kind: &TokenKind) -> Option<PostfixOperator>
+    ensures { result ≡ postfix_of kind.now }
+{
+    match kind {
+        TokenKind::Punctuator(Punctuator::PlusPlus) => Some(PostfixOperator::Increment),
+        TokenKind::Punctuator(Punctuator::MinusMinus) => Some(PostfixOperator::Decrement),
+        _ => None,
+    }
+}
+
+/// The binary operator that a token of this kind is (C17 6.5.5 to 6.5.14).
+fn binary_operator(kind: &TokenKind) -> Option<BinaryOperator>
+    ensures { result ≡ binary_of kind.now }
+{
+    match kind {
+        TokenKind::Punctuator(Punctuator::OrOr) => Some(BinaryOperator::Or),
+        TokenKind::Punctuator(Punctuator::AndAnd) => Some(BinaryOperator::And),
+        TokenKind::Punctuator(Punctuator::EqualEqual) => Some(BinaryOperator::Equal),
+        TokenKind::Punctuator(Punctuator::BangEqual) => Some(BinaryOperator::NotEqual),
+        TokenKind::Punctuator(Punctuator::Less) => Some(BinaryOperator::Less),
+        TokenKind::Punctuator(Punctuator::Greater) => Some(BinaryOperator::Greater),
+        TokenKind::Punctuator(Punctuator::LessEqual) => Some(BinaryOperator::LessEqual),
+        TokenKind::Punctuator(Punctuator::GreaterEqual) => Some(BinaryOperator::GreaterEqual),
+        TokenKind::Punctuator(Punctuator::Plus) => Some(BinaryOperator::Add),
+        TokenKind::Punctuator(Punctuator::Minus) => Some(BinaryOperator::Subtract),
+        TokenKind::Punctuator(Punctuator::Star) => Some(BinaryOperator::Multiply),
+        TokenKind::Punctuator(Punctuator::Slash) => Some(BinaryOperator::Divide),
+        TokenKind::Punctuator(Punctuator::Percent) => Some(BinaryOperator::Remainder),
+        _ => None,
+    }
+}
+
+/// The assignment that a token of this kind is (C17 6.5.16).
+fn assign_operator(kind: &TokenKind) -> Option<AssignOperator>
+    ensures { result ≡ assign_of kind.now }
+{
+    match kind {
+        TokenKind::Punctuator(Punctuator::Equal) => Some(AssignOperator::Set),
+        TokenKind::Punctuator(Punctuator::PlusEqual) => Some(AssignOperator::Add),
+        TokenKind::Punctuator(Punctuator::MinusEqual) => Some(AssignOperator::Subtract),
+        TokenKind::Punctuator(Punctuator::StarEqual) => Some(AssignOperator::Multiply),
+        TokenKind::Punctuator(Punctuator::SlashEqual) => Some(AssignOperator::Divide),
+        TokenKind::Punctuator(Punctuator::PercentEqual) => Some(AssignOperator::Remainder),
+        _ => None,
+    }
+}
+
+/// How tightly a binary operator binds: from 3, the loosest, to 8.
+fn binary_level(operator: BinaryOperator) -> usize
+    ensures { result ≡ binary_level operator }
+{
+    match operator {
+        BinaryOperator::Or => 3,
+        BinaryOperator::And => 4,
+        BinaryOperator::Equal | BinaryOperator::NotEqual => 5,
+        BinaryOperator::Less
+        | BinaryOperator::Greater
+        | BinaryOperator::LessEqual
+        | BinaryOperator::GreaterEqual => 6,
+        BinaryOperator::Add | BinaryOperator::Subtract => 7,
+        BinaryOperator::Multiply | BinaryOperator::Divide | BinaryOperator::Remainder => 8,
+    }
+}
+
+/// Whether an expression binds as tightly as what may be assigned to: a unary expression.
+fn is_unary(expression: &Expression) -> bool
+    ensures { result ≡ nat_le 9 (level (view_expression expression.now)) }
+{
+    match expression {
+        Expression::Binary { operator, .. } => 9 <= binary_level(*operator),
+        Expression::Conditional { .. } | Expression::Assign { .. } => false,
+        _ => true,
+    }
+}
+
+/// The operator before an operand that stands first, its span, and the tokens behind it.
+#[tactic(auto, unfolding(crate::specs::ExpressionReading::take_operator, crate::specs::Reading::take))]
+pub fn take_prefix(tokens: &[Token]) -> Option<(PrefixOperator, Span, &[Token])>
+    ensures { Takes result (take_operator prefix_of tokens.now) }
+{
+    match tokens {
+        [first, rest @ ..] => {
+            let operator = prefix_operator(&first.kind)?;
+            Some((operator, first.span, rest))
+        }
+        [] => None,
+    }
+}
+
+/// The operator behind an operand that stands first, its span, and the tokens behind it.
+#[tactic(auto, unfolding(crate::specs::ExpressionReading::take_operator, crate::specs::Reading::take))]
+pub fn take_postfix(tokens: &[Token]) -> Option<(PostfixOperator, Span, &[Token])>
+    ensures { Takes result (take_operator postfix_of tokens.now) }
+{
+    match tokens {
+        [first, rest @ ..] => {
+            let operator = postfix_operator(&first.kind)?;
+            Some((operator, first.span, rest))
+        }
+        [] => None,
+    }
+}
+
+/// The binary operator of this level that a token of this kind is.
+fn operator_of_level(kind: &TokenKind, wanted: usize) -> Option<BinaryOperator>
+    ensures { result ≡ level_operator wanted kind.now }
+{
+    let operator = binary_operator(kind)?;
+    if binary_level(operator) == wanted {
+        Some(operator)
+    } else {
+        None
+    }
+}
+
+/// The binary operator of this level that stands first, its span, and the tokens behind it.
+#[tactic(auto, unfolding(crate::specs::ExpressionReading::take_operator, crate::specs::Reading::take))]
+fn take_binary(tokens: &[Token], wanted: usize) -> Option<(BinaryOperator, Span, &[Token])>
+    ensures { Takes result (take_operator (level_operator wanted) tokens.now) }
+{
+    match tokens {
+        [first, rest @ ..] => {
+            let operator = operator_of_level(&first.kind, wanted)?;
+            Some((operator, first.span, rest))
+        }
+        [] => None,
+    }
+}
+
+/// The operator that stands first, if it is of the next looser level than the tightest
+/// `tighter` ones, its span, and the tokens behind it.
+pub fn take_looser(tokens: &[Token], tighter: usize) -> Option<(BinaryOperator, Span, &[Token])>
+    ensures { Takes result (take_operator (level_operator (8 - tighter)) tokens.now) }
+{
+    take_binary(tokens, 8usize.saturating_sub(tighter))
+}
+
+/// The assignment that stands first, its span, and the tokens behind it.
+#[tactic(auto, unfolding(crate::specs::ExpressionReading::take_operator, crate::specs::Reading::take))]
+fn take_any_assign(tokens: &[Token]) -> Option<(AssignOperator, Span, &[Token])>
+    ensures { Takes result (take_operator assign_of tokens.now) }
+{
+    match tokens {
+        [first, rest @ ..] => {
+            let operator = assign_operator(&first.kind)?;
+            Some((operator, first.span, rest))
+        }
+        [] => None,
+    }
+}
+
+/// The assignment to this expression that stands first, its span, and the tokens behind it.
+/// None where no assignment may stand, or none to this expression.
+#[tactic(auto, unfolding(crate::specs::ExpressionReading::take_assign))]
+pub fn take_assign<'a>(
+    may_assign: bool,
+    target: &Expression,
+    tokens: &'a [Token],
+) -> Option<(AssignOperator, Span, &'a [Token])>
+    ensures { Takes result (take_assign may_assign (view_expression target.now) tokens.now) }
+{
+    if may_assign && is_unary(target) {
+        take_any_assign(tokens)
+    } else {
+        None
+    }
+}
+
+/// The text that stands first, and the tokens behind it.
+#[tactic(auto, unfolding(crate::specs::Reading::take))]
+fn take_any_text(alloc: Global, tokens: &[Token]) -> Result<Option<(Text, &[Token])>, AllocError>
+    ensures { IfOk result (λ found. option_map (λ x. (x.0, x.1.now)) found ≡ take
+        (λ t. text_of t.kind t.span) tokens.now) }
+{
+    match tokens {
+        [first, rest @ ..] => match &first.kind {
+            TokenKind::Text(value) => {
+                let value = Seq::of(value.as_slice().to_vec(alloc)?);
+                let span = first.span;
+                Ok(Some((Text { value, span }, rest)))
+            }
+            _ => Ok(None),
+        },
+        [] => Ok(None),
+    }
+}
+
+/// The text that stands first, where the function of this name takes one, and the tokens
+/// behind it.
+#[tactic(auto, unfolding(crate::specs::ExpressionReading::take_text))]
+pub fn take_text<'a>(
+    alloc: Global,
+    function: &Name,
+    tokens: &'a [Token],
+) -> Result<Option<(Text, &'a [Token])>, AllocError>
+    ensures { IfOk result (λ found. option_map (λ x. (x.0, x.1.now)) found
+        ≡ take_text function.now tokens.now) }
+{
+    if function.text.as_slice() == b"printf".as_slice() {
+        take_any_text(alloc, tokens)
+    } else {
+        Ok(None)
+    }
+}
+
+/// An operand behind these operators.
+#[inline(never)]
+pub fn prefixed(
+    alloc: Global,
+    operators: Vec<(PrefixOperator, Span)>,
+    operand: Box<Expression>,
+) -> Result<Box<Expression>, AllocError>
+    ensures { IfOk result (λ made. view_expression made.value ≡ prefixed operators.items
+        (view_expression operand.value)) }
+{
+    let mut outer = operators;
+    let mut made = operand;
+    while let Some((operator, at)) = outer.pop() {
+        made = with_prefix(alloc, operator, at, made)?;
+    }
+    Ok(made)
+}
+
+/// An operator and its operand.
+#[inline(never)]
+fn with_prefix(
+    alloc: Global,
+    operator: PrefixOperator,
+    at: Span,
+    operand: Box<Expression>,
+) -> Result<Box<Expression>, AllocError>
+    ensures { IfOk result (λ made. view_expression made.value ≡ Prefix operator at
+        (view_expression operand.value)) }
+{
+    let prefix = Expression::Prefix {
+        operator,
+        operator_span: at,
+        operand,
+    };
+    boxed(alloc, prefix)
+}
+
+/// An operand and the operator behind it.
+#[inline(never)]
+pub fn postfixed(
+    alloc: Global,
+    operand: Box<Expression>,
+    operator: PostfixOperator,
+    at: Span,
+) -> Result<Box<Expression>, AllocError>
+    ensures { IfOk result (λ made. view_expression made.value ≡ Postfix
+        (view_expression operand.value) operator at) }
+{
+    let postfix = Expression::Postfix {
+        operand,
+        operator,
+        operator_span: at,
+    };
+    boxed(alloc, postfix)
+}
+
+/// Two operands and the operator between them.
+#[inline(never)]
+pub fn joined(
+    alloc: Global,
+    left: Box<Expression>,
+    operator: BinaryOperator,
+    at: Span,
+    right: Box<Expression>,
+) -> Result<Box<Expression>, AllocError>
+    ensures { IfOk result (λ made. view_expression made.value ≡ Binary
+        (view_expression left.value) operator at (view_expression right.value)) }
+{
+    let binary = Expression::Binary {
+        left,
+        operator,
+        operator_span: at,
+        right,
+    };
+    boxed(alloc, binary)
+}

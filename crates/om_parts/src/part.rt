@@ -1,0 +1,86 @@
+//! The parts of statements that are no statements.
+
+ghost use Rattle.om_tree.specs.Limits.{accepted};
+ghost use Rattle.om_parts.specs.Made.{ReadsExpression};
+ghost use Rattle.om_parts.specs.PartReading.{global_at, parts};
+ghost use Rattle.om_parts.specs.Reading.{Reads};
+ghost use Rattle.om_tree.specs.View.{view_expression, view_declaration, view_directive};
+
+use crate::declaration::{Initial, declaration_after, local_declaration};
+use crate::expression::whole;
+use crate::line::line;
+use om_lexer::{SourceFault, Span, Token};
+use om_pragma::{Directive, Name};
+use om_tree::{Declaration, Expression, NESTING_LIMIT};
+use std::alloc::Global;
+
+/// A whole expression, and the tokens behind it.
+#[tactic(auto, unfolding(crate::specs::PartReading::parts))]
+pub fn expression(
+    alloc: Global,
+    tokens: &[Token],
+) -> Result<(Box<Expression>, &[Token]), SourceFault>
+    ensures { ReadsExpression result ((parts accepted).expression tokens.now) }
+{
+    whole(alloc, tokens, NESTING_LIMIT)
+}
+
+/// A whole expression in the parentheses of a statement, and the tokens behind it.
+#[tactic(auto, unfolding(crate::specs::PartReading::parts))]
+pub fn enclosed(alloc: Global, tokens: &[Token]) -> Result<(Box<Expression>, &[Token]), SourceFault>
+    ensures { ReadsExpression result ((parts accepted).enclosed tokens.now) }
+{
+    whole(alloc, tokens, NESTING_LIMIT - 1)
+}
+
+/// A declaration in a block, of which `int` is taken, and the tokens behind it.
+#[tactic(auto, unfolding(crate::specs::PartReading::parts))]
+pub fn declaration(
+    alloc: Global,
+    int: Span,
+    tokens: &[Token],
+) -> Result<(Declaration, &[Token]), SourceFault>
+    ensures { Reads (λ x. (view_declaration x.0, x.1.now)) result
+        ((parts accepted).declaration int tokens.now) }
+{
+    local_declaration(alloc, NESTING_LIMIT, int, tokens)
+}
+
+/// A declaration in the parentheses of a `for`, of which `int` is taken, and the tokens behind it.
+#[tactic(auto, unfolding(crate::specs::PartReading::parts))]
+pub fn enclosed_declaration(
+    alloc: Global,
+    int: Span,
+    tokens: &[Token],
+) -> Result<(Declaration, &[Token]), SourceFault>
+    ensures { Reads (λ x. (view_declaration x.0, x.1.now)) result
+        ((parts accepted).enclosed_declaration int tokens.now) }
+{
+    local_declaration(alloc, NESTING_LIMIT - 1, int, tokens)
+}
+
+/// A directive line, and the tokens behind it.
+#[tactic(auto, unfolding(crate::specs::PartReading::parts))]
+pub fn directive_line(
+    alloc: Global,
+    tokens: &[Token],
+) -> Result<(Box<Directive<Expression>>, &[Token]), SourceFault>
+    ensures { Reads (λ x. (view_directive x.0.value, x.1.now)) result
+        ((parts accepted).line tokens.now) }
+{
+    line(alloc, tokens)
+}
+
+/// The rest of a declaration at file scope, of which `int` and the first name are taken, and the
+/// tokens behind it.
+#[tactic(auto, unfolding(crate::specs::PartReading::global_at, crate::specs::DeclarationReading::initial_at))]
+pub fn global_declaration(
+    alloc: Global,
+    int: Span,
+    name: Name,
+    tokens: &[Token],
+) -> Result<(Declaration, &[Token]), SourceFault>
+    ensures { Reads (λ x. (view_declaration x.0, x.1.now)) result (global_at int name tokens.now) }
+{
+    declaration_after(alloc, Initial::Constant, int, name, tokens)
+}

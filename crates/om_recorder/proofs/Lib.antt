@@ -1,0 +1,4 @@
+mod Inserted
+mod Touched
+mod ReadyNames
+pub mod Freeing

@@ -1,5 +1,0 @@
-use Rattle.om_scope.proofs.ExpressionsWhole.{whole_expression}
-use Rattle.om_scope.proofs.laws.unbroken_expressions_are_whole.Goals as goal
-
-pub returns : goal.returns
-returns c = whole_expression

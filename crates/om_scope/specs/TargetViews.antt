@@ -1,9 +1,0 @@
--- The tree of what is assigned to.
-use Rattle.om_scope.specs.declared.expression.Target.{Target}
-use Rattle.om_scope.specs.declared.expression.Target.TheVariants as targets
-use Rattle.om_scope.specs.Resolution.{TargetTree, Scalar, ElementOf}
-use Rattle.om_resolved.specs.ResolvedView.{view_resolved_expression}
-
-abbrev pub view_target : Target → TargetTree
-view_target (targets.Variable variable) = Scalar variable
-view_target (targets.Element variable index) = ElementOf variable (view_resolved_expression index.value)

@@ -1,0 +1,135 @@
+//! What a `for` has before its body (C17 6.8.5.3).
+
+ghost use Rattle.std.specs.Prelude.{◌≡◌, ◌++◌, OnOk, IfOk, Some, option_map};
+ghost use Rattle.om_tree.specs.View.{view_expression, view_for_head, view_for_start};
+ghost use Rattle.om_resolved.specs.ResolvedTree as resolved;
+ghost use Rattle.om_resolved.specs.ResolvedView.{view_resolved_expression, view_resolved_start, view_resolved_statement};
+ghost use Rattle.om_rules.specs.Checks.{Checks};
+ghost use Rattle.om_rules.specs.StatementResolution.{resolved_perhaps, resolved_start};
+ghost use Rattle.om_rules.specs.StatementRules.{after_for_start, for_start_breaches, for_turn_breaches, perhaps_breaches};
+
+use om_lexer::{SourceFault, Span};
+use om_names::Symbols;
+use om_resolved::{ResolvedExpression, ResolvedStart, ResolvedStatement};
+use om_tree::{Expression, ForHead, ForStart};
+use om_uses::{boxed_expression, resolve_locals, unboxed};
+use std::alloc::Global;
+
+/// What a `for` has before its body.
+#[derive(Drop)]
+pub struct ResolvedHead {
+    start: Box<ResolvedStart>,
+    condition: Option<Box<ResolvedExpression>>,
+    step: Option<Box<ResolvedExpression>>,
+}
+
+/// What a `for` has before its body: what it begins with, its condition and its step.
+#[tactic(auto, using(om_rules::specs::InRow::first_of_left))]
+pub fn resolve_for_head(
+    alloc: Global,
+    symbols: &mut Symbols,
+    head: &ForHead,
+) -> Result<ResolvedHead, SourceFault>
+    ensures checked { let tree = view_for_head head.now in
+        Checks result (for_start_breaches symbols.old tree.start ++ for_turn_breaches (after_for_start symbols.old tree.start) tree) }
+    ensures in_scope { OnOk result (symbols.new ≡ after_for_start symbols.old (view_for_head head.now).start) }
+    ensures start { IfOk result (λ found. resolved_start symbols.old (view_for_head head.now).start ≡ Some (view_resolved_start found.start.value)) }
+    ensures condition { let tree = view_for_head head.now in
+        IfOk result (λ found. resolved_perhaps (after_for_start symbols.old tree.start) tree.condition ≡ Some (option_map (λ boxed. view_resolved_expression boxed.value) found.condition)) }
+    ensures step { let tree = view_for_head head.now in
+        IfOk result (λ found. resolved_perhaps (after_for_start symbols.old tree.start) tree.step ≡ Some (option_map (λ boxed. view_resolved_expression boxed.value) found.step)) }
+{
+    let start = Box::new(alloc, resolve_for_start(alloc, symbols, &head.start)?)?;
+    let (condition, step) = resolve_for_turn(alloc, symbols, head)?;
+    Ok(ResolvedHead {
+        start,
+        condition,
+        step,
+    })
+}
+
+/// What a `for` begins with.
+#[tactic(auto, unfolding(om_rules::specs::StatementResolution::resolved_start))]
+fn resolve_for_start(
+    alloc: Global,
+    symbols: &mut Symbols,
+    start: &ForStart,
+) -> Result<ResolvedStart, SourceFault>
+    ensures checked { Checks result (for_start_breaches symbols.old (view_for_start start.now)) }
+    ensures in_scope { OnOk result (symbols.new ≡ after_for_start symbols.old (view_for_start start.now)) }
+    ensures resolved { IfOk result (λ found. resolved_start symbols.old (view_for_start start.now) ≡ Some (view_resolved_start found)) }
+{
+    match start {
+        ForStart::Nothing(_) => Ok(ResolvedStart::Nothing),
+        ForStart::Expression {
+            value: expression,
+            ..
+        } => {
+            let expression = boxed_expression(alloc, symbols, false, expression)?;
+            Ok(ResolvedStart::Expression(Box::into_inner(expression)))
+        }
+        ForStart::Declaration(declaration) => {
+            let declared = resolve_locals(alloc, symbols, declaration)?;
+            Ok(ResolvedStart::Declaration(declared))
+        }
+    }
+}
+
+/// The condition and the step of a `for`.
+#[tactic(auto, using(om_rules::specs::InRow::first_of_left))]
+fn resolve_for_turn(
+    alloc: Global,
+    symbols: &Symbols,
+    head: &ForHead,
+) -> Result<
+    (
+        Option<Box<ResolvedExpression>>,
+        Option<Box<ResolvedExpression>>,
+    ),
+    SourceFault,
+>
+    ensures checked { Checks result (for_turn_breaches symbols.now (view_for_head head.now)) }
+    ensures condition { IfOk result (λ found. resolved_perhaps symbols.now (view_for_head head.now).condition ≡ Some (option_map (λ boxed. view_resolved_expression boxed.value) found.0)) }
+    ensures step { IfOk result (λ found. resolved_perhaps symbols.now (view_for_head head.now).step ≡ Some (option_map (λ boxed. view_resolved_expression boxed.value) found.1)) }
+{
+    let condition = resolve_perhaps(alloc, symbols, true, &head.condition)?;
+    let step = resolve_perhaps(alloc, symbols, false, &head.step)?;
+    Ok((condition, step))
+}
+
+/// An expression that may be left out.
+fn resolve_perhaps(
+    alloc: Global,
+    symbols: &Symbols,
+    for_value: bool,
+    expression: &Option<Expression>,
+) -> Result<Option<Box<ResolvedExpression>>, SourceFault>
+    ensures checked { Checks result (perhaps_breaches symbols.now for_value (option_map view_expression expression.now)) }
+    ensures resolved { IfOk result (λ found. resolved_perhaps symbols.now (option_map view_expression expression.now) ≡ Some (option_map (λ boxed. view_resolved_expression boxed.value) found)) }
+{
+    match expression {
+        None => Ok(None),
+        Some(expression) => {
+            let expression = boxed_expression(alloc, symbols, for_value, expression)?;
+            Ok(Some(expression))
+        }
+    }
+}
+
+/// A `for` with its body.
+pub fn for_of(at: Span, head: ResolvedHead, body: Box<ResolvedStatement>) -> ResolvedStatement
+    ensures { view_resolved_statement result ≡ resolved.For at (view_resolved_start head.start.value) (option_map (λ boxed. view_resolved_expression boxed.value) head.condition) (option_map (λ boxed. view_resolved_expression boxed.value) head.step) (view_resolved_statement body.value) }
+{
+    let ResolvedHead {
+        start,
+        condition,
+        step,
+    } = head;
+    ResolvedStatement::For(
+        at,
+        Box::into_inner(start),
+        unboxed(condition),
+        unboxed(step),
+        body,
+    )
+}

@@ -1,0 +1,124 @@
+//! Two seats of a session, with many orders for each.
+
+ghost use Rattle.std.specs.Prelude.{◌≡◌, ◌≤◌, IfOk, length, vec_len};
+
+use anyhow::Result;
+use om_book::{Blank, Book, Closed, Command, Session, Sitting};
+use om_cells::Choice;
+use om_drive::{Crew, Driven, Gate, Order, drive};
+use om_shell::debuggee_of;
+use om_view::Debuggee;
+use std::alloc::{AllocError, Global};
+use std::marker::Brand;
+use std::sync::Wait;
+use std::thread::Threads;
+
+/// Two threads that add 1 to one variable.
+const SOURCE: &str = "int x;\nint main(void){\n#pragma omp parallel\nx = x + 1;\n}";
+
+/// How many orders each seat gets.
+const ORDERS: u64 = 200;
+
+/// Whether each order of two seats is answered, with a record and a receipt that stands.
+pub(crate) fn all_are_answered<R: Threads + Wait + Sync>(rt: &R, alloc: Global) -> Result<bool> {
+    let Ok(debuggee) = debuggee_of(alloc, SOURCE.as_bytes()) else {
+        return Ok(false);
+    };
+    let Debuggee { program, names: _ } = debuggee;
+    let book = Book::new(alloc, program, 2)?;
+    Ok(drive_two::<Brand, _>(rt, alloc, Blank::new(2), book)?)
+}
+
+/// Drives two seats over a book without records.
+#[tactic(auto, using(om_recorder::proofs::Freeing::seats_differ, om_recorder::proofs::Freeing::seats_count))]
+fn drive_two<L: Sitting + Send + Sync, R: Threads + Wait + Sync>(
+    rt: &R,
+    alloc: Global,
+    blank: Blank,
+    book: Book,
+) -> Result<bool, AllocError>
+    requires name { blank.ledger.name ≡ L.name }
+    requires parts { blank.ledger.parts ≡ L.parts }
+    requires opened { book ≡ L.opened }
+    requires workers { book.start.workers ≡ L.workers }
+    requires two { blank.seats ≡ 2 }
+{
+    let Ok((session, debuggees)) = Session::<L>::new(alloc, blank, book) else {
+        return Err(AllocError);
+    };
+    let gates = two_gates(alloc)?;
+    let orders = two_lists(alloc)?;
+    let crew = Crew { debuggees, gates };
+    let Driven {
+        seats,
+        answers,
+        fault,
+    } = drive(rt, alloc, &session, crew, orders.as_slice());
+    let Ok(
+        Closed {
+            book,
+            calls,
+            standing,
+            ..
+        },
+    ) = session.close(seats)
+    else {
+        return Ok(false);
+    };
+    let answered = answers.iter().filter(|answer| answer.reply.is_ok()).count();
+    Ok(
+        fault.is_none()
+            && answers.len() == 400
+            && answered == 400
+            && calls == 400
+            && standing == 400
+            && book.records() == 400,
+    )
+}
+
+/// A gate that holds nobody back.
+#[derive(Clone, Copy, Drop)]
+struct Open;
+
+impl Gate for Open {
+    fn may_answer(&mut self, _order: u64) -> bool {
+        true
+    }
+}
+
+/// A gate for each of two seats.
+fn two_gates(alloc: Global) -> Result<Vec<Open>, AllocError>
+    ensures { IfOk result (λ gates. vec_len gates ≡ 2) }
+{
+    let mut gates = Vec::new(alloc);
+    gates.push(Open)?;
+    gates.push(Open)?;
+    Ok(gates)
+}
+
+/// A list of orders for each of two seats.
+fn two_lists(alloc: Global) -> Result<Vec<Vec<Order>>, AllocError>
+    ensures { IfOk result (λ lists. vec_len lists ≡ 2) }
+{
+    let mut lists = Vec::new(alloc);
+    lists.push(steps_of(alloc, 0, 0)?)?;
+    lists.push(steps_of(alloc, 1, ORDERS)?)?;
+    Ok(lists)
+}
+
+/// Orders for the steps of a worker, numbered from the first.
+fn steps_of(alloc: Global, worker: u8, first: u64) -> Result<Vec<Order>, AllocError>
+    requires { first ≤ 200 }
+{
+    let mut orders = Vec::new(alloc);
+    for index in 0..ORDERS {
+        orders.push(Order {
+            number: first + index,
+            command: Command::Step {
+                worker,
+                choice: Choice::Next,
+            },
+        })?;
+    }
+    Ok(orders)
+}

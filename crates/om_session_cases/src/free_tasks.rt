@@ -1,0 +1,76 @@
+//! Free runs of a program of tasks, until it has ended.
+
+use crate::session::written;
+use anyhow::Result;
+use std::alloc::Global;
+use std::sync::Wait;
+use std::thread::Threads;
+
+/// A program that makes 188 steps in all, whoever makes them. Behind each free run at least one
+/// more of its waits has ended: so ten suffice, in whatever order the workers come.
+const SESSION: &str = r#"#include <stdio.h>
+int fib(int n){
+int a, b;
+if (n < 2) return n;
+#pragma omp task shared(a)
+a = fib(n - 1);
+#pragma omp task shared(b)
+b = fib(n - 2);
+#pragma omp taskwait
+return a + b;
+}
+int main(void){
+#pragma omp parallel
+#pragma omp single
+printf("%d\n", fib(4));
+}
+%%
+free 1000
+free 1000
+free 1000
+free 1000
+free 1000
+free 1000
+free 1000
+free 1000
+free 1000
+free 1000
+history
+where 0
+output
+"#;
+
+/// How many steps the program makes.
+const STEPS: u64 = 188;
+
+/// What is written in the end.
+const END: &str = "worker 0 ended 0\noutput 2 bytes\n3\n\n";
+
+/// Whether free runs end the program, and say how many steps they made.
+pub(crate) fn free_runs_end_tasks<R: Threads + Wait + Sync>(rt: &R, alloc: Global) -> Result<bool> {
+    let bytes = written(rt, alloc, SESSION)?;
+    let text = str::from_utf8(bytes.as_slice()).unwrap_or("no text");
+    Ok(steps_freed(text) == STEPS && steps_shown(text) == STEPS && text.ends_with(END))
+}
+
+/// How many steps the answers of free runs say, in all.
+fn steps_freed(text: &str) -> u64 {
+    let mut steps = 0u64;
+    for line in text.lines() {
+        if let Some(number) = line.strip_prefix("freed ") {
+            steps = steps.saturating_add(number.parse().unwrap_or(0));
+        }
+    }
+    steps
+}
+
+/// How many steps the history shows.
+fn steps_shown(text: &str) -> u64 {
+    let mut steps = 0u64;
+    for line in text.lines() {
+        if line.starts_with("#") {
+            steps = steps.saturating_add(1);
+        }
+    }
+    steps
+}

@@ -1,0 +1,166 @@
+//! Two workers, each of which waits inside its call until the other's has begun.
+
+ghost use Rattle.std.specs.Prelude.{◌≡◌, ◌++◌, ◌∷◌, [], IfOk, vec_len};
+ghost use Rattle.om_drive.specs.Calls.{last_place_in};
+
+use anyhow::Result;
+use om_book::{CallError, Command, Query, Receipt, Reply};
+use om_drive::{Crew, Debuggee, Gate, Order, drive_over};
+use om_history::StepReply;
+use std::alloc::{AllocError, Global};
+use std::sync::Wait;
+use std::sync::atomic::{AtomicBool, Ordering};
+use std::thread::{Threads, yield_now};
+
+/// How often the other's flag is looked at.
+const LOOKS: u32 = 1_000_000;
+
+/// A debuggee that raises its flag inside its call, and waits there for the other's.
+#[derive(Drop)]
+struct Fake<'a> {
+    mine: &'a AtomicBool,
+    other: &'a AtomicBool,
+    /// Whether it saw the other's flag in time.
+    saw: bool,
+    made: Vec<Receipt>,
+}
+
+impl<'a> Debuggee for Fake<'a> {
+    ghost use Rattle.om_drive.specs.Calls.{Place};
+
+    ghost place = { λ f. record { number = 0; workers = 2 } };
+
+    ghost made = { λ f. f.made.items };
+
+    fn workers(&self) -> u8 {
+        2
+    }
+
+    fn call<R: Wait>(&mut self, _rt: &R, command: Command) -> Result<Reply, CallError> {
+        self.mine.store(true, Ordering::SeqCst);
+        self.saw = is_raised(self.other);
+        let receipt = Receipt {
+            place: 0,
+            command,
+            reply: Reply::Step(StepReply::Ended),
+        };
+        match self.made.push(receipt) {
+            Ok(()) => Ok(Reply::Step(StepReply::Ended)),
+            Err(_) => Err(CallError::OutOfMemory),
+        }
+    }
+
+    fn last_place(&self) -> Option<u64> {
+        last_place(self.made.as_slice())
+    }
+}
+
+/// The place of the last receipt.
+fn last_place(receipts: &[Receipt]) -> Option<u64>
+    ensures { result ≡ last_place_in receipts.now }
+{
+    match receipts.last() {
+        Some(receipt) => Some(receipt.place),
+        None => None,
+    }
+}
+
+/// Whether the flag is raised in time.
+fn is_raised(flag: &AtomicBool) -> bool {
+    for _ in 0..LOOKS {
+        if flag.load(Ordering::SeqCst) {
+            return true;
+        }
+        yield_now();
+    }
+    false
+}
+
+/// A gate that says no until its flag, if it has one, is raised.
+#[derive(Drop)]
+struct After<'a> {
+    flag: Option<&'a AtomicBool>,
+}
+
+impl<'a> Gate for After<'a> {
+    fn may_answer(&mut self, _order: u64) -> bool {
+        match self.flag {
+            None => true,
+            Some(flag) => {
+                let is_raised = flag.load(Ordering::SeqCst);
+                if !is_raised {
+                    yield_now();
+                }
+                is_raised
+            }
+        }
+    }
+}
+
+/// Whether two workers are driven side by side: none comes late, and each sees the other inside.
+pub(crate) fn both_are_inside_at_once<R: Threads + Wait + Sync>(
+    rt: &R,
+    alloc: Global,
+) -> Result<bool> {
+    let (zero, one) = (AtomicBool::new(false), AtomicBool::new(false));
+    let crew = Crew {
+        debuggees: fakes(alloc, &zero, &one)?,
+        gates: gates(alloc, &one)?,
+    };
+    let orders = orders(alloc)?;
+    let driven = drive_over(rt, alloc, crew, orders.as_slice());
+    let in_time = driven.answers.iter().filter(|answer| !answer.late).count();
+    let seen = driven.debuggees.iter().filter(|fake| fake.saw).count();
+    Ok(driven.fault.is_none() && in_time == 2 && seen == 2)
+}
+
+fn fakes<'a>(
+    alloc: Global,
+    zero: &'a AtomicBool,
+    one: &'a AtomicBool,
+) -> Result<Vec<Fake<'a>>, AllocError>
+    ensures { IfOk result (λ fakes. vec_len fakes ≡ 2) }
+{
+    let mut fakes = Vec::new(alloc);
+    fakes.push(Fake {
+        mine: zero,
+        other: one,
+        saw: false,
+        made: Vec::new(alloc),
+    })?;
+    fakes.push(Fake {
+        mine: one,
+        other: zero,
+        saw: false,
+        made: Vec::new(alloc),
+    })?;
+    Ok(fakes)
+}
+
+fn gates(alloc: Global, one: &AtomicBool) -> Result<Vec<After<'_>>, AllocError>
+    ensures { IfOk result (λ gates. vec_len gates ≡ 2) }
+{
+    let mut gates = Vec::new(alloc);
+    gates.push(After { flag: Some(one) })?;
+    gates.push(After { flag: None })?;
+    Ok(gates)
+}
+
+/// One order for each of the two.
+fn orders(alloc: Global) -> Result<Vec<Vec<Order>>, AllocError>
+    ensures { IfOk result (λ lists. vec_len lists ≡ 2) }
+{
+    let mut lists = Vec::new(alloc);
+    lists.push(one_order(alloc, 0)?)?;
+    lists.push(one_order(alloc, 1)?)?;
+    Ok(lists)
+}
+
+fn one_order(alloc: Global, number: u64) -> Result<Vec<Order>, AllocError> {
+    let mut orders = Vec::new(alloc);
+    orders.push(Order {
+        number,
+        command: Command::Look(Query::Ready),
+    })?;
+    Ok(orders)
+}

@@ -1,0 +1,28 @@
+-- Where no command is a free run, the list of free runs changes nothing.
+use Rattle.std.specs.Prelude.{◌≡◌, ℕ, cond, List, [], ◌∷◌, Result, Ok, Err, refl}
+use Rattle.std.specs.List.{AllByRecursion}
+use Rattle.std.proofs.Common.{◌∙◌, ap, sym}
+use Rattle.om_lexer.specs.declared.fault.SourceFault.{SourceFault}
+use Rattle.om_view.specs.declared.debuggee.Debuggee.{Debuggee}
+use Rattle.om_view.specs.declared.debugger.Debugger.{Debugger}
+use Rattle.om_view.specs.Freed.{FreeRun}
+use Rattle.om_view.specs.Views.{Answer, answered, opened}
+use Rattle.om_view.proofs.Answering.{answered_same, none_behind}
+use Rattle.om_shell.specs.Laws.{AsksNoFreeRun}
+use Rattle.om_shell.specs.Script.{transcript_of}
+use Rattle.om_shell.specs.Sessions.{after_answer, session}
+use Rattle.om_shell.specs.Transcript.{Transcript}
+
+session_same : (d : Debugger) (runs : List FreeRun) (lines : List (List ℕ)) → AllByRecursion AsksNoFreeRun lines → session d runs lines ≡ session d [] lines
+session_same d runs [] h = refl
+session_same d runs (line ∷ more) h =
+    let a = answered d [] line in
+    let plain = h.0 d.recorder.machine.workers in
+    ap (λ (x : Answer). after_answer x (session x.view x.runs more)) (answered_same d line runs plain)
+    ∙ ap (λ (t : Transcript Debugger). after_answer a t) (session_same a.view runs more h.1)
+    ∙ ap (λ (rs : List FreeRun). after_answer a (session a.view rs more)) (sym (none_behind d line plain))
+
+pub one_transcript : (verdict : Result Debuggee SourceFault) (workers : ℕ) (runs : List FreeRun) (source : List ℕ) (lines : List (List ℕ)) → AllByRecursion AsksNoFreeRun lines
+    → transcript_of verdict workers runs source lines ≡ transcript_of verdict workers [] source lines
+one_transcript (Ok debuggee) workers runs source lines h = session_same (opened debuggee workers) runs lines h
+one_transcript (Err fault) workers runs source lines h = refl

@@ -1,0 +1,8 @@
+//! What is true of every script.
+
+ghost use Rattle.om_shell.specs.Laws.{OneScript};
+
+/// Where no command is a free run, what is written is decided by the bytes that are read.
+pub fn one_script()
+    ensures { OneScript }
+{}

@@ -1,0 +1,3 @@
+pub mod Firsts
+pub mod Items
+pub mod Arguments

@@ -1,0 +1,18 @@
+use Rattle.std.proofs.Common.{◌≡◌, map, drop}
+use Rattle.om_rules.specs.DirectiveRules.{after_name, listed_breaches, sharing_of}
+use Rattle.om_rules.specs.Perhaps.{each}
+use Rattle.om_resolved.specs.ResolvedView.{view_resolved_clause}
+use Rattle.om_rules.specs.StatementResolution.{resolved_listed}
+use Rattle.om_rules.specs.InRow.{Unbroken, made_and}
+use Rattle.om_uses.proofs.directive.list_further_names.Given as goal
+
+abbrev pub invariant-loop-further : goal.invariant-loop-further
+invariant-loop-further l =
+    let all = map (λ further. further.1) l.rest in
+    let left = map (λ further. further.1) (drop l.further-index l.rest) in
+    let before = map view_resolved_clause l.fn.clauses.items in
+    let now = map view_resolved_clause l.clauses.items in
+    record {
+      rules : Unbroken (listed_breaches l.symbols (sharing_of l.kind)) (after_name (sharing_of l.kind)) l.fn.listed all l.listed left;
+      resolved : made_and before (each (resolved_listed l.kind l.symbols) all) ≡ made_and now (each (resolved_listed l.kind l.symbols) left);
+    }

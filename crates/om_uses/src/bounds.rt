@@ -1,0 +1,111 @@
+//! The bounds of a canonical loop.
+
+ghost use Rattle.std.specs.Prelude.{◌≡◌, ◌++◌, false, OnOk, IfOk, Some};
+ghost use Rattle.om_rules.specs.Checks.{Checks, ChecksExactly};
+ghost use Rattle.om_rules.specs.ExpressionRules.{expression_breaches};
+ghost use Rattle.om_rules.specs.Scopes.{is_declared};
+ghost use Rattle.om_forms.specs.LoopViews.{view_loop};
+ghost use Rattle.om_rules.specs.Resolution.{resolved_expression};
+ghost use Rattle.om_resolved.specs.ResolvedView.{view_resolved_expression, view_resolved_loop};
+ghost use Rattle.om_rules.specs.StatementResolution.{bounds_scopes, resolved_loop};
+ghost use Rattle.om_rules.specs.StatementRules.{found_breaches, values_breaches, variable_breaches, with_iteration};
+
+use crate::declaration::local_of;
+use crate::expression::boxed_expression;
+use crate::fault::refuse_if;
+use crate::name::{check_declared, is_scalar};
+use om_forms::Loop;
+use om_lexer::{FaultCode, SourceFault};
+use om_names::Symbols;
+use om_resolved::{ResolvedExpression, ResolvedLoop, ResolvedSchedule, Shape};
+use om_tree::Name;
+use std::alloc::{AllocError, Global};
+
+/// The variable of a loop that does not declare it: S7, S9.
+#[tactic(auto, using(om_rules::specs::InRow::first_of_left))]
+fn check_variable(symbols: &Symbols, name: &Name) -> Result<(), SourceFault>
+    ensures { ChecksExactly result (variable_breaches symbols.now name.now) }
+{
+    check_declared(symbols, name)?;
+    let broken = !is_scalar(symbols.meaning_of(name.text.as_slice()));
+    refuse_if(broken, FaultCode::Misuse, name.span.start)
+}
+
+/// The first value and the bound of a loop's variable.
+#[tactic(auto, using(om_rules::specs::InRow::first_of_left))]
+fn resolve_values(
+    alloc: Global,
+    symbols: &Symbols,
+    found: &Loop<'_>,
+) -> Result<(Box<ResolvedExpression>, Box<ResolvedExpression>), SourceFault>
+    ensures checked { Checks result (values_breaches symbols.now (view_loop found.now)) }
+    ensures from { IfOk result (λ made. resolved_expression symbols.now (view_loop found.now).start.from ≡ Some (view_resolved_expression made.0.value)) }
+    ensures to { IfOk result (λ made. resolved_expression symbols.now (view_loop found.now).to ≡ Some (view_resolved_expression made.1.value)) }
+{
+    let from = boxed_expression(alloc, symbols, true, found.start.from)?;
+    let to = boxed_expression(alloc, symbols, true, found.to)?;
+    Ok((from, to))
+}
+
+/// Enters the scope in which a loop's variable is one of its own, whether it declares it or not (OpenMP
+/// API 5.2, section 5.1.1). An error is out of memory.
+pub fn enter_loop(alloc: Global, symbols: &mut Symbols, found: &Loop<'_>) -> Result<(), AllocError>
+    ensures { OnOk result (symbols.new ≡ with_iteration symbols.old (view_loop found.now)) }
+{
+    symbols.enter(alloc)?;
+    symbols.declare_local(alloc, found.start.variable, Shape::Scalar)
+}
+
+/// The bounds of a loop: S7, S9, S13.
+#[tactic(auto, using(om_rules::specs::InRow::first_of_left))]
+fn resolve_bounds(
+    alloc: Global,
+    symbols: &mut Symbols,
+    found: &Loop<'_>,
+) -> Result<(Box<ResolvedExpression>, Box<ResolvedExpression>), SourceFault>
+    ensures checked { Checks result (found_breaches symbols.old (view_loop found.now)) }
+    ensures in_scope { OnOk result (symbols.new ≡ symbols.old) }
+    ensures from { let scopes = bounds_scopes symbols.old (view_loop found.now) in
+        IfOk result (λ made. resolved_expression scopes (view_loop found.now).start.from ≡ Some (view_resolved_expression made.0.value)) }
+    ensures to { let scopes = bounds_scopes symbols.old (view_loop found.now) in
+        IfOk result (λ made. resolved_expression scopes (view_loop found.now).to ≡ Some (view_resolved_expression made.1.value)) }
+{
+    if !found.start.is_declared {
+        check_variable(symbols, found.start.variable)?;
+        return resolve_values(alloc, symbols, found);
+    }
+    enter_loop(alloc, symbols, found)?;
+    let bounds = resolve_values(alloc, symbols, found)?;
+    symbols.leave();
+    Ok(bounds)
+}
+
+/// A loop in canonical form, with its bounds, its step and this schedule (OpenMP API 5.2, section
+/// 4.4.1). The scopes stay, where it is found.
+///
+/// Refusals: S7 and S9 at a variable that the loop does not declare, those of the bounds' expressions,
+/// and S0 out of memory.
+#[tactic(auto, unfolding(om_rules::specs::StatementResolution::resolved_loop))]
+pub fn resolve_loop(
+    alloc: Global,
+    symbols: &mut Symbols,
+    schedule: ResolvedSchedule,
+    found: &Loop<'_>,
+) -> Result<Box<ResolvedLoop>, SourceFault>
+    ensures checked { Checks result (found_breaches symbols.old (view_loop found.now)) }
+    ensures in_scope { OnOk result (symbols.new ≡ symbols.old) }
+    ensures resolved { IfOk result (λ made. resolved_loop symbols.old schedule (view_loop found.now) ≡ Some (view_resolved_loop made.value)) }
+{
+    let variable = local_of(alloc, found.start.variable)?;
+    let (from, to) = resolve_bounds(alloc, symbols, found)?;
+    let resolved = ResolvedLoop {
+        at: found.at,
+        variable,
+        from: Box::into_inner(from),
+        comparison: found.comparison,
+        to: Box::into_inner(to),
+        step: found.step,
+        schedule,
+    };
+    Ok(Box::new(alloc, resolved)?)
+}

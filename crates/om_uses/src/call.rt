@@ -1,0 +1,86 @@
+//! Calls, beside their values: the format of a `printf`, and the function that is called.
+
+ghost use Rattle.std.specs.Prelude.{◌≡◌, Some, IfOk, map, option_map};
+ghost use Rattle.om_tree.specs.Tree.{arguments};
+ghost use Rattle.om_tree.specs.View.{view_expression};
+ghost use Rattle.om_resolved.specs.ResolvedTree as trees;
+ghost use Rattle.om_resolved.specs.ResolvedView.{view_resolved_expression};
+ghost use Rattle.om_rules.specs.Checks.{Checks};
+ghost use Rattle.om_rules.specs.ExpressionRules.{argument_count, is_print, misprint_breaches};
+ghost use Rattle.om_rules.specs.Resolution.{call_of, format_in, text_in};
+ghost use Rattle.om_uses.specs.Views.{view_argument};
+
+use crate::fault::refuse_if;
+use om_forms::is_format;
+use om_lexer::{FaultCode, SourceFault, Span};
+use om_resolved::ResolvedExpression;
+use om_seq::Seq;
+use om_tree::{Expression, Name};
+use std::alloc::Global;
+
+/// How many values a call has.
+pub fn argument_count(values: &[(Option<Span>, Expression)]) -> usize
+    ensures { result ≡ argument_count (arguments (map view_argument values.now)) }
+{
+    values.len()
+}
+
+/// The format of a `printf`: S9.
+#[tactic(auto, using(om_rules::specs::InRow::first_of_left))]
+pub fn resolve_format(
+    alloc: Global,
+    for_value: bool,
+    name: &Name,
+    values: &[(Option<Span>, Expression)],
+) -> Result<Seq<u8>, SourceFault>
+    ensures checked { Checks result (misprint_breaches for_value name.now (arguments (map view_argument values.now))) }
+    ensures resolved { IfOk result (λ format. format_in (arguments (map view_argument values.now)) ≡ Some format) }
+{
+    let broken = for_value || !is_print(values);
+    refuse_if(broken, FaultCode::Misuse, name.span.start)?;
+    match format_in(values) {
+        Some(format) => Ok(Seq::of(Vec::from_slice(alloc, format.as_slice())?)),
+        None => unreachable!(),
+    }
+}
+
+/// Whether a call of `printf` has a format, and as many values as it takes.
+fn is_print(values: &[(Option<Span>, Expression)]) -> bool
+    ensures { result ≡ is_print (arguments (map view_argument values.now)) }
+{
+    match values {
+        [] => false,
+        [format, printed @ ..] => is_format(&format.1, argument_count(printed)),
+    }
+}
+
+/// The format that a `printf` begins with, which is there where it has one.
+fn format_in(values: &[(Option<Span>, Expression)]) -> Option<&Seq<u8>>
+    ensures { option_map (λ text. text.now) result ≡ format_in (arguments (map view_argument values.now)) }
+{
+    match values {
+        [] => None,
+        [format, ..] => text_in(&format.1),
+    }
+}
+
+/// The text that an expression is.
+fn text_in(expression: &Expression) -> Option<&Seq<u8>>
+    ensures { option_map (λ text. text.now) result ≡ text_in (view_expression expression.now) }
+{
+    match expression {
+        Expression::Text(text) => Some(&text.value),
+        _ => None,
+    }
+}
+
+/// A call of the function at a place among the definitions.
+pub fn call_of(place: usize, values: Vec<ResolvedExpression>) -> ResolvedExpression
+    ensures { view_resolved_expression result ≡ call_of place (trees.values (map view_resolved_expression values.items)) }
+{
+    match place {
+        1 => ResolvedExpression::ThreadNumber,
+        2 => ResolvedExpression::TeamSize,
+        _ => ResolvedExpression::Call(place.saturating_sub(3), values),
+    }
+}

@@ -1,0 +1,222 @@
+//! Declarations in functions: their rules, and the variables that they declare.
+
+ghost use Rattle.std.specs.Prelude.{◌≡◌, ◌++◌, [], ◌∷◌, false, OnOk, IfOk, Some, option_map, map};
+ghost use Rattle.om_tree.specs.View.{view_declaration, view_declarator, view_further, view_initializer};
+ghost use Rattle.om_rules.specs.Checks.{Checks, ChecksExactly};
+ghost use Rattle.om_rules.specs.Scopes.{after_local, after_locals, behind_commas, cells_of, declarators_of, shape_of};
+ghost use Rattle.om_resolved.specs.ResolvedView.{view_resolved_declarator, view_resolved_expression};
+ghost use Rattle.om_rules.specs.StatementResolution.{length_of, local_of, resolved_declarator, resolved_declarators, resolved_initial};
+ghost use Rattle.om_rules.specs.StatementRules.{array_size_breaches, initializer_breaches, is_empty_array, local_breaches, locals_breaches, redeclared_breaches};
+
+use crate::expression::{boxed_expression, unboxed};
+use crate::fault::refuse_if;
+use om_lexer::{FaultCode, SourceFault, Span};
+use om_names::Symbols;
+use om_resolved::{LocalVariable, ResolvedDeclarator, ResolvedExpression, Shape};
+use om_seq::Seq;
+use om_tree::{ArrayLength, Declaration, Declarator, Initializer, Name};
+use std::alloc::{AllocError, Global};
+
+/// That a name is not declared in the innermost scope yet (C17 6.7p3): S8 at the name.
+pub fn check_new(symbols: &Symbols, name: &Name) -> Result<(), SourceFault>
+    ensures { ChecksExactly result (redeclared_breaches symbols.now name.now) }
+{
+    let broken = symbols.is_declared(name.text.as_slice());
+    refuse_if(broken, FaultCode::Redeclared, name.span.start)
+}
+
+/// Whether a variable is an array.
+pub fn shape_of(array: &Option<ArrayLength>) -> Shape
+    ensures { result ≡ shape_of array.now }
+{
+    match array {
+        None => Shape::Scalar,
+        Some(_) => Shape::Array,
+    }
+}
+
+/// How many cells a variable has.
+pub fn cells_of(array: &Option<ArrayLength>) -> u32
+    ensures { result ≡ cells_of array.now }
+{
+    match array {
+        None => 1,
+        Some(array) => array.size.value,
+    }
+}
+
+/// Whether it is an array without cells.
+fn is_empty_array(array: &Option<ArrayLength>) -> bool
+    ensures { result ≡ is_empty_array array.now }
+{
+    match array {
+        None => false,
+        Some(array) => array.size.value == 0,
+    }
+}
+
+/// That an array has cells: S9.
+pub fn check_size(declarator: &Declarator) -> Result<(), SourceFault>
+    ensures { ChecksExactly result (array_size_breaches (view_declarator declarator.now)) }
+{
+    let broken = is_empty_array(&declarator.array);
+    refuse_if(broken, FaultCode::Misuse, declarator.name.span.start)
+}
+
+/// How many elements a variable has, where it is an array.
+pub fn length_of(array: &Option<ArrayLength>) -> Option<u32>
+    ensures { result ≡ length_of array.now }
+{
+    match array {
+        None => None,
+        Some(array) => Some(array.size.value),
+    }
+}
+
+/// A copy of a name's text. An error is out of memory.
+pub fn copy_of(alloc: Global, name: &Name) -> Result<Seq<u8>, AllocError>
+    ensures { IfOk result (λ copy. copy ≡ name.now.text) }
+{
+    Ok(Seq::of(Vec::from_slice(alloc, name.text.as_slice())?))
+}
+
+/// The variable of a function that a name declares, known by where the name stands. An error is out of
+/// memory.
+pub fn local_of(alloc: Global, name: &Name) -> Result<LocalVariable, AllocError>
+    ensures { IfOk result (λ local. local ≡ local_of name.now) }
+{
+    Ok(LocalVariable {
+        name: copy_of(alloc, name)?,
+        at: name.span.start,
+    })
+}
+
+/// What a local variable holds at the start.
+fn resolve_initializer(
+    alloc: Global,
+    symbols: &Symbols,
+    initializer: &Option<Initializer>,
+) -> Result<Option<Box<ResolvedExpression>>, SourceFault>
+    ensures checked { Checks result (initializer_breaches symbols.now (option_map view_initializer initializer.now)) }
+    ensures resolved { IfOk result (λ found. resolved_initial symbols.now (option_map view_initializer initializer.now) ≡ Some (option_map (λ boxed. view_resolved_expression boxed.value) found)) }
+{
+    match initializer {
+        None => Ok(None),
+        Some(initializer) => {
+            let value = boxed_expression(alloc, symbols, true, &initializer.value)?;
+            Ok(Some(value))
+        }
+    }
+}
+
+/// Declares the name of a local variable: S8, S9.
+#[tactic(auto, using(om_rules::specs::InRow::first_of_left))]
+fn declare_name(
+    alloc: Global,
+    symbols: &mut Symbols,
+    declarator: &Declarator,
+) -> Result<(), SourceFault>
+    ensures checked { let tree = view_declarator declarator.now in
+        Checks result (redeclared_breaches symbols.old tree.name ++ array_size_breaches tree) }
+    ensures in_scope { OnOk result (symbols.new ≡ after_local symbols.old (view_declarator declarator.now)) }
+{
+    check_new(symbols, &declarator.name)?;
+    check_size(declarator)?;
+    let shape = shape_of(&declarator.array);
+    symbols.declare_local(alloc, &declarator.name, shape)?;
+    Ok(())
+}
+
+/// Declares one local variable.
+#[tactic(auto, using(om_rules::specs::InRow::first_of_left), unfolding(om_rules::specs::StatementRules::local_breaches, om_rules::specs::StatementResolution::resolved_declarator))]
+fn resolve_declarator(
+    alloc: Global,
+    symbols: &mut Symbols,
+    declarator: &Declarator,
+) -> Result<ResolvedDeclarator, SourceFault>
+    ensures checked { Checks result (local_breaches symbols.old (view_declarator declarator.now)) }
+    ensures in_scope { OnOk result (symbols.new ≡ after_local symbols.old (view_declarator declarator.now)) }
+    ensures resolved { IfOk result (λ found. resolved_declarator symbols.old (view_declarator declarator.now) ≡ Some (view_resolved_declarator found)) }
+{
+    declare_name(alloc, symbols, declarator)?;
+    let variable = local_of(alloc, &declarator.name)?;
+    let initial = resolve_initializer(alloc, symbols, &declarator.initializer)?;
+    Ok(ResolvedDeclarator {
+        variable,
+        length: length_of(&declarator.array),
+        initial: unboxed(initial),
+    })
+}
+
+/// Declares one local variable behind those before it.
+fn add_local(
+    alloc: Global,
+    symbols: &mut Symbols,
+    declared: &mut Vec<ResolvedDeclarator>,
+    declarator: &Declarator,
+) -> Result<(), SourceFault>
+    ensures checked { Checks result (local_breaches symbols.old (view_declarator declarator.now)) }
+    ensures in_scope { OnOk result (symbols.new ≡ after_local symbols.old (view_declarator declarator.now)) }
+    ensures resolved { let before = map view_resolved_declarator declared.old.items in
+        let after = map view_resolved_declarator declared.new.items in
+        OnOk result (option_map (λ own. before ++ own ∷ []) (resolved_declarator symbols.old (view_declarator declarator.now)) ≡ Some after) }
+{
+    declared.push(resolve_declarator(alloc, symbols, declarator)?)?;
+    Ok(())
+}
+
+/// Declares the local variables behind the first of a declaration.
+fn resolve_further_locals(
+    alloc: Global,
+    symbols: &mut Symbols,
+    declared: &mut Vec<ResolvedDeclarator>,
+    rest: &[(Span, Declarator)],
+) -> Result<(), SourceFault>
+    ensures checked { Checks result (locals_breaches symbols.old (behind_commas (map view_further rest.now))) }
+    ensures in_scope { OnOk result (symbols.new ≡ after_locals symbols.old (behind_commas (map view_further rest.now))) }
+    ensures resolved { let before = map view_resolved_declarator declared.old.items in
+        let after = map view_resolved_declarator declared.new.items in
+        OnOk result (option_map (λ own. before ++ own) (resolved_declarators symbols.old (behind_commas (map view_further rest.now))) ≡ Some after) }
+{
+    for further in rest {
+        add_local(alloc, symbols, declared, &further.1)?;
+    }
+    Ok(())
+}
+
+/// Declares the variables of a declaration in a function.
+#[tactic(auto, using(om_rules::specs::InRow::first_of_left))]
+fn add_locals(
+    alloc: Global,
+    symbols: &mut Symbols,
+    declared: &mut Vec<ResolvedDeclarator>,
+    declaration: &Declaration,
+) -> Result<(), SourceFault>
+    ensures checked { Checks result (locals_breaches symbols.old (declarators_of (view_declaration declaration.now))) }
+    ensures in_scope { OnOk result (symbols.new ≡ after_locals symbols.old (declarators_of (view_declaration declaration.now))) }
+    ensures resolved { let before = map view_resolved_declarator declared.old.items in
+        let after = map view_resolved_declarator declared.new.items in
+        OnOk result (option_map (λ own. before ++ own) (resolved_declarators symbols.old (declarators_of (view_declaration declaration.now))) ≡ Some after) }
+{
+    add_local(alloc, symbols, declared, &declaration.first)?;
+    resolve_further_locals(alloc, symbols, declared, declaration.rest.as_slice())
+}
+
+/// The variables of a declaration in a function, which are declared one after the other: each is in
+/// scope behind its name, also in its own initializer (C17 6.2.1p7).
+///
+/// Refusals: S8 at a name that the innermost scope declares already, S9 at one of an array without
+/// cells, those of an initializer's expression, and S0 out of memory.
+pub fn resolve_locals(
+    alloc: Global,
+    symbols: &mut Symbols,
+    declaration: &Declaration,
+) -> Result<Vec<ResolvedDeclarator>, SourceFault>
+    ensures checked { Checks result (locals_breaches symbols.old (declarators_of (view_declaration declaration.now))) }
+    ensures in_scope { OnOk result (symbols.new ≡ after_locals symbols.old (declarators_of (view_declaration declaration.now))) }
+    ensures resolved { IfOk result (λ found. resolved_declarators symbols.old (declarators_of (view_declaration declaration.now)) ≡ Some (map view_resolved_declarator found.items)) }
+{
+    let mut declared = Vec::new(alloc);
+    add_locals(alloc, symbols, &mut declared, declaration)?;
+    Ok(declared)
+}

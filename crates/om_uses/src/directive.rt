@@ -1,0 +1,347 @@
+//! Directives and their clauses: their rules, and what they say of variables.
+
+ghost use Rattle.std.specs.Prelude.{◌≡◌, ◌++◌, ◌&&◌, ◌||◌, false, OnOk, IfOk, Option, Some, map, fold, not, option_map};
+ghost use Rattle.std.specs.List.{flat_map};
+ghost use Rattle.om_tree.specs.View.{view_directive, view_expression};
+ghost use Rattle.om_pragma.specs.Expressions.{map_clause, map_item};
+ghost use Rattle.om_rules.specs.Checks.{Checks, ChecksExactly};
+ghost use Rattle.om_rules.specs.DirectiveRules.{after_clause, after_item, after_name, after_names, clause_breaches, directive_breaches, flushed_breaches, is_listed, is_mislisted, is_variable, item_breaches, list_breaches, listed_breaches, listed_by, names_breaches, names_in, nesting_breaches, nothing_listed, sharing_of, uses_original};
+ghost use Rattle.om_rules.specs.Faults.{breaches_along};
+ghost use Rattle.om_rules.specs.Perhaps.{each};
+ghost use Rattle.om_rules.specs.Resolution.{variable_named, variable_of};
+ghost use Rattle.om_resolved.specs.ResolvedView.{view_resolved_clause};
+ghost use Rattle.om_rules.specs.StatementResolution.{clause_of, flushed, kind_of, resolved_clause, resolved_clauses, resolved_listed};
+
+use crate::declaration::local_of;
+use crate::expression::boxed_expression;
+use crate::fault::refuse_if;
+use crate::kept::add;
+use crate::name::{check_declared, is_copied_array, is_scalar};
+use om_lexer::{FaultCode, SourceFault, Span};
+use om_names::{Listed, Symbols, traits_of};
+use om_pragma::{Clause, ClauseItem, DataSharing, Directive, DirectiveName, NameList};
+use om_resolved::{CopyKind, ResolvedClause, Variable};
+use om_rules::{Flow, Meaning};
+use om_seq::Seq;
+use om_tree::{Expression, Name};
+use std::alloc::{AllocError, Global};
+
+/// A worksharing construct or a barrier where none may stand: S14.
+fn check_nesting(flow: Flow, name: &DirectiveName) -> Result<(), SourceFault>
+    ensures { ChecksExactly result (nesting_breaches flow name.now) }
+{
+    let broken = traits_of(name).is_bound && flow.is_closed;
+    refuse_if(broken, FaultCode::LeavesConstruct, name.span().start)
+}
+
+/// Whether a name is that of a variable.
+fn is_variable(meaning: Option<Meaning>) -> bool
+    ensures { result ≡ is_variable meaning }
+{
+    match meaning {
+        Some(Meaning::Variable(..)) => true,
+        _ => false,
+    }
+}
+
+/// Whether a name can't be shared or copied so.
+fn is_mislisted(sharing: DataSharing, symbols: &Symbols, name: &[u8]) -> bool
+    ensures { result ≡ is_mislisted sharing symbols.now name.now }
+{
+    let meaning = symbols.meaning_of(name);
+    match sharing {
+        DataSharing::Shared => !is_variable(meaning) || is_copied_array(symbols, name),
+        DataSharing::Private => !is_scalar(meaning),
+        DataSharing::Firstprivate => !is_scalar(meaning),
+    }
+}
+
+/// Whether a clause uses the variable outside of its construct.
+fn uses_original(sharing: DataSharing) -> bool
+    ensures { result ≡ uses_original sharing }
+{
+    match sharing {
+        DataSharing::Shared => true,
+        DataSharing::Private => false,
+        DataSharing::Firstprivate => true,
+    }
+}
+
+/// The variable that a name of this meaning is.
+fn variable_in(meaning: Option<Meaning>) -> Option<Variable>
+    ensures { result ≡ variable_of meaning }
+{
+    match meaning {
+        Some(Meaning::Variable(variable, _)) => Some(variable),
+        _ => None,
+    }
+}
+
+/// The variable of a name in the list of a clause: S7, S9, S13.
+#[tactic(auto, using(om_rules::specs::InRow::first_of_left))]
+fn resolve_listed(
+    symbols: &Symbols,
+    sharing: DataSharing,
+    listed: &Listed,
+    name: &Name,
+) -> Result<Variable, SourceFault>
+    ensures checked { ChecksExactly result (listed_breaches symbols.now sharing listed.now name.now) }
+    ensures is_new { OnOk result (is_listed listed.now name.now.text ≡ false) }
+    ensures resolved { IfOk result (λ variable. variable_named symbols.now name.now ≡ Some variable) }
+{
+    check_declared(symbols, name)?;
+    let text = name.text.as_slice();
+    let broken = is_mislisted(sharing, symbols, text) || listed.contains(text);
+    refuse_if(broken, FaultCode::Misuse, name.span.start)?;
+    let unlisted = uses_original(sharing) && symbols.is_unlisted(text);
+    refuse_if(unlisted, FaultCode::Unlisted, name.span.start)?;
+    match variable_in(symbols.meaning_of(text)) {
+        Some(variable) => Ok(variable),
+        None => unreachable!(),
+    }
+}
+
+/// How a variable is listed of which a construct has such a copy, or none.
+fn sharing_of(kind: Option<CopyKind>) -> DataSharing
+    ensures { result ≡ sharing_of kind }
+{
+    match kind {
+        None => DataSharing::Shared,
+        Some(CopyKind::Private) => DataSharing::Private,
+        Some(CopyKind::Firstprivate) => DataSharing::Firstprivate,
+        Some(CopyKind::Reduction(_)) => DataSharing::Firstprivate,
+    }
+}
+
+/// What a clause says of a variable that it lists by a name.
+fn clause_of(
+    alloc: Global,
+    kind: Option<CopyKind>,
+    variable: Variable,
+    name: &Name,
+) -> Result<ResolvedClause, AllocError>
+    ensures { IfOk result (λ clause. view_resolved_clause clause ≡ clause_of kind variable name.now) }
+{
+    match kind {
+        None => Ok(ResolvedClause::Shared(variable)),
+        Some(kind) => Ok(ResolvedClause::Copied(kind, variable, local_of(alloc, name)?)),
+    }
+}
+
+/// Takes a name in the list of a clause.
+#[tactic(auto, using(om_rules::specs::InRow::first_of_left))]
+fn list_name(
+    alloc: Global,
+    symbols: &Symbols,
+    kind: Option<CopyKind>,
+    listed: &mut Listed,
+    name: &Name,
+) -> Result<ResolvedClause, SourceFault>
+    ensures checked { Checks result (listed_breaches symbols.now (sharing_of kind) listed.old name.now) }
+    ensures listed { OnOk result (listed.new ≡ after_name (sharing_of kind) listed.old name.now) }
+    ensures resolved { IfOk result (λ clause. resolved_listed kind symbols.now name.now ≡ Some (view_resolved_clause clause)) }
+{
+    let sharing = sharing_of(kind);
+    let variable = resolve_listed(symbols, sharing, listed, name)?;
+    listed.add(alloc, sharing, name)?;
+    Ok(clause_of(alloc, kind, variable, name)?)
+}
+
+/// Takes the names behind the first of a list.
+fn list_further_names(
+    alloc: Global,
+    symbols: &Symbols,
+    kind: Option<CopyKind>,
+    listed: &mut Listed,
+    clauses: &mut Vec<ResolvedClause>,
+    rest: &[(Span, Name)],
+) -> Result<(), SourceFault>
+    ensures checked { Checks result (names_breaches symbols.now (sharing_of kind) listed.old (map (λ further. further.1) rest.now)) }
+    ensures listed { OnOk result (listed.new ≡ after_names (sharing_of kind) listed.old (map (λ further. further.1) rest.now)) }
+    ensures resolved { let before = map view_resolved_clause clauses.old.items in
+        let after = map view_resolved_clause clauses.new.items in
+        OnOk result (option_map (λ own. before ++ own) (each (resolved_listed kind symbols.now) (map (λ further. further.1) rest.now)) ≡ Some after) }
+{
+    for further in rest {
+        let found = list_name(alloc, symbols, kind, listed, &further.1);
+        add(clauses, found)?;
+    }
+    Ok(())
+}
+
+/// Takes the names of a list.
+#[tactic(auto, using(om_rules::specs::InRow::first_of_left))]
+fn list_names(
+    alloc: Global,
+    symbols: &Symbols,
+    kind: Option<CopyKind>,
+    listed: &mut Listed,
+    clauses: &mut Vec<ResolvedClause>,
+    first: &Name,
+    rest: &[(Span, Name)],
+) -> Result<(), SourceFault>
+    ensures checked { Checks result (names_breaches symbols.now (sharing_of kind) listed.old (names_in first.now rest.now)) }
+    ensures listed { OnOk result (listed.new ≡ after_names (sharing_of kind) listed.old (names_in first.now rest.now)) }
+    ensures resolved { let before = map view_resolved_clause clauses.old.items in
+        let after = map view_resolved_clause clauses.new.items in
+        OnOk result (option_map (λ own. before ++ own) (each (resolved_listed kind symbols.now) (names_in first.now rest.now)) ≡ Some after) }
+{
+    clauses.push(list_name(alloc, symbols, kind, listed, first)?)?;
+    list_further_names(alloc, symbols, kind, listed, clauses, rest)
+}
+
+/// How a clause of data sharing copies what it lists; nothing where it shares it.
+fn kind_of(sharing: DataSharing) -> Option<CopyKind>
+    ensures kind { result ≡ kind_of sharing }
+    ensures sharing { sharing_of result ≡ sharing }
+{
+    match sharing {
+        DataSharing::Shared => None,
+        DataSharing::Private => Some(CopyKind::Private),
+        DataSharing::Firstprivate => Some(CopyKind::Firstprivate),
+    }
+}
+
+/// Takes a clause.
+#[tactic(auto, unfolding(om_rules::specs::DirectiveRules::clause_breaches, om_rules::specs::DirectiveRules::after_clause, om_rules::specs::StatementResolution::resolved_clause))]
+fn resolve_clause(
+    alloc: Global,
+    symbols: &Symbols,
+    listed: &mut Listed,
+    clauses: &mut Vec<ResolvedClause>,
+    clause: &Clause<Expression>,
+) -> Result<(), SourceFault>
+    ensures checked { Checks result (clause_breaches symbols.now listed.old (map_clause view_expression clause.now)) }
+    ensures listed { OnOk result (listed.new ≡ after_clause listed.old (map_clause view_expression clause.now)) }
+    ensures resolved { let before = map view_resolved_clause clauses.old.items in
+        let after = map view_resolved_clause clauses.new.items in
+        OnOk result (option_map (λ own. before ++ own) (resolved_clause symbols.now (map_clause view_expression clause.now)) ≡ Some after) }
+{
+    match clause {
+        Clause::Value(kind, _, value) => {
+            let value = boxed_expression(alloc, symbols, true, &value.expression)?;
+            clauses.push(ResolvedClause::Value(*kind, Box::into_inner(value)))?;
+            Ok(())
+        }
+        Clause::Default(_, argument) => {
+            listed.set_default(argument.sharing);
+            Ok(())
+        }
+        Clause::Data(sharing, _, list) => {
+            let kind = kind_of(*sharing);
+            let rest = list.rest.as_slice();
+            list_names(alloc, symbols, kind, listed, clauses, &list.first, rest)
+        }
+        Clause::Reduction(_, reduction) => {
+            let kind = Some(CopyKind::Reduction(reduction.operator));
+            let rest = reduction.rest.as_slice();
+            list_names(
+                alloc,
+                symbols,
+                kind,
+                listed,
+                clauses,
+                &reduction.first,
+                rest,
+            )
+        }
+        Clause::Schedule(_, _) => Ok(()),
+        Clause::Plain(_, _) => Ok(()),
+    }
+}
+
+/// Takes the clauses of a directive, in their order.
+fn resolve_clauses(
+    alloc: Global,
+    symbols: &Symbols,
+    items: &[ClauseItem<Expression>],
+) -> Result<(Listed, Vec<ResolvedClause>), SourceFault>
+    ensures checked { Checks result (breaches_along (item_breaches symbols.now) after_item nothing_listed (map (map_item view_expression) items.now)) }
+    ensures listed { IfOk result (λ taken. taken.0 ≡ fold after_item nothing_listed (map (map_item view_expression) items.now)) }
+    ensures resolved { IfOk result (λ taken. resolved_clauses symbols.now (map (map_item view_expression) items.now) ≡ Some (map view_resolved_clause taken.1.items)) }
+{
+    let mut listed = Listed::new(alloc);
+    let mut clauses = Vec::new(alloc);
+    for item in items {
+        resolve_clause(alloc, symbols, &mut listed, &mut clauses, &item.clause)?;
+    }
+    Ok((listed, clauses))
+}
+
+/// What the clauses of a directive say of variables, and the clauses, resolved where it stands.
+///
+/// Refusals: S14 at the word of a worksharing construct or a barrier that may not stand there (OpenMP
+/// API 5.2, section 17.1); S7, S9 and S13 at a listed name; those of a clause's expression; S0 out of
+/// memory. Nothing is declared.
+#[tactic(auto, using(om_rules::specs::InRow::first_of_left))]
+pub fn resolve_directive(
+    alloc: Global,
+    symbols: &Symbols,
+    flow: Flow,
+    directive: &Directive<Expression>,
+) -> Result<(Listed, Vec<ResolvedClause>), SourceFault>
+    ensures checked { Checks result (directive_breaches symbols.now flow (view_directive directive.now)) }
+    ensures listed { IfOk result (λ taken. taken.0 ≡ listed_by (view_directive directive.now)) }
+    ensures resolved { IfOk result (λ taken. resolved_clauses symbols.now (view_directive directive.now).clauses ≡ Some (map view_resolved_clause taken.1.items)) }
+{
+    check_nesting(flow, &directive.name)?;
+    resolve_clauses(alloc, symbols, directive.clauses.as_slice())
+}
+
+/// A variable that a `flush` names: S7, S9, S13.
+fn resolve_flushed(alloc: Global, symbols: &Symbols, name: &Name) -> Result<Variable, SourceFault>
+    ensures checked { ChecksExactly result (flushed_breaches symbols.now name.now) }
+    ensures resolved { IfOk result (λ variable. variable_named symbols.now name.now ≡ Some variable) }
+{
+    resolve_listed(symbols, DataSharing::Shared, &Listed::new(alloc), name)
+}
+
+/// The variables behind the first of a list.
+fn resolve_further_flushed(
+    alloc: Global,
+    symbols: &Symbols,
+    variables: &mut Vec<Variable>,
+    rest: &[(Span, Name)],
+) -> Result<(), SourceFault>
+    ensures checked { Checks result (flat_map (flushed_breaches symbols.now) (map (λ further. further.1) rest.now)) }
+    ensures resolved { let before = variables.old.items in
+        OnOk result (option_map (λ own. before ++ own) (each (variable_named symbols.now) (map (λ further. further.1) rest.now)) ≡ Some variables.new.items) }
+{
+    for further in rest {
+        variables.push(resolve_flushed(alloc, symbols, &further.1)?)?;
+    }
+    Ok(())
+}
+
+/// The variables of a list.
+fn resolve_names(
+    alloc: Global,
+    symbols: &Symbols,
+    first: &Name,
+    rest: &[(Span, Name)],
+) -> Result<Seq<Variable>, SourceFault>
+    ensures checked { Checks result (flat_map (flushed_breaches symbols.now) (names_in first.now rest.now)) }
+    ensures resolved { IfOk result (λ found. each (variable_named symbols.now) (names_in first.now rest.now) ≡ Some found) }
+{
+    let mut variables = Vec::new(alloc);
+    variables.push(resolve_flushed(alloc, symbols, first)?)?;
+    resolve_further_flushed(alloc, symbols, &mut variables, rest)?;
+    Ok(Seq::of(variables))
+}
+
+/// The variables that a `flush` lists (OpenMP API 5.2, section 15.8.5), none where it has no list.
+///
+/// Refusals: S7, S9 and S13 at a listed name; S0 out of memory.
+pub fn resolve_flush(
+    alloc: Global,
+    symbols: &Symbols,
+    list: &Option<NameList>,
+) -> Result<Seq<Variable>, SourceFault>
+    ensures checked { Checks result (list_breaches symbols.now list.now) }
+    ensures resolved { IfOk result (λ found. flushed symbols.now list.now ≡ Some found) }
+{
+    match list {
+        None => Ok(Seq::of(Vec::new(alloc))),
+        Some(list) => resolve_names(alloc, symbols, &list.first, list.rest.as_slice()),
+    }
+}

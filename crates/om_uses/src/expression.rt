@@ -1,0 +1,360 @@
+//! Expressions: their rules, and the variable of each use.
+
+ghost use Rattle.std.specs.Prelude.{◌≡◌, ◌<◌, pos, true, Some, IfOk, map, option_map};
+ghost use Rattle.om_tree.specs.Tree.{arguments};
+ghost use Rattle.om_tree.specs.View.{view_expression};
+ghost use Rattle.om_resolved.specs.ResolvedTree as trees;
+ghost use Rattle.om_resolved.specs.ResolvedView.{view_resolved_expression};
+ghost use Rattle.om_rules.specs.Checks.{Checks, ChecksExactly};
+ghost use Rattle.om_rules.specs.ExpressionRules.{argument_breaches, arguments_breaches, called_breaches, constant_breaches, element_breaches, expression_breaches, own_call_breaches, prefix_breaches, print_breaches, printed_breaches, target_breaches};
+ghost use Rattle.om_rules.specs.Resolution.{callee_named, format_in, own_call_of, prefixed, print_of, resolved_call, resolved_expression, resolved_printed, resolved_target, resolved_values, variable_named};
+ghost use Rattle.om_uses.specs.Parts.{step_of, unary_of};
+ghost use Rattle.om_uses.specs.TargetViews.{view_target};
+ghost use Rattle.om_uses.specs.Views.{view_argument};
+
+use crate::call::{argument_count, call_of, resolve_format};
+use crate::fault::refuse_among;
+use crate::kept::{add, boxed};
+use crate::name::{is_printf, misuse, resolve_array, resolve_callee, resolve_scalar};
+use crate::target::{Target, assigned, is_target, misplaced, stepped};
+use om_forms::expression_start;
+use om_lexer::{FaultCode, SourceFault, Span};
+use om_names::Symbols;
+use om_resolved::{ResolvedExpression, UnaryOperator, Variable};
+use om_rules::PRINTED_LIMIT;
+use om_tree::{AssignOperator, Expression, Name, Number, PrefixOperator};
+use std::alloc::Global;
+
+/// An expression, whose value is used or not.
+#[tactic(auto, using(om_rules::specs::InRow::first_of_left), unfolding(om_rules::specs::ExpressionRules::expression_breaches, om_rules::specs::Resolution::resolved_expression))]
+#[cycle(expression)]
+pub fn resolve_expression(
+    alloc: Global,
+    symbols: &Symbols,
+    for_value: bool,
+    expression: &Expression,
+) -> Result<ResolvedExpression, SourceFault>
+    ensures checked { Checks result (expression_breaches symbols.now for_value (view_expression expression.now)) }
+    ensures resolved { IfOk result (λ found. resolved_expression symbols.now (view_expression expression.now) ≡ Some (view_resolved_expression found)) }
+{
+    match expression {
+        Expression::Name(name) => Ok(ResolvedExpression::Variable(resolve_scalar(symbols, name)?)),
+        Expression::Constant(number) => Ok(ResolvedExpression::Constant(constant_of(number)?)),
+        Expression::Text(text) => Err(misuse(text.span.start)),
+        Expression::Paren { inner, .. } => resolve_expression(alloc, symbols, for_value, inner),
+        Expression::Index { name, index, .. } => {
+            let (array, index) = resolve_element(alloc, symbols, name, index)?;
+            Ok(ResolvedExpression::Element(array, index))
+        }
+        Expression::Call {
+            name,
+            arguments: values,
+            ..
+        } => { resolve_call(alloc, symbols, for_value, name, values.as_slice()) }
+        Expression::Prefix {
+            operator,
+            operand,
+            ..
+        } => { resolve_prefix(alloc, symbols, *operator, operand) }
+        Expression::Postfix {
+            operand,
+            operator,
+            ..
+        } => {
+            let target = resolve_target(alloc, symbols, operand)?;
+            Ok(stepped(target, *operator))
+        }
+        Expression::Binary {
+            left,
+            operator,
+            right,
+            ..
+        } => {
+            let left = boxed_expression(alloc, symbols, true, left)?;
+            let right = boxed_expression(alloc, symbols, true, right)?;
+            Ok(ResolvedExpression::Binary(left, *operator, right))
+        }
+        Expression::Conditional {
+            condition,
+            value: then,
+            other,
+            ..
+        } => {
+            let condition = boxed_expression(alloc, symbols, true, condition)?;
+            let then = boxed_expression(alloc, symbols, true, then)?;
+            let other = boxed_expression(alloc, symbols, true, other)?;
+            Ok(ResolvedExpression::Conditional(condition, then, other))
+        }
+        Expression::Assign {
+            target,
+            operator,
+            value,
+            ..
+        } => {
+            let target = resolve_target(alloc, symbols, target)?;
+            let value = boxed_expression(alloc, symbols, true, value)?;
+            Ok(assigned(target, *operator, value))
+        }
+    }
+}
+
+/// An expression, in a box: each name in it has the variable of its innermost declaration (C17 6.2.1,
+/// 6.5). `for_value` says whether its value is used.
+///
+/// Refusals: the first of S7, S9, S10, S11 and S13 in its text, or S0 out of memory.
+#[cycle(expression)]
+pub fn boxed_expression(
+    alloc: Global,
+    symbols: &Symbols,
+    for_value: bool,
+    expression: &Expression,
+) -> Result<Box<ResolvedExpression>, SourceFault>
+    ensures checked { Checks result (expression_breaches symbols.now for_value (view_expression expression.now)) }
+    ensures resolved { IfOk result (λ found. resolved_expression symbols.now (view_expression expression.now) ≡ Some (view_resolved_expression found.value)) }
+{
+    boxed(
+        alloc,
+        resolve_expression(alloc, symbols, for_value, expression),
+    )
+}
+
+/// An expression that may be left out, taken out of its box.
+pub fn unboxed(expression: Option<Box<ResolvedExpression>>) -> Option<ResolvedExpression>
+    ensures { option_map view_resolved_expression result ≡ option_map (λ boxed. view_resolved_expression boxed.value) expression }
+{
+    match expression {
+        None => None,
+        Some(expression) => Some(Box::into_inner(expression)),
+    }
+}
+
+/// The value of a constant: S10.
+pub fn constant_of(number: &Number) -> Result<i32, SourceFault>
+    ensures checked { ChecksExactly result (constant_breaches number.now) }
+    ensures value { IfOk result (λ value. value ≡ pos number.now.value) }
+{
+    if number.value > 2147483647 {
+        return Err(SourceFault {
+            code: FaultCode::ConstantTooLarge,
+            at: number.span.start,
+        });
+    }
+    Ok(number.value as i32)
+}
+
+/// An operator before its operand.
+#[cycle(expression)]
+fn resolve_prefix(
+    alloc: Global,
+    symbols: &Symbols,
+    operator: PrefixOperator,
+    operand: &Expression,
+) -> Result<ResolvedExpression, SourceFault>
+    ensures checked { Checks result (prefix_breaches symbols.now operator (view_expression operand.now)) }
+    ensures resolved { let tree = view_expression operand.now in
+        IfOk result (λ found. prefixed operator (resolved_target symbols.now tree) (resolved_expression symbols.now tree) ≡ Some (view_resolved_expression found)) }
+{
+    match operator {
+        PrefixOperator::Increment => resolve_step(alloc, symbols, AssignOperator::Add, operand),
+        PrefixOperator::Decrement => {
+            resolve_step(alloc, symbols, AssignOperator::Subtract, operand)
+        }
+        PrefixOperator::Plus => resolve_unary(alloc, symbols, UnaryOperator::Plus, operand),
+        PrefixOperator::Minus => resolve_unary(alloc, symbols, UnaryOperator::Negate, operand),
+        PrefixOperator::Not => resolve_unary(alloc, symbols, UnaryOperator::Not, operand),
+    }
+}
+
+/// `++x` is `x += 1`, and `--x` is `x -= 1`.
+#[cycle(expression)]
+fn resolve_step(
+    alloc: Global,
+    symbols: &Symbols,
+    operator: AssignOperator,
+    operand: &Expression,
+) -> Result<ResolvedExpression, SourceFault>
+    ensures checked { Checks result (target_breaches symbols.now (view_expression operand.now)) }
+    ensures resolved { IfOk result (λ found. step_of operator (resolved_target symbols.now (view_expression operand.now)) ≡ Some (view_resolved_expression found)) }
+{
+    let target = resolve_target(alloc, symbols, operand)?;
+    let one = Box::new(alloc, ResolvedExpression::Constant(1))?;
+    Ok(assigned(target, operator, one))
+}
+
+/// An operator before an operand whose value it uses.
+#[cycle(expression)]
+fn resolve_unary(
+    alloc: Global,
+    symbols: &Symbols,
+    operator: UnaryOperator,
+    operand: &Expression,
+) -> Result<ResolvedExpression, SourceFault>
+    ensures checked { Checks result (expression_breaches symbols.now true (view_expression operand.now)) }
+    ensures resolved { IfOk result (λ found. unary_of operator (resolved_expression symbols.now (view_expression operand.now)) ≡ Some (view_resolved_expression found)) }
+{
+    let operand = boxed_expression(alloc, symbols, true, operand)?;
+    Ok(ResolvedExpression::Unary(operator, operand))
+}
+
+/// What is assigned to.
+#[tactic(auto, using(om_rules::specs::InRow::first_of_left), unfolding(om_rules::specs::ExpressionRules::target_breaches, om_rules::specs::Resolution::resolved_target))]
+#[cycle(expression)]
+fn resolve_target(
+    alloc: Global,
+    symbols: &Symbols,
+    target: &Expression,
+) -> Result<Target, SourceFault>
+    ensures checked { Checks result (target_breaches symbols.now (view_expression target.now)) }
+    ensures resolved { IfOk result (λ found. resolved_target symbols.now (view_expression target.now) ≡ Some (view_target found)) }
+{
+    match target {
+        Expression::Name(name) => Ok(Target::Variable(resolve_scalar(symbols, name)?)),
+        Expression::Index { name, index, .. } => {
+            let (array, index) = resolve_element(alloc, symbols, name, index)?;
+            Ok(Target::Element(array, index))
+        }
+        Expression::Paren { inner, .. } => {
+            if is_target(inner) {
+                resolve_target(alloc, symbols, inner)
+            } else {
+                Err(misplaced(symbols, target))
+            }
+        }
+        _ => Err(misplaced(symbols, target)),
+    }
+}
+
+/// An element of an array: the array and the index.
+#[tactic(auto, using(om_rules::specs::InRow::first_of_left))]
+#[cycle(expression)]
+fn resolve_element(
+    alloc: Global,
+    symbols: &Symbols,
+    name: &Name,
+    index: &Expression,
+) -> Result<(Variable, Box<ResolvedExpression>), SourceFault>
+    ensures checked { Checks result (element_breaches symbols.now name.now (view_expression index.now)) }
+    ensures array { IfOk result (λ found. variable_named symbols.now name.now ≡ Some found.0) }
+    ensures index { IfOk result (λ found. resolved_expression symbols.now (view_expression index.now) ≡ Some (view_resolved_expression found.1.value)) }
+{
+    let array = resolve_array(symbols, name)?;
+    let index = boxed_expression(alloc, symbols, true, index)?;
+    Ok((array, index))
+}
+
+/// A call.
+#[cycle(expression)]
+fn resolve_call(
+    alloc: Global,
+    symbols: &Symbols,
+    for_value: bool,
+    name: &Name,
+    values: &[(Option<Span>, Expression)],
+) -> Result<ResolvedExpression, SourceFault>
+    ensures checked { Checks result (called_breaches symbols.now for_value name.now (arguments (map view_argument values.now))) }
+    ensures resolved { IfOk result (λ found. resolved_call symbols.now name.now (arguments (map view_argument values.now)) ≡ Some (view_resolved_expression found)) }
+{
+    if is_printf(symbols.meaning_of(name.text.as_slice())) {
+        return resolve_print(alloc, symbols, for_value, name, values);
+    }
+    resolve_own_call(alloc, symbols, for_value, name, values)
+}
+
+/// A call of `printf`: S9, S11.
+#[tactic(auto, using(om_rules::specs::InRow::first_of_left))]
+#[cycle(expression)]
+fn resolve_print(
+    alloc: Global,
+    symbols: &Symbols,
+    for_value: bool,
+    name: &Name,
+    values: &[(Option<Span>, Expression)],
+) -> Result<ResolvedExpression, SourceFault>
+    ensures checked { Checks result (print_breaches symbols.now for_value name.now (arguments (map view_argument values.now))) }
+    ensures resolved { let given = arguments (map view_argument values.now) in
+        IfOk result (λ found. print_of (format_in given) (resolved_printed symbols.now given) ≡ Some (view_resolved_expression found)) }
+{
+    let format = resolve_format(alloc, for_value, name, values)?;
+    let printed = resolve_printed(alloc, symbols, values)?;
+    Ok(ResolvedExpression::Print(format, printed))
+}
+
+/// The arguments of a `printf`, of which the first is its format: the values behind it.
+#[tactic(auto, using(om_rules::specs::InRow::first_of_left, crate::proofs::Arguments::printed_begin, crate::proofs::Arguments::printed_format), unfolding(om_rules::specs::ExpressionRules::printed_breaches))]
+#[cycle(expression)]
+fn resolve_printed(
+    alloc: Global,
+    symbols: &Symbols,
+    values: &[(Option<Span>, Expression)],
+) -> Result<Vec<ResolvedExpression>, SourceFault>
+    ensures checked { Checks result (printed_breaches symbols.now 0 (arguments (map view_argument values.now))) }
+    ensures resolved { IfOk result (λ found. resolved_printed symbols.now (arguments (map view_argument values.now)) ≡ Some (trees.values (map view_resolved_expression found.items))) }
+{
+    let mut resolved = Vec::new(alloc);
+    let mut place = 0;
+    for argument in values {
+        if place == 0 {
+            place = 1;
+            continue;
+        }
+        let value = resolve_argument(alloc, symbols, place, &argument.1);
+        add(&mut resolved, value)?;
+        place += 1;
+    }
+    Ok(resolved)
+}
+
+/// A value that a `printf` writes, at a place from 1: S11.
+#[cycle(expression)]
+fn resolve_argument(
+    alloc: Global,
+    symbols: &Symbols,
+    place: usize,
+    argument: &Expression,
+) -> Result<ResolvedExpression, SourceFault>
+    requires { 0 < place }
+    ensures checked { Checks result (argument_breaches symbols.now place (view_expression argument.now)) }
+    ensures resolved { IfOk result (λ found. resolved_expression symbols.now (view_expression argument.now) ≡ Some (view_resolved_expression found)) }
+{
+    let resolved = resolve_expression(alloc, symbols, true, argument);
+    let at = expression_start(argument);
+    refuse_among(resolved, PRINTED_LIMIT < place, FaultCode::TooMany, at)
+}
+
+/// A call of another function than `printf`.
+#[tactic(auto, using(om_rules::specs::InRow::first_of_left))]
+#[cycle(expression)]
+fn resolve_own_call(
+    alloc: Global,
+    symbols: &Symbols,
+    for_value: bool,
+    name: &Name,
+    values: &[(Option<Span>, Expression)],
+) -> Result<ResolvedExpression, SourceFault>
+    ensures checked { Checks result (own_call_breaches symbols.now for_value name.now (arguments (map view_argument values.now))) }
+    ensures resolved { let given = arguments (map view_argument values.now) in
+        IfOk result (λ found. own_call_of (callee_named symbols.now name.now) (resolved_values symbols.now given) ≡ Some (view_resolved_expression found)) }
+{
+    let place = resolve_callee(symbols, for_value, name, argument_count(values))?;
+    let values = resolve_values(alloc, symbols, values)?;
+    Ok(call_of(place, values))
+}
+
+/// The values of a call.
+#[tactic(auto, using(om_rules::specs::InRow::first_of_left, crate::proofs::Arguments::made_none, crate::proofs::Arguments::made_all), unfolding(om_rules::specs::ExpressionRules::arguments_breaches))]
+#[cycle(expression)]
+fn resolve_values(
+    alloc: Global,
+    symbols: &Symbols,
+    values: &[(Option<Span>, Expression)],
+) -> Result<Vec<ResolvedExpression>, SourceFault>
+    ensures checked { Checks result (arguments_breaches symbols.now (arguments (map view_argument values.now))) }
+    ensures resolved { IfOk result (λ found. resolved_values symbols.now (arguments (map view_argument values.now)) ≡ Some (trees.values (map view_resolved_expression found.items))) }
+{
+    let mut resolved = Vec::new(alloc);
+    for argument in values {
+        let value = resolve_expression(alloc, symbols, true, &argument.1);
+        add(&mut resolved, value)?;
+    }
+    Ok(resolved)
+}

@@ -1,0 +1,155 @@
+//! Globals: their rules, and what they hold at the start.
+
+ghost use Rattle.std.specs.Prelude.{◌≡◌, ◌++◌, ◌+◌, ◌≤◌, ◌<◌, [], ◌∷◌, false, OnOk, IfOk, map, option_map};
+ghost use Rattle.om_tree.specs.View.{view_declaration, view_declarator, view_further, view_initializer};
+ghost use Rattle.om_rules.specs.Checks.{Checks, ChecksExactly};
+ghost use Rattle.om_rules.specs.Constants.{signed_value};
+ghost use Rattle.om_rules.specs.Scopes.{after_global, after_globals, behind_commas, cells_of, declarators_of, is_declared};
+ghost use Rattle.om_rules.specs.UnitResolution.{global_of, initial_of};
+ghost use Rattle.om_rules.specs.UnitRules.{global_breaches, global_name_breaches, globals_breaches, initial_breaches, signed_breaches};
+
+use crate::declaration::{cells_of, check_new, check_size, copy_of, length_of, shape_of};
+use crate::expression::constant_of;
+use crate::fault::refuse_if;
+use om_forms::{expression_start, signed_constant};
+use om_lexer::{FaultCode, SourceFault, Span};
+use om_names::Symbols;
+use om_resolved::GlobalVariable;
+use om_rules::GLOBAL_CELL_LIMIT;
+use om_tree::{Declaration, Declarator, Initializer, Number};
+use std::alloc::Global;
+
+/// What a constant with its minus stands for: S10, or where there is none S3 at a place.
+fn value_of(constant: Option<(bool, Number)>, at: u32) -> Result<i32, SourceFault>
+    ensures checked { ChecksExactly result (signed_breaches at constant) }
+    ensures value { IfOk result (λ value. value ≡ signed_value constant) }
+{
+    match constant {
+        None => Err(SourceFault {
+            code: FaultCode::Syntax,
+            at,
+        }),
+        Some((false, number)) => constant_of(&number),
+        Some((true, number)) => Ok(-constant_of(&number)?),
+    }
+}
+
+/// What a global holds at the start.
+fn initial_of(initializer: &Option<Initializer>) -> Result<i32, SourceFault>
+    ensures checked { ChecksExactly result (initial_breaches (option_map view_initializer initializer.now)) }
+    ensures value { IfOk result (λ value. value ≡ initial_of (option_map view_initializer initializer.now)) }
+{
+    match initializer {
+        None => Ok(0),
+        Some(initializer) => value_of(
+            signed_constant(&initializer.value),
+            expression_start(&initializer.value),
+        ),
+    }
+}
+
+/// That a name may be that of a further global: S8, S9, S11.
+#[tactic(auto, using(om_rules::specs::InRow::first_of_left))]
+fn check_global_name(symbols: &Symbols, declarator: &Declarator) -> Result<(), SourceFault>
+    ensures checked { ChecksExactly result (global_name_breaches symbols.now (view_declarator declarator.now)) }
+    ensures has_room { OnOk result (symbols.now.cells + cells_of declarator.now.array ≤ GLOBAL_CELL_LIMIT) }
+    ensures has_cells { OnOk result (0 < cells_of declarator.now.array) }
+    ensures is_new { OnOk result (is_declared symbols.now declarator.now.name.text ≡ false) }
+{
+    check_new(symbols, &declarator.name)?;
+    let at = declarator.name.span.start;
+    let is_main = declarator.name.text.as_slice() == b"main".as_slice();
+    refuse_if(is_main, FaultCode::Misuse, at)?;
+    check_size(declarator)?;
+    let cells = u64::from(symbols.cells()) + u64::from(cells_of(&declarator.array));
+    refuse_if(u64::from(GLOBAL_CELL_LIMIT) < cells, FaultCode::TooMany, at)
+}
+
+/// Declares the name of a global: S8, S9, S11.
+#[tactic(auto, using(om_rules::specs::InRow::first_of_left))]
+fn declare_global_name(
+    alloc: Global,
+    symbols: &mut Symbols,
+    declarator: &Declarator,
+) -> Result<(), SourceFault>
+    ensures checked { Checks result (global_name_breaches symbols.old (view_declarator declarator.now)) }
+    ensures in_scope { OnOk result (symbols.new ≡ after_global symbols.old (view_declarator declarator.now)) }
+{
+    check_global_name(symbols, declarator)?;
+    let shape = shape_of(&declarator.array);
+    let cells = cells_of(&declarator.array);
+    symbols.declare_global(alloc, declarator.name.text.as_slice(), shape, cells)?;
+    Ok(())
+}
+
+/// Adds a global behind those before it: S3, S10.
+fn add_global(
+    alloc: Global,
+    globals: &mut Vec<GlobalVariable>,
+    declarator: &Declarator,
+) -> Result<(), SourceFault>
+    ensures checked { Checks result (initial_breaches (view_declarator declarator.now).initializer) }
+    ensures declared { OnOk result (globals.new.items ≡ globals.old.items ++ global_of (view_declarator declarator.now) ∷ []) }
+{
+    let initial = initial_of(&declarator.initializer)?;
+    globals.push(GlobalVariable {
+        name: copy_of(alloc, &declarator.name)?,
+        at: declarator.name.span.start,
+        length: length_of(&declarator.array),
+        initial,
+    })?;
+    Ok(())
+}
+
+/// Declares one global.
+#[tactic(auto, using(om_rules::specs::InRow::first_of_left))]
+fn declare_global(
+    alloc: Global,
+    symbols: &mut Symbols,
+    globals: &mut Vec<GlobalVariable>,
+    declarator: &Declarator,
+) -> Result<(), SourceFault>
+    ensures checked { Checks result (global_breaches symbols.old (view_declarator declarator.now)) }
+    ensures in_scope { OnOk result (symbols.new ≡ after_global symbols.old (view_declarator declarator.now)) }
+    ensures declared { OnOk result (globals.new.items ≡ globals.old.items ++ global_of (view_declarator declarator.now) ∷ []) }
+{
+    declare_global_name(alloc, symbols, declarator)?;
+    add_global(alloc, globals, declarator)
+}
+
+/// Declares the globals behind the first of a declaration.
+fn declare_further_globals(
+    alloc: Global,
+    symbols: &mut Symbols,
+    globals: &mut Vec<GlobalVariable>,
+    rest: &[(Span, Declarator)],
+) -> Result<(), SourceFault>
+    ensures checked { Checks result (globals_breaches symbols.old (behind_commas (map view_further rest.now))) }
+    ensures in_scope { OnOk result (symbols.new ≡ after_globals symbols.old (behind_commas (map view_further rest.now))) }
+    ensures declared { OnOk result (globals.new.items ≡ globals.old.items ++ map global_of (behind_commas (map view_further rest.now))) }
+{
+    for further in rest {
+        declare_global(alloc, symbols, globals, &further.1)?;
+    }
+    Ok(())
+}
+
+/// Declares the globals of a declaration, in their order, and adds them behind those before it (C17
+/// 6.9.2).
+///
+/// Refusals: S8 at a name that is declared already; S9 at `main` or an array without cells; S11 at the
+/// first that has cells too many; S3 and S10 at an initializer; S0 out of memory.
+#[tactic(auto, using(om_rules::specs::InRow::first_of_left))]
+pub fn declare_globals(
+    alloc: Global,
+    symbols: &mut Symbols,
+    globals: &mut Vec<GlobalVariable>,
+    declaration: &Declaration,
+) -> Result<(), SourceFault>
+    ensures checked { Checks result (globals_breaches symbols.old (declarators_of (view_declaration declaration.now))) }
+    ensures in_scope { OnOk result (symbols.new ≡ after_globals symbols.old (declarators_of (view_declaration declaration.now))) }
+    ensures declared { OnOk result (globals.new.items ≡ globals.old.items ++ map global_of (declarators_of (view_declaration declaration.now))) }
+{
+    declare_global(alloc, symbols, globals, &declaration.first)?;
+    declare_further_globals(alloc, symbols, globals, declaration.rest.as_slice())
+}

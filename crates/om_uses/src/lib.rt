@@ -1,0 +1,23 @@
+//! Uses: expressions, declarations, directives and the bounds of loops. Each has its breaches or its
+//! resolution.
+#![tactic(auto)]
+
+mod bounds;
+mod call;
+mod declaration;
+mod directive;
+mod expression;
+mod fault;
+mod globals;
+mod kept;
+mod name;
+mod target;
+
+pub use bounds::{enter_loop, resolve_loop};
+pub use declaration::{check_new, copy_of, local_of, resolve_locals};
+pub use directive::{resolve_directive, resolve_flush};
+pub use expression::{boxed_expression, unboxed};
+pub use fault::{loop_fault, refuse_if};
+pub use globals::declare_globals;
+pub use kept::{add, boxed};
+pub use target::misplaced;

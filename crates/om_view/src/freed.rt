@@ -1,0 +1,31 @@
+//! The command `free`: all workers step at once, each in a thread of its own.
+
+ghost use Rattle.std.specs.Prelude.{◌≡◌, ◌++◌, OnOk};
+ghost use Rattle.om_view.specs.Freed.{FreeRun, free_said};
+
+use om_recorder::{Errand, Recorder};
+use om_replies::{push_freed, push_full};
+use std::alloc::{AllocError, Global};
+use std::sync::Wait;
+use std::thread::Threads;
+
+/// Answers `free K`.
+pub(crate) fn free<R: Threads + Wait + Sync>(
+    rt: &R,
+    alloc: Global,
+    recorder: &mut Recorder,
+    rounds: u64,
+    text: &mut Vec<u8>,
+) -> Result<(), AllocError>
+    ensures { OnOk result ((run : FreeRun)
+        × (text.new.items ≡ text.old.items ++ (free_said run recorder.old).text)
+        × (recorder.new ≡ (free_said run recorder.old).recorded)) }
+{
+    // Each round is a record at least, so more rounds come to no more.
+    let rounds = u32::try_from(rounds).unwrap_or(u32::MAX);
+    let count = recorder.free(Errand { rt, alloc, rounds })?;
+    if count.full {
+        return push_full(text);
+    }
+    push_freed(text, count.done)
+}
