@@ -21,6 +21,21 @@ use Rattle.om_shell.proofs.Advances.{Advance_none, Breaks_after, Done_unread}
 pub is_refused : (source : List ℕ) (fault : SourceFault) → (fault ≢ no_memory → IsRefused source fault) → fault.code ≢ Memory → IsRefused source fault
 is_refused source fault refuses other = refuses (λ e. other (ap (λ (f : SourceFault). f.code) e))
 
+-- nothing was read or written
+pub Breaks_unread : (r w : Option (List ℕ)) (pending : List ℕ) (d : Debugger) (fault : ShellFault) → fault ≢ Read
+    → (runs : List FreeRun) × BreaksOff r r w w pending (due d runs) fault
+Breaks_unread r w pending d fault other = (
+  [],
+  record {
+    taken = [];
+    text = [];
+    consumes = Consumes-nil r;
+    appends = Appends-nil w;
+    begins = record { rest = _; is = refl };
+    answered = λ is_read. absurd (other is_read);
+  },
+)
+
 -- the line of a refusal is all that is due, whatever follows
 pub Serves_refused : (r wa wb : Option (List ℕ)) (pending : List ℕ) (workers : ℕ) (source : List ℕ) (fault : SourceFault) → IsRefused source fault
     → Appends wa wb (refusal_text source fault) → Serves r r wa wb pending workers source 1 None

@@ -50,7 +50,7 @@ next_line bytes at n text future la d now e bound is =
     rw e (lines_first (drop at bytes) future (omega arith)) in
     ap la cut ∙ is (take (n + 1) (drop at bytes) ++ future) ∙ ap (λ l. after_text text (session d now l)) line
 
-within_next : (bytes : List ℕ) (at n : ℕ) → at ≤ length bytes → n < length (drop at bytes) → at + (n + 1) ≤ length bytes
+pub within_next : (bytes : List ℕ) (at n : ℕ) → at ≤ length bytes → n < length (drop at bytes) → at + (n + 1) ≤ length bytes
 within_next bytes at n h bound = omega (arith, length-drop at bytes)
 
 -- whole lines, and a further one

@@ -4,11 +4,11 @@ use Rattle.std.specs.Str.Lines.{strip_carriage_return}
 use Rattle.std.proofs.KnownBytes.{Appends-nil}
 use Rattle.om_shell.proofs.Bytes.{slice_to_end}
 use Rattle.om_shell.proofs.LineEnds.{position_some, position_none}
-use Rattle.om_shell.proofs.SessionLaws.{Batch_none, Batch_next, Batch_fault}
+use Rattle.om_shell.proofs.SessionLaws.{Batch_none, Batch_next, Batch_fault, within_next}
 use Rattle.om_shell.proofs.conversation.answer_lines.Goals as goal
 
 pub lines-init : goal.lines-init
-lines-init g c = record { answered = Batch_none _ _ _ (Appends-nil _); within = c.requires.within; known = c.requires.known }
+lines-init g c = record { answered = Batch_none _ _ _ (Appends-nil _); at_most = omega arith; within = c.requires.within; known = c.requires.known }
 
 pub line_end-requires : goal.line_end-requires
 line_end-requires g c = rw (slice_to_end c.args.bytes.now c.lines.at) (record { within = c.lines.invariant.within; known = c.lines.invariant.known })
@@ -24,6 +24,7 @@ lines-preserved g c =
     let said = rw c.if-quits.false at c.in_ok-quits.ensures.answered in
     record {
       answered = Batch_next _ _ _ bytes c.without_carriage_return-line.result.now at n _ c.lines.session.debugger _ _ _ c.lines.invariant.answered found.0 found.1 line said.2 said.1;
+      at_most = within_next bytes at n c.lines.invariant.at_most found.1;
       within = omega arith;
       known = refl;
     }

@@ -1,4 +1,4 @@
-use Rattle.std.proofs.Common.{arith, ◌++◌, [], length, drop, refl, sym, ap, subst, ◌∙◌, Some}
+use Rattle.std.proofs.Common.{arith, rules, ◌++◌, [], length, drop, refl, sym, ap, subst, ◌∙◌, Some}
 use Rattle.std.proofs.lemmas.Result.{err_from_is_err_and}
 use Rattle.std.proofs.KnownBytes.{Consumes-nil}
 use Rattle.om_shell.specs.Lines.{HasNoLineEnd}
@@ -11,7 +11,12 @@ pub reads-init : goal.reads-init
 reads-init g c = record { advance = Advances_none _ _ _ _; within = omega arith; known = refl }
 
 pub answer_lines-requires : goal.answer_lines-requires
-answer_lines-requires g c = rw c.deref.ensures.value (record { within = c.reads.invariant.within; known = c.reads.invariant.known })
+answer_lines-requires g c = rw c.deref.ensures.value (search rules, (c.reads.invariant.within, c.reads.invariant.known))
+
+pub discard-requires : goal.discard-requires
+discard-requires g c =
+    let batch = rw (c.if-quits.false, c.deref.ensures.value) at c.in_ok-used.ensures.answered in
+    (batch.1 []).within
 
 pub returns-in_err-used-clause-broken_off : goal.returns-in_err-used-clause-broken_off
 returns-in_err-used-clause-broken_off g c =

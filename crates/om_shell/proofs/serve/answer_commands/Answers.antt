@@ -1,0 +1,25 @@
+use Rattle.std.proofs.Common.{rules, ◌≡◌, ◌≢◌, Some}
+use Rattle.std.proofs.lemmas.Result.{err_from_is_err_and}
+use Rattle.om_view.specs.Views.{opened}
+use Rattle.om_shell.specs.declared.fault.ShellFault.TheVariants.{Read}
+use Rattle.om_shell.proofs.ServeLaws.{Breaks_unread}
+use Rattle.om_shell.proofs.serve.answer_commands.Goals as goal
+
+pub returns-in_err-session-clause-broken_off : goal.returns-in_err-session-clause-broken_off
+returns-in_err-session-clause-broken_off g c =
+    let p = err_from_is_err_and c.from_residual.result c.from_residual.ensures.1 in
+    let other : c.in_err-session.field-0.0 ≢ Read = search rules in
+    rw (p.1, p.2) (Breaks_unread _ _ _ _ _ other)
+
+pub returns-in_err-converse-clause-broken_off : goal.returns-in_err-converse-clause-broken_off
+returns-in_err-converse-clause-broken_off g c =
+    let p = err_from_is_err_and c.from_residual-in_err-converse.result c.from_residual-in_err-converse.ensures.1 in
+    let new : c.in_ok-session.session.debugger ≡ opened c.args.debuggee c.args.workers = search rules in
+    rw (p.1, p.2) (rw new at c.in_err-converse.ensures.broken_off)
+
+pub returns-clause-done : goal.returns-clause-done
+returns-clause-done g c =
+    let new : c.in_ok-session.session.debugger ≡ opened c.args.debuggee c.args.workers = search rules in
+    let done = rw new at c.in_ok-converse.ensures.done in
+    let left : c.accepted.result.debugger ≡ Some c.converse.new.session.debugger = search rules in
+    (done.0, rw left done.1)
