@@ -10,8 +10,6 @@ mod update;
 
 pub use canonical::{Loop, LoopStart, loop_in};
 pub use constant::signed_constant;
-pub use place::{
-    expression_first, expression_start, head_first, statement_first, statement_start,
-};
+pub use place::{expression_first, expression_start, head_first, statement_first, statement_start};
 pub use print::is_format;
 pub use update::{statement_side, update_of};

@@ -26,9 +26,7 @@ use om_rules::Names;
 use om_seq::Seq;
 use om_tree::{Item, Unit};
 use om_uses::declare_globals;
-use om_whole::laws::{
-    atomics_assign, unbroken_trees_are_resolved, unbroken_trees_are_whole,
-};
+use om_whole::laws::{atomics_assign, unbroken_trees_are_resolved, unbroken_trees_are_whole};
 use std::alloc::{AllocError, Global};
 
 /// Adds the function that an item defines.
