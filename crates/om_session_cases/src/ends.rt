@@ -179,7 +179,7 @@ impl Told {
 }
 
 /// A session of two workers over these ends.
-fn told<R: Threads + Wait + Sync>(
+fn session_over<R: Threads + Wait + Sync>(
     rt: &R,
     alloc: Global,
     source: Option<&[u8]>,
@@ -219,7 +219,7 @@ impl Script {
                 most,
                 reads_left: MANY,
             };
-            all &= told(rt, alloc, None, reader, MANY).is_whole(self.output);
+            all &= session_over(rt, alloc, None, reader, MANY).is_whole(self.output);
         }
         all
     }
@@ -234,7 +234,10 @@ impl Script {
                 most: 2,
                 reads_left,
             };
-            all &= told(rt, alloc, None, reader, MANY).is_broken_off(ShellFault::Read, self.output);
+            all &= session_over(rt, alloc, None, reader, MANY).is_broken_off(
+                ShellFault::Read,
+                self.output,
+            );
         }
         all
     }
@@ -248,7 +251,7 @@ impl Script {
                 most: 4096,
                 reads_left: MANY,
             };
-            all &= told(rt, alloc, None, reader, writes_left).is_broken_off(
+            all &= session_over(rt, alloc, None, reader, writes_left).is_broken_off(
                 ShellFault::Write,
                 self.output,
             );
@@ -276,7 +279,7 @@ pub(crate) fn source_may_be_handed_in<R: Threads + Wait + Sync>(rt: &R, alloc: G
         reads_left: MANY,
     };
     let source = b"int x = -3; int main(void) { }";
-    told(rt, alloc, Some(source), reader, MANY).is_whole(
+    session_over(rt, alloc, Some(source), reader, MANY).is_whole(
         "H1 unknown command\n#1 worker 0 line 1\nH2 bad argument\nx = -3\n",
     )
 }
