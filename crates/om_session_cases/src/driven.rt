@@ -1,10 +1,10 @@
 //! Two seats of a session, with many orders for each.
 
-ghost use Rattle.std.specs.Prelude.{◌≡◌, ◌≤◌, IfOk, length, vec_len};
+ghost use Rattle.std.specs.Prelude.{◌≡◌, IfOk, length, vec_len};
 
+use crate::orders::steps_of;
 use anyhow::Result;
-use om_book::{Blank, Book, Closed, Command, Session, Sitting};
-use om_cells::Choice;
+use om_book::{Blank, Book, Closed, Session, Sitting};
 use om_drive::{Crew, Driven, Gate, Order, drive};
 use om_shell::debuggee_of;
 use om_view::Debuggee;
@@ -101,24 +101,7 @@ fn two_lists(alloc: Global) -> Result<Vec<Vec<Order>>, AllocError>
     ensures { IfOk result (λ lists. vec_len lists ≡ 2) }
 {
     let mut lists = Vec::new(alloc);
-    lists.push(steps_of(alloc, 0, 0)?)?;
-    lists.push(steps_of(alloc, 1, ORDERS)?)?;
+    lists.push(steps_of(alloc, 0, 0, ORDERS)?)?;
+    lists.push(steps_of(alloc, 1, ORDERS, 2 * ORDERS)?)?;
     Ok(lists)
-}
-
-/// Orders for the steps of a worker, numbered from the first.
-fn steps_of(alloc: Global, worker: u8, first: u64) -> Result<Vec<Order>, AllocError>
-    requires { first ≤ 200 }
-{
-    let mut orders = Vec::new(alloc);
-    for index in 0..ORDERS {
-        orders.push(Order {
-            number: first + index,
-            command: Command::Step {
-                worker,
-                choice: Choice::Next,
-            },
-        })?;
-    }
-    Ok(orders)
 }

@@ -1,13 +1,14 @@
 //! Two workers, each of which waits inside its call until the other's has begun.
 
 ghost use Rattle.std.specs.Prelude.{◌≡◌, ◌++◌, ◌∷◌, [], IfOk, vec_len};
-ghost use Rattle.om_drive.specs.Calls.{last_place_in};
 
+use crate::orders::one_look;
 use anyhow::Result;
-use om_book::{CallError, Command, Query, Receipt, Reply};
+use om_book::{CallError, Command, Receipt, Reply};
 use om_drive::{Crew, Debuggee, Gate, Order, drive_over};
 use om_history::StepReply;
 use std::alloc::{AllocError, Global};
+use std::mem;
 use std::sync::Wait;
 use std::sync::atomic::{AtomicBool, Ordering};
 use std::thread::{Threads, yield_now};
@@ -22,21 +23,26 @@ struct Fake<'a> {
     other: &'a AtomicBool,
     /// Whether it saw the other's flag in time.
     saw: bool,
-    made: Vec<Receipt>,
+    /// The one call that it answers.
+    made: Option<Receipt>,
 }
 
 impl<'a> Debuggee for Fake<'a> {
     ghost use Rattle.om_drive.specs.Calls.{Place};
+    ghost use Rattle.std.specs.Prelude.{option_to_list};
 
     ghost place = { λ f. record { number = 0; workers = 2 } };
 
-    ghost made = { λ f. f.made.items };
+    ghost made = { λ f. option_to_list f.made };
 
     fn workers(&self) -> u8 {
         2
     }
 
     fn call<R: Wait>(&mut self, _rt: &R, command: Command) -> Result<Reply, CallError> {
+        if self.made.is_some() {
+            return Err(CallError::Full);
+        }
         self.mine.store(true, Ordering::SeqCst);
         self.saw = is_raised(self.other);
         let receipt = Receipt {
@@ -44,24 +50,15 @@ impl<'a> Debuggee for Fake<'a> {
             command,
             reply: Reply::Step(StepReply::Ended),
         };
-        match self.made.push(receipt) {
-            Ok(()) => Ok(Reply::Step(StepReply::Ended)),
-            Err(_) => Err(CallError::OutOfMemory),
-        }
+        drop(mem::replace(&mut self.made, Some(receipt)));
+        Ok(Reply::Step(StepReply::Ended))
     }
 
     fn last_place(&self) -> Option<u64> {
-        last_place(self.made.as_slice())
-    }
-}
-
-/// The place of the last receipt.
-fn last_place(receipts: &[Receipt]) -> Option<u64>
-    ensures { result ≡ last_place_in receipts.now }
-{
-    match receipts.last() {
-        Some(receipt) => Some(receipt.place),
-        None => None,
+        match &self.made {
+            Some(receipt) => Some(receipt.place),
+            None => None,
+        }
     }
 }
 
@@ -126,13 +123,13 @@ fn fakes<'a>(
         mine: zero,
         other: one,
         saw: false,
-        made: Vec::new(alloc),
+        made: None,
     })?;
     fakes.push(Fake {
         mine: one,
         other: zero,
         saw: false,
-        made: Vec::new(alloc),
+        made: None,
     })?;
     Ok(fakes)
 }
@@ -151,16 +148,7 @@ fn orders(alloc: Global) -> Result<Vec<Vec<Order>>, AllocError>
     ensures { IfOk result (λ lists. vec_len lists ≡ 2) }
 {
     let mut lists = Vec::new(alloc);
-    lists.push(one_order(alloc, 0)?)?;
-    lists.push(one_order(alloc, 1)?)?;
+    lists.push(one_look(alloc, 0)?)?;
+    lists.push(one_look(alloc, 1)?)?;
     Ok(lists)
-}
-
-fn one_order(alloc: Global, number: u64) -> Result<Vec<Order>, AllocError> {
-    let mut orders = Vec::new(alloc);
-    orders.push(Order {
-        number,
-        command: Command::Look(Query::Ready),
-    })?;
-    Ok(orders)
 }

@@ -8,6 +8,7 @@ mod ends;
 mod free_tasks;
 mod full_journal;
 mod gates;
+mod orders;
 mod session;
 
 use crate::depth::deepest_are_accepted;
