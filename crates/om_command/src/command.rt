@@ -1,6 +1,6 @@
 //! Commands, and why a line is none.
 
-use om_foot::Name;
+use crate::task::TaskName;
 use om_seq::Seq;
 use thiserror::Error;
 
@@ -18,7 +18,7 @@ pub enum Command {
     /// `step W`: worker W takes its next step.
     Step(u8),
     /// `start W NAME`: worker W begins the ready task of this name.
-    Start { worker: u8, task: Name },
+    Start { worker: u8, task: TaskName },
     /// `undo W`: the last step of worker W is taken back.
     Undo(u8),
     /// `next W`: worker W steps until its line changes.

@@ -4,7 +4,9 @@
 mod arguments;
 mod command;
 mod request;
+mod task;
 mod verb;
 
 pub use command::{Command, CommandFault, Request, Variable};
 pub use request::request_of;
+pub use task::TaskName;

@@ -8,6 +8,7 @@ use crate::arguments::{
     one_count, one_number, one_variable, one_worker, variable_of, worker, worker_and_task,
 };
 use crate::command::{Command, CommandFault, Request};
+use crate::task::TaskName;
 use crate::verb::{Verb, verb_of};
 use std::alloc::{AllocError, Global};
 
@@ -29,7 +30,10 @@ fn start(alloc: Global, workers: u8, words: &[&[u8]]) -> Result<Option<Command>,
     ensures in_range { IfOk result (λ command. IfSome command (HasWorkerBelow workers)) }
 {
     match worker_and_task(alloc, workers, words)? {
-        Some((worker, task)) => Ok(Some(Command::Start { worker, task })),
+        Some((worker, task)) => {
+            let task = TaskName::new(alloc, task)?;
+            Ok(Some(Command::Start { worker, task }))
+        }
         None => Ok(None),
     }
 }

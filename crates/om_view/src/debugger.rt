@@ -128,7 +128,7 @@ impl Debugger {
         match command {
             Command::Step(worker) => step(alloc, recorder, *worker, Choice::Next, text),
             Command::Start { worker, task } => {
-                step(alloc, recorder, *worker, Choice::Start(*task), text)
+                step(alloc, recorder, *worker, Choice::Start(task.name()), text)
             }
             Command::Undo(worker) => undo(recorder, *worker, text),
             Command::Next(worker) => next(alloc, recorder, *worker, text),
