@@ -35,6 +35,12 @@ KINDS = {
     "deep scopes, globals": ("int x;\n" + LAST, deep("x = x; " * 40) + "\n", "}"),
     "nested loops": ("int x;\n" + LAST + "for (int i = 0; ; ) " * 1000 + "{\n", "x = i;\n", "}}"),
     "nested tasks": ("int x;\n" + LAST + "int y[9];\n" + "#pragma omp task shared(y)\n" * 1000 + "{\n", "y[1] = x;\n", "}}"),
+    "nested tasks, by default none": (
+        "int x;\n" + LAST + "int y[9];\n" + "#pragma omp task default(none) shared(x, y)\n" * 1000 + "{\n", "y[1] = x;\n", "}}",
+    ),
+    "nested parallels": (
+        "int x;\n" + LAST + "int y[9];\n" + "#pragma omp parallel default(none) shared(x, y)\n" * 1000 + "{\n", "y[1] = x;\n", "}}",
+    ),
     "barriers": (LAST, "#pragma omp barrier\n", "}"),
     "data clauses of one line": (LISTED + LAST + "#pragma omp parallel " + CLAUSES + "\n{\n", "v7 = v1;\n", "}}"),
     "directives": ("int x;\n" + LAST + "int y;\n", "#pragma omp parallel default(none) shared(x) private(y)\ny = x;\n", "}"),

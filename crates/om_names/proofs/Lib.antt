@@ -1,3 +1,5 @@
 pub mod Tables
+pub mod Stacked
 pub mod Seen
+pub mod Marks
 pub mod Lookups

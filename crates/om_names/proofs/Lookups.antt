@@ -15,8 +15,9 @@ use Rattle.om_rules.specs.declared.meaning.Meaning.{Meaning}
 use Rattle.om_names.specs.Nesting.{AreNested, enclosing_of, holder_in, holder_since, holder_within, is_copy, outer_first, outside_of, region_in, unlisted_since}
 use Rattle.om_rules.specs.Scopes.{Scope, meaning_outside, plain, scope_of}
 use Rattle.om_rules.specs.Sharing.{copied_outside, declares, is_own, is_parallel, is_task_without, lacks_clause, unlisted_outside}
-use Rattle.om_names.specs.Sightings.{depth_of, innermost_of, meaning_of_sighting, scopes_of, sightings, with_sighting}
-use Rattle.om_names.proofs.Seen.{innermost-last}
+use Rattle.om_names.specs.Sightings.{depth_of, meaning_of_sighting, scopes_of, sightings, with_sighting}
+use Rattle.om_names.specs.Stacks.{innermost_of}
+use Rattle.om_names.proofs.Stacked.{innermost-last}
 
 -- ---- constructs
 

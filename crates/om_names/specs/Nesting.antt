@@ -1,11 +1,16 @@
 -- The constructs among the scopes round a place. In each list the first is the innermost.
-use Rattle.std.specs.Prelude.{ℕ, ◌<◌, List, [], ◌∷◌, Bool, true, false, ◌||◌, if◌then◌else◌, length, nat_eq, nat_lt}
+use Rattle.std.specs.Prelude.{◌≡◌, ℕ, suc, ◌<◌, List, [], ◌∷◌, ◌++◌, Option, None, Some, Bool, true, false, not, ◌&&◌, ◌||◌, if◌then◌else◌, is_some, length, nat_eq, nat_lt}
+use Rattle.std.specs.List.{list_any}
+use Rattle.std.specs.Str.{bytes_eq}
 use Rattle.om_names.specs.declared.nesting.Construct.{Construct}
+use Rattle.om_names.specs.declared.listing.Listing.{Listing}
+use Rattle.om_names.specs.declared.listing.Marks.{Marks}
 use Rattle.om_names.specs.declared.nesting.Holder.{Holder}
 use Rattle.om_names.specs.declared.nesting.Holder.TheVariants.{Own, Team, Task}
 use Rattle.om_rules.specs.declared.region.Region.{Region}
 use Rattle.om_rules.specs.Scopes.{Enclosing, Scope, plain}
-use Rattle.om_rules.specs.Sharing.{is_parallel, is_task_without, lacks_clause}
+use Rattle.om_rules.specs.Sharing.{asks_for_clauses, is_parallel, is_task, is_task_without, lacks_clause}
+use Rattle.om_names.specs.Stacks.{innermost_of, seen_in}
 
 -- the constructs round a scope of this depth stand one inside of the other
 abbrev pub AreNested : List Construct → ℕ → Type 0
@@ -17,6 +22,11 @@ abbrev pub region_in : List Construct → ℕ → Region
 region_in [] depth = plain
 region_in (construct ∷ outer) depth = if nat_eq construct.depth depth then construct.region else plain
 
+-- those round the innermost
+abbrev pub further : List Construct → List Construct
+further [] = []
+further (construct ∷ outer) = outer
+
 -- those that stand in the scopes round that one
 abbrev pub outside_of : List Construct → ℕ → List Construct
 outside_of [] depth = []
@@ -27,6 +37,96 @@ abbrev pub enclosing_of : List Scope → List Construct → List Enclosing
 enclosing_of [] constructs = []
 enclosing_of (scope ∷ outer) constructs =
     record { scope = scope; region = region_in constructs (length outer) } ∷ enclosing_of outer (outside_of constructs (length outer))
+
+-- ---- the innermost construct of a kind
+
+-- it asks for a clause for each variable
+abbrev pub asks : Region → Bool
+asks region = asks_for_clauses region.default
+
+-- it copies the variables that it does not list
+abbrev pub copies : Region → Bool
+copies region = is_task region.kind && not (is_some region.default)
+
+abbrev pub lists : Region → List ℕ → Bool
+lists region name = list_any (bytes_eq name) region.shared
+
+-- how many scopes stand round the one in the innermost construct that is such; 0 where none is
+abbrev pub innermost : (Region → Bool) → List Construct → ℕ
+innermost is_such [] = 0
+innermost is_such (construct ∷ outer) = if is_such construct.region then suc construct.depth else innermost is_such outer
+
+-- the same of those that do not list a name
+abbrev pub innermost_without : (Region → Bool) → List Construct → List ℕ → ℕ
+innermost_without is_such [] name = 0
+innermost_without is_such (construct ∷ outer) name =
+    if is_such construct.region && not (lists construct.region name) then suc construct.depth else innermost_without is_such outer name
+
+abbrev pub marks_of : List Construct → Marks
+marks_of constructs = record { asking = innermost asks constructs; copying = innermost copies constructs }
+
+abbrev pub marks_without : List Construct → List ℕ → Marks
+marks_without constructs name = record { asking = innermost_without asks constructs name; copying = innermost_without copies constructs name }
+
+-- those in a construct, round whose inner scope so many stand
+abbrev pub marks_in : Region → ℕ → Marks → Marks
+marks_in region inside outer = record {
+  asking = if asks region then inside else outer.asking;
+  copying = if copies region then inside else outer.copying;
+}
+
+-- each construct has the marks of itself and of those round it
+abbrev pub AreMarked : List Construct → Type 0
+AreMarked [] = Unit {0}
+AreMarked (construct ∷ outer) = (construct.marks ≡ marks_of (construct ∷ outer)) × AreMarked outer
+
+-- the constructs, once one is entered in the scope of this depth
+abbrev pub entered : ℕ → Region → List Construct → List Construct
+entered depth region outer = record { depth = depth; region = region; marks = marks_in region (suc depth) (marks_of outer) } ∷ outer
+
+-- ---- the constructs that list a name
+
+-- what stands round such a construct
+abbrev pub listing : ℕ → List Construct → List ℕ → Listing
+listing inside outer name = record { depth = inside; outer = marks_without outer name }
+
+-- for each that lists the name, the innermost last
+abbrev pub listings : List Construct → List ℕ → List Listing
+listings [] name = []
+listings (construct ∷ outer) name =
+    if lists construct.region name then listings outer name ++ listing (suc construct.depth) outer name ∷ [] else listings outer name
+
+-- a table has the listings of each name
+abbrev pub Lists : List (List ℕ × List Listing) → List Construct → Type 0
+Lists table constructs = (name : List ℕ) → seen_in table name ≡ listings constructs name
+
+-- the deeper of a construct of any name, and of one from round a listing
+abbrev pub deeper : ℕ → ℕ → ℕ → ℕ
+deeper listed any outer = if nat_lt listed any then any else outer
+
+-- what stands round a place of those that do not list a name: by the innermost that does, and by all
+abbrev pub marks_behind : Option Listing → Marks → Marks
+marks_behind None all = all
+marks_behind (Some listing) all = record {
+  asking = deeper listing.depth all.asking listing.outer.asking;
+  copying = deeper listing.depth all.copying listing.outer.copying;
+}
+
+-- one more listing of a name that has these
+abbrev pub with_listing : ℕ → Marks → List Listing → List Listing
+with_listing inside all seen = seen ++ record { depth = inside; outer = marks_behind (innermost_of seen) all } ∷ []
+
+-- of a table, for each of these names, what is noted changes so; for the others it stays
+abbrev pub ChangedFor : (List Listing → List Listing) → (before now : List (List ℕ × List Listing)) → List (List ℕ) → Type 0
+ChangedFor change before now names =
+    (other : List ℕ) → seen_in now other ≡ (if list_any (bytes_eq other) names then change (seen_in before other) else seen_in before other)
+
+-- ---- what constructs make of a name
+
+-- how deep the innermost of these stands, and one more
+abbrev pub end_of : List Construct → ℕ
+end_of [] = 0
+end_of (construct ∷ outer) = suc construct.depth
 
 -- one that stands in a scope of this depth, or in a deeper one, lacks a clause for a name
 abbrev pub unlisted_since : List Construct → ℕ → List ℕ → Bool
@@ -60,3 +160,13 @@ abbrev pub is_copy : Holder → Bool
 is_copy Own = false
 is_copy Team = false
 is_copy Task = true
+
+-- ---- what is known of those round a place
+
+-- whether one stands in the scope of this depth, where none stands in a deeper one
+abbrev pub StandsIn : List Construct → ℕ → Bool → Type 0
+StandsIn constructs depth stands = outside_of constructs depth ≡ (if stands then further constructs else constructs)
+
+-- what is true of all constructs round a place, with a table of those that list a name
+abbrev pub AreHeld : List Construct → List (List ℕ × List Listing) → Type 0
+AreHeld constructs table = AreMarked constructs × AreNested constructs (end_of constructs) × Lists table constructs

@@ -1,32 +1,13 @@
 -- Where names are declared, in the scopes round a place.
-use Rattle.std.specs.Prelude.{◌≡◌, ℕ, ◌-◌, List, [], ◌∷◌, ◌++◌, Option, None, Some, Vec, if◌then◌else◌, length, map, reverse, take}
+use Rattle.std.specs.Prelude.{◌≡◌, ℕ, List, [], ◌∷◌, ◌++◌, Option, None, Some, Vec, length, map, reverse}
 use Rattle.std.specs.HashMap.{HashMap}
 use Rattle.std.specs.Map.{lookup}
-use Rattle.std.specs.Option.{option_or}
 use Rattle.std.specs.Str.{bytes_eq}
 use Rattle.std.specs.declared.alloc.Global.{Global}
 use Rattle.om_names.specs.declared.sightings.Sighting.{Sighting}
 use Rattle.om_rules.specs.declared.meaning.Meaning.{Meaning}
 use Rattle.om_rules.specs.Scopes.{Scope, scope_of}
-
--- names, each with its declarations, the innermost last
-abbrev pub Table : Type 0
-Table = List (List ℕ × List Sighting)
-
-abbrev pub table_of : List (Vec ℕ Global × Vec Sighting Global) → Table
-table_of entries = map (λ entry. (entry.0.items, entry.1.items)) entries
-
--- those of a name
-abbrev pub seen_in : Table → List ℕ → List Sighting
-seen_in [] name = []
-seen_in (entry ∷ entries) name = if bytes_eq name entry.0 then entry.1 else seen_in entries name
-
-abbrev pub innermost_of : List Sighting → Option Sighting
-innermost_of [] = None
-innermost_of (sighting ∷ inner) = option_or (innermost_of inner) (Some sighting)
-
-abbrev pub without_innermost : List Sighting → List Sighting
-without_innermost seen = take (length seen - 1) seen
+use Rattle.om_names.specs.Stacks.{seen_in}
 
 -- once a scope of this depth declares a name as this, or does not declare it
 abbrev pub with_sighting : ℕ → List Sighting → Option Meaning → List Sighting
@@ -39,7 +20,7 @@ sightings [] name = []
 sightings (scope ∷ outer) name = with_sighting (length outer) (sightings outer name) (lookup (bytes_eq name) scope)
 
 -- a table has each name's declarations in these scopes
-abbrev pub Shows : Table → List Scope → Type 0
+abbrev pub Shows : List (List ℕ × List Sighting) → List Scope → Type 0
 Shows table scopes = (name : List ℕ) → seen_in table name ≡ sightings scopes name
 
 -- the scopes that tables of names hold, the innermost of which is the last table

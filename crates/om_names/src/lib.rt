@@ -4,8 +4,10 @@
 
 mod construct;
 mod listed;
+mod listing;
 mod nesting;
 mod sightings;
+mod stacks;
 mod symbols;
 mod table;
 

@@ -6,8 +6,9 @@ ghost use Rattle.std.specs.Str.{bytes_eq};
 ghost use Rattle.om_rules.specs.Sharing.{is_copied, is_unlisted};
 ghost use Rattle.om_rules.specs.Scopes.{scope_of, predeclared, nothing_declared, file_scope, inside, within, outside, meaning_of, meaning_here, is_declared, with_bindings, with_local, with_global, with_function, with_defined};
 
-use crate::nesting::{Construct, holder_since, is_copy, is_unlisted_since, leave_construct};
-use crate::sightings::{Sighting, Sightings, depth_of};
+use crate::nesting::Nesting;
+use crate::sightings::{Sighting, depth_of, forget_scope};
+use crate::stacks::Stacks;
 use crate::table::{enter_scope, found_in};
 use indexmap::IndexMap;
 use om_resolved::{Shape, Variable};
@@ -24,10 +25,10 @@ pub struct Symbols {
     inner: IndexMap<Vec<u8>, Meaning>,
     /// Those of the scopes round it, the file scope first.
     outer: Vec<IndexMap<Vec<u8>, Meaning>>,
-    /// The constructs that stand in the outer scopes, the innermost last.
-    constructs: Vec<Construct>,
+    /// The constructs that stand in the outer scopes.
+    nesting: Nesting,
     /// The declarations of each name in all of these scopes.
-    sightings: Sightings,
+    sightings: Stacks<Sighting>,
     /// How many globals there are.
     globals: u32,
     /// How many cells they have: each has one or more.
@@ -39,7 +40,7 @@ pub struct Symbols {
 }
 
 impl Model for Symbols {
-    ghost use Rattle.std.specs.Prelude.{◌≤◌, ◌∷◌, length, reverse};
+    ghost use Rattle.std.specs.Prelude.{◌≤◌, ◌∷◌, length};
     ghost use Rattle.om_rules.specs.Scopes.{Scopes, scope_of};
     ghost use Rattle.om_names.specs.Nesting.{AreNested, enclosing_of};
     ghost use Rattle.om_names.specs.Sightings.{Shows, scopes_of};
@@ -48,14 +49,14 @@ impl Model for Symbols {
 
     ghost view = { λ s. record {
       inner = scope_of s.inner.entries;
-      outer = enclosing_of (scopes_of s.outer.items) (reverse s.constructs.items);
+      outer = enclosing_of (scopes_of s.outer.items) s.nesting;
       globals = s.globals;
       cells = s.cells;
       definitions = s.definitions;
       defined = s.defined;
     } };
 
-    ghost invariant = { λ s. (s.globals ≤ s.cells) × AreNested (reverse s.constructs.items) (length s.outer.items) × Shows s.sightings (scope_of s.inner.entries ∷ scopes_of s.outer.items) };
+    ghost invariant = { λ s. (s.globals ≤ s.cells) × AreNested s.nesting (length s.outer.items) × Shows s.sightings (scope_of s.inner.entries ∷ scopes_of s.outer.items) };
 }
 
 /// Adds the functions that are declared before any source to no names.
@@ -76,8 +77,8 @@ impl Symbols {
         Symbols {
             inner: IndexMap::new(alloc),
             outer: Vec::new(alloc),
-            constructs: Vec::new(alloc),
-            sightings: Sightings::new(alloc),
+            nesting: Nesting::new(alloc),
+            sightings: Stacks::new(alloc),
             globals: 0,
             cells: 0,
             definitions,
@@ -172,7 +173,7 @@ impl Symbols {
         ensures { result ≡ is_unlisted self.now name.now }
     {
         let depth = depth_of(self.sightings.innermost(name));
-        is_unlisted_since(self.constructs.as_slice(), depth, name)
+        self.nesting.is_unlisted_since(depth, name)
     }
 
     /// Whether a `task` round this place makes a copy of a name's variable.
@@ -180,7 +181,7 @@ impl Symbols {
         ensures { result ≡ is_copied self.now name.now }
     {
         let depth = depth_of(self.sightings.innermost(name));
-        0 < depth && is_copy(holder_since(self.constructs.as_slice(), depth, name))
+        0 < depth && self.nesting.is_copied_since(depth, name)
     }
 
     /// Enters a block, in which nothing is declared yet.
@@ -198,9 +199,8 @@ impl Symbols {
     {
         let depth = self.outer.len();
         self.outer.reserve(1)?;
-        self.constructs.push(Construct { depth, region })?;
         enter_scope(alloc, &mut self.inner, &mut self.outer);
-        Ok(())
+        self.nesting.enter(alloc, depth, self.outer.len(), region)
     }
 
     /// Enters a construct in which these names are declared.
@@ -224,9 +224,8 @@ impl Symbols {
         ensures { self.new ≡ outside self.old }
     {
         if let Some(outer) = self.outer.pop() {
-            self.sightings
-                .forget_scope(mem::replace(&mut self.inner, outer));
-            leave_construct(&mut self.constructs, self.outer.len());
+            forget_scope(&mut self.sightings, mem::replace(&mut self.inner, outer));
+            self.nesting.leave(self.outer.len());
         }
     }
 

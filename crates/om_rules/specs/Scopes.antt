@@ -100,6 +100,10 @@ with_global scopes name shape cells = record {
   defined = scopes.defined;
 }
 
+-- two names with the same text
+abbrev pub same_name : Vec ℕ Global → Vec ℕ Global → Bool
+same_name one other = bytes_eq one.items other.items
+
 -- names, each once
 abbrev pub with_name : List (List ℕ) → List ℕ → List (List ℕ)
 with_name names name = if list_any (bytes_eq name) names then names else names ++ name ∷ []

@@ -1,9 +1,9 @@
 //! A set of names.
 
-ghost use Rattle.std.specs.Prelude.{◌≡◌, [], OnOk, length, position};
-ghost use Rattle.std.specs.List.{list_any};
+ghost use Rattle.std.specs.Prelude.{◌≡◌, [], OnOk, length, map, position};
+ghost use Rattle.std.specs.List.{IsDistinct, list_any};
 ghost use Rattle.std.specs.Str.{bytes_eq};
-ghost use Rattle.om_rules.specs.Scopes.{with_name};
+ghost use Rattle.om_rules.specs.Scopes.{same_name, with_name};
 
 use indexmap::IndexSet;
 use std::alloc::{AllocError, Global};
@@ -45,6 +45,14 @@ impl Names {
         ensures { result ≡ position (bytes_eq name.now) self.now }
     {
         self.names.get_index_of(name)
+    }
+
+    /// All of them, in the order in which they were added.
+    pub fn as_slice(&self) -> &[Vec<u8>]
+        ensures names { map (λ name. name.items) result.now ≡ self.now }
+        ensures each_once { IsDistinct same_name result.now }
+    {
+        self.names.as_slice()
     }
 
     /// How many there are.

@@ -1,4 +1,4 @@
-use Rattle.std.proofs.Common.{[], ◌∷◌, ◌++◌, None, ◌≡◌, is_some, length, reverse, subst, sym, ap, ◌∙◌}
+use Rattle.std.proofs.Common.{[], ◌∷◌, ◌++◌, None, ◌≡◌, is_some, length, subst, sym, ap, ◌∙◌}
 use Rattle.std.specs.Map.{lookup}
 use Rattle.std.specs.Str.{bytes_eq}
 use Rattle.indexmap.proofs.CallerLemmas.{insert_entry-new}
@@ -43,5 +43,5 @@ invariant_of-self-2 c =
 pub returns : goal.returns
 returns c =
     let fields = c.self.inside in
-    ap (λ inner. record { inner = inner; outer = enclosing_of (scopes_of fields.outer.items) (reverse fields.constructs.items); globals = fields.globals; cells = fields.cells; definitions = fields.definitions; defined = fields.defined }) (declared c)
+    ap (λ inner. record { inner = inner; outer = enclosing_of (scopes_of fields.outer.items) fields.nesting; globals = fields.globals; cells = fields.cells; definitions = fields.definitions; defined = fields.defined }) (declared c)
     ∙ ap (λ scopes. with_bindings scopes ((c.args.name.now, c.args.meaning) ∷ [])) c.self.view_is

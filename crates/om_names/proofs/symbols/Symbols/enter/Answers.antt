@@ -1,4 +1,4 @@
-use Rattle.std.proofs.Common.{[], ◌∷◌, ◌++◌, ◌≤◌, arith, length, length-append, reverse, subst, sym, ap, ◌∙◌}
+use Rattle.std.proofs.Common.{[], ◌∷◌, ◌++◌, ◌≤◌, arith, length, length-append, subst, sym, ap, ◌∙◌}
 use Rattle.om_rules.specs.Scopes.{scope_of}
 use Rattle.om_names.specs.Sightings.{Shows, scopes_of}
 use Rattle.om_names.proofs.Lookups.{nested-deeper, scopes-push}
@@ -13,7 +13,7 @@ invariant_of-self-2 c =
     let tables = c.enter_scope.ensures.outer ∙ ap (λ ts. ts ++ fields.inner ∷ []) c.in_ok-reserve.ensures.items in
     let more : length outer ≤ length c.enter_scope.new.outer.items = rw tables (omega (arith, length-append outer (fields.inner ∷ []))) in (
       c.self.invariant.0,
-      nested-deeper (reverse fields.constructs.items) (length outer) (length c.enter_scope.new.outer.items) more c.self.invariant.1,
+      nested-deeper fields.nesting (length outer) (length c.enter_scope.new.outer.items) more c.self.invariant.1,
       subst (λ es. Shows fields.sightings (scope_of es ∷ scopes_of c.enter_scope.new.outer.items)) (sym c.enter_scope.ensures.entered)
           (shows-empty fields.sightings (scopes_of c.enter_scope.new.outer.items) (subst (Shows fields.sightings) (sym (ap (λ ts. scopes_of ts) tables ∙ scopes-push outer fields.inner)) c.self.invariant.2)),
     )

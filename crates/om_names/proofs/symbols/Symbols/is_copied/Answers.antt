@@ -1,26 +1,22 @@
-use Rattle.std.proofs.Common.{◌∷◌, ◌<◌, ◌≤◌, ◌&&◌, length, reverse, subst, sym, ap, ◌∙◌}
-use Rattle.std.proofs.lemmas.List.{reverse-reverse}
+use Rattle.std.proofs.Common.{◌∷◌, ◌<◌, ◌≤◌, ◌&&◌, subst, sym, ap, ◌∙◌}
 use Rattle.std.proofs.lemmas.Bool.{le-ltb, lt-ltb}
-use Rattle.om_names.specs.Nesting.{AreNested, holder_since, holder_within, is_copy}
+use Rattle.om_names.specs.Nesting.{AreNested, holder_since, is_copy}
 use Rattle.om_rules.specs.Scopes.{scope_of}
 use Rattle.om_rules.specs.Sharing.{is_copied}
-use Rattle.om_names.specs.Sightings.{depth_of, innermost_of, scopes_of, sightings}
-use Rattle.om_names.proofs.Lookups.{copied-at, holder-inwards, length-scopes}
+use Rattle.om_names.specs.Sightings.{depth_of, scopes_of, sightings}
+use Rattle.om_names.specs.Stacks.{innermost_of}
+use Rattle.om_names.proofs.Lookups.{copied-at, length-scopes}
 use Rattle.om_names.proofs.symbols.Symbols.is_copied.Goals as goal
 
 pub returns-then-depth-gt0 : goal.returns-then-depth-gt0
 returns-then-depth-gt0 c =
     let fields = c.self.inside in
     let name = c.args.name.now in
-    let constructs = reverse fields.constructs.items in
+    let constructs = fields.nesting in
     let scopes = scope_of fields.inner.entries ∷ scopes_of fields.outer.items in
     let depth = c.depth_of-depth.ensures ∙ ap (λ seen. depth_of seen) (c.innermost.ensures ∙ ap innermost_of (c.self.invariant.2 name)) in
-    c.is_copy.ensures
-    ∙ ap is_copy
-    (c.holder_since.ensures
-    ∙ ap (λ cs. holder_within cs c.depth_of-depth.result name) (c.as_slice.ensures.value ∙ sym (reverse-reverse fields.constructs.items))
-    ∙ holder-inwards constructs (length fields.outer.items) c.depth_of-depth.result name c.self.invariant.1
-    ∙ ap (λ d. holder_since constructs d name) depth)
+    c.is_copied_since.ensures
+    ∙ ap (λ d. is_copy (holder_since constructs d name)) depth
     ∙ sym (ap (λ deep. deep && is_copy (holder_since constructs (depth_of (innermost_of (sightings scopes name))) name)) (lt-ltb 0 (depth_of (innermost_of (sightings scopes name))) (subst (λ d. 0 < d) depth c.if-depth-gt0.true)))
     ∙ sym (copied-at (scope_of fields.inner.entries) (scopes_of fields.outer.items) constructs name (subst (AreNested constructs) (sym (length-scopes fields.outer.items)) c.self.invariant.1))
     ∙ ap (λ scopes. is_copied scopes name) c.self.view_is
@@ -29,7 +25,7 @@ pub returns-else-depth-gt0 : goal.returns-else-depth-gt0
 returns-else-depth-gt0 c =
     let fields = c.self.inside in
     let name = c.args.name.now in
-    let constructs = reverse fields.constructs.items in
+    let constructs = fields.nesting in
     let scopes = scope_of fields.inner.entries ∷ scopes_of fields.outer.items in
     let depth = c.depth_of-depth.ensures ∙ ap (λ seen. depth_of seen) (c.innermost.ensures ∙ ap innermost_of (c.self.invariant.2 name)) in
     le-ltb 0 c.depth_of-depth.result c.if-depth-gt0.false

@@ -1,8 +1,9 @@
-use Rattle.std.proofs.Common.{reverse, subst, sym, ap, ◌∙◌}
+use Rattle.std.proofs.Common.{subst, sym, ap, ◌∙◌}
 use Rattle.om_names.specs.Nesting.{AreNested, unlisted_since}
 use Rattle.om_rules.specs.Scopes.{scope_of}
 use Rattle.om_rules.specs.Sharing.{is_unlisted}
-use Rattle.om_names.specs.Sightings.{depth_of, innermost_of, scopes_of}
+use Rattle.om_names.specs.Sightings.{depth_of, scopes_of}
+use Rattle.om_names.specs.Stacks.{innermost_of}
 use Rattle.om_names.proofs.Lookups.{length-scopes, unlisted-at}
 use Rattle.om_names.proofs.symbols.Symbols.is_unlisted.Goals as goal
 
@@ -10,10 +11,9 @@ pub returns : goal.returns
 returns c =
     let fields = c.self.inside in
     let name = c.args.name.now in
-    let constructs = reverse fields.constructs.items in
+    let constructs = fields.nesting in
     let depth = c.depth_of-depth.ensures ∙ ap (λ seen. depth_of seen) (c.innermost.ensures ∙ ap innermost_of (c.self.invariant.2 name)) in
     c.is_unlisted_since.ensures
-    ∙ ap (λ cs. unlisted_since (reverse cs) c.depth_of-depth.result name) c.as_slice.ensures.value
     ∙ ap (λ d. unlisted_since constructs d name) depth
     ∙ sym (unlisted-at (scope_of fields.inner.entries) (scopes_of fields.outer.items) constructs name (subst (AreNested constructs) (sym (length-scopes fields.outer.items)) c.self.invariant.1))
     ∙ ap (λ scopes. is_unlisted scopes name) c.self.view_is

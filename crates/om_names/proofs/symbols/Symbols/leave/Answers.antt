@@ -1,4 +1,4 @@
-use Rattle.std.proofs.Common.{[], ◌∷◌, ◌≡◌, ◌≤◌, suc, arith, length, length-append, reverse, subst, sym, ap, ◌∙◌}
+use Rattle.std.proofs.Common.{[], ◌∷◌, ◌≡◌, ◌≤◌, suc, arith, length, length-append, subst, sym, ap, ◌∙◌}
 use Rattle.om_names.specs.Nesting.{AreNested, outside_of}
 use Rattle.om_rules.specs.Scopes.{scope_of}
 use Rattle.om_names.specs.Sightings.{Shows, scopes_of}
@@ -8,16 +8,16 @@ use Rattle.om_names.proofs.symbols.Symbols.leave.Goals as goal
 pub invariant_of-self : goal.invariant_of-self
 invariant_of-self c =
     let fields = c.self.inside in
-    let constructs = reverse fields.constructs.items in
+    let constructs = fields.nesting in
     let left = c.pop.new.self.items in
     let table = c.in-Some.outer in
     let split = c.in-Some.ensures.items in
     let depth : c.len.result ≡ length left = c.len.ensures ∙ c.pop.new.self.ok.0 in
     let fewer : length fields.outer.items ≤ suc (length left) = rw split (omega (arith, length-append left (table ∷ []))) in (
       c.self.invariant.0,
-      subst (λ cs. AreNested cs (length left)) (sym (c.leave_construct.ensures ∙ ap (outside_of constructs) depth))
+      subst (λ cs. AreNested cs (length left)) (sym (c.leave.ensures ∙ ap (outside_of constructs) depth))
           (nested-outside constructs (length left) (nested-deeper constructs (length fields.outer.items) (suc (length left)) fewer c.self.invariant.1)),
-      subst (λ t. Shows c.forget_scope.new.self (scope_of t.entries ∷ scopes_of left)) (sym c.replace.ensures.after)
+      subst (λ t. Shows c.forget_scope.new.sightings (scope_of t.entries ∷ scopes_of left)) (sym c.replace.ensures.after)
           (c.forget_scope.ensures (scope_of table.entries ∷ scopes_of left)
           (subst (λ t. Shows fields.sightings (scope_of t.entries ∷ scope_of table.entries ∷ scopes_of left)) (sym c.replace.ensures.value)
           (subst (λ scopes. Shows fields.sightings (scope_of fields.inner.entries ∷ scopes)) (ap (λ ts. scopes_of ts) split ∙ scopes-push left table) c.self.invariant.2))),

@@ -1,6 +1,7 @@
-use Rattle.std.proofs.Common.{reverse, sym, ap, ◌∙◌}
+use Rattle.std.proofs.Common.{sym, ap, ◌∙◌}
 use Rattle.om_rules.specs.Scopes.{meaning_of, scope_of}
-use Rattle.om_names.specs.Sightings.{innermost_of, meaning_of_sighting, scopes_of}
+use Rattle.om_names.specs.Sightings.{meaning_of_sighting, scopes_of}
+use Rattle.om_names.specs.Stacks.{innermost_of}
 use Rattle.om_names.proofs.Lookups.{meaning-here}
 use Rattle.om_names.proofs.symbols.Symbols.meaning_of.Goals as goal
 
@@ -10,7 +11,7 @@ returns-in_err-sighting c =
     let found = c.innermost.ensures ∙ ap innermost_of (c.self.invariant.2 c.args.name.now) in
     c.from_residual.ensures
     ∙ ap meaning_of_sighting (sym c.in_err-sighting.was ∙ found)
-    ∙ sym (meaning-here (scope_of fields.inner.entries) (scopes_of fields.outer.items) (reverse fields.constructs.items) c.args.name.now)
+    ∙ sym (meaning-here (scope_of fields.inner.entries) (scopes_of fields.outer.items) fields.nesting c.args.name.now)
     ∙ ap (λ scopes. meaning_of scopes c.args.name.now) c.self.view_is
 
 pub returns : goal.returns
@@ -18,5 +19,5 @@ returns c =
     let fields = c.self.inside in
     let found = c.innermost.ensures ∙ ap innermost_of (c.self.invariant.2 c.args.name.now) in
     ap meaning_of_sighting (sym c.in_ok-sighting.was ∙ found)
-    ∙ sym (meaning-here (scope_of fields.inner.entries) (scopes_of fields.outer.items) (reverse fields.constructs.items) c.args.name.now)
+    ∙ sym (meaning-here (scope_of fields.inner.entries) (scopes_of fields.outer.items) fields.nesting c.args.name.now)
     ∙ ap (λ scopes. meaning_of scopes c.args.name.now) c.self.view_is

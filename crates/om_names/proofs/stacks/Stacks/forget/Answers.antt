@@ -1,13 +1,13 @@
 use Rattle.std.proofs.Common.{sym, ap, ◌∙◌, if◌then◌else◌, arith}
 use Rattle.std.specs.Option.{option_copied_mut}
 use Rattle.std.specs.Str.{bytes_eq}
-use Rattle.om_names.specs.Sightings.{seen_in, table_of, without_innermost}
-use Rattle.om_names.proofs.Seen.{popped, seen-absent, seen-write}
-use Rattle.om_names.proofs.sightings.Sightings.forget.Goals as goal
-use Rattle.om_names.proofs.sightings.Sightings.forget.Goals.{in-Some, in_default}
+use Rattle.om_names.specs.Stacks.{seen_in, table_of, without_innermost}
+use Rattle.om_names.proofs.Stacked.{popped, seen-absent, seen-write}
+use Rattle.om_names.proofs.stacks.Stacks.forget.Goals as goal
+use Rattle.om_names.proofs.stacks.Stacks.forget.Goals.{in-Some, in_default}
 
 pub returns : goal.returns
-returns c other =
+returns over c other =
     let es = c.self.inside.names.entries in
     let name = c.args.name.now in
     elim c.match-get_mut.branch [

@@ -1,0 +1,71 @@
+//! Names, each with a stack of items. The innermost of a name is found at once, however many stand round it.
+
+ghost use Rattle.std.specs.Prelude.{◌≡◌, ℕ, List, [], ◌∷◌, ◌++◌, OnOk, OnErr, if◌then◌else◌};
+ghost use Rattle.std.specs.Str.{bytes_eq};
+ghost use Rattle.om_names.specs.Stacks.{innermost_of, seen_in, without_innermost};
+
+use indexmap::IndexMap;
+use std::alloc::{AllocError, Global};
+use std::marker::Model;
+
+/// Names, each with a stack of items. Contracts see each name with its items, the innermost last.
+#[derive(Drop)]
+pub struct Stacks<T> {
+    names: IndexMap<Vec<u8>, Vec<T>>,
+}
+
+impl<T> Model for Stacks<T> {
+    ghost use Rattle.std.specs.Prelude.{ℕ, List};
+    ghost use Rattle.om_names.specs.Stacks.{table_of};
+
+    ghost Value = { List (List ℕ × List T) };
+
+    ghost view = { λ s. table_of s.names.entries };
+}
+
+impl<T: Copy + Drop> Stacks<T> {
+    /// None.
+    pub fn new(alloc: Global) -> Stacks<T>
+        ensures { result ≡ [] }
+    {
+        Stacks {
+            names: IndexMap::new(alloc),
+        }
+    }
+
+    /// The innermost item of a name.
+    pub fn innermost(&self, name: &[u8]) -> Option<T>
+        ensures { result ≡ innermost_of (seen_in self.now name.now) }
+    {
+        let (item, _) = self.names.get(name)?.as_slice().split_last()?;
+        Some(*item)
+    }
+
+    /// Notes an item of a name, as its innermost. When out of memory, nothing changes.
+    pub fn note(&mut self, alloc: Global, name: &[u8], item: T) -> Result<(), AllocError>
+        ensures noted { OnOk result ((other : List ℕ) → seen_in self.new other ≡ (if bytes_eq other name.now then seen_in self.old other ++ item ∷ [] else seen_in self.old other)) }
+        ensures unchanged_on_error { OnErr result ((other : List ℕ) → seen_in self.new other ≡ seen_in self.old other) }
+    {
+        match self.names.get_mut(name) {
+            Some(seen) => {
+                seen.push(item)?;
+                Ok(())
+            }
+            None => {
+                let mut seen = Vec::new(alloc);
+                seen.push(item)?;
+                self.names.insert(Vec::from_slice(alloc, name)?, seen)?;
+                Ok(())
+            }
+        }
+    }
+
+    /// Forgets the innermost item of a name.
+    pub fn forget(&mut self, name: &[u8])
+        ensures { (other : List ℕ) → seen_in self.new other ≡ (if bytes_eq other name.now then without_innermost (seen_in self.old other) else seen_in self.old other) }
+    {
+        if let Some(seen) = self.names.get_mut(name) {
+            let _innermost = seen.pop();
+        }
+    }
+}
