@@ -3,8 +3,8 @@ use Rattle.std.proofs.lemmas.Result.{on_ok_weaker}
 use Rattle.om_view.proofs.debugger.Debugger.obey.Goals as goal
 
 pub returns-in-Start-clause-text : goal.returns-in-Start-clause-text
-returns-in-Start-clause-text c = rw c.in-Start.is c.step-in-Start.ensures.text
+returns-in-Start-clause-text c = rw c.in-Start.is (rw c.name.ensures at c.step-in-Start.ensures.text)
 
 pub returns-in-Start-clause-view : goal.returns-in-Start-clause-view
 returns-in-Start-clause-view c =
-    rw c.in-Start.is (on_ok_weaker c.step-in-Start.result (λ e. ap (λ r. record { recorder = r; names = c.args.self.now.names; marks = c.args.self.now.marks }) e) c.step-in-Start.ensures.after)
+    rw c.in-Start.is (on_ok_weaker c.step-in-Start.result (λ e. ap (λ r. record { recorder = r; names = c.args.self.now.names; marks = c.args.self.now.marks }) e) (rw c.name.ensures at c.step-in-Start.ensures.after))
