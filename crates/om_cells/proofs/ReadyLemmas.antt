@@ -13,7 +13,7 @@ use Rattle.om_foot.specs.declared.object.Obj.{Obj}
 use Rattle.om_foot.specs.declared.object.Obj.TheVariants as obj
 use Rattle.om_foot.specs.contracts.object.ObjOrd.TheImpl.{cmp-value}
 use Rattle.om_foot.specs.Footprint.{obj_eq}
-use Rattle.om_foot.proofs.Objects.{lookup-is_at, obj_eq-true}
+use Rattle.om_foot.specs.Objects.{lookup-is_at, obj_eq-true}
 use Rattle.om_cells.specs.declared.value.Val.{Val}
 use Rattle.om_cells.specs.Values.{default_of, task_in}
 use Rattle.om_cells.specs.Ready.{is_ready, AreReady}

@@ -1,5 +1,8 @@
 -- Words that are appended one after the other.
-use Rattle.std.proofs.Common.{◌≡◌, ℕ, suc, ◌+◌, ◌<◌, List, [], ◌∷◌, ◌++◌, length, map, take, get_or, sym, ◌∙◌, ap, arith, append_assoc, append-nil, take-suc}
+use Rattle.std.proofs.Common.{◌≡◌, ℕ, suc, ◌+◌, ◌<◌, List, [], ◌∷◌, ◌++◌, length, map, take, get_or, sym, ◌∙◌, ap, arith, append_assoc, append-nil, length-append, take-suc}
+use Rattle.std.specs.Prelude.{Result, Ok, Err, OnErr}
+use Rattle.std.proofs.lemmas.List.{take-take}
+use Rattle.std.proofs.Math.Seq.{take-append_seam}
 use Rattle.om_events.specs.declared.words.Word.{Word}
 use Rattle.om_events.specs.Records.{spaced}
 use Rattle.om_events.specs.Words.{word_text}
@@ -29,3 +32,14 @@ next_word old now more ws k w l is h m =
     m ∙ ap (λ s. s ++ 32 ∷ word_text w) h
     ∙ append_assoc old (text (take k ws)) (32 ∷ word_text w)
     ∙ ap (λ s. old ++ s) (sym (text-next ws k w l is))
+
+-- what stood before still stands at the front, where what stood behind it stays at the front
+pub front_of : (old now added new : List ℕ) → now ≡ old ++ added → take (length now) new ≡ now → take (length old) new ≡ old
+front_of old now added new h front =
+    sym (take-take (length old) (length now) new (omega (arith, length-append old added, ap length h)))
+    ∙ ap (take (length old)) (front ∙ h)
+    ∙ take-append_seam old added
+
+pub on_error : {T E P : Type 0} (r : Result T E) → P → OnErr r P
+on_error (Ok v) p = tt
+on_error (Err e) p = p

@@ -6,7 +6,7 @@ use Rattle.std.proofs.lemmas.List.Elements.{All-head, All-tail}
 use Rattle.om_foot.specs.declared.object.Obj.{Obj}
 use Rattle.om_foot.specs.declared.footprint.Access.{Access}
 use Rattle.om_foot.specs.Footprint.{obj_eq, modes_conflict, conflicts_with_any, conflict_of}
-use Rattle.om_foot.proofs.Objects.{obj_eq-true}
+use Rattle.om_foot.specs.Objects.{obj_eq-true}
 use Rattle.om_cells.specs.declared.step.Entry.{Entry}
 use Rattle.om_history.specs.declared.reply.UndoReply.{UndoReply}
 use Rattle.om_history.specs.Runs.{conflict_or}

@@ -2,7 +2,7 @@
 use Rattle.std.proofs.Common.{◌≡◌, refl, sym, ◌∙◌, ap, subst, Some, List, [], ◌∷◌}
 use Rattle.om_foot.specs.declared.footprint.Mode.{Mode}
 use Rattle.om_foot.specs.declared.footprint.Access.{Access}
-use Rattle.om_foot.proofs.Objects.{AllApart, AllApart-flip, all_apart}
+use Rattle.om_foot.specs.Apart.{AllApart, AllApart-flip, all_apart}
 use Rattle.om_cells.specs.declared.value.Val.{Val}
 use Rattle.om_cells.specs.declared.step.Update.{Update}
 use Rattle.om_cells.specs.declared.step.Outcome.{Outcome}

@@ -6,7 +6,8 @@ use Rattle.std.specs.List.{AllByRecursion}
 use Rattle.om_foot.specs.declared.footprint.Mode.{Mode}
 use Rattle.om_foot.specs.declared.footprint.Access.{Access}
 use Rattle.om_foot.specs.Footprint.{obj_eq, modes_conflict}
-use Rattle.om_foot.proofs.Objects.{obj_eq-true, IsApart, AllApart, heads, tails}
+use Rattle.om_foot.specs.Apart.{IsApart, AllApart, heads, tails}
+use Rattle.om_foot.specs.Objects.{obj_eq-true}
 use Rattle.om_cells.specs.declared.value.Val.{Val}
 use Rattle.om_cells.specs.declared.value.Val.TheVariants.{Count}
 use Rattle.om_cells.specs.declared.step.Update.{Update}

@@ -3,7 +3,7 @@ use Rattle.std.proofs.Common.{◌≡◌, refl, sym, ◌∙◌, ap, subst, Some, 
 use Rattle.std.specs.Prelude.{map, slice_get, unwrap_or}
 use Rattle.om_foot.specs.declared.footprint.Access.{Access}
 use Rattle.om_foot.specs.Footprint.{conflict_of}
-use Rattle.om_foot.proofs.Objects.{AllApart, AllApart-flip, all_apart}
+use Rattle.om_foot.specs.Apart.{AllApart, AllApart-flip, all_apart}
 use Rattle.om_cells.specs.declared.step.Label.{Label}
 use Rattle.om_cells.specs.declared.step.Step.{Step}
 use Rattle.om_cells.specs.State.{State, updated, taken_back}

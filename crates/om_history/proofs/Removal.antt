@@ -7,7 +7,8 @@ use Rattle.om_foot.specs.declared.footprint.Access.{Access}
 use Rattle.om_foot.specs.Footprint.{obj_eq}
 use Rattle.om_cells.specs.declared.value.Val.{Val}
 use Rattle.om_cells.specs.declared.step.Update.TheVariants as update
-use Rattle.om_foot.proofs.Objects.{AllApart-flip, all_apart, obj_eq-true}
+use Rattle.om_foot.specs.Apart.{AllApart-flip, all_apart}
+use Rattle.om_foot.specs.Objects.{obj_eq-true}
 use Rattle.om_cells.specs.declared.step.Update.{Update}
 use Rattle.om_cells.specs.declared.step.Label.{Label}
 use Rattle.om_cells.specs.declared.step.Step.{Step}

@@ -9,7 +9,7 @@ use Rattle.std.specs.Prelude.{FitsSigned}
 use Rattle.om_foot.specs.declared.footprint.Mode.{Mode}
 use Rattle.om_foot.specs.declared.footprint.Mode.TheVariants as mode
 use Rattle.om_foot.specs.declared.footprint.Access.{Access}
-use Rattle.om_foot.proofs.Objects.{obj_eq-same}
+use Rattle.om_foot.specs.Objects.{obj_eq-same}
 use Rattle.om_cells.specs.declared.value.Val.{Val}
 use Rattle.om_cells.specs.declared.value.Val.TheVariants.{Count}
 use Rattle.om_cells.specs.declared.step.Update.{Update}

@@ -7,7 +7,7 @@ use Rattle.om_foot.specs.declared.object.Obj.{Obj}
 use Rattle.om_foot.specs.declared.object.Obj.TheVariants as obj
 use Rattle.om_foot.specs.declared.footprint.Access.{Access}
 use Rattle.om_foot.specs.Footprint.{conflict_of}
-use Rattle.om_foot.proofs.Objects.{AllApart, all_apart}
+use Rattle.om_foot.specs.Apart.{AllApart, all_apart}
 use Rattle.om_cells.specs.declared.step.Label.{Label}
 use Rattle.om_cells.specs.declared.step.Entry.{Entry}
 use Rattle.om_cells.specs.State.{State, taken_back}

@@ -4,7 +4,7 @@ use Rattle.std.specs.Prelude.{IsTrue, ◌↔◌, Some, slice_get, if◌then◌el
 use Rattle.std.proofs.lemmas.List.{drop_more}
 use Rattle.std.proofs.lemmas.Option.{get_or_from_slice_get, slice_get_within}
 use Rattle.om_foot.specs.Names.{IsDescendant, is_below}
-use Rattle.om_foot.proofs.NameLemmas.{below_to, below_from}
+use Rattle.om_foot.specs.Below.{below_to, below_from}
 use Rattle.om_code.specs.declared.raw.Raw.{Raw}
 use Rattle.om_cells.specs.declared.control.Context.{Context}
 use Rattle.om_task.specs.Rules.{admits_on, admits_all}

@@ -1,5 +1,4 @@
-use Rattle.om_foot.proofs.NameLemmas.{front_of, on_error}
-use Rattle.om_events.proofs.WordLemmas.{next_word}
+use Rattle.om_events.proofs.WordLemmas.{front_of, next_word, on_error}
 use Rattle.om_events.proofs.words.push_spaced.Goals as goal
 
 pub returns-in_err-push_spaced_one-clause-front_stays :
