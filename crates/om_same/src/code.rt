@@ -6,22 +6,13 @@ use om_code::instruction::Schedule;
 
 impl Same for Operand {
     fn is_same(&self, other: &Operand) -> bool {
-        match (self, other) {
-            (Operand::Int(one), Operand::Int(two)) => *one == *two,
-            (Operand::NoValue, Operand::NoValue) => true,
-            _ => false,
-        }
+        self == other
     }
 }
 
 impl Same for Cell {
     fn is_same(&self, other: &Cell) -> bool {
-        match (self, other) {
-            (Cell::Unset, Cell::Unset) => true,
-            (Cell::Int(one), Cell::Int(two)) => *one == *two,
-            (Cell::Dead, Cell::Dead) => true,
-            _ => false,
-        }
+        self == other
     }
 }
 
@@ -33,11 +24,6 @@ impl Same for Fault {
 
 impl Same for Schedule {
     fn is_same(&self, other: &Schedule) -> bool {
-        match (self, other) {
-            (Schedule::Static, Schedule::Static) => true,
-            (Schedule::StaticChunk(one), Schedule::StaticChunk(two)) => *one == *two,
-            (Schedule::Dynamic(one), Schedule::Dynamic(two)) => *one == *two,
-            _ => false,
-        }
+        self == other
     }
 }

@@ -5,18 +5,7 @@ use om_cells::{Construct, Context, Control, Frame, Home, Kind, Share, Sharing, S
 
 impl Same for Home {
     fn is_same(&self, other: &Home) -> bool {
-        match (self, other) {
-            (Home::Own, Home::Own) => true,
-            (
-                Home::Elsewhere { task, frame, slot },
-                Home::Elsewhere {
-                    task: other_task,
-                    frame: other_frame,
-                    slot: other_slot,
-                },
-            ) => task.is_same(other_task) && *frame == *other_frame && *slot == *other_slot,
-            _ => false,
-        }
+        self == other
     }
 }
 
@@ -32,31 +21,19 @@ impl Same for Frame {
 
 impl Same for Team {
     fn is_same(&self, other: &Team) -> bool {
-        self.name.is_same(&other.name)
-            && self.number == other.number
-            && self.size == other.size
-            && self.level == other.level
+        self == other
     }
 }
 
 impl Same for Kind {
     fn is_same(&self, other: &Kind) -> bool {
-        match (self, other) {
-            (Kind::Initial, Kind::Initial) => true,
-            (Kind::Implicit, Kind::Implicit) => true,
-            (Kind::Explicit, Kind::Explicit) => true,
-            _ => false,
-        }
+        self == other
     }
 }
 
 impl Same for Sharing {
     fn is_same(&self, other: &Sharing) -> bool {
-        match (self, other) {
-            (Sharing::Loop, Sharing::Loop) => true,
-            (Sharing::Sections, Sharing::Sections) => true,
-            _ => false,
-        }
+        self == other
     }
 }
 

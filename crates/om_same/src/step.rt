@@ -5,27 +5,13 @@ use om_cells::{Blocked, Choice, Entry};
 
 impl Same for Choice {
     fn is_same(&self, other: &Choice) -> bool {
-        match (self, other) {
-            (Choice::Next, Choice::Next) => true,
-            (Choice::Start(one), Choice::Start(two)) => one.is_same(two),
-            _ => false,
-        }
+        self == other
     }
 }
 
 impl Same for Blocked {
     fn is_same(&self, other: &Blocked) -> bool {
-        match (self, other) {
-            (Blocked::Barrier, Blocked::Barrier) => true,
-            (Blocked::Critical(one), Blocked::Critical(two)) => *one == *two,
-            (Blocked::Children, Blocked::Children) => true,
-            (Blocked::Busy(one), Blocked::Busy(two)) => *one == *two,
-            (Blocked::Idle, Blocked::Idle) => true,
-            (Blocked::Task, Blocked::Task) => true,
-            (Blocked::Place, Blocked::Place) => true,
-            (Blocked::Group, Blocked::Group) => true,
-            _ => false,
-        }
+        self == other
     }
 }
 
