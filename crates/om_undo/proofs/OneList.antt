@@ -1,5 +1,5 @@
 -- Lists that ascend and have the same members are the same list.
-use Rattle.std.proofs.Common.{◌≡◌, refl, sym, ◌∙◌, ap, subst, List, [], ◌∷◌, ⊎_elim}
+use Rattle.std.proofs.Common.{◌≡◌, refl, sym, ◌∙◌, ap, subst, List, [], ◌∷◌, ◌⊎◌, inl, inr, ⊎_elim, arith}
 use Rattle.std.specs.Prelude.{Contains, ◌↔◌}
 use Rattle.std.specs.Cmp.{IsTotalOrder}
 use Rattle.std.specs.List.{AllByRecursion}
@@ -7,7 +7,23 @@ use Rattle.std.specs.List.Sorted.{IsStrictlySortedBy}
 use Rattle.std.specs.Ordering.{ordering_reverse}
 use Rattle.std.specs.declared.cmp.Ordering.{Ordering}
 use Rattle.std.specs.declared.cmp.Ordering.TheVariants.{Less}
-use Rattle.om_history.proofs.Membership.{Contains-cases, Contains-none, Contains-first, Contains-rest}
+use Rattle.std.proofs.lemmas.List.Elements.{Contains-append_left, Contains-append_right, Contains-append_cases, Contains-push, Contains-push_cases}
+
+-- what a list contains, by its first element, and without one
+
+Contains-cases : {X : Type 0} → (x : X) (xs : List X) (y : X) → Contains (x ∷ xs) y → (x ≡ y) ⊎ Contains xs y
+Contains-cases x xs y h = ⊎_elim
+    (λ one. ⊎_elim (λ none. absurd (omega (arith, none.1))) (λ is. inl is) (Contains-push_cases [] x y one))
+    (λ rest. inr rest) (Contains-append_cases (x ∷ []) xs y h)
+
+Contains-none : {X : Type 0} → (y : X) → Contains [] y → ⊥
+Contains-none y h = omega (arith, h.1)
+
+Contains-first : {X : Type 0} → (x : X) (xs : List X) → Contains (x ∷ xs) x
+Contains-first x xs = Contains-append_left (x ∷ []) xs x (Contains-push [] x)
+
+Contains-rest : {X : Type 0} → (x : X) (xs : List X) (y : X) → Contains xs y → Contains (x ∷ xs) y
+Contains-rest x xs y h = Contains-append_right (x ∷ []) xs y h
 
 module _ {K : Type 0} {R : K → K → Ordering} (order : IsTotalOrder R) where
   not_below_itself : (x : K) → R x x ≡ Less → ⊥
