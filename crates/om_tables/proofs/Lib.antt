@@ -1,4 +1,5 @@
 pub mod Places
 pub mod Cells
+pub mod Copied
 pub mod Called
 pub mod Noting

@@ -82,8 +82,7 @@ fn add_clause(copies: &mut Vec<FirstCopy>, clause: &ResolvedClause) -> Result<()
         OnOk result (first_copies_of copies.new.items ≡ first_copies_of copies.old.items ++ added) }
 {
     match clause {
-        ResolvedClause::Value(_, _) => Ok(()),
-        ResolvedClause::Shared(_) => Ok(()),
+        ResolvedClause::Value(_, _) | ResolvedClause::Shared(_) => Ok(()),
         ResolvedClause::Copied(kind, original, copy) => add_copy(copies, *kind, *original, copy),
     }
 }
@@ -99,7 +98,7 @@ fn add_copy(
         OnOk result (first_copies_of copies.new.items ≡ first_copies_of copies.old.items ++ added) }
 {
     match kind {
-        CopyKind::Private => Ok(()),
+        CopyKind::Private | CopyKind::Reduction(_) => Ok(()),
         CopyKind::Firstprivate => add(
             copies,
             FirstCopy {
@@ -107,7 +106,6 @@ fn add_copy(
                 original,
             },
         ),
-        CopyKind::Reduction(_) => Ok(()),
     }
 }
 

@@ -22,17 +22,20 @@ pub(crate) fn note_expression(
         OnOk result (formats.new ≡ noted formats.old (expression_formats tree)) }
 {
     match expression {
-        ResolvedExpression::Constant(_) => Ok(()),
-        ResolvedExpression::Variable(_) => Ok(()),
-        ResolvedExpression::Element(_, index) => note_expression(formats, alloc, index),
+        ResolvedExpression::Constant(_)
+        | ResolvedExpression::Variable(_)
+        | ResolvedExpression::ThreadNumber
+        | ResolvedExpression::TeamSize
+        | ResolvedExpression::Postfix(_, _) => Ok(()),
+        ResolvedExpression::Element(_, part)
+        | ResolvedExpression::Unary(_, part)
+        | ResolvedExpression::Assign(_, _, part)
+        | ResolvedExpression::PostfixElement(_, part, _) => note_expression(formats, alloc, part),
         ResolvedExpression::Call(_, values) => note_values(formats, alloc, values.as_slice()),
-        ResolvedExpression::ThreadNumber => Ok(()),
-        ResolvedExpression::TeamSize => Ok(()),
         ResolvedExpression::Print(format, values) => {
             formats.note(alloc, format.as_slice())?;
             note_values(formats, alloc, values.as_slice())
         }
-        ResolvedExpression::Unary(_, operand) => note_expression(formats, alloc, operand),
         ResolvedExpression::Binary(left, _, right) => {
             note_expression(formats, alloc, left)?;
             note_expression(formats, alloc, right)
@@ -42,13 +45,10 @@ pub(crate) fn note_expression(
             note_expression(formats, alloc, then)?;
             note_expression(formats, alloc, other)
         }
-        ResolvedExpression::Assign(_, _, value) => note_expression(formats, alloc, value),
         ResolvedExpression::AssignElement(_, index, _, value) => {
             note_expression(formats, alloc, index)?;
             note_expression(formats, alloc, value)
         }
-        ResolvedExpression::Postfix(_, _) => Ok(()),
-        ResolvedExpression::PostfixElement(_, index, _) => note_expression(formats, alloc, index),
     }
 }
 

@@ -4,7 +4,7 @@ ghost use Rattle.std.specs.Prelude.{◌≡◌, ◌++◌, [], OnOk, IfOk, ℕ, ma
 ghost use Rattle.std.specs.List.{flat_map};
 ghost use Rattle.om_resolved.specs.ResolvedTree as trees;
 ghost use Rattle.om_resolved.specs.ResolvedView.{view_resolved_clause, view_resolved_declarator, view_resolved_expression, view_resolved_function, view_resolved_loop, view_resolved_part, view_resolved_start, view_resolved_statement, view_resolved_update};
-ghost use Rattle.om_rows.specs.Mentions.{all_mentioned, clause_mentioned, declarator_mentioned, extents_of, function_mentioned, loop_mentioned, mentioned, parts_mentioned, perhaps_mentioned, start_mentioned, update_mentioned};
+ghost use Rattle.om_rows.specs.Mentions.{all_mentioned, clause_mentioned, declarator_mentioned, extents_of, loop_mentioned, mentioned, parts_mentioned, perhaps_mentioned, start_mentioned, update_mentioned};
 ghost use Rattle.om_rows.specs.Slots.{cells_in, cells_of_length};
 ghost use Rattle.om_tables.specs.Noted.{AreNoted};
 
@@ -50,21 +50,24 @@ pub fn extents_of(alloc: Global, function: &ResolvedFunction) -> Result<Extents,
         IfOk result (λ made. (variable : ℕ) → cells_in made variable ≡ cells_in (extents_of tree) variable) }
 {
     let mut found = Mentions::new(alloc);
-    note_function(&mut found, alloc, function)?;
+    let done = note_statements(&mut found, alloc, function.body.as_slice());
     let Mentions { extents, .. } = found;
-    Ok(extents)
+    match done {
+        Ok(()) => Ok(extents),
+        Err(error) => Err(error),
+    }
 }
 
-/// Notes what a function mentions.
-pub(crate) fn note_function(
+/// Notes the formats of an expression.
+fn note_value(
     found: &mut Mentions,
     alloc: Global,
-    function: &ResolvedFunction,
+    value: &ResolvedExpression,
 ) -> Result<(), AllocError>
-    ensures { let tree = view_resolved_function function.now in
-        OnOk result (AreNoted (λ A m. function_mentioned m tree) found.old found.new) }
+    ensures { let tree = view_resolved_expression value.now in
+        OnOk result (AreNoted (λ A m. m.in_expression tree) found.old found.new) }
 {
-    note_statements(found, alloc, function.body.as_slice())
+    note_expression(&mut found.formats, alloc, value)
 }
 
 /// Notes the formats of an expression that may be left out.
@@ -78,7 +81,7 @@ fn note_perhaps(
 {
     match expression {
         None => Ok(()),
-        Some(expression) => note_expression(&mut found.formats, alloc, expression),
+        Some(expression) => note_value(found, alloc, expression),
     }
 }
 
@@ -128,7 +131,7 @@ fn note_start(found: &mut Mentions, alloc: Global, start: &ResolvedStart) -> Res
 {
     match start {
         ResolvedStart::Nothing => Ok(()),
-        ResolvedStart::Expression(value) => note_expression(&mut found.formats, alloc, value),
+        ResolvedStart::Expression(value) => note_value(found, alloc, value),
         ResolvedStart::Declaration(declarators) => {
             note_declarators(found, alloc, declarators.as_slice())
         }
@@ -145,9 +148,8 @@ fn note_clause(
         OnOk result (AreNoted (λ A m. clause_mentioned m tree) found.old found.new) }
 {
     match clause {
-        ResolvedClause::Value(_, value) => note_expression(&mut found.formats, alloc, value),
-        ResolvedClause::Shared(_) => Ok(()),
-        ResolvedClause::Copied(_, _, _) => Ok(()),
+        ResolvedClause::Value(_, value) => note_value(found, alloc, value),
+        ResolvedClause::Shared(_) | ResolvedClause::Copied(_, _, _) => Ok(()),
     }
 }
 
@@ -171,8 +173,8 @@ fn note_loop(found: &mut Mentions, alloc: Global, repeated: &ResolvedLoop) -> Re
     ensures { let tree = view_resolved_loop repeated.now in
         OnOk result (AreNoted (λ A m. loop_mentioned m tree) found.old found.new) }
 {
-    note_expression(&mut found.formats, alloc, &repeated.from)?;
-    note_expression(&mut found.formats, alloc, &repeated.to)
+    note_value(found, alloc, &repeated.from)?;
+    note_value(found, alloc, &repeated.to)
 }
 
 /// Notes an atomic update.
@@ -185,7 +187,7 @@ fn note_update(
         OnOk result (AreNoted (λ A m. update_mentioned m tree) found.old found.new) }
 {
     note_perhaps(found, alloc, &update.index)?;
-    note_expression(&mut found.formats, alloc, &update.operand)
+    note_value(found, alloc, &update.operand)
 }
 
 /// Notes the name of a critical region.
@@ -197,12 +199,12 @@ fn note_construct(
     ensures { OnOk result (AreNoted (λ A m. m.by_construct kind.now) found.old found.new) }
 {
     match kind {
-        ConstructKind::Single(_) => Ok(()),
-        ConstructKind::Masked => Ok(()),
         ConstructKind::Critical(None) => found.locks.note(alloc, &[]),
         ConstructKind::Critical(Some(name)) => found.locks.note(alloc, name.as_slice()),
-        ConstructKind::Atomic => Ok(()),
-        ConstructKind::Taskgroup => Ok(()),
+        ConstructKind::Single(_)
+        | ConstructKind::Masked
+        | ConstructKind::Atomic
+        | ConstructKind::Taskgroup => Ok(()),
     }
 }
 
@@ -242,39 +244,31 @@ fn note_statement(
             note_declarators(found, alloc, declarators.as_slice())
         }
         ResolvedStatement::Block(_, items) => note_statements(found, alloc, items.as_slice()),
-        ResolvedStatement::Empty(_) => Ok(()),
-        ResolvedStatement::Expression(_, value) => {
-            note_expression(&mut found.formats, alloc, value)
-        }
-        ResolvedStatement::If(_, condition, then) => {
-            note_expression(&mut found.formats, alloc, condition)?;
-            note_statement(found, alloc, then)
+        ResolvedStatement::Empty(_)
+        | ResolvedStatement::Break(_)
+        | ResolvedStatement::Continue(_)
+        | ResolvedStatement::StandAlone(_, _) => Ok(()),
+        ResolvedStatement::Expression(_, value) => note_value(found, alloc, value),
+        ResolvedStatement::If(_, test, body) | ResolvedStatement::While(_, test, body) => {
+            note_value(found, alloc, test)?;
+            note_statement(found, alloc, body)
         }
         ResolvedStatement::IfElse(_, condition, then, other) => {
-            note_expression(&mut found.formats, alloc, condition)?;
+            note_value(found, alloc, condition)?;
             note_statement(found, alloc, then)?;
             note_statement(found, alloc, other)
         }
-        ResolvedStatement::While(_, condition, body) => {
-            note_expression(&mut found.formats, alloc, condition)?;
-            note_statement(found, alloc, body)
-        }
         ResolvedStatement::Do(_, body, condition) => {
             note_statement(found, alloc, body)?;
-            note_expression(&mut found.formats, alloc, condition)
+            note_value(found, alloc, condition)
         }
         ResolvedStatement::For(_, start, condition, step, body) => {
             note_head(found, alloc, start, condition, step)?;
             note_statement(found, alloc, body)
         }
         ResolvedStatement::Return(_, value) => note_perhaps(found, alloc, value),
-        ResolvedStatement::Break(_) => Ok(()),
-        ResolvedStatement::Continue(_) => Ok(()),
-        ResolvedStatement::Parallel(_, clauses, _, body) => {
-            note_clauses(found, alloc, clauses.as_slice())?;
-            note_statement(found, alloc, body)
-        }
-        ResolvedStatement::Task(_, clauses, _, body) => {
+        ResolvedStatement::Parallel(_, clauses, _, body)
+        | ResolvedStatement::Task(_, clauses, _, body) => {
             note_clauses(found, alloc, clauses.as_slice())?;
             note_statement(found, alloc, body)
         }
@@ -293,14 +287,13 @@ fn note_statement(
             note_statement(found, alloc, body)
         }
         ResolvedStatement::Update(_, update) => note_update(found, alloc, update),
-        ResolvedStatement::StandAlone(_, _) => Ok(()),
     }
 }
 
 /// Notes what statements mention.
 #[tactic(auto, unfolding(om_rows::specs::Mentions::all_mentioned))]
 #[cycle(statement)]
-fn note_statements(
+pub(crate) fn note_statements(
     found: &mut Mentions,
     alloc: Global,
     items: &[ResolvedStatement],

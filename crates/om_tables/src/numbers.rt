@@ -61,27 +61,28 @@ pub fn behind(numbers: Numbers, statement: &ResolvedStatement) -> Result<Numbers
         IfOk result (λ made. numbers_of made ≡ bodies.behind (numbers_of numbers) tree) }
 {
     match statement {
-        ResolvedStatement::Declaration(_, _) => Ok(numbers),
+        ResolvedStatement::Declaration(_, _)
+        | ResolvedStatement::Empty(_)
+        | ResolvedStatement::Expression(_, _)
+        | ResolvedStatement::Return(_, _)
+        | ResolvedStatement::Break(_)
+        | ResolvedStatement::Continue(_)
+        | ResolvedStatement::Update(_, _)
+        | ResolvedStatement::StandAlone(_, _) => Ok(numbers),
         ResolvedStatement::Block(_, items) => behind_all(numbers, items.as_slice()),
-        ResolvedStatement::Empty(_) => Ok(numbers),
-        ResolvedStatement::Expression(_, _) => Ok(numbers),
-        ResolvedStatement::If(_, _, then) => behind(numbers, then),
+        ResolvedStatement::If(_, _, body)
+        | ResolvedStatement::While(_, _, body)
+        | ResolvedStatement::Do(_, body, _)
+        | ResolvedStatement::For(_, _, _, _, body)
+        | ResolvedStatement::Loop(_, _, _, _, body)
+        | ResolvedStatement::Construct(_, _, _, body) => behind(numbers, body),
         ResolvedStatement::IfElse(_, _, then, other) => behind(behind(numbers, then)?, other),
-        ResolvedStatement::While(_, _, body) => behind(numbers, body),
-        ResolvedStatement::Do(_, body, _) => behind(numbers, body),
-        ResolvedStatement::For(_, _, _, _, body) => behind(numbers, body),
-        ResolvedStatement::Return(_, _) => Ok(numbers),
-        ResolvedStatement::Break(_) => Ok(numbers),
-        ResolvedStatement::Continue(_) => Ok(numbers),
-        ResolvedStatement::Parallel(_, _, _, body) => behind(numbers.next_body()?, body),
-        ResolvedStatement::Task(_, _, _, body) => behind(numbers.next_body()?, body),
-        ResolvedStatement::Loop(_, _, _, _, body) => behind(numbers, body),
+        ResolvedStatement::Parallel(_, _, _, body) | ResolvedStatement::Task(_, _, _, body) => {
+            behind(numbers.next_body()?, body)
+        }
         ResolvedStatement::Sections(_, _, _, parts) => {
             behind_parts(numbers.next_pick()?, parts.as_slice())
         }
-        ResolvedStatement::Construct(_, _, _, body) => behind(numbers, body),
-        ResolvedStatement::Update(_, _) => Ok(numbers),
-        ResolvedStatement::StandAlone(_, _) => Ok(numbers),
     }
 }
 

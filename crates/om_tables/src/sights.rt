@@ -96,22 +96,8 @@ fn see_start(variables: &mut Variables, start: &ResolvedStart) -> Result<(), All
     }
 }
 
-/// Sees the original of a copy, where the copy begins with its value or is combined into it.
-fn see_original(
-    variables: &mut Variables,
-    kind: CopyKind,
-    original: Variable,
-) -> Result<(), AllocError>
-    ensures { OnOk result (variables.new ≡ sighted variables.old (original_sights kind original)) }
-{
-    match kind {
-        CopyKind::Private => Ok(()),
-        CopyKind::Firstprivate => variables.sight(original),
-        CopyKind::Reduction(_) => variables.sight(original),
-    }
-}
-
-/// Sees an original and then its copy.
+/// Sees an original, unless its copy is private, and then that copy.
+#[tactic(auto, using(crate::proofs::Copied::original_seen))]
 fn see_copy(
     variables: &mut Variables,
     kind: CopyKind,
@@ -121,7 +107,7 @@ fn see_copy(
     ensures { let sights = original_sights kind original ++ copy.now.at ∷ [] in
         OnOk result (variables.new ≡ sighted variables.old sights) }
 {
-    see_original(variables, kind, original)?;
+    take_original(variables, kind, original)?;
     variables.add(copy.at)
 }
 
@@ -156,8 +142,7 @@ fn see_combined(
     ensures { OnOk result (variables.new ≡ sighted variables.old (combined_sights kind original)) }
 {
     match kind {
-        CopyKind::Private => Ok(()),
-        CopyKind::Firstprivate => Ok(()),
+        CopyKind::Private | CopyKind::Firstprivate => Ok(()),
         CopyKind::Reduction(_) => variables.sight(original),
     }
 }
@@ -256,20 +241,18 @@ fn see_statement(variables: &mut Variables, statement: &ResolvedStatement) -> Re
             see_declarators(variables, declarators.as_slice())
         }
         ResolvedStatement::Block(_, items) => see_statements(variables, items.as_slice()),
-        ResolvedStatement::Empty(_) => Ok(()),
+        ResolvedStatement::Empty(_)
+        | ResolvedStatement::Break(_)
+        | ResolvedStatement::Continue(_) => Ok(()),
         ResolvedStatement::Expression(_, expression) => take_expression(variables, expression),
-        ResolvedStatement::If(_, condition, then) => {
-            take_expression(variables, condition)?;
-            see_statement(variables, then)
+        ResolvedStatement::If(_, test, body) | ResolvedStatement::While(_, test, body) => {
+            take_expression(variables, test)?;
+            see_statement(variables, body)
         }
         ResolvedStatement::IfElse(_, condition, then, other) => {
             take_expression(variables, condition)?;
             see_statement(variables, then)?;
             see_statement(variables, other)
-        }
-        ResolvedStatement::While(_, condition, body) => {
-            take_expression(variables, condition)?;
-            see_statement(variables, body)
         }
         ResolvedStatement::Do(_, body, condition) => {
             see_statement(variables, body)?;
@@ -280,12 +263,8 @@ fn see_statement(variables: &mut Variables, statement: &ResolvedStatement) -> Re
             see_statement(variables, body)
         }
         ResolvedStatement::Return(_, value) => take_perhaps(variables, value),
-        ResolvedStatement::Break(_) => Ok(()),
-        ResolvedStatement::Continue(_) => Ok(()),
-        ResolvedStatement::Parallel(_, clauses, captures, _) => {
-            take_region(variables, clauses.as_slice(), captures.as_slice())
-        }
-        ResolvedStatement::Task(_, clauses, captures, _) => {
+        ResolvedStatement::Parallel(_, clauses, captures, _)
+        | ResolvedStatement::Task(_, clauses, captures, _) => {
             take_region(variables, clauses.as_slice(), captures.as_slice())
         }
         ResolvedStatement::Loop(_, clauses, _, repeated, body) => {

@@ -9,7 +9,7 @@ ghost use Rattle.om_tables.specs.Noted.{noted};
 ghost use Rattle.om_tables.specs.Numbering.{function_numbers, numbers_of};
 ghost use Rattle.om_tables.specs.Tables.{IsTablesOf};
 
-use crate::mentions::{Mentions, note_function};
+use crate::mentions::{Mentions, note_statements};
 use crate::numbers::{Numbers, behind_function};
 use crate::texts::Texts;
 use om_resolved::{Resolved, ResolvedFunction};
@@ -33,10 +33,9 @@ pub fn tables_of(alloc: Global, resolved: &Resolved) -> Result<Tables, AllocErro
     ensures { IfOk result (λ tables. IsTablesOf (view_resolved resolved.now) tables) }
 {
     let functions = resolved.functions.as_slice();
-    let mentions = mentions_of(alloc, functions)?;
     let mut bodies = Vec::new(alloc);
     let behind = number_functions(&mut bodies, functions)?;
-    let Mentions { formats, locks, .. } = mentions;
+    let Mentions { formats, locks, .. } = mentions_of(alloc, functions)?;
     Ok(Tables {
         formats,
         locks,
@@ -54,7 +53,7 @@ fn mentions_of(alloc: Global, functions: &[ResolvedFunction]) -> Result<Mentions
 {
     let mut found = Mentions::new(alloc);
     for function in functions {
-        note_function(&mut found, alloc, function)?;
+        note_statements(&mut found, alloc, function.body.as_slice())?;
     }
     Ok(found)
 }

@@ -24,16 +24,21 @@ pub(crate) fn take_expression(
     ensures { OnOk result (variables.new ≡ sighted variables.old (expression_uses (view_resolved_expression expression.now))) }
 {
     match expression {
-        ResolvedExpression::Constant(_) => Ok(()),
-        ResolvedExpression::Variable(variable) => variables.sight(*variable),
-        ResolvedExpression::Element(array, index) => {
-            variables.sight(*array)?;
-            take_expression(variables, index)
+        ResolvedExpression::Constant(_)
+        | ResolvedExpression::ThreadNumber
+        | ResolvedExpression::TeamSize => Ok(()),
+        ResolvedExpression::Variable(variable) | ResolvedExpression::Postfix(variable, _) => {
+            variables.sight(*variable)
         }
-        ResolvedExpression::Call(_, values) => take_values(variables, values.as_slice()),
-        ResolvedExpression::ThreadNumber => Ok(()),
-        ResolvedExpression::TeamSize => Ok(()),
-        ResolvedExpression::Print(_, values) => take_values(variables, values.as_slice()),
+        ResolvedExpression::Element(variable, part)
+        | ResolvedExpression::Assign(variable, _, part)
+        | ResolvedExpression::PostfixElement(variable, part, _) => {
+            variables.sight(*variable)?;
+            take_expression(variables, part)
+        }
+        ResolvedExpression::Call(_, values) | ResolvedExpression::Print(_, values) => {
+            take_values(variables, values.as_slice())
+        }
         ResolvedExpression::Unary(_, operand) => take_expression(variables, operand),
         ResolvedExpression::Binary(left, _, right) => {
             take_expression(variables, left)?;
@@ -44,19 +49,10 @@ pub(crate) fn take_expression(
             take_expression(variables, then)?;
             take_expression(variables, other)
         }
-        ResolvedExpression::Assign(variable, _, value) => {
-            variables.sight(*variable)?;
-            take_expression(variables, value)
-        }
         ResolvedExpression::AssignElement(array, index, _, value) => {
             variables.sight(*array)?;
             take_expression(variables, index)?;
             take_expression(variables, value)
-        }
-        ResolvedExpression::Postfix(variable, _) => variables.sight(*variable),
-        ResolvedExpression::PostfixElement(array, index, _) => {
-            variables.sight(*array)?;
-            take_expression(variables, index)
         }
     }
 }
@@ -96,8 +92,7 @@ pub(crate) fn take_original(
 {
     match kind {
         CopyKind::Private => Ok(()),
-        CopyKind::Firstprivate => variables.sight(original),
-        CopyKind::Reduction(_) => variables.sight(original),
+        CopyKind::Firstprivate | CopyKind::Reduction(_) => variables.sight(original),
     }
 }
 
@@ -153,9 +148,7 @@ pub(crate) fn take_stand_alone(
     ensures { OnOk result (variables.new ≡ sighted variables.old (stand_alone_uses directive.now)) }
 {
     match directive {
-        StandAlone::Barrier => Ok(()),
-        StandAlone::Taskwait => Ok(()),
-        StandAlone::Taskyield => Ok(()),
+        StandAlone::Barrier | StandAlone::Taskwait | StandAlone::Taskyield => Ok(()),
         StandAlone::Flush(listed) => take_variables(variables, listed.as_slice()),
     }
 }
