@@ -150,7 +150,8 @@ fn local_in(bodies: &[BodyNames], body: u32, named: Option<Named>) -> Local
 
 /// Adds parameters.
 fn add_parameters(walk: &mut Walk, parameters: &[LocalVariable]) -> Result<(), AllocError>
-    ensures { OnOk result (Walked walk.old walk.new 0 (λ k. opening (map (opened_at 0) parameters.now))) }
+    ensures { OnOk result
+        (Walked walk.old walk.new 0 (λ k. opening (map (opened_at 0) parameters.now))) }
 {
     for parameter in parameters {
         open(walk, parameter, 0)?;
@@ -161,7 +162,9 @@ fn add_parameters(walk: &mut Walk, parameters: &[LocalVariable]) -> Result<(), A
 /// Adds the names in the body of a function.
 fn add_function_body(walk: &mut Walk, function: &ResolvedFunction) -> Result<(), AllocError>
     requires { walk.old.place ≡ 0 }
-    ensures { OnOk result (Walked walk.old walk.new (statements_size (view_resolved_function function.now).body + 1) (function_body_names (view_resolved_function function.now) walk.old.body)) }
+    ensures { OnOk result (Walked walk.old walk.new
+        (statements_size (view_resolved_function function.now).body + 1)
+        (function_body_names (view_resolved_function function.now) walk.old.body)) }
 {
     let height = walk.opened.len();
     add_parameters(walk, function.parameters.as_slice())?;
@@ -172,7 +175,8 @@ fn add_function_body(walk: &mut Walk, function: &ResolvedFunction) -> Result<(),
 
 /// Adds a function's body, and the names in it.
 fn add_function(walk: &mut Walk, function: &ResolvedFunction) -> Result<(), AllocError>
-    ensures { OnOk result (Added walk.old walk.new (function_names (view_resolved_function function.now))) }
+    ensures { OnOk result
+        (Added walk.old walk.new (function_names (view_resolved_function function.now))) }
 {
     let Ok(number) = u32::try_from(walk.bodies.len()) else {
         return Err(AllocError);
@@ -190,7 +194,8 @@ fn add_function(walk: &mut Walk, function: &ResolvedFunction) -> Result<(), Allo
 
 /// Adds the bodies of functions.
 fn add_functions(walk: &mut Walk, functions: &[ResolvedFunction]) -> Result<(), AllocError>
-    ensures { OnOk result (Added walk.old walk.new (functions_names (map view_resolved_function functions.now))) }
+    ensures { OnOk result
+        (Added walk.old walk.new (functions_names (map view_resolved_function functions.now))) }
 {
     for function in functions {
         add_function(walk, function)?;

@@ -1,6 +1,6 @@
 //! How many instructions the code of a part of the tree has.
 
-ghost use Rattle.std.specs.Prelude.{◌≡◌, ◌≤◌, ◌+◌, ℕ, OnOk, map, option_map};
+ghost use Rattle.std.specs.Prelude.{◌≡◌, ◌+◌, ℕ, OnOk, map, option_map};
 ghost use Rattle.om_resolved.specs.ResolvedTree as trees;
 ghost use Rattle.om_resolved.specs.ResolvedView.{view_resolved_expression};
 ghost use Rattle.om_rows.specs.Operators.{form_of, compound_of};
@@ -28,8 +28,7 @@ pub(crate) fn copy_start_own(kind: CopyKind) -> u32
 {
     match kind {
         CopyKind::Private => 1,
-        CopyKind::Firstprivate => 2,
-        CopyKind::Reduction(_) => 2,
+        CopyKind::Firstprivate | CopyKind::Reduction(_) => 2,
     }
 }
 
@@ -38,84 +37,82 @@ pub(crate) fn combined_own(kind: CopyKind) -> u32
     ensures { result ≡ combined_size kind }
 {
     match kind {
-        CopyKind::Private => 0,
-        CopyKind::Firstprivate => 0,
+        CopyKind::Private | CopyKind::Firstprivate => 0,
         CopyKind::Reduction(_) => 1,
     }
 }
 
 /// The instructions of an operator before its operand.
 fn unary_own(operator: UnaryOperator) -> u32
-    ensures exact { (size : ℕ) → unary_size operator size ≡ size + result }
-    ensures few { result ≤ 1 }
+    ensures { (size : ℕ) → unary_size operator size ≡ size + result }
 {
     match operator {
         UnaryOperator::Plus => 0,
-        UnaryOperator::Negate => 1,
-        UnaryOperator::Not => 1,
+        UnaryOperator::Negate | UnaryOperator::Not => 1,
     }
 }
 
 /// The instructions of an operator between its operands.
 fn binary_own(operator: BinaryOperator) -> u32
-    ensures exact { (left right : ℕ) → binary_size (form_of operator) left right ≡ left + right + result }
-    ensures few { result ≤ 7 }
+    ensures { (left right : ℕ) → binary_size (form_of operator) left right ≡ left + right + result }
 {
     match operator {
         BinaryOperator::And => 5,
         BinaryOperator::Or => 7,
-        BinaryOperator::Equal => 1,
-        BinaryOperator::NotEqual => 1,
-        BinaryOperator::Less => 1,
-        BinaryOperator::Greater => 1,
-        BinaryOperator::LessEqual => 1,
-        BinaryOperator::GreaterEqual => 1,
-        BinaryOperator::Add => 1,
-        BinaryOperator::Subtract => 1,
-        BinaryOperator::Multiply => 1,
-        BinaryOperator::Divide => 1,
-        BinaryOperator::Remainder => 1,
+        BinaryOperator::Equal
+        | BinaryOperator::NotEqual
+        | BinaryOperator::Less
+        | BinaryOperator::Greater
+        | BinaryOperator::LessEqual
+        | BinaryOperator::GreaterEqual
+        | BinaryOperator::Add
+        | BinaryOperator::Subtract
+        | BinaryOperator::Multiply
+        | BinaryOperator::Divide
+        | BinaryOperator::Remainder => 1,
     }
 }
 
 /// The instructions of an assignment to a variable, without its value's.
 fn assigned_own(operator: AssignOperator) -> u32
-    ensures exact { (size : ℕ) → assigned_size (compound_of operator) size ≡ size + result }
-    ensures few { result ≤ 3 }
+    ensures { (size : ℕ) → assigned_size (compound_of operator) size ≡ size + result }
 {
     match operator {
         AssignOperator::Set => 1,
-        AssignOperator::Add => 3,
-        AssignOperator::Subtract => 3,
-        AssignOperator::Multiply => 3,
-        AssignOperator::Divide => 3,
-        AssignOperator::Remainder => 3,
+        AssignOperator::Add
+        | AssignOperator::Subtract
+        | AssignOperator::Multiply
+        | AssignOperator::Divide
+        | AssignOperator::Remainder => 3,
     }
 }
 
 /// The instructions of an assignment to an element, without its index's and its value's.
 fn element_assigned_own(operator: AssignOperator) -> u32
-    ensures exact { (index size : ℕ) → element_assigned_size index (compound_of operator) size ≡ index + size + result }
-    ensures few { result ≤ 4 }
+    ensures { (index size : ℕ) →
+        element_assigned_size index (compound_of operator) size ≡ index + size + result }
 {
     match operator {
         AssignOperator::Set => 1,
-        AssignOperator::Add => 4,
-        AssignOperator::Subtract => 4,
-        AssignOperator::Multiply => 4,
-        AssignOperator::Divide => 4,
-        AssignOperator::Remainder => 4,
+        AssignOperator::Add
+        | AssignOperator::Subtract
+        | AssignOperator::Multiply
+        | AssignOperator::Divide
+        | AssignOperator::Remainder => 4,
     }
 }
 
 /// Goes over the code of an expression that leaves its value.
 #[cycle(expression)]
 pub(crate) fn pass_value(place: &mut u32, expression: &ResolvedExpression) -> Result<(), AllocError>
-    ensures { OnOk result (place.new ≡ place.old + value_size (view_resolved_expression expression.now)) }
+    ensures { OnOk result
+        (place.new ≡ place.old + value_size (view_resolved_expression expression.now)) }
 {
     match expression {
-        ResolvedExpression::Constant(_) => pass(place, 1),
-        ResolvedExpression::Variable(_) => pass(place, 1),
+        ResolvedExpression::Constant(_)
+        | ResolvedExpression::Variable(_)
+        | ResolvedExpression::ThreadNumber
+        | ResolvedExpression::TeamSize => pass(place, 1),
         ResolvedExpression::Element(_, index) => {
             pass_value(place, index)?;
             pass(place, 1)
@@ -124,8 +121,6 @@ pub(crate) fn pass_value(place: &mut u32, expression: &ResolvedExpression) -> Re
             pass_values(place, values.as_slice())?;
             pass(place, 2)
         }
-        ResolvedExpression::ThreadNumber => pass(place, 1),
-        ResolvedExpression::TeamSize => pass(place, 1),
         ResolvedExpression::Print(_, values) => {
             pass_values(place, values.as_slice())?;
             pass(place, 1)
@@ -165,7 +160,8 @@ pub(crate) fn pass_value(place: &mut u32, expression: &ResolvedExpression) -> Re
 /// Goes over the code of values, one behind the other.
 #[cycle(expression)]
 fn pass_values(place: &mut u32, values: &[ResolvedExpression]) -> Result<(), AllocError>
-    ensures { OnOk result (place.new ≡ place.old + values_size (trees.values (map view_resolved_expression values.now))) }
+    ensures { OnOk result (place.new ≡ place.old + values_size
+        (trees.values (map view_resolved_expression values.now))) }
 {
     for value in values {
         pass_value(place, value)?;
@@ -178,53 +174,29 @@ pub(crate) fn pass_effect(
     place: &mut u32,
     expression: &ResolvedExpression,
 ) -> Result<(), AllocError>
-    ensures { OnOk result (place.new ≡ place.old + effect_size (view_resolved_expression expression.now)) }
+    ensures { OnOk result
+        (place.new ≡ place.old + effect_size (view_resolved_expression expression.now)) }
 {
     match expression {
-        ResolvedExpression::Constant(_) => pass(place, 2),
-        ResolvedExpression::Variable(_) => pass(place, 2),
-        ResolvedExpression::Element(_, index) => {
-            pass_value(place, index)?;
-            pass(place, 2)
-        }
-        ResolvedExpression::Call(_, values) => {
-            pass_values(place, values.as_slice())?;
-            pass(place, 2)
-        }
-        ResolvedExpression::ThreadNumber => pass(place, 2),
-        ResolvedExpression::TeamSize => pass(place, 2),
-        ResolvedExpression::Print(_, values) => {
-            pass_values(place, values.as_slice())?;
-            pass(place, 1)
-        }
-        ResolvedExpression::Unary(operator, operand) => {
-            pass_value(place, operand)?;
-            pass(place, unary_own(*operator) + 1)
-        }
-        ResolvedExpression::Binary(left, operator, right) => {
-            pass_value(place, left)?;
-            pass_value(place, right)?;
-            pass(place, binary_own(*operator) + 1)
-        }
-        ResolvedExpression::Conditional(condition, then, other) => {
-            pass_value(place, condition)?;
-            pass_value(place, then)?;
-            pass_value(place, other)?;
-            pass(place, 3)
-        }
-        ResolvedExpression::Assign(_, operator, value) => {
-            pass_value(place, value)?;
-            pass(place, assigned_own(*operator))
-        }
-        ResolvedExpression::AssignElement(_, index, operator, value) => {
-            pass_value(place, index)?;
-            pass_value(place, value)?;
-            pass(place, element_assigned_own(*operator))
-        }
+        ResolvedExpression::Call(_, _)
+        | ResolvedExpression::Print(_, _)
+        | ResolvedExpression::Assign(_, _, _)
+        | ResolvedExpression::AssignElement(_, _, _, _) => pass_value(place, expression),
         ResolvedExpression::Postfix(_, _) => pass(place, 4),
         ResolvedExpression::PostfixElement(_, index, _) => {
             pass_value(place, index)?;
             pass(place, 5)
+        }
+        ResolvedExpression::Constant(_)
+        | ResolvedExpression::Variable(_)
+        | ResolvedExpression::Element(_, _)
+        | ResolvedExpression::ThreadNumber
+        | ResolvedExpression::TeamSize
+        | ResolvedExpression::Unary(_, _)
+        | ResolvedExpression::Binary(_, _, _)
+        | ResolvedExpression::Conditional(_, _, _) => {
+            pass_value(place, expression)?;
+            pass(place, 1)
         }
     }
 }
@@ -234,7 +206,8 @@ pub(crate) fn pass_perhaps(
     place: &mut u32,
     expression: &Option<ResolvedExpression>,
 ) -> Result<(), AllocError>
-    ensures { OnOk result (place.new ≡ place.old + perhaps_size value_size (option_map view_resolved_expression expression.now)) }
+    ensures { OnOk result (place.new ≡ place.old + perhaps_size value_size
+        (option_map view_resolved_expression expression.now)) }
 {
     match expression {
         None => Ok(()),
@@ -247,7 +220,8 @@ pub(crate) fn pass_test(
     place: &mut u32,
     condition: &Option<ResolvedExpression>,
 ) -> Result<(), AllocError>
-    ensures { OnOk result (place.new ≡ place.old + perhaps_size test_size (option_map view_resolved_expression condition.now)) }
+    ensures { OnOk result (place.new ≡ place.old + perhaps_size test_size
+        (option_map view_resolved_expression condition.now)) }
 {
     match condition {
         None => Ok(()),
@@ -263,7 +237,8 @@ pub(crate) fn pass_step(
     place: &mut u32,
     step: &Option<ResolvedExpression>,
 ) -> Result<(), AllocError>
-    ensures { OnOk result (place.new ≡ place.old + perhaps_size effect_size (option_map view_resolved_expression step.now)) }
+    ensures { OnOk result (place.new ≡ place.old + perhaps_size effect_size
+        (option_map view_resolved_expression step.now)) }
 {
     match step {
         None => Ok(()),

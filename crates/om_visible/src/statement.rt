@@ -22,13 +22,14 @@ use std::alloc::AllocError;
 
 /// Goes over the value of `num_threads`, if there is one.
 fn skip_size(walk: &mut Walk, clauses: &[ResolvedClause]) -> Result<(), AllocError>
-    ensures { OnOk result (Walked walk.old walk.new (perhaps_size value_size (clause_value (map view_resolved_clause clauses.now))) (λ k. nothing)) }
+    ensures { OnOk result (Walked walk.old walk.new
+        (perhaps_size value_size (clause_value (map view_resolved_clause clauses.now)))
+        (λ k. nothing)) }
 {
     for clause in clauses {
         match clause {
             ResolvedClause::Value(_, value) => return skip_value(walk, value),
-            ResolvedClause::Shared(_) => {}
-            ResolvedClause::Copied(_, _, _) => {}
+            ResolvedClause::Shared(_) | ResolvedClause::Copied(_, _, _) => {}
         }
     }
     Ok(())
@@ -36,13 +37,13 @@ fn skip_size(walk: &mut Walk, clauses: &[ResolvedClause]) -> Result<(), AllocErr
 
 /// Goes over the value of `filter`, or the 0 in its place.
 fn skip_filter(walk: &mut Walk, clauses: &[ResolvedClause]) -> Result<(), AllocError>
-    ensures { OnOk result (Walked walk.old walk.new (filter_size (clause_value (map view_resolved_clause clauses.now))) (λ k. nothing)) }
+    ensures { OnOk result (Walked walk.old walk.new
+        (filter_size (clause_value (map view_resolved_clause clauses.now))) (λ k. nothing)) }
 {
     for clause in clauses {
         match clause {
             ResolvedClause::Value(_, value) => return skip_value(walk, value),
-            ResolvedClause::Shared(_) => {}
-            ResolvedClause::Copied(_, _, _) => {}
+            ResolvedClause::Shared(_) | ResolvedClause::Copied(_, _, _) => {}
         }
     }
     skip(walk, 1)
@@ -60,16 +61,15 @@ fn alone_own(directive: &StandAlone) -> u32
     ensures { result ≡ alone_size directive.now }
 {
     match directive {
-        StandAlone::Barrier => 2,
-        StandAlone::Taskwait => 2,
-        StandAlone::Taskyield => 1,
-        StandAlone::Flush(_) => 1,
+        StandAlone::Barrier | StandAlone::Taskwait => 2,
+        StandAlone::Taskyield | StandAlone::Flush(_) => 1,
     }
 }
 
 /// Goes over an update of an `atomic`.
 fn skip_update(walk: &mut Walk, update: &ResolvedUpdate) -> Result<(), AllocError>
-    ensures { OnOk result (Walked walk.old walk.new (update_size (view_resolved_update update.now)) (λ k. nothing)) }
+    ensures { OnOk result
+        (Walked walk.old walk.new (update_size (view_resolved_update update.now)) (λ k. nothing)) }
 {
     skip_perhaps(walk, &update.index)?;
     skip_value(walk, &update.operand)?;
@@ -78,35 +78,38 @@ fn skip_update(walk: &mut Walk, update: &ResolvedUpdate) -> Result<(), AllocErro
 
 /// Goes over the assignment of an `atomic`.
 fn skip_assignment(walk: &mut Walk, statement: &ResolvedStatement) -> Result<(), AllocError>
-    ensures { OnOk result (Walked walk.old walk.new (assignment_size (view_resolved_statement statement.now)) (λ k. nothing)) }
+    ensures { OnOk result (Walked walk.old walk.new
+        (assignment_size (view_resolved_statement statement.now)) (λ k. nothing)) }
 {
     match statement {
         ResolvedStatement::Expression(_, expression) => skip_effect(walk, expression),
-        ResolvedStatement::Declaration(_, _) => Ok(()),
-        ResolvedStatement::Block(_, _) => Ok(()),
-        ResolvedStatement::Empty(_) => Ok(()),
-        ResolvedStatement::If(_, _, _) => Ok(()),
-        ResolvedStatement::IfElse(_, _, _, _) => Ok(()),
-        ResolvedStatement::While(_, _, _) => Ok(()),
-        ResolvedStatement::Do(_, _, _) => Ok(()),
-        ResolvedStatement::For(_, _, _, _, _) => Ok(()),
-        ResolvedStatement::Return(_, _) => Ok(()),
-        ResolvedStatement::Break(_) => Ok(()),
-        ResolvedStatement::Continue(_) => Ok(()),
-        ResolvedStatement::Parallel(_, _, _, _) => Ok(()),
-        ResolvedStatement::Task(_, _, _, _) => Ok(()),
-        ResolvedStatement::Loop(_, _, _, _, _) => Ok(()),
-        ResolvedStatement::Sections(_, _, _, _) => Ok(()),
-        ResolvedStatement::Construct(_, _, _, _) => Ok(()),
-        ResolvedStatement::Update(_, _) => Ok(()),
-        ResolvedStatement::StandAlone(_, _) => Ok(()),
+        ResolvedStatement::Declaration(_, _)
+        | ResolvedStatement::Block(_, _)
+        | ResolvedStatement::Empty(_)
+        | ResolvedStatement::If(_, _, _)
+        | ResolvedStatement::IfElse(_, _, _, _)
+        | ResolvedStatement::While(_, _, _)
+        | ResolvedStatement::Do(_, _, _)
+        | ResolvedStatement::For(_, _, _, _, _)
+        | ResolvedStatement::Return(_, _)
+        | ResolvedStatement::Break(_)
+        | ResolvedStatement::Continue(_)
+        | ResolvedStatement::Parallel(_, _, _, _)
+        | ResolvedStatement::Task(_, _, _, _)
+        | ResolvedStatement::Loop(_, _, _, _, _)
+        | ResolvedStatement::Sections(_, _, _, _)
+        | ResolvedStatement::Construct(_, _, _, _)
+        | ResolvedStatement::Update(_, _)
+        | ResolvedStatement::StandAlone(_, _) => Ok(()),
     }
 }
 
 /// Adds the names of a statement.
 #[cycle(statement)]
 fn add_statement(walk: &mut Walk, statement: &ResolvedStatement) -> Result<(), AllocError>
-    ensures { OnOk result (Walked walk.old walk.new (statement_size (view_resolved_statement statement.now)) (names (view_resolved_statement statement.now) walk.old.body walk.old.place)) }
+    ensures { OnOk result (Walked walk.old walk.new
+        (statement_size (view_resolved_statement statement.now))
+        (names (view_resolved_statement statement.now) walk.old.body walk.old.place)) }
 {
     match statement {
         ResolvedStatement::Declaration(_, declarators) => {
@@ -151,8 +154,7 @@ fn add_statement(walk: &mut Walk, statement: &ResolvedStatement) -> Result<(), A
             skip_perhaps(walk, value)?;
             skip(walk, 1)
         }
-        ResolvedStatement::Break(_) => skip(walk, 1),
-        ResolvedStatement::Continue(_) => skip(walk, 1),
+        ResolvedStatement::Break(_) | ResolvedStatement::Continue(_) => skip(walk, 1),
         ResolvedStatement::Parallel(_, clauses, captures, body) => {
             add_parallel(walk, clauses.as_slice(), captures.as_slice(), body)
         }
@@ -176,7 +178,9 @@ fn add_statement(walk: &mut Walk, statement: &ResolvedStatement) -> Result<(), A
 /// Adds the names of a statement that is a block of its own (C17 6.8.4p3, 6.8.5p5).
 #[cycle(statement)]
 fn add_inner(walk: &mut Walk, statement: &ResolvedStatement) -> Result<(), AllocError>
-    ensures { OnOk result (Walked walk.old walk.new (statement_size (view_resolved_statement statement.now)) (inner_names (view_resolved_statement statement.now) walk.old.body walk.old.place)) }
+    ensures { OnOk result (Walked walk.old walk.new
+        (statement_size (view_resolved_statement statement.now))
+        (inner_names (view_resolved_statement statement.now) walk.old.body walk.old.place)) }
 {
     let height = walk.opened.len();
     add_statement(walk, statement)?;
@@ -186,7 +190,9 @@ fn add_inner(walk: &mut Walk, statement: &ResolvedStatement) -> Result<(), Alloc
 /// Adds the names of statements, one behind the other.
 #[cycle(statement)]
 pub(crate) fn add_statements(walk: &mut Walk, items: &[ResolvedStatement]) -> Result<(), AllocError>
-    ensures { OnOk result (Walked walk.old walk.new (statements_size (trees.statements (map view_resolved_statement items.now))) (all_names (trees.statements (map view_resolved_statement items.now)) walk.old.body walk.old.place)) }
+    ensures { let tree = trees.statements (map view_resolved_statement items.now) in
+        OnOk result (Walked walk.old walk.new (statements_size tree)
+        (all_names tree walk.old.body walk.old.place)) }
 {
     for item in items {
         add_statement(walk, item)?;
@@ -197,7 +203,9 @@ pub(crate) fn add_statements(walk: &mut Walk, items: &[ResolvedStatement]) -> Re
 /// Adds the names of a block.
 #[cycle(statement)]
 fn add_block(walk: &mut Walk, items: &[ResolvedStatement]) -> Result<(), AllocError>
-    ensures { OnOk result (Walked walk.old walk.new (statements_size (trees.statements (map view_resolved_statement items.now))) (block_names (trees.statements (map view_resolved_statement items.now)) walk.old.body walk.old.place)) }
+    ensures { let tree = trees.statements (map view_resolved_statement items.now) in
+        OnOk result (Walked walk.old walk.new (statements_size tree)
+        (block_names tree walk.old.body walk.old.place)) }
 {
     let height = walk.opened.len();
     add_statements(walk, items)?;
@@ -207,7 +215,9 @@ fn add_block(walk: &mut Walk, items: &[ResolvedStatement]) -> Result<(), AllocEr
 /// Adds the names of the parts of `sections`.
 #[cycle(statement)]
 fn add_parts(walk: &mut Walk, parts: &[ResolvedPart]) -> Result<(), AllocError>
-    ensures { OnOk result (Walked walk.old walk.new (parts_size (trees.parts (map view_resolved_part parts.now))) (part_names (trees.parts (map view_resolved_part parts.now)) walk.old.body walk.old.place)) }
+    ensures { let tree = trees.parts (map view_resolved_part parts.now) in
+        OnOk result (Walked walk.old walk.new (parts_size tree)
+        (part_names tree walk.old.body walk.old.place)) }
 {
     for part in parts {
         add_part(walk, part)?;
@@ -219,7 +229,9 @@ fn add_parts(walk: &mut Walk, parts: &[ResolvedPart]) -> Result<(), AllocError>
 /// Adds the names of a part of `sections`.
 #[cycle(statement)]
 fn add_part(walk: &mut Walk, part: &ResolvedPart) -> Result<(), AllocError>
-    ensures { OnOk result (Walked walk.old walk.new (statements_size (view_resolved_part part.now)) (block_names (view_resolved_part part.now) walk.old.body walk.old.place)) }
+    ensures { OnOk result (Walked walk.old walk.new
+        (statements_size (view_resolved_part part.now))
+        (block_names (view_resolved_part part.now) walk.old.body walk.old.place)) }
 {
     add_block(walk, part.items.as_slice())
 }
@@ -232,7 +244,11 @@ fn add_construct(
     clauses: &[ResolvedClause],
     statement: &ResolvedStatement,
 ) -> Result<(), AllocError>
-    ensures { OnOk result (Walked walk.old walk.new (construct_size kind.now (map view_resolved_clause clauses.now) (view_resolved_statement statement.now) (statement_size (view_resolved_statement statement.now))) (kind_names walk.old.body walk.old.place kind.now (map view_resolved_clause clauses.now) (view_resolved_statement statement.now) (names (view_resolved_statement statement.now)))) }
+    ensures { let given = map view_resolved_clause clauses.now in
+        let tree = view_resolved_statement statement.now in
+        OnOk result (Walked walk.old walk.new
+        (construct_size kind.now given tree (statement_size tree))
+        (kind_names walk.old.body walk.old.place kind.now given tree (names tree))) }
 {
     match kind {
         ConstructKind::Single(nowait) => {
@@ -272,7 +288,10 @@ fn add_parallel_body(
     statement: &ResolvedStatement,
 ) -> Result<(), AllocError>
     requires { walk.old.place ≡ 0 }
-    ensures { OnOk result (Walked walk.old walk.new (parallel_size (map view_resolved_clause clauses.now) (view_resolved_statement statement.now)) (parallel_names (map view_resolved_clause clauses.now) (view_resolved_statement statement.now) (names (view_resolved_statement statement.now)) walk.old.body)) }
+    ensures { let given = map view_resolved_clause clauses.now in
+        let tree = view_resolved_statement statement.now in
+        OnOk result (Walked walk.old walk.new (parallel_size given tree)
+        (parallel_names given tree (names tree) walk.old.body)) }
 {
     let height = walk.opened.len();
     skip(walk, 1)?;
@@ -291,7 +310,10 @@ fn add_task_body(
     statement: &ResolvedStatement,
 ) -> Result<(), AllocError>
     requires { walk.old.place ≡ 0 }
-    ensures { OnOk result (Walked walk.old walk.new (task_size (view_resolved_statement statement.now)) (task_names (map view_resolved_clause clauses.now) (view_resolved_statement statement.now) (names (view_resolved_statement statement.now)) walk.old.body)) }
+    ensures { let given = map view_resolved_clause clauses.now in
+        let tree = view_resolved_statement statement.now in
+        OnOk result (Walked walk.old walk.new (task_size tree)
+        (task_names given tree (names tree) walk.old.body)) }
 {
     let height = walk.opened.len();
     add_task_copies(walk, clauses)?;
@@ -308,7 +330,13 @@ fn add_parallel(
     captures: &[Capture],
     statement: &ResolvedStatement,
 ) -> Result<(), AllocError>
-    ensures { OnOk result (Walked walk.old walk.new (perhaps_size value_size (clause_value (map view_resolved_clause clauses.now)) + length (given_copies (map view_resolved_clause clauses.now) captures.now (view_resolved_statement statement.now)) + 1) (region walk.old.body walk.old.place (region_variables (map view_resolved_clause clauses.now) (view_resolved_statement statement.now)) (parallel_names (map view_resolved_clause clauses.now) (view_resolved_statement statement.now) (names (view_resolved_statement statement.now))))) }
+    ensures { let given = map view_resolved_clause clauses.now in
+        let tree = view_resolved_statement statement.now in
+        let copies = given_copies given captures.now tree in
+        OnOk result (Walked walk.old walk.new
+        (perhaps_size value_size (clause_value given) + length copies + 1)
+        (region walk.old.body walk.old.place (region_variables given tree)
+        (parallel_names given tree (names tree)))) }
 {
     let here = begin_region(walk, clauses, statement)?;
     add_parallel_body(walk, clauses, statement)?;
@@ -325,7 +353,12 @@ fn add_task(
     captures: &[Capture],
     statement: &ResolvedStatement,
 ) -> Result<(), AllocError>
-    ensures { OnOk result (Walked walk.old walk.new (length (given_copies (map view_resolved_clause clauses.now) captures.now (view_resolved_statement statement.now)) + 1) (region walk.old.body walk.old.place (region_variables (map view_resolved_clause clauses.now) (view_resolved_statement statement.now)) (task_names (map view_resolved_clause clauses.now) (view_resolved_statement statement.now) (names (view_resolved_statement statement.now))))) }
+    ensures { let given = map view_resolved_clause clauses.now in
+        let tree = view_resolved_statement statement.now in
+        let copies = given_copies given captures.now tree in
+        OnOk result (Walked walk.old walk.new (length copies + 1)
+        (region walk.old.body walk.old.place (region_variables given tree)
+        (task_names given tree (names tree)))) }
 {
     let here = begin_region(walk, clauses, statement)?;
     add_task_body(walk, clauses, statement)?;
@@ -342,7 +375,12 @@ fn add_loop(
     head: &ResolvedLoop,
     statement: &ResolvedStatement,
 ) -> Result<(), AllocError>
-    ensures { OnOk result (Walked walk.old walk.new (loop_size (map view_resolved_clause clauses.now) nowait (view_resolved_loop head.now) (statement_size (view_resolved_statement statement.now))) (loop_names walk.old.body walk.old.place (map view_resolved_clause clauses.now) nowait (view_resolved_loop head.now) (view_resolved_statement statement.now) (names (view_resolved_statement statement.now)))) }
+    ensures { let given = map view_resolved_clause clauses.now in
+        let tree = view_resolved_statement statement.now in
+        let repeated = view_resolved_loop head.now in
+        OnOk result (Walked walk.old walk.new
+        (loop_size given nowait repeated (statement_size tree))
+        (loop_names walk.old.body walk.old.place given nowait repeated tree (names tree))) }
 {
     let height = walk.opened.len();
     skip_value(walk, &head.from)?;
@@ -367,7 +405,10 @@ fn add_sections(
     nowait: bool,
     parts: &[ResolvedPart],
 ) -> Result<(), AllocError>
-    ensures { OnOk result (Walked walk.old walk.new (sections_size (map view_resolved_clause clauses.now) nowait (trees.parts (map view_resolved_part parts.now))) (sections_names walk.old.body walk.old.place (map view_resolved_clause clauses.now) nowait (trees.parts (map view_resolved_part parts.now)) (part_names (trees.parts (map view_resolved_part parts.now))))) }
+    ensures { let given = map view_resolved_clause clauses.now in
+        let tree = trees.parts (map view_resolved_part parts.now) in
+        OnOk result (Walked walk.old walk.new (sections_size given nowait tree)
+        (sections_names walk.old.body walk.old.place given nowait tree (part_names tree))) }
 {
     let height = walk.opened.len();
     add_copies(walk, clauses)?;

@@ -77,7 +77,8 @@ pub(crate) struct Walk {
 
 /// Begins the scope of a variable that is no array.
 pub(crate) fn open(walk: &mut Walk, variable: &LocalVariable, from: u32) -> Result<(), AllocError>
-    ensures { OnOk result (Walked walk.old walk.new 0 (λ k. opening (opened_at from variable.now ∷ []))) }
+    ensures { OnOk result
+        (Walked walk.old walk.new 0 (λ k. opening (opened_at from variable.now ∷ []))) }
 {
     open_with(walk, None, variable, from)
 }
@@ -89,7 +90,8 @@ fn open_with(
     variable: &LocalVariable,
     from: u32,
 ) -> Result<(), AllocError>
-    ensures { OnOk result (Walked walk.old walk.new 0 (λ k. opening (opened_with length from variable.now ∷ []))) }
+    ensures { OnOk result
+        (Walked walk.old walk.new 0 (λ k. opening (opened_with length from variable.now ∷ []))) }
 {
     let name = Seq::of(Vec::from_slice(walk.alloc, variable.name.as_slice())?);
     walk.opened.push(Opened {
@@ -122,7 +124,8 @@ fn close_last(walk: &mut Walk) -> Result<(), AllocError>
 
 /// Ends the scopes of all but the first `height` variables that are open, the last one first.
 pub(crate) fn close(walk: &mut Walk, height: usize) -> Result<(), AllocError>
-    ensures { OnOk result (height ≤ length walk.old.opened.items → Closes height walk.old walk.new) }
+    ensures { OnOk result
+        (height ≤ length walk.old.opened.items → Closes height walk.old walk.new) }
 {
     for _turn in height..walk.opened.len() {
         close_last(walk)?;
@@ -139,7 +142,8 @@ pub(crate) fn skip(walk: &mut Walk, count: u32) -> Result<(), AllocError>
 
 /// Goes over the code of an expression that leaves its value.
 pub(crate) fn skip_value(walk: &mut Walk, expression: &ResolvedExpression) -> Result<(), AllocError>
-    ensures { OnOk result (Walked walk.old walk.new (value_size (view_resolved_expression expression.now)) (λ k. nothing)) }
+    ensures { OnOk result (Walked walk.old walk.new
+        (value_size (view_resolved_expression expression.now)) (λ k. nothing)) }
 {
     pass_value(&mut walk.place, expression)
 }
@@ -149,7 +153,8 @@ pub(crate) fn skip_effect(
     walk: &mut Walk,
     expression: &ResolvedExpression,
 ) -> Result<(), AllocError>
-    ensures { OnOk result (Walked walk.old walk.new (effect_size (view_resolved_expression expression.now)) (λ k. nothing)) }
+    ensures { OnOk result (Walked walk.old walk.new
+        (effect_size (view_resolved_expression expression.now)) (λ k. nothing)) }
 {
     pass_effect(&mut walk.place, expression)
 }
@@ -159,7 +164,9 @@ pub(crate) fn skip_perhaps(
     walk: &mut Walk,
     expression: &Option<ResolvedExpression>,
 ) -> Result<(), AllocError>
-    ensures { OnOk result (Walked walk.old walk.new (perhaps_size value_size (option_map view_resolved_expression expression.now)) (λ k. nothing)) }
+    ensures { OnOk result (Walked walk.old walk.new
+        (perhaps_size value_size (option_map view_resolved_expression expression.now))
+        (λ k. nothing)) }
 {
     pass_perhaps(&mut walk.place, expression)
 }
@@ -169,7 +176,9 @@ pub(crate) fn skip_test(
     walk: &mut Walk,
     condition: &Option<ResolvedExpression>,
 ) -> Result<(), AllocError>
-    ensures { OnOk result (Walked walk.old walk.new (perhaps_size test_size (option_map view_resolved_expression condition.now)) (λ k. nothing)) }
+    ensures { OnOk result (Walked walk.old walk.new
+        (perhaps_size test_size (option_map view_resolved_expression condition.now))
+        (λ k. nothing)) }
 {
     pass_test(&mut walk.place, condition)
 }
@@ -179,14 +188,17 @@ pub(crate) fn skip_step(
     walk: &mut Walk,
     step: &Option<ResolvedExpression>,
 ) -> Result<(), AllocError>
-    ensures { OnOk result (Walked walk.old walk.new (perhaps_size effect_size (option_map view_resolved_expression step.now)) (λ k. nothing)) }
+    ensures { OnOk result (Walked walk.old walk.new
+        (perhaps_size effect_size (option_map view_resolved_expression step.now)) (λ k. nothing)) }
 {
     pass_step(&mut walk.place, step)
 }
 
 /// Adds a declared variable.
 fn add_declarator(walk: &mut Walk, declarator: &ResolvedDeclarator) -> Result<(), AllocError>
-    ensures { OnOk result (Walked walk.old walk.new (declarator_size (view_resolved_declarator declarator.now)) (λ k. opening (opened_with declarator.now.length walk.old.place declarator.now.variable ∷ []))) }
+    ensures { OnOk result (Walked walk.old walk.new
+        (declarator_size (view_resolved_declarator declarator.now)) (λ k. opening
+        (opened_with declarator.now.length walk.old.place declarator.now.variable ∷ []))) }
 {
     let from = walk.place;
     open_with(walk, declarator.length, &declarator.variable, from)?;
@@ -199,7 +211,9 @@ pub(crate) fn add_declarators(
     walk: &mut Walk,
     declarators: &[ResolvedDeclarator],
 ) -> Result<(), AllocError>
-    ensures { OnOk result (Walked walk.old walk.new (each_size declarator_size (map view_resolved_declarator declarators.now)) (λ k. opening (declared walk.old.place (map view_resolved_declarator declarators.now)))) }
+    ensures { OnOk result (Walked walk.old walk.new
+        (each_size declarator_size (map view_resolved_declarator declarators.now))
+        (λ k. opening (declared walk.old.place (map view_resolved_declarator declarators.now)))) }
 {
     for declarator in declarators {
         add_declarator(walk, declarator)?;
@@ -209,7 +223,8 @@ pub(crate) fn add_declarators(
 
 /// Adds what a `for` begins with.
 pub(crate) fn add_start(walk: &mut Walk, start: &ResolvedStart) -> Result<(), AllocError>
-    ensures { OnOk result (Walked walk.old walk.new (start_size (view_resolved_start start.now)) (λ k. opening (start_declared walk.old.place (view_resolved_start start.now)))) }
+    ensures { OnOk result (Walked walk.old walk.new (start_size (view_resolved_start start.now))
+        (λ k. opening (start_declared walk.old.place (view_resolved_start start.now)))) }
 {
     match start {
         ResolvedStart::Nothing => Ok(()),
@@ -220,11 +235,12 @@ pub(crate) fn add_start(walk: &mut Walk, start: &ResolvedStart) -> Result<(), Al
 
 /// Adds the copy that a clause makes in this body.
 fn add_copy(walk: &mut Walk, clause: &ResolvedClause) -> Result<(), AllocError>
-    ensures { OnOk result (Walked walk.old walk.new (clause_start_size (view_resolved_clause clause.now)) (λ k. opening (clause_copies walk.old.place (view_resolved_clause clause.now)))) }
+    ensures { OnOk result (Walked walk.old walk.new
+        (clause_start_size (view_resolved_clause clause.now))
+        (λ k. opening (clause_copies walk.old.place (view_resolved_clause clause.now)))) }
 {
     match clause {
-        ResolvedClause::Value(_, _) => Ok(()),
-        ResolvedClause::Shared(_) => Ok(()),
+        ResolvedClause::Value(_, _) | ResolvedClause::Shared(_) => Ok(()),
         ResolvedClause::Copied(kind, _, copy) => {
             let from = walk.place;
             open(walk, copy, from)?;
@@ -235,7 +251,9 @@ fn add_copy(walk: &mut Walk, clause: &ResolvedClause) -> Result<(), AllocError>
 
 /// Adds the copies that clauses make in this body.
 pub(crate) fn add_copies(walk: &mut Walk, clauses: &[ResolvedClause]) -> Result<(), AllocError>
-    ensures { OnOk result (Walked walk.old walk.new (each_size clause_start_size (map view_resolved_clause clauses.now)) (λ k. opening (copied walk.old.place (map view_resolved_clause clauses.now)))) }
+    ensures { OnOk result (Walked walk.old walk.new
+        (each_size clause_start_size (map view_resolved_clause clauses.now))
+        (λ k. opening (copied walk.old.place (map view_resolved_clause clauses.now)))) }
 {
     for clause in clauses {
         add_copy(walk, clause)?;
@@ -248,8 +266,7 @@ fn region_start(kind: CopyKind) -> u32
     ensures { result ≡ region_start kind }
 {
     match kind {
-        CopyKind::Private => 0,
-        CopyKind::Firstprivate => 0,
+        CopyKind::Private | CopyKind::Firstprivate => 0,
         CopyKind::Reduction(_) => 2,
     }
 }
@@ -259,19 +276,19 @@ fn region_from(place: u32, kind: CopyKind) -> u32
     ensures { result ≡ region_from place kind }
 {
     match kind {
-        CopyKind::Private => 0,
-        CopyKind::Firstprivate => 0,
+        CopyKind::Private | CopyKind::Firstprivate => 0,
         CopyKind::Reduction(_) => place,
     }
 }
 
 /// Adds the copy that a clause makes in the body of its region.
 fn add_region_copy(walk: &mut Walk, clause: &ResolvedClause) -> Result<(), AllocError>
-    ensures { OnOk result (Walked walk.old walk.new (clause_region_start (view_resolved_clause clause.now)) (λ k. opening (clause_region_copies walk.old.place (view_resolved_clause clause.now)))) }
+    ensures { OnOk result (Walked walk.old walk.new
+        (clause_region_start (view_resolved_clause clause.now))
+        (λ k. opening (clause_region_copies walk.old.place (view_resolved_clause clause.now)))) }
 {
     match clause {
-        ResolvedClause::Value(_, _) => Ok(()),
-        ResolvedClause::Shared(_) => Ok(()),
+        ResolvedClause::Value(_, _) | ResolvedClause::Shared(_) => Ok(()),
         ResolvedClause::Copied(kind, _, copy) => {
             let from = region_from(walk.place, *kind);
             open(walk, copy, from)?;
@@ -285,7 +302,9 @@ pub(crate) fn add_region_copies(
     walk: &mut Walk,
     clauses: &[ResolvedClause],
 ) -> Result<(), AllocError>
-    ensures { OnOk result (Walked walk.old walk.new (each_size clause_region_start (map view_resolved_clause clauses.now)) (λ k. opening (region_copied walk.old.place (map view_resolved_clause clauses.now)))) }
+    ensures { OnOk result (Walked walk.old walk.new
+        (each_size clause_region_start (map view_resolved_clause clauses.now))
+        (λ k. opening (region_copied walk.old.place (map view_resolved_clause clauses.now)))) }
 {
     for clause in clauses {
         add_region_copy(walk, clause)?;
@@ -298,15 +317,15 @@ fn clause_combined(clause: &ResolvedClause) -> u32
     ensures { result ≡ clause_combined_size (view_resolved_clause clause.now) }
 {
     match clause {
-        ResolvedClause::Value(_, _) => 0,
-        ResolvedClause::Shared(_) => 0,
+        ResolvedClause::Value(_, _) | ResolvedClause::Shared(_) => 0,
         ResolvedClause::Copied(kind, _, _) => combined_own(*kind),
     }
 }
 
 /// Goes over the instructions that combine copies.
 pub(crate) fn skip_combined(walk: &mut Walk, clauses: &[ResolvedClause]) -> Result<(), AllocError>
-    ensures { OnOk result (Walked walk.old walk.new (each_size clause_combined_size (map view_resolved_clause clauses.now)) (λ k. nothing)) }
+    ensures { OnOk result (Walked walk.old walk.new
+        (each_size clause_combined_size (map view_resolved_clause clauses.now)) (λ k. nothing)) }
 {
     for clause in clauses {
         skip(walk, clause_combined(clause))?;
@@ -316,7 +335,8 @@ pub(crate) fn skip_combined(walk: &mut Walk, clauses: &[ResolvedClause]) -> Resu
 
 /// Adds the copies that clauses make in the body of their `task`.
 pub(crate) fn add_task_copies(walk: &mut Walk, clauses: &[ResolvedClause]) -> Result<(), AllocError>
-    ensures { OnOk result (Walked walk.old walk.new 0 (λ k. opening (task_copied (map view_resolved_clause clauses.now)))) }
+    ensures { OnOk result (Walked walk.old walk.new 0
+        (λ k. opening (task_copied (map view_resolved_clause clauses.now)))) }
 {
     for clause in clauses {
         add_task_copy(walk, clause)?;
@@ -326,11 +346,11 @@ pub(crate) fn add_task_copies(walk: &mut Walk, clauses: &[ResolvedClause]) -> Re
 
 /// Adds the copy that a clause makes in the body of its `task`.
 fn add_task_copy(walk: &mut Walk, clause: &ResolvedClause) -> Result<(), AllocError>
-    ensures { OnOk result (Walked walk.old walk.new 0 (λ k. opening (task_clause (view_resolved_clause clause.now)))) }
+    ensures { OnOk result (Walked walk.old walk.new 0
+        (λ k. opening (task_clause (view_resolved_clause clause.now)))) }
 {
     match clause {
-        ResolvedClause::Value(_, _) => Ok(()),
-        ResolvedClause::Shared(_) => Ok(()),
+        ResolvedClause::Value(_, _) | ResolvedClause::Shared(_) => Ok(()),
         ResolvedClause::Copied(_, _, copy) => open(walk, copy, 0),
     }
 }
@@ -341,7 +361,9 @@ pub(crate) fn begin_region(
     clauses: &[ResolvedClause],
     statement: &ResolvedStatement,
 ) -> Result<Around, AllocError>
-    ensures { IfOk result (λ here. BeginsRegion here (region_variables (map view_resolved_clause clauses.now) (view_resolved_statement statement.now)) walk.old walk.new) }
+    ensures { IfOk result (λ here. BeginsRegion here (region_variables
+        (map view_resolved_clause clauses.now) (view_resolved_statement statement.now)) walk.old
+        walk.new) }
 {
     let here = Around {
         body: walk.body,
@@ -375,7 +397,9 @@ pub(crate) fn skip_given(
     captures: &[Capture],
     statement: &ResolvedStatement,
 ) -> Result<(), AllocError>
-    ensures { OnOk result (Walked walk.old walk.new (length (given_copies (map view_resolved_clause clauses.now) captures.now (view_resolved_statement statement.now)) + 1) (λ k. nothing)) }
+    ensures { let trees = map view_resolved_clause clauses.now in
+        let copies = given_copies trees captures.now (view_resolved_statement statement.now) in
+        OnOk result (Walked walk.old walk.new (length copies + 1) (λ k. nothing)) }
 {
     let given = given_copies(walk.alloc, clauses, captures, statement)?;
     let Ok(count) = u32::try_from(given.len()) else {
