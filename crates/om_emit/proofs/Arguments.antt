@@ -1,5 +1,6 @@
 -- The values of a call, one behind the other.
-use Rattle.std.proofs.Common.{◌≡◌, ◌≤◌, ◌<◌, ℕ, zero, suc, ◌+◌, List, [], ◌∷◌, map, length, drop, get_or, drop-cons, add-one, refl, sym, ap, ◌∙◌, subst, arith}
+use Rattle.std.proofs.Common.{◌≡◌, ◌≤◌, ◌<◌, ℕ, zero, suc, ◌+◌, ◌*◌, List, [], ◌∷◌, map, length, drop, get_or, drop-cons, add-one, refl, sym, ap, ◌∙◌, subst, arith}
+use denote.Param.Weighed.{at_most, most}
 use Rattle.om_emit.specs.Drafts.{Written}
 use Rattle.om_emit.specs.Emits.{site, Goes, EmitsValue}
 use Rattle.om_emit.specs.Writing.{goes_part}
@@ -23,6 +24,12 @@ pub has_code : (es : List ResolvedExpression) (k : ℕ) (e : ResolvedExpression)
 has_code [] k e lt is h = absurd (omega arith)
 has_code (x ∷ es) zero e lt is h = subst (λ z. ValueHasCode (view_resolved_expression z)) (sym is) h.0
 has_code (x ∷ es) (suc k) e lt is h = has_code es k e (omega arith) is h.1
+
+-- a value is no larger than the largest one; `size` is the one by which the call of `values` is measured
+pub with_depth : {X : Type 0} (size : X → ℕ) (m a : ℕ) (es : List X) (k : ℕ) (e : X) {n : ℕ} {G : Type 0}
+    → k < length es → e ≡ get_or es k e → m * most size es + a ≡ n → (size e ≤ most size es → G) → G
+with_depth size m a es k e lt is measure goes_on =
+    goes_on (subst (λ x. size x ≤ most size es) (sym is) (at_most size es k e lt))
 
 -- one value more
 pub emits_next : (names : Names) (l : ℕ) (es : List ResolvedExpression) (k n : ℕ) (e : ResolvedExpression)

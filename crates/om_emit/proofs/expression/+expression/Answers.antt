@@ -1,17 +1,15 @@
 use Rattle.std.proofs.Common.{◌≡◌, ◌≤◌, get_or, rules, ap, sym, ◌∙◌, arith, true}
-use denote.Param.Weighed.{at_most, most}
 use Rattle.std.proofs.lemmas.Result.{on_ok_weaker}
 use Rattle.om_code.specs.declared.instruction.Instr.TheVariants as i
 use Rattle.om_emit.specs.Forms.{form}
 use Rattle.om_emit.specs.Writing.{fresh_length, free_new, free_fresh, free_put, free_part, free_define}
-use Rattle.om_emit.proofs.Arguments.{listed, counted, has_code, emits_next}
+use Rattle.om_emit.proofs.Arguments.{listed, counted, with_depth, has_code, emits_next}
 use Rattle.om_emit.proofs.Expressions.{emits_element, emits_used_call, emits_right, emits_unary, emits_set, emits_compound, emits_set_element, emits_compound_element, emits_call, emits_binary, rest_is, emits_element_assigned, emits_postfix_element, value_is, target_is}
 use Rattle.om_emit.proofs.Jumping.{emits_both, emits_either, emits_conditional}
 use Rattle.om_emit.proofs.Singles.{emits_one, emits_constant}
 use Rattle.om_emit.proofs.Views.{view_constant, view_variable, view_thread_number, view_team_size, view_call, view_binary, view_conditional, view_assign_element, view_postfix_element}
 use Rattle.om_resolved.specs.ResolvedTree as trees
 use Rattle.om_resolved.specs.ResolvedView.{view_resolved_expression}
-use Rattle.om_resolved.proofs.resolved.ResolvedExpression.TheLaws.{the_size}
 use Rattle.om_rows.specs.Expressions.{value}
 use Rattle.om_rows.specs.Operators.{Both, Either, Plain, form_of, compound_of}
 use Rattle.om_rows.specs.Slots.{place_of}
@@ -179,15 +177,12 @@ assign_element-returns-in_ok-store_element-in-Some t c =
 -- ---- the values of a call
 
 pub values-value-requires : goal.values-value-requires
-values-value-requires t c =
-    let deep : the_size (get_or c.args.es.now c.loop-e.e-index c.e-item.result) ≤ most the_size c.args.es.now =
-    at_most the_size c.args.es.now c.loop-e.e-index c.e-item.result c.loop-e-test.true in
-    let same : the_size c.e-item.result ≡ the_size (get_or c.args.es.now c.loop-e.e-index c.e-item.result) =
-    ap the_size c.e-item.is in (
-      omega (arith, deep, same, c.decreases),
-      has_code c.args.es.now c.loop-e.e-index c.e-item.result
-          c.loop-e-test.true c.e-item.is c.requires,
-    )
+values-value-requires t c = (
+  with_depth _ _ _ c.args.es.now c.loop-e.e-index c.e-item.result c.loop-e-test.true c.e-item.is c.decreases
+      (λ deep. omega (arith, deep, c.decreases)),
+  has_code c.args.es.now c.loop-e.e-index c.e-item.result
+      c.loop-e-test.true c.e-item.is c.requires,
+)
 
 pub values-loop-e-preserved : goal.values-loop-e-preserved
 values-loop-e-preserved t c = (
