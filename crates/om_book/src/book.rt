@@ -68,7 +68,8 @@ impl Book {
     pub fn new(alloc: Global, program: Program, workers: u8) -> Result<Book, AllocError>
         requires at_least_one { 1 ≤ workers }
         requires at_most_32 { workers ≤ 32 }
-        ensures { IfOk result (λ b. b ≡ record { start = fresh program workers; before = 0; journal = [] }) }
+        ensures { IfOk result
+            (λ b. b ≡ record { start = fresh program workers; before = 0; journal = [] }) }
     {
         let machine = Machine::new(alloc, program, workers)?;
         Ok(Book::over(alloc, machine, 0))

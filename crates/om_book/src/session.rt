@@ -297,7 +297,8 @@ impl<L: Sitting> Session<L> {
         ensures total { IfOk result (λ c. IsGrown L.opened c.book c.calls) }
         ensures counted { IfOk result (λ c. c.calls ≡ sum_by receipts_in seats.items) }
         ensures seats { IfOk result (λ c. c.seats.items ≡ seats.items) }
-        ensures standing { IfOk result (λ c. CountsAll c.book.journal (calls_in L.opened) seats.items c.standing) }
+        ensures standing { IfOk result
+            (λ c. CountsAll c.book.journal (calls_in L.opened) seats.items c.standing) }
         ensures covers { IfOk result (λ c. c.standing ≡ c.calls
             → Covers c.book.journal (calls_in L.opened) seats.items) }
         ensures workers { IfOk result (λ c. c.book.start.workers ≡ L.workers) }

@@ -176,7 +176,8 @@ fn edit_stack(alloc: Global, stack: &mut Stack, edit: Edit) -> Result<Outlook, A
 
 /// The control of a worker that goes on so after an edit of this stack, where it doesn't run on with it.
 fn instead(alloc: Global, outlook: Outlook, stack: &Stack) -> Result<Option<Control>, AllocError>
-    ensures { IfOk result (λ control. unwrap_or control (Control.Running stack.now) ≡ foreseen outlook stack.now) }
+    ensures { IfOk result
+        (λ control. unwrap_or control (Control.Running stack.now) ≡ foreseen outlook stack.now) }
 {
     match outlook {
         Outlook::Runs => Ok(None),

@@ -62,7 +62,8 @@ pub fn ints_on(
     count: usize,
     operands: &Pile<Operand>,
 ) -> Result<Option<Vec<i32>>, AllocError>
-    ensures { IfOk result (λ values. option_map (λ v. v.items) values ≡ ints_on count operands.now) }
+    ensures { IfOk result
+        (λ values. option_map (λ v. v.items) values ≡ ints_on count operands.now) }
 {
     let all = operands.as_slice();
     let Some(from) = all.len().checked_sub(count) else {

@@ -102,8 +102,10 @@ fn reads(place: Place, cells: u32, operands: &Pile<Operand>) -> Touch
 
 /// What STOREX and ATOMX touch, in a variable of so many cells.
 fn writes(place: Place, cells: u32, operands: &Pile<Operand>) -> Touch
-    ensures stores { (keeps : Bool) → result ≡ (store_element place cells keeps operands.now).touch }
-    ensures updates { (operator : AtomicOperator) (side : Side) → result ≡ (update_element place cells operator side operands.now).touch }
+    ensures stores { (keeps : Bool) →
+        result ≡ (store_element place cells keeps operands.now).touch }
+    ensures updates { (operator : AtomicOperator) (side : Side) →
+        result ≡ (update_element place cells operator side operands.now).touch }
 {
     let (Some(at), Some(_)) = (int_at(operands, 1), int_at(operands, 0)) else {
         return Touch::Nothing;
@@ -327,7 +329,8 @@ fn store_element(cells: u32, keeps: bool, operands: &Pile<Operand>, cell: Cell) 
 
 /// PRINT: takes its values.
 fn print(values: u16, operands: &Pile<Operand>) -> Turn
-    ensures { (text : ℕ) (cell : Cell) → result ≡ (print text values (ints_on values operands.now)).turn cell }
+    ensures { (text : ℕ) (cell : Cell) →
+        result ≡ (print text values (ints_on values operands.now)).turn cell }
 {
     if has_ints(usize::from(values), operands) {
         goes(u32::from(values), None)
@@ -338,7 +341,8 @@ fn print(values: u16, operands: &Pile<Operand>) -> Turn
 
 /// ATOM: puts the operator's value, of the old value and the top operand.
 fn update_scalar(operator: AtomicOperator, side: Side, operands: &Pile<Operand>, cell: Cell) -> Turn
-    ensures { (place : Place) → result ≡ (update_scalar place operator side operands.now).turn cell }
+    ensures { (place : Place) → result
+        ≡ (update_scalar place operator side operands.now).turn cell }
 {
     match int_at(operands, 0) {
         Some(other) => updated(1, operator, side, other, cell),
@@ -354,7 +358,8 @@ fn update_element(
     operands: &Pile<Operand>,
     cell: Cell,
 ) -> Turn
-    ensures { (place : Place) → result ≡ (update_element place cells operator side operands.now).turn cell }
+    ensures { (place : Place) → result
+        ≡ (update_element place cells operator side operands.now).turn cell }
 {
     let (Some(at), Some(other)) = (int_at(operands, 1), int_at(operands, 0)) else {
         return Turn::Lacks;

@@ -108,7 +108,8 @@ pub(crate) fn worker_and_task(
     workers: u8,
     words: &[&[u8]],
 ) -> Result<Option<(u8, Name)>, AllocError>
-    ensures named { IfOk result (λ found. found ≡ worker_and_task workers (map (λ word. word.now) words.now)) }
+    ensures named { IfOk result
+        (λ found. found ≡ worker_and_task workers (map (λ word. word.now) words.now)) }
     ensures in_range { IfOk result (λ found. IfSome found (λ pair. pair.0 < workers)) }
 {
     match words {

@@ -26,7 +26,8 @@ fn words(alloc: Global, line: &[u8]) -> Result<Vec<&[u8]>, AllocError>
 
 // `start`, with the words behind it.
 fn start(alloc: Global, workers: u8, words: &[&[u8]]) -> Result<Option<Command>, AllocError>
-    ensures asked { IfOk result (λ command. command ≡ start_of workers (map (λ word. word.now) words.now)) }
+    ensures asked { IfOk result
+        (λ command. command ≡ start_of workers (map (λ word. word.now) words.now)) }
     ensures in_range { IfOk result (λ command. IfSome command (HasWorkerBelow workers)) }
 {
     match worker_and_task(alloc, workers, words)? {
@@ -40,7 +41,8 @@ fn start(alloc: Global, workers: u8, words: &[&[u8]]) -> Result<Option<Command>,
 
 // `print`, with the words behind it.
 fn print(alloc: Global, workers: u8, words: &[&[u8]]) -> Result<Option<Command>, AllocError>
-    ensures asked { IfOk result (λ command. command ≡ print_of workers (map (λ word. word.now) words.now)) }
+    ensures asked { IfOk result
+        (λ command. command ≡ print_of workers (map (λ word. word.now) words.now)) }
     ensures in_range { IfOk result (λ command. IfSome command (HasWorkerBelow workers)) }
 {
     match words {
@@ -73,7 +75,8 @@ fn command_by(
     workers: u8,
     words: &[&[u8]],
 ) -> Result<Option<Command>, AllocError>
-    ensures asked { IfOk result (λ command. command ≡ command_of verb workers (map (λ word. word.now) words.now)) }
+    ensures asked { IfOk result
+        (λ command. command ≡ command_of verb workers (map (λ word. word.now) words.now)) }
     ensures in_range { IfOk result (λ command. IfSome command (HasWorkerBelow workers)) }
 {
     match verb {
@@ -100,7 +103,8 @@ fn command_by(
 
 // What words ask for.
 fn request_in(alloc: Global, workers: u8, words: &[&[u8]]) -> Result<Request, AllocError>
-    ensures asked { IfOk result (λ request. request ≡ request_in workers (map (λ word. word.now) words.now)) }
+    ensures asked { IfOk result
+        (λ request. request ≡ request_in workers (map (λ word. word.now) words.now)) }
     ensures in_range { IfOk result (AsksWorkerBelow workers) }
 {
     match words {

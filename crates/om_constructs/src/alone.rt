@@ -18,7 +18,8 @@ use std::alloc::AllocError;
 
 /// Writes a directive that stands alone.
 pub fn stand_alone(draft: &mut Draft, line: u32, directive: &StandAlone) -> Result<(), AllocError>
-    ensures { OnOk result (EmitsAnywhere (λ at. alone_row at line directive.now) draft.old draft.new) }
+    ensures { OnOk result
+        (EmitsAnywhere (λ at. alone_row at line directive.now) draft.old draft.new) }
 {
     match directive {
         StandAlone::Barrier => {
@@ -50,7 +51,8 @@ pub fn update(
 ) -> Result<(), AllocError>
     requires { UpdateHasCode (view_resolved_update update.now) }
     ensures { let tree = view_resolved_update update.now in
-        OnOk result (EmitsRow (names_of scope.now) (λ at. update_row at line tree) draft.old draft.new) }
+        OnOk result
+        (EmitsRow (names_of scope.now) (λ at. update_row at line tree) draft.old draft.new) }
 {
     let operator = update_of(update.operator);
     let side = side_of(update.side);
@@ -93,7 +95,8 @@ pub fn assignment(
 ) -> Result<(), AllocError>
     requires { AssignmentHasCode (view_resolved_statement statement.now) }
     ensures { let tree = view_resolved_statement statement.now in
-        OnOk result (EmitsRow (names_of scope.now) (λ at. assignment_row at line tree) draft.old draft.new) }
+        OnOk result
+        (EmitsRow (names_of scope.now) (λ at. assignment_row at line tree) draft.old draft.new) }
 {
     match statement {
         ResolvedStatement::Expression(_, expression) => effect(draft, scope, line, expression),

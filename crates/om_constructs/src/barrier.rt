@@ -20,7 +20,8 @@ pub fn barrier(draft: &mut Draft, line: u32, kind: Barrier) -> Result<(), AllocE
 /// Writes the end of a worksharing construct: all threads wait for each other, unless it is `nowait`
 /// (OpenMP API 5.2, section 15.6).
 pub fn worksharing_end(draft: &mut Draft, line: u32, nowait: bool) -> Result<(), AllocError>
-    ensures { OnOk result (EmitsAnywhere (λ at. worksharing_end at line nowait) draft.old draft.new) }
+    ensures { OnOk result
+        (EmitsAnywhere (λ at. worksharing_end at line nowait) draft.old draft.new) }
 {
     draft.put(line, Instr::EndWorksharing)?;
     if !nowait {

@@ -17,7 +17,8 @@ use std::alloc::AllocError;
 
 /// The value of `num_threads` or `filter`, where there is one.
 pub fn clause_value(clauses: &[ResolvedClause]) -> Option<&ResolvedExpression>
-    ensures { option_map (λ value. view_resolved_expression value.now) result ≡ rows.clause_value (map view_resolved_clause clauses.now) }
+    ensures { option_map (λ value. view_resolved_expression value.now) result
+        ≡ rows.clause_value (map view_resolved_clause clauses.now) }
 {
     for clause in clauses {
         if let ResolvedClause::Value(_, value) = clause {
@@ -83,7 +84,8 @@ fn clause_start(
     clause: &ResolvedClause,
 ) -> Result<(), AllocError>
     ensures { let tree = view_resolved_clause clause.now in
-        OnOk result (EmitsRow (names_of scope.now) (λ at. clause_start at line tree) draft.old draft.new) }
+        OnOk result
+        (EmitsRow (names_of scope.now) (λ at. clause_start at line tree) draft.old draft.new) }
 {
     match clause {
         ResolvedClause::Value(_, _) => Ok(()),
@@ -113,7 +115,8 @@ pub fn starts(
     clauses: &[ResolvedClause],
 ) -> Result<(), AllocError>
     ensures { let trees = map view_resolved_clause clauses.now in
-        OnOk result (EmitsRow (names_of scope.now) (λ at. rows.starts at line trees) draft.old draft.new) }
+        OnOk result
+        (EmitsRow (names_of scope.now) (λ at. rows.starts at line trees) draft.old draft.new) }
 {
     for clause in clauses {
         clause_start(draft, scope, line, clause)?;
@@ -130,7 +133,9 @@ fn clause_reduction_start(
     clause: &ResolvedClause,
 ) -> Result<(), AllocError>
     ensures { let tree = view_resolved_clause clause.now in
-        OnOk result (EmitsRow (names_of scope.now) (λ at. clause_reduction_start at line tree) draft.old draft.new) }
+        OnOk result
+        (EmitsRow (names_of scope.now) (λ at. clause_reduction_start at line tree) draft.old
+        draft.new) }
 {
     match clause {
         ResolvedClause::Value(_, _) => Ok(()),
@@ -154,7 +159,9 @@ pub fn reduction_starts(
     clauses: &[ResolvedClause],
 ) -> Result<(), AllocError>
     ensures { let trees = map view_resolved_clause clauses.now in
-        OnOk result (EmitsRow (names_of scope.now) (λ at. rows.reduction_starts at line trees) draft.old draft.new) }
+        OnOk result
+        (EmitsRow (names_of scope.now) (λ at. rows.reduction_starts at line trees) draft.old
+        draft.new) }
 {
     for clause in clauses {
         clause_reduction_start(draft, scope, line, clause)?;
@@ -170,7 +177,8 @@ fn clause_combined(
     clause: &ResolvedClause,
 ) -> Result<(), AllocError>
     ensures { let tree = view_resolved_clause clause.now in
-        OnOk result (EmitsRow (names_of scope.now) (λ at. clause_combined at line tree) draft.old draft.new) }
+        OnOk result
+        (EmitsRow (names_of scope.now) (λ at. clause_combined at line tree) draft.old draft.new) }
 {
     match clause {
         ResolvedClause::Value(_, _) => Ok(()),
@@ -205,7 +213,8 @@ pub fn reductions(
     clauses: &[ResolvedClause],
 ) -> Result<(), AllocError>
     ensures { let trees = map view_resolved_clause clauses.now in
-        OnOk result (EmitsRow (names_of scope.now) (λ at. rows.reductions at line trees) draft.old draft.new) }
+        OnOk result
+        (EmitsRow (names_of scope.now) (λ at. rows.reductions at line trees) draft.old draft.new) }
 {
     for clause in clauses {
         clause_combined(draft, scope, line, clause)?;

@@ -28,7 +28,8 @@ fn filter(
 ) -> Result<(), AllocError>
     requires { IfSome (rows.clause_value (map view_resolved_clause clauses.now)) ValueHasCode }
     ensures { let tree = rows.clause_value (map view_resolved_clause clauses.now) in
-        OnOk result (EmitsRow (names_of scope.now) (λ at. filter_row at line tree) draft.old draft.new) }
+        OnOk result
+        (EmitsRow (names_of scope.now) (λ at. filter_row at line tree) draft.old draft.new) }
 {
     match clause_value(clauses) {
         None => {
@@ -49,7 +50,8 @@ pub fn begin_construct(
     clauses: &[ResolvedClause],
 ) -> Result<u32, AllocError>
     requires { BeginHasCode kind.now (map view_resolved_clause clauses.now) }
-    ensures { let begin = construct_begin (names_of scope.now) line kind.now (map view_resolved_clause clauses.now) in
+    ensures { let begin = construct_begin (names_of scope.now) line kind.now
+        (map view_resolved_clause clauses.now) in
         IfOk result (λ label. Begins label (begin label) draft.old draft.new) }
 {
     let label = draft.fresh()?;
@@ -83,7 +85,8 @@ pub fn end_construct(
 ) -> Result<(), AllocError>
     requires free { slice_get draft.old.places label ≡ Some None }
     requires kind { IsNoAtomic kind.now }
-    ensures { OnOk result (Ends label (construct_end (names_of scope.now) line kind.now label) draft.old draft.new) }
+    ensures { OnOk result
+        (Ends label (construct_end (names_of scope.now) line kind.now label) draft.old draft.new) }
 {
     match kind {
         ConstructKind::Single(nowait) => {

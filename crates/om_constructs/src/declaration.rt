@@ -26,7 +26,8 @@ pub fn declarator(
 ) -> Result<(), AllocError>
     requires { DeclaratorHasCode (view_resolved_declarator declared.now) }
     ensures { let tree = view_resolved_declarator declared.now in
-        OnOk result (EmitsRow (names_of scope.now) (λ at. declarator at line tree) draft.old draft.new) }
+        OnOk result
+        (EmitsRow (names_of scope.now) (λ at. declarator at line tree) draft.old draft.new) }
 {
     match &declared.initial {
         None => {
@@ -57,7 +58,9 @@ pub fn declarators(
 ) -> Result<(), AllocError>
     requires { All DeclaratorHasCode (map view_resolved_declarator declared.now) }
     ensures { let trees = map view_resolved_declarator declared.now in
-        OnOk result (EmitsRow (names_of scope.now) (λ at. each (declarator at line) trees) draft.old draft.new) }
+        OnOk result
+        (EmitsRow (names_of scope.now) (λ at. each (declarator at line) trees) draft.old
+        draft.new) }
 {
     for one in declared {
         declarator(draft, scope, line, one)?;
@@ -74,7 +77,8 @@ pub fn start(
 ) -> Result<(), AllocError>
     requires { StartHasCode (view_resolved_start start.now) }
     ensures { let tree = view_resolved_start start.now in
-        OnOk result (EmitsRow (names_of scope.now) (λ at. rows.start at line tree) draft.old draft.new) }
+        OnOk result
+        (EmitsRow (names_of scope.now) (λ at. rows.start at line tree) draft.old draft.new) }
 {
     match start {
         ResolvedStart::Nothing => Ok(()),
@@ -112,7 +116,8 @@ pub fn perhaps_test(
 ) -> Result<(), AllocError>
     requires { IfSome (option_map view_resolved_expression condition.now) ValueHasCode }
     ensures { let tree = option_map view_resolved_expression condition.now in
-        OnOk result (EmitsPerhapsTest (names_of scope.now) line otherwise tree draft.old draft.new) }
+        OnOk result
+        (EmitsPerhapsTest (names_of scope.now) line otherwise tree draft.old draft.new) }
 {
     match condition {
         None => Ok(()),
@@ -129,7 +134,8 @@ pub fn perhaps_effect(
 ) -> Result<(), AllocError>
     requires { IfSome (option_map view_resolved_expression expression.now) EffectHasCode }
     ensures { let tree = option_map view_resolved_expression expression.now in
-        OnOk result (EmitsRow (names_of scope.now) (λ at. perhaps (effect at line) tree) draft.old draft.new) }
+        OnOk result
+        (EmitsRow (names_of scope.now) (λ at. perhaps (effect at line) tree) draft.old draft.new) }
 {
     match expression {
         None => Ok(()),
@@ -146,7 +152,9 @@ pub fn returned(
 ) -> Result<(), AllocError>
     requires { IfSome (option_map view_resolved_expression answer.now) ValueHasCode }
     ensures { let tree = option_map view_resolved_expression answer.now in
-        OnOk result (EmitsRow (names_of scope.now) (λ at. returned at line at.is_main tree) draft.old draft.new) }
+        OnOk result
+        (EmitsRow (names_of scope.now) (λ at. returned at line at.is_main tree) draft.old
+        draft.new) }
 {
     let is_main = scope.is_main();
     match answer {

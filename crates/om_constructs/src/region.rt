@@ -28,9 +28,12 @@ pub fn team_size(
     clauses: &[ResolvedClause],
 ) -> Result<bool, AllocError>
     requires { IfSome (rows.clause_value (map view_resolved_clause clauses.now)) ValueHasCode }
-    ensures sized { IfOk result (λ sized. sized ≡ is_some (rows.clause_value (map view_resolved_clause clauses.now))) }
+    ensures sized { IfOk result
+        (λ sized. sized ≡ is_some (rows.clause_value (map view_resolved_clause clauses.now))) }
     ensures emitted { let tree = rows.clause_value (map view_resolved_clause clauses.now) in
-        OnOk result (EmitsRow (names_of scope.now) (λ at. perhaps (expressions.value at line) tree) draft.old draft.new) }
+        OnOk result
+        (EmitsRow (names_of scope.now) (λ at. perhaps (expressions.value at line) tree) draft.old
+        draft.new) }
 {
     match clause_value(clauses) {
         None => Ok(false),
@@ -49,7 +52,9 @@ pub fn load_originals(
     copies: &[FirstCopy],
 ) -> Result<(), AllocError>
     ensures { let given = first_copies_of copies.now in
-        OnOk result (EmitsRow (names_of scope.now) (λ at. each (load_original at line) given) draft.old draft.new) }
+        OnOk result
+        (EmitsRow (names_of scope.now) (λ at. each (load_original at line) given) draft.old
+        draft.new) }
 {
     for copy in copies {
         load(draft, scope, line, copy)?;
@@ -60,7 +65,8 @@ pub fn load_originals(
 /// Loads the original of a firstprivate copy.
 fn load(draft: &mut Draft, scope: &Scope<'_>, line: u32, copy: &FirstCopy) -> Result<(), AllocError>
     ensures { let given = first_copy copy.now in
-        OnOk result (EmitsRow (names_of scope.now) (λ at. load_original at line given) draft.old draft.new) }
+        OnOk result
+        (EmitsRow (names_of scope.now) (λ at. load_original at line given) draft.old draft.new) }
 {
     draft.put(line, Instr::Load(scope.place(copy.original)))?;
     Ok(())

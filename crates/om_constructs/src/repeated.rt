@@ -23,7 +23,8 @@ pub fn begin_while(
     condition: &ResolvedExpression,
 ) -> Result<LoopLabels, AllocError>
     requires { ValueHasCode (view_resolved_expression condition.now) }
-    ensures { let begin = while_begin (names_of scope.now) line (view_resolved_expression condition.now) in
+    ensures { let begin = while_begin (names_of scope.now) line
+        (view_resolved_expression condition.now) in
         IfOk result (λ labels. Begins labels.over (begin labels) draft.old draft.new) }
 {
     let again = draft.fresh()?;
@@ -36,7 +37,8 @@ pub fn begin_while(
 /// Writes the end of a loop: it begins again.
 pub fn end_loop(draft: &mut Draft, line: u32, labels: LoopLabels) -> Result<(), AllocError>
     requires { slice_get draft.old.places labels.over ≡ Some None }
-    ensures { OnOk result ((names : Names) → Ends labels.over (loop_end names line labels) draft.old draft.new) }
+    ensures { OnOk result
+        ((names : Names) → Ends labels.over (loop_end names line labels) draft.old draft.new) }
 {
     draft.put(line, Instr::Jump(labels.again))?;
     draft.define(labels.over);
@@ -74,7 +76,8 @@ pub fn end_do(
     requires next { slice_get draft.old.places labels.next ≡ Some None }
     requires over { slice_get draft.old.places labels.over ≡ Some None }
     requires apart { labels.next < labels.over }
-    ensures { let row = do_end (names_of scope.now) line labels (view_resolved_expression condition.now) in
+    ensures { let row = do_end (names_of scope.now) line labels
+        (view_resolved_expression condition.now) in
         OnOk result (Ends labels.next row draft.old draft.new) }
 {
     let TurnLabels { again, next, over } = labels;
@@ -117,7 +120,8 @@ pub fn end_for(
     requires next { slice_get draft.old.places labels.next ≡ Some None }
     requires over { slice_get draft.old.places labels.over ≡ Some None }
     requires apart { labels.next < labels.over }
-    ensures { let row = for_end (names_of scope.now) line labels (option_map view_resolved_expression step.now) in
+    ensures { let row = for_end (names_of scope.now) line labels
+        (option_map view_resolved_expression step.now) in
         OnOk result (Ends labels.next row draft.old draft.new) }
 {
     let TurnLabels { again, next, over } = labels;

@@ -35,7 +35,8 @@ fn bounds(
     repeated: &ResolvedLoop,
 ) -> Result<(), AllocError>
     requires { LoopHasCode (view_resolved_loop repeated.now) }
-    ensures { let row = bounds_row line (map view_resolved_clause clauses.now) (view_resolved_loop repeated.now) in
+    ensures { let row = bounds_row line (map view_resolved_clause clauses.now)
+        (view_resolved_loop repeated.now) in
         OnOk result (EmitsRow (names_of scope.now) row draft.old draft.new) }
 {
     value(draft, scope, repeated.at.line, &repeated.from)?;
@@ -55,7 +56,8 @@ pub fn begin_worksharing(
 ) -> Result<LoopLabels, AllocError>
     requires { LoopHasCode (view_resolved_loop repeated.now) }
     ensures { let trees = map view_resolved_clause clauses.now in
-        let begin = worksharing_begin (names_of scope.now) line trees (view_resolved_loop repeated.now) in
+        let begin = worksharing_begin (names_of scope.now) line trees
+        (view_resolved_loop repeated.now) in
         IfOk result (λ labels. Begins labels.over (begin labels) draft.old draft.new) }
 {
     let Some(comparison) = comparison_of(repeated.comparison) else {
@@ -89,7 +91,8 @@ pub fn begin_sections(
     clauses: &[ResolvedClause],
     parts: Parts,
 ) -> Result<LoopLabels, AllocError>
-    ensures { let begin = sections_begin (names_of scope.now) line (map view_resolved_clause clauses.now) parts in
+    ensures { let begin = sections_begin (names_of scope.now) line
+        (map view_resolved_clause clauses.now) parts in
         IfOk result (λ labels. Begins labels.over (begin labels) draft.old draft.new) }
 {
     let again = draft.fresh()?;
@@ -112,7 +115,8 @@ pub fn end_worksharing(
     nowait: bool,
 ) -> Result<(), AllocError>
     ensures { let trees = map view_resolved_clause clauses.now in
-        OnOk result (EmitsRow (names_of scope.now) (close_row line trees nowait) draft.old draft.new) }
+        OnOk result
+        (EmitsRow (names_of scope.now) (close_row line trees nowait) draft.old draft.new) }
 {
     reductions(draft, scope, line, clauses)?;
     worksharing_end(draft, line, nowait)?;

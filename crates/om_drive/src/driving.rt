@@ -43,7 +43,8 @@ pub fn drive_over<G: Gate + Drop + Send, D: Debuggee + Drop + Send, R: Threads +
 ) -> DrivenOver<D>
     requires { length orders.now ≡ vec_len crew.debuggees }
     ensures back { map D.place result.debuggees.items ≡ map D.place crew.debuggees.items }
-    ensures part { Begins [] (map answer_number result.answers.items) (in_rounds (λ o. o.items) orders.now) }
+    ensures part { Begins [] (map answer_number result.answers.items)
+        (in_rounds (λ o. o.items) orders.now) }
     ensures all { result.fault ≡ None → map answer_number result.answers.items
         ≡ in_rounds (λ o. o.items) orders.now }
 {
@@ -95,7 +96,8 @@ fn drive_in<
     requires none { ranks.back.items ≡ [] }
     requires new { ring.answers.items ≡ [] }
     ensures back { map D.place result.debuggees.items ≡ map D.place ranks.waiting.items }
-    ensures part { Begins [] (map answer_number result.answers.items) (in_rounds (λ o. o.items) orders.now) }
+    ensures part { Begins [] (map answer_number result.answers.items)
+        (in_rounds (λ o. o.items) orders.now) }
     ensures all { result.fault ≡ None → map answer_number result.answers.items
         ≡ in_rounds (λ o. o.items) orders.now }
 {
@@ -318,7 +320,8 @@ fn asked<R: Wait>(
     orders: &[Vec<Order>],
     answers: &mut Vec<Answer>,
 ) -> Option<Fault>
-    ensures part { Begins (map answer_number answers.old.items) (map answer_number answers.new.items)
+    ensures part { Begins (map answer_number answers.old.items)
+        (map answer_number answers.new.items)
         (in_rounds (λ o. o.items) orders.now) }
     ensures all { result ≡ None → map answer_number answers.new.items
         ≡ map answer_number answers.old.items ++ in_rounds (λ o. o.items) orders.now }

@@ -43,7 +43,8 @@ pub fn free<L: Sitting + Send + Sync, G: Gate + Drop + Send, R: Threads + Wait +
 ) -> Freed<L>
     requires { vec_len crew.debuggees ≤ 64 }
     ensures back { map number_of result.seats.items ≡ map number_of crew.debuggees.items }
-    ensures done { sum_by steps_of result.seats.items ≡ sum_by steps_of crew.debuggees.items + result.done }
+    ensures done { sum_by steps_of result.seats.items
+        ≡ sum_by steps_of crew.debuggees.items + result.done }
 {
     let Crew {
         debuggees: mut seats,
@@ -230,7 +231,8 @@ fn start<
 ) -> Result<PromisedHandle<Ran<D>, Counted<D>>, Ran<D>>
     ensures started { IfOk result (λ thread. thread.promise.0.value ≡ runner.debuggee) }
     ensures place { IfErr result (λ ran. D.place ran.debuggee ≡ D.place runner.debuggee) }
-    ensures steps { IfErr result (λ ran. steps_in (D.made ran.debuggee) ≡ steps_in (D.made runner.debuggee) + ran.done) }
+    ensures steps { IfErr result
+        (λ ran. steps_in (D.made ran.debuggee) ≡ steps_in (D.made runner.debuggee) + ran.done) }
 {
     let promise = Counted(Snapshot::of(&runner.debuggee));
     match scope.spawn_with(promise, move || runner.run(rt, rounds)) {

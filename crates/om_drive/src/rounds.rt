@@ -27,7 +27,8 @@ pub fn gather<R: Wait>(
     numbers: &[u64],
 ) -> Gathered
     requires { length receivers.now ≡ length numbers.now }
-    ensures answered { map answer_number result.answers.items ≡ take (vec_len result.answers) numbers.now }
+    ensures answered { map answer_number result.answers.items
+        ≡ take (vec_len result.answers) numbers.now }
     ensures all { result.fault ≡ None → vec_len result.answers ≡ length numbers.now }
 {
     let mut answers = Vec::new(alloc);
@@ -157,7 +158,8 @@ pub(crate) fn ask_all<R: Wait>(
     orders: &[Vec<Order>],
     answers: &mut Vec<Answer>,
 ) -> Result<(), Fault>
-    requires { (length senders.now ≡ length orders.now) × (length receivers.now ≡ length orders.now) }
+    requires { (length senders.now ≡ length orders.now)
+        × (length receivers.now ≡ length orders.now) }
     ensures ok { OnOk result (map answer_number answers.new.items
         ≡ map answer_number answers.old.items ++ in_rounds (λ o. o.items) orders.now) }
     ensures err { OnErr result (Begins (map answer_number answers.old.items)

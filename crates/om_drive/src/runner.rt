@@ -43,7 +43,8 @@ impl<G: Gate + Drop, D: Debuggee + Drop> Runner<G, D> {
     /// of range makes none.
     pub(crate) fn run<R: Wait>(mut self, rt: &R, rounds: u32) -> Ran<D>
         ensures place { D.place result.debuggee ≡ D.place self.debuggee }
-        ensures steps { steps_in (D.made result.debuggee) ≡ steps_in (D.made self.debuggee) + result.done }
+        ensures steps { steps_in (D.made result.debuggee)
+            ≡ steps_in (D.made self.debuggee) + result.done }
     {
         let mut done = 0;
         let mut error = None;
@@ -62,7 +63,8 @@ impl<G: Gate + Drop, D: Debuggee + Drop> Runner<G, D> {
     fn make_rounds<R: Wait>(&mut self, rt: &R, rounds: u32) -> (u32, Option<CallError>)
         requires { self.old.worker < (D.place self.old.debuggee).workers }
         ensures place { D.place self.new.debuggee ≡ D.place self.old.debuggee }
-        ensures steps { steps_in (D.made self.new.debuggee) ≡ steps_in (D.made self.old.debuggee) + result.0 }
+        ensures steps { steps_in (D.made self.new.debuggee)
+            ≡ steps_in (D.made self.old.debuggee) + result.0 }
     {
         let mut done = 0;
         for round in 0..rounds {
@@ -84,7 +86,8 @@ impl<G: Gate + Drop, D: Debuggee + Drop> Runner<G, D> {
         ensures worker { self.new.worker ≡ self.old.worker }
         ensures steps { IfOk result (λ made. steps_in (D.made self.new.debuggee)
             ≡ steps_in (D.made self.old.debuggee) + cond made 1 0) }
-        ensures none_on_error { OnErr result (steps_in (D.made self.new.debuggee) ≡ steps_in (D.made self.old.debuggee)) }
+        ensures none_on_error { OnErr result
+            (steps_in (D.made self.new.debuggee) ≡ steps_in (D.made self.old.debuggee)) }
     {
         let came = self.step(rt, Choice::Next)?;
         if came.waits && !came.made {
@@ -100,7 +103,8 @@ impl<G: Gate + Drop, D: Debuggee + Drop> Runner<G, D> {
         ensures worker { self.new.worker ≡ self.old.worker }
         ensures steps { IfOk result (λ made. steps_in (D.made self.new.debuggee)
             ≡ steps_in (D.made self.old.debuggee) + cond made 1 0) }
-        ensures none_on_error { OnErr result (steps_in (D.made self.new.debuggee) ≡ steps_in (D.made self.old.debuggee)) }
+        ensures none_on_error { OnErr result
+            (steps_in (D.made self.new.debuggee) ≡ steps_in (D.made self.old.debuggee)) }
     {
         let Some(task) = self.first_ready(rt)? else {
             return Ok(false);
@@ -126,7 +130,8 @@ impl<G: Gate + Drop, D: Debuggee + Drop> Runner<G, D> {
         ensures worker { self.new.worker ≡ self.old.worker }
         ensures steps { IfOk result (λ came. steps_in (D.made self.new.debuggee)
             ≡ steps_in (D.made self.old.debuggee) + cond came.made 1 0) }
-        ensures none_on_error { OnErr result (steps_in (D.made self.new.debuggee) ≡ steps_in (D.made self.old.debuggee)) }
+        ensures none_on_error { OnErr result
+            (steps_in (D.made self.new.debuggee) ≡ steps_in (D.made self.old.debuggee)) }
     {
         let worker = self.worker;
         let reply = self.debuggee.call(rt, Command::Step { worker, choice })?;

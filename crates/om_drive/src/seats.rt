@@ -40,10 +40,12 @@ pub fn drive<L: Sitting + Send + Sync, G: Gate + Drop + Send, R: Threads + Wait 
 ) -> Driven<L>
     requires { length orders.now ≡ vec_len crew.debuggees }
     ensures back { map number_of result.seats.items ≡ map number_of crew.debuggees.items }
-    ensures part { Begins [] (map answer_number result.answers.items) (in_rounds (λ o. o.items) orders.now) }
+    ensures part { Begins [] (map answer_number result.answers.items)
+        (in_rounds (λ o. o.items) orders.now) }
     ensures all { result.fault ≡ None → map answer_number result.answers.items
         ≡ in_rounds (λ o. o.items) orders.now }
-    ensures backed { All (IsBacked (λ o. o.items) result.seats.items orders.now) result.answers.items }
+    ensures backed { All (IsBacked (λ o. o.items) result.seats.items orders.now)
+        result.answers.items }
 {
     let Crew {
         debuggees: mut seats,

@@ -57,7 +57,8 @@ pub(crate) fn sit_down<'s, L: Sitting>(
     ensures sitters { map (λ s. place_of L.workers s.seat) sitters.new.items
         ≡ map (λ s. place_of L.workers s.seat) sitters.old.items
         ++ map (place_of L.workers) seats.old.items }
-    ensures seated { map (λ s. s.seat) sitters.new.items ≡ map (λ s. s.seat) sitters.old.items ++ seats.old.items }
+    ensures seated { map (λ s. s.seat) sitters.new.items
+        ≡ map (λ s. s.seat) sitters.old.items ++ seats.old.items }
     ensures empty { seats.new.items ≡ [] }
     ensures room { vec_capacity seats.new ≡ vec_capacity seats.old }
     ensures capacity { vec_capacity sitters.old ≤ vec_capacity sitters.new }

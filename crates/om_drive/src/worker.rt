@@ -27,7 +27,8 @@ pub trait Debuggee {
         requires { IsInRange (place self.old).workers command }
         ensures place { place self.new ≡ place self.old }
         ensures made { IfOk result (λ x. (at : ℕ)
-            × (made self.new ≡ made self.old ++ record { place = at; command = command; reply = x } ∷ [])) }
+            × (made self.new ≡ made self.old ++ record { place = at; command = command; reply = x }
+            ∷ [])) }
         ensures none { OnErr result (made self.new ≡ made self.old) };
 
     /// The place in the journal of its last call that was answered, if there was one.

@@ -174,7 +174,8 @@ fn used_call(
     arguments: &[ResolvedExpression],
 ) -> Result<(), AllocError>
     requires { ValuesHaveCode (trees.values (map view_resolved_expression arguments.now)) }
-    ensures { let tree = trees.Call function (trees.values (map view_resolved_expression arguments.now)) in
+    ensures { let tree = trees.Call function
+        (trees.values (map view_resolved_expression arguments.now)) in
         OnOk result (EmitsValue (names_of scope.now) line tree draft.old draft.new) }
 {
     call(draft, scope, line, function, arguments)?;
@@ -234,7 +235,8 @@ fn both_end(
     right: &ResolvedExpression,
 ) -> Result<(), AllocError>
     requires { ValueHasCode (view_resolved_expression right.now) }
-    ensures { let row = λ (at : Site). rows.binary_rest at line Both (view_resolved_expression right.now) in
+    ensures { let row = λ (at : Site).
+        rows.binary_rest at line Both (view_resolved_expression right.now) in
         OnOk result (EmitsRow (names_of scope.now) row draft.old draft.new) }
 {
     let neither = draft.fresh()?;
@@ -259,7 +261,8 @@ fn either_end(
     right: &ResolvedExpression,
 ) -> Result<(), AllocError>
     requires { ValueHasCode (view_resolved_expression right.now) }
-    ensures { let row = λ (at : Site). rows.binary_rest at line Either (view_resolved_expression right.now) in
+    ensures { let row = λ (at : Site).
+        rows.binary_rest at line Either (view_resolved_expression right.now) in
         OnOk result (EmitsRow (names_of scope.now) row draft.old draft.new) }
 {
     let next = draft.fresh()?;
@@ -290,7 +293,8 @@ pub(crate) fn assign(
 ) -> Result<(), AllocError>
     requires { ValueHasCode (view_resolved_expression e.now) }
     ensures { let tree = view_resolved_expression e.now in
-        let row = λ (at : Site). rows.assignment at line target.keeps target.variable target.operator tree in
+        let row = λ (at : Site). rows.assignment at line target.keeps target.variable
+        target.operator tree in
         OnOk result (EmitsRow (names_of scope.now) row draft.old draft.new) }
 {
     match compound_of(target.operator) {
@@ -321,7 +325,8 @@ pub(crate) fn assign_element(
     requires { ValueHasCode (view_resolved_expression e.now) }
     ensures { let tree = view_resolved_expression e.now in
         let row =
-        λ (at : Site). rows.assignment_rest at line target.keeps target.variable target.operator tree in
+        λ (at : Site). rows.assignment_rest at line target.keeps target.variable target.operator
+        tree in
         OnOk result (EmitsRow (names_of scope.now) row draft.old draft.new) }
 {
     match compound_of(target.operator) {

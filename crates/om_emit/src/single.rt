@@ -95,7 +95,8 @@ pub(crate) fn unary_end(
     operator: UnaryOperator,
 ) -> Result<(), AllocError>
     ensures { (names : Names)
-        → OnOk result (EmitsRow names (λ at. rows.unary_rest at line operator) draft.old draft.new) }
+        → OnOk result
+        (EmitsRow names (λ at. rows.unary_rest at line operator) draft.old draft.new) }
 {
     match operator {
         UnaryOperator::Plus => Ok(()),
@@ -117,7 +118,8 @@ pub(crate) fn step(
     line: u32,
     target: Stepped,
 ) -> Result<(), AllocError>
-    ensures { let row = λ (at : Site). rows.stepped at line target.keeps target.variable target.operator in
+    ensures { let row = λ (at : Site).
+        rows.stepped at line target.keeps target.variable target.operator in
         OnOk result (EmitsRow (names_of scope.now) row draft.old draft.new) }
 {
     load(draft, scope, line, target.variable)?;
@@ -149,7 +151,8 @@ pub(crate) fn step_element(
 /// The old value of what was stepped, from the new one on top.
 fn undo(draft: &mut Draft, line: u32, operator: PostfixOperator) -> Result<(), AllocError>
     ensures { let undo = undo_of operator in
-        (names : Names) → OnOk result (EmitsRow names (λ at. undone at line undo) draft.old draft.new) }
+        (names : Names) → OnOk result
+        (EmitsRow names (λ at. undone at line undo) draft.old draft.new) }
 {
     draft.put(line, Instr::Constant(1))?;
     draft.put(line, Instr::Binary(undo_of(operator)))?;

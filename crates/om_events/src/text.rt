@@ -38,7 +38,8 @@ pub fn text_of(event: &Record, out: &mut Vec<u8>) -> Result<(), AllocError>
 }
 
 fn push_thread(thread: Thread, out: &mut Vec<u8>) -> Result<(), AllocError>
-    ensures appended { OnOk result (out.new.items ≡ out.old.items ++ record_text (kind.ThreadBegin thread)) }
+    ensures appended { OnOk result
+        (out.new.items ≡ out.old.items ++ record_text (kind.ThreadBegin thread)) }
     ensures unchanged_on_error { OnErr result (out.new.items ≡ out.old.items) }
 {
     push_words(b"1 thread_begin", &[Word::Number(thread.number())], out)
@@ -50,7 +51,8 @@ fn push_parallel_begin<'a>(
     size: u8,
     out: &mut Vec<u8>,
 ) -> Result<(), AllocError>
-    ensures appended { OnOk result (out.new.items ≡ out.old.items ++ record_text (kind.ParallelBegin task.now team.now size)) }
+    ensures appended { OnOk result
+        (out.new.items ≡ out.old.items ++ record_text (kind.ParallelBegin task.now team.now size)) }
     ensures unchanged_on_error { OnErr result (out.new.items ≡ out.old.items) }
 {
     let words = [
@@ -62,7 +64,8 @@ fn push_parallel_begin<'a>(
 }
 
 fn push_parallel_end(team: &Name, task: &Name, out: &mut Vec<u8>) -> Result<(), AllocError>
-    ensures appended { OnOk result (out.new.items ≡ out.old.items ++ record_text (kind.ParallelEnd team.now task.now)) }
+    ensures appended { OnOk result
+        (out.new.items ≡ out.old.items ++ record_text (kind.ParallelEnd team.now task.now)) }
     ensures unchanged_on_error { OnErr result (out.new.items ≡ out.old.items) }
 {
     push_words(
@@ -73,7 +76,8 @@ fn push_parallel_end(team: &Name, task: &Name, out: &mut Vec<u8>) -> Result<(), 
 }
 
 fn push_task_create<'a>(task: &'a Name, new: &'a Name, out: &mut Vec<u8>) -> Result<(), AllocError>
-    ensures appended { OnOk result (out.new.items ≡ out.old.items ++ record_text (kind.TaskCreate task.now new.now)) }
+    ensures appended { OnOk result
+        (out.new.items ≡ out.old.items ++ record_text (kind.TaskCreate task.now new.now)) }
     ensures unchanged_on_error { OnErr result (out.new.items ≡ out.old.items) }
 {
     let explicit = Word::Number(TaskFlag::Explicit.number());
@@ -90,7 +94,9 @@ fn push_schedule<'a>(
     next: &'a Name,
     out: &mut Vec<u8>,
 ) -> Result<(), AllocError>
-    ensures appended { OnOk result (out.new.items ≡ out.old.items ++ record_text (kind.TaskSchedule prior.now status next.now)) }
+    ensures appended { OnOk result
+        (out.new.items ≡ out.old.items
+        ++ record_text (kind.TaskSchedule prior.now status next.now)) }
     ensures unchanged_on_error { OnErr result (out.new.items ≡ out.old.items) }
 {
     let words = [
@@ -102,7 +108,8 @@ fn push_schedule<'a>(
 }
 
 fn push_mutex(first: &[u8], lock: &Seq<u8>, out: &mut Vec<u8>) -> Result<(), AllocError>
-    ensures appended { OnOk result (out.new.items ≡ out.old.items ++ (first.now ++ spaced (lock_text lock.now ∷ []))) }
+    ensures appended { OnOk result
+        (out.new.items ≡ out.old.items ++ (first.now ++ spaced (lock_text lock.now ∷ []))) }
     ensures unchanged_on_error { OnErr result (out.new.items ≡ out.old.items) }
 {
     push_words(first, &[Word::Lock(lock.as_slice())], out)
@@ -154,7 +161,8 @@ fn push_end(event: &Record, out: &mut Vec<u8>) -> Result<(), AllocError>
 }
 
 fn end_of<'a>(endpoint: Endpoint, team: &'a Name, task: &'a Name) -> RegionEnd<'a>
-    ensures { (result.endpoint ≡ endpoint) × (result.team.now ≡ team.now) × (result.task.now ≡ task.now) }
+    ensures { (result.endpoint ≡ endpoint) × (result.team.now ≡ team.now)
+        × (result.task.now ≡ task.now) }
 {
     RegionEnd {
         endpoint,
@@ -170,7 +178,10 @@ fn push_implicit(
     flag: TaskFlag,
     out: &mut Vec<u8>,
 ) -> Result<(), AllocError>
-    ensures appended { OnOk result (out.new.items ≡ out.old.items ++ record_text (kind.ImplicitTask end.now.endpoint end.now.team.now end.now.task.now size number flag)) }
+    ensures appended { OnOk result
+        (out.new.items ≡ out.old.items
+        ++ record_text
+        (kind.ImplicitTask end.now.endpoint end.now.team.now end.now.task.now size number flag)) }
     ensures unchanged_on_error { OnErr result (out.new.items ≡ out.old.items) }
 {
     let words = [
@@ -185,7 +196,9 @@ fn push_implicit(
 }
 
 fn push_work(work: Work, end: &RegionEnd, count: u64, out: &mut Vec<u8>) -> Result<(), AllocError>
-    ensures appended { OnOk result (out.new.items ≡ out.old.items ++ record_text (kind.Work work end.now.endpoint end.now.team.now end.now.task.now count)) }
+    ensures appended { OnOk result
+        (out.new.items ≡ out.old.items
+        ++ record_text (kind.Work work end.now.endpoint end.now.team.now end.now.task.now count)) }
     ensures unchanged_on_error { OnErr result (out.new.items ≡ out.old.items) }
 {
     let words = [
@@ -199,7 +212,9 @@ fn push_work(work: Work, end: &RegionEnd, count: u64, out: &mut Vec<u8>) -> Resu
 }
 
 fn push_masked(end: &RegionEnd, out: &mut Vec<u8>) -> Result<(), AllocError>
-    ensures appended { OnOk result (out.new.items ≡ out.old.items ++ record_text (kind.Masked end.now.endpoint end.now.team.now end.now.task.now)) }
+    ensures appended { OnOk result
+        (out.new.items ≡ out.old.items
+        ++ record_text (kind.Masked end.now.endpoint end.now.team.now end.now.task.now)) }
     ensures unchanged_on_error { OnErr result (out.new.items ≡ out.old.items) }
 {
     let words = [
@@ -211,7 +226,9 @@ fn push_masked(end: &RegionEnd, out: &mut Vec<u8>) -> Result<(), AllocError>
 }
 
 fn push_sync(sync: Sync, end: &RegionEnd, out: &mut Vec<u8>) -> Result<(), AllocError>
-    ensures appended { OnOk result (out.new.items ≡ out.old.items ++ record_text (kind.SyncRegion sync end.now.endpoint end.now.team.now end.now.task.now)) }
+    ensures appended { OnOk result
+        (out.new.items ≡ out.old.items
+        ++ record_text (kind.SyncRegion sync end.now.endpoint end.now.team.now end.now.task.now)) }
     ensures unchanged_on_error { OnErr result (out.new.items ≡ out.old.items) }
 {
     let words = [

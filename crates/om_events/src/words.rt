@@ -19,7 +19,8 @@ pub(crate) enum Word<'a> {
 
 // Appends the number and the name of a callback, and then words, each behind a space; or nothing.
 pub(crate) fn push_words(first: &[u8], words: &[Word], out: &mut Vec<u8>) -> Result<(), AllocError>
-    ensures appended { OnOk result (out.new.items ≡ out.old.items ++ (first.now ++ spaced (map word_text words.now))) }
+    ensures appended { OnOk result
+        (out.new.items ≡ out.old.items ++ (first.now ++ spaced (map word_text words.now))) }
     ensures unchanged_on_error { OnErr result (out.new.items ≡ out.old.items) }
 {
     let before = out.len();
@@ -34,7 +35,8 @@ pub(crate) fn push_words(first: &[u8], words: &[Word], out: &mut Vec<u8>) -> Res
 
 // Appends the same; when out of memory, some of it.
 fn push_parts(first: &[u8], words: &[Word], out: &mut Vec<u8>) -> Result<(), AllocError>
-    ensures appended { OnOk result (out.new.items ≡ out.old.items ++ (first.now ++ spaced (map word_text words.now))) }
+    ensures appended { OnOk result
+        (out.new.items ≡ out.old.items ++ (first.now ++ spaced (map word_text words.now))) }
     ensures front_stays { OnErr result (take (length out.old.items) out.new.items ≡ out.old.items) }
 {
     out.extend_from_slice(first)?;
@@ -43,7 +45,8 @@ fn push_parts(first: &[u8], words: &[Word], out: &mut Vec<u8>) -> Result<(), All
 
 // Appends words, each behind a space; when out of memory, some of them.
 fn push_spaced(words: &[Word], out: &mut Vec<u8>) -> Result<(), AllocError>
-    ensures appended { OnOk result (out.new.items ≡ out.old.items ++ spaced (map word_text words.now)) }
+    ensures appended { OnOk result
+        (out.new.items ≡ out.old.items ++ spaced (map word_text words.now)) }
     ensures front_stays { OnErr result (take (length out.old.items) out.new.items ≡ out.old.items) }
 {
     for word in words {
@@ -54,7 +57,8 @@ fn push_spaced(words: &[Word], out: &mut Vec<u8>) -> Result<(), AllocError>
 
 // Appends a space and a word; when out of memory, at most the space.
 fn push_spaced_one(word: &Word, out: &mut Vec<u8>) -> Result<(), AllocError>
-    ensures appended { OnOk result (out.new.items ≡ out.old.items ++ (codes " " ++ word_text word.now)) }
+    ensures appended { OnOk result
+        (out.new.items ≡ out.old.items ++ (codes " " ++ word_text word.now)) }
     ensures front_stays { OnErr result (take (length out.old.items) out.new.items ≡ out.old.items) }
 {
     out.push(b' ')?;

@@ -109,7 +109,10 @@ fn put_member(
     frame: &Frame,
 ) -> Result<(), AllocError>
     requires { length team.now.name ≤ 63 }
-    ensures { OnOk result (updates.new ≡ updates.old ++ Update.Put (value.Control (Control.Running (record { top = member team.now frame.now; below = [] }))) ∷ []) }
+    ensures { OnOk result
+        (updates.new ≡ updates.old ++ Update.Put
+        (value.Control (Control.Running (record { top = member team.now frame.now; below = [] })))
+        ∷ []) }
 {
     let top = member(alloc, team, frame)?;
     let below = SharedPile::new(alloc)?;
@@ -125,7 +128,8 @@ pub(crate) fn put_members(
     frame: &Frame,
 ) -> Result<(), AllocError>
     requires { length team.now.name ≤ 63 }
-    ensures { OnOk result (updates.new ≡ updates.old ++ member_controls team.now frame.now 1 (team.now.size - 1)) }
+    ensures { OnOk result
+        (updates.new ≡ updates.old ++ member_controls team.now frame.now 1 (team.now.size - 1)) }
 {
     for number in 1..team.size {
         let place = &Team {

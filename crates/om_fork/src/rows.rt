@@ -44,7 +44,13 @@ fn recorded(alloc: Global, to: u32, entry: Record) -> Result<Row, AllocError>
 
 /// BEGIN: the begin of a member's task is recorded. The only error is out of memory.
 pub fn begin(alloc: Global, going: Going, context: &Context) -> Result<Answer, AllocError>
-    ensures { IfOk result (λ answer. answer ≡ record { names = (begin_row going.worker going.to context.now).names; row = (begin_row going.worker going.to context.now).row [] }) }
+    ensures { IfOk result
+        (λ answer. answer
+        ≡ record {
+          names = (begin_row going.worker going.to context.now).names;
+          row =
+              (begin_row going.worker going.to context.now).row [];
+        }) }
 {
     let mut names = Seq::new(alloc);
     name_events(&mut names, going.worker)?;
@@ -94,7 +100,8 @@ fn is_misplaced_barrier(barrier: Barrier, context: &Context) -> bool
 
 /// The names of a member that reaches a barrier.
 fn reached_names(alloc: Global, worker: u8, team: &Team) -> Result<Seq<Access>, AllocError>
-    ensures { IfOk result (λ names. names ≡ write (obj.Arrived team.now.name team.now.number) ∷ events worker ∷ []) }
+    ensures { IfOk result
+        (λ names. names ≡ write (obj.Arrived team.now.name team.now.number) ∷ events worker ∷ []) }
 {
     let reached = Obj::Arrived {
         team: team.name,
@@ -114,7 +121,12 @@ fn reached_turn(
     context: &Context,
 ) -> Result<Row, AllocError>
     requires { context.now.phase + 1 < 2 ^ 64 }
-    ensures { IfOk result (λ row. row ≡ goes to 0 None (Update.Put (value.Number (context.now.phase + 1)) ∷ event (Record.SyncRegion (sync_of barrier) Endpoint.Begin context.now.team.name context.now.task) ∷ [])) }
+    ensures { IfOk result
+        (λ row. row ≡ goes to 0 None
+        (Update.Put (value.Number (context.now.phase + 1))
+        ∷ event
+        (Record.SyncRegion (sync_of barrier) Endpoint.Begin context.now.team.name context.now.task)
+        ∷ [])) }
 {
     let mut updates = Seq::one(alloc, Update::Put(Val::Number(context.phase + 1)))?;
     let begun = Record::SyncRegion {
@@ -135,7 +147,8 @@ fn reached(
     context: &Context,
 ) -> Result<Answer, AllocError>
     requires { context.now.phase + 1 < 2 ^ 64 }
-    ensures { (s : State) → IfOk result (λ answer. answer ≡ answered (reached_row going.worker going.to barrier context.now) s) }
+    ensures { (s : State) → IfOk result
+        (λ answer. answer ≡ answered (reached_row going.worker going.to barrier context.now) s) }
 {
     let names = reached_names(alloc, going.worker, context.team.get())?;
     let row = reached_turn(alloc, going.to, barrier, context)?;
@@ -151,7 +164,8 @@ pub fn arrive(
     context: &Context,
 ) -> Result<Answer, AllocError>
     requires { context.now.phase + 1 < 2 ^ 64 }
-    ensures { (s : State) → IfOk result (λ answer. answer ≡ answered (arrive_row going.worker going.to barrier context.now) s) }
+    ensures { (s : State) → IfOk result
+        (λ answer. answer ≡ answered (arrive_row going.worker going.to barrier context.now) s) }
 {
     if is_misplaced_barrier(barrier, context) {
         return Ok(Answer::decided(alloc, Row::Faults(Fault::Nesting)));
@@ -167,7 +181,9 @@ fn barrier_names(
     context: &Context,
     own: &[Access],
 ) -> Result<Seq<Access>, AllocError>
-    ensures { IfOk result (λ names. names ≡ barrier context.now.team context.now.phase ++ (own.now ++ events worker ∷ [])) }
+    ensures { IfOk result
+        (λ names. names ≡ barrier context.now.team context.now.phase
+        ++ (own.now ++ events worker ∷ [])) }
 {
     let mut names = Seq::new(alloc);
     name_barrier(&mut names, context.team.get(), context.phase)?;
@@ -182,7 +198,11 @@ fn departed_updates(
     barrier: Barrier,
     context: &Context,
 ) -> Result<Seq<Update>, AllocError>
-    ensures { IfOk result (λ updates. updates ≡ kept context.now.team.size ++ event (Record.SyncRegion (sync_of barrier) Endpoint.End (team_at_end barrier context.now.team.name) context.now.task) ∷ []) }
+    ensures { IfOk result
+        (λ updates. updates ≡ kept context.now.team.size
+        ++ event
+        (Record.SyncRegion (sync_of barrier) Endpoint.End
+        (team_at_end barrier context.now.team.name) context.now.task) ∷ []) }
 {
     let mut updates = Seq::new(alloc);
     put_kept(&mut updates, context.team.get().size)?;
@@ -230,7 +250,9 @@ pub fn depart(
     barrier: Barrier,
     context: &Context,
 ) -> Result<Answer, AllocError>
-    ensures { IfOk result (λ answer. answer ≡ answered (depart_row going.worker going.to barrier context.now) (state_of store.now)) }
+    ensures { IfOk result
+        (λ answer. answer ≡ answered (depart_row going.worker going.to barrier context.now)
+        (state_of store.now)) }
 {
     let names = barrier_names(alloc, going.worker, context, &[])?;
     let opens = is_open(alloc, store, context.team.get(), context.phase);
@@ -244,7 +266,8 @@ fn put_region_end(
     team: &Team,
     below: &SharedPile<Context>,
 ) -> Result<(), AllocError>
-    ensures { OnOk result (records.new ≡ records.old ++ region_end team.now.name team.now.number below.now) }
+    ensures { OnOk result
+        (records.new ≡ records.old ++ region_end team.now.name team.now.number below.now) }
 {
     if team.number > 0 {
         return Ok(());
@@ -292,7 +315,10 @@ fn left_updates(
     below: &SharedPile<Context>,
     own: &[Access],
 ) -> Result<Seq<Update>, AllocError>
-    ensures { IfOk result (λ updates. updates ≡ kept context.now.team.size ++ (deaths own.now ++ Update.Append (Tail.Events (left_records context.now below.now)) ∷ [])) }
+    ensures { IfOk result
+        (λ updates. updates ≡ kept context.now.team.size
+        ++ (deaths own.now ++ Update.Append (Tail.Events (left_records context.now below.now))
+        ∷ [])) }
 {
     let mut updates = Seq::new(alloc);
     put_kept(&mut updates, context.team.get().size)?;
@@ -329,7 +355,9 @@ fn left_answer(
     stack: &Stack,
     own: &[Access],
 ) -> Result<Answer, AllocError>
-    ensures { IfOk result (λ answer. answer ≡ answered (left_row worker stack.now.top stack.now.below own.now) (state_of store.now)) }
+    ensures { IfOk result
+        (λ answer. answer ≡ answered (left_row worker stack.now.top stack.now.below own.now)
+        (state_of store.now)) }
 {
     let context = &stack.top;
     let names = barrier_names(alloc, worker, context, own)?;
@@ -351,7 +379,10 @@ pub fn leave(
     slots: &[Slot],
 ) -> Result<Answer, AllocError>
     requires { length slots.now ≤ 2 ^ 32 }
-    ensures { IfOk result (λ answer. answer ≡ answered (leave_row worker stack.now.top stack.now.below slots.now stack.now.top.kind stack.now.top.team.number) (state_of store.now)) }
+    ensures { IfOk result
+        (λ answer. answer ≡ answered
+        (leave_row worker stack.now.top stack.now.below slots.now stack.now.top.kind
+        stack.now.top.team.number) (state_of store.now)) }
 {
     match stack.top.kind {
         Kind::Initial | Kind::Explicit => return Ok(Answer::decided(alloc, Row::Lacks)),

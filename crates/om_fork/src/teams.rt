@@ -87,7 +87,9 @@ fn team_names(
     given: &[u32],
 ) -> Result<Seq<Access>, AllocError>
     requires { length team.now.name ≤ 63 }
-    ensures { IfOk result (λ names. names ≡ workers_from 1 (team.now.size - 1) ++ (member_cells team.now.name given.now 0 team.now.size ++ events worker ∷ [])) }
+    ensures { IfOk result
+        (λ names. names ≡ workers_from 1 (team.now.size - 1)
+        ++ (member_cells team.now.name given.now 0 team.now.size ++ events worker ∷ [])) }
 {
     let mut names = Seq::new(alloc);
     name_workers(&mut names, team.size)?;
@@ -106,7 +108,8 @@ fn team_updates(
     values: &[i32],
 ) -> Result<Seq<Update>, AllocError>
     requires { length team.now.name ≤ 63 }
-    ensures { IfOk result (λ updates. updates ≡ team_updates task.now team.now frame.now values.now) }
+    ensures { IfOk result
+        (λ updates. updates ≡ team_updates task.now team.now frame.now values.now) }
 {
     let mut updates = Seq::new(alloc);
     put_members(alloc, &mut updates, team, frame)?;
@@ -128,7 +131,9 @@ fn fork_edits(
     frame: &Frame,
 ) -> Result<Seq<Edit>, AllocError>
     requires { length team.now.name ≤ 63 }
-    ensures { IfOk result (λ edits. edits ≡ Edit.Go launch.to launch.takes None ∷ Edit.CountBirth ∷ Edit.BeginContext (member team.now frame.now) ∷ []) }
+    ensures { IfOk result
+        (λ edits. edits ≡ Edit.Go launch.to launch.takes None ∷ Edit.CountBirth
+        ∷ Edit.BeginContext (member team.now frame.now) ∷ []) }
 {
     let go = Edit::Go {
         to: launch.to,
@@ -150,7 +155,9 @@ fn made(
     values: &[i32],
 ) -> Result<Row, AllocError>
     requires { length team.now.name ≤ 63 }
-    ensures { IfOk result (λ row. row ≡ forked forking.now.launch forking.now.context.now.task team.now frame.now values.now None) }
+    ensures { IfOk result
+        (λ row. row ≡ forked forking.now.launch forking.now.context.now.task team.now frame.now
+        values.now None) }
 {
     let edits = fork_edits(alloc, forking.launch, team, frame)?;
     let updates = team_updates(alloc, forking.context.task.get(), team, frame, values)?;
@@ -166,7 +173,10 @@ fn forked(
     hindrance: Option<u8>,
 ) -> Result<Row, AllocError>
     requires { length team.now.name ≤ 63 }
-    ensures { IfOk result (λ row. row ≡ forked forking.now.launch forking.now.context.now.task team.now (first_frame forking.now.launch.body (homes_in forking.now.context.now forking.now.body.now.slots)) values.now hindrance) }
+    ensures { IfOk result
+        (λ row. row ≡ forked forking.now.launch forking.now.context.now.task team.now
+        (first_frame forking.now.launch.body
+        (homes_in forking.now.context.now forking.now.body.now.slots)) values.now hindrance) }
 {
     if let Some(worker) = hindrance {
         return Ok(Row::Blocked(Blocked::Busy(worker)));
@@ -187,7 +197,10 @@ fn team_answer(
     values: &[i32],
 ) -> Result<Answer, AllocError>
     requires { length team.now.name ≤ 63 }
-    ensures { IfOk result (λ answer. answer ≡ answered (team_row forking.now.worker forking.now.launch forking.now.body.now forking.now.context.now team.now values.now) (state_of store.now)) }
+    ensures { IfOk result
+        (λ answer. answer ≡ answered
+        (team_row forking.now.worker forking.now.launch forking.now.body.now forking.now.context.now
+        team.now values.now) (state_of store.now)) }
 {
     let given = forking.body.given.as_slice();
     let names = team_names(alloc, forking.worker, team, given)?;
@@ -204,7 +217,10 @@ fn named(
     values: &[i32],
 ) -> Result<Answer, AllocError>
     requires { forking.now.context.now.births + 1 < 2 ^ 64 }
-    ensures { IfOk result (λ answer. answer ≡ answered (named_row forking.now.worker forking.now.workers forking.now.launch forking.now.body.now forking.now.context.now asked values.now) (state_of store.now)) }
+    ensures { IfOk result
+        (λ answer. answer ≡ answered
+        (named_row forking.now.worker forking.now.workers forking.now.launch forking.now.body.now
+        forking.now.context.now asked values.now) (state_of store.now)) }
 {
     if forking.context.task.get().as_slice().len() > 62 {
         return Ok(Answer::decided(alloc, Row::Faults(Fault::Name)));
@@ -222,7 +238,10 @@ fn sized_answer(
     values: &[i32],
 ) -> Result<Answer, AllocError>
     requires { forking.now.context.now.births + 1 < 2 ^ 64 }
-    ensures { IfOk result (λ answer. answer ≡ answered (sized_row forking.now.worker forking.now.workers forking.now.launch forking.now.body.now forking.now.context.now size values.now) (state_of store.now)) }
+    ensures { IfOk result
+        (λ answer. answer ≡ answered
+        (sized_row forking.now.worker forking.now.workers forking.now.launch forking.now.body.now
+        forking.now.context.now size values.now) (state_of store.now)) }
 {
     let Some(size) = size else {
         return Ok(Answer::decided(alloc, Row::Lacks));
@@ -247,7 +266,11 @@ pub fn fork(
     values: u16,
 ) -> Result<Answer, AllocError>
     requires { forking.now.context.now.births + 1 < 2 ^ 64 }
-    ensures { IfOk result (λ answer. answer ≡ answered (fork_row forking.now.worker forking.now.workers forking.now.launch forking.now.body.now forking.now.context.now sized (int_at values forking.now.context.now.frame.operands) (ints_on values forking.now.context.now.frame.operands)) (state_of store.now)) }
+    ensures { IfOk result
+        (λ answer. answer ≡ answered
+        (fork_row forking.now.worker forking.now.workers forking.now.launch forking.now.body.now
+        forking.now.context.now sized (int_at values forking.now.context.now.frame.operands)
+        (ints_on values forking.now.context.now.frame.operands)) (state_of store.now)) }
 {
     let operands = &forking.context.frame.operands;
     let Some(ints) = ints_on(alloc, values as usize, operands)? else {

@@ -46,7 +46,8 @@ pub struct Loop<'a> {
 
 /// The name that an expression is.
 fn name_in(expression: &Expression) -> Option<&Name>
-    ensures { option_map (λ name. name.now) result ≡ loops.name_in (view_expression expression.now) }
+    ensures { option_map (λ name. name.now) result
+        ≡ loops.name_in (view_expression expression.now) }
 {
     match expression {
         Expression::Name(name) => Some(name),
@@ -111,7 +112,8 @@ fn set_start<'a>(
     target: &'a Expression,
     value: &'a Expression,
 ) -> Option<LoopStart<'a>>
-    ensures { option_map view_start result ≡ loops.set_start operator (view_expression target.now) (view_expression value.now) }
+    ensures { option_map view_start result
+        ≡ loops.set_start operator (view_expression target.now) (view_expression value.now) }
 {
     match operator {
         AssignOperator::Set => {
@@ -147,7 +149,9 @@ fn initialized_start<'a>(
     array: &Option<ArrayLength>,
     initializer: &'a Option<Initializer>,
 ) -> Option<LoopStart<'a>>
-    ensures { option_map view_start result ≡ loops.initialized_start variable.now array.now (option_map view_initializer initializer.now) }
+    ensures { option_map view_start result
+        ≡ loops.initialized_start variable.now array.now
+        (option_map view_initializer initializer.now) }
 {
     match array {
         Some(_) => None,
@@ -164,7 +168,8 @@ fn initialized_start<'a>(
 
 /// What a declaration begins a loop with.
 fn declared_start<'a>(first: &'a Declarator, rest: &[(Span, Declarator)]) -> Option<LoopStart<'a>>
-    ensures { option_map view_start result ≡ loops.declared_start (view_declarator first.now) (map view_further rest.now) }
+    ensures { option_map view_start result
+        ≡ loops.declared_start (view_declarator first.now) (map view_further rest.now) }
 {
     match rest {
         [] => initialized_start(&first.name, &first.array, &first.initializer),
@@ -215,7 +220,8 @@ fn compared<'a>(operator: BinaryOperator, to: &'a Expression) -> Option<Bound<'a
 
 /// The bound that a condition gives a variable.
 fn bound_of<'a>(condition: &'a Expression, name: &[u8]) -> Option<Bound<'a>>
-    ensures { option_map view_bound result ≡ loops.bound_of (view_expression condition.now) name.now }
+    ensures { option_map view_bound result
+        ≡ loops.bound_of (view_expression condition.now) name.now }
 {
     match condition {
         Expression::Binary {
@@ -257,7 +263,8 @@ fn postfix_step(operator: PostfixOperator) -> Step
 
 /// The step by a sum with the variable, `i + c` or `c + i`.
 fn added_step(left: &Expression, right: &Expression, name: &[u8]) -> Option<Step>
-    ensures { result ≡ loops.added_step (view_expression left.now) (view_expression right.now) name.now }
+    ensures { result ≡ loops.added_step (view_expression left.now) (view_expression right.now)
+        name.now }
 {
     if is_named(left, name) {
         stride_in(Direction::Up, right)
@@ -270,7 +277,8 @@ fn added_step(left: &Expression, right: &Expression, name: &[u8]) -> Option<Step
 
 /// The step by `i - c`.
 fn subtracted_step(left: &Expression, right: &Expression, name: &[u8]) -> Option<Step>
-    ensures { result ≡ loops.subtracted_step (view_expression left.now) (view_expression right.now) name.now }
+    ensures { result ≡ loops.subtracted_step (view_expression left.now) (view_expression right.now)
+        name.now }
 {
     if is_named(left, name) {
         stride_in(Direction::Down, right)
@@ -286,7 +294,8 @@ fn sum_step(
     right: &Expression,
     name: &[u8],
 ) -> Option<Step>
-    ensures { result ≡ loops.sum_step operator (view_expression left.now) (view_expression right.now) name.now }
+    ensures { result ≡ loops.sum_step operator (view_expression left.now)
+        (view_expression right.now) name.now }
 {
     match operator {
         BinaryOperator::Add => added_step(left, right, name),

@@ -81,7 +81,9 @@ fn other_operand(
     left: Box<ResolvedExpression>,
     right: Box<ResolvedExpression>,
 ) -> ResolvedExpression
-    ensures { view_resolved_expression result ≡ other_operand side (view_resolved_expression left.value) (view_resolved_expression right.value) }
+    ensures { view_resolved_expression result
+        ≡ other_operand side (view_resolved_expression left.value)
+        (view_resolved_expression right.value) }
 {
     match side {
         Side::Left => Box::into_inner(right),
@@ -91,7 +93,8 @@ fn other_operand(
 
 /// What an assigned value does to a target on that side.
 fn value_operation(side: Side, value: ResolvedExpression) -> Option<Operation>
-    ensures { option_map view_operation result ≡ value_operation side (view_resolved_expression value) }
+    ensures { option_map view_operation result
+        ≡ value_operation side (view_resolved_expression value) }
 {
     match value {
         ResolvedExpression::Binary(left, operator, right) => {
@@ -109,7 +112,9 @@ fn value_operation(side: Side, value: ResolvedExpression) -> Option<Operation>
 
 /// `x op= e` with a target on the left.
 fn compound(operator: UpdateOperator, operand: ResolvedExpression) -> Operation
-    ensures { view_operation result ≡ record { operator = operator; side = Side.Left; operand = view_resolved_expression operand } }
+    ensures { view_operation result
+        ≡ record
+        { operator = operator; side = Side.Left; operand = view_resolved_expression operand } }
 {
     Operation {
         operator,
@@ -120,7 +125,8 @@ fn compound(operator: UpdateOperator, operand: ResolvedExpression) -> Operation
 
 /// What an assignment does to its target, which stands on that side in the value.
 fn assignment(side: Side, operator: AssignOperator, value: ResolvedExpression) -> Option<Operation>
-    ensures { option_map view_operation result ≡ operation side operator (view_resolved_expression value) }
+    ensures { option_map view_operation result
+        ≡ operation side operator (view_resolved_expression value) }
 {
     match operator {
         AssignOperator::Set => value_operation(side, value),
@@ -155,7 +161,8 @@ fn updated(
     index: Option<ResolvedExpression>,
     found: Operation,
 ) -> ResolvedUpdate
-    ensures { view_resolved_update result ≡ updated at variable (option_map view_resolved_expression index) (view_operation found) }
+    ensures { view_resolved_update result
+        ≡ updated at variable (option_map view_resolved_expression index) (view_operation found) }
 {
     ResolvedUpdate {
         at,
@@ -169,7 +176,8 @@ fn updated(
 
 /// The update that an expression is, whose target stands on that side.
 fn expression_update(at: Span, side: Side, expression: ResolvedExpression) -> Option<ResolvedUpdate>
-    ensures { option_map view_resolved_update result ≡ expression_update at side (view_resolved_expression expression) }
+    ensures { option_map view_resolved_update result
+        ≡ expression_update at side (view_resolved_expression expression) }
 {
     match expression {
         ResolvedExpression::Assign(variable, operator, value) => {
@@ -194,7 +202,8 @@ fn expression_update(at: Span, side: Side, expression: ResolvedExpression) -> Op
 /// The update that a statement is, whose target stands on that side of its operator (OpenMP API 5.2,
 /// section 15.8.4); nothing where it is another statement. It takes the expression out of the statement.
 pub fn update_of(side: Side, statement: &mut ResolvedStatement) -> Option<ResolvedUpdate>
-    ensures { option_map view_resolved_update result ≡ update_of side (view_resolved_statement statement.old) }
+    ensures { option_map view_resolved_update result
+        ≡ update_of side (view_resolved_statement statement.old) }
 {
     match statement {
         ResolvedStatement::Expression(at, expression) => {

@@ -182,7 +182,8 @@ impl History {
     pub fn cone(&self, alloc: Global, serial: u64) -> Result<Option<Vec<Taken>>, AllocError>
         requires { (r : Rules) × IsHeld r self.now }
         ensures none { IfOk result (λ o. IsNone o ↔ IsGone serial (history_in self.now)) }
-        ensures members { IfOk result (λ o. IfSome o (λ v. Replies (λ r h. taken_by_roll r h serial) self.now v.items)) }
+        ensures members { IfOk result
+            (λ o. IfSome o (λ v. Replies (λ r h. taken_by_roll r h serial) self.now v.items)) }
     {
         let taken = cone_of(alloc, self.records.as_slice(), serial)?;
         if taken.is_empty() {
@@ -212,8 +213,10 @@ impl History {
         ensures reply { IfOk result (Replies (λ r h. reply_to_roll r h serial) self.old) }
         ensures after { OnOk result (Becomes (λ r h. after_roll r h serial) self.old self.new) }
         ensures takes_cone { OnOk result (TakesItsCone serial self.old self.new) }
-        ensures no_entry { IfOk result (λ x. (x ≡ RollReply.NoEntry) ↔ IsGone serial (history_in self.old)) }
-        ensures unchanged_without_entry { IfOk result (λ x. x ≡ RollReply.NoEntry → Stays self.old self.new) }
+        ensures no_entry { IfOk result
+            (λ x. (x ≡ RollReply.NoEntry) ↔ IsGone serial (history_in self.old)) }
+        ensures unchanged_without_entry { IfOk result
+            (λ x. x ≡ RollReply.NoEntry → Stays self.old self.new) }
         ensures unchanged_on_error { OnErr result (Stays self.old self.new) }
     {
         let taken = cone_of(alloc, self.records.as_slice(), serial)?;

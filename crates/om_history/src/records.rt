@@ -30,8 +30,10 @@ pub struct UndoRecord {
 
 /// The index of a worker's last entry, sought from the end.
 pub(crate) fn last_index(records: &[Kept], worker: u8) -> Option<usize>
-    ensures own { IfSome result (λ i. IfSome (slice_get records.now i) (λ k. k.entry.worker ≡ worker)) }
-    ensures last { IfSome result (λ i. All (λ k. k.entry.worker ≢ worker) (drop (i + 1) records.now)) }
+    ensures own { IfSome result
+        (λ i. IfSome (slice_get records.now i) (λ k. k.entry.worker ≡ worker)) }
+    ensures last { IfSome result
+        (λ i. All (λ k. k.entry.worker ≢ worker) (drop (i + 1) records.now)) }
     ensures within { IfSome result (λ i. i < length records.now) }
     ensures none { IfNone result (All (λ k. k.entry.worker ≢ worker) records.now) }
 {
@@ -45,7 +47,8 @@ pub(crate) fn last_index(records: &[Kept], worker: u8) -> Option<usize>
 
 /// The reply that names a record where it conflicts with another one, else the other reply.
 fn refusal(undone: &Kept, made: &Kept, otherwise: UndoReply) -> UndoReply
-    ensures { result ≡ conflict_or made.now.entry (conflict_of undone.now.footprint made.now.footprint) otherwise }
+    ensures { result ≡ conflict_or made.now.entry
+        (conflict_of undone.now.footprint made.now.footprint) otherwise }
 {
     match conflict(undone.footprint(), made.footprint()) {
         Some(object) => UndoReply::Conflict {
@@ -101,8 +104,12 @@ pub(crate) fn append(
     planned: UndoRecord,
 ) -> Result<(), AllocError>
     requires { FitsAll planned.footprint planned.back (state_of store.old) }
-    ensures state { OnOk result (state_of store.new ≡ updated planned.footprint planned.back (state_of store.old)) }
-    ensures records { OnOk result (records.new.items ≡ records.old.items ++ record planned { back = undo_record planned.footprint planned.back (state_of store.old) } ∷ []) }
+    ensures state { OnOk result
+        (state_of store.new ≡ updated planned.footprint planned.back (state_of store.old)) }
+    ensures records { OnOk result
+        (records.new.items ≡ records.old.items
+        ++ record planned { back = undo_record planned.footprint planned.back (state_of store.old) }
+        ∷ []) }
     ensures room { OnOk result (All (λ a. is_kept store.new a.object ≡ true) planned.footprint) }
     ensures others_kept { (q : Obj) → is_kept store.old q ≡ true → is_kept store.new q ≡ true }
     ensures same_state_on_error { OnErr result (state_of store.new ≡ state_of store.old) }
@@ -135,8 +142,10 @@ pub(crate) fn append(
 pub(crate) fn take_out(store: &mut Store, records: &mut Vec<Kept>, at: usize)
     requires within { at < length records.old.items }
     requires rooms { All (λ k. HasRoom store.old k) records.old.items }
-    requires fits { IfSome (slice_get records.old.items at) (λ k. FitsBack k.footprint k.back (state_of store.old)) }
-    ensures state { IfSome (slice_get records.old.items at) (λ k. state_of store.new ≡ taken_back k.footprint k.back (state_of store.old)) }
+    requires fits { IfSome (slice_get records.old.items at)
+        (λ k. FitsBack k.footprint k.back (state_of store.old)) }
+    ensures state { IfSome (slice_get records.old.items at)
+        (λ k. state_of store.new ≡ taken_back k.footprint k.back (state_of store.old)) }
     ensures records { records.new.items ≡ remove records.old.items at }
     ensures kept { (q : Obj) → is_kept store.new q ≡ is_kept store.old q }
 {
@@ -147,7 +156,8 @@ pub(crate) fn take_out(store: &mut Store, records: &mut Vec<Kept>, at: usize)
 
 /// Whether a record conflicts with one of these.
 fn meets(members: &[&Kept], made: &Kept) -> bool
-    ensures { result ≡ meets_one (map (λ k. transition_of k.now) members.now) (transition_of made.now) }
+    ensures { result ≡ meets_one (map (λ k. transition_of k.now) members.now)
+        (transition_of made.now) }
 {
     for member in members {
         if member.meets(made) {
@@ -160,14 +170,16 @@ fn meets(members: &[&Kept], made: &Kept) -> bool
 /// Whether a record is of the cone of the entry with a serial, where these are the members before
 /// it.
 fn is_member(members: &[&Kept], made: &Kept, serial: u64) -> bool
-    ensures { result ≡ is_member_of serial (map (λ k. transition_of k.now) members.now) (transition_of made.now) }
+    ensures { result ≡ is_member_of serial (map (λ k. transition_of k.now) members.now)
+        (transition_of made.now) }
 {
     made.serial() == serial || meets(members, made)
 }
 
 /// The members of the cone of the entry with a serial, in their order; none where no entry has it.
 fn members<'a>(alloc: Global, records: &'a [Kept], serial: u64) -> Result<Vec<&'a Kept>, AllocError>
-    ensures { IfOk result (λ v. map (λ k. transition_of k.now) v.items ≡ cone serial (transitions_of records.now)) }
+    ensures { IfOk result
+        (λ v. map (λ k. transition_of k.now) v.items ≡ cone serial (transitions_of records.now)) }
 {
     let mut members = Vec::new(alloc);
     for candidate in records {
@@ -180,7 +192,8 @@ fn members<'a>(alloc: Global, records: &'a [Kept], serial: u64) -> Result<Vec<&'
 
 /// What names the entries of records, the last one first.
 fn names(alloc: Global, members: &[&Kept]) -> Result<Vec<Taken>, AllocError>
-    ensures { IfOk result (λ v. v.items ≡ map (λ k. taken_of (transition_of k.now)) (reverse members.now)) }
+    ensures { IfOk result
+        (λ v. v.items ≡ map (λ k. taken_of (transition_of k.now)) (reverse members.now)) }
 {
     members
         .iter()
@@ -200,7 +213,8 @@ pub(crate) fn cone_of(
     records: &[Kept],
     serial: u64,
 ) -> Result<Vec<Taken>, AllocError>
-    ensures { IfOk result (λ v. v.items ≡ map taken_of (reverse (cone serial (transitions_of records.now)))) }
+    ensures { IfOk result
+        (λ v. v.items ≡ map taken_of (reverse (cone serial (transitions_of records.now)))) }
 {
     let members = members(alloc, records, serial)?;
     names(alloc, members.as_slice())

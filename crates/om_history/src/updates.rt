@@ -14,8 +14,11 @@ use std::mem;
 /// Makes an update at a `Write`, and answers the one that takes it back.
 fn make_write(store: &mut Store, object: &Obj, update: Update) -> Result<Update, AllocError>
     requires { is_kept store.old object.now ≡ true }
-    ensures undo { IfOk result (λ undo. undo ≡ undo_of Mode.Write update (state_of store.old object.now)) }
-    ensures state { OnOk result (state_of store.new ≡ state_after (record { object = object.now; mode = Mode.Write }) update (state_of store.old)) }
+    ensures undo { IfOk result
+        (λ undo. undo ≡ undo_of Mode.Write update (state_of store.old object.now)) }
+    ensures state { OnOk result
+        (state_of store.new ≡ state_after (record { object = object.now; mode = Mode.Write }) update
+        (state_of store.old)) }
     ensures unchanged_on_error { OnErr result (state_of store.new ≡ state_of store.old) }
     ensures kept { (q : Obj) → is_kept store.new q ≡ is_kept store.old q }
 {
@@ -36,8 +39,10 @@ fn make_write(store: &mut Store, object: &Obj, update: Update) -> Result<Update,
 fn make(store: &mut Store, access: &Access, update: Update) -> Result<Update, AllocError>
     requires kept { is_kept store.old access.now.object ≡ true }
     requires fits { FitsAt access.now.mode update (state_of store.old access.now.object) }
-    ensures undo { IfOk result (λ undo. undo ≡ undo_of access.now.mode update (state_of store.old access.now.object)) }
-    ensures state { OnOk result (state_of store.new ≡ state_after access.now update (state_of store.old)) }
+    ensures undo { IfOk result
+        (λ undo. undo ≡ undo_of access.now.mode update (state_of store.old access.now.object)) }
+    ensures state { OnOk result
+        (state_of store.new ≡ state_after access.now update (state_of store.old)) }
     ensures unchanged_on_error { OnErr result (state_of store.new ≡ state_of store.old) }
     ensures kept { (q : Obj) → is_kept store.new q ≡ is_kept store.old q }
 {
@@ -53,7 +58,9 @@ fn make_addition(store: &mut Store, object: &Obj, update: Update) -> Update
     requires kept { is_kept store.old object.now ≡ true }
     requires fits { FitsAt Mode.Add update (state_of store.old object.now) }
     ensures same { result ≡ update }
-    ensures state { state_of store.new ≡ state_after (record { object = object.now; mode = Mode.Add }) update (state_of store.old) }
+    ensures state { state_of store.new
+        ≡ state_after (record { object = object.now; mode = Mode.Add }) update
+        (state_of store.old) }
     ensures kept { (q : Obj) → is_kept store.new q ≡ is_kept store.old q }
 {
     match update {
@@ -69,7 +76,9 @@ fn make_addition(store: &mut Store, object: &Obj, update: Update) -> Update
 fn take_addition_back(store: &mut Store, object: &Obj, update: Update)
     requires kept { is_kept store.old object.now ≡ true }
     requires fits { FitsAtBack Mode.Add update (state_of store.old object.now) }
-    ensures state { state_of store.new ≡ state_before (record { object = object.now; mode = Mode.Add }) update (state_of store.old) }
+    ensures state { state_of store.new
+        ≡ state_before (record { object = object.now; mode = Mode.Add }) update
+        (state_of store.old) }
     ensures kept { (q : Obj) → is_kept store.new q ≡ is_kept store.old q }
 {
     match update {
@@ -81,7 +90,9 @@ fn take_addition_back(store: &mut Store, object: &Obj, update: Update)
 /// Takes an update at a `Write` back, by what takes it back.
 fn take_write_back(store: &mut Store, object: &Obj, update: Update)
     requires { is_kept store.old object.now ≡ true }
-    ensures state { state_of store.new ≡ state_before (record { object = object.now; mode = Mode.Write }) update (state_of store.old) }
+    ensures state { state_of store.new
+        ≡ state_before (record { object = object.now; mode = Mode.Write }) update
+        (state_of store.old) }
     ensures kept { (q : Obj) → is_kept store.new q ≡ is_kept store.old q }
 {
     match update {
@@ -110,8 +121,10 @@ fn take_back(store: &mut Store, access: &Access, update: Update)
 fn exchange(store: &mut Store, access: &Access, update: &mut Update) -> Result<(), AllocError>
     requires kept { is_kept store.old access.now.object ≡ true }
     requires fits { FitsAt access.now.mode update.old (state_of store.old access.now.object) }
-    ensures undo { OnOk result (update.new ≡ undo_of access.now.mode update.old (state_of store.old access.now.object)) }
-    ensures state { OnOk result (state_of store.new ≡ state_after access.now update.old (state_of store.old)) }
+    ensures undo { OnOk result
+        (update.new ≡ undo_of access.now.mode update.old (state_of store.old access.now.object)) }
+    ensures state { OnOk result
+        (state_of store.new ≡ state_after access.now update.old (state_of store.old)) }
     ensures unchanged_on_error { OnErr result (state_of store.new ≡ state_of store.old) }
     ensures kept { (q : Obj) → is_kept store.new q ≡ is_kept store.old q }
 {
@@ -147,8 +160,10 @@ pub(crate) fn make_all(
 ) -> Result<(), AllocError>
     requires kept { All (λ a. is_kept store.old a.object ≡ true) footprint.now }
     requires fits { FitsAll footprint.now updates.old.items (state_of store.old) }
-    ensures state { OnOk result (state_of store.new ≡ updated footprint.now updates.old.items (state_of store.old)) }
-    ensures undo { OnOk result (updates.new.items ≡ undo_record footprint.now updates.old.items (state_of store.old)) }
+    ensures state { OnOk result
+        (state_of store.new ≡ updated footprint.now updates.old.items (state_of store.old)) }
+    ensures undo { OnOk result
+        (updates.new.items ≡ undo_record footprint.now updates.old.items (state_of store.old)) }
     ensures unchanged_on_error { OnErr result (state_of store.new ≡ state_of store.old) }
     ensures kept { (q : Obj) → is_kept store.new q ≡ is_kept store.old q }
 {
@@ -171,8 +186,11 @@ fn take_back_first(store: &mut Store, footprint: &[Access], updates: &mut Vec<Up
     requires accesses { count ≤ length footprint.now }
     requires updates { count ≤ length updates.old.items }
     requires kept { All (λ a. is_kept store.old a.object ≡ true) footprint.now }
-    requires fits { FitsBack (take count footprint.now) (take count updates.old.items) (state_of store.old) }
-    ensures state { state_of store.new ≡ taken_back (take count footprint.now) (take count updates.old.items) (state_of store.old) }
+    requires fits { FitsBack (take count footprint.now) (take count updates.old.items)
+        (state_of store.old) }
+    ensures state { state_of store.new
+        ≡ taken_back (take count footprint.now) (take count updates.old.items)
+        (state_of store.old) }
     ensures kept { (q : Obj) → is_kept store.new q ≡ is_kept store.old q }
 {
     for i in (0..count).rev() {
@@ -185,7 +203,8 @@ fn take_back_first(store: &mut Store, footprint: &[Access], updates: &mut Vec<Up
 pub(crate) fn take_back_all(store: &mut Store, footprint: &[Access], updates: &mut Vec<Update>)
     requires kept { All (λ a. is_kept store.old a.object ≡ true) footprint.now }
     requires fits { FitsBack footprint.now updates.old.items (state_of store.old) }
-    ensures state { state_of store.new ≡ taken_back footprint.now updates.old.items (state_of store.old) }
+    ensures state { state_of store.new
+        ≡ taken_back footprint.now updates.old.items (state_of store.old) }
     ensures kept { (q : Obj) → is_kept store.new q ≡ is_kept store.old q }
 {
     let count = footprint.len().min(updates.len());

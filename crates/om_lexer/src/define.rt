@@ -50,7 +50,9 @@ pub(crate) fn define_at(
     requires inside { end ≤ length source.now }
     requires begins { (word : ℕ) × IsHashWord source.now at word end (codes "define") }
     ensures line { IfOk result (λ read. IsHashLine source.now macros.now at read.1 read.0) }
-    ensures fault { IfErr result (λ fault. (fault ≡ no_memory) ⊎ ((fault.at ≡ at) × IsWrongHashLine source.now macros.now at fault.code)) }
+    ensures fault { IfErr result
+        (λ fault. (fault ≡ no_memory)
+        ⊎ ((fault.at ≡ at) × IsWrongHashLine source.now macros.now at fault.code)) }
 {
     let Some(found) = definition_at(source, end) else {
         return Err(bad_hash_line(at));
@@ -73,11 +75,16 @@ pub(crate) fn define_at(
 /// The name and the number behind the word of a define, with nothing but white space behind them on the line.
 fn definition_at(source: &[u8], from: usize) -> Option<Definition>
     requires { from ≤ length source.now }
-    ensures found { IfSome result (λ d. IsDefinition source.now from d.number (slice_range source.now d.name d.name_end) (value_in 10 (slice_range source.now d.number d.number_end))) }
+    ensures found { IfSome result
+        (λ d. IsDefinition source.now from d.number (slice_range source.now d.name d.name_end)
+        (value_in 10 (slice_range source.now d.number d.number_end))) }
     ensures name { IfSome result (λ d. (d.name ≤ d.name_end) × (d.name_end ≤ length source.now)) }
-    ensures number { IfSome result (λ d. (d.number ≤ d.number_end) × (d.number_end ≤ length source.now)) }
-    ensures digits { IfSome result (λ d. All (λ b. digit_value b < 10) (slice_range source.now d.number d.number_end)) }
-    ensures none { IfNone result ((to : ℕ) (name : List ℕ) (value : ℕ) → IsDefinition source.now from to name value → ⊥) }
+    ensures number { IfSome result
+        (λ d. (d.number ≤ d.number_end) × (d.number_end ≤ length source.now)) }
+    ensures digits { IfSome result
+        (λ d. All (λ b. digit_value b < 10) (slice_range source.now d.number d.number_end)) }
+    ensures none { IfNone result
+        ((to : ℕ) (name : List ℕ) (value : ℕ) → IsDefinition source.now from to name value → ⊥) }
 {
     let name = gap_end(source, from);
     let name_end = word_end(source, name);
@@ -103,7 +110,8 @@ fn definition_at(source: &[u8], from: usize) -> Option<Definition>
 /// Whether these words are a name and a number, and nothing but white space follows the number on its line.
 fn is_definition(source: &[u8], name: &[u8], number: &[u8], number_end: usize) -> bool
     requires { number_end ≤ length source.now }
-    ensures { IsTrue result ↔ (IsMacroName name.now × IsDecimal number.now × EndsLine source.now number_end) }
+    ensures { IsTrue result ↔
+        (IsMacroName name.now × IsDecimal number.now × EndsLine source.now number_end) }
 {
     is_macro_name(name) && is_decimal(number) && ends_line(source, number_end)
 }

@@ -26,7 +26,9 @@ pub(crate) fn hash_line_at(
     requires inside { at < length source.now }
     requires below { at < source_limit }
     ensures line { IfOk result (λ read. IsHashLine source.now macros.now at read.1 read.0) }
-    ensures fault { IfErr result (λ fault. (fault ≡ no_memory) ⊎ ((fault.at ≡ at) × IsWrongHashLine source.now macros.now at fault.code)) }
+    ensures fault { IfErr result
+        (λ fault. (fault ≡ no_memory)
+        ⊎ ((fault.at ≡ at) × IsWrongHashLine source.now macros.now at fault.code)) }
 {
     let word = gap_end(source, at + 1);
     let end = word_end(source, word);
@@ -48,8 +50,12 @@ fn include_at(source: &[u8], at: usize, end: usize) -> Result<(HashLine, usize),
     requires below { at < source_limit }
     requires inside { end ≤ length source.now }
     requires begins { (word : ℕ) × IsHashWord source.now at word end (codes "include") }
-    ensures line { (macros : MacroList) → IfOk result (λ read. IsHashLine source.now macros at read.1 read.0) }
-    ensures fault { (macros : MacroList) → IfErr result (λ fault. (fault ≡ no_memory) ⊎ ((fault.at ≡ at) × IsWrongHashLine source.now macros at fault.code)) }
+    ensures line { (macros : MacroList) →
+        IfOk result (λ read. IsHashLine source.now macros at read.1 read.0) }
+    ensures fault { (macros : MacroList) →
+        IfErr result
+        (λ fault. (fault ≡ no_memory)
+        ⊎ ((fault.at ≡ at) × IsWrongHashLine source.now macros at fault.code)) }
 {
     let header = gap_end(source, end);
     match include_end(source, header) {
@@ -62,7 +68,8 @@ fn include_at(source: &[u8], at: usize, end: usize) -> Result<(HashLine, usize),
 fn include_end(source: &[u8], from: usize) -> Option<usize>
     requires { from ≤ length source.now }
     ensures found { IfSome result (λ to. IsHeader source.now from to × EndsLine source.now to) }
-    ensures none { IfNone result ((to : ℕ) → IsHeader source.now from to → EndsLine source.now to → ⊥) }
+    ensures none { IfNone result
+        ((to : ℕ) → IsHeader source.now from to → EndsLine source.now to → ⊥) }
 {
     match header_end(source, from) {
         Some(to) => {
@@ -103,7 +110,8 @@ fn has_text(source: &[u8], from: usize, text: &[u8]) -> bool
 /// A pragma, whose word stands from `word` up to `end`: `omp` behind it makes it a directive.
 fn pragma_at(source: &[u8], word: usize, end: usize) -> (HashLine, usize)
     requires { end ≤ length source.now }
-    ensures { (macros : MacroList) (at : ℕ) → IsHashWord source.now at word end (codes "pragma") → IsHashLine source.now macros at result.1 result.0 }
+    ensures { (macros : MacroList) (at : ℕ) → IsHashWord source.now at word end (codes "pragma") →
+        IsHashLine source.now macros at result.1 result.0 }
 {
     let omp = gap_end(source, end);
     let omp_end = word_end(source, omp);

@@ -9,7 +9,8 @@ ghost use Rattle.om_lexer.specs.Sources.{IsTokens, IsFault};
 
 /// A source has one list of tokens or one fault, and not both.
 pub fn one_reading()
-    ensures one_token_list { (source : List ℕ) (ts us : List Token) → IsTokens source ts → IsTokens source us → ts ≡ us }
+    ensures one_token_list { (source : List ℕ) (ts us : List Token) → IsTokens source ts →
+        IsTokens source us → ts ≡ us }
     ensures tokens_or_fault { (source : List ℕ) (ts : List Token) (code : FaultCode) (at : ℕ) →
         IsTokens source ts → IsFault source code at → ⊥ }
     ensures one_fault { (source : List ℕ) (c d : FaultCode) (a b : ℕ) →
@@ -19,7 +20,8 @@ pub fn one_reading()
 /// The tokens of a source stand in its order, each where its text is. Directives are whole, and
 /// the end of the source is the last token.
 pub fn tokens_in_order()
-    ensures in_order { (source : List ℕ) (ts : List Token) → IsTokens source ts → AreInOrder source 0 ts }
+    ensures in_order { (source : List ℕ) (ts : List Token) → IsTokens source ts →
+        AreInOrder source 0 ts }
     ensures whole { (source : List ℕ) (ts : List Token) → IsTokens source ts → AreWhole false ts }
     ensures ends_last { (source : List ℕ) (front : List Token) (t : Token) (back : List Token) →
         IsTokens source (front ++ t ∷ back) → t.kind ≡ End → back ≡ [] }
@@ -31,5 +33,6 @@ pub fn tokens_apart()
     ensures apart { (source : List ℕ) (ts : List Token) (t u : Token) →
         IsTokens source ts → StandsBefore ts t u → t.span.end ≤ u.span.start }
     ensures starts_rise { (source : List ℕ) (ts : List Token) (t u : Token) →
-        IsTokens source ts → StandsBefore ts t u → t.kind ≢ DirectiveEnd → t.span.start < u.span.start }
+        IsTokens source ts → StandsBefore ts t u → t.kind ≢ DirectiveEnd →
+        t.span.start < u.span.start }
 {}

@@ -25,7 +25,8 @@ pub(crate) fn token_at(
     requires below { at < source_limit }
     requires no_comment { BeginsComment source.now at → ⊥ }
     ensures token { IfOk result (λ read. IsToken source.now at read.1 read.0) }
-    ensures fault { IfErr result (λ fault. (fault ≡ no_memory) ⊎ ((fault.at ≡ at) × IsNoToken source.now at fault.code)) }
+    ensures fault { IfErr result
+        (λ fault. (fault ≡ no_memory) ⊎ ((fault.at ≡ at) × IsNoToken source.now at fault.code)) }
 {
     if is_word_byte(source[at]) {
         return word_at(alloc, source, at);
@@ -42,7 +43,8 @@ fn word_at(alloc: Global, source: &[u8], at: usize) -> Result<(TokenKind, usize)
     requires below { at < source_limit }
     requires word { is_word_byte (slice_index source.now at) ≡ true }
     ensures token { IfOk result (λ read. IsToken source.now at read.1 read.0) }
-    ensures fault { IfErr result (λ fault. (fault ≡ no_memory) ⊎ ((fault.at ≡ at) × IsNoToken source.now at fault.code)) }
+    ensures fault { IfErr result
+        (λ fault. (fault ≡ no_memory) ⊎ ((fault.at ≡ at) × IsNoToken source.now at fault.code)) }
 {
     let end = word_end(source, at);
     let kind = word_kind(alloc, &source[at..end], at as u32)?;
@@ -57,7 +59,8 @@ fn punctuator_at(source: &[u8], at: usize) -> Result<(TokenKind, usize), SourceF
     requires no_quote { slice_index source.now at ≡ 34 → ⊥ }
     requires no_comment { BeginsComment source.now at → ⊥ }
     ensures token { IfOk result (λ read. IsToken source.now at read.1 read.0) }
-    ensures fault { IfErr result (λ fault. (fault ≡ no_memory) ⊎ ((fault.at ≡ at) × IsNoToken source.now at fault.code)) }
+    ensures fault { IfErr result
+        (λ fault. (fault ≡ no_memory) ⊎ ((fault.at ≡ at) × IsNoToken source.now at fault.code)) }
 {
     match longest_punctuator(&source[at..]) {
         Some(punctuator) => Ok((

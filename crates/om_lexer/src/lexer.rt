@@ -84,7 +84,9 @@ fn take_source(
 
 /// Adds the end of the source at its place, and before it that of the directive whose line ends here, if one does.
 fn add_end(tokens: &mut Vec<Token>, state: &LineState, span: Span) -> Result<(), AllocError>
-    ensures { OnOk result (tokens.new.items ≡ (tokens.old.items ++ directive_end state.now) ++ record { kind = TokenKind.End; span = span } ∷ []) }
+    ensures { OnOk result
+        (tokens.new.items ≡ (tokens.old.items ++ directive_end state.now)
+        ++ record { kind = TokenKind.End; span = span } ∷ []) }
 {
     end_directive(tokens, state)?;
     add(
@@ -120,9 +122,12 @@ fn take_piece(
     requires inside { span.end ≤ length source.now }
     requires fits { span.end < 2 ^ 31 }
     requires words { HasWordsInside kind span.start span.end }
-    ensures tokens { OnOk result (tokens.new.items ≡ tokens.old.items ++ tokens_in source.now (context_of state macros.old) span.start span.end kind) }
+    ensures tokens { OnOk result
+        (tokens.new.items ≡ tokens.old.items
+        ++ tokens_in source.now (context_of state macros.old) span.start span.end kind) }
     ensures macros { OnOk result (macros.new ≡ macros_behind kind state macros.old) }
-    ensures state { IfOk result (λ behind. behind ≡ state_behind kind state (span_of source.now span.end span.end)) }
+    ensures state { IfOk result
+        (λ behind. behind ≡ state_behind kind state (span_of source.now span.end span.end)) }
 {
     let behind = Span {
         start: span.end,
@@ -184,8 +189,11 @@ fn take_token(
     token: Token,
     behind: Span,
 ) -> Result<LineState, AllocError>
-    ensures tokens { OnOk result (tokens.new.items ≡ tokens.old.items ++ token_in state.now macros.old token.span token.kind) }
-    ensures macros { OnOk result (macros.new ≡ macros_behind_token state.now macros.old token.kind) }
+    ensures tokens { OnOk result
+        (tokens.new.items ≡ tokens.old.items
+        ++ token_in state.now macros.old token.span token.kind) }
+    ensures macros { OnOk result
+        (macros.new ≡ macros_behind_token state.now macros.old token.kind) }
     ensures state { IfOk result (λ next. next ≡ state_behind_token state.now behind) }
 {
     match state {
@@ -206,7 +214,9 @@ fn take_token(
 
 /// Adds a token, replaced where it is a macro.
 fn add_token(tokens: &mut Vec<Token>, macros: &Macros, token: Token) -> Result<(), AllocError>
-    ensures { OnOk result (tokens.new.items ≡ tokens.old.items ++ record { kind = replaced macros.now token.kind; span = token.span } ∷ []) }
+    ensures { OnOk result
+        (tokens.new.items ≡ tokens.old.items
+        ++ record { kind = replaced macros.now token.kind; span = token.span } ∷ []) }
 {
     let kind = macros.replaced(token.kind);
     add(
@@ -246,7 +256,8 @@ fn take_hash_line(
     requires inside { span.end ≤ length source.now }
     requires fits { span.end < 2 ^ 31 }
     requires words { HasWords line span.start span.end }
-    ensures tokens { OnOk result (tokens.new.items ≡ tokens.old.items ++ tokens_of_line source.now span.start line) }
+    ensures tokens { OnOk result
+        (tokens.new.items ≡ tokens.old.items ++ tokens_of_line source.now span.start line) }
     ensures state { IfOk result (λ next. next ≡ state_of_line line behind) }
 {
     match line {
@@ -275,7 +286,8 @@ fn begin_directive(
     requires hash { span.start < pragma }
     requires pragma { pragma + 6 ≤ omp }
     requires omp { omp + 3 ≤ span.end }
-    ensures { OnOk result (tokens.new.items ≡ tokens.old.items ++ directive_begin source.now span.start pragma omp) }
+    ensures { OnOk result
+        (tokens.new.items ≡ tokens.old.items ++ directive_begin source.now span.start pragma omp) }
 {
     let hash = Span {
         start: span.start,
@@ -323,7 +335,9 @@ fn add_word(
     text: &[u8],
     span: Span,
 ) -> Result<(), AllocError>
-    ensures { OnOk result (tokens.new.items ≡ tokens.old.items ++ record { kind = TokenKind.Name text.now; span = span } ∷ []) }
+    ensures { OnOk result
+        (tokens.new.items ≡ tokens.old.items
+        ++ record { kind = TokenKind.Name text.now; span = span } ∷ []) }
 {
     let kind = TokenKind::Name(Seq::of(Vec::from_slice(alloc, text)?));
     add(tokens, Token { kind, span })

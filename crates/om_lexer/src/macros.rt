@@ -33,7 +33,9 @@ fn put(
     name: &[u8],
     number: u32,
 ) -> Result<(), AllocError>
-    ensures { OnOk result (macros_of numbers.new.entries ≡ with_macro (macros_of numbers.old.entries) name.now number) }
+    ensures { OnOk result
+        (macros_of numbers.new.entries
+        ≡ with_macro (macros_of numbers.old.entries) name.now number) }
 {
     if numbers.contains_key(name) {
         return Ok(());

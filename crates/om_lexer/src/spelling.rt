@@ -108,8 +108,10 @@ pub(crate) fn keyword_spelled(text: &[u8]) -> Option<Keyword>
 pub(crate) fn longest_punctuator(bytes: &[u8]) -> Option<Punctuator>
     ensures begins { IfSome result (λ p. starts_with nat_eq bytes.now (punctuator_text p) ≡ true) }
     ensures longest { IfSome result (λ p. (q : Punctuator) →
-        starts_with nat_eq bytes.now (punctuator_text q) ≡ true → length (punctuator_text q) ≤ length (punctuator_text p)) }
-    ensures none { IfNone result ((q : Punctuator) → starts_with nat_eq bytes.now (punctuator_text q) ≡ false) }
+        starts_with nat_eq bytes.now (punctuator_text q) ≡ true →
+        length (punctuator_text q) ≤ length (punctuator_text p)) }
+    ensures none { IfNone result
+        ((q : Punctuator) → starts_with nat_eq bytes.now (punctuator_text q) ≡ false) }
 {
     for punctuator in PUNCTUATORS {
         if bytes.starts_with(punctuator_text(punctuator)) {

@@ -43,7 +43,8 @@ fn character_at(source: &[u8], from: usize) -> Option<(u8, usize)>
     ensures found { IfSome result (λ read. IsCharacter source.now from read.0 read.1) }
     ensures moves { IfSome result (λ read. from < read.1) }
     ensures inside { IfSome result (λ read. read.1 ≤ length source.now) }
-    ensures none { IfNone result ((character to : ℕ) → IsCharacter source.now from character to → ⊥) }
+    ensures none { IfNone result
+        ((character to : ℕ) → IsCharacter source.now from character to → ⊥) }
 {
     if from >= source.len() {
         return None;
@@ -69,7 +70,8 @@ pub(crate) fn text_at(
     requires below { at < source_limit }
     requires quote { slice_index source.now at ≡ 34 }
     ensures token { IfOk result (λ read. IsToken source.now at read.1 read.0) }
-    ensures fault { IfErr result (λ fault. (fault ≡ no_memory) ⊎ ((fault.at ≡ at) × IsNoToken source.now at fault.code)) }
+    ensures fault { IfErr result
+        (λ fault. (fault ≡ no_memory) ⊎ ((fault.at ≡ at) × IsNoToken source.now at fault.code)) }
 {
     let mut characters = Vec::new(alloc);
     let mut next = at + 1;

@@ -33,7 +33,8 @@ pub(crate) fn word_end(source: &[u8], from: usize) -> usize
 pub(crate) fn word_kind(alloc: Global, text: &[u8], at: u32) -> Result<TokenKind, SourceFault>
     requires { IsWord text.now }
     ensures kind { IfOk result (Spells text.now) }
-    ensures fault { IfErr result (λ fault. (fault ≡ no_memory) ⊎ ((fault.at ≡ at) × IsWrongText text.now fault.code)) }
+    ensures fault { IfErr result
+        (λ fault. (fault ≡ no_memory) ⊎ ((fault.at ≡ at) × IsWrongText text.now fault.code)) }
 {
     if text[0].is_ascii_digit() {
         return match constant(text) {

@@ -164,7 +164,8 @@ fn body_on(
 ) -> Result<Option<LoweredBody>, AllocError>
     requires tables { IsTablesOf (view_resolved whole.now.resolved.now) whole.now.tables.now }
     requires code { BodyHasCode (site_of site.now).function (site_of site.now).tree }
-    requires slots { FitsFrame (variables_of (site_of site.now)) (slots_of (site_of site.now)) (Some slots) }
+    requires slots { FitsFrame (variables_of (site_of site.now)) (slots_of (site_of site.now))
+        (Some slots) }
     requires variables { variables.now ≡ variables_of (site_of site.now) }
     ensures { let tree = view_resolved whole.now.resolved.now in
         IfOk result (λ made. FitsBody tree (site_of site.now) made) }

@@ -78,7 +78,9 @@ fn add_functions(lowered: &mut Lowered, whole: &Whole<'_>) -> Result<(), AllocEr
     requires functions { lowered.old.functions ≡ [] }
     requires lists { lowered.old.lists ≡ [] }
     ensures { let tree = view_resolved whole.now.resolved.now in
-        OnOk result (IsGathered tree lowered.new.lists lowered.new.count lowered.new.functions lowered.new.is_whole) }
+        OnOk result
+        (IsGathered tree lowered.new.lists lowered.new.count lowered.new.functions
+        lowered.new.is_whole) }
 {
     let mut numbers = Numbers::first();
     for function in whole.resolved.functions.as_slice() {
@@ -106,7 +108,8 @@ fn add_function(
         All (λ b. BodyHasCode b.function b.tree) (function_bodies (numbers_of numbers) f) }
     ensures { let tree = view_resolved whole.now.resolved.now in
         let f = view_resolved_function function.now in
-        IfOk result (λ fits. AddsFunction tree (numbers_of numbers) f lowered.old lowered.new fits) }
+        IfOk result
+        (λ fits. AddsFunction tree (numbers_of numbers) f lowered.old lowered.new fits) }
 {
     match lower_function(whole, function, numbers)? {
         None => Ok(false),

@@ -124,7 +124,8 @@ fn placed_functions(whole: &Whole<'_>) -> Result<Placed, AllocError>
 fn within_limits(whole: &Whole<'_>, placed: &Placed) -> Result<(), SourceFault>
     requires lowered { let tree = view_resolved whole.now.resolved.now in
         IsLowered tree placed.now.picks placed.now.functions placed.now.is_whole }
-    ensures low { OnOk result (IsOverAt placed.now.picks placed.now.functions placed.now.is_whole None) }
+    ensures low { OnOk result
+        (IsOverAt placed.now.picks placed.now.functions placed.now.is_whole None) }
     ensures refused { let tree = view_resolved whole.now.resolved.now in
         IfErr result (λ fault. fault ≢ no_memory → IsTooMany tree fault) }
 {
@@ -138,7 +139,8 @@ fn within_limits(whole: &Whole<'_>, placed: &Placed) -> Result<(), SourceFault>
 fn over_at(whole: &Whole<'_>, placed: &Placed) -> Result<Option<usize>, AllocError>
     requires { let tree = view_resolved whole.now.resolved.now in
         IsLowered tree placed.now.picks placed.now.functions placed.now.is_whole }
-    ensures over { IfOk result (λ index. IsOverAt placed.now.picks placed.now.functions placed.now.is_whole index) }
+    ensures over { IfOk result
+        (λ index. IsOverAt placed.now.picks placed.now.functions placed.now.is_whole index) }
     ensures within { let count = length whole.now.resolved.now.functions.items in
         IfOk result (λ index. IfSome index (λ index. index < count)) }
 {

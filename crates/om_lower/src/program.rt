@@ -35,9 +35,11 @@ pub(crate) fn program_of(whole: &Whole<'_>, placed: Placed) -> Result<Program, S
     requires whole { IsWholeTree (view_resolved whole.now.resolved.now) }
     requires has_code { TreeHasCode (view_resolved whole.now.resolved.now) }
     requires copies { TreeCopiesBehind (view_resolved whole.now.resolved.now) }
-    requires lowered { IsLowered (view_resolved whole.now.resolved.now) placed.picks placed.functions true }
+    requires lowered { IsLowered (view_resolved whole.now.resolved.now) placed.picks
+        placed.functions true }
     requires low { All (λ bodies. AreLow placed.picks bodies) placed.functions }
-    ensures code { IfOk result (λ program. IsCodeOf (view_resolved whole.now.resolved.now) program) }
+    ensures code { IfOk result
+        (λ program. IsCodeOf (view_resolved whole.now.resolved.now) program) }
     ensures refused { IfErr result (λ fault. fault ≡ no_memory) }
 {
     code_is_valid();
@@ -49,9 +51,11 @@ pub(crate) fn program_of(whole: &Whole<'_>, placed: Placed) -> Result<Program, S
 fn raw_of(whole: &Whole<'_>, placed: Placed) -> Result<Raw, AllocError>
     requires tables { IsTablesOf (view_resolved whole.now.resolved.now) whole.now.tables.now }
     requires has_code { TreeHasCode (view_resolved whole.now.resolved.now) }
-    requires lowered { IsLowered (view_resolved whole.now.resolved.now) placed.picks placed.functions true }
+    requires lowered { IsLowered (view_resolved whole.now.resolved.now) placed.picks
+        placed.functions true }
     ensures code { IfOk result (λ raw. IsCodeOf (view_resolved whole.now.resolved.now) raw) }
-    ensures bodies { IfOk result (λ raw. raw.bodies ≡ flat_map (λ bodies. bodies) placed.functions) }
+    ensures bodies { IfOk result
+        (λ raw. raw.bodies ≡ flat_map (λ bodies. bodies) placed.functions) }
     ensures picks { IfOk result (λ raw. raw.picks ≡ placed.picks) }
 {
     let alloc = whole.alloc;
@@ -104,7 +108,8 @@ fn texts_of(alloc: Global, formats: &Texts) -> Result<Seq<Seq<Piece>>, AllocErro
 fn text_at(alloc: Global, formats: &Texts, number: usize) -> Result<Seq<Piece>, AllocError>
     requires there { number < length formats.now }
     requires formats { All (λ format. IsSome (pieces_of format)) formats.now }
-    ensures { IfOk result (λ text. IfSome (slice_get formats.now number) (λ format. IsTextOf format text)) }
+    ensures { IfOk result
+        (λ text. IfSome (slice_get formats.now number) (λ format. IsTextOf format text)) }
 {
     let Some(format) = formats.text(number) else {
         unreachable!();
@@ -169,7 +174,8 @@ fn main_body(whole: &Whole<'_>) -> u32
     requires main { let tree = view_resolved whole.now.resolved.now in
         Any (λ function. is_main_function function ≡ true) tree.functions }
     ensures { let tree = view_resolved whole.now.resolved.now in
-        option_map (called_body tree.functions) (position is_main_function tree.functions) ≡ Some result }
+        option_map (called_body tree.functions) (position is_main_function tree.functions)
+        ≡ Some result }
 {
     let main = main_of(whole.resolved);
     let variables = Variables::new(whole.alloc);
@@ -180,7 +186,8 @@ fn main_body(whole: &Whole<'_>) -> u32
 #[tactic(auto, using(crate::proofs::Searches::position_none, crate::proofs::Searches::position_map))]
 /// The index of `main`.
 fn main_of(resolved: &Resolved) -> usize
-    requires { Any (λ function. is_main_function function ≡ true) (view_resolved resolved.now).functions }
+    requires { Any (λ function. is_main_function function ≡ true)
+        (view_resolved resolved.now).functions }
     ensures { position is_main_function (view_resolved resolved.now).functions ≡ Some result }
 {
     match index_of_main(resolved.functions.as_slice()) {

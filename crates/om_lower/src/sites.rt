@@ -69,7 +69,8 @@ fn add_region<'a>(
     numbers: Numbers,
     part: &BodyPart<'a>,
 ) -> Result<Numbers, AllocError>
-    ensures behind { IfOk result (λ inner. numbers_of inner ≡ bodies.next_body (numbers_of numbers)) }
+    ensures behind { IfOk result
+        (λ inner. numbers_of inner ≡ bodies.next_body (numbers_of numbers)) }
     ensures sites { let f = view_resolved_function round.now.function.now in
         OnOk result (map site_of sites.new.items
         ≡ map site_of sites.old.items ++ record {

@@ -33,7 +33,8 @@ pub fn text_of(alloc: Global, format: &[u8]) -> Result<Option<Seq<Piece>>, Alloc
 
 /// Cuts a whole format behind what was cut, if it is one.
 fn cut_format(alloc: Global, cut: &mut Cut, format: &[u8]) -> Result<bool, AllocError>
-    ensures { IfOk result (λ is_whole. cut_behind cut.old format.now ≡ cut_pieces cut.new is_whole) }
+    ensures { IfOk result
+        (λ is_whole. cut_behind cut.old format.now ≡ cut_pieces cut.new is_whole) }
 {
     let mut left = format;
     while let Some((byte, rest)) = left.split_first() {
@@ -55,8 +56,10 @@ fn cut_next<'a>(
     rest: &'a [u8],
 ) -> Result<Option<&'a [u8]>, AllocError>
     ensures same { IfOk result (λ left.
-        cut_behind cut.old (byte ∷ rest.now) ≡ cut_on cut.new (option_map (λ next. next.now) left)) }
-    ensures shorter { IfOk result (λ left. IfSome left (λ next. length next.now ≤ length rest.now)) }
+        cut_behind cut.old (byte ∷ rest.now)
+        ≡ cut_on cut.new (option_map (λ next. next.now) left)) }
+    ensures shorter { IfOk result
+        (λ left. IfSome left (λ next. length next.now ≤ length rest.now)) }
 {
     if byte == b'%' {
         return cut_converted(alloc, cut, rest);
@@ -72,7 +75,8 @@ fn cut_converted<'a>(
     cut: &mut Cut,
     rest: &'a [u8],
 ) -> Result<Option<&'a [u8]>, AllocError>
-    ensures shorter { IfOk result (λ left. IfSome left (λ next. length next.now ≤ length rest.now)) }
+    ensures shorter { IfOk result
+        (λ left. IfSome left (λ next. length next.now ≤ length rest.now)) }
     ensures same { IfOk result (λ left. option_map (behind_cut cut.old) (formats.converted rest.now)
         ≡ cut_on cut.new (option_map (λ next. next.now) left)) }
 {

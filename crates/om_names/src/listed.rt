@@ -86,7 +86,8 @@ impl Listed {
     /// The copies, and what else a construct of this kind says of the variables round it.
     pub fn into_region(self, kind: RegionKind) -> (IndexMap<Vec<u8>, Meaning>, Region)
         ensures copies { scope_of result.0.entries ≡ self.copies }
-        ensures region { result.1 ≡ record { kind = kind; default = self.default; shared = self.shared } }
+        ensures region { result.1 ≡ record
+            { kind = kind; default = self.default; shared = self.shared } }
     {
         let Listed {
             default,

@@ -58,7 +58,8 @@ pub fn list(
     all: Marks,
     names: &Names,
 ) -> Result<(), AllocError>
-    ensures { OnOk result (ChangedFor (with_listing inside all) listings.old listings.new names.now) }
+    ensures { OnOk result
+        (ChangedFor (with_listing inside all) listings.old listings.new names.now) }
 {
     for name in names.as_slice() {
         let text = name.as_slice();

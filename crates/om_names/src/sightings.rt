@@ -29,7 +29,8 @@ pub fn depth_of(sighting: Option<Sighting>) -> usize
 
 /// Forgets the declarations of the innermost scope.
 pub fn forget_scope(sightings: &mut Stacks<Sighting>, mut names: IndexMap<Vec<u8>, Meaning>)
-    ensures { (outer : List Scope) → Shows sightings.old (scope_of names.entries ∷ outer) → Shows sightings.new outer }
+    ensures { (outer : List Scope) → Shows sightings.old (scope_of names.entries ∷ outer) →
+        Shows sightings.new outer }
 {
     while let Some((name, _)) = names.pop() {
         sightings.forget(name.as_slice());

@@ -43,8 +43,12 @@ impl<T: Copy + Drop> Stacks<T> {
 
     /// Notes an item of a name, as its innermost. When out of memory, nothing changes.
     pub fn note(&mut self, alloc: Global, name: &[u8], item: T) -> Result<(), AllocError>
-        ensures noted { OnOk result ((other : List ℕ) → seen_in self.new other ≡ (if bytes_eq other name.now then seen_in self.old other ++ item ∷ [] else seen_in self.old other)) }
-        ensures unchanged_on_error { OnErr result ((other : List ℕ) → seen_in self.new other ≡ seen_in self.old other) }
+        ensures noted { OnOk result
+            ((other : List ℕ) → seen_in self.new other
+            ≡ (if bytes_eq other name.now then seen_in self.old other ++ item
+            ∷ [] else seen_in self.old other)) }
+        ensures unchanged_on_error { OnErr result
+            ((other : List ℕ) → seen_in self.new other ≡ seen_in self.old other) }
     {
         match self.names.get_mut(name) {
             Some(seen) => {
@@ -62,7 +66,10 @@ impl<T: Copy + Drop> Stacks<T> {
 
     /// Forgets the innermost item of a name.
     pub fn forget(&mut self, name: &[u8])
-        ensures { (other : List ℕ) → seen_in self.new other ≡ (if bytes_eq other name.now then without_innermost (seen_in self.old other) else seen_in self.old other) }
+        ensures { (other : List ℕ) →
+            seen_in self.new other
+            ≡ (if bytes_eq other name.now then without_innermost (seen_in self.old other)
+            else seen_in self.old other) }
     {
         if let Some(seen) = self.names.get_mut(name) {
             let _innermost = seen.pop();

@@ -19,7 +19,8 @@ pub fn put(
     meaning: Meaning,
 ) -> Result<(), AllocError>
     requires is_new { is_some (lookup (bytes_eq name.now) (scope_of names.old.entries)) ≡ false }
-    ensures { OnOk result (scope_of names.new.entries ≡ scope_of names.old.entries ++ (name.now, meaning) ∷ []) }
+    ensures { OnOk result
+        (scope_of names.new.entries ≡ scope_of names.old.entries ++ (name.now, meaning) ∷ []) }
 {
     names.insert(Vec::from_slice(alloc, name)?, meaning)?;
     Ok(())

@@ -117,7 +117,8 @@ fn block_item(
     tokens: &[Token],
     room: Room,
 ) -> Result<(Box<Statement>, &[Token]), SourceFault>
-    ensures { ReadsStatement result (block_item_at (parts accepted) (statement_in room) tokens.now) }
+    ensures { ReadsStatement result
+        (block_item_at (parts accepted) (statement_in room) tokens.now) }
 {
     match take_word(tokens, Keyword::Int) {
         Some((int, rest)) => declaration_item(alloc, int, rest),

@@ -27,7 +27,8 @@ pub fn clause_after(
     word: Span,
     tokens: &[Token],
 ) -> Result<(Clause<&[Token]>, &[Token]), Stop>
-    ensures { Gets (λ x. (map_clause tokens_in x.0, x.1.now)) result (clause_after kind word tokens.now) }
+    ensures { Gets (λ x. (map_clause tokens_in x.0, x.1.now)) result
+        (clause_after kind word tokens.now) }
 {
     match kind {
         ClauseKind::NumThreads => value_after(ValueClause::NumThreads, word, tokens),
@@ -90,7 +91,8 @@ fn value_after(
     word: Span,
     tokens: &[Token],
 ) -> Result<(Clause<&[Token]>, &[Token]), Stop>
-    ensures { GetsAlways (λ x. (map_clause tokens_in x.0, x.1.now)) result (value_after kind word tokens.now) }
+    ensures { GetsAlways (λ x. (map_clause tokens_in x.0, x.1.now)) result
+        (value_after kind word tokens.now) }
 {
     let (open_paren, rest) = mark(tokens, Punctuator::OpenParen)?;
     let (expression, close_paren, rest) = closing(rest)?;
@@ -108,7 +110,8 @@ fn value_after(
 /// `(`, `shared` or `none`, and `)`.
 #[tactic(auto, unfolding(crate::specs::Reading::default_after))]
 fn default_after(word: Span, tokens: &[Token]) -> Result<(Clause<&[Token]>, &[Token]), Stop>
-    ensures { GetsAlways (λ x. (map_clause tokens_in x.0, x.1.now)) result (default_after word tokens.now) }
+    ensures { GetsAlways (λ x. (map_clause tokens_in x.0, x.1.now)) result
+        (default_after word tokens.now) }
 {
     let (open_paren, rest) = mark(tokens, Punctuator::OpenParen)?;
     let (sharing, span, rest) = default_word(rest)?;
@@ -125,7 +128,8 @@ fn default_after(word: Span, tokens: &[Token]) -> Result<(Clause<&[Token]>, &[To
 /// `shared` or `none`, its span, and the tokens behind it.
 #[tactic(auto, unfolding(crate::specs::Reading::take_word))]
 fn default_word(tokens: &[Token]) -> Result<(Sharing, Span, &[Token]), Stop>
-    ensures { GetsAlways (λ x. ((x.0, x.1), x.2.now)) result (known tokens.now (take_word sharing_word default_words tokens.now)) }
+    ensures { GetsAlways (λ x. ((x.0, x.1), x.2.now)) result
+        (known tokens.now (take_word sharing_word default_words tokens.now)) }
 {
     let [first, rest @ ..] = tokens else {
         return Err(Stop::Token(u32::MAX));
@@ -144,7 +148,8 @@ fn data_after(
     word: Span,
     tokens: &[Token],
 ) -> Result<(Clause<&[Token]>, &[Token]), Stop>
-    ensures { Gets (λ x. (map_clause tokens_in x.0, x.1.now)) result (data_after kind word tokens.now) }
+    ensures { Gets (λ x. (map_clause tokens_in x.0, x.1.now)) result
+        (data_after kind word tokens.now) }
 {
     let (open_paren, rest) = mark(tokens, Punctuator::OpenParen)?;
     let (list, rest) = list_after(alloc, open_paren, rest)?;
@@ -186,7 +191,9 @@ fn further_names(
     alloc: Global,
     tokens: &[Token],
 ) -> Result<(Seq<(Span, Name)>, Span, &[Token]), Stop>
-    ensures { Gets (λ x. (x.0, x.1, x.2.now)) result (until place (take_kind (kinds.Punctuator CloseParen)) further_at (suc (length tokens.now)) [] tokens.now) }
+    ensures { Gets (λ x. (x.0, x.1, x.2.now)) result
+        (until place (take_kind (kinds.Punctuator CloseParen)) further_at (suc (length tokens.now))
+        [] tokens.now) }
 {
     let mut names = Seq::new(alloc);
     let mut rest = tokens;
@@ -217,7 +224,8 @@ fn reduction_after(
     word: Span,
     tokens: &[Token],
 ) -> Result<(Clause<&[Token]>, &[Token]), Stop>
-    ensures { Gets (λ x. (map_clause tokens_in x.0, x.1.now)) result (reduction_after word tokens.now) }
+    ensures { Gets (λ x. (map_clause tokens_in x.0, x.1.now)) result
+        (reduction_after word tokens.now) }
 {
     let (open_paren, rest) = mark(tokens, Punctuator::OpenParen)?;
     let (operator, sign, rest) = operator(rest)?;
@@ -238,7 +246,8 @@ fn reduction_after(
 /// The operator of a reduction, its span, and the tokens behind it.
 #[tactic(auto, unfolding(crate::specs::Reading::take_word))]
 fn operator(tokens: &[Token]) -> Result<(ReductionOperator, Span, &[Token]), Stop>
-    ensures { GetsAlways (λ x. ((x.0, x.1), x.2.now)) result (known tokens.now (take_word operator_word reduction_operators tokens.now)) }
+    ensures { GetsAlways (λ x. ((x.0, x.1), x.2.now)) result
+        (known tokens.now (take_word operator_word reduction_operators tokens.now)) }
 {
     let [first, rest @ ..] = tokens else {
         return Err(Stop::Token(u32::MAX));
@@ -252,7 +261,8 @@ fn operator(tokens: &[Token]) -> Result<(ReductionOperator, Span, &[Token]), Sto
 /// `(`, a kind, perhaps a chunk, and `)`.
 #[tactic(auto, unfolding(crate::specs::Reading::schedule_after))]
 fn schedule_after(word: Span, tokens: &[Token]) -> Result<(Clause<&[Token]>, &[Token]), Stop>
-    ensures { GetsAlways (λ x. (map_clause tokens_in x.0, x.1.now)) result (schedule_after word tokens.now) }
+    ensures { GetsAlways (λ x. (map_clause tokens_in x.0, x.1.now)) result
+        (schedule_after word tokens.now) }
 {
     let (open_paren, rest) = mark(tokens, Punctuator::OpenParen)?;
     let (kind, span, rest) = schedule_word(rest)?;
@@ -271,7 +281,8 @@ fn schedule_after(word: Span, tokens: &[Token]) -> Result<(Clause<&[Token]>, &[T
 /// The kind of a schedule, its span, and the tokens behind it.
 #[tactic(auto, unfolding(crate::specs::Reading::take_word))]
 fn schedule_word(tokens: &[Token]) -> Result<(ScheduleKind, Span, &[Token]), Stop>
-    ensures { GetsAlways (λ x. ((x.0, x.1), x.2.now)) result (known tokens.now (take_word schedule_word schedule_kinds tokens.now)) }
+    ensures { GetsAlways (λ x. ((x.0, x.1), x.2.now)) result
+        (known tokens.now (take_word schedule_word schedule_kinds tokens.now)) }
 {
     let [first, rest @ ..] = tokens else {
         return Err(Stop::Token(u32::MAX));

@@ -61,7 +61,8 @@ fn in_parentheses(tokens: &[Token]) -> Result<(&[Token], Span, &[Token]), Stop>
 
 /// These tokens, if there are some, and the parenthesis behind them starts before the place.
 fn ends_before(tokens: &[Token], close_paren: Span, place: u32) -> Option<&[Token]>
-    ensures { option_map (λ e. e.now) result ≡ (if nat_le place close_paren.start then None else some_tokens tokens.now) }
+    ensures { option_map (λ e. e.now) result
+        ≡ (if nat_le place close_paren.start then None else some_tokens tokens.now) }
 {
     if place <= close_paren.start {
         return None;

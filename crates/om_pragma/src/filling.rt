@@ -46,8 +46,10 @@ fn filled<E: Drop, F: Drop>(
     items: Vec<ClauseItem<E>>,
     value: Option<F>,
 ) -> Result<Seq<ClauseItem<F>>, AllocError>
-    requires { length (flat_map (λ i. clause_expressions i.clause) items.items) ≤ length (option_to_list value) }
-    ensures { IfOk result (λ made. (f : E → F) → IsValue f value → made ≡ map (map_item f) items.items) }
+    requires { length (flat_map (λ i. clause_expressions i.clause) items.items) ≤ length
+        (option_to_list value) }
+    ensures { IfOk result
+        (λ made. (f : E → F) → IsValue f value → made ≡ map (map_item f) items.items) }
 {
     let mut left = value;
     let mut made = Seq::new(alloc);
@@ -70,7 +72,8 @@ fn filled_item<E: Drop, F: Drop>(
     requires { length (clause_expressions item.clause) ≤ length (option_to_list value) }
     ensures made { (f : E → F) → IsValue f value → result.0 ≡ map_item f item }
     ensures still { (f : E → F) → IsValue f value → IsValue f result.1 }
-    ensures left { length (option_to_list value) ≤ length (clause_expressions item.clause) + length (option_to_list result.1) }
+    ensures left { length (option_to_list value) ≤ length (clause_expressions item.clause)
+        + length (option_to_list result.1) }
 {
     let ClauseItem { comma, clause } = item;
     let (clause, left) = match clause {

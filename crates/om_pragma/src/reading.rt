@@ -40,12 +40,16 @@ pub fn directive(alloc: Global, tokens: &[Token]) -> Result<Directive<&[Token]>,
     ensures found { IfOk result (λ d. IsDirectiveOf tokens.now (with_tokens d)) }
     ensures one_expression_at_most { IfOk result (λ d. length (expressions d) ≤ 1) }
 
-    ensures every_directive_is_found { (d : DirectiveOf (List Tokens)) → IsDirectiveOf tokens.now d → IsFound d result }
+    ensures every_directive_is_found { (d : DirectiveOf (List Tokens)) → IsDirectiveOf tokens.now d
+        → IsFound d result }
     ensures refused { IfErr result (λ fault. (fault ≡ no_memory) ⊎ IsRefusal tokens.now fault) }
     // S3 stands at the first token that no directive has there, where the run ends once.
-    ensures stops_at_the_first { IfErr result (λ fault. fault.code ≡ Syntax → EndsOnce tokens.now → StopsAt tokens.now fault.at) }
+    ensures stops_at_the_first { IfErr result
+        (λ fault. fault.code ≡ Syntax → EndsOnce tokens.now → StopsAt tokens.now fault.at) }
     // So it does where the run has no end, or all of its tokens begin a directive.
-    ensures runs_out { IfErr result (λ fault. fault.code ≡ Syntax → All (λ t. t.kind ≢ DirectiveEnd) tokens.now → StopsAt tokens.now fault.at ⊎ BeginsDirective tokens.now) }
+    ensures runs_out { IfErr result
+        (λ fault. fault.code ≡ Syntax → All (λ t. t.kind ≢ DirectiveEnd) tokens.now →
+        StopsAt tokens.now fault.at ⊎ BeginsDirective tokens.now) }
 {
     read(alloc, tokens)
 }
@@ -243,7 +247,8 @@ fn clauses<'a>(
     name: &DirectiveName,
     tokens: &'a [Token],
 ) -> Result<(Seq<ClauseItem<&'a [Token]>>, Span), SourceFault>
-    ensures { Reads (λ x. (map (map_item tokens_in) x.0, x.1, [])) result (clauses_at name.now tokens.now) }
+    ensures { Reads (λ x. (map (map_item tokens_in) x.0, x.1, [])) result
+        (clauses_at name.now tokens.now) }
 {
     let mut items = Seq::new(alloc);
     let mut rest = tokens;
@@ -265,7 +270,8 @@ fn item<'a>(
     before: &[ClauseItem<&'a [Token]>],
     tokens: &'a [Token],
 ) -> Result<(ClauseItem<&'a [Token]>, &'a [Token]), SourceFault>
-    ensures { Reads (λ x. (map_item tokens_in x.0, x.1.now)) result (item_at name.now (map (map_item tokens_in) before.now) tokens.now) }
+    ensures { Reads (λ x. (map_item tokens_in x.0, x.1.now)) result
+        (item_at name.now (map (map_item tokens_in) before.now) tokens.now) }
 {
     let (comma, rest) = comma(before, tokens);
     let (clause, rest) = clause(alloc, name, before, rest)?;
@@ -294,7 +300,8 @@ fn clause<'a>(
     before: &[ClauseItem<&'a [Token]>],
     tokens: &'a [Token],
 ) -> Result<(Clause<&'a [Token]>, &'a [Token]), SourceFault>
-    ensures { Reads (λ x. (map_clause tokens_in x.0, x.1.now)) result (clause_at name.now (kinds_of (map (map_item tokens_in) before.now)) tokens.now) }
+    ensures { Reads (λ x. (map_clause tokens_in x.0, x.1.now)) result
+        (clause_at name.now (kinds_of (map (map_item tokens_in) before.now)) tokens.now) }
 {
     let [first, rest @ ..] = tokens else {
         return Err(no_word(tokens));

@@ -34,7 +34,8 @@ pub fn take_first(tokens: &[Token]) -> Option<(&Token, &[Token])>
 /// The first token's span, if it is this punctuator, and the tokens behind it.
 #[tactic(auto, unfolding(crate::specs::Reading::take_kind))]
 pub fn take_mark(tokens: &[Token], wanted: Punctuator) -> Option<(Span, &[Token])>
-    ensures { option_map (λ x. (x.0, x.1.now)) result ≡ take_kind (kinds.Punctuator wanted) tokens.now }
+    ensures { option_map (λ x. (x.0, x.1.now)) result
+        ≡ take_kind (kinds.Punctuator wanted) tokens.now }
 {
     match tokens {
         [first, rest @ ..] => {
@@ -51,7 +52,8 @@ pub fn take_mark(tokens: &[Token], wanted: Punctuator) -> Option<(Span, &[Token]
 /// The first token's span, if it is this name, and the tokens behind it.
 #[tactic(auto, unfolding(crate::specs::Reading::take_kind))]
 pub fn take_named<'a>(tokens: &'a [Token], wanted: &[u8]) -> Option<(Span, &'a [Token])>
-    ensures { option_map (λ x. (x.0, x.1.now)) result ≡ take_kind (kinds.Name wanted.now) tokens.now }
+    ensures { option_map (λ x. (x.0, x.1.now)) result
+        ≡ take_kind (kinds.Name wanted.now) tokens.now }
 {
     match tokens {
         [first, rest @ ..] => {
@@ -68,7 +70,8 @@ pub fn take_named<'a>(tokens: &'a [Token], wanted: &[u8]) -> Option<(Span, &'a [
 /// The first token's span, if it is this keyword, and the tokens behind it.
 #[tactic(auto, unfolding(crate::specs::Reading::take_kind))]
 pub fn take_keyword(tokens: &[Token], wanted: Keyword) -> Option<(Span, &[Token])>
-    ensures { option_map (λ x. (x.0, x.1.now)) result ≡ take_kind (kinds.Keyword wanted) tokens.now }
+    ensures { option_map (λ x. (x.0, x.1.now)) result
+        ≡ take_kind (kinds.Keyword wanted) tokens.now }
 {
     match tokens {
         [first, rest @ ..] => {

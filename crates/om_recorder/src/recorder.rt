@@ -100,7 +100,8 @@ impl Recorder {
     ) -> Result<StepReply, AllocError>
         requires in_range { worker < self.old.machine.workers }
         requires room { self.old.records < 200000 }
-        ensures reply { IfOk result (λ reply. reply ≡ step_reply_of self.old.machine (label_of worker choice)) }
+        ensures reply { IfOk result
+            (λ reply. reply ≡ step_reply_of self.old.machine (label_of worker choice)) }
         ensures after { OnOk result (self.new ≡ recorded_step self.old (label_of worker choice)) }
     {
         let reply = self.machine.step(alloc, worker, choice)?;
@@ -123,7 +124,9 @@ impl Recorder {
     /// Takes a step back, with all that depends on it.
     pub fn roll(&mut self, alloc: Global, serial: u64) -> Result<RollReply, AllocError>
         requires room { self.old.records < 200000 }
-        ensures reply { IfOk result (λ reply. reply ≡ reply_to_roll (rules_for self.old.machine) self.old.machine.history serial) }
+        ensures reply { IfOk result
+            (λ reply. reply ≡ reply_to_roll (rules_for self.old.machine) self.old.machine.history
+            serial) }
         ensures after { OnOk result (self.new ≡ recorded_roll self.old serial) }
     {
         let reply = self.machine.roll(alloc, serial)?;
@@ -177,7 +180,8 @@ impl Recorder {
     fn behind(book: Book, full: Result<bool, AllocError>) -> (Recorder, Result<Count, AllocError>)
         ensures { IfOk result.1 (λ count. (calls : List Command)
             × (count.done ≡ steps_made book.start calls)
-            × (result.0 ≡ recorded_calls (record { machine = book.start; records = book.before }) calls)) }
+            × (result.0 ≡ recorded_calls (record { machine = book.start; records = book.before })
+            calls)) }
     {
         let done = steps_in(&book);
         let records = book.records();
@@ -203,7 +207,8 @@ impl Recorder {
     /// Looks at the entries that stand.
     pub fn entries(&mut self, alloc: Global) -> Result<Vec<Entry>, AllocError>
         requires room { self.old.records < 200000 }
-        ensures entries { IfOk result (λ entries. entries.items ≡ self.old.machine.history.entries) }
+        ensures entries { IfOk result
+            (λ entries. entries.items ≡ self.old.machine.history.entries) }
         ensures after { OnOk result (self.new ≡ after_look self.old) }
     {
         let entries = self.machine.history(alloc)?;

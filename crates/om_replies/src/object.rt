@@ -63,7 +63,8 @@ fn push_named(text: &mut Vec<u8>, kind: &[u8], name: &Name) -> Result<(), AllocE
 
 // What has a number in a team.
 fn push_place(text: &mut Vec<u8>, kind: &[u8], team: &Name, number: u64) -> Result<(), AllocError>
-    ensures { OnOk result (text.new.items ≡ text.old.items ++ (kind.now ++ place_text team.now number)) }
+    ensures { OnOk result
+        (text.new.items ≡ text.old.items ++ (kind.now ++ place_text team.now number)) }
 {
     push_named(text, kind, team)?;
     text.extend_from_slice(b" ")?;
@@ -78,7 +79,9 @@ fn push_cell_place(
     slot: u32,
     index: u32,
 ) -> Result<(), AllocError>
-    ensures { OnOk result (text.new.items ≡ text.old.items ++ (codes "cell " ++ cell_place_text task.now frame slot index)) }
+    ensures { OnOk result
+        (text.new.items ≡ text.old.items
+        ++ (codes "cell " ++ cell_place_text task.now frame slot index)) }
 {
     push_named(text, b"cell ", task)?;
     text.extend_from_slice(b"/")?;
@@ -103,7 +106,8 @@ pub(crate) fn push_variable(
 
 // A cell of a global.
 fn push_global(text: &mut Vec<u8>, program: &Program, cell: GlobalCell) -> Result<(), AllocError>
-    ensures { OnOk result (text.new.items ≡ text.old.items ++ (codes "global " ++ variable_text program.now cell)) }
+    ensures { OnOk result
+        (text.new.items ≡ text.old.items ++ (codes "global " ++ variable_text program.now cell)) }
 {
     text.extend_from_slice(b"global ")?;
     push_variable(text, program, cell)
@@ -142,7 +146,8 @@ fn push_index(text: &mut Vec<u8>, length: Option<u32>, index: u32) -> Result<(),
 
 // A critical region, `-` where it is the unnamed one.
 fn push_lock(text: &mut Vec<u8>, program: &Program, lock: u32) -> Result<(), AllocError>
-    ensures { OnOk result (text.new.items ≡ text.old.items ++ object_text program.now (Obj.Lock lock)) }
+    ensures { OnOk result
+        (text.new.items ≡ text.old.items ++ object_text program.now (Obj.Lock lock)) }
 {
     text.extend_from_slice(b"lock ")?;
     match program.raw().locks.as_slice().get(lock as usize) {

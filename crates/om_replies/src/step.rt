@@ -88,7 +88,10 @@ fn push_conflict(
     worker: u8,
     object: &Obj,
 ) -> Result<(), AllocError>
-    ensures { OnOk result (text.new.items ≡ text.old.items ++ (codes "refused by #" ++ decimal serial ++ codes " worker " ++ decimal worker ++ codes " on " ++ object_text program.now object.now ++ codes "\n")) }
+    ensures { OnOk result
+        (text.new.items ≡ text.old.items
+        ++ (codes "refused by #" ++ decimal serial ++ codes " worker " ++ decimal worker
+        ++ codes " on " ++ object_text program.now object.now ++ codes "\n")) }
 {
     text.extend_from_slice(b"refused by #")?;
     push_number(text, serial)?;
@@ -106,7 +109,8 @@ pub fn push_undo(
     worker: u8,
     reply: &UndoReply,
 ) -> Result<(), AllocError>
-    ensures { OnOk result (text.new.items ≡ text.old.items ++ undo_text program.now worker reply.now) }
+    ensures { OnOk result
+        (text.new.items ≡ text.old.items ++ undo_text program.now worker reply.now) }
 {
     match reply {
         UndoReply::Undone { serial, line } => {

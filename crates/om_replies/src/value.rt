@@ -51,7 +51,8 @@ pub fn push_print(
     cell: GlobalCell,
     value: &Val,
 ) -> Result<(), AllocError>
-    ensures { OnOk result (text.new.items ≡ text.old.items ++ print_text program.now cell value.now) }
+    ensures { OnOk result
+        (text.new.items ≡ text.old.items ++ print_text program.now cell value.now) }
 {
     push_variable(text, program, cell)?;
     text.extend_from_slice(b" = ")?;

@@ -17,7 +17,8 @@ fn take_combined(
     kind: CopyKind,
     original: Variable,
 ) -> Result<(), AllocError>
-    ensures { OnOk result (found.new ≡ fold (with_use start) found.old (combined_uses kind original)) }
+    ensures { OnOk result
+        (found.new ≡ fold (with_use start) found.old (combined_uses kind original)) }
 {
     match kind {
         CopyKind::Private => Ok(()),
@@ -28,7 +29,9 @@ fn take_combined(
 
 /// Notes what a clause of a region uses in it.
 fn take_listed(found: &mut Found, start: u32, clause: &ResolvedClause) -> Result<(), AllocError>
-    ensures { OnOk result (found.new ≡ fold (with_use start) found.old (listed_uses (view_resolved_clause clause.now))) }
+    ensures { OnOk result
+        (found.new ≡ fold (with_use start) found.old
+        (listed_uses (view_resolved_clause clause.now))) }
 {
     match clause {
         ResolvedClause::Value(_, _) => Ok(()),
@@ -43,7 +46,9 @@ fn take_all_listed(
     start: u32,
     clauses: &[ResolvedClause],
 ) -> Result<(), AllocError>
-    ensures { OnOk result (found.new ≡ fold (with_use start) found.old (flat_map listed_uses (map view_resolved_clause clauses.now))) }
+    ensures { OnOk result
+        (found.new ≡ fold (with_use start) found.old
+        (flat_map listed_uses (map view_resolved_clause clauses.now))) }
 {
     for clause in clauses {
         take_listed(found, start, clause)?;
@@ -57,7 +62,8 @@ fn listed_variables(
     start: u32,
     clauses: &[ResolvedClause],
 ) -> Result<Found, AllocError>
-    ensures { IfOk result (λ found. found ≡ listed_variables start (map view_resolved_clause clauses.now)) }
+    ensures { IfOk result
+        (λ found. found ≡ listed_variables start (map view_resolved_clause clauses.now)) }
 {
     let mut found = Found::new(alloc);
     take_all_listed(&mut found, start, clauses)?;
@@ -71,7 +77,9 @@ fn taken_variables(
     clauses: &[ResolvedClause],
     body: &ResolvedStatement,
 ) -> Result<Found, AllocError>
-    ensures { IfOk result (λ found. found ≡ taken_variables start (map view_resolved_clause clauses.now) (view_resolved_statement body.now)) }
+    ensures { IfOk result
+        (λ found. found ≡ taken_variables start (map view_resolved_clause clauses.now)
+        (view_resolved_statement body.now)) }
 {
     let mut found = listed_variables(alloc, start, clauses)?;
     take_statement(&mut found, start, body)?;
@@ -99,7 +107,9 @@ pub fn captures_of_parallel(
     clauses: &[ResolvedClause],
     body: &ResolvedStatement,
 ) -> Result<Seq<Capture>, AllocError>
-    ensures { IfOk result (λ captures. captures ≡ captures_of taken_by_parallel start (map view_resolved_clause clauses.now) (view_resolved_statement body.now)) }
+    ensures { IfOk result
+        (λ captures. captures ≡ captures_of taken_by_parallel start
+        (map view_resolved_clause clauses.now) (view_resolved_statement body.now)) }
 {
     let found = taken_variables(alloc, start, clauses, body)?;
     captured_by_parallel(alloc, found.variables())
@@ -134,7 +144,9 @@ fn captured_by_task(
     listed: &Found,
     variables: &[u32],
 ) -> Result<Seq<Capture>, AllocError>
-    ensures { IfOk result (λ captures. captures ≡ captured (taken_by_task has_default parallel listed.now) variables.now) }
+    ensures { IfOk result
+        (λ captures. captures ≡ captured (taken_by_task has_default parallel listed.now)
+        variables.now) }
 {
     let mut captures = Vec::new(alloc);
     for variable in variables {
@@ -157,7 +169,8 @@ pub fn captures_of_task(
 ) -> Result<Seq<Capture>, AllocError>
     ensures { let trees = map view_resolved_clause clauses.now in
         let taking = taken_by_task has_default parallel (listed_variables start trees) in
-        IfOk result (λ captures. captures ≡ captures_of taking start trees (view_resolved_statement body.now)) }
+        IfOk result
+        (λ captures. captures ≡ captures_of taking start trees (view_resolved_statement body.now)) }
 {
     let listed = listed_variables(alloc, start, clauses)?;
     let found = taken_variables(alloc, start, clauses, body)?;

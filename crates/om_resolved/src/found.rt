@@ -82,7 +82,9 @@ fn take_expression(
     start: u32,
     expression: &ResolvedExpression,
 ) -> Result<(), AllocError>
-    ensures { OnOk result (found.new ≡ fold (with_use start) found.old (expression_uses (view_resolved_expression expression.now))) }
+    ensures { OnOk result
+        (found.new ≡ fold (with_use start) found.old
+        (expression_uses (view_resolved_expression expression.now))) }
 {
     match expression {
         ResolvedExpression::Constant(_) => Ok(()),
@@ -130,7 +132,9 @@ fn take_values(
     start: u32,
     values: &[ResolvedExpression],
 ) -> Result<(), AllocError>
-    ensures { OnOk result (found.new ≡ fold (with_use start) found.old (values_uses (trees.values (map view_resolved_expression values.now)))) }
+    ensures { OnOk result
+        (found.new ≡ fold (with_use start) found.old
+        (values_uses (trees.values (map view_resolved_expression values.now)))) }
 {
     for value in values {
         take_expression(found, start, value)?;
@@ -144,7 +148,9 @@ fn take_perhaps(
     start: u32,
     expression: &Option<ResolvedExpression>,
 ) -> Result<(), AllocError>
-    ensures { OnOk result (found.new ≡ fold (with_use start) found.old (perhaps_uses (option_map view_resolved_expression expression.now))) }
+    ensures { OnOk result
+        (found.new ≡ fold (with_use start) found.old
+        (perhaps_uses (option_map view_resolved_expression expression.now))) }
 {
     match expression {
         None => Ok(()),
@@ -158,7 +164,9 @@ fn take_declarators(
     start: u32,
     declarators: &[ResolvedDeclarator],
 ) -> Result<(), AllocError>
-    ensures { OnOk result (found.new ≡ fold (with_use start) found.old (flat_map declarator_uses (map view_resolved_declarator declarators.now))) }
+    ensures { OnOk result
+        (found.new ≡ fold (with_use start) found.old
+        (flat_map declarator_uses (map view_resolved_declarator declarators.now))) }
 {
     for declarator in declarators {
         take_perhaps(found, start, &declarator.initial)?;
@@ -168,7 +176,8 @@ fn take_declarators(
 
 /// Notes what the beginning of a `for` uses.
 fn take_start(found: &mut Found, start: u32, begin: &ResolvedStart) -> Result<(), AllocError>
-    ensures { OnOk result (found.new ≡ fold (with_use start) found.old (start_uses (view_resolved_start begin.now))) }
+    ensures { OnOk result
+        (found.new ≡ fold (with_use start) found.old (start_uses (view_resolved_start begin.now))) }
 {
     match begin {
         ResolvedStart::Nothing => Ok(()),
@@ -197,7 +206,9 @@ fn take_original(
 
 /// Notes what a clause uses outside of its construct.
 fn take_clause(found: &mut Found, start: u32, clause: &ResolvedClause) -> Result<(), AllocError>
-    ensures { OnOk result (found.new ≡ fold (with_use start) found.old (clause_uses (view_resolved_clause clause.now))) }
+    ensures { OnOk result
+        (found.new ≡ fold (with_use start) found.old
+        (clause_uses (view_resolved_clause clause.now))) }
 {
     match clause {
         ResolvedClause::Value(_, value) => take_expression(found, start, value),
@@ -208,7 +219,9 @@ fn take_clause(found: &mut Found, start: u32, clause: &ResolvedClause) -> Result
 
 /// Notes what clauses use outside of their construct.
 fn take_clauses(found: &mut Found, start: u32, clauses: &[ResolvedClause]) -> Result<(), AllocError>
-    ensures { OnOk result (found.new ≡ fold (with_use start) found.old (flat_map clause_uses (map view_resolved_clause clauses.now))) }
+    ensures { OnOk result
+        (found.new ≡ fold (with_use start) found.old
+        (flat_map clause_uses (map view_resolved_clause clauses.now))) }
 {
     for clause in clauses {
         take_clause(found, start, clause)?;
@@ -218,7 +231,8 @@ fn take_clauses(found: &mut Found, start: u32, clauses: &[ResolvedClause]) -> Re
 
 /// Notes what a region takes from outside.
 fn take_captures(found: &mut Found, start: u32, captures: &[Capture]) -> Result<(), AllocError>
-    ensures { OnOk result (found.new ≡ fold (with_use start) found.old (map captured_variable captures.now)) }
+    ensures { OnOk result
+        (found.new ≡ fold (with_use start) found.old (map captured_variable captures.now)) }
 {
     for capture in captures {
         found.add(start, capture.variable)?;
@@ -228,7 +242,8 @@ fn take_captures(found: &mut Found, start: u32, captures: &[Capture]) -> Result<
 
 /// Notes variables that are used.
 fn take_variables(found: &mut Found, start: u32, variables: &[Variable]) -> Result<(), AllocError>
-    ensures { OnOk result (found.new ≡ fold (with_use start) found.old (flat_map variable_uses variables.now)) }
+    ensures { OnOk result
+        (found.new ≡ fold (with_use start) found.old (flat_map variable_uses variables.now)) }
 {
     for variable in variables {
         found.take(start, *variable)?;
@@ -238,7 +253,8 @@ fn take_variables(found: &mut Found, start: u32, variables: &[Variable]) -> Resu
 
 /// Notes what a directive uses that stands alone.
 fn take_stand_alone(found: &mut Found, start: u32, directive: &StandAlone) -> Result<(), AllocError>
-    ensures { OnOk result (found.new ≡ fold (with_use start) found.old (stand_alone_uses directive.now)) }
+    ensures { OnOk result
+        (found.new ≡ fold (with_use start) found.old (stand_alone_uses directive.now)) }
 {
     match directive {
         StandAlone::Barrier => Ok(()),
@@ -255,7 +271,10 @@ fn take_region(
     clauses: &[ResolvedClause],
     captures: &[Capture],
 ) -> Result<(), AllocError>
-    ensures { OnOk result (found.new ≡ fold (with_use start) found.old (flat_map clause_uses (map view_resolved_clause clauses.now) ++ map captured_variable captures.now)) }
+    ensures { OnOk result
+        (found.new ≡ fold (with_use start) found.old
+        (flat_map clause_uses (map view_resolved_clause clauses.now)
+        ++ map captured_variable captures.now)) }
 {
     take_clauses(found, start, clauses)?;
     take_captures(found, start, captures)
@@ -269,7 +288,11 @@ fn take_head(
     condition: &Option<ResolvedExpression>,
     step: &Option<ResolvedExpression>,
 ) -> Result<(), AllocError>
-    ensures { OnOk result (found.new ≡ fold (with_use start) found.old (start_uses (view_resolved_start begin.now) ++ (perhaps_uses (option_map view_resolved_expression condition.now) ++ perhaps_uses (option_map view_resolved_expression step.now)))) }
+    ensures { OnOk result
+        (found.new ≡ fold (with_use start) found.old
+        (start_uses (view_resolved_start begin.now)
+        ++ (perhaps_uses (option_map view_resolved_expression condition.now)
+        ++ perhaps_uses (option_map view_resolved_expression step.now)))) }
 {
     take_start(found, start, begin)?;
     take_perhaps(found, start, condition)?;
@@ -283,7 +306,11 @@ fn take_bounds(
     clauses: &[ResolvedClause],
     repeated: &ResolvedLoop,
 ) -> Result<(), AllocError>
-    ensures { OnOk result (found.new ≡ fold (with_use start) found.old (flat_map clause_uses (map view_resolved_clause clauses.now) ++ (expression_uses (view_resolved_expression repeated.now.from) ++ expression_uses (view_resolved_expression repeated.now.to)))) }
+    ensures { OnOk result
+        (found.new ≡ fold (with_use start) found.old
+        (flat_map clause_uses (map view_resolved_clause clauses.now)
+        ++ (expression_uses (view_resolved_expression repeated.now.from)
+        ++ expression_uses (view_resolved_expression repeated.now.to)))) }
 {
     take_clauses(found, start, clauses)?;
     take_expression(found, start, &repeated.from)?;
@@ -292,7 +319,9 @@ fn take_bounds(
 
 /// Notes what an atomic update uses.
 fn take_update(found: &mut Found, start: u32, update: &ResolvedUpdate) -> Result<(), AllocError>
-    ensures { OnOk result (found.new ≡ fold (with_use start) found.old (update_uses (view_resolved_update update.now))) }
+    ensures { OnOk result
+        (found.new ≡ fold (with_use start) found.old
+        (update_uses (view_resolved_update update.now))) }
 {
     found.take(start, update.variable)?;
     take_perhaps(found, start, &update.index)?;
@@ -307,7 +336,9 @@ pub fn take_statement(
     start: u32,
     statement: &ResolvedStatement,
 ) -> Result<(), AllocError>
-    ensures { OnOk result (found.new ≡ fold (with_use start) found.old (statement_uses (view_resolved_statement statement.now))) }
+    ensures { OnOk result
+        (found.new ≡ fold (with_use start) found.old
+        (statement_uses (view_resolved_statement statement.now))) }
 {
     match statement {
         ResolvedStatement::Declaration(_, declarators) => {
@@ -371,7 +402,9 @@ fn take_statements(
     start: u32,
     items: &[ResolvedStatement],
 ) -> Result<(), AllocError>
-    ensures { OnOk result (found.new ≡ fold (with_use start) found.old (statements_uses (trees.statements (map view_resolved_statement items.now)))) }
+    ensures { OnOk result
+        (found.new ≡ fold (with_use start) found.old
+        (statements_uses (trees.statements (map view_resolved_statement items.now)))) }
 {
     for item in items {
         take_statement(found, start, item)?;
@@ -383,7 +416,9 @@ fn take_statements(
 #[tactic(auto, unfolding(crate::specs::Captures::parts_uses))]
 #[cycle(statement)]
 fn take_parts(found: &mut Found, start: u32, parts: &[ResolvedPart]) -> Result<(), AllocError>
-    ensures { OnOk result (found.new ≡ fold (with_use start) found.old (parts_uses (trees.parts (map view_resolved_part parts.now)))) }
+    ensures { OnOk result
+        (found.new ≡ fold (with_use start) found.old
+        (parts_uses (trees.parts (map view_resolved_part parts.now)))) }
 {
     for part in parts {
         take_statements(found, start, part.items.as_slice())?;

@@ -59,7 +59,9 @@ pub fn name_slot(
     slot: u32,
     cells: u32,
 ) -> Result<(), AllocError>
-    ensures { OnOk result (names.new ≡ names.old ++ slot_cells context.now.task context.now.frame.ordinal slot (home_at context.now.frame.homes slot) 0 cells) }
+    ensures { OnOk result
+        (names.new ≡ names.old ++ slot_cells context.now.task context.now.frame.ordinal slot
+        (home_at context.now.frame.homes slot) 0 cells) }
 {
     let home = &home_at(context.frame.homes.get().as_slice(), slot);
     for index in 0..cells {
@@ -97,7 +99,9 @@ fn name_own(
     slot: u32,
     cells: u32,
 ) -> Result<(), AllocError>
-    ensures { OnOk result (own.new ≡ own.old ++ own_slot context.now slot cells (home_at context.now.frame.homes slot)) }
+    ensures { OnOk result
+        (own.new ≡ own.old ++ own_slot context.now slot cells
+        (home_at context.now.frame.homes slot)) }
 {
     match home_at(context.frame.homes.get().as_slice(), slot) {
         Home::Own => name_slot(own, context, slot, cells),

@@ -59,7 +59,10 @@ fn parallel_of(
     clauses: Vec<ResolvedClause>,
     body: Box<ResolvedStatement>,
 ) -> Result<ResolvedStatement, AllocError>
-    ensures { IfOk result (λ found. view_resolved_statement found ≡ parallel_of (view_directive directive.now) (map view_resolved_clause clauses.items) (view_resolved_statement body.value)) }
+    ensures { IfOk result
+        (λ found. view_resolved_statement found
+        ≡ parallel_of (view_directive directive.now) (map view_resolved_clause clauses.items)
+        (view_resolved_statement body.value)) }
 {
     let at = directive.hash;
     let captures = captures_of_parallel(alloc, at.start, clauses.as_slice(), &body)?;
@@ -103,7 +106,9 @@ fn around_task(
 ) -> Result<Around, AllocError>
     ensures { let cs = map view_resolved_clause clauses.now in
         let tree = view_resolved_statement body.now in
-        IfOk result (λ around. with_around around directive.now.hash cs tree ≡ task_of parallel (view_directive directive.now) cs tree) }
+        IfOk result
+        (λ around. with_around around directive.now.hash cs tree
+        ≡ task_of parallel (view_directive directive.now) cs tree) }
 {
     let captures = captures_of_task(
         alloc,
@@ -125,7 +130,9 @@ fn around_parallel(
 ) -> Result<Around, AllocError>
     ensures { let cs = map view_resolved_clause clauses.now in
         let tree = view_resolved_statement body.now in
-        IfOk result (λ around. with_around around directive.now.hash cs tree ≡ parallel_of (view_directive directive.now) cs tree) }
+        IfOk result
+        (λ around. with_around around directive.now.hash cs tree
+        ≡ parallel_of (view_directive directive.now) cs tree) }
 {
     let captures = captures_of_parallel(alloc, directive.hash.start, clauses, body)?;
     Ok(Around::Parallel(captures))
@@ -133,7 +140,8 @@ fn around_parallel(
 
 /// What a `critical` of this name puts round a statement.
 fn around_critical(alloc: Global, name: &Option<(Span, Name, Span)>) -> Result<Around, AllocError>
-    ensures { IfOk result (λ around. around ≡ Around.Construct (ConstructKind.Critical (critical_name name.now))) }
+    ensures { IfOk result
+        (λ around. around ≡ Around.Construct (ConstructKind.Critical (critical_name name.now))) }
 {
     let name = critical_name(alloc, name)?;
     Ok(Around::Construct(ConstructKind::Critical(name)))
@@ -141,7 +149,8 @@ fn around_critical(alloc: Global, name: &Option<(Span, Name, Span)>) -> Result<A
 
 /// What an `atomic` puts round its statement, which has the target on that side.
 fn around_atomic(kind: AtomicKind, side: Side) -> Around
-    ensures { (at : Span) (cs : List ResolvedClauseTree) (body : ResolvedStatementTree) → with_around result at cs body ≡ atomic_of kind side at cs body }
+    ensures { (at : Span) (cs : List ResolvedClauseTree) (body : ResolvedStatementTree) →
+        with_around result at cs body ≡ atomic_of kind side at cs body }
 {
     match kind {
         AtomicKind::Update => Around::Update(side),
@@ -171,7 +180,9 @@ fn around_of(
     ensures { let tree = view_directive directive.now in
         let cs = map view_resolved_clause clauses.now in
         let inner = view_resolved_statement body.now in
-        IfOk result (λ around. with_around around tree.hash cs inner ≡ construct_of setting.parallel setting.side tree tree.name cs inner) }
+        IfOk result
+        (λ around. with_around around tree.hash cs inner
+        ≡ construct_of setting.parallel setting.side tree tree.name cs inner) }
 {
     match &directive.name {
         DirectiveName::Parallel(_) => around_parallel(alloc, directive, clauses, body),
@@ -196,7 +207,9 @@ fn with_around(
     clauses: Vec<ResolvedClause>,
     body: Box<ResolvedStatement>,
 ) -> ResolvedStatement
-    ensures { view_resolved_statement result ≡ with_around around at (map view_resolved_clause clauses.items) (view_resolved_statement body.value) }
+    ensures { view_resolved_statement result
+        ≡ with_around around at (map view_resolved_clause clauses.items)
+        (view_resolved_statement body.value) }
 {
     match around {
         Around::Parallel(captures) => ResolvedStatement::Parallel(at, clauses, captures, body),
@@ -210,7 +223,8 @@ fn with_around(
 /// An `atomic` round the update that a statement is, whose target stands on that side. What is no
 /// update becomes an empty statement.
 fn with_update(at: Span, side: Side, body: Box<ResolvedStatement>) -> ResolvedStatement
-    ensures { view_resolved_statement result ≡ with_update at (update_of side (view_resolved_statement body.value)) }
+    ensures { view_resolved_statement result
+        ≡ with_update at (update_of side (view_resolved_statement body.value)) }
 {
     let mut body = body;
     match update_of(side, &mut body) {
@@ -229,7 +243,10 @@ pub fn construct_of(
 ) -> Result<ResolvedStatement, SourceFault>
     ensures checked { Checks result [] }
     ensures made { let tree = view_directive directive.now in
-        IfOk result (λ found. view_resolved_statement found ≡ construct_of setting.parallel setting.side tree tree.name (map view_resolved_clause clauses.items) (view_resolved_statement body.value)) }
+        IfOk result
+        (λ found. view_resolved_statement found
+        ≡ construct_of setting.parallel setting.side tree tree.name
+        (map view_resolved_clause clauses.items) (view_resolved_statement body.value)) }
 {
     let around = around_of(alloc, setting, directive, clauses.as_slice(), &body)?;
     Ok(with_around(around, directive.hash, clauses, body))
@@ -244,7 +261,10 @@ pub fn loop_construct_of(
     body: Box<ResolvedStatement>,
 ) -> Result<ResolvedStatement, SourceFault>
     ensures checked { Checks result [] }
-    ensures made { IfOk result (λ found. view_resolved_statement found ≡ loop_construct_of (view_directive directive.now) (map view_resolved_clause clauses.items) (view_resolved_loop repeated.value) (view_resolved_statement body.value)) }
+    ensures made { IfOk result
+        (λ found. view_resolved_statement found
+        ≡ loop_construct_of (view_directive directive.now) (map view_resolved_clause clauses.items)
+        (view_resolved_loop repeated.value) (view_resolved_statement body.value)) }
 {
     let at = directive.hash;
     if is_parallel(traits_of(&directive.name).region) {
@@ -266,7 +286,9 @@ fn shared_loop(
     repeated: Box<ResolvedLoop>,
     body: Box<ResolvedStatement>,
 ) -> ResolvedStatement
-    ensures { view_resolved_statement result ≡ resolved.Loop at (map view_resolved_clause clauses.items) nowait (view_resolved_loop repeated.value) (view_resolved_statement body.value) }
+    ensures { view_resolved_statement result
+        ≡ resolved.Loop at (map view_resolved_clause clauses.items) nowait
+        (view_resolved_loop repeated.value) (view_resolved_statement body.value) }
 {
     ResolvedStatement::Loop(at, clauses, nowait, Box::into_inner(repeated), body)
 }
@@ -286,7 +308,11 @@ pub fn sections_construct_of(
     parts: Vec<ResolvedPart>,
 ) -> Result<ResolvedStatement, SourceFault>
     ensures checked { Checks result [] }
-    ensures made { IfOk result (λ found. view_resolved_statement found ≡ sections_construct_of (view_directive directive.now) (map view_resolved_clause clauses.items) (resolved.parts (map view_resolved_part parts.items))) }
+    ensures made { IfOk result
+        (λ found. view_resolved_statement found
+        ≡ sections_construct_of (view_directive directive.now)
+        (map view_resolved_clause clauses.items)
+        (resolved.parts (map view_resolved_part parts.items))) }
 {
     let at = directive.hash;
     if is_parallel(traits_of(&directive.name).region) {
@@ -304,7 +330,9 @@ fn shared_parts(
     nowait: bool,
     parts: Vec<ResolvedPart>,
 ) -> ResolvedStatement
-    ensures { view_resolved_statement result ≡ resolved.Sections at (map view_resolved_clause clauses.items) nowait (resolved.parts (map view_resolved_part parts.items)) }
+    ensures { view_resolved_statement result
+        ≡ resolved.Sections at (map view_resolved_clause clauses.items) nowait
+        (resolved.parts (map view_resolved_part parts.items)) }
 {
     ResolvedStatement::Sections(at, clauses, nowait, parts)
 }

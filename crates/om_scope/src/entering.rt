@@ -28,9 +28,13 @@ pub fn enter_construct(
     flow: Flow,
     directive: &Directive<Expression>,
 ) -> Result<Vec<ResolvedClause>, SourceFault>
-    ensures checked { Checks result (directive_breaches symbols.old flow (view_directive directive.now)) }
-    ensures in_scope { OnOk result (symbols.new ≡ in_construct (view_directive directive.now) symbols.old) }
-    ensures resolved { IfOk result (λ clauses. resolved_clauses symbols.old (view_directive directive.now).clauses ≡ Some (map view_resolved_clause clauses.items)) }
+    ensures checked { Checks result
+        (directive_breaches symbols.old flow (view_directive directive.now)) }
+    ensures in_scope { OnOk result
+        (symbols.new ≡ in_construct (view_directive directive.now) symbols.old) }
+    ensures resolved { IfOk result
+        (λ clauses. resolved_clauses symbols.old (view_directive directive.now).clauses
+        ≡ Some (map view_resolved_clause clauses.items)) }
 {
     let (listed, clauses) = resolve_directive(alloc, symbols, flow, directive)?;
     enter_listed(symbols, traits_of(&directive.name).region, listed)?;
@@ -55,13 +59,23 @@ pub fn enter_loop_construct(
     found: &Loop<'_>,
 ) -> Result<(Vec<ResolvedClause>, Box<ResolvedLoop>), SourceFault>
     ensures checked { let tree = view_directive directive.now in
-        Checks result (directive_breaches symbols.old flow tree ++ found_breaches (round_bounds tree symbols.old) (view_loop found.now)) }
-    ensures listed { OnOk result (directive_breaches symbols.old flow (view_directive directive.now) ≡ []) }
-    ensures bounded { OnOk result (found_breaches (round_bounds (view_directive directive.now) symbols.old) (view_loop found.now) ≡ []) }
-    ensures in_scope { OnOk result (symbols.new ≡ in_construct (view_directive directive.now) symbols.old) }
-    ensures clauses { IfOk result (λ made. resolved_clauses symbols.old (view_directive directive.now).clauses ≡ Some (map view_resolved_clause made.0.items)) }
+        Checks result
+        (directive_breaches symbols.old flow tree
+        ++ found_breaches (round_bounds tree symbols.old) (view_loop found.now)) }
+    ensures listed { OnOk result
+        (directive_breaches symbols.old flow (view_directive directive.now) ≡ []) }
+    ensures bounded { OnOk result
+        (found_breaches (round_bounds (view_directive directive.now) symbols.old)
+        (view_loop found.now) ≡ []) }
+    ensures in_scope { OnOk result
+        (symbols.new ≡ in_construct (view_directive directive.now) symbols.old) }
+    ensures clauses { IfOk result
+        (λ made. resolved_clauses symbols.old (view_directive directive.now).clauses
+        ≡ Some (map view_resolved_clause made.0.items)) }
     ensures repeated { let tree = view_directive directive.now in
-        IfOk result (λ made. resolved_loop (round_bounds tree symbols.old) (schedule_of tree.clauses) (view_loop found.now) ≡ Some (view_resolved_loop made.1.value)) }
+        IfOk result
+        (λ made. resolved_loop (round_bounds tree symbols.old) (schedule_of tree.clauses)
+        (view_loop found.now) ≡ Some (view_resolved_loop made.1.value)) }
 {
     let (listed, clauses) = resolve_directive(alloc, symbols, flow, directive)?;
     let kind = traits_of(&directive.name).region;
@@ -80,9 +94,12 @@ fn enter_bounds(
     schedule: ResolvedSchedule,
     found: &Loop<'_>,
 ) -> Result<Box<ResolvedLoop>, SourceFault>
-    ensures checked { Checks result (found_breaches (round_listed kind listed symbols.old) (view_loop found.now)) }
+    ensures checked { Checks result
+        (found_breaches (round_listed kind listed symbols.old) (view_loop found.now)) }
     ensures in_scope { OnOk result (symbols.new ≡ in_kind kind listed symbols.old) }
-    ensures resolved { IfOk result (λ repeated. resolved_loop (round_listed kind listed symbols.old) schedule (view_loop found.now) ≡ Some (view_resolved_loop repeated.value)) }
+    ensures resolved { IfOk result
+        (λ repeated. resolved_loop (round_listed kind listed symbols.old) schedule
+        (view_loop found.now) ≡ Some (view_resolved_loop repeated.value)) }
 {
     if is_parallel(kind) {
         enter_listed(symbols, kind, listed)?;

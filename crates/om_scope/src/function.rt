@@ -121,7 +121,8 @@ fn declare_parameter_name(
 ) -> Result<(), SourceFault>
     ensures checked { Checks result (parameter_name_breaches symbols.old name.now) }
     ensures in_scope { OnOk result (symbols.new ≡ after_parameter_name symbols.old name.now) }
-    ensures resolved { OnOk result (parameters.new.items ≡ parameters.old.items ++ named_parameter name.now) }
+    ensures resolved { OnOk result
+        (parameters.new.items ≡ parameters.old.items ++ named_parameter name.now) }
 {
     match name {
         None => Ok(()),
@@ -145,7 +146,8 @@ fn declare_parameter(
 ) -> Result<(), SourceFault>
     ensures checked { Checks result (parameter_breaches (before, symbols.old) parameter.now) }
     ensures in_scope { OnOk result (symbols.new ≡ after_parameter symbols.old parameter.now) }
-    ensures resolved { OnOk result (parameters.new.items ≡ parameters.old.items ++ parameter_variable parameter.now) }
+    ensures resolved { OnOk result
+        (parameters.new.items ≡ parameters.old.items ++ parameter_variable parameter.now) }
     ensures few { OnOk result (before < PARAMETER_LIMIT) }
 {
     refuse_if(
@@ -163,9 +165,14 @@ fn declare_further_parameters(
     parameters: &mut Vec<LocalVariable>,
     rest: &[(Span, Parameter)],
 ) -> Result<(), SourceFault>
-    ensures checked { Checks result (breaches_along parameter_breaches next_parameter (1, symbols.old) (map (λ further. further.1) rest.now)) }
-    ensures in_scope { OnOk result (symbols.new ≡ after_parameters symbols.old (map (λ further. further.1) rest.now)) }
-    ensures resolved { OnOk result (parameters.new.items ≡ parameters.old.items ++ flat_map parameter_variable (map (λ further. further.1) rest.now)) }
+    ensures checked { Checks result
+        (breaches_along parameter_breaches next_parameter (1, symbols.old)
+        (map (λ further. further.1) rest.now)) }
+    ensures in_scope { OnOk result
+        (symbols.new ≡ after_parameters symbols.old (map (λ further. further.1) rest.now)) }
+    ensures resolved { OnOk result
+        (parameters.new.items ≡ parameters.old.items
+        ++ flat_map parameter_variable (map (λ further. further.1) rest.now)) }
 {
     let mut before = 1;
     for further in rest {
@@ -183,9 +190,14 @@ fn declare_parameters(
     found: &mut Vec<LocalVariable>,
     parameters: &Parameters,
 ) -> Result<(), SourceFault>
-    ensures checked { Checks result (parameters_breaches symbols.old (parameters_of (view_parameters parameters.now))) }
-    ensures in_scope { OnOk result (symbols.new ≡ after_parameters symbols.old (parameters_of (view_parameters parameters.now))) }
-    ensures resolved { OnOk result (found.new.items ≡ found.old.items ++ flat_map parameter_variable (parameters_of (view_parameters parameters.now))) }
+    ensures checked { Checks result
+        (parameters_breaches symbols.old (parameters_of (view_parameters parameters.now))) }
+    ensures in_scope { OnOk result
+        (symbols.new ≡ after_parameters symbols.old
+        (parameters_of (view_parameters parameters.now))) }
+    ensures resolved { OnOk result
+        (found.new.items ≡ found.old.items
+        ++ flat_map parameter_variable (parameters_of (view_parameters parameters.now))) }
 {
     match parameters {
         Parameters::Nothing => Ok(()),
@@ -205,7 +217,8 @@ pub fn check_prototype(
     head: &FunctionHead,
 ) -> Result<(), SourceFault>
     ensures checked { Checks result (prototype_breaches symbols.old (view_head head.now)) }
-    ensures in_scope { OnOk result (symbols.new ≡ after_prototype symbols.old (view_head head.now)) }
+    ensures in_scope { OnOk result
+        (symbols.new ≡ after_prototype symbols.old (view_head head.now)) }
 {
     check_head(symbols, head)?;
     declare_head(alloc, symbols, head)?;
@@ -267,8 +280,13 @@ fn resolve_inside(
 ) -> Result<Vec<ResolvedStatement>, SourceFault>
     ensures checked { Checks result (body_breaches symbols.old (view_function function.now)) }
     ensures in_scope { OnOk result (symbols.new ≡ symbols.old) }
-    ensures parameters { OnOk result (parameters.new.items ≡ parameters.old.items ++ flat_map parameter_variable (parameters_of (view_function function.now).head.parameters)) }
-    ensures resolved { IfOk result (λ body. resolved_inside symbols.old (view_function function.now) ≡ Some (resolved.statements (map view_resolved_statement body.items))) }
+    ensures parameters { OnOk result
+        (parameters.new.items ≡ parameters.old.items
+        ++ flat_map parameter_variable
+        (parameters_of (view_function function.now).head.parameters)) }
+    ensures resolved { IfOk result
+        (λ body. resolved_inside symbols.old (view_function function.now)
+        ≡ Some (resolved.statements (map view_resolved_statement body.items))) }
 {
     symbols.enter(alloc)?;
     declare_parameters(alloc, symbols, parameters, &function.head.parameters)?;
@@ -286,8 +304,11 @@ pub fn resolve_function(
     function: &Function,
 ) -> Result<ResolvedFunction, SourceFault>
     ensures checked { Checks result (function_breaches symbols.old (view_function function.now)) }
-    ensures in_scope { OnOk result (symbols.new ≡ after_function symbols.old (view_function function.now).head) }
-    ensures resolved { IfOk result (λ found. resolved_function symbols.old (view_function function.now) ≡ Some (view_resolved_function found)) }
+    ensures in_scope { OnOk result
+        (symbols.new ≡ after_function symbols.old (view_function function.now).head) }
+    ensures resolved { IfOk result
+        (λ found. resolved_function symbols.old (view_function function.now)
+        ≡ Some (view_resolved_function found)) }
 {
     begin_definition(alloc, symbols, &function.head)?;
     let name = copy_of(alloc, &function.head.name)?;

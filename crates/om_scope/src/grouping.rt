@@ -35,7 +35,9 @@ fn has_section(item: &Statement) -> bool
 /// Adds an item behind those of a part.
 #[tactic(auto, using(crate::proofs::PartItems::extended))]
 fn extend(part: &mut ResolvedPart, item: ResolvedStatement) -> Result<(), AllocError>
-    ensures { OnOk result (view_resolved_part part.new ≡ with_last (view_resolved_statement item) (view_resolved_part part.old)) }
+    ensures { OnOk result
+        (view_resolved_part part.new
+        ≡ with_last (view_resolved_statement item) (view_resolved_part part.old)) }
 {
     push(&mut part.items, item)
 }
@@ -46,7 +48,10 @@ fn begin(
     parts: &mut Vec<ResolvedPart>,
     item: ResolvedStatement,
 ) -> Result<(), AllocError>
-    ensures { OnOk result (map view_resolved_part parts.new.items ≡ map view_resolved_part parts.old.items ++ resolved.Statement (view_resolved_statement item) resolved.NoStatements ∷ []) }
+    ensures { OnOk result
+        (map view_resolved_part parts.new.items
+        ≡ map view_resolved_part parts.old.items
+        ++ resolved.Statement (view_resolved_statement item) resolved.NoStatements ∷ []) }
 {
     let items = one(alloc, item)?;
     push(parts, ResolvedPart { items })
@@ -72,7 +77,9 @@ fn push<T: Drop>(items: &mut Vec<T>, item: T) -> Result<(), AllocError>
 #[tactic(auto, using(crate::proofs::PartItems::gone_on))]
 fn go_on(parts: &mut Vec<ResolvedPart>, item: ResolvedStatement) -> Result<(), AllocError>
     requires { 0 < length parts.old.items }
-    ensures { OnOk result (map view_resolved_part parts.new.items ≡ with_item false (view_resolved_statement item) (map view_resolved_part parts.old.items)) }
+    ensures { OnOk result
+        (map view_resolved_part parts.new.items
+        ≡ with_item false (view_resolved_statement item) (map view_resolved_part parts.old.items)) }
 {
     match parts.last_mut() {
         Some(part) => extend(part, item),
@@ -88,9 +95,12 @@ pub fn add_item(
     found: Result<Box<ResolvedStatement>, SourceFault>,
 ) -> Result<(), SourceFault>
     requires { begins ≡ false → 0 < length parts.old.items }
-    ensures checked { (breaches : List SourceFault) → Checks found breaches → Checks result breaches }
+    ensures checked { (breaches : List SourceFault) → Checks found breaches →
+        Checks result breaches }
     ensures added { OnOk result ((item : Box ResolvedStatement Global) × (found ≡ Ok item)
-        × (map view_resolved_part parts.new.items ≡ with_item begins (view_resolved_statement item.value) (map view_resolved_part parts.old.items))) }
+        × (map view_resolved_part parts.new.items
+        ≡ with_item begins (view_resolved_statement item.value)
+        (map view_resolved_part parts.old.items))) }
 {
     let item = Box::into_inner(found?);
     if begins {

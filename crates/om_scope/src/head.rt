@@ -31,13 +31,22 @@ pub fn resolve_for_head(
     head: &ForHead,
 ) -> Result<ResolvedHead, SourceFault>
     ensures checked { let tree = view_for_head head.now in
-        Checks result (for_start_breaches symbols.old tree.start ++ for_turn_breaches (after_for_start symbols.old tree.start) tree) }
-    ensures in_scope { OnOk result (symbols.new ≡ after_for_start symbols.old (view_for_head head.now).start) }
-    ensures start { IfOk result (λ found. resolved_start symbols.old (view_for_head head.now).start ≡ Some (view_resolved_start found.start.value)) }
+        Checks result
+        (for_start_breaches symbols.old tree.start
+        ++ for_turn_breaches (after_for_start symbols.old tree.start) tree) }
+    ensures in_scope { OnOk result
+        (symbols.new ≡ after_for_start symbols.old (view_for_head head.now).start) }
+    ensures start { IfOk result
+        (λ found. resolved_start symbols.old (view_for_head head.now).start
+        ≡ Some (view_resolved_start found.start.value)) }
     ensures condition { let tree = view_for_head head.now in
-        IfOk result (λ found. resolved_perhaps (after_for_start symbols.old tree.start) tree.condition ≡ Some (option_map (λ boxed. view_resolved_expression boxed.value) found.condition)) }
+        IfOk result
+        (λ found. resolved_perhaps (after_for_start symbols.old tree.start) tree.condition
+        ≡ Some (option_map (λ boxed. view_resolved_expression boxed.value) found.condition)) }
     ensures step { let tree = view_for_head head.now in
-        IfOk result (λ found. resolved_perhaps (after_for_start symbols.old tree.start) tree.step ≡ Some (option_map (λ boxed. view_resolved_expression boxed.value) found.step)) }
+        IfOk result
+        (λ found. resolved_perhaps (after_for_start symbols.old tree.start) tree.step
+        ≡ Some (option_map (λ boxed. view_resolved_expression boxed.value) found.step)) }
 {
     let start = Box::new(alloc, resolve_for_start(alloc, symbols, &head.start)?)?;
     let (condition, step) = resolve_for_turn(alloc, symbols, head)?;
@@ -56,8 +65,11 @@ fn resolve_for_start(
     start: &ForStart,
 ) -> Result<ResolvedStart, SourceFault>
     ensures checked { Checks result (for_start_breaches symbols.old (view_for_start start.now)) }
-    ensures in_scope { OnOk result (symbols.new ≡ after_for_start symbols.old (view_for_start start.now)) }
-    ensures resolved { IfOk result (λ found. resolved_start symbols.old (view_for_start start.now) ≡ Some (view_resolved_start found)) }
+    ensures in_scope { OnOk result
+        (symbols.new ≡ after_for_start symbols.old (view_for_start start.now)) }
+    ensures resolved { IfOk result
+        (λ found. resolved_start symbols.old (view_for_start start.now)
+        ≡ Some (view_resolved_start found)) }
 {
     match start {
         ForStart::Nothing(_) => Ok(ResolvedStart::Nothing),
@@ -89,8 +101,12 @@ fn resolve_for_turn(
     SourceFault,
 >
     ensures checked { Checks result (for_turn_breaches symbols.now (view_for_head head.now)) }
-    ensures condition { IfOk result (λ found. resolved_perhaps symbols.now (view_for_head head.now).condition ≡ Some (option_map (λ boxed. view_resolved_expression boxed.value) found.0)) }
-    ensures step { IfOk result (λ found. resolved_perhaps symbols.now (view_for_head head.now).step ≡ Some (option_map (λ boxed. view_resolved_expression boxed.value) found.1)) }
+    ensures condition { IfOk result
+        (λ found. resolved_perhaps symbols.now (view_for_head head.now).condition
+        ≡ Some (option_map (λ boxed. view_resolved_expression boxed.value) found.0)) }
+    ensures step { IfOk result
+        (λ found. resolved_perhaps symbols.now (view_for_head head.now).step
+        ≡ Some (option_map (λ boxed. view_resolved_expression boxed.value) found.1)) }
 {
     let condition = resolve_perhaps(alloc, symbols, true, &head.condition)?;
     let step = resolve_perhaps(alloc, symbols, false, &head.step)?;
@@ -104,8 +120,11 @@ fn resolve_perhaps(
     for_value: bool,
     expression: &Option<Expression>,
 ) -> Result<Option<Box<ResolvedExpression>>, SourceFault>
-    ensures checked { Checks result (perhaps_breaches symbols.now for_value (option_map view_expression expression.now)) }
-    ensures resolved { IfOk result (λ found. resolved_perhaps symbols.now (option_map view_expression expression.now) ≡ Some (option_map (λ boxed. view_resolved_expression boxed.value) found)) }
+    ensures checked { Checks result
+        (perhaps_breaches symbols.now for_value (option_map view_expression expression.now)) }
+    ensures resolved { IfOk result
+        (λ found. resolved_perhaps symbols.now (option_map view_expression expression.now)
+        ≡ Some (option_map (λ boxed. view_resolved_expression boxed.value) found)) }
 {
     match expression {
         None => Ok(None),
@@ -118,7 +137,11 @@ fn resolve_perhaps(
 
 /// A `for` with its body.
 pub fn for_of(at: Span, head: ResolvedHead, body: Box<ResolvedStatement>) -> ResolvedStatement
-    ensures { view_resolved_statement result ≡ resolved.For at (view_resolved_start head.start.value) (option_map (λ boxed. view_resolved_expression boxed.value) head.condition) (option_map (λ boxed. view_resolved_expression boxed.value) head.step) (view_resolved_statement body.value) }
+    ensures { view_resolved_statement result
+        ≡ resolved.For at (view_resolved_start head.start.value)
+        (option_map (λ boxed. view_resolved_expression boxed.value) head.condition)
+        (option_map (λ boxed. view_resolved_expression boxed.value) head.step)
+        (view_resolved_statement body.value) }
 {
     let ResolvedHead {
         start,

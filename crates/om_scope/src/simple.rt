@@ -30,9 +30,14 @@ pub fn resolve_declaration(
     symbols: &mut Symbols,
     declaration: &Declaration,
 ) -> Result<ResolvedStatement, SourceFault>
-    ensures checked { Checks result (locals_breaches symbols.old (declarators_of (view_declaration declaration.now))) }
-    ensures in_scope { OnOk result (symbols.new ≡ after_locals symbols.old (declarators_of (view_declaration declaration.now))) }
-    ensures resolved { IfOk result (λ found. resolved_declaration symbols.old (view_declaration declaration.now) ≡ Some (view_resolved_statement found)) }
+    ensures checked { Checks result
+        (locals_breaches symbols.old (declarators_of (view_declaration declaration.now))) }
+    ensures in_scope { OnOk result
+        (symbols.new ≡ after_locals symbols.old
+        (declarators_of (view_declaration declaration.now))) }
+    ensures resolved { IfOk result
+        (λ found. resolved_declaration symbols.old (view_declaration declaration.now)
+        ≡ Some (view_resolved_statement found)) }
 {
     let declared = resolve_locals(alloc, symbols, declaration)?;
     Ok(ResolvedStatement::Declaration(declaration.int, declared))
@@ -44,8 +49,11 @@ pub fn resolve_effect(
     symbols: &Symbols,
     expression: &Expression,
 ) -> Result<ResolvedStatement, SourceFault>
-    ensures checked { Checks result (expression_breaches symbols.now false (view_expression expression.now)) }
-    ensures resolved { IfOk result (λ found. resolved_effect symbols.now (view_expression expression.now) ≡ Some (view_resolved_statement found)) }
+    ensures checked { Checks result
+        (expression_breaches symbols.now false (view_expression expression.now)) }
+    ensures resolved { IfOk result
+        (λ found. resolved_effect symbols.now (view_expression expression.now)
+        ≡ Some (view_resolved_statement found)) }
 {
     let at = expression_first(expression);
     let expression = boxed_expression(alloc, symbols, false, expression)?;
@@ -61,8 +69,14 @@ pub fn resolve_return(
     at: Span,
     value: &Option<Box<Expression>>,
 ) -> Result<ResolvedStatement, SourceFault>
-    ensures checked { Checks result (jump_breaches (not flow.in_construct) at.start ++ return_breaches symbols.now flow (option_map (λ boxed. view_expression boxed.value) value.now)) }
-    ensures resolved { IfOk result (λ found. resolved_return symbols.now at (option_map (λ boxed. view_expression boxed.value) value.now) ≡ Some (view_resolved_statement found)) }
+    ensures checked { Checks result
+        (jump_breaches (not flow.in_construct) at.start
+        ++ return_breaches symbols.now flow
+        (option_map (λ boxed. view_expression boxed.value) value.now)) }
+    ensures resolved { IfOk result
+        (λ found. resolved_return symbols.now at
+        (option_map (λ boxed. view_expression boxed.value) value.now)
+        ≡ Some (view_resolved_statement found)) }
 {
     check_jump(!flow.in_construct, at.start)?;
     let value = resolve_returned(alloc, symbols, flow, value)?;
@@ -76,8 +90,13 @@ fn resolve_returned(
     flow: Flow,
     value: &Option<Box<Expression>>,
 ) -> Result<Option<Box<ResolvedExpression>>, SourceFault>
-    ensures checked { Checks result (return_breaches symbols.now flow (option_map (λ boxed. view_expression boxed.value) value.now)) }
-    ensures resolved { IfOk result (λ found. resolved_perhaps symbols.now (option_map (λ boxed. view_expression boxed.value) value.now) ≡ Some (option_map (λ boxed. view_resolved_expression boxed.value) found)) }
+    ensures checked { Checks result
+        (return_breaches symbols.now flow
+        (option_map (λ boxed. view_expression boxed.value) value.now)) }
+    ensures resolved { IfOk result
+        (λ found. resolved_perhaps symbols.now
+        (option_map (λ boxed. view_expression boxed.value) value.now)
+        ≡ Some (option_map (λ boxed. view_resolved_expression boxed.value) found)) }
 {
     match value {
         None => Ok(None),
@@ -107,9 +126,12 @@ pub fn resolve_stand_alone(
     flow: Flow,
     directive: &Directive<Expression>,
 ) -> Result<ResolvedStatement, SourceFault>
-    ensures checked { Checks result (stand_alone_breaches symbols.now flow (view_directive directive.now)) }
+    ensures checked { Checks result
+        (stand_alone_breaches symbols.now flow (view_directive directive.now)) }
     ensures resolved { let tree = view_directive directive.now in
-        IfOk result (λ found. resolved_alone symbols.now tree tree.name ≡ Some (view_resolved_statement found)) }
+        IfOk result
+        (λ found. resolved_alone symbols.now tree tree.name
+        ≡ Some (view_resolved_statement found)) }
 {
     resolve_directive(alloc, symbols, flow, directive)?;
     resolve_alone(alloc, symbols, directive)
@@ -123,7 +145,9 @@ fn resolve_alone(
 ) -> Result<ResolvedStatement, SourceFault>
     ensures checked { Checks result (flush_breaches symbols.now directive.now.name) }
     ensures resolved { let tree = view_directive directive.now in
-        IfOk result (λ found. resolved_alone symbols.now tree tree.name ≡ Some (view_resolved_statement found)) }
+        IfOk result
+        (λ found. resolved_alone symbols.now tree tree.name
+        ≡ Some (view_resolved_statement found)) }
 {
     let at = directive.hash;
     match &directive.name {

@@ -39,9 +39,14 @@ pub fn resolve_statements(
     flow: Flow,
     items: &[Statement],
 ) -> Result<Vec<ResolvedStatement>, SourceFault>
-    ensures checked { Checks result (statements_breaches symbols.old flow (statements (map view_statement items.now))) }
-    ensures in_scope { OnOk result (symbols.new ≡ after_statements symbols.old (map view_statement items.now)) }
-    ensures resolved { IfOk result (λ found. resolved_statements symbols.old flow.parallel (statements (map view_statement items.now)) ≡ Some (resolved.statements (map view_resolved_statement found.items))) }
+    ensures checked { Checks result
+        (statements_breaches symbols.old flow (statements (map view_statement items.now))) }
+    ensures in_scope { OnOk result
+        (symbols.new ≡ after_statements symbols.old (map view_statement items.now)) }
+    ensures resolved { IfOk result
+        (λ found. resolved_statements symbols.old flow.parallel
+        (statements (map view_statement items.now))
+        ≡ Some (resolved.statements (map view_resolved_statement found.items))) }
 {
     let mut resolved = Vec::new(alloc);
     for item in items {
@@ -60,9 +65,13 @@ fn resolve_statement(
     flow: Flow,
     statement: &Statement,
 ) -> Result<ResolvedStatement, SourceFault>
-    ensures checked { Checks result (statement_breaches symbols.old flow (view_statement statement.now)) }
-    ensures in_scope { OnOk result (symbols.new ≡ after_statement symbols.old (view_statement statement.now)) }
-    ensures resolved { IfOk result (λ found. resolved_statement symbols.old flow.parallel (view_statement statement.now) ≡ Some (view_resolved_statement found)) }
+    ensures checked { Checks result
+        (statement_breaches symbols.old flow (view_statement statement.now)) }
+    ensures in_scope { OnOk result
+        (symbols.new ≡ after_statement symbols.old (view_statement statement.now)) }
+    ensures resolved { IfOk result
+        (λ found. resolved_statement symbols.old flow.parallel (view_statement statement.now)
+        ≡ Some (view_resolved_statement found)) }
 {
     match statement {
         Statement::Declaration(declaration) => resolve_declaration(alloc, symbols, declaration),
@@ -157,9 +166,12 @@ fn resolve_body(
     flow: Flow,
     body: &Statement,
 ) -> Result<Box<ResolvedStatement>, SourceFault>
-    ensures checked { Checks result (statement_breaches (inside symbols.old) flow (view_statement body.now)) }
+    ensures checked { Checks result
+        (statement_breaches (inside symbols.old) flow (view_statement body.now)) }
     ensures in_scope { OnOk result (symbols.new ≡ symbols.old) }
-    ensures resolved { IfOk result (λ found. resolved_statement (inside symbols.old) flow.parallel (view_statement body.now) ≡ Some (view_resolved_statement found.value)) }
+    ensures resolved { IfOk result
+        (λ found. resolved_statement (inside symbols.old) flow.parallel (view_statement body.now)
+        ≡ Some (view_resolved_statement found.value)) }
 {
     symbols.enter(alloc)?;
     let found = boxed_statement(alloc, symbols, flow, body);
@@ -175,9 +187,13 @@ fn boxed_statement(
     flow: Flow,
     statement: &Statement,
 ) -> Result<Box<ResolvedStatement>, SourceFault>
-    ensures checked { Checks result (statement_breaches symbols.old flow (view_statement statement.now)) }
-    ensures in_scope { OnOk result (symbols.new ≡ after_statement symbols.old (view_statement statement.now)) }
-    ensures resolved { IfOk result (λ found. resolved_statement symbols.old flow.parallel (view_statement statement.now) ≡ Some (view_resolved_statement found.value)) }
+    ensures checked { Checks result
+        (statement_breaches symbols.old flow (view_statement statement.now)) }
+    ensures in_scope { OnOk result
+        (symbols.new ≡ after_statement symbols.old (view_statement statement.now)) }
+    ensures resolved { IfOk result
+        (λ found. resolved_statement symbols.old flow.parallel (view_statement statement.now)
+        ≡ Some (view_resolved_statement found.value)) }
 {
     boxed(alloc, resolve_statement(alloc, symbols, flow, statement))
 }
@@ -190,9 +206,14 @@ fn resolve_block(
     flow: Flow,
     items: &[Statement],
 ) -> Result<Vec<ResolvedStatement>, SourceFault>
-    ensures checked { Checks result (statements_breaches (inside symbols.old) flow (statements (map view_statement items.now))) }
+    ensures checked { Checks result
+        (statements_breaches (inside symbols.old) flow
+        (statements (map view_statement items.now))) }
     ensures in_scope { OnOk result (symbols.new ≡ symbols.old) }
-    ensures resolved { IfOk result (λ found. resolved_statements (inside symbols.old) flow.parallel (statements (map view_statement items.now)) ≡ Some (resolved.statements (map view_resolved_statement found.items))) }
+    ensures resolved { IfOk result
+        (λ found. resolved_statements (inside symbols.old) flow.parallel
+        (statements (map view_statement items.now))
+        ≡ Some (resolved.statements (map view_resolved_statement found.items))) }
 {
     symbols.enter(alloc)?;
     let items = resolve_statements(alloc, symbols, flow, items);
@@ -210,9 +231,12 @@ fn resolve_for(
     head: &ForHead,
     body: &Statement,
 ) -> Result<ResolvedStatement, SourceFault>
-    ensures checked { Checks result (for_breaches symbols.old flow (view_for_head head.now) (view_statement body.now)) }
+    ensures checked { Checks result
+        (for_breaches symbols.old flow (view_for_head head.now) (view_statement body.now)) }
     ensures in_scope { OnOk result (symbols.new ≡ symbols.old) }
-    ensures resolved { IfOk result (λ found. resolved_for symbols.old flow.parallel (view_for_head head.now) (view_statement body.now) ≡ Some (view_resolved_statement found)) }
+    ensures resolved { IfOk result
+        (λ found. resolved_for symbols.old flow.parallel (view_for_head head.now)
+        (view_statement body.now) ≡ Some (view_resolved_statement found)) }
 {
     symbols.enter(alloc)?;
     let turn = resolve_for_head(alloc, symbols, head)?;
@@ -244,9 +268,13 @@ fn resolve_construct(
     directive: &Directive<Expression>,
     body: &Statement,
 ) -> Result<ResolvedStatement, SourceFault>
-    ensures checked { Checks result (construct_breaches symbols.old flow (view_directive directive.now) (view_statement body.now)) }
+    ensures checked { Checks result
+        (construct_breaches symbols.old flow (view_directive directive.now)
+        (view_statement body.now)) }
     ensures in_scope { OnOk result (symbols.new ≡ symbols.old) }
-    ensures resolved { IfOk result (λ found. resolved_construct symbols.old flow.parallel (view_directive directive.now) (view_statement body.now) ≡ Some (view_resolved_statement found)) }
+    ensures resolved { IfOk result
+        (λ found. resolved_construct symbols.old flow.parallel (view_directive directive.now)
+        (view_statement body.now) ≡ Some (view_resolved_statement found)) }
 {
     if !traits_of(&directive.name).takes_loop {
         resolve_plain_construct(alloc, symbols, flow, directive, body)
@@ -265,9 +293,13 @@ fn resolve_plain_construct(
     directive: &Directive<Expression>,
     body: &Statement,
 ) -> Result<ResolvedStatement, SourceFault>
-    ensures checked { Checks result (plain_construct_breaches symbols.old flow (view_directive directive.now) (view_statement body.now)) }
+    ensures checked { Checks result
+        (plain_construct_breaches symbols.old flow (view_directive directive.now)
+        (view_statement body.now)) }
     ensures in_scope { OnOk result (symbols.new ≡ symbols.old) }
-    ensures resolved { IfOk result (λ found. resolved_plain_construct symbols.old flow.parallel (view_directive directive.now) (view_statement body.now) ≡ Some (view_resolved_statement found)) }
+    ensures resolved { IfOk result
+        (λ found. resolved_plain_construct symbols.old flow.parallel (view_directive directive.now)
+        (view_statement body.now) ≡ Some (view_resolved_statement found)) }
 {
     let inside = constructing(directive, flow);
     let setting = Setting {
@@ -290,9 +322,14 @@ fn resolve_loop_construct(
     directive: &Directive<Expression>,
     body: &Statement,
 ) -> Result<ResolvedStatement, SourceFault>
-    ensures checked { Checks result (loop_construct_breaches symbols.old flow (view_directive directive.now) (loop_in (view_statement body.now)) (view_statement body.now)) }
+    ensures checked { Checks result
+        (loop_construct_breaches symbols.old flow (view_directive directive.now)
+        (loop_in (view_statement body.now)) (view_statement body.now)) }
     ensures in_scope { OnOk result (symbols.new ≡ symbols.old) }
-    ensures resolved { IfOk result (λ found. resolved_loop_construct symbols.old flow.parallel (view_directive directive.now) (loop_in (view_statement body.now)) (view_statement body.now) ≡ Some (view_resolved_statement found)) }
+    ensures resolved { IfOk result
+        (λ found. resolved_loop_construct symbols.old flow.parallel (view_directive directive.now)
+        (loop_in (view_statement body.now)) (view_statement body.now)
+        ≡ Some (view_resolved_statement found)) }
 {
     let inside = constructing(directive, flow);
     match loop_in(body) {
@@ -323,9 +360,12 @@ fn resolve_loop_body(
     body: &Statement,
 ) -> Result<Box<ResolvedStatement>, SourceFault>
     requires is_loop { is_some (loop_in (view_statement body.now)) ≡ true }
-    ensures checked { Checks result (body_breaches symbols.old inside (Some (view_loop found.now)) (view_statement body.now)) }
+    ensures checked { Checks result
+        (body_breaches symbols.old inside (Some (view_loop found.now)) (view_statement body.now)) }
     ensures in_scope { OnOk result (symbols.new ≡ symbols.old) }
-    ensures resolved { IfOk result (λ made. resolved_repeated symbols.old inside.parallel (view_loop found.now) (view_statement body.now) ≡ Some (view_resolved_statement made.value)) }
+    ensures resolved { IfOk result
+        (λ made. resolved_repeated symbols.old inside.parallel (view_loop found.now)
+        (view_statement body.now) ≡ Some (view_resolved_statement made.value)) }
 {
     match body {
         Statement::For { body: repeated, .. } => resolve_repeated(
@@ -344,9 +384,13 @@ fn resolve_repeated(
     found: &Loop<'_>,
     repeated: &Statement,
 ) -> Result<Box<ResolvedStatement>, SourceFault>
-    ensures checked { Checks result (statement_breaches (in_loop symbols.old (Some (view_loop found.now))) (continuing inside) (view_statement repeated.now)) }
+    ensures checked { Checks result
+        (statement_breaches (in_loop symbols.old (Some (view_loop found.now))) (continuing inside)
+        (view_statement repeated.now)) }
     ensures in_scope { OnOk result (symbols.new ≡ symbols.old) }
-    ensures resolved { IfOk result (λ made. resolved_statement (in_loop symbols.old (Some (view_loop found.now))) inside.parallel (view_statement repeated.now) ≡ Some (view_resolved_statement made.value)) }
+    ensures resolved { IfOk result
+        (λ made. resolved_statement (in_loop symbols.old (Some (view_loop found.now)))
+        inside.parallel (view_statement repeated.now) ≡ Some (view_resolved_statement made.value)) }
 {
     enter_loop(alloc, symbols, found)?;
     let repeated = resolve_body(alloc, symbols, continuing(inside), repeated)?;
@@ -374,9 +418,13 @@ fn resolve_sections(
     directive: &Directive<Expression>,
     items: &[Statement],
 ) -> Result<ResolvedStatement, SourceFault>
-    ensures checked { Checks result (sections_construct_breaches symbols.old flow (view_directive directive.now) (statements (map view_statement items.now))) }
+    ensures checked { Checks result
+        (sections_construct_breaches symbols.old flow (view_directive directive.now)
+        (statements (map view_statement items.now))) }
     ensures in_scope { OnOk result (symbols.new ≡ symbols.old) }
-    ensures resolved { IfOk result (λ found. resolved_sections symbols.old flow.parallel (view_directive directive.now) (statements (map view_statement items.now)) ≡ Some (view_resolved_statement found)) }
+    ensures resolved { IfOk result
+        (λ found. resolved_sections symbols.old flow.parallel (view_directive directive.now)
+        (statements (map view_statement items.now)) ≡ Some (view_resolved_statement found)) }
 {
     let inside = constructing(directive, flow);
     let clauses = enter_construct(alloc, symbols, flow, directive)?;
@@ -394,9 +442,13 @@ fn resolve_parts(
     flow: Flow,
     items: &[Statement],
 ) -> Result<Vec<ResolvedPart>, SourceFault>
-    ensures checked { Checks result (sections_breaches symbols.old flow 0 (statements (map view_statement items.now))) }
+    ensures checked { Checks result
+        (sections_breaches symbols.old flow 0 (statements (map view_statement items.now))) }
     ensures in_scope { OnOk result (symbols.new ≡ symbols.old) }
-    ensures resolved { IfOk result (λ found. option_map parts_of (resolved_parts symbols.old flow.parallel 0 (statements (map view_statement items.now))) ≡ Some (resolved.parts (map view_resolved_part found.items))) }
+    ensures resolved { IfOk result
+        (λ found. option_map parts_of
+        (resolved_parts symbols.old flow.parallel 0 (statements (map view_statement items.now)))
+        ≡ Some (resolved.parts (map view_resolved_part found.items))) }
 {
     let mut parts = Vec::new(alloc);
     for item in items {
@@ -417,10 +469,13 @@ fn resolve_item(
     before: usize,
     item: &Statement,
 ) -> Result<Box<ResolvedStatement>, SourceFault>
-    ensures checked { Checks result (part_breaches symbols.old flow before (view_statement item.now)) }
+    ensures checked { Checks result
+        (part_breaches symbols.old flow before (view_statement item.now)) }
     ensures in_scope { OnOk result (symbols.new ≡ symbols.old) }
     ensures resolved { let tree = view_statement item.now in
-        IfOk result (λ found. resolved_statement (inside symbols.old) flow.parallel tree ≡ Some (view_resolved_statement found.value)) }
+        IfOk result
+        (λ found. resolved_statement (inside symbols.old) flow.parallel tree
+        ≡ Some (view_resolved_statement found.value)) }
 {
     refuse_if(
         begins_part(before, item) && SECTION_LIMIT <= before,

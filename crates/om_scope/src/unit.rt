@@ -72,10 +72,13 @@ fn resolve_item(
 ) -> Result<(), SourceFault>
     ensures checked { Checks result (item_breaches symbols.old (view_item item.now)) }
     ensures in_scope { OnOk result (symbols.new ≡ after_item symbols.old (view_item item.now)) }
-    ensures declared { OnOk result (globals.new.items ≡ globals.old.items ++ globals_of (view_item item.now)) }
+    ensures declared { OnOk result
+        (globals.new.items ≡ globals.old.items ++ globals_of (view_item item.now)) }
     ensures defined { let before = map view_resolved_function functions.old.items in
         let after = map view_resolved_function functions.new.items in
-        OnOk result (option_map (λ own. before ++ own) (item_functions symbols.old (view_item item.now)) ≡ Some after) }
+        OnOk result
+        (option_map (λ own. before ++ own) (item_functions symbols.old (view_item item.now))
+        ≡ Some after) }
 {
     match item {
         Item::Declaration(declaration) => declare_globals(alloc, symbols, globals, declaration),
@@ -96,10 +99,13 @@ fn resolve_each(
     items: &[Item],
 ) -> Result<(), SourceFault>
     ensures checked { Checks result (items_breaches symbols.old (map view_item items.now)) }
-    ensures declared { OnOk result (globals.new.items ≡ globals.old.items ++ flat_map globals_of (map view_item items.now)) }
+    ensures declared { OnOk result
+        (globals.new.items ≡ globals.old.items ++ flat_map globals_of (map view_item items.now)) }
     ensures defined { let before = map view_resolved_function functions.old.items in
         let after = map view_resolved_function functions.new.items in
-        OnOk result (option_map (λ own. before ++ own) (all_along item_functions after_item symbols.old (map view_item items.now)) ≡ Some after) }
+        OnOk result
+        (option_map (λ own. before ++ own)
+        (all_along item_functions after_item symbols.old (map view_item items.now)) ≡ Some after) }
 {
     for item in items {
         resolve_item(alloc, symbols, globals, functions, item)?;
@@ -116,7 +122,8 @@ fn resolve_from(
     requires is_empty { symbols.old ≡ nothing_declared (definitions_of (map view_item items.now)) }
     ensures checked { let trees = map view_item items.now in
         Checks result (items_breaches (file_scope (definitions_of trees)) trees) }
-    ensures resolved { IfOk result (λ found. items_resolution (map view_item items.now) ≡ Some (view_resolved found)) }
+    ensures resolved { IfOk result
+        (λ found. items_resolution (map view_item items.now) ≡ Some (view_resolved found)) }
 {
     symbols.begin_file(alloc)?;
     let mut globals = Vec::new(alloc);
@@ -132,7 +139,8 @@ fn resolve_from(
 fn resolve_items(alloc: Global, items: &[Item]) -> Result<Resolved, SourceFault>
     ensures checked { let trees = map view_item items.now in
         Checks result (items_breaches (file_scope (definitions_of trees)) trees) }
-    ensures resolved { IfOk result (λ found. items_resolution (map view_item items.now) ≡ Some (view_resolved found)) }
+    ensures resolved { IfOk result
+        (λ found. items_resolution (map view_item items.now) ≡ Some (view_resolved found)) }
 {
     let definitions = definitions_of(alloc, items)?;
     let mut symbols = Symbols::new(alloc, definitions);
@@ -192,11 +200,15 @@ fn check_main(unit: &Unit) -> Result<(), SourceFault>
 #[tactic(auto, using(om_rules::specs::InRow::first_of_left), unfolding(om_rules::specs::Breaches::breaches_of, om_rules::specs::UnitResolution::resolution_of))]
 pub fn resolve(alloc: Global, unit: Unit) -> Result<Resolved, SourceFault>
     ensures no_breach { OnOk result (breaches_of (view_unit unit) ≡ []) }
-    ensures resolved { IfOk result (λ resolved. resolution_of (view_unit unit) ≡ Some (view_resolved resolved)) }
+    ensures resolved { IfOk result
+        (λ resolved. resolution_of (view_unit unit) ≡ Some (view_resolved resolved)) }
     ensures is_resolved { IfOk result (λ resolved. IsResolved (view_resolved resolved)) }
-    ensures whole { IsUnit (view_unit unit) → IfOk result (λ resolved. IsWholeTree (view_resolved resolved)) }
-    ensures atomics_assign { AtomicsHaveForms (view_unit unit) → IfOk result (λ resolved. TreeAtomicsAssign (view_resolved resolved)) }
-    ensures first_breach { IfErr result (λ fault. fault ≢ no_memory → first_of (breaches_of (view_unit unit)) ≡ Some fault) }
+    ensures whole { IsUnit (view_unit unit) →
+        IfOk result (λ resolved. IsWholeTree (view_resolved resolved)) }
+    ensures atomics_assign { AtomicsHaveForms (view_unit unit) →
+        IfOk result (λ resolved. TreeAtomicsAssign (view_resolved resolved)) }
+    ensures first_breach { IfErr result
+        (λ fault. fault ≢ no_memory → first_of (breaches_of (view_unit unit)) ≡ Some fault) }
 {
     let resolved = resolve_items(alloc, unit.items.as_slice())?;
     check_main(&unit)?;

@@ -80,7 +80,8 @@ fn put_unset(updates: &mut Seq<Update>, cells: &[Access]) -> Result<(), AllocErr
 /// The answer where one object is named, and the turn is this one.
 fn naming(alloc: Global, next: u32, access: &Access, turn: Turn) -> Result<Answer, AllocError>
     requires { next + 1 < 2 ^ 32 }
-    ensures { IfOk result (λ answer. answer ≡ record { names = access.now ∷ []; row = row_of (next + 1) [] turn }) }
+    ensures { IfOk result
+        (λ answer. answer ≡ record { names = access.now ∷ []; row = row_of (next + 1) [] turn }) }
 {
     let mut names = Seq::of(Vec::with_capacity(alloc, 1)?);
     name(&mut names, access.object, access.mode)?;
@@ -111,7 +112,13 @@ fn clearing(
 /// The answer where bytes are printed, and the turn is this one.
 fn printing(alloc: Global, next: u32, bytes: Seq<u8>, turn: Turn) -> Result<Answer, AllocError>
     requires { next + 1 < 2 ^ 32 }
-    ensures { IfOk result (λ answer. answer ≡ record { names = write obj.Output ∷ []; row = row_of (next + 1) (Update.Append (Tail.Bytes bytes) ∷ []) turn }) }
+    ensures { IfOk result
+        (λ answer. answer
+        ≡ record {
+          names = write obj.Output ∷ [];
+          row = row_of (next + 1)
+              (Update.Append (Tail.Bytes bytes) ∷ []) turn;
+        }) }
 {
     let mut names = Seq::new(alloc);
     name(&mut names, Obj::Output, Mode::Write)?;
@@ -131,7 +138,8 @@ pub fn serial(
 ) -> Result<Answer, AllocError>
     requires names { NamesKnown raw.now (slots_in raw.now context.now) instr }
     requires next { context.now.frame.next + 1 < 2 ^ 32 }
-    ensures { IfOk result (λ answer. answer ≡ answered (serial_row raw.now context.now instr) (state_of store.now)) }
+    ensures { IfOk result
+        (λ answer. answer ≡ answered (serial_row raw.now context.now instr) (state_of store.now)) }
 {
     let slots = slots_of(raw, context.frame.body);
     let operands = &context.frame.operands;

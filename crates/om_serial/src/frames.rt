@@ -24,7 +24,8 @@ const MAX_CALLERS: usize = 999;
 /// TNUM, TSIZE: a number of threads is pushed.
 pub fn number(alloc: Global, context: &Context, number: u8) -> Result<Answer, AllocError>
     requires { context.now.frame.next + 1 < 2 ^ 32 }
-    ensures { IfOk result (λ answer. (s : State) → answer ≡ answered (number_row context.now number) s) }
+    ensures { IfOk result
+        (λ answer. (s : State) → answer ≡ answered (number_row context.now number) s) }
 {
     let to = context.frame.next + 1;
     let pushed = Some(Operand::Int(i32::from(number)));
@@ -40,7 +41,9 @@ pub fn call(
     context: &Context,
     values: Option<Vec<i32>>,
 ) -> Result<Answer, AllocError>
-    ensures { IfOk result (λ answer. (s : State) → answer ≡ answered (call_row launch body.now context.now (option_map (λ v. v.items) values)) s) }
+    ensures { IfOk result
+        (λ answer. (s : State) → answer
+        ≡ answered (call_row launch body.now context.now (option_map (λ v. v.items) values)) s) }
 {
     let Some(values) = values else {
         return Ok(Answer::decided(alloc, Row::Lacks));
@@ -80,7 +83,9 @@ pub fn give_back(
     value: Option<Operand>,
 ) -> Result<Answer, AllocError>
     requires { length slots.now ≤ 2 ^ 32 }
-    ensures { IfOk result (λ answer. (s : State) → answer ≡ answered (return_row context.now slots.now context.now.callers value) s) }
+    ensures { IfOk result
+        (λ answer. (s : State) → answer
+        ≡ answered (return_row context.now slots.now context.now.callers value) s) }
 {
     let (Some(value), false) = (value, context.callers.is_empty()) else {
         return Ok(Answer::decided(alloc, Row::Lacks));
@@ -129,7 +134,9 @@ pub fn reduce(
     operands: (u32, Place),
 ) -> Result<Answer, AllocError>
     requires { context.now.frame.next + 1 < 2 ^ 32 }
-    ensures { IfOk result (λ answer. answer ≡ answered (reduce_row context.now reduction operands.0 operands.1) (state_of store.now)) }
+    ensures { IfOk result
+        (λ answer. answer ≡ answered (reduce_row context.now reduction operands.0 operands.1)
+        (state_of store.now)) }
 {
     let (copy, place) = operands;
     let copy = &read(object_of(context, Place::Slot(copy), 0));

@@ -25,7 +25,8 @@ fn copied(alloc: Global, name: &[u8]) -> Result<Seq<u8>, AllocError>
 
 /// CRACQ: asks for a lock.
 pub fn ask_critical(alloc: Global, at: At, name: &[u8]) -> Result<Answer, AllocError>
-    ensures { (s : State) → IfOk result (λ answer. answer ≡ answered (ask_critical_row at.worker at.to name.now) s) }
+    ensures { (s : State) → IfOk result
+        (λ answer. answer ≡ answered (ask_critical_row at.worker at.to name.now) s) }
 {
     let lock = copied(alloc, name)?;
     let go = Edit::Go {
@@ -66,7 +67,9 @@ pub fn enter_critical(
     number: u32,
     name: &[u8],
 ) -> Result<Answer, AllocError>
-    ensures { IfOk result (λ answer. answer ≡ answered (enter_critical_row at.worker at.to number name.now) (state_of store.now)) }
+    ensures { IfOk result
+        (λ answer. answer ≡ answered (enter_critical_row at.worker at.to number name.now)
+        (state_of store.now)) }
 {
     let names = written_and_events(alloc, &Obj::Lock(number), at.worker)?;
     let row = lock(alloc, at, number, name, store.holder(number))?;
@@ -106,7 +109,9 @@ pub fn leave_critical(
     number: u32,
     name: &[u8],
 ) -> Result<Answer, AllocError>
-    ensures { (s : State) → IfOk result (λ answer. answer ≡ answered (leave_critical_row at.worker at.to number name.now (innermost context.now.constructs)) s) }
+    ensures { (s : State) → IfOk result
+        (λ answer. answer ≡ answered
+        (leave_critical_row at.worker at.to number name.now (innermost context.now.constructs)) s) }
 {
     if !is_critical(context, number) {
         return Ok(Answer::decided(alloc, Row::Lacks));

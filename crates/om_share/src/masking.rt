@@ -33,7 +33,9 @@ fn filter(
     branch: Branch,
     runs: bool,
 ) -> Result<Answer, AllocError>
-    ensures { (s : State) → IfOk result (λ answer. answer ≡ answered (filtered_row worker branch.to branch.otherwise context.now runs) s) }
+    ensures { (s : State) → IfOk result
+        (λ answer. answer ≡ answered
+        (filtered_row worker branch.to branch.otherwise context.now runs) s) }
 {
     if runs {
         let region = Edit::Open(Shared::of(alloc, Construct::Masked)?);
@@ -61,7 +63,9 @@ pub fn masked(
     branch: Branch,
     number: Option<i32>,
 ) -> Result<Answer, AllocError>
-    ensures { (s : State) → IfOk result (λ answer. answer ≡ answered (masked_row worker branch.to branch.otherwise context.now number) s) }
+    ensures { (s : State) → IfOk result
+        (λ answer. answer ≡ answered
+        (masked_row worker branch.to branch.otherwise context.now number) s) }
 {
     let Some(number) = number else {
         return Ok(Answer::decided(alloc, Row::Lacks));
@@ -86,7 +90,9 @@ fn is_masked(context: &Context) -> bool
 
 /// ENDM: closes a masked region.
 pub fn end_masked(alloc: Global, context: &Context, at: At) -> Result<Answer, AllocError>
-    ensures { (s : State) → IfOk result (λ answer. answer ≡ answered (end_masked_row at.worker at.to context.now (innermost context.now.constructs)) s) }
+    ensures { (s : State) → IfOk result
+        (λ answer. answer ≡ answered
+        (end_masked_row at.worker at.to context.now (innermost context.now.constructs)) s) }
 {
     if !is_masked(context) {
         return Ok(Answer::decided(alloc, Row::Lacks));

@@ -130,7 +130,9 @@ pub(crate) fn recorded(
     edits: Seq<Edit>,
     entry: Record,
 ) -> Result<Answer, AllocError>
-    ensures { IfOk result (λ answer. answer ≡ record { names = events worker ∷ []; row = Row.Goes edits (event entry ∷ []) }) }
+    ensures { IfOk result
+        (λ answer. answer
+        ≡ record { names = events worker ∷ []; row = Row.Goes edits (event entry ∷ []) }) }
 {
     let updates = one_event(alloc, entry)?;
     let names = own_events(alloc, worker)?;

@@ -83,7 +83,8 @@ fn open_share(
     takes: u32,
     share: Share,
 ) -> Result<Answer, AllocError>
-    ensures { (s : State) → IfOk result (λ answer. answer ≡ answered (open_row at.worker at.to takes context.now share) s) }
+    ensures { (s : State) → IfOk result
+        (λ answer. answer ≡ answered (open_row at.worker at.to takes context.now share) s) }
 {
     if is_misplaced(context) {
         return Ok(Answer::decided(alloc, Row::Faults(Fault::Nesting)));
@@ -107,7 +108,9 @@ pub fn open_loop(
     form: LoopForm,
     bounds: Bounds,
 ) -> Result<Answer, AllocError>
-    ensures { (s : State) → IfOk result (λ answer. answer ≡ answered (loop_row at.worker at.to context.now form bounds.lower bounds.upper) s) }
+    ensures { (s : State) → IfOk result
+        (λ answer. answer ≡ answered
+        (loop_row at.worker at.to context.now form bounds.lower bounds.upper) s) }
 {
     let Some(lower) = bounds.lower else {
         return Ok(Answer::decided(alloc, Row::Lacks));
@@ -129,7 +132,8 @@ pub fn open_sections(
     at: At,
     count: u32,
 ) -> Result<Answer, AllocError>
-    ensures { (s : State) → IfOk result (λ answer. answer ≡ answered (sections_row at.worker at.to context.now count) s) }
+    ensures { (s : State) → IfOk result
+        (λ answer. answer ≡ answered (sections_row at.worker at.to context.now count) s) }
 {
     let share = Share {
         sharing: Sharing::Sections,
@@ -204,7 +208,9 @@ fn grab_static(
     share: Share,
     size: Option<u32>,
 ) -> Result<Answer, AllocError>
-    ensures { (s : State) → IfOk result (λ answer. answer ≡ answered (static_row branch.to branch.otherwise context.now share size) s) }
+    ensures { (s : State) → IfOk result
+        (λ answer. answer ≡ answered (static_row branch.to branch.otherwise context.now share size)
+        s) }
 {
     let team = context.team.get();
     if team.number >= team.size {
@@ -223,7 +229,10 @@ fn grab_dynamic(
     share: Share,
     chunk: Option<Chunk>,
 ) -> Result<Answer, AllocError>
-    ensures { IfOk result (λ answer. answer ≡ record { names = write work.now ∷ []; row = given_row branch.to branch.otherwise share chunk }) }
+    ensures { IfOk result
+        (λ answer. answer
+        ≡ record
+        { names = write work.now ∷ []; row = given_row branch.to branch.otherwise share chunk }) }
 {
     let names = written(alloc, work)?;
     let row = give(alloc, branch, share, chunk)?;
@@ -247,7 +256,10 @@ pub fn grab(
     context: &Context,
     branch: Branch,
 ) -> Result<Answer, AllocError>
-    ensures { IfOk result (λ answer. answer ≡ answered (grab_row branch.to branch.otherwise context.now (share_in context.now)) (state_of store.now)) }
+    ensures { IfOk result
+        (λ answer. answer ≡ answered
+        (grab_row branch.to branch.otherwise context.now (share_in context.now))
+        (state_of store.now)) }
 {
     let Some(share) = share_in(context) else {
         return Ok(Answer::decided(alloc, Row::Lacks));
@@ -296,7 +308,9 @@ fn next_iteration(
     slot: u32,
     share: Share,
 ) -> Result<Answer, AllocError>
-    ensures { (s : State) → IfOk result (λ answer. answer ≡ answered (iteration_row branch.to branch.otherwise context.now slot share) s) }
+    ensures { (s : State) → IfOk result
+        (λ answer. answer ≡ answered
+        (iteration_row branch.to branch.otherwise context.now slot share) s) }
 {
     if share.next >= share.end {
         let row = jump(alloc, branch.otherwise, 0)?;
@@ -324,7 +338,9 @@ pub fn iterate(
     branch: Branch,
     slot: u32,
 ) -> Result<Answer, AllocError>
-    ensures { (s : State) → IfOk result (λ answer. answer ≡ answered (iterate_row branch.to branch.otherwise context.now slot (share_in context.now)) s) }
+    ensures { (s : State) → IfOk result
+        (λ answer. answer ≡ answered
+        (iterate_row branch.to branch.otherwise context.now slot (share_in context.now)) s) }
 {
     let Some(share) = share_in(context) else {
         return Ok(Answer::decided(alloc, Row::Lacks));
@@ -354,7 +370,8 @@ fn go_to_section(alloc: Global, targets: &[u32], section: u64) -> Result<Row, Al
 
 /// PICK: goes to the target of the section that was taken.
 pub fn pick(alloc: Global, context: &Context, targets: &[u32]) -> Result<Answer, AllocError>
-    ensures { (s : State) → IfOk result (λ answer. answer ≡ answered (pick_row targets.now (share_in context.now)) s) }
+    ensures { (s : State) → IfOk result
+        (λ answer. answer ≡ answered (pick_row targets.now (share_in context.now)) s) }
 {
     let Some(share) = share_in(context) else {
         return Ok(Answer::decided(alloc, Row::Lacks));

@@ -59,7 +59,8 @@ fn choose(
     branch: Branch,
     is_first: bool,
 ) -> Result<Row, AllocError>
-    ensures { IfOk result (λ row. row ≡ chosen_row branch.to branch.otherwise context.now is_first) }
+    ensures { IfOk result
+        (λ row. row ≡ chosen_row branch.to branch.otherwise context.now is_first) }
 {
     if is_first {
         run(alloc, context, branch.to)
@@ -76,7 +77,9 @@ pub fn single(
     worker: u8,
     branch: Branch,
 ) -> Result<Answer, AllocError>
-    ensures { IfOk result (λ answer. answer ≡ answered (single_row worker branch.to branch.otherwise context.now) (state_of store.now)) }
+    ensures { IfOk result
+        (λ answer. answer ≡ answered (single_row worker branch.to branch.otherwise context.now)
+        (state_of store.now)) }
 {
     if is_misplaced(context) {
         return Ok(Answer::decided(alloc, Row::Faults(Fault::Nesting)));
@@ -99,7 +102,8 @@ fn close(
     work: Work,
     count: u64,
 ) -> Result<Answer, AllocError>
-    ensures { (s : State) → IfOk result (λ answer. answer ≡ answered (closed_row at.worker at.to context.now work count) s) }
+    ensures { (s : State) → IfOk result
+        (λ answer. answer ≡ answered (closed_row at.worker at.to context.now work count) s) }
 {
     let edits = edits(alloc, at.to, 0, Edit::Close)?;
     let entry = work_record(context, work, Endpoint::End, count);
@@ -108,7 +112,9 @@ fn close(
 
 /// ENDW: closes a worksharing region.
 pub fn end_worksharing(alloc: Global, context: &Context, at: At) -> Result<Answer, AllocError>
-    ensures { (s : State) → IfOk result (λ answer. answer ≡ answered (end_worksharing_row at.worker at.to context.now (innermost context.now.constructs)) s) }
+    ensures { (s : State) → IfOk result
+        (λ answer. answer ≡ answered
+        (end_worksharing_row at.worker at.to context.now (innermost context.now.constructs)) s) }
 {
     let Some(region) = innermost(context) else {
         return Ok(Answer::decided(alloc, Row::Lacks));

@@ -26,10 +26,13 @@ fn answer_lines<R: Threads + Wait + Sync, W: Write>(
 ) -> Result<(usize, bool), ShellFault>
     requires within { searched ≤ length bytes.now }
     requires known { HasNoLineEnd (take searched bytes.now) }
-    ensures answered { IfOk result (λ r. AnswersBatch (W.contents writer.old) (W.contents writer.new) bytes.now r.0 session.old.debugger r.1 session.new.debugger) }
+    ensures answered { IfOk result
+        (λ r. AnswersBatch (W.contents writer.old) (W.contents writer.new) bytes.now r.0
+        session.old.debugger r.1 session.new.debugger) }
     ensures left { IfOk result (λ r. r.1 ≡ false → HasNoLineEnd (drop r.0 bytes.now)) }
     ensures begun_on_error { IfErr result (λ fault. (runs : List FreeRun)
-        × AnswersPart (W.contents writer.old) (W.contents writer.new) bytes.now (due session.old.debugger runs) fault) }
+        × AnswersPart (W.contents writer.old) (W.contents writer.new) bytes.now
+        (due session.old.debugger runs) fault) }
 {
     let mut at = 0;
     'lines: while let Some(n) = line_end(&bytes[at..], searched) {
@@ -54,10 +57,13 @@ pub(crate) fn converse<H: Threads + Wait + Sync, R: Read, W: Write>(
     reader: &mut R,
     writer: &mut W,
 ) -> Result<(), ShellFault>
-    ensures done { OnOk result ((runs : List FreeRun) × IsDone (R.remaining reader.old) (R.remaining reader.new) (W.contents writer.old) (W.contents writer.new)
+    ensures done { OnOk result
+        ((runs : List FreeRun) × IsDone (R.remaining reader.old) (R.remaining reader.new)
+        (W.contents writer.old) (W.contents writer.new)
         input.old.pending.items (due session.old.debugger runs) (Some session.new.debugger)) }
     ensures broken_off { IfErr result (λ fault. (runs : List FreeRun)
-        × BreaksOff (R.remaining reader.old) (R.remaining reader.new) (W.contents writer.old) (W.contents writer.new)
+        × BreaksOff (R.remaining reader.old) (R.remaining reader.new) (W.contents writer.old)
+        (W.contents writer.new)
         input.old.pending.items (due session.old.debugger runs) fault) }
 {
     let mut searched = 0;

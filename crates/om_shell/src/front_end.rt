@@ -30,7 +30,8 @@ fn tree_of(alloc: Global, source: &[u8]) -> Result<Unit, SourceFault>
 
 // The tree of a source, with its names resolved.
 fn resolution_of(alloc: Global, source: &[u8]) -> Result<Resolved, SourceFault>
-    ensures resolution { IfOk result (λ resolved. IsResolutionOfSource source.now (view_resolved resolved)) }
+    ensures resolution { IfOk result
+        (λ resolved. IsResolutionOfSource source.now (view_resolved resolved)) }
     ensures whole { IfOk result (λ resolved. IsWholeTree (view_resolved resolved)) }
     ensures atomics_assign { IfOk result (λ resolved. TreeAtomicsAssign (view_resolved resolved)) }
     ensures copies_behind { IfOk result (λ resolved. TreeCopiesBehind (view_resolved resolved)) }

@@ -45,10 +45,15 @@ impl Input {
 
     /// Reads once, and answers whether the input may go on.
     pub(crate) fn read_more<R: Read>(&mut self, reader: &mut R) -> Result<bool, ShellFault>
-        ensures read { IfOk result (λ _. (bytes : List ℕ) × (Consumes (R.remaining reader.old) (R.remaining reader.new) bytes)
+        ensures read { IfOk result
+            (λ _. (bytes : List ℕ)
+            × (Consumes (R.remaining reader.old) (R.remaining reader.new) bytes)
             × (self.new.pending.items ≡ self.old.pending.items ++ bytes)) }
-        ensures ended { IfOk result (λ more. more ≡ false → IsAtEnd (R.remaining reader.new) × (self.new.pending.items ≡ self.old.pending.items)) }
-        ensures failed { IfErr result (ReadFails (R.remaining reader.old) (R.remaining reader.new)) }
+        ensures ended { IfOk result
+            (λ more. more ≡ false → IsAtEnd (R.remaining reader.new)
+            × (self.new.pending.items ≡ self.old.pending.items)) }
+        ensures failed { IfErr result
+            (ReadFails (R.remaining reader.old) (R.remaining reader.new)) }
         ensures fewer_left { OnOk result (self.new.reads_left < self.old.reads_left) }
     {
         if self.reads_left == 0 {

@@ -37,7 +37,9 @@ fn column_behind(front: &[u8]) -> usize
 }
 
 fn push_place(text: &mut Vec<u8>, line: usize, column: usize) -> Result<(), AllocError>
-    ensures { OnOk result (text.new.items ≡ text.old.items ++ (codes " line " ++ decimal line ++ codes " column " ++ decimal column ++ codes "\n")) }
+    ensures { OnOk result
+        (text.new.items ≡ text.old.items
+        ++ (codes " line " ++ decimal line ++ codes " column " ++ decimal column ++ codes "\n")) }
 {
     text.extend_from_slice(b" line ")?;
     push_number(text, line)?;

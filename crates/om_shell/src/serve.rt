@@ -32,8 +32,11 @@ fn tell<W: Write>(
     fault: SourceFault,
     writer: &mut W,
 ) -> Result<(), ShellFault>
-    ensures told { OnOk result (Appends (W.contents writer.old) (W.contents writer.new) (refusal_text source.now fault)) }
-    ensures begun_on_error { IfErr result (λ e. (e ≢ ShellFault.Read) × AppendsPart (W.contents writer.old) (W.contents writer.new) (refusal_text source.now fault)) }
+    ensures told { OnOk result
+        (Appends (W.contents writer.old) (W.contents writer.new) (refusal_text source.now fault)) }
+    ensures begun_on_error { IfErr result
+        (λ e. (e ≢ ShellFault.Read) × AppendsPart (W.contents writer.old) (W.contents writer.new)
+        (refusal_text source.now fault)) }
 {
     let mut text = Vec::new(alloc);
     push_refusal(&mut text, source, fault).map_err(|_| ShellFault::Memory)?;
@@ -53,10 +56,12 @@ fn answer_commands<H: Threads + Wait + Sync, R: Read, W: Write>(
     requires at_most_32 { workers ≤ 32 }
     ensures status { IfOk result (λ ended. ended.status ≡ 0) }
     ensures done { IfOk result (λ ended. (runs : List FreeRun)
-        × IsDone (R.remaining reader.old) (R.remaining reader.new) (W.contents writer.old) (W.contents writer.new)
+        × IsDone (R.remaining reader.old) (R.remaining reader.new) (W.contents writer.old)
+        (W.contents writer.new)
         input.old.pending.items (due (opened debuggee workers) runs) ended.debugger) }
     ensures broken_off { IfErr result (λ fault. (runs : List FreeRun)
-        × BreaksOff (R.remaining reader.old) (R.remaining reader.new) (W.contents writer.old) (W.contents writer.new)
+        × BreaksOff (R.remaining reader.old) (R.remaining reader.new) (W.contents writer.old)
+        (W.contents writer.new)
         input.old.pending.items (due (opened debuggee workers) runs) fault) }
 {
     let mut session = Session::new(host.alloc, debuggee, workers).map_err(|_| ShellFault::Memory)?;
@@ -77,9 +82,13 @@ pub(crate) fn serve<H: Threads + Wait + Sync, R: Read, W: Write>(
 ) -> Result<Ended, ShellFault>
     requires at_least_one { 0 < workers }
     requires at_most_32 { workers ≤ 32 }
-    ensures served { IfOk result (λ ended. Serves (R.remaining reader.old) (R.remaining reader.new) (W.contents writer.old) (W.contents writer.new)
+    ensures served { IfOk result
+        (λ ended. Serves (R.remaining reader.old) (R.remaining reader.new) (W.contents writer.old)
+        (W.contents writer.new)
         input.old.pending.items workers source.now ended.status ended.debugger) }
-    ensures broken_off { IfErr result (BreaksOffServing (R.remaining reader.old) (R.remaining reader.new) (W.contents writer.old) (W.contents writer.new)
+    ensures broken_off { IfErr result
+        (BreaksOffServing (R.remaining reader.old) (R.remaining reader.new) (W.contents writer.old)
+        (W.contents writer.new)
         input.old.pending.items workers source.now) }
 {
     let alloc = host.alloc;
@@ -104,8 +113,11 @@ pub(crate) fn serve_alone<W: Write>(
 ) -> Result<Ended, ShellFault>
     requires at_least_one { 0 < workers }
     requires at_most_32 { workers ≤ 32 }
-    ensures served { IfOk result (λ ended. ServesAlone (W.contents writer.old) (W.contents writer.new) workers source.now ended.status ended.debugger) }
-    ensures broken_off { IfErr result (BreaksOffAlone (W.contents writer.old) (W.contents writer.new) workers source.now) }
+    ensures served { IfOk result
+        (λ ended. ServesAlone (W.contents writer.old) (W.contents writer.new) workers source.now
+        ended.status ended.debugger) }
+    ensures broken_off { IfErr result
+        (BreaksOffAlone (W.contents writer.old) (W.contents writer.new) workers source.now) }
 {
     match debuggee_of(alloc, source) {
         Ok(debuggee) => {

@@ -52,10 +52,13 @@ impl Session {
         line: &[u8],
         writer: &mut W,
     ) -> Result<bool, ShellFault>
-        ensures answered { IfOk result (λ quits. (text : List ℕ) × (Appends (W.contents writer.old) (W.contents writer.new) text)
+        ensures answered { IfOk result
+            (λ quits. (text : List ℕ) ×
+            (Appends (W.contents writer.old) (W.contents writer.new) text)
             × IsAnswered self.old.debugger line.now text self.new.debugger quits) }
         ensures begun_on_error { IfErr result (λ fault. (fault ≢ ShellFault.Read)
-            × ((runs : List FreeRun) × AppendsPart (W.contents writer.old) (W.contents writer.new) (answered self.old.debugger runs line.now).text)) }
+            × ((runs : List FreeRun) × AppendsPart (W.contents writer.old) (W.contents writer.new)
+            (answered self.old.debugger runs line.now).text)) }
     {
         let quits = self.follow(host, line).map_err(|_| ShellFault::Memory)?;
         send(writer, &self.text)?;
@@ -68,7 +71,9 @@ impl Session {
         host: &Host<'_, R>,
         line: &[u8],
     ) -> Result<bool, AllocError>
-        ensures { IfOk result (λ quits. IsAnswered self.old.debugger line.now self.new.text.items self.new.debugger quits) }
+        ensures { IfOk result
+            (λ quits. IsAnswered self.old.debugger line.now self.new.text.items self.new.debugger
+            quits) }
     {
         self.text.clear();
         self.debugger

@@ -33,9 +33,13 @@ fn run_from_input<H: Threads + Wait + Sync, R: Read, W: Write>(
 ) -> Result<Ended, ShellFault>
     requires at_least_one { 0 < workers }
     requires at_most_32 { workers ≤ 32 }
-    ensures to_end { IfOk result (λ ended. RunsToEnd (R.remaining reader.old) (R.remaining reader.new) (W.contents writer.old) (W.contents writer.new)
+    ensures to_end { IfOk result
+        (λ ended. RunsToEnd (R.remaining reader.old) (R.remaining reader.new)
+        (W.contents writer.old) (W.contents writer.new)
         workers None ended.status ended.debugger) }
-    ensures broken_off { IfErr result (BreaksOffRun (R.remaining reader.old) (R.remaining reader.new) (W.contents writer.old) (W.contents writer.new)
+    ensures broken_off { IfErr result
+        (BreaksOffRun (R.remaining reader.old) (R.remaining reader.new) (W.contents writer.old)
+        (W.contents writer.new)
         workers None) }
 {
     let mut input = Input::new(host.alloc);
@@ -59,9 +63,13 @@ fn run_by<H: Threads + Wait + Sync, R: Read, W: Write>(
 ) -> Result<Ended, ShellFault>
     requires at_least_one { 0 < workers }
     requires at_most_32 { workers ≤ 32 }
-    ensures to_end { IfOk result (λ ended. RunsToEnd (R.remaining reader.old) (R.remaining reader.new) (W.contents writer.old) (W.contents writer.new)
+    ensures to_end { IfOk result
+        (λ ended. RunsToEnd (R.remaining reader.old) (R.remaining reader.new)
+        (W.contents writer.old) (W.contents writer.new)
         workers (option_copied source.entry) ended.status ended.debugger) }
-    ensures broken_off { IfErr result (BreaksOffRun (R.remaining reader.old) (R.remaining reader.new) (W.contents writer.old) (W.contents writer.new)
+    ensures broken_off { IfErr result
+        (BreaksOffRun (R.remaining reader.old) (R.remaining reader.new) (W.contents writer.old)
+        (W.contents writer.new)
         workers (option_copied source.entry)) }
 {
     match source {
@@ -96,15 +104,20 @@ pub fn run<H: Threads + Wait + Sync, R: Read, W: Write>(
     requires at_most_32_workers { options.workers ≤ 32 }
 
     // What was written is the script of the bytes that were taken, and nothing further could change it.
-    ensures runs_to_end { IfOk result (λ ended. RunsToEnd (R.remaining reader.old) (R.remaining reader.new) (W.contents writer.old) (W.contents writer.new)
+    ensures runs_to_end { IfOk result
+        (λ ended. RunsToEnd (R.remaining reader.old) (R.remaining reader.new)
+        (W.contents writer.old) (W.contents writer.new)
         options.entry.workers (option_copied options.entry.source) ended.status ended.debugger) }
 
     // So it is the script of all that the reader had.
     ensures writes_the_script { OnOk result (IfSome (R.remaining reader.old) (λ input.
-        WritesScript (W.contents writer.old) (W.contents writer.new) options.entry.workers (option_copied options.entry.source) input)) }
+        WritesScript (W.contents writer.old) (W.contents writer.new) options.entry.workers
+        (option_copied options.entry.source) input)) }
 
     // After a fault it is a beginning of the script of the bytes that were taken.
-    ensures begun_on_error { IfErr result (BreaksOffRun (R.remaining reader.old) (R.remaining reader.new) (W.contents writer.old) (W.contents writer.new)
+    ensures begun_on_error { IfErr result
+        (BreaksOffRun (R.remaining reader.old) (R.remaining reader.new) (W.contents writer.old)
+        (W.contents writer.new)
         options.entry.workers (option_copied options.entry.source)) }
 {
     let host = Host { rt, alloc };

@@ -55,8 +55,10 @@ pub(crate) fn read_source<R: Read>(
     reader: &mut R,
 ) -> Result<(usize, Option<usize>), ShellFault>
     requires { input.old.pending.items ≡ [] }
-    ensures read { OnOk result (Consumes (R.remaining reader.old) (R.remaining reader.new) input.new.pending.items) }
-    ensures marked { IfOk result (λ r. IfSome r.1 (λ after. IsMarked input.new.pending.items r.0 after)) }
+    ensures read { OnOk result
+        (Consumes (R.remaining reader.old) (R.remaining reader.new) input.new.pending.items) }
+    ensures marked { IfOk result
+        (λ r. IfSome r.1 (λ after. IsMarked input.new.pending.items r.0 after)) }
     ensures unmarked { IfOk result (λ r. IsNone r.1 → IsUnmarked input.new.pending.items r.0) }
     ensures ended { IfOk result (λ r. IsNone r.1 → IsAtEnd (R.remaining reader.new)) }
     ensures failed { IfErr result (ReadsNoMark (R.remaining reader.old) (R.remaining reader.new)) }

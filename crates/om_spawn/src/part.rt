@@ -29,7 +29,8 @@ pub(crate) fn name_with_events(
     mode: Mode,
     worker: u8,
 ) -> Result<Seq<Access>, AllocError>
-    ensures { IfOk result (λ names. names ≡ record { object = object.now; mode = mode } ∷ events worker ∷ []) }
+    ensures { IfOk result
+        (λ names. names ≡ record { object = object.now; mode = mode } ∷ events worker ∷ []) }
 {
     let mut names = name_one(alloc, object, mode)?;
     name_events(&mut names, worker)?;

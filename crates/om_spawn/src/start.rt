@@ -93,7 +93,8 @@ fn beginning(
     on: &Context,
     ready: &Ready,
 ) -> Result<Seq<Edit>, AllocError>
-    ensures { IfOk result (λ edits. edits ≡ Edit.BeginContext (task_context name.now on.now ready.now) ∷ []) }
+    ensures { IfOk result
+        (λ edits. edits ≡ Edit.BeginContext (task_context name.now on.now ready.now) ∷ []) }
 {
     let context = task_context(alloc, name, on, ready)?;
     Seq::one(alloc, Edit::BeginContext(context))
@@ -101,7 +102,8 @@ fn beginning(
 
 /// What a task waits with, where it is ready and of this team.
 fn ready_for<'a>(store: &'a Store, name: &Name, team: &Name) -> Option<&'a Ready>
-    ensures { option_map (λ ready. ready.now) result ≡ ready_for team.now (task_in (state_of store.now (obj.Task name.now))) }
+    ensures { option_map (λ ready. ready.now) result
+        ≡ ready_for team.now (task_in (state_of store.now (obj.Task name.now))) }
 {
     match store.task(name) {
         Some(Task::Ready(ready)) => {
@@ -128,7 +130,9 @@ pub fn start(
     name: &Name,
     on: &Context,
 ) -> Result<Answer, AllocError>
-    ensures { IfOk result (λ answer. answer ≡ answered (start_row starting.now name.now on.now) (state_of store.now)) }
+    ensures { IfOk result
+        (λ answer. answer ≡ answered (start_row starting.now name.now on.now)
+        (state_of store.now)) }
 {
     let Some(status) = starting.status else {
         return Ok(Answer::decided(alloc, Row::Blocked(Blocked::Place)));

@@ -82,7 +82,8 @@ fn give_values(
     new: &Name,
     values: &[i32],
 ) -> Result<(), AllocError>
-    ensures { OnOk result (updates.new ≡ updates.old ++ values_given context.now new.now values.now) }
+    ensures { OnOk result
+        (updates.new ≡ updates.old ++ values_given context.now new.now values.now) }
 {
     let entry = Record::TaskCreate {
         task: *context.task.get(),
@@ -100,7 +101,9 @@ fn put_ready(
     body: &Body,
     context: &Context,
 ) -> Result<Seq<Update>, AllocError>
-    ensures { IfOk result (λ updates. updates ≡ Update.Put (value.Task (task.Ready (ready_of making.now body.now context.now))) ∷ []) }
+    ensures { IfOk result
+        (λ updates. updates ≡ Update.Put
+        (value.Task (task.Ready (ready_of making.now body.now context.now))) ∷ []) }
 {
     let ready = ready_of(alloc, making, body, context)?;
     Seq::one(alloc, Update::Put(Val::Task(Task::Ready(ready))))
@@ -115,7 +118,9 @@ fn made(
     values: &[i32],
 ) -> Result<Answer, AllocError>
     requires { context.now.births + 1 < 2 ^ 64 }
-    ensures { IfOk result (λ answer. (s : State) → answer ≡ answered (made_row making.now body.now context.now values.now (born context.now)) s) }
+    ensures { IfOk result
+        (λ answer. (s : State) → answer
+        ≡ answered (made_row making.now body.now context.now values.now (born context.now)) s) }
 {
     let Some(new) = &context.task.get().child(context.births + 1) else {
         return Ok(Answer::decided(alloc, Row::Faults(Fault::Name)));
@@ -143,7 +148,8 @@ pub fn spawn(
     context: &Context,
 ) -> Result<Answer, AllocError>
     requires { context.now.births + 1 < 2 ^ 64 }
-    ensures { IfOk result (λ answer. (s : State) → answer ≡ answered (spawn_row making.now body.now context.now) s) }
+    ensures { IfOk result
+        (λ answer. (s : State) → answer ≡ answered (spawn_row making.now body.now context.now) s) }
 {
     let operands = &context.frame.operands;
     match ints_on(alloc, making.launch.takes as usize, operands)? {
@@ -204,7 +210,9 @@ fn ended(
     own: &[Access],
     next: &Context,
 ) -> Result<Row, AllocError>
-    ensures { IfOk result (λ row. row ≡ Row.Goes (Edit.EndContext ∷ []) (ended_updates context.now own.now next.now.task)) }
+    ensures { IfOk result
+        (λ row. row ≡ Row.Goes (Edit.EndContext ∷ [])
+        (ended_updates context.now own.now next.now.task)) }
 {
     let updates = ended_updates(alloc, context, own, next.task.get())?;
     let edits = Seq::one(alloc, Edit::EndContext)?;
@@ -221,7 +229,8 @@ pub fn task_end(
     slots: &[Slot],
 ) -> Result<Answer, AllocError>
     requires { length slots.now ≤ 2 ^ 32 }
-    ensures { IfOk result (λ answer. (s : State) → answer ≡ answered (task_end_row worker stack.now slots.now) s) }
+    ensures { IfOk result
+        (λ answer. (s : State) → answer ≡ answered (task_end_row worker stack.now slots.now) s) }
 {
     let context = &stack.top;
     let (Kind::Explicit, Some(parent), Some(next)) = (

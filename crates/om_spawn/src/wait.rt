@@ -62,7 +62,8 @@ pub fn wait_begin(
     to: u32,
     context: &Context,
 ) -> Result<Answer, AllocError>
-    ensures { IfOk result (λ answer. (s : State) → answer ≡ answered (wait_begin_row worker to context.now) s) }
+    ensures { IfOk result
+        (λ answer. (s : State) → answer ≡ answered (wait_begin_row worker to context.now) s) }
 {
     let names = events_of(alloc, worker)?;
     let updates = recorded(alloc, sync_event(Sync::TaskWait, Endpoint::Begin, context))?;
@@ -92,7 +93,8 @@ pub fn wait_end(
     to: u32,
     context: &Context,
 ) -> Result<Answer, AllocError>
-    ensures { IfOk result (λ answer. answer ≡ answered (wait_end_row worker to context.now) (state_of store.now)) }
+    ensures { IfOk result
+        (λ answer. answer ≡ answered (wait_end_row worker to context.now) (state_of store.now)) }
 {
     let kids = &Obj::Kids(*context.task.get());
     let row = waited(alloc, to, context, is_zero(alloc, store, kids))?;
@@ -102,7 +104,9 @@ pub fn wait_end(
 
 /// The edits by which a task group opens.
 fn opening(alloc: Global, to: u32, group: &Name) -> Result<Seq<Edit>, AllocError>
-    ensures { IfOk result (λ edits. edits ≡ Edit.Go to 0 None ∷ Edit.CountBirth ∷ Edit.Open (Construct.Group group.now) ∷ []) }
+    ensures { IfOk result
+        (λ edits. edits ≡ Edit.Go to 0 None ∷ Edit.CountBirth
+        ∷ Edit.Open (Construct.Group group.now) ∷ []) }
 {
     let mut edits = go_and(alloc, to, 0, Edit::CountBirth)?;
     let region = Shared::of(alloc, Construct::Group(*group))?;
@@ -120,7 +124,8 @@ pub fn group_begin(
     context: &Context,
 ) -> Result<Answer, AllocError>
     requires { context.now.births + 1 < 2 ^ 64 }
-    ensures { IfOk result (λ answer. (s : State) → answer ≡ answered (group_begin_row worker to context.now) s) }
+    ensures { IfOk result
+        (λ answer. (s : State) → answer ≡ answered (group_begin_row worker to context.now) s) }
 {
     let Some(group) = &context.task.get().child(context.births + 1) else {
         return Ok(Answer::decided(alloc, Row::Faults(Fault::Name)));
@@ -167,7 +172,8 @@ pub fn group_end(
     to: u32,
     context: &Context,
 ) -> Result<Answer, AllocError>
-    ensures { IfOk result (λ answer. answer ≡ answered (group_end_row worker to context.now) (state_of store.now)) }
+    ensures { IfOk result
+        (λ answer. answer ≡ answered (group_end_row worker to context.now) (state_of store.now)) }
 {
     let Some(group) = &innermost_group(context) else {
         return Ok(Answer::decided(alloc, Row::Lacks));
@@ -219,7 +225,9 @@ pub fn finish(
     context: &Context,
     has_value: bool,
 ) -> Result<Answer, AllocError>
-    ensures { IfOk result (λ answer. answer ≡ answered (finish_row worker context.now has_value) (state_of store.now)) }
+    ensures { IfOk result
+        (λ answer. answer ≡ answered (finish_row worker context.now has_value)
+        (state_of store.now)) }
 {
     let (Kind::Initial, Some(value)) = (context.kind, value_of(context, has_value)) else {
         return Ok(Answer::decided(alloc, Row::Lacks));

@@ -42,7 +42,8 @@ pub fn begin_parts(
     head: &SectionsHead<'_>,
     parts: &[ResolvedPart],
 ) -> Result<PartsSpot, AllocError>
-    ensures { let begin = part_head head.now.line head.now.numbers (map view_resolved_clause head.now.clauses.now) (length parts.now) in
+    ensures { let begin = part_head head.now.line head.now.numbers
+        (map view_resolved_clause head.now.clauses.now) (length parts.now) in
         IfOk result (λ spot. OpensParts (names_of scope.now) begin spot draft.old draft.new) }
 {
     let Ok(count) = u32::try_from(parts.len()) else {

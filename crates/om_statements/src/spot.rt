@@ -22,7 +22,8 @@ pub struct Spot {
 impl Spot {
     /// Outside of loops.
     pub fn outside(numbers: Numbers) -> Spot
-        ensures { result ≡ record { numbers = numbers; jumps = record { over = None; next = None } } }
+        ensures { result
+            ≡ record { numbers = numbers; jumps = record { over = None; next = None } } }
     {
         Spot {
             numbers,
@@ -35,7 +36,8 @@ impl Spot {
 
     /// In a loop.
     pub fn in_loop(numbers: Numbers, over: u32, next: u32) -> Spot
-        ensures { result ≡ record { numbers = numbers; jumps = record { over = Some over; next = Some next } } }
+        ensures { result
+            ≡ record { numbers = numbers; jumps = record { over = Some over; next = Some next } } }
     {
         Spot {
             numbers,
@@ -48,7 +50,8 @@ impl Spot {
 
     /// In the body of a worksharing loop, which no `break` leaves.
     pub fn in_iteration(numbers: Numbers, next: u32) -> Spot
-        ensures { result ≡ record { numbers = numbers; jumps = record { over = None; next = Some next } } }
+        ensures { result
+            ≡ record { numbers = numbers; jumps = record { over = None; next = Some next } } }
     {
         Spot {
             numbers,

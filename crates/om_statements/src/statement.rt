@@ -38,10 +38,15 @@ pub fn statement(
     spot: Spot,
     tree: &ResolvedStatement,
 ) -> Result<Numbers, AllocError>
-    requires code { StatementHasCode (is_some spot.jumps.over) (is_some spot.jumps.next) (view_resolved_statement tree.now) }
-    ensures behind { IfOk result (λ after. numbers_of after ≡ rows.behind (numbers_of spot.numbers) (view_resolved_statement tree.now)) }
+    requires code { StatementHasCode (is_some spot.jumps.over) (is_some spot.jumps.next)
+        (view_resolved_statement tree.now) }
+    ensures behind { IfOk result
+        (λ after. numbers_of after ≡
+        rows.behind (numbers_of spot.numbers) (view_resolved_statement tree.now)) }
     ensures emitted { let seen = view_resolved_statement tree.now in
-        OnOk result (EmitsStatement (names_of scope.now) (numbers_of spot.numbers) seen spot.jumps draft.old draft.new) }
+        OnOk result
+        (EmitsStatement (names_of scope.now) (numbers_of spot.numbers) seen spot.jumps draft.old
+        draft.new) }
 {
     let numbers = spot.numbers;
     match tree {
@@ -174,11 +179,14 @@ pub fn statements(
     spot: Spot,
     items: &[ResolvedStatement],
 ) -> Result<Numbers, AllocError>
-    requires code { StatementsHaveCode (is_some spot.jumps.over) (is_some spot.jumps.next) (trees.statements (map view_resolved_statement items.now)) }
+    requires code { StatementsHaveCode (is_some spot.jumps.over) (is_some spot.jumps.next)
+        (trees.statements (map view_resolved_statement items.now)) }
     ensures behind { let all = trees.statements (map view_resolved_statement items.now) in
         IfOk result (λ after. numbers_of after ≡ rows.behind_all (numbers_of spot.numbers) all) }
     ensures emitted { let all = trees.statements (map view_resolved_statement items.now) in
-        OnOk result (EmitsStatements (names_of scope.now) (numbers_of spot.numbers) all spot.jumps draft.old draft.new) }
+        OnOk result
+        (EmitsStatements (names_of scope.now) (numbers_of spot.numbers) all spot.jumps draft.old
+        draft.new) }
 {
     let mut numbers = spot.numbers;
     for item in items {
@@ -205,7 +213,8 @@ pub fn parts(
     ensures behind { let all = trees.parts (map view_resolved_part sections.now) in
         IfOk result (λ after. numbers_of after ≡ rows.behind_parts (numbers_of spot.numbers) all) }
     ensures emitted { let all = trees.parts (map view_resolved_part sections.now) in
-        OnOk result (EmitsParts (names_of scope.now) (numbers_of spot.numbers) all spot draft.old draft.new) }
+        OnOk result
+        (EmitsParts (names_of scope.now) (numbers_of spot.numbers) all spot draft.old draft.new) }
 {
     let mut numbers = spot.numbers;
     for (index, section) in sections.iter().enumerate() {

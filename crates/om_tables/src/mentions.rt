@@ -47,7 +47,8 @@ impl Mentions {
 #[tactic(auto, using(crate::proofs::Cells::cells_measured))]
 pub fn extents_of(alloc: Global, function: &ResolvedFunction) -> Result<Extents, AllocError>
     ensures { let tree = view_resolved_function function.now in
-        IfOk result (λ made. (variable : ℕ) → cells_in made variable ≡ cells_in (extents_of tree) variable) }
+        IfOk result
+        (λ made. (variable : ℕ) → cells_in made variable ≡ cells_in (extents_of tree) variable) }
 {
     let mut found = Mentions::new(alloc);
     let done = note_statements(&mut found, alloc, function.body.as_slice());

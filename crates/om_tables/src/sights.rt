@@ -24,7 +24,8 @@ pub fn function_variables(
     alloc: Global,
     function: &ResolvedFunction,
 ) -> Result<Variables, AllocError>
-    ensures { IfOk result (λ made. made ≡ bodies.function_variables (view_resolved_function function.now)) }
+    ensures { IfOk result
+        (λ made. made ≡ bodies.function_variables (view_resolved_function function.now)) }
 {
     let mut variables = Variables::new(alloc);
     see_parameters(&mut variables, function.parameters.as_slice())?;
@@ -39,7 +40,8 @@ pub fn region_variables(
     body: &ResolvedStatement,
 ) -> Result<Variables, AllocError>
     ensures { let trees = map view_resolved_clause clauses.now in
-        IfOk result (λ made. made ≡ bodies.region_variables trees (view_resolved_statement body.now)) }
+        IfOk result
+        (λ made. made ≡ bodies.region_variables trees (view_resolved_statement body.now)) }
 {
     let mut variables = Variables::new(alloc);
     see_region_clauses(&mut variables, clauses)?;
@@ -49,7 +51,8 @@ pub fn region_variables(
 
 /// Sees parameters.
 fn see_parameters(variables: &mut Variables, parameters: &[LocalVariable]) -> Result<(), AllocError>
-    ensures { OnOk result (variables.new ≡ sighted variables.old (map parameter_sight parameters.now)) }
+    ensures { OnOk result
+        (variables.new ≡ sighted variables.old (map parameter_sight parameters.now)) }
 {
     for parameter in parameters {
         variables.add(parameter.at)?;
@@ -85,7 +88,8 @@ fn see_declarators(
 
 /// Sees the beginning of a `for`.
 fn see_start(variables: &mut Variables, start: &ResolvedStart) -> Result<(), AllocError>
-    ensures { OnOk result (variables.new ≡ sighted variables.old (start_sights (view_resolved_start start.now))) }
+    ensures { OnOk result
+        (variables.new ≡ sighted variables.old (start_sights (view_resolved_start start.now))) }
 {
     match start {
         ResolvedStart::Nothing => Ok(()),
@@ -113,7 +117,8 @@ fn see_copy(
 
 /// Sees a clause of a construct in whose body it stands.
 fn see_clause(variables: &mut Variables, clause: &ResolvedClause) -> Result<(), AllocError>
-    ensures { OnOk result (variables.new ≡ sighted variables.old (clause_sights (view_resolved_clause clause.now))) }
+    ensures { OnOk result
+        (variables.new ≡ sighted variables.old (clause_sights (view_resolved_clause clause.now))) }
 {
     match clause {
         ResolvedClause::Value(_, value) => take_expression(variables, value),
@@ -191,7 +196,8 @@ fn see_region_clauses(
 
 /// Sees the iteration variable of a canonical loop and then its bounds.
 fn see_loop(variables: &mut Variables, repeated: &ResolvedLoop) -> Result<(), AllocError>
-    ensures { OnOk result (variables.new ≡ sighted variables.old (loop_sights (view_resolved_loop repeated.now))) }
+    ensures { OnOk result
+        (variables.new ≡ sighted variables.old (loop_sights (view_resolved_loop repeated.now))) }
 {
     variables.add(repeated.variable.at)?;
     take_expression(variables, &repeated.from)?;
@@ -205,7 +211,8 @@ fn see_loop_head(
     repeated: &ResolvedLoop,
 ) -> Result<(), AllocError>
     ensures { let trees = map view_resolved_clause clauses.now in
-        let sights = flat_map clause_sights trees ++ loop_sights (view_resolved_loop repeated.now) in
+        let sights = flat_map clause_sights trees
+        ++ loop_sights (view_resolved_loop repeated.now) in
         OnOk result (variables.new ≡ sighted variables.old sights) }
 {
     see_clauses(variables, clauses)?;
@@ -221,7 +228,8 @@ fn see_head(
 ) -> Result<(), AllocError>
     ensures { let test = option_map view_resolved_expression condition.now in
         let step_tree = option_map view_resolved_expression step.now in
-        let sights = start_sights (view_resolved_start start.now) ++ (perhaps_uses test ++ perhaps_uses step_tree) in
+        let sights = start_sights (view_resolved_start start.now)
+        ++ (perhaps_uses test ++ perhaps_uses step_tree) in
         OnOk result (variables.new ≡ sighted variables.old sights) }
 {
     see_start(variables, start)?;

@@ -22,7 +22,8 @@ pub fn slots_with(
     variables: &Variables,
 ) -> Result<Seq<Slot>, AllocError>
     requires { length outer.now ≤ 256 }
-    ensures { IfOk result (λ slots. slots ≡ map (slot_with extents.now outer.now captures.now) variables.now) }
+    ensures { IfOk result
+        (λ slots. slots ≡ map (slot_with extents.now outer.now captures.now) variables.now) }
 {
     let mut slots = Vec::new(alloc);
     for variable in variables.as_slice() {
@@ -79,7 +80,8 @@ pub fn parameter_slots(
     parameters: &[LocalVariable],
 ) -> Result<Seq<u32>, AllocError>
     requires { length variables.now ≤ 256 }
-    ensures { IfOk result (λ slots. slots ≡ map (slot_of variables.now) (map parameter_sight parameters.now)) }
+    ensures { IfOk result
+        (λ slots. slots ≡ map (slot_of variables.now) (map parameter_sight parameters.now)) }
 {
     let mut slots = Vec::new(alloc);
     for parameter in parameters {
@@ -95,7 +97,9 @@ pub fn copy_slots(
     copies: &[FirstCopy],
 ) -> Result<Seq<u32>, AllocError>
     requires { length variables.now ≤ 256 }
-    ensures { IfOk result (λ slots. slots ≡ map (slot_of variables.now) (map (λ copy. copy.variable) (first_copies_of copies.now))) }
+    ensures { IfOk result
+        (λ slots. slots ≡ map (slot_of variables.now)
+        (map (λ copy. copy.variable) (first_copies_of copies.now))) }
 {
     let mut slots = Vec::new(alloc);
     for copy in copies {

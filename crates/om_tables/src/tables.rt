@@ -47,9 +47,11 @@ pub fn tables_of(alloc: Global, resolved: &Resolved) -> Result<Tables, AllocErro
 /// The formats and locks of functions.
 fn mentions_of(alloc: Global, functions: &[ResolvedFunction]) -> Result<Mentions, AllocError>
     ensures formats { let trees = map view_resolved_function functions.now in
-        IfOk result (λ made. made.formats ≡ noted [] (flat_map (function_mentioned format_mention) trees)) }
+        IfOk result
+        (λ made. made.formats ≡ noted [] (flat_map (function_mentioned format_mention) trees)) }
     ensures locks { let trees = map view_resolved_function functions.now in
-        IfOk result (λ made. made.locks ≡ noted [] (flat_map (function_mentioned lock_mention) trees)) }
+        IfOk result
+        (λ made. made.locks ≡ noted [] (flat_map (function_mentioned lock_mention) trees)) }
 {
     let mut found = Mentions::new(alloc);
     for function in functions {
@@ -66,7 +68,8 @@ fn number_functions(
     ensures behind { let trees = map view_resolved_function functions.now in
         IfOk result (λ made. numbers_of made ≡ bodies.behind_functions bodies.first_numbers trees) }
     ensures bodies { let trees = map view_resolved_function functions.now in
-        OnOk result (numbered.new.items ≡ numbered.old.items ++ function_numbers bodies.first_numbers trees) }
+        OnOk result
+        (numbered.new.items ≡ numbered.old.items ++ function_numbers bodies.first_numbers trees) }
 {
     let mut numbers = Numbers::first();
     for function in functions {

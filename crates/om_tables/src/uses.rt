@@ -21,7 +21,9 @@ pub(crate) fn take_expression(
     variables: &mut Variables,
     expression: &ResolvedExpression,
 ) -> Result<(), AllocError>
-    ensures { OnOk result (variables.new ≡ sighted variables.old (expression_uses (view_resolved_expression expression.now))) }
+    ensures { OnOk result
+        (variables.new ≡ sighted variables.old
+        (expression_uses (view_resolved_expression expression.now))) }
 {
     match expression {
         ResolvedExpression::Constant(_)
@@ -61,7 +63,9 @@ pub(crate) fn take_expression(
 #[tactic(auto, unfolding(om_resolved::specs::Captures::values_uses))]
 #[cycle(expression)]
 fn take_values(variables: &mut Variables, values: &[ResolvedExpression]) -> Result<(), AllocError>
-    ensures { OnOk result (variables.new ≡ sighted variables.old (values_uses (trees.values (map view_resolved_expression values.now)))) }
+    ensures { OnOk result
+        (variables.new ≡ sighted variables.old
+        (values_uses (trees.values (map view_resolved_expression values.now)))) }
 {
     for value in values {
         take_expression(variables, value)?;
@@ -74,7 +78,9 @@ pub(crate) fn take_perhaps(
     variables: &mut Variables,
     expression: &Option<ResolvedExpression>,
 ) -> Result<(), AllocError>
-    ensures { OnOk result (variables.new ≡ sighted variables.old (perhaps_uses (option_map view_resolved_expression expression.now))) }
+    ensures { OnOk result
+        (variables.new ≡ sighted variables.old
+        (perhaps_uses (option_map view_resolved_expression expression.now))) }
 {
     match expression {
         None => Ok(()),
@@ -98,7 +104,8 @@ pub(crate) fn take_original(
 
 /// Notes what a clause uses outside of its construct.
 fn take_clause(variables: &mut Variables, clause: &ResolvedClause) -> Result<(), AllocError>
-    ensures { OnOk result (variables.new ≡ sighted variables.old (clause_uses (view_resolved_clause clause.now))) }
+    ensures { OnOk result
+        (variables.new ≡ sighted variables.old (clause_uses (view_resolved_clause clause.now))) }
 {
     match clause {
         ResolvedClause::Value(_, value) => take_expression(variables, value),
@@ -109,7 +116,9 @@ fn take_clause(variables: &mut Variables, clause: &ResolvedClause) -> Result<(),
 
 /// Notes what clauses use outside of their construct.
 fn take_clauses(variables: &mut Variables, clauses: &[ResolvedClause]) -> Result<(), AllocError>
-    ensures { OnOk result (variables.new ≡ sighted variables.old (flat_map clause_uses (map view_resolved_clause clauses.now))) }
+    ensures { OnOk result
+        (variables.new ≡ sighted variables.old
+        (flat_map clause_uses (map view_resolved_clause clauses.now))) }
 {
     for clause in clauses {
         take_clause(variables, clause)?;
@@ -119,7 +128,8 @@ fn take_clauses(variables: &mut Variables, clauses: &[ResolvedClause]) -> Result
 
 /// Notes what a region takes from outside.
 fn take_captures(variables: &mut Variables, captures: &[Capture]) -> Result<(), AllocError>
-    ensures { OnOk result (variables.new ≡ sighted variables.old (map captured_variable captures.now)) }
+    ensures { OnOk result
+        (variables.new ≡ sighted variables.old (map captured_variable captures.now)) }
 {
     for capture in captures {
         variables.add(capture.variable)?;
@@ -132,7 +142,8 @@ pub(crate) fn take_variables(
     variables: &mut Variables,
     listed: &[Variable],
 ) -> Result<(), AllocError>
-    ensures { OnOk result (variables.new ≡ sighted variables.old (flat_map variable_uses listed.now)) }
+    ensures { OnOk result
+        (variables.new ≡ sighted variables.old (flat_map variable_uses listed.now)) }
 {
     for variable in listed {
         variables.sight(*variable)?;
@@ -159,7 +170,9 @@ pub(crate) fn take_region(
     clauses: &[ResolvedClause],
     captures: &[Capture],
 ) -> Result<(), AllocError>
-    ensures { OnOk result (variables.new ≡ sighted variables.old (region_uses (map view_resolved_clause clauses.now) captures.now)) }
+    ensures { OnOk result
+        (variables.new ≡ sighted variables.old
+        (region_uses (map view_resolved_clause clauses.now) captures.now)) }
 {
     take_clauses(variables, clauses)?;
     take_captures(variables, captures)
@@ -170,7 +183,8 @@ pub(crate) fn take_update(
     variables: &mut Variables,
     update: &ResolvedUpdate,
 ) -> Result<(), AllocError>
-    ensures { OnOk result (variables.new ≡ sighted variables.old (update_uses (view_resolved_update update.now))) }
+    ensures { OnOk result
+        (variables.new ≡ sighted variables.old (update_uses (view_resolved_update update.now))) }
 {
     variables.sight(update.variable)?;
     take_perhaps(variables, &update.index)?;

@@ -69,7 +69,8 @@ impl Variables {
 
     /// The same for a variable that is used, where it is one of the function.
     pub(crate) fn sight(&mut self, variable: Variable) -> Result<(), AllocError>
-        ensures { OnOk result (self.new ≡ fold (with_sight nat_eq) self.old (variable_uses variable)) }
+        ensures { OnOk result
+            (self.new ≡ fold (with_sight nat_eq) self.old (variable_uses variable)) }
     {
         match variable {
             Variable::Local(at) => self.add(at),

@@ -41,7 +41,11 @@ fn next_answer(
     planning: &Planning,
 ) -> Result<Answer, AllocError>
     requires { IsWithin (2 ^ 63) stack.now.top }
-    ensures { IfOk result (λ answer. answer ≡ answered (next_row (site program.now planning.now.workers planning.now.label.worker stack.now) (instruction_at program.now stack.now.top.frame.body stack.now.top.frame.next)) (state_of store.now)) }
+    ensures { IfOk result
+        (λ answer. answer ≡ answered
+        (next_row (site program.now planning.now.workers planning.now.label.worker stack.now)
+        (instruction_at program.now stack.now.top.frame.body stack.now.top.frame.next))
+        (state_of store.now)) }
 {
     let frame = &stack.top.frame;
     let Some(instruction) = program.instruction(frame.body, frame.next) else {
@@ -64,7 +68,10 @@ fn choice_answer(
     planning: &Planning,
 ) -> Result<Answer, AllocError>
     requires { IsWithin (2 ^ 63) stack.now.top }
-    ensures { IfOk result (λ answer. answer ≡ answered (asked (site program.now planning.now.workers planning.now.label.worker stack.now) planning.now.label.choice) (state_of store.now)) }
+    ensures { IfOk result
+        (λ answer. answer ≡ answered
+        (asked (site program.now planning.now.workers planning.now.label.worker stack.now)
+        planning.now.label.choice) (state_of store.now)) }
 {
     match planning.label.choice {
         Choice::Next => next_answer(alloc, program, store, stack, planning),
@@ -88,7 +95,9 @@ fn control_answer(
     planning: &Planning,
 ) -> Result<Answer, AllocError>
     requires { ControlWithin (2 ^ 63) control.now }
-    ensures { IfOk result (λ answer. answer ≡ answer_in program.now planning.now.workers (state_of store.now) planning.now.label control.now) }
+    ensures { IfOk result
+        (λ answer. answer ≡ answer_in program.now planning.now.workers (state_of store.now)
+        planning.now.label control.now) }
 {
     match control {
         Control::Running(stack) => choice_answer(alloc, program, store, stack, planning),
@@ -107,7 +116,9 @@ fn going(
     updates: Seq<Update>,
 ) -> Result<Outcome, AllocError>
     requires { HaveRoom edits control.now }
-    ensures { IfOk result (λ outcome. outcome ≡ Outcome.Updates (Update.Put (value.Control (changed edits control.now)) ∷ updates)) }
+    ensures { IfOk result
+        (λ outcome. outcome ≡ Outcome.Updates
+        (Update.Put (value.Control (changed edits control.now)) ∷ updates)) }
 {
     let mut changed = control.copy(alloc)?;
     changed.change(alloc, edits)?;
@@ -149,7 +160,9 @@ pub fn line(program: &Program, control: &Control) -> u32
 /// What a worker's step touches that names these objects beside its control. It is kept as long as
 /// the step stands, so it has no room to spare.
 fn footprint(alloc: Global, worker: u8, names: Seq<Access>) -> Result<Seq<Access>, AllocError>
-    ensures { IfOk result (λ footprint. footprint ≡ record { object = obj.Control worker; mode = Mode.Write } ∷ names) }
+    ensures { IfOk result
+        (λ footprint. footprint ≡ record { object = obj.Control worker; mode = Mode.Write }
+        ∷ names) }
 {
     let mut footprint = Seq::of(Vec::with_capacity(alloc, names.len().saturating_add(1))?);
     let object = Obj::Control(worker);
@@ -169,7 +182,10 @@ fn control_plan(
 ) -> Result<Step, AllocError>
     requires control { ControlWithin (2 ^ 63) control.now }
     requires state { StateWithin (2 ^ 63) (state_of store.now) }
-    ensures { IfOk result (λ step. step ≡ step_by program.now planning.now.label control.now (answer_in program.now planning.now.workers (state_of store.now) planning.now.label control.now)) }
+    ensures { IfOk result
+        (λ step. step ≡ step_by program.now planning.now.label control.now
+        (answer_in program.now planning.now.workers (state_of store.now) planning.now.label
+        control.now)) }
 {
     let Answer { names, row } = control_answer(alloc, program, store, control, planning)?;
     let outcome = outcome(alloc, control, row)?;
@@ -193,7 +209,8 @@ pub fn plan(
     label: &Label,
 ) -> Result<Step, AllocError>
     requires { StateWithin (2 ^ 63) (state_of store.now) }
-    ensures { IfOk result (λ step. step ≡ step_at (rules_of program.now workers) (state_of store.now) label.now) }
+    ensures { IfOk result
+        (λ step. step ≡ step_at (rules_of program.now workers) (state_of store.now) label.now) }
 {
     let planning = Planning {
         label: *label,

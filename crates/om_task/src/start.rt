@@ -57,7 +57,22 @@ fn first_frame(alloc: Global, program: &Program) -> Result<Frame, AllocError>
 
 /// The context of the initial task, with its frame.
 fn first_context(alloc: Global, frame: Frame) -> Result<Context, AllocError>
-    ensures { IfOk result (λ context. context ≡ record { task = 0 ∷ []; kind = Kind.Initial; team = record { name = []; number = 0; size = 1; level = 0 }; phase = 0; births = 0; regions = 0; frames = 1; group = None; constructs = []; frame = frame; callers = [] }) }
+    ensures { IfOk result
+        (λ context. context ≡ record {
+          task = 0 ∷ [];
+          kind = Kind.Initial;
+          team = record
+              { name = []; number = 0; size = 1; level = 0 };
+          phase = 0;
+          births = 0;
+          regions = 0;
+          frames =
+              1;
+          group = None;
+          constructs = [];
+          frame = frame;
+          callers = [];
+        }) }
 {
     let team = Team {
         name: Name::empty(),

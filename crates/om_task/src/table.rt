@@ -69,7 +69,10 @@ fn frame_answer(
     doing: Doing,
 ) -> Result<Answer, AllocError>
     requires { IsReady program.now stack.now doing.instruction }
-    ensures { IfOk result (λ answer. answer ≡ answered (frame_row (site program.now doing.workers doing.worker stack.now) doing.instruction) (state_of store.now)) }
+    ensures { IfOk result
+        (λ answer. answer ≡ answered
+        (frame_row (site program.now doing.workers doing.worker stack.now) doing.instruction)
+        (state_of store.now)) }
 {
     let context = &stack.top;
     let operands = &context.frame.operands;
@@ -107,7 +110,9 @@ fn serial_answer(
     doing: Doing,
 ) -> Result<Answer, AllocError>
     requires { IsReady program.now stack.now doing.instruction }
-    ensures { IfOk result (λ answer. answer ≡ answered (serial_row program.now stack.now.top doing.instruction) (state_of store.now)) }
+    ensures { IfOk result
+        (λ answer. answer ≡ answered (serial_row program.now stack.now.top doing.instruction)
+        (state_of store.now)) }
 {
     let raw = program.raw();
     om_serial::serial(alloc, raw, store, &stack.top, doing.instruction)
@@ -122,7 +127,10 @@ fn team_answer(
     doing: Doing,
 ) -> Result<Answer, AllocError>
     requires { IsReady program.now stack.now doing.instruction }
-    ensures { IfOk result (λ answer. answer ≡ answered (team_row (site program.now doing.workers doing.worker stack.now) doing.instruction) (state_of store.now)) }
+    ensures { IfOk result
+        (λ answer. answer ≡ answered
+        (team_row (site program.now doing.workers doing.worker stack.now) doing.instruction)
+        (state_of store.now)) }
 {
     let context = &stack.top;
     let worker = doing.worker;
@@ -183,7 +191,10 @@ fn share_answer(
     doing: Doing,
 ) -> Result<Answer, AllocError>
     requires { IsReady program.now stack.now doing.instruction }
-    ensures { IfOk result (λ answer. answer ≡ answered (share_row (site program.now doing.workers doing.worker stack.now) doing.instruction) (state_of store.now)) }
+    ensures { IfOk result
+        (λ answer. answer ≡ answered
+        (share_row (site program.now doing.workers doing.worker stack.now) doing.instruction)
+        (state_of store.now)) }
 {
     let context = &stack.top;
     let operands = &context.frame.operands;
@@ -221,7 +232,10 @@ fn region_answer(
     doing: Doing,
 ) -> Result<Answer, AllocError>
     requires { IsReady program.now stack.now doing.instruction }
-    ensures { IfOk result (λ answer. answer ≡ answered (region_row (site program.now doing.workers doing.worker stack.now) doing.instruction) (state_of store.now)) }
+    ensures { IfOk result
+        (λ answer. answer ≡ answered
+        (region_row (site program.now doing.workers doing.worker stack.now) doing.instruction)
+        (state_of store.now)) }
 {
     let context = &stack.top;
     let worker = doing.worker;
@@ -253,7 +267,10 @@ fn task_answer(
     doing: Doing,
 ) -> Result<Answer, AllocError>
     requires { IsReady program.now stack.now doing.instruction }
-    ensures { IfOk result (λ answer. answer ≡ answered (task_row (site program.now doing.workers doing.worker stack.now) doing.instruction) (state_of store.now)) }
+    ensures { IfOk result
+        (λ answer. answer ≡ answered
+        (task_row (site program.now doing.workers doing.worker stack.now) doing.instruction)
+        (state_of store.now)) }
 {
     let context = &stack.top;
     let worker = doing.worker;
@@ -289,7 +306,10 @@ pub fn answer(
     doing: Doing,
 ) -> Result<Answer, AllocError>
     requires { IsReady program.now stack.now doing.instruction }
-    ensures { IfOk result (λ answer. answer ≡ answered (row_of (site program.now doing.workers doing.worker stack.now) doing.instruction) (state_of store.now)) }
+    ensures { IfOk result
+        (λ answer. answer ≡ answered
+        (row_of (site program.now doing.workers doing.worker stack.now) doing.instruction)
+        (state_of store.now)) }
 {
     match doing.instruction {
         Instr::ThreadNumber | Instr::TeamSize | Instr::Call { .. } | Instr::Reduce { .. } => {

@@ -141,7 +141,8 @@ fn same_arguments(
     values: &[(Option<Span>, Expression)],
     others: &[(Option<Span>, Expression)],
 ) -> bool
-    ensures { result ≡ same_arguments (arguments (map view_argument values.now)) (arguments (map view_argument others.now)) }
+    ensures { result ≡ same_arguments (arguments (map view_argument values.now))
+        (arguments (map view_argument others.now)) }
 {
     let mut rest = others;
     for (_, value) in values {
@@ -197,7 +198,8 @@ fn contains(expression: &Expression, target: &Expression) -> bool
 #[cycle(contains)]
 #[tactic(auto, unfolding(crate::specs::AtomicForms::contains))]
 fn any_contains(values: &[(Option<Span>, Expression)], target: &Expression) -> bool
-    ensures { result ≡ arguments_contain (view_expression target.now) (arguments (map view_argument values.now)) }
+    ensures { result ≡ arguments_contain (view_expression target.now)
+        (arguments (map view_argument values.now)) }
 {
     for (_, value) in values {
         if contains(value, target) {
@@ -233,7 +235,8 @@ fn is_atomic_operator(operator: BinaryOperator) -> bool
 
 /// Whether one operand is the target, and the other does not contain it.
 fn is_one_operand(target: &Expression, left: &Expression, right: &Expression) -> bool
-    ensures { result ≡ is_one_operand (view_expression target.now) (view_expression left.now) (view_expression right.now) }
+    ensures { result ≡ is_one_operand (view_expression target.now) (view_expression left.now)
+        (view_expression right.now) }
 {
     (same_expression(target, left) && !contains(right, target))
         || (same_expression(target, right) && !contains(left, target))
@@ -258,7 +261,8 @@ fn is_operation_on(target: &Expression, value: &Expression) -> bool
 /// Whether this assignment of a value to the target updates it.
 #[tactic(auto, unfolding(crate::specs::AtomicForms::is_updated))]
 fn is_updated(target: &Expression, operator: AssignOperator, value: &Expression) -> bool
-    ensures { result ≡ is_updated (view_expression target.now) operator (view_expression value.now) }
+    ensures { result ≡ is_updated (view_expression target.now) operator
+        (view_expression value.now) }
 {
     match operator {
         AssignOperator::Set => is_operation_on(target, value),

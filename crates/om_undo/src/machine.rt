@@ -67,7 +67,8 @@ fn planned(
     label: Label,
 ) -> Result<Step, AllocError>
     requires { IsHeld (rules_of program.now workers) history.now }
-    ensures { IfOk result (λ step. step ≡ step_at (rules_of program.now workers) (past_in history.now).state label) }
+    ensures { IfOk result
+        (λ step. step ≡ step_at (rules_of program.now workers) (past_in history.now).state label) }
 {
     low_counters();
     plan(alloc, program, workers, history.store(), &label)
@@ -78,7 +79,8 @@ impl Machine {
     pub fn new(alloc: Global, program: Program, workers: u8) -> Result<Machine, AllocError>
         requires at_least_one { 1 ≤ workers }
         requires at_most_32 { workers ≤ 32 }
-        ensures { IfOk result (λ m. m ≡ record { program = program; workers = workers; history = no_history }) }
+        ensures { IfOk result
+            (λ m. m ≡ record { program = program; workers = workers; history = no_history }) }
     {
         steady_rules();
         let store = started(alloc, &program, workers)?;
@@ -101,8 +103,14 @@ impl Machine {
     ) -> Result<StepReply, AllocError>
         requires in_range { worker < self.old.workers }
         requires few_made { self.old.history.made < 2 ^ 63 }
-        ensures reply { IfOk result (λ x. x ≡ reply_to_step (rules_for self.old) self.old.history (record { worker = worker; choice = choice })) }
-        ensures after { OnOk result (self.new ≡ record self.old { history = after_step (rules_for self.old) self.old.history (record { worker = worker; choice = choice }) }) }
+        ensures reply { IfOk result
+            (λ x. x ≡ reply_to_step (rules_for self.old) self.old.history
+            (record { worker = worker; choice = choice })) }
+        ensures after { OnOk result
+            (self.new ≡ record self.old {
+              history = after_step (rules_for self.old) self.old.history
+                  (record { worker = worker; choice = choice });
+            }) }
         ensures unchanged_on_error { OnErr result (self.new ≡ self.old) }
     {
         let step = planned(
@@ -118,7 +126,9 @@ impl Machine {
     /// What `step` would answer now. Nothing changes; the only error is out of memory.
     pub fn peek(&self, alloc: Global, worker: u8, choice: Choice) -> Result<StepReply, AllocError>
         requires { worker < self.now.workers }
-        ensures { IfOk result (λ x. x ≡ reply_to_step (rules_for self.now) self.now.history (record { worker = worker; choice = choice })) }
+        ensures { IfOk result
+            (λ x. x ≡ reply_to_step (rules_for self.now) self.now.history
+            (record { worker = worker; choice = choice })) }
     {
         let step = planned(
             alloc,
@@ -138,7 +148,8 @@ impl Machine {
     pub fn undo(&mut self, worker: u8) -> UndoReply
         requires { worker < self.old.workers }
         ensures reply { result ≡ reply_to_undo (rules_for self.old) self.old.history worker }
-        ensures after { self.new ≡ record self.old { history = after_undo (rules_for self.old) self.old.history worker } }
+        ensures after { self.new ≡ record self.old
+            { history = after_undo (rules_for self.old) self.old.history worker } }
     {
         self.history.undo(worker)
     }
@@ -148,15 +159,22 @@ impl Machine {
     /// `None` where no entry has that serial. Nothing changes; the only error is out of memory.
     pub fn cone(&self, alloc: Global, serial: u64) -> Result<Option<Vec<Taken>>, AllocError>
         ensures none { IfOk result (λ o. IsNone o ↔ IsGone serial self.now.history) }
-        ensures members { IfOk result (λ o. IfSome o (λ v. v.items ≡ taken_by_roll (rules_for self.now) self.now.history serial)) }
+        ensures members { IfOk result
+            (λ o.
+            IfSome o (λ v. v.items ≡ taken_by_roll (rules_for self.now) self.now.history serial)) }
     {
         self.history.cone(alloc, serial)
     }
 
     /// Takes the members of a cone out, which `cone` answered. It takes no memory.
     pub fn take_out(&mut self, taken: &[Taken])
-        requires { (serial : ℕ) × (taken.now ≡ taken_by_roll (rules_for self.old) self.old.history serial) }
-        ensures { (serial : ℕ) → taken.now ≡ taken_by_roll (rules_for self.old) self.old.history serial → self.new ≡ record self.old { history = after_roll (rules_for self.old) self.old.history serial } }
+        requires { (serial : ℕ)
+            × (taken.now ≡ taken_by_roll (rules_for self.old) self.old.history serial) }
+        ensures { (serial : ℕ) → taken.now
+            ≡ taken_by_roll (rules_for self.old) self.old.history serial →
+            self.new
+            ≡ record self.old
+            { history = after_roll (rules_for self.old) self.old.history serial } }
     {
         self.history.take_out(taken)
     }
@@ -167,11 +185,17 @@ impl Machine {
     /// Only `Rolled` changes anything, and the number of steps ever made stays even then. Where no
     /// entry has that serial the answer is `NoEntry`. When out of memory, nothing changes.
     pub fn roll(&mut self, alloc: Global, serial: u64) -> Result<RollReply, AllocError>
-        ensures reply { IfOk result (λ x. x ≡ reply_to_roll (rules_for self.old) self.old.history serial) }
-        ensures after { OnOk result (self.new ≡ record self.old { history = after_roll (rules_for self.old) self.old.history serial }) }
-        ensures takes_cone { OnOk result (TakesCone (rules_for self.old) self.old.history serial self.new.history) }
-        ensures no_entry { IfOk result (λ x. (x ≡ RollReply.NoEntry) ↔ IsGone serial self.old.history) }
-        ensures unchanged_without_entry { IfOk result (λ x. x ≡ RollReply.NoEntry → self.new ≡ self.old) }
+        ensures reply { IfOk result
+            (λ x. x ≡ reply_to_roll (rules_for self.old) self.old.history serial) }
+        ensures after { OnOk result
+            (self.new ≡ record self.old
+            { history = after_roll (rules_for self.old) self.old.history serial }) }
+        ensures takes_cone { OnOk result
+            (TakesCone (rules_for self.old) self.old.history serial self.new.history) }
+        ensures no_entry { IfOk result
+            (λ x. (x ≡ RollReply.NoEntry) ↔ IsGone serial self.old.history) }
+        ensures unchanged_without_entry { IfOk result
+            (λ x. x ≡ RollReply.NoEntry → self.new ≡ self.old) }
         ensures unchanged_on_error { OnErr result (self.new ≡ self.old) }
     {
         self.history.roll(alloc, serial)
@@ -208,7 +232,8 @@ impl Machine {
     /// ended. At a fault it is the line of the instruction that met it.
     pub fn line(&self, worker: u8) -> u32
         requires { worker < self.now.workers }
-        ensures { result ≡ line_in self.now.program (control_in (state_in self.now (obj.Control worker))) }
+        ensures { result ≡ line_in self.now.program
+            (control_in (state_in self.now (obj.Control worker))) }
     {
         match self.history.store().control(worker) {
             Some(control) => line(&self.program, control),

@@ -39,8 +39,12 @@ fn resolve_values(
     found: &Loop<'_>,
 ) -> Result<(Box<ResolvedExpression>, Box<ResolvedExpression>), SourceFault>
     ensures checked { Checks result (values_breaches symbols.now (view_loop found.now)) }
-    ensures from { IfOk result (λ made. resolved_expression symbols.now (view_loop found.now).start.from ≡ Some (view_resolved_expression made.0.value)) }
-    ensures to { IfOk result (λ made. resolved_expression symbols.now (view_loop found.now).to ≡ Some (view_resolved_expression made.1.value)) }
+    ensures from { IfOk result
+        (λ made. resolved_expression symbols.now (view_loop found.now).start.from
+        ≡ Some (view_resolved_expression made.0.value)) }
+    ensures to { IfOk result
+        (λ made. resolved_expression symbols.now (view_loop found.now).to
+        ≡ Some (view_resolved_expression made.1.value)) }
 {
     let from = boxed_expression(alloc, symbols, true, found.start.from)?;
     let to = boxed_expression(alloc, symbols, true, found.to)?;
@@ -66,9 +70,13 @@ fn resolve_bounds(
     ensures checked { Checks result (found_breaches symbols.old (view_loop found.now)) }
     ensures in_scope { OnOk result (symbols.new ≡ symbols.old) }
     ensures from { let scopes = bounds_scopes symbols.old (view_loop found.now) in
-        IfOk result (λ made. resolved_expression scopes (view_loop found.now).start.from ≡ Some (view_resolved_expression made.0.value)) }
+        IfOk result
+        (λ made. resolved_expression scopes (view_loop found.now).start.from
+        ≡ Some (view_resolved_expression made.0.value)) }
     ensures to { let scopes = bounds_scopes symbols.old (view_loop found.now) in
-        IfOk result (λ made. resolved_expression scopes (view_loop found.now).to ≡ Some (view_resolved_expression made.1.value)) }
+        IfOk result
+        (λ made. resolved_expression scopes (view_loop found.now).to
+        ≡ Some (view_resolved_expression made.1.value)) }
 {
     if !found.start.is_declared {
         check_variable(symbols, found.start.variable)?;
@@ -94,7 +102,9 @@ pub fn resolve_loop(
 ) -> Result<Box<ResolvedLoop>, SourceFault>
     ensures checked { Checks result (found_breaches symbols.old (view_loop found.now)) }
     ensures in_scope { OnOk result (symbols.new ≡ symbols.old) }
-    ensures resolved { IfOk result (λ made. resolved_loop symbols.old schedule (view_loop found.now) ≡ Some (view_resolved_loop made.value)) }
+    ensures resolved { IfOk result
+        (λ made. resolved_loop symbols.old schedule (view_loop found.now)
+        ≡ Some (view_resolved_loop made.value)) }
 {
     let variable = local_of(alloc, found.start.variable)?;
     let (from, to) = resolve_bounds(alloc, symbols, found)?;

@@ -33,8 +33,10 @@ pub fn resolve_format(
     name: &Name,
     values: &[(Option<Span>, Expression)],
 ) -> Result<Seq<u8>, SourceFault>
-    ensures checked { Checks result (misprint_breaches for_value name.now (arguments (map view_argument values.now))) }
-    ensures resolved { IfOk result (λ format. format_in (arguments (map view_argument values.now)) ≡ Some format) }
+    ensures checked { Checks result
+        (misprint_breaches for_value name.now (arguments (map view_argument values.now))) }
+    ensures resolved { IfOk result
+        (λ format. format_in (arguments (map view_argument values.now)) ≡ Some format) }
 {
     let broken = for_value || !is_print(values);
     refuse_if(broken, FaultCode::Misuse, name.span.start)?;
@@ -56,7 +58,8 @@ fn is_print(values: &[(Option<Span>, Expression)]) -> bool
 
 /// The format that a `printf` begins with, which is there where it has one.
 fn format_in(values: &[(Option<Span>, Expression)]) -> Option<&Seq<u8>>
-    ensures { option_map (λ text. text.now) result ≡ format_in (arguments (map view_argument values.now)) }
+    ensures { option_map (λ text. text.now) result
+        ≡ format_in (arguments (map view_argument values.now)) }
 {
     match values {
         [] => None,
@@ -76,7 +79,8 @@ fn text_in(expression: &Expression) -> Option<&Seq<u8>>
 
 /// A call of the function at a place among the definitions.
 pub fn call_of(place: usize, values: Vec<ResolvedExpression>) -> ResolvedExpression
-    ensures { view_resolved_expression result ≡ call_of place (trees.values (map view_resolved_expression values.items)) }
+    ensures { view_resolved_expression result
+        ≡ call_of place (trees.values (map view_resolved_expression values.items)) }
 {
     match place {
         1 => ResolvedExpression::ThreadNumber,

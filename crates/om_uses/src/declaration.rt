@@ -97,8 +97,11 @@ fn resolve_initializer(
     symbols: &Symbols,
     initializer: &Option<Initializer>,
 ) -> Result<Option<Box<ResolvedExpression>>, SourceFault>
-    ensures checked { Checks result (initializer_breaches symbols.now (option_map view_initializer initializer.now)) }
-    ensures resolved { IfOk result (λ found. resolved_initial symbols.now (option_map view_initializer initializer.now) ≡ Some (option_map (λ boxed. view_resolved_expression boxed.value) found)) }
+    ensures checked { Checks result
+        (initializer_breaches symbols.now (option_map view_initializer initializer.now)) }
+    ensures resolved { IfOk result
+        (λ found. resolved_initial symbols.now (option_map view_initializer initializer.now)
+        ≡ Some (option_map (λ boxed. view_resolved_expression boxed.value) found)) }
 {
     match initializer {
         None => Ok(None),
@@ -118,7 +121,8 @@ fn declare_name(
 ) -> Result<(), SourceFault>
     ensures checked { let tree = view_declarator declarator.now in
         Checks result (redeclared_breaches symbols.old tree.name ++ array_size_breaches tree) }
-    ensures in_scope { OnOk result (symbols.new ≡ after_local symbols.old (view_declarator declarator.now)) }
+    ensures in_scope { OnOk result
+        (symbols.new ≡ after_local symbols.old (view_declarator declarator.now)) }
 {
     check_new(symbols, &declarator.name)?;
     check_size(declarator)?;
@@ -135,8 +139,11 @@ fn resolve_declarator(
     declarator: &Declarator,
 ) -> Result<ResolvedDeclarator, SourceFault>
     ensures checked { Checks result (local_breaches symbols.old (view_declarator declarator.now)) }
-    ensures in_scope { OnOk result (symbols.new ≡ after_local symbols.old (view_declarator declarator.now)) }
-    ensures resolved { IfOk result (λ found. resolved_declarator symbols.old (view_declarator declarator.now) ≡ Some (view_resolved_declarator found)) }
+    ensures in_scope { OnOk result
+        (symbols.new ≡ after_local symbols.old (view_declarator declarator.now)) }
+    ensures resolved { IfOk result
+        (λ found. resolved_declarator symbols.old (view_declarator declarator.now)
+        ≡ Some (view_resolved_declarator found)) }
 {
     declare_name(alloc, symbols, declarator)?;
     let variable = local_of(alloc, &declarator.name)?;
@@ -156,10 +163,13 @@ fn add_local(
     declarator: &Declarator,
 ) -> Result<(), SourceFault>
     ensures checked { Checks result (local_breaches symbols.old (view_declarator declarator.now)) }
-    ensures in_scope { OnOk result (symbols.new ≡ after_local symbols.old (view_declarator declarator.now)) }
+    ensures in_scope { OnOk result
+        (symbols.new ≡ after_local symbols.old (view_declarator declarator.now)) }
     ensures resolved { let before = map view_resolved_declarator declared.old.items in
         let after = map view_resolved_declarator declared.new.items in
-        OnOk result (option_map (λ own. before ++ own ∷ []) (resolved_declarator symbols.old (view_declarator declarator.now)) ≡ Some after) }
+        OnOk result
+        (option_map (λ own. before ++ own ∷ [])
+        (resolved_declarator symbols.old (view_declarator declarator.now)) ≡ Some after) }
 {
     declared.push(resolve_declarator(alloc, symbols, declarator)?)?;
     Ok(())
@@ -172,11 +182,16 @@ fn resolve_further_locals(
     declared: &mut Vec<ResolvedDeclarator>,
     rest: &[(Span, Declarator)],
 ) -> Result<(), SourceFault>
-    ensures checked { Checks result (locals_breaches symbols.old (behind_commas (map view_further rest.now))) }
-    ensures in_scope { OnOk result (symbols.new ≡ after_locals symbols.old (behind_commas (map view_further rest.now))) }
+    ensures checked { Checks result
+        (locals_breaches symbols.old (behind_commas (map view_further rest.now))) }
+    ensures in_scope { OnOk result
+        (symbols.new ≡ after_locals symbols.old (behind_commas (map view_further rest.now))) }
     ensures resolved { let before = map view_resolved_declarator declared.old.items in
         let after = map view_resolved_declarator declared.new.items in
-        OnOk result (option_map (λ own. before ++ own) (resolved_declarators symbols.old (behind_commas (map view_further rest.now))) ≡ Some after) }
+        OnOk result
+        (option_map (λ own. before ++ own)
+        (resolved_declarators symbols.old (behind_commas (map view_further rest.now)))
+        ≡ Some after) }
 {
     for further in rest {
         add_local(alloc, symbols, declared, &further.1)?;
@@ -192,11 +207,17 @@ fn add_locals(
     declared: &mut Vec<ResolvedDeclarator>,
     declaration: &Declaration,
 ) -> Result<(), SourceFault>
-    ensures checked { Checks result (locals_breaches symbols.old (declarators_of (view_declaration declaration.now))) }
-    ensures in_scope { OnOk result (symbols.new ≡ after_locals symbols.old (declarators_of (view_declaration declaration.now))) }
+    ensures checked { Checks result
+        (locals_breaches symbols.old (declarators_of (view_declaration declaration.now))) }
+    ensures in_scope { OnOk result
+        (symbols.new ≡ after_locals symbols.old
+        (declarators_of (view_declaration declaration.now))) }
     ensures resolved { let before = map view_resolved_declarator declared.old.items in
         let after = map view_resolved_declarator declared.new.items in
-        OnOk result (option_map (λ own. before ++ own) (resolved_declarators symbols.old (declarators_of (view_declaration declaration.now))) ≡ Some after) }
+        OnOk result
+        (option_map (λ own. before ++ own)
+        (resolved_declarators symbols.old (declarators_of (view_declaration declaration.now)))
+        ≡ Some after) }
 {
     add_local(alloc, symbols, declared, &declaration.first)?;
     resolve_further_locals(alloc, symbols, declared, declaration.rest.as_slice())
@@ -212,9 +233,15 @@ pub fn resolve_locals(
     symbols: &mut Symbols,
     declaration: &Declaration,
 ) -> Result<Vec<ResolvedDeclarator>, SourceFault>
-    ensures checked { Checks result (locals_breaches symbols.old (declarators_of (view_declaration declaration.now))) }
-    ensures in_scope { OnOk result (symbols.new ≡ after_locals symbols.old (declarators_of (view_declaration declaration.now))) }
-    ensures resolved { IfOk result (λ found. resolved_declarators symbols.old (declarators_of (view_declaration declaration.now)) ≡ Some (map view_resolved_declarator found.items)) }
+    ensures checked { Checks result
+        (locals_breaches symbols.old (declarators_of (view_declaration declaration.now))) }
+    ensures in_scope { OnOk result
+        (symbols.new ≡ after_locals symbols.old
+        (declarators_of (view_declaration declaration.now))) }
+    ensures resolved { IfOk result
+        (λ found. resolved_declarators symbols.old
+        (declarators_of (view_declaration declaration.now))
+        ≡ Some (map view_resolved_declarator found.items)) }
 {
     let mut declared = Vec::new(alloc);
     add_locals(alloc, symbols, &mut declared, declaration)?;

@@ -85,9 +85,11 @@ fn resolve_listed(
     listed: &Listed,
     name: &Name,
 ) -> Result<Variable, SourceFault>
-    ensures checked { ChecksExactly result (listed_breaches symbols.now sharing listed.now name.now) }
+    ensures checked { ChecksExactly result
+        (listed_breaches symbols.now sharing listed.now name.now) }
     ensures is_new { OnOk result (is_listed listed.now name.now.text ≡ false) }
-    ensures resolved { IfOk result (λ variable. variable_named symbols.now name.now ≡ Some variable) }
+    ensures resolved { IfOk result
+        (λ variable. variable_named symbols.now name.now ≡ Some variable) }
 {
     check_declared(symbols, name)?;
     let text = name.text.as_slice();
@@ -120,7 +122,8 @@ fn clause_of(
     variable: Variable,
     name: &Name,
 ) -> Result<ResolvedClause, AllocError>
-    ensures { IfOk result (λ clause. view_resolved_clause clause ≡ clause_of kind variable name.now) }
+    ensures { IfOk result
+        (λ clause. view_resolved_clause clause ≡ clause_of kind variable name.now) }
 {
     match kind {
         None => Ok(ResolvedClause::Shared(variable)),
@@ -137,9 +140,11 @@ fn list_name(
     listed: &mut Listed,
     name: &Name,
 ) -> Result<ResolvedClause, SourceFault>
-    ensures checked { Checks result (listed_breaches symbols.now (sharing_of kind) listed.old name.now) }
+    ensures checked { Checks result
+        (listed_breaches symbols.now (sharing_of kind) listed.old name.now) }
     ensures listed { OnOk result (listed.new ≡ after_name (sharing_of kind) listed.old name.now) }
-    ensures resolved { IfOk result (λ clause. resolved_listed kind symbols.now name.now ≡ Some (view_resolved_clause clause)) }
+    ensures resolved { IfOk result
+        (λ clause. resolved_listed kind symbols.now name.now ≡ Some (view_resolved_clause clause)) }
 {
     let sharing = sharing_of(kind);
     let variable = resolve_listed(symbols, sharing, listed, name)?;
@@ -156,11 +161,18 @@ fn list_further_names(
     clauses: &mut Vec<ResolvedClause>,
     rest: &[(Span, Name)],
 ) -> Result<(), SourceFault>
-    ensures checked { Checks result (names_breaches symbols.now (sharing_of kind) listed.old (map (λ further. further.1) rest.now)) }
-    ensures listed { OnOk result (listed.new ≡ after_names (sharing_of kind) listed.old (map (λ further. further.1) rest.now)) }
+    ensures checked { Checks result
+        (names_breaches symbols.now (sharing_of kind) listed.old
+        (map (λ further. further.1) rest.now)) }
+    ensures listed { OnOk result
+        (listed.new ≡ after_names (sharing_of kind) listed.old
+        (map (λ further. further.1) rest.now)) }
     ensures resolved { let before = map view_resolved_clause clauses.old.items in
         let after = map view_resolved_clause clauses.new.items in
-        OnOk result (option_map (λ own. before ++ own) (each (resolved_listed kind symbols.now) (map (λ further. further.1) rest.now)) ≡ Some after) }
+        OnOk result
+        (option_map (λ own. before ++ own)
+        (each (resolved_listed kind symbols.now) (map (λ further. further.1) rest.now))
+        ≡ Some after) }
 {
     for further in rest {
         let found = list_name(alloc, symbols, kind, listed, &further.1);
@@ -180,11 +192,15 @@ fn list_names(
     first: &Name,
     rest: &[(Span, Name)],
 ) -> Result<(), SourceFault>
-    ensures checked { Checks result (names_breaches symbols.now (sharing_of kind) listed.old (names_in first.now rest.now)) }
-    ensures listed { OnOk result (listed.new ≡ after_names (sharing_of kind) listed.old (names_in first.now rest.now)) }
+    ensures checked { Checks result
+        (names_breaches symbols.now (sharing_of kind) listed.old (names_in first.now rest.now)) }
+    ensures listed { OnOk result
+        (listed.new ≡ after_names (sharing_of kind) listed.old (names_in first.now rest.now)) }
     ensures resolved { let before = map view_resolved_clause clauses.old.items in
         let after = map view_resolved_clause clauses.new.items in
-        OnOk result (option_map (λ own. before ++ own) (each (resolved_listed kind symbols.now) (names_in first.now rest.now)) ≡ Some after) }
+        OnOk result
+        (option_map (λ own. before ++ own)
+        (each (resolved_listed kind symbols.now) (names_in first.now rest.now)) ≡ Some after) }
 {
     clauses.push(list_name(alloc, symbols, kind, listed, first)?)?;
     list_further_names(alloc, symbols, kind, listed, clauses, rest)
@@ -211,11 +227,15 @@ fn resolve_clause(
     clauses: &mut Vec<ResolvedClause>,
     clause: &Clause<Expression>,
 ) -> Result<(), SourceFault>
-    ensures checked { Checks result (clause_breaches symbols.now listed.old (map_clause view_expression clause.now)) }
-    ensures listed { OnOk result (listed.new ≡ after_clause listed.old (map_clause view_expression clause.now)) }
+    ensures checked { Checks result
+        (clause_breaches symbols.now listed.old (map_clause view_expression clause.now)) }
+    ensures listed { OnOk result
+        (listed.new ≡ after_clause listed.old (map_clause view_expression clause.now)) }
     ensures resolved { let before = map view_resolved_clause clauses.old.items in
         let after = map view_resolved_clause clauses.new.items in
-        OnOk result (option_map (λ own. before ++ own) (resolved_clause symbols.now (map_clause view_expression clause.now)) ≡ Some after) }
+        OnOk result
+        (option_map (λ own. before ++ own)
+        (resolved_clause symbols.now (map_clause view_expression clause.now)) ≡ Some after) }
 {
     match clause {
         Clause::Value(kind, _, value) => {
@@ -256,9 +276,15 @@ fn resolve_clauses(
     symbols: &Symbols,
     items: &[ClauseItem<Expression>],
 ) -> Result<(Listed, Vec<ResolvedClause>), SourceFault>
-    ensures checked { Checks result (breaches_along (item_breaches symbols.now) after_item nothing_listed (map (map_item view_expression) items.now)) }
-    ensures listed { IfOk result (λ taken. taken.0 ≡ fold after_item nothing_listed (map (map_item view_expression) items.now)) }
-    ensures resolved { IfOk result (λ taken. resolved_clauses symbols.now (map (map_item view_expression) items.now) ≡ Some (map view_resolved_clause taken.1.items)) }
+    ensures checked { Checks result
+        (breaches_along (item_breaches symbols.now) after_item nothing_listed
+        (map (map_item view_expression) items.now)) }
+    ensures listed { IfOk result
+        (λ taken. taken.0 ≡ fold after_item nothing_listed
+        (map (map_item view_expression) items.now)) }
+    ensures resolved { IfOk result
+        (λ taken. resolved_clauses symbols.now (map (map_item view_expression) items.now)
+        ≡ Some (map view_resolved_clause taken.1.items)) }
 {
     let mut listed = Listed::new(alloc);
     let mut clauses = Vec::new(alloc);
@@ -280,9 +306,12 @@ pub fn resolve_directive(
     flow: Flow,
     directive: &Directive<Expression>,
 ) -> Result<(Listed, Vec<ResolvedClause>), SourceFault>
-    ensures checked { Checks result (directive_breaches symbols.now flow (view_directive directive.now)) }
+    ensures checked { Checks result
+        (directive_breaches symbols.now flow (view_directive directive.now)) }
     ensures listed { IfOk result (λ taken. taken.0 ≡ listed_by (view_directive directive.now)) }
-    ensures resolved { IfOk result (λ taken. resolved_clauses symbols.now (view_directive directive.now).clauses ≡ Some (map view_resolved_clause taken.1.items)) }
+    ensures resolved { IfOk result
+        (λ taken. resolved_clauses symbols.now (view_directive directive.now).clauses
+        ≡ Some (map view_resolved_clause taken.1.items)) }
 {
     check_nesting(flow, &directive.name)?;
     resolve_clauses(alloc, symbols, directive.clauses.as_slice())
@@ -291,7 +320,8 @@ pub fn resolve_directive(
 /// A variable that a `flush` names: S7, S9, S13.
 fn resolve_flushed(alloc: Global, symbols: &Symbols, name: &Name) -> Result<Variable, SourceFault>
     ensures checked { ChecksExactly result (flushed_breaches symbols.now name.now) }
-    ensures resolved { IfOk result (λ variable. variable_named symbols.now name.now ≡ Some variable) }
+    ensures resolved { IfOk result
+        (λ variable. variable_named symbols.now name.now ≡ Some variable) }
 {
     resolve_listed(symbols, DataSharing::Shared, &Listed::new(alloc), name)
 }
@@ -303,9 +333,13 @@ fn resolve_further_flushed(
     variables: &mut Vec<Variable>,
     rest: &[(Span, Name)],
 ) -> Result<(), SourceFault>
-    ensures checked { Checks result (flat_map (flushed_breaches symbols.now) (map (λ further. further.1) rest.now)) }
+    ensures checked { Checks result
+        (flat_map (flushed_breaches symbols.now) (map (λ further. further.1) rest.now)) }
     ensures resolved { let before = variables.old.items in
-        OnOk result (option_map (λ own. before ++ own) (each (variable_named symbols.now) (map (λ further. further.1) rest.now)) ≡ Some variables.new.items) }
+        OnOk result
+        (option_map (λ own. before ++ own)
+        (each (variable_named symbols.now) (map (λ further. further.1) rest.now))
+        ≡ Some variables.new.items) }
 {
     for further in rest {
         variables.push(resolve_flushed(alloc, symbols, &further.1)?)?;
@@ -320,8 +354,10 @@ fn resolve_names(
     first: &Name,
     rest: &[(Span, Name)],
 ) -> Result<Seq<Variable>, SourceFault>
-    ensures checked { Checks result (flat_map (flushed_breaches symbols.now) (names_in first.now rest.now)) }
-    ensures resolved { IfOk result (λ found. each (variable_named symbols.now) (names_in first.now rest.now) ≡ Some found) }
+    ensures checked { Checks result
+        (flat_map (flushed_breaches symbols.now) (names_in first.now rest.now)) }
+    ensures resolved { IfOk result
+        (λ found. each (variable_named symbols.now) (names_in first.now rest.now) ≡ Some found) }
 {
     let mut variables = Vec::new(alloc);
     variables.push(resolve_flushed(alloc, symbols, first)?)?;

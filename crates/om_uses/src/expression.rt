@@ -34,8 +34,11 @@ pub fn resolve_expression(
     for_value: bool,
     expression: &Expression,
 ) -> Result<ResolvedExpression, SourceFault>
-    ensures checked { Checks result (expression_breaches symbols.now for_value (view_expression expression.now)) }
-    ensures resolved { IfOk result (λ found. resolved_expression symbols.now (view_expression expression.now) ≡ Some (view_resolved_expression found)) }
+    ensures checked { Checks result
+        (expression_breaches symbols.now for_value (view_expression expression.now)) }
+    ensures resolved { IfOk result
+        (λ found. resolved_expression symbols.now (view_expression expression.now)
+        ≡ Some (view_resolved_expression found)) }
 {
     match expression {
         Expression::Name(name) => Ok(ResolvedExpression::Variable(resolve_scalar(symbols, name)?)),
@@ -109,8 +112,11 @@ pub fn boxed_expression(
     for_value: bool,
     expression: &Expression,
 ) -> Result<Box<ResolvedExpression>, SourceFault>
-    ensures checked { Checks result (expression_breaches symbols.now for_value (view_expression expression.now)) }
-    ensures resolved { IfOk result (λ found. resolved_expression symbols.now (view_expression expression.now) ≡ Some (view_resolved_expression found.value)) }
+    ensures checked { Checks result
+        (expression_breaches symbols.now for_value (view_expression expression.now)) }
+    ensures resolved { IfOk result
+        (λ found. resolved_expression symbols.now (view_expression expression.now)
+        ≡ Some (view_resolved_expression found.value)) }
 {
     boxed(
         alloc,
@@ -120,7 +126,8 @@ pub fn boxed_expression(
 
 /// An expression that may be left out, taken out of its box.
 pub fn unboxed(expression: Option<Box<ResolvedExpression>>) -> Option<ResolvedExpression>
-    ensures { option_map view_resolved_expression result ≡ option_map (λ boxed. view_resolved_expression boxed.value) expression }
+    ensures { option_map view_resolved_expression result
+        ≡ option_map (λ boxed. view_resolved_expression boxed.value) expression }
 {
     match expression {
         None => None,
@@ -150,9 +157,12 @@ fn resolve_prefix(
     operator: PrefixOperator,
     operand: &Expression,
 ) -> Result<ResolvedExpression, SourceFault>
-    ensures checked { Checks result (prefix_breaches symbols.now operator (view_expression operand.now)) }
+    ensures checked { Checks result
+        (prefix_breaches symbols.now operator (view_expression operand.now)) }
     ensures resolved { let tree = view_expression operand.now in
-        IfOk result (λ found. prefixed operator (resolved_target symbols.now tree) (resolved_expression symbols.now tree) ≡ Some (view_resolved_expression found)) }
+        IfOk result
+        (λ found. prefixed operator (resolved_target symbols.now tree)
+        (resolved_expression symbols.now tree) ≡ Some (view_resolved_expression found)) }
 {
     match operator {
         PrefixOperator::Increment => resolve_step(alloc, symbols, AssignOperator::Add, operand),
@@ -174,7 +184,9 @@ fn resolve_step(
     operand: &Expression,
 ) -> Result<ResolvedExpression, SourceFault>
     ensures checked { Checks result (target_breaches symbols.now (view_expression operand.now)) }
-    ensures resolved { IfOk result (λ found. step_of operator (resolved_target symbols.now (view_expression operand.now)) ≡ Some (view_resolved_expression found)) }
+    ensures resolved { IfOk result
+        (λ found. step_of operator (resolved_target symbols.now (view_expression operand.now))
+        ≡ Some (view_resolved_expression found)) }
 {
     let target = resolve_target(alloc, symbols, operand)?;
     let one = Box::new(alloc, ResolvedExpression::Constant(1))?;
@@ -189,8 +201,11 @@ fn resolve_unary(
     operator: UnaryOperator,
     operand: &Expression,
 ) -> Result<ResolvedExpression, SourceFault>
-    ensures checked { Checks result (expression_breaches symbols.now true (view_expression operand.now)) }
-    ensures resolved { IfOk result (λ found. unary_of operator (resolved_expression symbols.now (view_expression operand.now)) ≡ Some (view_resolved_expression found)) }
+    ensures checked { Checks result
+        (expression_breaches symbols.now true (view_expression operand.now)) }
+    ensures resolved { IfOk result
+        (λ found. unary_of operator (resolved_expression symbols.now (view_expression operand.now))
+        ≡ Some (view_resolved_expression found)) }
 {
     let operand = boxed_expression(alloc, symbols, true, operand)?;
     Ok(ResolvedExpression::Unary(operator, operand))
@@ -205,7 +220,9 @@ fn resolve_target(
     target: &Expression,
 ) -> Result<Target, SourceFault>
     ensures checked { Checks result (target_breaches symbols.now (view_expression target.now)) }
-    ensures resolved { IfOk result (λ found. resolved_target symbols.now (view_expression target.now) ≡ Some (view_target found)) }
+    ensures resolved { IfOk result
+        (λ found. resolved_target symbols.now (view_expression target.now)
+        ≡ Some (view_target found)) }
 {
     match target {
         Expression::Name(name) => Ok(Target::Variable(resolve_scalar(symbols, name)?)),
@@ -233,9 +250,12 @@ fn resolve_element(
     name: &Name,
     index: &Expression,
 ) -> Result<(Variable, Box<ResolvedExpression>), SourceFault>
-    ensures checked { Checks result (element_breaches symbols.now name.now (view_expression index.now)) }
+    ensures checked { Checks result
+        (element_breaches symbols.now name.now (view_expression index.now)) }
     ensures array { IfOk result (λ found. variable_named symbols.now name.now ≡ Some found.0) }
-    ensures index { IfOk result (λ found. resolved_expression symbols.now (view_expression index.now) ≡ Some (view_resolved_expression found.1.value)) }
+    ensures index { IfOk result
+        (λ found. resolved_expression symbols.now (view_expression index.now)
+        ≡ Some (view_resolved_expression found.1.value)) }
 {
     let array = resolve_array(symbols, name)?;
     let index = boxed_expression(alloc, symbols, true, index)?;
@@ -251,8 +271,12 @@ fn resolve_call(
     name: &Name,
     values: &[(Option<Span>, Expression)],
 ) -> Result<ResolvedExpression, SourceFault>
-    ensures checked { Checks result (called_breaches symbols.now for_value name.now (arguments (map view_argument values.now))) }
-    ensures resolved { IfOk result (λ found. resolved_call symbols.now name.now (arguments (map view_argument values.now)) ≡ Some (view_resolved_expression found)) }
+    ensures checked { Checks result
+        (called_breaches symbols.now for_value name.now
+        (arguments (map view_argument values.now))) }
+    ensures resolved { IfOk result
+        (λ found. resolved_call symbols.now name.now (arguments (map view_argument values.now))
+        ≡ Some (view_resolved_expression found)) }
 {
     if is_printf(symbols.meaning_of(name.text.as_slice())) {
         return resolve_print(alloc, symbols, for_value, name, values);
@@ -270,9 +294,12 @@ fn resolve_print(
     name: &Name,
     values: &[(Option<Span>, Expression)],
 ) -> Result<ResolvedExpression, SourceFault>
-    ensures checked { Checks result (print_breaches symbols.now for_value name.now (arguments (map view_argument values.now))) }
+    ensures checked { Checks result
+        (print_breaches symbols.now for_value name.now (arguments (map view_argument values.now))) }
     ensures resolved { let given = arguments (map view_argument values.now) in
-        IfOk result (λ found. print_of (format_in given) (resolved_printed symbols.now given) ≡ Some (view_resolved_expression found)) }
+        IfOk result
+        (λ found. print_of (format_in given) (resolved_printed symbols.now given)
+        ≡ Some (view_resolved_expression found)) }
 {
     let format = resolve_format(alloc, for_value, name, values)?;
     let printed = resolve_printed(alloc, symbols, values)?;
@@ -287,8 +314,11 @@ fn resolve_printed(
     symbols: &Symbols,
     values: &[(Option<Span>, Expression)],
 ) -> Result<Vec<ResolvedExpression>, SourceFault>
-    ensures checked { Checks result (printed_breaches symbols.now 0 (arguments (map view_argument values.now))) }
-    ensures resolved { IfOk result (λ found. resolved_printed symbols.now (arguments (map view_argument values.now)) ≡ Some (trees.values (map view_resolved_expression found.items))) }
+    ensures checked { Checks result
+        (printed_breaches symbols.now 0 (arguments (map view_argument values.now))) }
+    ensures resolved { IfOk result
+        (λ found. resolved_printed symbols.now (arguments (map view_argument values.now))
+        ≡ Some (trees.values (map view_resolved_expression found.items))) }
 {
     let mut resolved = Vec::new(alloc);
     let mut place = 0;
@@ -313,8 +343,11 @@ fn resolve_argument(
     argument: &Expression,
 ) -> Result<ResolvedExpression, SourceFault>
     requires { 0 < place }
-    ensures checked { Checks result (argument_breaches symbols.now place (view_expression argument.now)) }
-    ensures resolved { IfOk result (λ found. resolved_expression symbols.now (view_expression argument.now) ≡ Some (view_resolved_expression found)) }
+    ensures checked { Checks result
+        (argument_breaches symbols.now place (view_expression argument.now)) }
+    ensures resolved { IfOk result
+        (λ found. resolved_expression symbols.now (view_expression argument.now)
+        ≡ Some (view_resolved_expression found)) }
 {
     let resolved = resolve_expression(alloc, symbols, true, argument);
     let at = expression_start(argument);
@@ -331,9 +364,13 @@ fn resolve_own_call(
     name: &Name,
     values: &[(Option<Span>, Expression)],
 ) -> Result<ResolvedExpression, SourceFault>
-    ensures checked { Checks result (own_call_breaches symbols.now for_value name.now (arguments (map view_argument values.now))) }
+    ensures checked { Checks result
+        (own_call_breaches symbols.now for_value name.now
+        (arguments (map view_argument values.now))) }
     ensures resolved { let given = arguments (map view_argument values.now) in
-        IfOk result (λ found. own_call_of (callee_named symbols.now name.now) (resolved_values symbols.now given) ≡ Some (view_resolved_expression found)) }
+        IfOk result
+        (λ found. own_call_of (callee_named symbols.now name.now)
+        (resolved_values symbols.now given) ≡ Some (view_resolved_expression found)) }
 {
     let place = resolve_callee(symbols, for_value, name, argument_count(values))?;
     let values = resolve_values(alloc, symbols, values)?;
@@ -348,8 +385,11 @@ fn resolve_values(
     symbols: &Symbols,
     values: &[(Option<Span>, Expression)],
 ) -> Result<Vec<ResolvedExpression>, SourceFault>
-    ensures checked { Checks result (arguments_breaches symbols.now (arguments (map view_argument values.now))) }
-    ensures resolved { IfOk result (λ found. resolved_values symbols.now (arguments (map view_argument values.now)) ≡ Some (trees.values (map view_resolved_expression found.items))) }
+    ensures checked { Checks result
+        (arguments_breaches symbols.now (arguments (map view_argument values.now))) }
+    ensures resolved { IfOk result
+        (λ found. resolved_values symbols.now (arguments (map view_argument values.now))
+        ≡ Some (trees.values (map view_resolved_expression found.items))) }
 {
     let mut resolved = Vec::new(alloc);
     for argument in values {

@@ -53,7 +53,8 @@ pub fn refuse_among(
     code: FaultCode,
     at: u32,
 ) -> Result<ResolvedExpression, SourceFault>
-    ensures checked { (breaches : List SourceFault) → Checks checked breaches → Checks result (perhaps_with broken code at breaches) }
+    ensures checked { (breaches : List SourceFault) → Checks checked breaches →
+        Checks result (perhaps_with broken code at breaches) }
     ensures kept { IfOk result (λ found. checked ≡ Ok found) }
 {
     if !broken {

@@ -36,8 +36,10 @@ fn value_of(constant: Option<(bool, Number)>, at: u32) -> Result<i32, SourceFaul
 
 /// What a global holds at the start.
 fn initial_of(initializer: &Option<Initializer>) -> Result<i32, SourceFault>
-    ensures checked { ChecksExactly result (initial_breaches (option_map view_initializer initializer.now)) }
-    ensures value { IfOk result (λ value. value ≡ initial_of (option_map view_initializer initializer.now)) }
+    ensures checked { ChecksExactly result
+        (initial_breaches (option_map view_initializer initializer.now)) }
+    ensures value { IfOk result
+        (λ value. value ≡ initial_of (option_map view_initializer initializer.now)) }
 {
     match initializer {
         None => Ok(0),
@@ -51,8 +53,10 @@ fn initial_of(initializer: &Option<Initializer>) -> Result<i32, SourceFault>
 /// That a name may be that of a further global: S8, S9, S11.
 #[tactic(auto, using(om_rules::specs::InRow::first_of_left))]
 fn check_global_name(symbols: &Symbols, declarator: &Declarator) -> Result<(), SourceFault>
-    ensures checked { ChecksExactly result (global_name_breaches symbols.now (view_declarator declarator.now)) }
-    ensures has_room { OnOk result (symbols.now.cells + cells_of declarator.now.array ≤ GLOBAL_CELL_LIMIT) }
+    ensures checked { ChecksExactly result
+        (global_name_breaches symbols.now (view_declarator declarator.now)) }
+    ensures has_room { OnOk result
+        (symbols.now.cells + cells_of declarator.now.array ≤ GLOBAL_CELL_LIMIT) }
     ensures has_cells { OnOk result (0 < cells_of declarator.now.array) }
     ensures is_new { OnOk result (is_declared symbols.now declarator.now.name.text ≡ false) }
 {
@@ -72,8 +76,10 @@ fn declare_global_name(
     symbols: &mut Symbols,
     declarator: &Declarator,
 ) -> Result<(), SourceFault>
-    ensures checked { Checks result (global_name_breaches symbols.old (view_declarator declarator.now)) }
-    ensures in_scope { OnOk result (symbols.new ≡ after_global symbols.old (view_declarator declarator.now)) }
+    ensures checked { Checks result
+        (global_name_breaches symbols.old (view_declarator declarator.now)) }
+    ensures in_scope { OnOk result
+        (symbols.new ≡ after_global symbols.old (view_declarator declarator.now)) }
 {
     check_global_name(symbols, declarator)?;
     let shape = shape_of(&declarator.array);
@@ -88,8 +94,10 @@ fn add_global(
     globals: &mut Vec<GlobalVariable>,
     declarator: &Declarator,
 ) -> Result<(), SourceFault>
-    ensures checked { Checks result (initial_breaches (view_declarator declarator.now).initializer) }
-    ensures declared { OnOk result (globals.new.items ≡ globals.old.items ++ global_of (view_declarator declarator.now) ∷ []) }
+    ensures checked { Checks result
+        (initial_breaches (view_declarator declarator.now).initializer) }
+    ensures declared { OnOk result
+        (globals.new.items ≡ globals.old.items ++ global_of (view_declarator declarator.now) ∷ []) }
 {
     let initial = initial_of(&declarator.initializer)?;
     globals.push(GlobalVariable {
@@ -110,8 +118,10 @@ fn declare_global(
     declarator: &Declarator,
 ) -> Result<(), SourceFault>
     ensures checked { Checks result (global_breaches symbols.old (view_declarator declarator.now)) }
-    ensures in_scope { OnOk result (symbols.new ≡ after_global symbols.old (view_declarator declarator.now)) }
-    ensures declared { OnOk result (globals.new.items ≡ globals.old.items ++ global_of (view_declarator declarator.now) ∷ []) }
+    ensures in_scope { OnOk result
+        (symbols.new ≡ after_global symbols.old (view_declarator declarator.now)) }
+    ensures declared { OnOk result
+        (globals.new.items ≡ globals.old.items ++ global_of (view_declarator declarator.now) ∷ []) }
 {
     declare_global_name(alloc, symbols, declarator)?;
     add_global(alloc, globals, declarator)
@@ -124,9 +134,13 @@ fn declare_further_globals(
     globals: &mut Vec<GlobalVariable>,
     rest: &[(Span, Declarator)],
 ) -> Result<(), SourceFault>
-    ensures checked { Checks result (globals_breaches symbols.old (behind_commas (map view_further rest.now))) }
-    ensures in_scope { OnOk result (symbols.new ≡ after_globals symbols.old (behind_commas (map view_further rest.now))) }
-    ensures declared { OnOk result (globals.new.items ≡ globals.old.items ++ map global_of (behind_commas (map view_further rest.now))) }
+    ensures checked { Checks result
+        (globals_breaches symbols.old (behind_commas (map view_further rest.now))) }
+    ensures in_scope { OnOk result
+        (symbols.new ≡ after_globals symbols.old (behind_commas (map view_further rest.now))) }
+    ensures declared { OnOk result
+        (globals.new.items ≡ globals.old.items
+        ++ map global_of (behind_commas (map view_further rest.now))) }
 {
     for further in rest {
         declare_global(alloc, symbols, globals, &further.1)?;
@@ -146,9 +160,14 @@ pub fn declare_globals(
     globals: &mut Vec<GlobalVariable>,
     declaration: &Declaration,
 ) -> Result<(), SourceFault>
-    ensures checked { Checks result (globals_breaches symbols.old (declarators_of (view_declaration declaration.now))) }
-    ensures in_scope { OnOk result (symbols.new ≡ after_globals symbols.old (declarators_of (view_declaration declaration.now))) }
-    ensures declared { OnOk result (globals.new.items ≡ globals.old.items ++ map global_of (declarators_of (view_declaration declaration.now))) }
+    ensures checked { Checks result
+        (globals_breaches symbols.old (declarators_of (view_declaration declaration.now))) }
+    ensures in_scope { OnOk result
+        (symbols.new ≡ after_globals symbols.old
+        (declarators_of (view_declaration declaration.now))) }
+    ensures declared { OnOk result
+        (globals.new.items ≡ globals.old.items
+        ++ map global_of (declarators_of (view_declaration declaration.now))) }
 {
     declare_global(alloc, symbols, globals, &declaration.first)?;
     declare_further_globals(alloc, symbols, globals, declaration.rest.as_slice())

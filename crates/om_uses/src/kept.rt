@@ -9,7 +9,8 @@ use std::alloc::Global;
 
 /// What was found, in a box. A refusal stays; S0 is out of memory.
 pub fn boxed<T: Drop>(alloc: Global, found: Result<T, SourceFault>) -> Result<Box<T>, SourceFault>
-    ensures checked { (breaches : List SourceFault) → Checks found breaches → Checks result breaches }
+    ensures checked { (breaches : List SourceFault) → Checks found breaches →
+        Checks result breaches }
     ensures kept { IfOk result (λ made. found ≡ Ok made.value) }
 {
     let item = found?;
@@ -18,8 +19,10 @@ pub fn boxed<T: Drop>(alloc: Global, found: Result<T, SourceFault>) -> Result<Bo
 
 /// Adds what was found behind the items of a list. A refusal stays; S0 is out of memory.
 pub fn add<T: Drop>(items: &mut Vec<T>, found: Result<T, SourceFault>) -> Result<(), SourceFault>
-    ensures checked { (breaches : List SourceFault) → Checks found breaches → Checks result breaches }
-    ensures added { OnOk result ((item : T) × (found ≡ Ok item) × (items.new.items ≡ items.old.items ++ item ∷ [])) }
+    ensures checked { (breaches : List SourceFault) → Checks found breaches →
+        Checks result breaches }
+    ensures added { OnOk result
+        ((item : T) × (found ≡ Ok item) × (items.new.items ≡ items.old.items ++ item ∷ [])) }
 {
     let item = found?;
     items.push(item)?;

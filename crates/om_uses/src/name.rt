@@ -84,7 +84,8 @@ pub fn misuse(at: u32) -> SourceFault
 #[tactic(auto, using(om_rules::specs::InRow::first_of_left))]
 pub fn resolve_scalar(symbols: &Symbols, name: &Name) -> Result<Variable, SourceFault>
     ensures checked { ChecksExactly result (scalar_breaches symbols.now name.now) }
-    ensures resolved { IfOk result (λ variable. variable_named symbols.now name.now ≡ Some variable) }
+    ensures resolved { IfOk result
+        (λ variable. variable_named symbols.now name.now ≡ Some variable) }
 {
     check_declared(symbols, name)?;
     let meaning = symbols.meaning_of(name.text.as_slice());
@@ -116,7 +117,8 @@ fn check_is_listed(symbols: &Symbols, name: &Name) -> Result<(), SourceFault>
 #[tactic(auto, using(om_rules::specs::InRow::first_of_left))]
 pub fn resolve_array(symbols: &Symbols, name: &Name) -> Result<Variable, SourceFault>
     ensures checked { ChecksExactly result (array_breaches symbols.now name.now) }
-    ensures resolved { IfOk result (λ variable. variable_named symbols.now name.now ≡ Some variable) }
+    ensures resolved { IfOk result
+        (λ variable. variable_named symbols.now name.now ≡ Some variable) }
 {
     check_declared(symbols, name)?;
     let text = name.text.as_slice();

@@ -19,7 +19,8 @@ use om_tree::{AssignOperator, Expression, PostfixOperator};
 /// The refusal of an expression that can't stand where it does: S9 at its first token, or S7 of a name
 /// there.
 pub fn misplaced(symbols: &Symbols, expression: &Expression) -> SourceFault
-    ensures { first_of (misplaced_breaches symbols.now (view_expression expression.now)) ≡ Some result }
+    ensures { first_of (misplaced_breaches symbols.now (view_expression expression.now))
+        ≡ Some result }
 {
     match check_leading(symbols, expression) {
         Ok(()) => misuse(expression_start(expression)),
@@ -71,7 +72,8 @@ pub fn assigned(
     operator: AssignOperator,
     value: Box<ResolvedExpression>,
 ) -> ResolvedExpression
-    ensures { view_resolved_expression result ≡ assigned (view_target target) operator (view_resolved_expression value.value) }
+    ensures { view_resolved_expression result
+        ≡ assigned (view_target target) operator (view_resolved_expression value.value) }
 {
     match target {
         Target::Variable(variable) => ResolvedExpression::Assign(variable, operator, value),

@@ -102,7 +102,8 @@ impl Debugger {
     ) -> Result<(), AllocError>
         requires in_range { AsksWorkerBelow self.old.recorder.machine.workers request.now }
         requires no_free_run { rounds_asked request.now ≡ None }
-        ensures text { OnOk result (text.new.items ≡ text.old.items ++ (answer_to self.old no_run request.now).text) }
+        ensures text { OnOk result
+            (text.new.items ≡ text.old.items ++ (answer_to self.old no_run request.now).text) }
         ensures view { OnOk result (self.new ≡ (answer_to self.old no_run request.now).view) }
     {
         match request {
@@ -121,7 +122,8 @@ impl Debugger {
     ) -> Result<(), AllocError>
         requires in_range { HasWorkerBelow self.old.recorder.machine.workers command.now }
         requires no_free_run { rounds_asked (request.Command command.now) ≡ None }
-        ensures text { OnOk result (text.new.items ≡ text.old.items ++ (obeyed self.old no_run command.now).text) }
+        ensures text { OnOk result
+            (text.new.items ≡ text.old.items ++ (obeyed self.old no_run command.now).text) }
         ensures view { OnOk result (self.new ≡ (obeyed self.old no_run command.now).view) }
     {
         let recorder = &mut self.recorder;
@@ -159,8 +161,11 @@ impl Debugger {
         variable: &Variable,
         text: &mut Vec<u8>,
     ) -> Result<(), AllocError>
-        ensures text { OnOk result (text.new.items ≡ text.old.items ++ (obeyed self.old no_run (command.Print variable.now)).text) }
-        ensures view { OnOk result (self.new ≡ (obeyed self.old no_run (command.Print variable.now)).view) }
+        ensures text { OnOk result
+            (text.new.items ≡ text.old.items
+            ++ (obeyed self.old no_run (command.Print variable.now)).text) }
+        ensures view { OnOk result
+            (self.new ≡ (obeyed self.old no_run (command.Print variable.now)).view) }
     {
         match cell_of(self.recorder.machine().program(), variable) {
             Some(cell) => print(alloc, &mut self.recorder, cell, text),
@@ -176,8 +181,11 @@ impl Debugger {
         variable: &Variable,
         text: &mut Vec<u8>,
     ) -> Result<(), AllocError>
-        ensures text { OnOk result (text.new.items ≡ text.old.items ++ (obeyed self.old no_run (command.PrintLocal worker variable.now)).text) }
-        ensures view { OnOk result (self.new ≡ (obeyed self.old no_run (command.PrintLocal worker variable.now)).view) }
+        ensures text { OnOk result
+            (text.new.items ≡ text.old.items
+            ++ (obeyed self.old no_run (command.PrintLocal worker variable.now)).text) }
+        ensures view { OnOk result
+            (self.new ≡ (obeyed self.old no_run (command.PrintLocal worker variable.now)).view) }
     {
         let machine = self.recorder.machine();
         match worker_sees(alloc, machine, &self.names, worker, variable)? {
@@ -189,7 +197,9 @@ impl Debugger {
 
     // Answers `break L`.
     fn set_break(&mut self, line: u64, text: &mut Vec<u8>) -> Result<(), AllocError>
-        ensures text { OnOk result (text.new.items ≡ text.old.items ++ (obeyed self.old no_run (command.Break line)).text) }
+        ensures text { OnOk result
+            (text.new.items ≡ text.old.items
+            ++ (obeyed self.old no_run (command.Break line)).text) }
         ensures view { OnOk result (self.new ≡ (obeyed self.old no_run (command.Break line)).view) }
     {
         self.marks.set_break(line)?;
@@ -198,8 +208,11 @@ impl Debugger {
 
     // Answers `watch VAR`.
     fn set_watch(&mut self, variable: &Variable, text: &mut Vec<u8>) -> Result<(), AllocError>
-        ensures text { OnOk result (text.new.items ≡ text.old.items ++ (obeyed self.old no_run (command.Watch variable.now)).text) }
-        ensures view { OnOk result (self.new ≡ (obeyed self.old no_run (command.Watch variable.now)).view) }
+        ensures text { OnOk result
+            (text.new.items ≡ text.old.items
+            ++ (obeyed self.old no_run (command.Watch variable.now)).text) }
+        ensures view { OnOk result
+            (self.new ≡ (obeyed self.old no_run (command.Watch variable.now)).view) }
     {
         match cell_of(self.recorder.machine().program(), variable) {
             Some(cell) => {
@@ -212,8 +225,11 @@ impl Debugger {
 
     // Answers `delete L`.
     fn delete(&mut self, alloc: Global, line: u64, text: &mut Vec<u8>) -> Result<(), AllocError>
-        ensures text { OnOk result (text.new.items ≡ text.old.items ++ (obeyed self.old no_run (command.Delete line)).text) }
-        ensures view { OnOk result (self.new ≡ (obeyed self.old no_run (command.Delete line)).view) }
+        ensures text { OnOk result
+            (text.new.items ≡ text.old.items
+            ++ (obeyed self.old no_run (command.Delete line)).text) }
+        ensures view { OnOk result
+            (self.new ≡ (obeyed self.old no_run (command.Delete line)).view) }
     {
         let was_set = self.marks.delete(alloc, line)?;
         push_deleted(text, line, was_set)

@@ -89,7 +89,9 @@ pub(crate) fn worker_sees(
     worker: u8,
     variable: &Variable,
 ) -> Result<Seen, AllocError>
-    ensures { IfOk result (λ seen. seen ≡ seen_by names.now variable.now (control_in (state_in machine.now (object.Control worker)))) }
+    ensures { IfOk result
+        (λ seen. seen ≡ seen_by names.now variable.now
+        (control_in (state_in machine.now (object.Control worker)))) }
 {
     let value = machine.look(alloc, &Obj::Control(worker))?;
     seen_at(names, variable, &value)

@@ -28,7 +28,8 @@ pub(crate) fn print(
     cell: GlobalCell,
     text: &mut Vec<u8>,
 ) -> Result<(), AllocError>
-    ensures text { OnOk result (text.new.items ≡ text.old.items ++ (print_said cell recorder.old).text) }
+    ensures text { OnOk result
+        (text.new.items ≡ text.old.items ++ (print_said cell recorder.old).text) }
     ensures after { OnOk result (recorder.new ≡ (print_said cell recorder.old).recorded) }
 {
     if recorder.is_full() {
@@ -46,8 +47,10 @@ pub(crate) fn print_local(
     cell: &Obj,
     text: &mut Vec<u8>,
 ) -> Result<(), AllocError>
-    ensures text { OnOk result (text.new.items ≡ text.old.items ++ (local_said variable.now cell.now recorder.old).text) }
-    ensures after { OnOk result (recorder.new ≡ (local_said variable.now cell.now recorder.old).recorded) }
+    ensures text { OnOk result
+        (text.new.items ≡ text.old.items ++ (local_said variable.now cell.now recorder.old).text) }
+    ensures after { OnOk result
+        (recorder.new ≡ (local_said variable.now cell.now recorder.old).recorded) }
 {
     if recorder.is_full() {
         return push_full(text);
@@ -64,7 +67,9 @@ fn push_control(
     value: &Val,
 ) -> Result<(), AllocError>
     requires { worker < machine.now.workers }
-    ensures { OnOk result (text.new.items ≡ text.old.items ++ where_text worker (control_in value.now) (line_at machine.now worker)) }
+    ensures { OnOk result
+        (text.new.items ≡ text.old.items
+        ++ where_text worker (control_in value.now) (line_at machine.now worker)) }
 {
     let line = machine.line(worker);
     match value.control() {
@@ -81,7 +86,8 @@ pub(crate) fn place(
     text: &mut Vec<u8>,
 ) -> Result<(), AllocError>
     requires { worker < recorder.old.machine.workers }
-    ensures text { OnOk result (text.new.items ≡ text.old.items ++ (where_said worker recorder.old).text) }
+    ensures text { OnOk result
+        (text.new.items ≡ text.old.items ++ (where_said worker recorder.old).text) }
     ensures after { OnOk result (recorder.new ≡ (where_said worker recorder.old).recorded) }
 {
     if recorder.is_full() {
@@ -97,7 +103,8 @@ pub(crate) fn history(
     recorder: &mut Recorder,
     text: &mut Vec<u8>,
 ) -> Result<(), AllocError>
-    ensures text { OnOk result (text.new.items ≡ text.old.items ++ (history_said recorder.old).text) }
+    ensures text { OnOk result
+        (text.new.items ≡ text.old.items ++ (history_said recorder.old).text) }
     ensures after { OnOk result (recorder.new ≡ (history_said recorder.old).recorded) }
 {
     if recorder.is_full() {
@@ -114,7 +121,8 @@ pub(crate) fn events(
     worker: u8,
     text: &mut Vec<u8>,
 ) -> Result<(), AllocError>
-    ensures text { OnOk result (text.new.items ≡ text.old.items ++ (events_said worker recorder.old).text) }
+    ensures text { OnOk result
+        (text.new.items ≡ text.old.items ++ (events_said worker recorder.old).text) }
     ensures after { OnOk result (recorder.new ≡ (events_said worker recorder.old).recorded) }
 {
     if recorder.is_full() {
@@ -130,7 +138,8 @@ pub(crate) fn output(
     recorder: &mut Recorder,
     text: &mut Vec<u8>,
 ) -> Result<(), AllocError>
-    ensures text { OnOk result (text.new.items ≡ text.old.items ++ (output_said recorder.old).text) }
+    ensures text { OnOk result
+        (text.new.items ≡ text.old.items ++ (output_said recorder.old).text) }
     ensures after { OnOk result (recorder.new ≡ (output_said recorder.old).recorded) }
 {
     if recorder.is_full() {
@@ -157,7 +166,8 @@ fn push_ready(
     name: &Name,
     text: &mut Vec<u8>,
 ) -> Result<(), AllocError>
-    ensures { OnOk result (text.new.items ≡ text.old.items ++ ready_line (state_in machine.now) name.now) }
+    ensures { OnOk result
+        (text.new.items ≡ text.old.items ++ ready_line (state_in machine.now) name.now) }
 {
     let value = machine.look(alloc, &Obj::Task(*name))?;
     push_task(text, name, directive_line(value.task()))
@@ -170,7 +180,8 @@ fn push_all_ready(
     names: &[Name],
     text: &mut Vec<u8>,
 ) -> Result<(), AllocError>
-    ensures { OnOk result (text.new.items ≡ text.old.items ++ joined (ready_line (state_in machine.now)) names.now) }
+    ensures { OnOk result
+        (text.new.items ≡ text.old.items ++ joined (ready_line (state_in machine.now)) names.now) }
 {
     for name in names {
         push_ready(alloc, machine, name, text)?;
@@ -185,7 +196,8 @@ fn push_tasks(
     names: &[Name],
     text: &mut Vec<u8>,
 ) -> Result<(), AllocError>
-    ensures { OnOk result (text.new.items ≡ text.old.items ++ tasks_text (state_in machine.now) names.now) }
+    ensures { OnOk result
+        (text.new.items ≡ text.old.items ++ tasks_text (state_in machine.now) names.now) }
 {
     match names {
         [] => push_no_tasks(text),

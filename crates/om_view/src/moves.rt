@@ -30,7 +30,8 @@ pub(crate) fn step(
     text: &mut Vec<u8>,
 ) -> Result<(), AllocError>
     requires { worker < recorder.old.machine.workers }
-    ensures text { OnOk result (text.new.items ≡ text.old.items ++ (step_said worker choice recorder.old).text) }
+    ensures text { OnOk result
+        (text.new.items ≡ text.old.items ++ (step_said worker choice recorder.old).text) }
     ensures after { OnOk result (recorder.new ≡ (step_said worker choice recorder.old).recorded) }
 {
     if recorder.is_full() {
@@ -47,7 +48,8 @@ pub(crate) fn undo(
     text: &mut Vec<u8>,
 ) -> Result<(), AllocError>
     requires { worker < recorder.old.machine.workers }
-    ensures text { OnOk result (text.new.items ≡ text.old.items ++ (undo_said worker recorder.old).text) }
+    ensures text { OnOk result
+        (text.new.items ≡ text.old.items ++ (undo_said worker recorder.old).text) }
     ensures after { OnOk result (recorder.new ≡ (undo_said worker recorder.old).recorded) }
 {
     if recorder.is_full() {
@@ -88,7 +90,8 @@ fn stays(machine: &Machine, stay: Stay) -> bool
 // Whether a step was made that left its worker at the line, and a further one may follow.
 fn steps_on(machine: &Machine, reply: &StepReply, stay: Stay, further: u32) -> bool
     requires { stay.worker < machine.now.workers }
-    ensures on { result ≡ goes_on further (is_done reply.now && nat_eq (line_at machine.now stay.worker) stay.line) }
+    ensures on { result ≡ goes_on further
+        (is_done reply.now && nat_eq (line_at machine.now stay.worker) stay.line) }
     ensures further { result ≡ true → 0 < further }
 {
     further > 0 && is_done(reply) && stays(machine, stay)
@@ -97,7 +100,8 @@ fn steps_on(machine: &Machine, reply: &StepReply, stay: Stay, further: u32) -> b
 // Whether a step was taken out, which left its worker at the line, and a further one may be.
 fn undoes_on(machine: &Machine, reply: &UndoReply, stay: Stay, further: u32) -> bool
     requires { stay.worker < machine.now.workers }
-    ensures on { result ≡ goes_on further (is_undone reply.now && nat_eq (line_at machine.now stay.worker) stay.line) }
+    ensures on { result ≡ goes_on further
+        (is_undone reply.now && nat_eq (line_at machine.now stay.worker) stay.line) }
     ensures further { result ≡ true → 0 < further }
 {
     further > 0 && is_undone(reply) && stays(machine, stay)
@@ -112,8 +116,11 @@ fn next_within(
     text: &mut Vec<u8>,
 ) -> Result<(), AllocError>
     requires { stay.worker < recorder.old.machine.workers }
-    ensures text { OnOk result (text.new.items ≡ text.old.items ++ (next_within further stay.line stay.worker recorder.old).text) }
-    ensures after { OnOk result (recorder.new ≡ (next_within further stay.line stay.worker recorder.old).recorded) }
+    ensures text { OnOk result
+        (text.new.items ≡ text.old.items
+        ++ (next_within further stay.line stay.worker recorder.old).text) }
+    ensures after { OnOk result
+        (recorder.new ≡ (next_within further stay.line stay.worker recorder.old).recorded) }
 {
     let mut further = further;
     'steps: loop {
@@ -136,7 +143,8 @@ pub(crate) fn next(
     text: &mut Vec<u8>,
 ) -> Result<(), AllocError>
     requires { worker < recorder.old.machine.workers }
-    ensures text { OnOk result (text.new.items ≡ text.old.items ++ (next_said 9999 worker recorder.old).text) }
+    ensures text { OnOk result
+        (text.new.items ≡ text.old.items ++ (next_said 9999 worker recorder.old).text) }
     ensures after { OnOk result (recorder.new ≡ (next_said 9999 worker recorder.old).recorded) }
 {
     let line = recorder.machine().line(worker);
@@ -151,8 +159,11 @@ fn back_within(
     text: &mut Vec<u8>,
 ) -> Result<(), AllocError>
     requires { stay.worker < recorder.old.machine.workers }
-    ensures text { OnOk result (text.new.items ≡ text.old.items ++ (back_within further stay.line stay.worker recorder.old).text) }
-    ensures after { OnOk result (recorder.new ≡ (back_within further stay.line stay.worker recorder.old).recorded) }
+    ensures text { OnOk result
+        (text.new.items ≡ text.old.items
+        ++ (back_within further stay.line stay.worker recorder.old).text) }
+    ensures after { OnOk result
+        (recorder.new ≡ (back_within further stay.line stay.worker recorder.old).recorded) }
 {
     let mut further = further;
     'undos: loop {
@@ -174,7 +185,8 @@ pub(crate) fn back(
     text: &mut Vec<u8>,
 ) -> Result<(), AllocError>
     requires { worker < recorder.old.machine.workers }
-    ensures text { OnOk result (text.new.items ≡ text.old.items ++ (back_said 9999 worker recorder.old).text) }
+    ensures text { OnOk result
+        (text.new.items ≡ text.old.items ++ (back_said 9999 worker recorder.old).text) }
     ensures after { OnOk result (recorder.new ≡ (back_said 9999 worker recorder.old).recorded) }
 {
     let line = recorder.machine().line(worker);
@@ -188,7 +200,8 @@ pub(crate) fn roll(
     serial: u64,
     text: &mut Vec<u8>,
 ) -> Result<(), AllocError>
-    ensures text { OnOk result (text.new.items ≡ text.old.items ++ (roll_said serial recorder.old).text) }
+    ensures text { OnOk result
+        (text.new.items ≡ text.old.items ++ (roll_said serial recorder.old).text) }
     ensures after { OnOk result (recorder.new ≡ (roll_said serial recorder.old).recorded) }
 {
     if recorder.is_full() {

@@ -126,7 +126,9 @@ fn push_without_move(
     made: u64,
     text: &mut Vec<u8>,
 ) -> Result<(), AllocError>
-    ensures { OnOk result (text.new.items ≡ text.old.items ++ ran_text machine.now.program made (stop_without_move machine.now)) }
+    ensures { OnOk result
+        (text.new.items ≡ text.old.items
+        ++ ran_text machine.now.program made (stop_without_move machine.now)) }
 {
     let stop = stop_without_move(alloc, machine)?;
     push_ran(text, machine.program(), made, stop)
@@ -153,7 +155,8 @@ fn make(
     label: &Label,
 ) -> Result<Moved, AllocError>
     requires { label.now.worker < recorder.old.machine.workers }
-    ensures moved { IfOk result (λ moved. moved ≡ moved_by marks.now recorder.old (Some label.now)) }
+    ensures moved { IfOk result
+        (λ moved. moved ≡ moved_by marks.now recorder.old (Some label.now)) }
     ensures after { OnOk result (recorder.new ≡ left_by recorder.old (Some label.now)) }
 {
     if recorder.is_full() {
@@ -184,8 +187,10 @@ pub(crate) fn run(
     steps: u32,
     text: &mut Vec<u8>,
 ) -> Result<(), AllocError>
-    ensures text { OnOk result (text.new.items ≡ text.old.items ++ (run_within steps 0 marks.now recorder.old).text) }
-    ensures after { OnOk result (recorder.new ≡ (run_within steps 0 marks.now recorder.old).recorded) }
+    ensures text { OnOk result
+        (text.new.items ≡ text.old.items ++ (run_within steps 0 marks.now recorder.old).text) }
+    ensures after { OnOk result
+        (recorder.new ≡ (run_within steps 0 marks.now recorder.old).recorded) }
 {
     let mut left = steps;
     let mut made = 0;

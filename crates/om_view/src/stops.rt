@@ -128,7 +128,8 @@ pub(crate) fn step_and_stop(
 ) -> Result<Option<Stop>, AllocError>
     requires in_range { label.now.worker < recorder.old.machine.workers }
     requires room { recorder.old.records < 200000 }
-    ensures stop { IfOk result (λ stop. stop ≡ stop_behind marks.now recorder.old.machine label.now) }
+    ensures stop { IfOk result
+        (λ stop. stop ≡ stop_behind marks.now recorder.old.machine label.now) }
     ensures after { OnOk result (recorder.new ≡ recorded_step recorder.old label.now) }
 {
     let worker = label.worker;

@@ -16,7 +16,8 @@ const CHUNK: usize = 4096;
 ///
 /// Errors: H3 where a read fails, or the end isn't reached within 2^32 reads; H5 when out of memory.
 pub fn read_all<R: Read>(alloc: Global, reader: &mut R) -> Result<Vec<u8>, ShellFault>
-    ensures { IfOk result (λ bytes. ReadsAll (R.remaining reader.old) (R.remaining reader.new) bytes.items) }
+    ensures { IfOk result
+        (λ bytes. ReadsAll (R.remaining reader.old) (R.remaining reader.new) bytes.items) }
 {
     let mut bytes = Vec::new(alloc);
     let mut chunk = [0; CHUNK];
