@@ -1,7 +1,6 @@
 -- The parts of a `sections`, one behind the other.
-use Rattle.std.proofs.Common.{◌≡◌, refl, ℕ, suc, ◌+◌, ◌*◌, ◌<◌, ◌≤◌, List, ◌∷◌, None, Some, map, get_or, drop, drop-cons, add-one, length, sym, ap, ◌∙◌, subst, arith}
+use Rattle.std.proofs.Common.{◌≡◌, refl, ℕ, suc, ◌+◌, ◌<◌, ◌≤◌, List, ◌∷◌, None, Some, map, get_or, drop, drop-cons, add-one, length, sym, ap, ◌∙◌, subst, arith}
 use Rattle.std.specs.Prelude.{slice_get}
-use denote.Param.Weighed.{most}
 use Rattle.om_code.specs.declared.instruction.Instr.TheVariants as i
 use Rattle.om_emit.specs.Drafts.{Labels, Written, Defines, Puts}
 use Rattle.om_emit.specs.Emits.{Finished, Goes, site}
@@ -26,15 +25,6 @@ use Rattle.om_tables.specs.declared.numbers.Numbers as tables
 use Rattle.om_tables.specs.Names.{Names}
 use Rattle.om_tables.specs.Numbering.{numbers_of}
 use Rattle.om_tables.specs.Picks.{all_own_picks, parts_own_picks}
-
--- what measures a statement measures what it is
-pub measured_as : {S : Type 0} (size : S → ℕ) (m a : ℕ) (s t : S) {n : ℕ} → s ≡ t → m * size s + a ≡ n → m * size t + a ≡ n
-measured_as size m a s t {n} is measure = subst (λ x. m * size x + a ≡ n) is measure
-
--- what measures the parts measures the slice of them
-pub slice_below : {P : Type 0} (size : P → ℕ) (m b : ℕ) (slice items : List P) {n : ℕ} → slice ≡ items
-    → m * most size items + b < n → m * most size slice + b < n
-slice_below size m b slice items {n} same below = subst (λ xs. m * most size xs + b < n) (sym same) below
 
 abbrev no_jumps : JumpLabels
 no_jumps = record { over = None; next = None }

@@ -1,9 +1,12 @@
 use Rattle.std.proofs.Common.{◌≤◌, ◌+◌, ◌^◌, arith, drop, refl, length, map, option_map, sym, ap, subst, ◌∙◌}
+use denote.Param.Weighed.{most}
 use Rattle.std.proofs.lemmas.List.{drop_all}
 use Rattle.std.specs.Prelude.{is_some}
 use Rattle.om_rows.specs.Statements.{clause_value}
 use Rattle.om_tables.specs.Copies.{first_copies_of}
 use Rattle.om_resolved.specs.declared.resolved.ResolvedPart.{out-ResolvedPart}
+use Rattle.om_resolved.proofs.resolved.ResolvedPart.TheLaws.{the_size}
+use Rattle.om_resolved.proofs.resolved.ResolvedStatement.TheLaws.{the_size as statement_size}
 use Rattle.om_resolved.specs.declared.resolved.ResolvedStatement.TheViews.{sized-Sections}
 use Rattle.om_resolved.specs.ResolvedTree as trees
 use Rattle.om_resolved.specs.ResolvedView.{view_resolved_clause, view_resolved_expression, view_resolved_loop, view_resolved_part, view_resolved_start, view_resolved_statement}
@@ -15,7 +18,7 @@ use Rattle.om_statements.specs.Going.{free_with, with_none}
 use Rattle.om_statements.proofs.Lists.{left_item, left_next, no_atomic, numbers_are, onward_begin, onward_done, spot_is, statement_is}
 use Rattle.om_statements.proofs.Views.{view_break, view_construct, view_continue, view_do, view_for, view_if, view_if_else, view_loop, view_parallel, view_sections, view_stand_alone, view_task, view_while}
 use Rattle.om_statements.proofs.Forms.{close_clauses_are, construct_clauses_are, emits_construct, emits_do, emits_for, emits_if, emits_if_else, emits_loop, emits_while, loop_clauses_are, size_clauses_are}
-use Rattle.om_statements.proofs.PartLists.{free_first, free_start, items_are, left_count, left_part, onward_parts_begin, onward_parts_done, opens_are, parts_are, measured_as, parts_next, slice_below}
+use Rattle.om_statements.proofs.PartLists.{free_first, free_start, items_are, left_count, left_part, onward_parts_begin, onward_parts_done, opens_are, parts_are, parts_next}
 use Rattle.om_statements.proofs.SectionsRow.{emits_sections, labels_are}
 use Rattle.om_statements.specs.Parts.{AreFree}
 use Rattle.om_statements.proofs.Regions.{emits_parallel, emits_task}
@@ -203,9 +206,10 @@ statement-parts-requires t c =
     let seen = ap view_resolved_statement c.in-Sections.is ∙ view_sections c.in-Sections.at c.in-Sections.clauses c.in-Sections.nowait c.in-Sections.sections in
     let opened = c.in_ok-inside-in-Sections.ensures in
     let same = ap length (c.as_slice-in-Sections-2.ensures.value ∙ sym c.as_slice-in-Sections-3.ensures.value) in (
-      (let sized = sized-Sections c.in-Sections.at c.in-Sections.clauses c.in-Sections.nowait c.in-Sections.sections in
-          slice_below _ _ _ _ _ c.as_slice-in-Sections-3.ensures.value
-          (omega (arith, sized, measured_as _ _ _ _ _ c.in-Sections.is c.decreases))),
+      (let h1 = ap statement_size c.in-Sections.is in
+          let h2 = sized-Sections c.in-Sections.at c.in-Sections.clauses c.in-Sections.nowait c.in-Sections.sections in
+          let h3 = ap (most the_size) c.as_slice-in-Sections-3.ensures.value in
+          omega (arith, h1, h2, h3, c.decreases)),
       (
         subst (λ xs. PartsHaveCode (trees.parts (map view_resolved_part xs))) (sym c.as_slice-in-Sections-3.ensures.value)
             (subst (λ z. StatementHasCode (is_some c.args.spot.jumps.over) (is_some c.args.spot.jumps.next) z) seen c.requires.code),
