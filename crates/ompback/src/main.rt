@@ -1,19 +1,16 @@
-//! The program: its words, its files and its exit status.
+//! The program: its files, its thread and its exit status.
 #![tactic(auto)]
 
 ghost use Rattle.std.specs.Prelude.{◌<◌, ◌≤◌};
 
 mod file;
 mod outcome;
-#[cfg(test)]
-mod tests;
-mod words;
 
 use crate::file::read_all;
 use crate::outcome::{Outcome, status};
-use crate::words::{Words, words_in};
 use om_parser::STACK_SIZE;
 use om_shell::{Options, ShellFault, run};
+use om_words::{Words, words_in};
 use std::alloc::{AllocError, Global};
 use std::io;
 use std::process::ExitCode;
