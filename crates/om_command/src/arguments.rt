@@ -49,20 +49,20 @@ pub(crate) fn one_worker(workers: u8, words: &[&[u8]]) -> Option<u8>
     ensures named { result ≡ one_worker workers (map (λ word. word.now) words.now) }
     ensures in_range { IfSome result (λ worker. worker < workers) }
 {
-    match words {
-        [word] => worker(workers, word),
-        [] | [_, _, ..] => None,
-    }
+    let [word] = words else {
+        return None;
+    };
+    worker(workers, word)
 }
 
 /// The only word, a number.
 pub(crate) fn one_number(words: &[&[u8]]) -> Option<u64>
     ensures { result ≡ one_number (map (λ word. word.now) words.now) }
 {
-    match words {
-        [word] => number(word),
-        [] | [_, _, ..] => None,
-    }
+    let [word] = words else {
+        return None;
+    };
+    number(word)
 }
 
 /// The only word, a number of steps: 1 to 100,000.
@@ -112,25 +112,23 @@ pub(crate) fn worker_and_task(
         (λ found. found ≡ worker_and_task workers (map (λ word. word.now) words.now)) }
     ensures in_range { IfOk result (λ found. IfSome found (λ pair. pair.0 < workers)) }
 {
-    match words {
-        [first, second] => {
-            let Some(worker) = worker(workers, first) else {
-                return Ok(None);
-            };
-            Ok(task(alloc, second)?.map(|task| (worker, task)))
-        }
-        _ => Ok(None),
-    }
+    let [first, second] = words else {
+        return Ok(None);
+    };
+    let Some(worker) = worker(workers, first) else {
+        return Ok(None);
+    };
+    Ok(task(alloc, second)?.map(|task| (worker, task)))
 }
 
 // The index that stands behind a `[` and before the `]` that ends a word.
 fn index(rest: &[u8]) -> Option<u64>
     ensures { result ≡ index_of rest.now }
 {
-    match rest {
-        [digits @ .., b']'] => number(digits),
-        _ => None,
-    }
+    let [digits @ .., b']'] = rest else {
+        return None;
+    };
+    number(digits)
 }
 
 // The variable of this name.
@@ -155,10 +153,10 @@ fn bracket(word: &[u8]) -> Option<usize>
 fn indexed(alloc: Global, name: &[u8], index: Option<u64>) -> Result<Option<Variable>, AllocError>
     ensures { IfOk result (λ variable. variable ≡ indexed name.now index) }
 {
-    match index {
-        Some(index) => Ok(Some(named(alloc, name, Some(index))?)),
-        None => Ok(None),
-    }
+    let Some(index) = index else {
+        return Ok(None);
+    };
+    Ok(Some(named(alloc, name, Some(index))?))
 }
 
 /// The variable that a word names: `x`, or `a[3]`.
@@ -175,8 +173,8 @@ pub(crate) fn variable_of(alloc: Global, word: &[u8]) -> Result<Option<Variable>
 pub(crate) fn one_variable(alloc: Global, words: &[&[u8]]) -> Result<Option<Variable>, AllocError>
     ensures { IfOk result (λ variable. variable ≡ one_variable (map (λ word. word.now) words.now)) }
 {
-    match words {
-        [word] => variable_of(alloc, word),
-        [] | [_, _, ..] => Ok(None),
-    }
+    let [word] = words else {
+        return Ok(None);
+    };
+    variable_of(alloc, word)
 }

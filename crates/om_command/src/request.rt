@@ -30,13 +30,11 @@ fn start(alloc: Global, workers: u8, words: &[&[u8]]) -> Result<Option<Command>,
         (λ command. command ≡ start_of workers (map (λ word. word.now) words.now)) }
     ensures in_range { IfOk result (λ command. IfSome command (HasWorkerBelow workers)) }
 {
-    match worker_and_task(alloc, workers, words)? {
-        Some((worker, task)) => {
-            let task = TaskName::new(alloc, task)?;
-            Ok(Some(Command::Start { worker, task }))
-        }
-        None => Ok(None),
-    }
+    let Some((worker, task)) = worker_and_task(alloc, workers, words)? else {
+        return Ok(None);
+    };
+    let task = TaskName::new(alloc, task)?;
+    Ok(Some(Command::Start { worker, task }))
 }
 
 // `print`, with the words behind it.
