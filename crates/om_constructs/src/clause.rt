@@ -87,23 +87,22 @@ fn clause_start(
         OnOk result
         (EmitsRow (names_of scope.now) (λ at. clause_start at line tree) draft.old draft.new) }
 {
-    match clause {
-        ResolvedClause::Value(_, _) => Ok(()),
-        ResolvedClause::Shared(_) => Ok(()),
-        ResolvedClause::Copied(kind, original, copy) => match kind {
-            CopyKind::Private => {
-                draft.put(line, Instr::Clear(scope.slot(copy)))?;
-                Ok(())
-            }
-            CopyKind::Firstprivate => {
-                set_original(draft, scope, line, *original, copy)?;
-                Ok(())
-            }
-            CopyKind::Reduction(operator) => {
-                set_identity(draft, scope, line, *operator, copy)?;
-                Ok(())
-            }
-        },
+    let ResolvedClause::Copied(kind, original, copy) = clause else {
+        return Ok(());
+    };
+    match kind {
+        CopyKind::Private => {
+            draft.put(line, Instr::Clear(scope.slot(copy)))?;
+            Ok(())
+        }
+        CopyKind::Firstprivate => {
+            set_original(draft, scope, line, *original, copy)?;
+            Ok(())
+        }
+        CopyKind::Reduction(operator) => {
+            set_identity(draft, scope, line, *operator, copy)?;
+            Ok(())
+        }
     }
 }
 
@@ -137,18 +136,14 @@ fn clause_reduction_start(
         (EmitsRow (names_of scope.now) (λ at. clause_reduction_start at line tree) draft.old
         draft.new) }
 {
-    match clause {
-        ResolvedClause::Value(_, _) => Ok(()),
-        ResolvedClause::Shared(_) => Ok(()),
-        ResolvedClause::Copied(kind, _, copy) => match kind {
-            CopyKind::Private => Ok(()),
-            CopyKind::Firstprivate => Ok(()),
-            CopyKind::Reduction(operator) => {
-                set_identity(draft, scope, line, *operator, copy)?;
-                Ok(())
-            }
-        },
-    }
+    let ResolvedClause::Copied(kind, _, copy) = clause else {
+        return Ok(());
+    };
+    let CopyKind::Reduction(operator) = kind else {
+        return Ok(());
+    };
+    set_identity(draft, scope, line, *operator, copy)?;
+    Ok(())
 }
 
 /// Writes what those copies of a `parallel` begin with that are combined, in clause order.
@@ -180,28 +175,24 @@ fn clause_combined(
         OnOk result
         (EmitsRow (names_of scope.now) (λ at. clause_combined at line tree) draft.old draft.new) }
 {
-    match clause {
-        ResolvedClause::Value(_, _) => Ok(()),
-        ResolvedClause::Shared(_) => Ok(()),
-        ResolvedClause::Copied(kind, original, copy) => match kind {
-            CopyKind::Private => Ok(()),
-            CopyKind::Firstprivate => Ok(()),
-            CopyKind::Reduction(operator) => {
-                let reduction = reduction_of(*operator);
-                let place = scope.place(*original);
-                let copy = scope.slot(copy);
-                draft.put(
-                    line,
-                    Instr::Reduce {
-                        reduction,
-                        copy,
-                        place,
-                    },
-                )?;
-                Ok(())
-            }
+    let ResolvedClause::Copied(kind, original, copy) = clause else {
+        return Ok(());
+    };
+    let CopyKind::Reduction(operator) = kind else {
+        return Ok(());
+    };
+    let reduction = reduction_of(*operator);
+    let place = scope.place(*original);
+    let copy = scope.slot(copy);
+    draft.put(
+        line,
+        Instr::Reduce {
+            reduction,
+            copy,
+            place,
         },
-    }
+    )?;
+    Ok(())
 }
 
 /// Combines the copies of reductions with their originals, in clause order (OpenMP API 5.2, section

@@ -119,10 +119,10 @@ pub fn perhaps_test(
         OnOk result
         (EmitsPerhapsTest (names_of scope.now) line otherwise tree draft.old draft.new) }
 {
-    match condition {
-        None => Ok(()),
-        Some(condition) => test(draft, scope, line, condition, otherwise),
-    }
+    let Some(condition) = condition else {
+        return Ok(());
+    };
+    test(draft, scope, line, condition, otherwise)
 }
 
 /// Writes the code of an expression that may be left out, and whose value nothing uses.
@@ -137,10 +137,10 @@ pub fn perhaps_effect(
         OnOk result
         (EmitsRow (names_of scope.now) (λ at. perhaps (effect at line) tree) draft.old draft.new) }
 {
-    match expression {
-        None => Ok(()),
-        Some(expression) => effect(draft, scope, line, expression),
-    }
+    let Some(expression) = expression else {
+        return Ok(());
+    };
+    effect(draft, scope, line, expression)
 }
 
 /// Writes a `return`, which in `main` ends the program (C17 6.8.6.4, 5.1.2.2.3).

@@ -65,15 +65,15 @@ pub(crate) fn comparison_of(operator: BinaryOperator) -> Option<Comparison>
         BinaryOperator::LessEqual => Some(Comparison::LessOrEqual),
         BinaryOperator::Greater => Some(Comparison::Greater),
         BinaryOperator::GreaterEqual => Some(Comparison::GreaterOrEqual),
-        BinaryOperator::And => None,
-        BinaryOperator::Or => None,
-        BinaryOperator::Equal => None,
-        BinaryOperator::NotEqual => None,
-        BinaryOperator::Add => None,
-        BinaryOperator::Subtract => None,
-        BinaryOperator::Multiply => None,
-        BinaryOperator::Divide => None,
-        BinaryOperator::Remainder => None,
+        BinaryOperator::And
+        | BinaryOperator::Or
+        | BinaryOperator::Equal
+        | BinaryOperator::NotEqual
+        | BinaryOperator::Add
+        | BinaryOperator::Subtract
+        | BinaryOperator::Multiply
+        | BinaryOperator::Divide
+        | BinaryOperator::Remainder => None,
     }
 }
 
