@@ -20,11 +20,10 @@ fn take_combined(
     ensures { OnOk result
         (found.new ≡ fold (with_use start) found.old (combined_uses kind original)) }
 {
-    match kind {
-        CopyKind::Private => Ok(()),
-        CopyKind::Firstprivate => Ok(()),
-        CopyKind::Reduction(_) => found.take(start, original),
-    }
+    let CopyKind::Reduction(_) = kind else {
+        return Ok(());
+    };
+    found.take(start, original)
 }
 
 /// Notes what a clause of a region uses in it.
@@ -119,10 +118,10 @@ pub fn captures_of_parallel(
 fn is_before(parallel: Option<u32>, variable: u32) -> bool
     ensures { result ≡ is_before parallel variable }
 {
-    match parallel {
-        None => false,
-        Some(parallel) => variable < parallel,
-    }
+    let Some(parallel) = parallel else {
+        return false;
+    };
+    variable < parallel
 }
 
 /// How a `task` takes a variable from outside.

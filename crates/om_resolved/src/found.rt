@@ -67,10 +67,10 @@ impl Found {
     pub fn take(&mut self, start: u32, variable: Variable) -> Result<(), AllocError>
         ensures { OnOk result (self.new ≡ fold (with_use start) self.old (variable_uses variable)) }
     {
-        match variable {
-            Variable::Local(at) => self.add(start, at),
-            Variable::Global(_) => Ok(()),
-        }
+        let Variable::Local(at) = variable else {
+            return Ok(());
+        };
+        self.add(start, at)
     }
 }
 
@@ -87,15 +87,15 @@ fn take_expression(
         (expression_uses (view_resolved_expression expression.now))) }
 {
     match expression {
-        ResolvedExpression::Constant(_) => Ok(()),
+        ResolvedExpression::Constant(_)
+        | ResolvedExpression::ThreadNumber
+        | ResolvedExpression::TeamSize => Ok(()),
         ResolvedExpression::Variable(variable) => found.take(start, *variable),
         ResolvedExpression::Element(array, index) => {
             found.take(start, *array)?;
             take_expression(found, start, index)
         }
         ResolvedExpression::Call(_, values) => take_values(found, start, values.as_slice()),
-        ResolvedExpression::ThreadNumber => Ok(()),
-        ResolvedExpression::TeamSize => Ok(()),
         ResolvedExpression::Print(_, values) => take_values(found, start, values.as_slice()),
         ResolvedExpression::Unary(_, operand) => take_expression(found, start, operand),
         ResolvedExpression::Binary(left, _, right) => {
@@ -152,10 +152,10 @@ fn take_perhaps(
         (found.new ≡ fold (with_use start) found.old
         (perhaps_uses (option_map view_resolved_expression expression.now))) }
 {
-    match expression {
-        None => Ok(()),
-        Some(expression) => take_expression(found, start, expression),
-    }
+    let Some(expression) = expression else {
+        return Ok(());
+    };
+    take_expression(found, start, expression)
 }
 
 /// Notes what declarations use.
@@ -197,11 +197,10 @@ fn take_original(
 ) -> Result<(), AllocError>
     ensures { OnOk result (found.new ≡ fold (with_use start) found.old (copy_uses kind original)) }
 {
-    match kind {
-        CopyKind::Private => Ok(()),
-        CopyKind::Firstprivate => found.take(start, original),
-        CopyKind::Reduction(_) => found.take(start, original),
+    if matches!(kind, CopyKind::Private) {
+        return Ok(());
     }
+    found.take(start, original)
 }
 
 /// Notes what a clause uses outside of its construct.
@@ -256,12 +255,10 @@ fn take_stand_alone(found: &mut Found, start: u32, directive: &StandAlone) -> Re
     ensures { OnOk result
         (found.new ≡ fold (with_use start) found.old (stand_alone_uses directive.now)) }
 {
-    match directive {
-        StandAlone::Barrier => Ok(()),
-        StandAlone::Taskwait => Ok(()),
-        StandAlone::Taskyield => Ok(()),
-        StandAlone::Flush(variables) => take_variables(found, start, variables.as_slice()),
-    }
+    let StandAlone::Flush(variables) = directive else {
+        return Ok(());
+    };
+    take_variables(found, start, variables.as_slice())
 }
 
 /// Notes what a team or a task uses: what its clauses do, and what it takes from outside.
@@ -345,7 +342,9 @@ pub fn take_statement(
             take_declarators(found, start, declarators.as_slice())
         }
         ResolvedStatement::Block(_, items) => take_statements(found, start, items.as_slice()),
-        ResolvedStatement::Empty(_) => Ok(()),
+        ResolvedStatement::Empty(_)
+        | ResolvedStatement::Break(_)
+        | ResolvedStatement::Continue(_) => Ok(()),
         ResolvedStatement::Expression(_, expression) => take_expression(found, start, expression),
         ResolvedStatement::If(_, condition, then) => {
             take_expression(found, start, condition)?;
@@ -369,8 +368,6 @@ pub fn take_statement(
             take_statement(found, start, body)
         }
         ResolvedStatement::Return(_, value) => take_perhaps(found, start, value),
-        ResolvedStatement::Break(_) => Ok(()),
-        ResolvedStatement::Continue(_) => Ok(()),
         ResolvedStatement::Parallel(_, clauses, captures, _) => {
             take_region(found, start, clauses.as_slice(), captures.as_slice())
         }
