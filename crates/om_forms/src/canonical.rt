@@ -49,20 +49,20 @@ fn name_in(expression: &Expression) -> Option<&Name>
     ensures { option_map (λ name. name.now) result
         ≡ loops.name_in (view_expression expression.now) }
 {
-    match expression {
-        Expression::Name(name) => Some(name),
-        _ => None,
-    }
+    let Expression::Name(name) = expression else {
+        return None;
+    };
+    Some(name)
 }
 
 /// Whether an expression is this name.
 fn is_named(expression: &Expression, name: &[u8]) -> bool
     ensures { result ≡ loops.is_named (view_expression expression.now) name.now }
 {
-    match expression {
-        Expression::Name(found) => found.text.as_slice() == name,
-        _ => false,
-    }
+    let Expression::Name(found) = expression else {
+        return false;
+    };
+    found.text.as_slice() == name
 }
 
 /// So much, with its sign.
@@ -100,10 +100,10 @@ fn step_of(direction: Direction, value: u32) -> Option<Step>
 fn stride_in(direction: Direction, expression: &Expression) -> Option<Step>
     ensures { result ≡ loops.stride_in direction (view_expression expression.now) }
 {
-    match expression {
-        Expression::Constant(number) => step_of(direction, number.value),
-        _ => None,
-    }
+    let Expression::Constant(number) = expression else {
+        return None;
+    };
+    step_of(direction, number.value)
 }
 
 /// What `target = value` begins a loop with.
@@ -115,32 +115,31 @@ fn set_start<'a>(
     ensures { option_map view_start result
         ≡ loops.set_start operator (view_expression target.now) (view_expression value.now) }
 {
-    match operator {
-        AssignOperator::Set => {
-            let variable = name_in(target)?;
-            Some(LoopStart {
-                variable,
-                is_declared: false,
-                from: value,
-            })
-        }
-        _ => None,
-    }
+    let AssignOperator::Set = operator else {
+        return None;
+    };
+    let variable = name_in(target)?;
+    Some(LoopStart {
+        variable,
+        is_declared: false,
+        from: value,
+    })
 }
 
 /// What an expression begins a loop with.
 fn assigned_start(expression: &Expression) -> Option<LoopStart<'_>>
     ensures { option_map view_start result ≡ loops.assigned_start (view_expression expression.now) }
 {
-    match expression {
-        Expression::Assign {
-            target,
-            operator,
-            value,
-            ..
-        } => set_start(*operator, target, value),
-        _ => None,
-    }
+    let Expression::Assign {
+        target,
+        operator,
+        value,
+        ..
+    } = expression
+    else {
+        return None;
+    };
+    set_start(*operator, target, value)
 }
 
 /// What a variable begins a loop with.
@@ -153,17 +152,15 @@ fn initialized_start<'a>(
         ≡ loops.initialized_start variable.now array.now
         (option_map view_initializer initializer.now) }
 {
-    match array {
-        Some(_) => None,
-        None => match initializer {
-            None => None,
-            Some(initializer) => Some(LoopStart {
-                variable,
-                is_declared: true,
-                from: &initializer.value,
-            }),
-        },
-    }
+    let None = array else {
+        return None;
+    };
+    let initializer = initializer.as_ref()?;
+    Some(LoopStart {
+        variable,
+        is_declared: true,
+        from: &initializer.value,
+    })
 }
 
 /// What a declaration begins a loop with.
@@ -171,10 +168,10 @@ fn declared_start<'a>(first: &'a Declarator, rest: &[(Span, Declarator)]) -> Opt
     ensures { option_map view_start result
         ≡ loops.declared_start (view_declarator first.now) (map view_further rest.now) }
 {
-    match rest {
-        [] => initialized_start(&first.name, &first.array, &first.initializer),
-        [_, ..] => None,
-    }
+    let [] = rest else {
+        return None;
+    };
+    initialized_start(&first.name, &first.array, &first.initializer)
 }
 
 /// What a `for` begins its loop with.
@@ -198,10 +195,8 @@ fn comparison_direction(operator: BinaryOperator) -> Option<Direction>
     ensures { result ≡ loops.comparison_direction operator }
 {
     match operator {
-        BinaryOperator::Less => Some(Direction::Up),
-        BinaryOperator::LessEqual => Some(Direction::Up),
-        BinaryOperator::Greater => Some(Direction::Down),
-        BinaryOperator::GreaterEqual => Some(Direction::Down),
+        BinaryOperator::Less | BinaryOperator::LessEqual => Some(Direction::Up),
+        BinaryOperator::Greater | BinaryOperator::GreaterEqual => Some(Direction::Down),
         _ => None,
     }
 }
@@ -223,20 +218,19 @@ fn bound_of<'a>(condition: &'a Expression, name: &[u8]) -> Option<Bound<'a>>
     ensures { option_map view_bound result
         ≡ loops.bound_of (view_expression condition.now) name.now }
 {
-    match condition {
-        Expression::Binary {
-            left,
-            operator,
-            right,
-            ..
-        } => {
-            if is_named(left, name) {
-                compared(*operator, right)
-            } else {
-                None
-            }
-        }
-        _ => None,
+    let Expression::Binary {
+        left,
+        operator,
+        right,
+        ..
+    } = condition
+    else {
+        return None;
+    };
+    if is_named(left, name) {
+        compared(*operator, right)
+    } else {
+        None
     }
 }
 
@@ -308,15 +302,16 @@ fn sum_step(
 fn value_step(value: &Expression, name: &[u8]) -> Option<Step>
     ensures { result ≡ loops.value_step (view_expression value.now) name.now }
 {
-    match value {
-        Expression::Binary {
-            left,
-            operator,
-            right,
-            ..
-        } => { sum_step(*operator, left, right, name) }
-        _ => None,
-    }
+    let Expression::Binary {
+        left,
+        operator,
+        right,
+        ..
+    } = value
+    else {
+        return None;
+    };
+    sum_step(*operator, left, right, name)
 }
 
 /// The step by an assignment to the variable.
@@ -378,10 +373,7 @@ fn step_in(step: &Expression, name: &[u8]) -> Option<Step>
 fn is_up(direction: Direction) -> bool
     ensures { result ≡ loops.is_up direction }
 {
-    match direction {
-        Direction::Up => true,
-        Direction::Down => false,
-    }
+    matches!(direction, Direction::Up)
 }
 
 /// Whether two go the same way.
@@ -423,8 +415,8 @@ fn loop_of(head: &ForHead) -> Option<Loop<'_>>
 pub fn loop_in(statement: &Statement) -> Option<Loop<'_>>
     ensures { option_map view_loop result ≡ loops.loop_in (view_statement statement.now) }
 {
-    match statement {
-        Statement::For { head, .. } => loop_of(head),
-        _ => None,
-    }
+    let Statement::For { head, .. } = statement else {
+        return None;
+    };
+    loop_of(head)
 }

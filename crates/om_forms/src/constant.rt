@@ -10,10 +10,10 @@ use om_tree::{Expression, Number, PrefixOperator};
 fn minus_constant(expression: &Expression) -> Option<(bool, Number)>
     ensures { result ≡ minus_constant (view_expression expression.now) }
 {
-    match expression {
-        Expression::Constant(number) => Some((true, *number)),
-        _ => None,
-    }
+    let Expression::Constant(number) = expression else {
+        return None;
+    };
+    Some((true, *number))
 }
 
 /// A constant, and whether a minus stands before it (C17 6.6); nothing where it is another expression.
@@ -27,22 +27,6 @@ pub fn signed_constant(expression: &Expression) -> Option<(bool, Number)>
             operand,
             ..
         } => minus_constant(operand),
-        Expression::Prefix {
-            operator: PrefixOperator::Plus,
-            ..
-        } => None,
-        Expression::Prefix {
-            operator: PrefixOperator::Not,
-            ..
-        } => None,
-        Expression::Prefix {
-            operator: PrefixOperator::Increment,
-            ..
-        } => None,
-        Expression::Prefix {
-            operator: PrefixOperator::Decrement,
-            ..
-        } => None,
         _ => None,
     }
 }

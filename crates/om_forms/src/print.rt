@@ -47,11 +47,7 @@ fn after_character(reading: Reading, character: u8) -> Reading
 fn is_whole(reading: Reading) -> bool
     ensures { result ≡ is_whole reading }
 {
-    match reading {
-        Reading::Text(left) => left == 0,
-        Reading::Conversion(_) => false,
-        Reading::Wrong => false,
-    }
+    matches!(reading, Reading::Text(0))
 }
 
 /// Whether a format takes so many values.
@@ -70,8 +66,8 @@ fn takes_values(format: &[u8], count: usize) -> bool
 pub fn is_format(expression: &Expression, count: usize) -> bool
     ensures { result ≡ is_format (view_expression expression.now) count }
 {
-    match expression {
-        Expression::Text(text) => takes_values(text.value.as_slice(), count),
-        _ => false,
-    }
+    let Expression::Text(text) = expression else {
+        return false;
+    };
+    takes_values(text.value.as_slice(), count)
 }

@@ -96,18 +96,16 @@ fn value_operation(side: Side, value: ResolvedExpression) -> Option<Operation>
     ensures { option_map view_operation result
         ≡ value_operation side (view_resolved_expression value) }
 {
-    match value {
-        ResolvedExpression::Binary(left, operator, right) => {
-            let operator = binary_operator(operator)?;
-            let operand = other_operand(side, left, right);
-            Some(Operation {
-                operator,
-                side,
-                operand,
-            })
-        }
-        _ => None,
-    }
+    let ResolvedExpression::Binary(left, operator, right) = value else {
+        return None;
+    };
+    let operator = binary_operator(operator)?;
+    let operand = other_operand(side, left, right);
+    Some(Operation {
+        operator,
+        side,
+        operand,
+    })
 }
 
 /// `x op= e` with a target on the left.
@@ -205,11 +203,9 @@ pub fn update_of(side: Side, statement: &mut ResolvedStatement) -> Option<Resolv
     ensures { option_map view_resolved_update result
         ≡ update_of side (view_resolved_statement statement.old) }
 {
-    match statement {
-        ResolvedStatement::Expression(at, expression) => {
-            let expression = mem::replace(expression, ResolvedExpression::ThreadNumber);
-            expression_update(*at, side, expression)
-        }
-        _ => None,
-    }
+    let ResolvedStatement::Expression(at, expression) = statement else {
+        return None;
+    };
+    let expression = mem::replace(expression, ResolvedExpression::ThreadNumber);
+    expression_update(*at, side, expression)
 }
