@@ -38,11 +38,7 @@ pub enum Holder {
 fn asks_for_clauses(default: Option<Sharing>) -> bool
     ensures { result ≡ asks_for_clauses default }
 {
-    match default {
-        None => false,
-        Some(Sharing::Shared) => false,
-        Some(Sharing::None) => true,
-    }
+    matches!(default, Some(Sharing::None))
 }
 
 /// Whether it copies what it does not list: a `task` without `default`.
@@ -63,22 +59,14 @@ fn is_task_without(region: &Region, name: &[u8]) -> bool
 pub fn is_parallel(kind: RegionKind) -> bool
     ensures { result ≡ is_parallel kind }
 {
-    match kind {
-        RegionKind::Parallel => true,
-        RegionKind::Task => false,
-        RegionKind::Plain => false,
-    }
+    matches!(kind, RegionKind::Parallel)
 }
 
 /// Whether it is a `task`.
 fn is_task(kind: RegionKind) -> bool
     ensures { result ≡ is_task kind }
 {
-    match kind {
-        RegionKind::Task => true,
-        RegionKind::Parallel => false,
-        RegionKind::Plain => false,
-    }
+    matches!(kind, RegionKind::Task)
 }
 
 /// Whose a variable is in a construct, where it is the thread's own round it.
@@ -96,7 +84,7 @@ fn holder_in(region: &Region, name: &[u8]) -> Holder
 
 /// Whose a variable is that a scope of this depth declares: of the constructs that stand there or in
 /// a deeper scope, the outermost that changes it decides. The innermost construct comes last.
-pub fn holder_since(constructs: &[Construct], depth: usize, name: &[u8]) -> Holder
+fn holder_since(constructs: &[Construct], depth: usize, name: &[u8]) -> Holder
     ensures { result ≡ holder_within constructs.now depth name.now }
 {
     let Some((construct, inner)) = constructs.split_first() else {
@@ -113,14 +101,10 @@ pub fn holder_since(constructs: &[Construct], depth: usize, name: &[u8]) -> Hold
 }
 
 /// Whether it is a task's copy.
-pub fn is_copy(holder: Holder) -> bool
+fn is_copy(holder: Holder) -> bool
     ensures { result ≡ is_copy holder }
 {
-    match holder {
-        Holder::Own => false,
-        Holder::Team => false,
-        Holder::Task => true,
-    }
+    matches!(holder, Holder::Task)
 }
 
 /// The marks in a construct, round whose inner scope so many stand.
@@ -159,10 +143,10 @@ fn marks_of(constructs: &[Construct]) -> Marks
 fn stands_in(constructs: &[Construct], depth: usize) -> bool
     ensures { StandsIn (reverse constructs.now) depth result }
 {
-    match constructs.split_last() {
-        Some((construct, _)) => construct.depth == depth,
-        None => false,
-    }
+    let Some((construct, _)) = constructs.split_last() else {
+        return false;
+    };
+    construct.depth == depth
 }
 
 /// The constructs round a place. Contracts see them, the innermost first.
