@@ -76,10 +76,10 @@ fn critical_name(
 ) -> Result<Option<Seq<u8>>, AllocError>
     ensures { IfOk result (λ found. found ≡ critical_name name.now) }
 {
-    match name {
-        None => Ok(None),
-        Some((_, name, _)) => Ok(Some(copy_of(alloc, name)?)),
-    }
+    let Some((_, name, _)) = name else {
+        return Ok(None);
+    };
+    Ok(Some(copy_of(alloc, name)?))
 }
 
 /// What a construct puts round its statement, beside its clauses.
@@ -343,10 +343,7 @@ fn schedule_in(schedule: &Schedule) -> ResolvedSchedule
 {
     ResolvedSchedule {
         kind: schedule.kind,
-        chunk: match schedule.chunk {
-            None => None,
-            Some((_, number)) => Some(number.value),
-        },
+        chunk: schedule.chunk.map(|chunk| chunk.1.value),
     }
 }
 

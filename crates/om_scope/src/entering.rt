@@ -5,7 +5,7 @@ ghost use Rattle.om_tree.specs.View.{view_directive};
 ghost use Rattle.om_resolved.specs.ResolvedView.{view_resolved_clause, view_resolved_loop};
 ghost use Rattle.om_forms.specs.LoopViews.{view_loop};
 ghost use Rattle.om_rules.specs.Checks.{Checks};
-ghost use Rattle.om_rules.specs.DirectiveRules.{directive_breaches, in_construct, in_kind};
+ghost use Rattle.om_rules.specs.DirectiveRules.{directive_breaches, in_construct, in_kind, traits_of};
 ghost use Rattle.om_rules.specs.StatementResolution.{resolved_clauses, resolved_loop, schedule_of};
 ghost use Rattle.om_rules.specs.StatementRules.{found_breaches, round_bounds};
 ghost use Rattle.om_scope.specs.Parts.{round_listed};
@@ -15,7 +15,7 @@ use om_forms::Loop;
 use om_lexer::SourceFault;
 use om_names::{Listed, Symbols, is_parallel, traits_of};
 use om_pragma::Directive;
-use om_resolved::{ResolvedClause, ResolvedLoop, ResolvedSchedule};
+use om_resolved::{ResolvedClause, ResolvedLoop};
 use om_rules::{Flow, RegionKind};
 use om_tree::Expression;
 use om_uses::{resolve_directive, resolve_loop};
@@ -78,9 +78,7 @@ pub fn enter_loop_construct(
         (view_loop found.now) ≡ Some (view_resolved_loop made.1.value)) }
 {
     let (listed, clauses) = resolve_directive(alloc, symbols, flow, directive)?;
-    let kind = traits_of(&directive.name).region;
-    let schedule = schedule_of(directive.clauses.as_slice());
-    let repeated = enter_bounds(alloc, symbols, kind, listed, schedule, found)?;
+    let repeated = enter_bounds(alloc, symbols, directive, listed, found)?;
     Ok((clauses, repeated))
 }
 
@@ -89,18 +87,23 @@ pub fn enter_loop_construct(
 fn enter_bounds(
     alloc: Global,
     symbols: &mut Symbols,
-    kind: RegionKind,
+    directive: &Directive<Expression>,
     listed: Listed,
-    schedule: ResolvedSchedule,
     found: &Loop<'_>,
 ) -> Result<Box<ResolvedLoop>, SourceFault>
-    ensures checked { Checks result
+    ensures checked { let kind = (traits_of (view_directive directive.now).name).region in
+        Checks result
         (found_breaches (round_listed kind listed symbols.old) (view_loop found.now)) }
-    ensures in_scope { OnOk result (symbols.new ≡ in_kind kind listed symbols.old) }
-    ensures resolved { IfOk result
-        (λ repeated. resolved_loop (round_listed kind listed symbols.old) schedule
-        (view_loop found.now) ≡ Some (view_resolved_loop repeated.value)) }
+    ensures in_scope { let kind = (traits_of (view_directive directive.now).name).region in
+        OnOk result (symbols.new ≡ in_kind kind listed symbols.old) }
+    ensures resolved { let tree = view_directive directive.now in
+        let scopes = round_listed (traits_of tree.name).region listed symbols.old in
+        IfOk result
+        (λ repeated. resolved_loop scopes (schedule_of tree.clauses) (view_loop found.now)
+        ≡ Some (view_resolved_loop repeated.value)) }
 {
+    let kind = traits_of(&directive.name).region;
+    let schedule = schedule_of(directive.clauses.as_slice());
     if is_parallel(kind) {
         enter_listed(symbols, kind, listed)?;
         return resolve_loop(alloc, symbols, schedule, found);

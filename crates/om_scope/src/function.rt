@@ -27,10 +27,7 @@ use std::alloc::{AllocError, Global};
 fn returns_value(kind: &ResultType) -> bool
     ensures { result ≡ returns_value kind.now }
 {
-    match kind {
-        ResultType::Int(_) => true,
-        ResultType::Void(_) => false,
-    }
+    matches!(kind, ResultType::Int(_))
 }
 
 /// How many parameters there are.
@@ -124,15 +121,13 @@ fn declare_parameter_name(
     ensures resolved { OnOk result
         (parameters.new.items ≡ parameters.old.items ++ named_parameter name.now) }
 {
-    match name {
-        None => Ok(()),
-        Some(name) => {
-            check_new(symbols, name)?;
-            symbols.declare_local(alloc, name, Shape::Scalar)?;
-            parameters.push(local_of(alloc, name)?)?;
-            Ok(())
-        }
-    }
+    let Some(name) = name else {
+        return Ok(());
+    };
+    check_new(symbols, name)?;
+    symbols.declare_local(alloc, name, Shape::Scalar)?;
+    parameters.push(local_of(alloc, name)?)?;
+    Ok(())
 }
 
 /// Declares a parameter behind so many others: S8, S11.
@@ -199,14 +194,11 @@ fn declare_parameters(
         (found.new.items ≡ found.old.items
         ++ flat_map parameter_variable (parameters_of (view_parameters parameters.now))) }
 {
-    match parameters {
-        Parameters::Nothing => Ok(()),
-        Parameters::Void(_) => Ok(()),
-        Parameters::Listed { first, rest } => {
-            declare_parameter(alloc, symbols, found, 0, first)?;
-            declare_further_parameters(alloc, symbols, found, rest.as_slice())
-        }
-    }
+    let Parameters::Listed { first, rest } = parameters else {
+        return Ok(());
+    };
+    declare_parameter(alloc, symbols, found, 0, first)?;
+    declare_further_parameters(alloc, symbols, found, rest.as_slice())
 }
 
 /// A function that is declared and not defined.

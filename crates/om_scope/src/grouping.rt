@@ -26,10 +26,7 @@ pub fn begins_part(before: usize, item: &Statement) -> bool
 fn has_section(item: &Statement) -> bool
     ensures { result ≡ has_section (view_statement item.now) }
 {
-    match item {
-        Statement::Section { .. } => true,
-        _ => false,
-    }
+    matches!(item, Statement::Section { .. })
 }
 
 /// Adds an item behind those of a part.

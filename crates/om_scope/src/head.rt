@@ -126,13 +126,11 @@ fn resolve_perhaps(
         (λ found. resolved_perhaps symbols.now (option_map view_expression expression.now)
         ≡ Some (option_map (λ boxed. view_resolved_expression boxed.value) found)) }
 {
-    match expression {
-        None => Ok(None),
-        Some(expression) => {
-            let expression = boxed_expression(alloc, symbols, for_value, expression)?;
-            Ok(Some(expression))
-        }
-    }
+    let Some(expression) = expression else {
+        return Ok(None);
+    };
+    let expression = boxed_expression(alloc, symbols, for_value, expression)?;
+    Ok(Some(expression))
 }
 
 /// A `for` with its body.

@@ -98,17 +98,14 @@ fn resolve_returned(
         (option_map (λ boxed. view_expression boxed.value) value.now)
         ≡ Some (option_map (λ boxed. view_resolved_expression boxed.value) found)) }
 {
-    match value {
-        None => Ok(None),
-        Some(value) => {
-            if flow.returns {
-                let value = boxed_expression(alloc, symbols, true, value)?;
-                Ok(Some(value))
-            } else {
-                Err(misplaced(symbols, value))
-            }
-        }
+    let Some(value) = value else {
+        return Ok(None);
+    };
+    if !flow.returns {
+        return Err(misplaced(symbols, value));
     }
+    let value = boxed_expression(alloc, symbols, true, value)?;
+    Ok(Some(value))
 }
 
 /// A jump: S14.

@@ -33,11 +33,10 @@ use std::alloc::{AllocError, Global};
 fn add_definition(alloc: Global, names: &mut Names, item: &Item) -> Result<(), AllocError>
     ensures { OnOk result (names.new ≡ after_definition names.old (view_item item.now)) }
 {
-    match item {
-        Item::Declaration(_) => Ok(()),
-        Item::Prototype { .. } => Ok(()),
-        Item::Function(function) => names.add(alloc, function.head.name.text.as_slice()),
-    }
+    let Item::Function(function) = item else {
+        return Ok(());
+    };
+    names.add(alloc, function.head.name.text.as_slice())
 }
 
 /// Adds the functions that a source defines, and before them those that are there before it.
@@ -151,11 +150,10 @@ fn resolve_items(alloc: Global, items: &[Item]) -> Result<Resolved, SourceFault>
 fn is_main(item: &Item) -> bool
     ensures { result ≡ is_main (view_item item.now) }
 {
-    match item {
-        Item::Declaration(_) => false,
-        Item::Prototype { .. } => false,
-        Item::Function(function) => function.head.name.text.as_slice() == b"main".as_slice(),
-    }
+    let Item::Function(function) = item else {
+        return false;
+    };
+    function.head.name.text.as_slice() == b"main".as_slice()
 }
 
 /// Whether one of the items is a function named `main`.
