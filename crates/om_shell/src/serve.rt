@@ -46,25 +46,26 @@ fn tell<W: Write>(
 // Answers the commands to a program.
 fn answer_commands<H: Threads + Wait + Sync, R: Read, W: Write>(
     host: &Host<'_, H>,
-    workers: u8,
     debuggee: Debuggee,
     input: &mut Input,
     reader: &mut R,
     writer: &mut W,
 ) -> Result<Ended, ShellFault>
-    requires at_least_one { 0 < workers }
-    requires at_most_32 { workers ≤ 32 }
+    requires at_least_one { 0 < host.now.workers }
+    requires at_most_32 { host.now.workers ≤ 32 }
     ensures status { IfOk result (λ ended. ended.status ≡ 0) }
     ensures done { IfOk result (λ ended. (runs : List FreeRun)
         × IsDone (R.remaining reader.old) (R.remaining reader.new) (W.contents writer.old)
         (W.contents writer.new)
-        input.old.pending.items (due (opened debuggee workers) runs) ended.debugger) }
+        input.old.pending.items (due (opened debuggee host.now.workers) runs) ended.debugger) }
     ensures broken_off { IfErr result (λ fault. (runs : List FreeRun)
         × BreaksOff (R.remaining reader.old) (R.remaining reader.new) (W.contents writer.old)
         (W.contents writer.new)
-        input.old.pending.items (due (opened debuggee workers) runs) fault) }
+        input.old.pending.items (due (opened debuggee host.now.workers) runs) fault) }
 {
-    let mut session = Session::new(host.alloc, debuggee, workers).map_err(|_| ShellFault::Memory)?;
+    let mut session = Session::new(host.alloc, debuggee, host.workers).map_err(
+        |_| ShellFault::Memory,
+    )?;
     converse(host, &mut session, input, reader, writer)?;
     Ok(Ended::accepted(session.into_debugger()))
 }
@@ -74,26 +75,25 @@ fn answer_commands<H: Threads + Wait + Sync, R: Read, W: Write>(
 /// When out of memory for its program, nothing is read or written.
 pub(crate) fn serve<H: Threads + Wait + Sync, R: Read, W: Write>(
     host: &Host<'_, H>,
-    workers: u8,
     source: &[u8],
     input: &mut Input,
     reader: &mut R,
     writer: &mut W,
 ) -> Result<Ended, ShellFault>
-    requires at_least_one { 0 < workers }
-    requires at_most_32 { workers ≤ 32 }
+    requires at_least_one { 0 < host.now.workers }
+    requires at_most_32 { host.now.workers ≤ 32 }
     ensures served { IfOk result
         (λ ended. Serves (R.remaining reader.old) (R.remaining reader.new) (W.contents writer.old)
         (W.contents writer.new)
-        input.old.pending.items workers source.now ended.status ended.debugger) }
+        input.old.pending.items host.now.workers source.now ended.status ended.debugger) }
     ensures broken_off { IfErr result
         (BreaksOffServing (R.remaining reader.old) (R.remaining reader.new) (W.contents writer.old)
         (W.contents writer.new)
-        input.old.pending.items workers source.now) }
+        input.old.pending.items host.now.workers source.now) }
 {
     let alloc = host.alloc;
     match debuggee_of(alloc, source) {
-        Ok(debuggee) => answer_commands(host, workers, debuggee, input, reader, writer),
+        Ok(debuggee) => answer_commands(host, debuggee, input, reader, writer),
         Err(fault) => {
             if fault.code == FaultCode::Memory {
                 return Err(ShellFault::Memory);

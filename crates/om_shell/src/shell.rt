@@ -27,20 +27,19 @@ fn source_bytes(alloc: Global, bytes: &[u8], end: usize) -> Result<Vec<u8>, Shel
 // A run whose source stands at the front of the input.
 fn run_from_input<H: Threads + Wait + Sync, R: Read, W: Write>(
     host: &Host<'_, H>,
-    workers: u8,
     reader: &mut R,
     writer: &mut W,
 ) -> Result<Ended, ShellFault>
-    requires at_least_one { 0 < workers }
-    requires at_most_32 { workers ≤ 32 }
+    requires at_least_one { 0 < host.now.workers }
+    requires at_most_32 { host.now.workers ≤ 32 }
     ensures to_end { IfOk result
         (λ ended. RunsToEnd (R.remaining reader.old) (R.remaining reader.new)
         (W.contents writer.old) (W.contents writer.new)
-        workers None ended.status ended.debugger) }
+        host.now.workers None ended.status ended.debugger) }
     ensures broken_off { IfErr result
         (BreaksOffRun (R.remaining reader.old) (R.remaining reader.new) (W.contents writer.old)
         (W.contents writer.new)
-        workers None) }
+        host.now.workers None) }
 {
     let mut input = Input::new(host.alloc);
     let (end, after) = read_source(&mut input, reader)?;
@@ -48,9 +47,9 @@ fn run_from_input<H: Threads + Wait + Sync, R: Read, W: Write>(
     match after {
         Some(after) => {
             input.discard(after);
-            serve(host, workers, &source, &mut input, reader, writer)
+            serve(host, &source, &mut input, reader, writer)
         }
-        None => serve_alone(host.alloc, workers, &source, writer),
+        None => serve_alone(host.alloc, host.workers, &source, writer),
     }
 }
 
@@ -58,30 +57,22 @@ fn run_by<H: Threads + Wait + Sync, R: Read, W: Write>(
     host: &Host<'_, H>,
     reader: &mut R,
     writer: &mut W,
-    workers: u8,
     source: Option<&[u8]>,
 ) -> Result<Ended, ShellFault>
-    requires at_least_one { 0 < workers }
-    requires at_most_32 { workers ≤ 32 }
+    requires at_least_one { 0 < host.now.workers }
+    requires at_most_32 { host.now.workers ≤ 32 }
     ensures to_end { IfOk result
         (λ ended. RunsToEnd (R.remaining reader.old) (R.remaining reader.new)
         (W.contents writer.old) (W.contents writer.new)
-        workers (option_copied source.entry) ended.status ended.debugger) }
+        host.now.workers (option_copied source.entry) ended.status ended.debugger) }
     ensures broken_off { IfErr result
         (BreaksOffRun (R.remaining reader.old) (R.remaining reader.new) (W.contents writer.old)
         (W.contents writer.new)
-        workers (option_copied source.entry)) }
+        host.now.workers (option_copied source.entry)) }
 {
     match source {
-        Some(source) => serve(
-            host,
-            workers,
-            source,
-            &mut Input::new(host.alloc),
-            reader,
-            writer,
-        ),
-        None => run_from_input(host, workers, reader, writer),
+        Some(source) => serve(host, source, &mut Input::new(host.alloc), reader, writer),
+        None => run_from_input(host, reader, writer),
     }
 }
 
@@ -120,6 +111,10 @@ pub fn run<H: Threads + Wait + Sync, R: Read, W: Write>(
         (W.contents writer.new)
         options.entry.workers (option_copied options.entry.source)) }
 {
-    let host = Host { rt, alloc };
-    run_by(&host, reader, writer, options.workers, options.source)
+    let host = Host {
+        rt,
+        alloc,
+        workers: options.workers,
+    };
+    run_by(&host, reader, writer, options.source)
 }
