@@ -71,15 +71,11 @@ fn include_end(source: &[u8], from: usize) -> Option<usize>
     ensures none { IfNone result
         ((to : ℕ) → IsHeader source.now from to → EndsLine source.now to → ⊥) }
 {
-    match header_end(source, from) {
-        Some(to) => {
-            if ends_line(source, to) {
-                Some(to)
-            } else {
-                None
-            }
-        }
-        None => None,
+    let to = header_end(source, from)?;
+    if ends_line(source, to) {
+        Some(to)
+    } else {
+        None
     }
 }
 

@@ -18,6 +18,29 @@ use std::alloc::{AllocError, Global};
 /// The bytes that a source may have.
 const SOURCE_LIMIT: usize = 1_048_576;
 
+/// What reading a source has made so far.
+#[derive(Drop)]
+struct Output {
+    tokens: Vec<Token>,
+    macros: Macros,
+}
+
+/// What stands at a place of the source.
+#[derive(Drop)]
+struct Placed<T> {
+    item: T,
+    span: Span,
+    /// The place of no width behind it.
+    behind: Span,
+}
+
+/// The bytes where the words of a directive begin.
+#[derive(Clone, Copy)]
+struct DirectiveWords {
+    pragma: usize,
+    omp: usize,
+}
+
 /// The tokens of a source, in order; the last is the end of the source.
 ///
 /// A token is the longest text that could be one (C17 6.4p4); between tokens stand white space, comments, includes, defines
@@ -32,31 +55,28 @@ pub fn lex(alloc: Global, source: &[u8]) -> Result<Vec<Token>, SourceFault>
     ensures tokens { IfOk result (λ tokens. IsTokens source.now tokens.items) }
     ensures refusal { IfErr result (IsRefusal source.now) }
 {
-    let mut tokens = Vec::new(alloc);
-    let mut macros = Macros::new(alloc);
-    match take_source(alloc, source, &mut tokens, &mut macros) {
-        Ok(()) => Ok(tokens),
+    let mut output = Output {
+        tokens: Vec::new(alloc),
+        macros: Macros::new(alloc),
+    };
+    match take_source(alloc, source, &mut output) {
+        Ok(()) => Ok(output.tokens),
         Err(fault) => Err(fault),
     }
 }
 
 /// Adds the tokens of a source, and notes what it defines. After a refusal both are of no use.
-fn take_source(
-    alloc: Global,
-    source: &[u8],
-    tokens: &mut Vec<Token>,
-    macros: &mut Macros,
-) -> Result<(), SourceFault>
-    requires tokens { tokens.old.items ≡ [] }
-    requires macros { macros.old ≡ [] }
-    ensures tokens { OnOk result (IsTokens source.now tokens.new.items) }
+fn take_source(alloc: Global, source: &[u8], output: &mut Output) -> Result<(), SourceFault>
+    requires tokens { output.old.tokens.items ≡ [] }
+    requires macros { output.old.macros ≡ [] }
+    ensures tokens { OnOk result (IsTokens source.now output.new.tokens.items) }
     ensures refusal { IfErr result (IsRefusal source.now) }
 {
     let mut state = LineState::Fresh;
     let mut at = 0;
     let mut line = 1;
     while at < source.len() {
-        let piece = piece_at(alloc, source, at, &state, macros)?;
+        let piece = piece_at(alloc, source, at, &state, &output.macros)?;
         let end = piece.end;
         if source.len() > SOURCE_LIMIT && end >= SOURCE_LIMIT {
             return Err(SourceFault {
@@ -70,16 +90,28 @@ fn take_source(
             line,
         };
         line = line_behind(source, span);
-        state = take_piece(alloc, source, tokens, macros, state, piece.kind, span)?;
+        let placed = Placed {
+            item: piece.kind,
+            span,
+            behind: no_width(end, line),
+        };
+        state = take_piece(alloc, source, output, state, placed)?;
         at = end;
     }
-    let end = Span {
+    add_end(&mut output.tokens, &state, no_width(at, line))?;
+    Ok(())
+}
+
+/// The place of no width at a byte.
+fn no_width(at: usize, line: u32) -> Span
+    requires { at < 2 ^ 32 }
+    ensures { result ≡ record { start = at; end = at; line = line } }
+{
+    Span {
         start: at as u32,
         end: at as u32,
         line,
-    };
-    add_end(tokens, &state, end)?;
-    Ok(())
+    }
 }
 
 /// Adds the end of the source at its place, and before it that of the directive whose line ends here, if one does.
@@ -106,49 +138,43 @@ fn add<T: Drop>(items: &mut Vec<T>, item: T) -> Result<(), AllocError>
     Ok(())
 }
 
-/// Adds the tokens of a piece at its place, notes what it defines, and gives its line behind it.
+/// Adds the tokens of a piece, notes what it defines, and gives its line behind it.
 /// When out of memory, all three are lost to the caller.
 fn take_piece(
     alloc: Global,
     source: &[u8],
-    tokens: &mut Vec<Token>,
-    macros: &mut Macros,
+    output: &mut Output,
     state: LineState,
-    kind: PieceKind,
-    span: Span,
+    piece: Placed<PieceKind>,
 ) -> Result<LineState, AllocError>
-    requires place { span ≡ span_of source.now span.start span.end }
-    requires order { span.start ≤ span.end }
-    requires inside { span.end ≤ length source.now }
-    requires fits { span.end < 2 ^ 31 }
-    requires words { HasWordsInside kind span.start span.end }
+    requires place { piece.span ≡ span_of source.now piece.span.start piece.span.end }
+    requires inside { piece.span.end ≤ length source.now }
+    requires fits { piece.span.end < 2 ^ 31 }
+    requires words { HasWordsInside piece.item piece.span.start piece.span.end }
+    requires behind { piece.behind ≡ span_of source.now piece.span.end piece.span.end }
     ensures tokens { OnOk result
-        (tokens.new.items ≡ tokens.old.items
-        ++ tokens_in source.now (context_of state macros.old) span.start span.end kind) }
-    ensures macros { OnOk result (macros.new ≡ macros_behind kind state macros.old) }
+        (output.new.tokens.items ≡ output.old.tokens.items
+        ++ tokens_in source.now (context_of state output.old.macros) piece.span.start piece.span.end piece.item) }
+    ensures macros { OnOk result
+        (output.new.macros ≡ macros_behind piece.item state output.old.macros) }
     ensures state { IfOk result
-        (λ behind. behind ≡ state_behind kind state (span_of source.now span.end span.end)) }
+        (λ behind. behind ≡ state_behind piece.item state (span_of source.now piece.span.end piece.span.end)) }
 {
-    let behind = Span {
-        start: span.end,
-        end: span.end,
-        line: line_behind(source, span),
-    };
-    match kind {
+    let span = piece.span;
+    let behind = piece.behind;
+    match piece.item {
         PieceKind::LineFeed => {
-            end_directive(tokens, &state)?;
+            end_directive(&mut output.tokens, &state)?;
             Ok(LineState::Fresh)
         }
         PieceKind::Space => Ok(state),
-        PieceKind::Token(kind) => take_token(
+        PieceKind::Token(item) => take_token(alloc, output, &state, Placed { item, span, behind }),
+        PieceKind::HashLine(item) => take_hash_line(
             alloc,
-            tokens,
-            macros,
-            &state,
-            Token { kind, span },
-            behind,
+            source,
+            &mut output.tokens,
+            Placed { item, span, behind },
         ),
-        PieceKind::HashLine(line) => take_hash_line(alloc, source, tokens, line, span, behind),
         PieceKind::Passed => Ok(state),
     }
 }
@@ -168,59 +194,60 @@ fn line_behind(source: &[u8], span: Span) -> u32
 fn end_directive(tokens: &mut Vec<Token>, state: &LineState) -> Result<(), AllocError>
     ensures { OnOk result (tokens.new.items ≡ tokens.old.items ++ directive_end state.now) }
 {
-    match state {
-        LineState::Directive(last) => add(
-            tokens,
-            Token {
-                kind: TokenKind::DirectiveEnd,
-                span: *last,
-            },
-        ),
-        _ => Ok(()),
-    }
+    let LineState::Directive(last) = state else {
+        return Ok(());
+    };
+    add(
+        tokens,
+        Token {
+            kind: TokenKind::DirectiveEnd,
+            span: *last,
+        },
+    )
 }
 
 /// Adds a token, or defines with it the name whose constant it is, and gives the line behind it.
 fn take_token(
     alloc: Global,
-    tokens: &mut Vec<Token>,
-    macros: &mut Macros,
+    output: &mut Output,
     state: &LineState,
-    token: Token,
-    behind: Span,
+    token: Placed<TokenKind>,
 ) -> Result<LineState, AllocError>
     ensures tokens { OnOk result
-        (tokens.new.items ≡ tokens.old.items
-        ++ token_in state.now macros.old token.span token.kind) }
+        (output.new.tokens.items ≡ output.old.tokens.items
+        ++ token_in state.now output.old.macros token.span token.item) }
     ensures macros { OnOk result
-        (macros.new ≡ macros_behind_token state.now macros.old token.kind) }
-    ensures state { IfOk result (λ next. next ≡ state_behind_token state.now behind) }
+        (output.new.macros ≡ macros_behind_token state.now output.old.macros token.item) }
+    ensures state { IfOk result (λ next. next ≡ state_behind_token state.now token.behind) }
 {
+    let kind = token.item;
+    let span = token.span;
     match state {
         LineState::Defining(name) => {
-            define(alloc, macros, name.as_slice(), &token.kind)?;
+            define(alloc, &mut output.macros, name.as_slice(), &kind)?;
             Ok(LineState::Taken)
         }
         LineState::Directive(_) => {
-            add_token(tokens, macros, token)?;
-            Ok(LineState::Directive(behind))
+            add_token(output, Token { kind, span })?;
+            Ok(LineState::Directive(token.behind))
         }
         _ => {
-            add_token(tokens, macros, token)?;
+            add_token(output, Token { kind, span })?;
             Ok(LineState::Taken)
         }
     }
 }
 
 /// Adds a token, replaced where it is a macro.
-fn add_token(tokens: &mut Vec<Token>, macros: &Macros, token: Token) -> Result<(), AllocError>
-    ensures { OnOk result
-        (tokens.new.items ≡ tokens.old.items
-        ++ record { kind = replaced macros.now token.kind; span = token.span } ∷ []) }
+fn add_token(output: &mut Output, token: Token) -> Result<(), AllocError>
+    ensures tokens { OnOk result
+        (output.new.tokens.items ≡ output.old.tokens.items
+        ++ record { kind = replaced output.old.macros token.kind; span = token.span } ∷ []) }
+    ensures macros { output.new.macros ≡ output.old.macros }
 {
-    let kind = macros.replaced(token.kind);
+    let kind = output.macros.replaced(token.kind);
     add(
-        tokens,
+        &mut output.tokens,
         Token {
             kind,
             span: token.span,
@@ -237,10 +264,10 @@ fn define(
 ) -> Result<(), AllocError>
     ensures { OnOk result (macros.new ≡ macros_defined macros.old name.now kind.now) }
 {
-    match kind {
-        TokenKind::Constant(number) => macros.define(alloc, name, *number),
-        _ => Ok(()),
-    }
+    let TokenKind::Constant(number) = kind else {
+        return Ok(());
+    };
+    macros.define(alloc, name, *number)
 }
 
 /// Adds the tokens of the beginning of a `#` line, and gives the line behind it.
@@ -248,46 +275,45 @@ fn take_hash_line(
     alloc: Global,
     source: &[u8],
     tokens: &mut Vec<Token>,
-    line: HashLine,
-    span: Span,
-    behind: Span,
+    line: Placed<HashLine>,
 ) -> Result<LineState, AllocError>
-    requires place { span ≡ span_of source.now span.start span.end }
-    requires inside { span.end ≤ length source.now }
-    requires fits { span.end < 2 ^ 31 }
-    requires words { HasWords line span.start span.end }
+    requires place { line.span ≡ span_of source.now line.span.start line.span.end }
+    requires inside { line.span.end ≤ length source.now }
+    requires fits { line.span.end < 2 ^ 31 }
+    requires words { HasWords line.item line.span.start line.span.end }
     ensures tokens { OnOk result
-        (tokens.new.items ≡ tokens.old.items ++ tokens_of_line source.now span.start line) }
-    ensures state { IfOk result (λ next. next ≡ state_of_line line behind) }
+        (tokens.new.items ≡ tokens.old.items ++ tokens_of_line source.now line.span.start line.item) }
+    ensures state { IfOk result (λ next. next ≡ state_of_line line.item line.behind) }
 {
-    match line {
+    match line.item {
         HashLine::Include => Ok(LineState::Taken),
         HashLine::Define(name) => Ok(LineState::Defining(name)),
         HashLine::Directive(pragma, omp) => {
-            begin_directive(alloc, source, tokens, span, pragma, omp)?;
-            Ok(LineState::Directive(behind))
+            let words = DirectiveWords { pragma, omp };
+            begin_directive(alloc, source, tokens, line.span, words)?;
+            Ok(LineState::Directive(line.behind))
         }
         HashLine::Ignored => Ok(LineState::Ignored),
     }
 }
 
-/// Adds the `#` of a directive and its words `pragma` and `omp`, which begin at these bytes.
+/// Adds the `#` of a directive and its words `pragma` and `omp`.
 fn begin_directive(
     alloc: Global,
     source: &[u8],
     tokens: &mut Vec<Token>,
     span: Span,
-    pragma: usize,
-    omp: usize,
+    words: DirectiveWords,
 ) -> Result<(), AllocError>
     requires place { span ≡ span_of source.now span.start span.end }
     requires inside { span.end ≤ length source.now }
     requires fits { span.end < 2 ^ 31 }
-    requires hash { span.start < pragma }
-    requires pragma { pragma + 6 ≤ omp }
-    requires omp { omp + 3 ≤ span.end }
+    requires hash { span.start < words.pragma }
+    requires pragma { words.pragma + 6 ≤ words.omp }
+    requires omp { words.omp + 3 ≤ span.end }
     ensures { OnOk result
-        (tokens.new.items ≡ tokens.old.items ++ directive_begin source.now span.start pragma omp) }
+        (tokens.new.items ≡ tokens.old.items
+        ++ directive_begin source.now span.start words.pragma words.omp) }
 {
     let hash = Span {
         start: span.start,
@@ -301,9 +327,9 @@ fn begin_directive(
             span: hash,
         },
     )?;
-    let pragma = word_span(source, span, pragma, 6);
+    let pragma = word_span(source, span, words.pragma, 6);
     add_word(alloc, tokens, b"pragma", pragma)?;
-    let omp = word_span(source, span, omp, 3);
+    let omp = word_span(source, span, words.omp, 3);
     add_word(alloc, tokens, b"omp", omp)
 }
 
