@@ -50,10 +50,10 @@ pub fn resolve_format(
 fn is_print(values: &[(Option<Span>, Expression)]) -> bool
     ensures { result ≡ is_print (arguments (map view_argument values.now)) }
 {
-    match values {
-        [] => false,
-        [format, printed @ ..] => is_format(&format.1, argument_count(printed)),
-    }
+    let [format, printed @ ..] = values else {
+        return false;
+    };
+    is_format(&format.1, argument_count(printed))
 }
 
 /// The format that a `printf` begins with, which is there where it has one.
@@ -61,20 +61,20 @@ fn format_in(values: &[(Option<Span>, Expression)]) -> Option<&Seq<u8>>
     ensures { option_map (λ text. text.now) result
         ≡ format_in (arguments (map view_argument values.now)) }
 {
-    match values {
-        [] => None,
-        [format, ..] => text_in(&format.1),
-    }
+    let [format, ..] = values else {
+        return None;
+    };
+    text_in(&format.1)
 }
 
 /// The text that an expression is.
 fn text_in(expression: &Expression) -> Option<&Seq<u8>>
     ensures { option_map (λ text. text.now) result ≡ text_in (view_expression expression.now) }
 {
-    match expression {
-        Expression::Text(text) => Some(&text.value),
-        _ => None,
-    }
+    let Expression::Text(text) = expression else {
+        return None;
+    };
+    Some(&text.value)
 }
 
 /// A call of the function at a place among the definitions.

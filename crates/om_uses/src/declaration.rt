@@ -49,10 +49,10 @@ pub fn cells_of(array: &Option<ArrayLength>) -> u32
 fn is_empty_array(array: &Option<ArrayLength>) -> bool
     ensures { result ≡ is_empty_array array.now }
 {
-    match array {
-        None => false,
-        Some(array) => array.size.value == 0,
-    }
+    let Some(array) = array else {
+        return false;
+    };
+    array.size.value == 0
 }
 
 /// That an array has cells: S9.
@@ -67,10 +67,8 @@ pub fn check_size(declarator: &Declarator) -> Result<(), SourceFault>
 pub fn length_of(array: &Option<ArrayLength>) -> Option<u32>
     ensures { result ≡ length_of array.now }
 {
-    match array {
-        None => None,
-        Some(array) => Some(array.size.value),
-    }
+    let array = array.as_ref()?;
+    Some(array.size.value)
 }
 
 /// A copy of a name's text. An error is out of memory.
@@ -103,13 +101,11 @@ fn resolve_initializer(
         (λ found. resolved_initial symbols.now (option_map view_initializer initializer.now)
         ≡ Some (option_map (λ boxed. view_resolved_expression boxed.value) found)) }
 {
-    match initializer {
-        None => Ok(None),
-        Some(initializer) => {
-            let value = boxed_expression(alloc, symbols, true, &initializer.value)?;
-            Ok(Some(value))
-        }
-    }
+    let Some(initializer) = initializer else {
+        return Ok(None);
+    };
+    let value = boxed_expression(alloc, symbols, true, &initializer.value)?;
+    Ok(Some(value))
 }
 
 /// Declares the name of a local variable: S8, S9.

@@ -38,10 +38,7 @@ fn check_nesting(flow: Flow, name: &DirectiveName) -> Result<(), SourceFault>
 fn is_variable(meaning: Option<Meaning>) -> bool
     ensures { result ≡ is_variable meaning }
 {
-    match meaning {
-        Some(Meaning::Variable(..)) => true,
-        _ => false,
-    }
+    matches!(meaning, Some(Meaning::Variable(..)))
 }
 
 /// Whether a name can't be shared or copied so.
@@ -60,21 +57,17 @@ fn is_mislisted(sharing: DataSharing, symbols: &Symbols, name: &[u8]) -> bool
 fn uses_original(sharing: DataSharing) -> bool
     ensures { result ≡ uses_original sharing }
 {
-    match sharing {
-        DataSharing::Shared => true,
-        DataSharing::Private => false,
-        DataSharing::Firstprivate => true,
-    }
+    !matches!(sharing, DataSharing::Private)
 }
 
 /// The variable that a name of this meaning is.
 fn variable_in(meaning: Option<Meaning>) -> Option<Variable>
     ensures { result ≡ variable_of meaning }
 {
-    match meaning {
-        Some(Meaning::Variable(variable, _)) => Some(variable),
-        _ => None,
-    }
+    let Some(Meaning::Variable(variable, _)) = meaning else {
+        return None;
+    };
+    Some(variable)
 }
 
 /// The variable of a name in the list of a clause: S7, S9, S13.
@@ -131,51 +124,58 @@ fn clause_of(
     }
 }
 
+/// Where a clause lists its names, and which copy it makes of the variable of each.
+#[derive(Clone, Copy)]
+struct Listing<'a> {
+    alloc: Global,
+    symbols: &'a Symbols,
+    /// None where it shares them.
+    kind: Option<CopyKind>,
+}
+
 /// Takes a name in the list of a clause.
 #[tactic(auto, using(om_rules::specs::InRow::first_of_left))]
 fn list_name(
-    alloc: Global,
-    symbols: &Symbols,
-    kind: Option<CopyKind>,
+    listing: &Listing<'_>,
     listed: &mut Listed,
     name: &Name,
 ) -> Result<ResolvedClause, SourceFault>
     ensures checked { Checks result
-        (listed_breaches symbols.now (sharing_of kind) listed.old name.now) }
-    ensures listed { OnOk result (listed.new ≡ after_name (sharing_of kind) listed.old name.now) }
+        (listed_breaches listing.now.symbols.now (sharing_of listing.now.kind) listed.old name.now) }
+    ensures listed { OnOk result
+        (listed.new ≡ after_name (sharing_of listing.now.kind) listed.old name.now) }
     ensures resolved { IfOk result
-        (λ clause. resolved_listed kind symbols.now name.now ≡ Some (view_resolved_clause clause)) }
+        (λ clause. resolved_listed listing.now.kind listing.now.symbols.now name.now
+        ≡ Some (view_resolved_clause clause)) }
 {
-    let sharing = sharing_of(kind);
-    let variable = resolve_listed(symbols, sharing, listed, name)?;
-    listed.add(alloc, sharing, name)?;
-    Ok(clause_of(alloc, kind, variable, name)?)
+    let sharing = sharing_of(listing.kind);
+    let variable = resolve_listed(listing.symbols, sharing, listed, name)?;
+    listed.add(listing.alloc, sharing, name)?;
+    Ok(clause_of(listing.alloc, listing.kind, variable, name)?)
 }
 
 /// Takes the names behind the first of a list.
 fn list_further_names(
-    alloc: Global,
-    symbols: &Symbols,
-    kind: Option<CopyKind>,
+    listing: &Listing<'_>,
     listed: &mut Listed,
     clauses: &mut Vec<ResolvedClause>,
     rest: &[(Span, Name)],
 ) -> Result<(), SourceFault>
     ensures checked { Checks result
-        (names_breaches symbols.now (sharing_of kind) listed.old
+        (names_breaches listing.now.symbols.now (sharing_of listing.now.kind) listed.old
         (map (λ further. further.1) rest.now)) }
     ensures listed { OnOk result
-        (listed.new ≡ after_names (sharing_of kind) listed.old
+        (listed.new ≡ after_names (sharing_of listing.now.kind) listed.old
         (map (λ further. further.1) rest.now)) }
     ensures resolved { let before = map view_resolved_clause clauses.old.items in
         let after = map view_resolved_clause clauses.new.items in
         OnOk result
         (option_map (λ own. before ++ own)
-        (each (resolved_listed kind symbols.now) (map (λ further. further.1) rest.now))
-        ≡ Some after) }
+        (each (resolved_listed listing.now.kind listing.now.symbols.now)
+        (map (λ further. further.1) rest.now)) ≡ Some after) }
 {
     for further in rest {
-        let found = list_name(alloc, symbols, kind, listed, &further.1);
+        let found = list_name(listing, listed, &further.1);
         add(clauses, found)?;
     }
     Ok(())
@@ -184,26 +184,27 @@ fn list_further_names(
 /// Takes the names of a list.
 #[tactic(auto, using(om_rules::specs::InRow::first_of_left))]
 fn list_names(
-    alloc: Global,
-    symbols: &Symbols,
-    kind: Option<CopyKind>,
+    listing: &Listing<'_>,
     listed: &mut Listed,
     clauses: &mut Vec<ResolvedClause>,
     first: &Name,
     rest: &[(Span, Name)],
 ) -> Result<(), SourceFault>
     ensures checked { Checks result
-        (names_breaches symbols.now (sharing_of kind) listed.old (names_in first.now rest.now)) }
+        (names_breaches listing.now.symbols.now (sharing_of listing.now.kind) listed.old
+        (names_in first.now rest.now)) }
     ensures listed { OnOk result
-        (listed.new ≡ after_names (sharing_of kind) listed.old (names_in first.now rest.now)) }
+        (listed.new ≡ after_names (sharing_of listing.now.kind) listed.old
+        (names_in first.now rest.now)) }
     ensures resolved { let before = map view_resolved_clause clauses.old.items in
         let after = map view_resolved_clause clauses.new.items in
         OnOk result
         (option_map (λ own. before ++ own)
-        (each (resolved_listed kind symbols.now) (names_in first.now rest.now)) ≡ Some after) }
+        (each (resolved_listed listing.now.kind listing.now.symbols.now)
+        (names_in first.now rest.now)) ≡ Some after) }
 {
-    clauses.push(list_name(alloc, symbols, kind, listed, first)?)?;
-    list_further_names(alloc, symbols, kind, listed, clauses, rest)
+    clauses.push(list_name(listing, listed, first)?)?;
+    list_further_names(listing, listed, clauses, rest)
 }
 
 /// How a clause of data sharing copies what it lists; nothing where it shares it.
@@ -249,24 +250,25 @@ fn resolve_clause(
         }
         Clause::Data(sharing, _, list) => {
             let kind = kind_of(*sharing);
-            let rest = list.rest.as_slice();
-            list_names(alloc, symbols, kind, listed, clauses, &list.first, rest)
-        }
-        Clause::Reduction(_, reduction) => {
-            let kind = Some(CopyKind::Reduction(reduction.operator));
-            let rest = reduction.rest.as_slice();
-            list_names(
+            let listing = Listing {
                 alloc,
                 symbols,
                 kind,
-                listed,
-                clauses,
-                &reduction.first,
-                rest,
-            )
+            };
+            let rest = list.rest.as_slice();
+            list_names(&listing, listed, clauses, &list.first, rest)
         }
-        Clause::Schedule(_, _) => Ok(()),
-        Clause::Plain(_, _) => Ok(()),
+        Clause::Reduction(_, reduction) => {
+            let kind = Some(CopyKind::Reduction(reduction.operator));
+            let listing = Listing {
+                alloc,
+                symbols,
+                kind,
+            };
+            let rest = reduction.rest.as_slice();
+            list_names(&listing, listed, clauses, &reduction.first, rest)
+        }
+        Clause::Schedule(_, _) | Clause::Plain(_, _) => Ok(()),
     }
 }
 

@@ -129,10 +129,8 @@ pub fn unboxed(expression: Option<Box<ResolvedExpression>>) -> Option<ResolvedEx
     ensures { option_map view_resolved_expression result
         ≡ option_map (λ boxed. view_resolved_expression boxed.value) expression }
 {
-    match expression {
-        None => None,
-        Some(expression) => Some(Box::into_inner(expression)),
-    }
+    let expression = expression?;
+    Some(Box::into_inner(expression))
 }
 
 /// The value of a constant: S10.

@@ -28,8 +28,7 @@ fn is_undeclared(symbols: &Symbols, name: &[u8], meaning: Option<Meaning>) -> bo
     match meaning {
         None => true,
         Some(Meaning::Function(_)) => !symbols.definition_of(name).is_some(),
-        Some(Meaning::Printf) => false,
-        Some(Meaning::Variable(..)) => false,
+        Some(Meaning::Printf | Meaning::Variable(..)) => false,
     }
 }
 
@@ -37,30 +36,21 @@ fn is_undeclared(symbols: &Symbols, name: &[u8], meaning: Option<Meaning>) -> bo
 pub fn is_scalar(meaning: Option<Meaning>) -> bool
     ensures { result ≡ is_scalar meaning }
 {
-    match meaning {
-        Some(Meaning::Variable(_, Shape::Scalar)) => true,
-        _ => false,
-    }
+    matches!(meaning, Some(Meaning::Variable(_, Shape::Scalar)))
 }
 
 /// Whether it is an array.
 fn is_array(meaning: Option<Meaning>) -> bool
     ensures { result ≡ is_array meaning }
 {
-    match meaning {
-        Some(Meaning::Variable(_, Shape::Array)) => true,
-        _ => false,
-    }
+    matches!(meaning, Some(Meaning::Variable(_, Shape::Array)))
 }
 
 /// Whether it is `printf`.
 pub fn is_printf(meaning: Option<Meaning>) -> bool
     ensures { result ≡ is_printf meaning }
 {
-    match meaning {
-        Some(Meaning::Printf) => true,
-        _ => false,
-    }
+    matches!(meaning, Some(Meaning::Printf))
 }
 
 /// Whether it is an array of which a `task` round the place would make a copy.
