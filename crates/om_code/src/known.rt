@@ -1,11 +1,12 @@
 //! Whether what a program names exists.
 
 ghost use Rattle.std.specs.Prelude.{◌≡◌, ◌↔◌, ◌≤◌, ◌<◌, [], IsTrue, All, length};
-ghost use Rattle.om_code.specs.Validity.{HasTables, HasLength, IsKnown, IsGiven, NamesKnown, IsKnownPlace, IsKnownBody, CanBegin, FitsOuter, value_count};
+ghost use Rattle.om_code.specs.Validity.{HasTables, HasLength, IsKnown, IsGiven, NamesKnown, IsKnownPlace, IsKnownText, IsKnownBody, CanBegin, FitsOuter, value_count};
 
 use crate::instruction::{Instr, Place};
 use crate::program::NUMBERS;
 use crate::raw::{Body, GlobalVariable, Line, Piece, Raw, Slot, Source};
+use om_seq::Seq;
 
 /// Whether each global has a number and a length, and the main body begins from nothing.
 pub(crate) fn has_tables(raw: &Raw) -> bool
@@ -62,10 +63,10 @@ fn are_given(slots: &[Slot], given: &[u32]) -> bool
 fn is_given(slots: &[Slot], number: u32) -> bool
     ensures { IsTrue result ↔ IsGiven slots.now number }
 {
-    match slots.get(number as usize) {
-        Some(slot) => slot.source == Source::Own,
-        None => false,
-    }
+    let Some(slot) = slots.get(number as usize) else {
+        return false;
+    };
+    slot.source == Source::Own
 }
 
 /// Whether what each instruction names exists.
@@ -98,16 +99,25 @@ fn names_known(raw: &Raw, slots: &[Slot], instr: Instr) -> bool
         Instr::Fork { body, values, .. } | Instr::Spawn { body, values } => {
             is_known_body(raw.bodies.as_slice(), slots, body, usize::from(values))
         }
-        Instr::Print { text, values } => match raw.texts.as_slice().get(text as usize) {
-            Some(pieces) => value_count(pieces.as_slice()) == usize::from(values),
-            None => false,
-        },
+        Instr::Print { text, values } => {
+            is_known_text(raw.texts.as_slice(), text, usize::from(values))
+        }
         Instr::Pick(list) => (list as usize) < raw.picks.len(),
         Instr::AskCritical(lock) | Instr::EnterCritical(lock) | Instr::LeaveCritical(lock) => {
             (lock as usize) < raw.locks.len()
         }
         _ => true,
     }
+}
+
+/// Whether a text exists, and takes so many values.
+fn is_known_text(texts: &[Seq<Piece>], text: u32, values: usize) -> bool
+    ensures { IsTrue result ↔ IsKnownText texts.now text values }
+{
+    let Some(pieces) = texts.get(text as usize) else {
+        return false;
+    };
+    value_count(pieces.as_slice()) == values
 }
 
 /// Whether a variable exists.
@@ -124,10 +134,10 @@ fn is_known_place(raw: &Raw, slots: &[Slot], place: Place) -> bool
 fn is_known_body(bodies: &[Body], outer: &[Slot], body: u32, values: usize) -> bool
     ensures { IsTrue result ↔ IsKnownBody bodies.now outer.now body values }
 {
-    match bodies.get(body as usize) {
-        Some(body) => can_begin(outer, values, body),
-        None => false,
-    }
+    let Some(body) = bodies.get(body as usize) else {
+        return false;
+    };
+    can_begin(outer, values, body)
 }
 
 /// Whether a frame of a body can begin with so many values beside an outer frame with these slots.
@@ -152,10 +162,12 @@ fn fits_outer(outer: &[Slot], cells: u32, source: Source) -> bool
 {
     match source {
         Source::Own => true,
-        Source::Outer(number) => match outer.get(number as usize) {
-            Some(slot) => slot.cells == cells,
-            None => false,
-        },
+        Source::Outer(number) => {
+            let Some(slot) = outer.get(number as usize) else {
+                return false;
+            };
+            slot.cells == cells
+        }
     }
 }
 

@@ -213,24 +213,20 @@ fn any_contains(values: &[(Option<Span>, Expression)], target: &Expression) -> b
 fn is_place(expression: &Expression) -> bool
     ensures { result ≡ is_place (view_expression expression.now) }
 {
-    match expression {
-        Expression::Name(_) => true,
-        Expression::Index { .. } => true,
-        _ => false,
-    }
+    matches!(expression, Expression::Name(_) | Expression::Index { .. })
 }
 
 /// Whether an update may have this operator.
 fn is_atomic_operator(operator: BinaryOperator) -> bool
     ensures { result ≡ is_atomic_operator operator }
 {
-    match operator {
+    matches!(
+        operator,
         BinaryOperator::Add
-        | BinaryOperator::Subtract
-        | BinaryOperator::Multiply
-        | BinaryOperator::Divide => true,
-        _ => false,
-    }
+            | BinaryOperator::Subtract
+            | BinaryOperator::Multiply
+            | BinaryOperator::Divide
+    )
 }
 
 /// Whether one operand is the target, and the other does not contain it.
@@ -247,15 +243,16 @@ fn is_one_operand(target: &Expression, left: &Expression, right: &Expression) ->
 fn is_operation_on(target: &Expression, value: &Expression) -> bool
     ensures { result ≡ is_operation_on (view_expression target.now) (view_expression value.now) }
 {
-    match value {
-        Expression::Binary {
-            left,
-            operator,
-            right,
-            ..
-        } => { is_atomic_operator(*operator) && is_one_operand(target, left, right) }
-        _ => false,
-    }
+    let Expression::Binary {
+        left,
+        operator,
+        right,
+        ..
+    } = value
+    else {
+        return false;
+    };
+    is_atomic_operator(*operator) && is_one_operand(target, left, right)
 }
 
 /// Whether this assignment of a value to the target updates it.
@@ -275,10 +272,10 @@ fn is_updated(target: &Expression, operator: AssignOperator, value: &Expression)
 fn is_step(operator: PrefixOperator) -> bool
     ensures { result ≡ is_step operator }
 {
-    match operator {
-        PrefixOperator::Increment | PrefixOperator::Decrement => true,
-        _ => false,
-    }
+    matches!(
+        operator,
+        PrefixOperator::Increment | PrefixOperator::Decrement
+    )
 }
 
 /// Whether an expression is an update.
@@ -311,15 +308,16 @@ fn is_update(expression: &Expression) -> bool
 fn is_read(expression: &Expression) -> bool
     ensures { result ≡ is_read (view_expression expression.now) }
 {
-    match expression {
-        Expression::Assign {
-            target,
-            operator: AssignOperator::Set,
-            value,
-            ..
-        } => { is_place(target) && is_place(value) }
-        _ => false,
-    }
+    let Expression::Assign {
+        target,
+        operator: AssignOperator::Set,
+        value,
+        ..
+    } = expression
+    else {
+        return false;
+    };
+    is_place(target) && is_place(value)
 }
 
 /// Whether an expression is a write: `x = e`.
@@ -327,14 +325,15 @@ fn is_read(expression: &Expression) -> bool
 fn is_write(expression: &Expression) -> bool
     ensures { result ≡ is_write (view_expression expression.now) }
 {
-    match expression {
-        Expression::Assign {
-            target,
-            operator: AssignOperator::Set,
-            ..
-        } => is_place(target),
-        _ => false,
-    }
+    let Expression::Assign {
+        target,
+        operator: AssignOperator::Set,
+        ..
+    } = expression
+    else {
+        return false;
+    };
+    is_place(target)
 }
 
 /// Whether an `atomic` of this kind may have this statement (OpenMP API 5.2, 15.8.4).
