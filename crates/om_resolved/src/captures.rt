@@ -114,6 +114,15 @@ pub fn captures_of_parallel(
     captured_by_parallel(alloc, found.variables())
 }
 
+/// What decides how a `task` takes a variable that it doesn't copy by a clause (OpenMP API 5.2, 5.1.1).
+#[derive(Clone, Copy)]
+pub struct TaskSharing {
+    /// Whether it has a `default` clause: what it doesn't copy is then shared.
+    pub has_default: bool,
+    /// Where the innermost `parallel` round it begins; `None` where no `parallel` is round it.
+    pub parallel: Option<u32>,
+}
+
 /// Whether a variable is declared before the innermost `parallel` begins.
 fn is_before(parallel: Option<u32>, variable: u32) -> bool
     ensures { result ≡ is_before parallel variable }
@@ -125,10 +134,10 @@ fn is_before(parallel: Option<u32>, variable: u32) -> bool
 }
 
 /// How a `task` takes a variable from outside.
-fn taken_by_task(has_default: bool, parallel: Option<u32>, listed: &Found, variable: u32) -> Taking
-    ensures { result ≡ taken_by_task has_default parallel listed.now variable }
+fn taken_by_task(sharing: TaskSharing, listed: &Found, variable: u32) -> Taking
+    ensures { result ≡ taken_by_task sharing.has_default sharing.parallel listed.now variable }
 {
-    if has_default || listed.contains(variable) || is_before(parallel, variable) {
+    if sharing.has_default || listed.contains(variable) || is_before(sharing.parallel, variable) {
         Taking::Shared
     } else {
         Taking::Firstprivate
@@ -138,40 +147,38 @@ fn taken_by_task(has_default: bool, parallel: Option<u32>, listed: &Found, varia
 /// Variables as a `task` takes them from outside.
 fn captured_by_task(
     alloc: Global,
-    has_default: bool,
-    parallel: Option<u32>,
+    sharing: TaskSharing,
     listed: &Found,
     variables: &[u32],
 ) -> Result<Seq<Capture>, AllocError>
-    ensures { IfOk result
-        (λ captures. captures ≡ captured (taken_by_task has_default parallel listed.now)
-        variables.now) }
+    ensures { let taking = taken_by_task sharing.has_default sharing.parallel listed.now in
+        IfOk result (λ captures. captures ≡ captured taking variables.now) }
 {
     let mut captures = Vec::new(alloc);
     for variable in variables {
         captures.push(Capture {
             variable: *variable,
-            taking: taken_by_task(has_default, parallel, listed, *variable),
+            taking: taken_by_task(sharing, listed, *variable),
         })?;
     }
     Ok(Seq::of(captures))
 }
 
-/// What a `task` that begins there takes from outside, in the `parallel` that begins at `parallel`.
+/// What a `task` that begins there takes from outside.
 pub fn captures_of_task(
     alloc: Global,
-    has_default: bool,
-    parallel: Option<u32>,
+    sharing: TaskSharing,
     start: u32,
     clauses: &[ResolvedClause],
     body: &ResolvedStatement,
 ) -> Result<Seq<Capture>, AllocError>
     ensures { let trees = map view_resolved_clause clauses.now in
-        let taking = taken_by_task has_default parallel (listed_variables start trees) in
+        let listed = listed_variables start trees in
+        let taking = taken_by_task sharing.has_default sharing.parallel listed in
         IfOk result
         (λ captures. captures ≡ captures_of taking start trees (view_resolved_statement body.now)) }
 {
     let listed = listed_variables(alloc, start, clauses)?;
     let found = taken_variables(alloc, start, clauses, body)?;
-    captured_by_task(alloc, has_default, parallel, &listed, found.variables())
+    captured_by_task(alloc, sharing, &listed, found.variables())
 }

@@ -6,7 +6,7 @@ mod found;
 pub mod laws;
 mod resolved;
 
-pub use captures::{captures_of_parallel, captures_of_task};
+pub use captures::{TaskSharing, captures_of_parallel, captures_of_task};
 pub use resolved::{
     Capture, ConstructKind, CopyKind, GlobalVariable, LocalVariable, Resolved, ResolvedClause,
     ResolvedDeclarator, ResolvedExpression, ResolvedFunction, ResolvedLoop, ResolvedPart,

@@ -21,7 +21,7 @@ use om_pragma::{
 };
 use om_resolved::{
     Capture, ConstructKind, ResolvedClause, ResolvedLoop, ResolvedPart, ResolvedSchedule,
-    ResolvedStatement, Side, captures_of_parallel, captures_of_task,
+    ResolvedStatement, Side, TaskSharing, captures_of_parallel, captures_of_task,
 };
 use om_seq::Seq;
 use om_tree::{Expression, Name};
@@ -110,14 +110,11 @@ fn around_task(
         (λ around. with_around around directive.now.hash cs tree
         ≡ task_of parallel (view_directive directive.now) cs tree) }
 {
-    let captures = captures_of_task(
-        alloc,
-        has_default(directive),
+    let sharing = TaskSharing {
+        has_default: has_default(directive),
         parallel,
-        directive.hash.start,
-        clauses,
-        body,
-    )?;
+    };
+    let captures = captures_of_task(alloc, sharing, directive.hash.start, clauses, body)?;
     Ok(Around::Task(captures))
 }
 
