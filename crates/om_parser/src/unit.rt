@@ -126,13 +126,13 @@ fn items(alloc: Global, tokens: &[Token]) -> Result<(Vec<Item>, Span), SourceFau
 fn take_end(tokens: &[Token]) -> Option<Span>
     ensures { option_map (λ x. (x, [])) result ≡ take_end tokens.now }
 {
-    match tokens {
-        [end] => match end.kind {
-            TokenKind::End => Some(end.span),
-            _ => None,
-        },
-        _ => None,
-    }
+    let [end] = tokens else {
+        return None;
+    };
+    let TokenKind::End = end.kind else {
+        return None;
+    };
+    Some(end.span)
 }
 
 /// A declaration, a prototype or a function, and the tokens behind it.

@@ -38,12 +38,12 @@ pub fn too_deep(span: Span) -> SourceFault
 pub fn take_mark(tokens: &[Token], wanted: Punctuator) -> Option<(Span, &[Token])>
     ensures { option_map (λ x. (x.0, x.1.now)) result ≡ take_mark wanted tokens.now }
 {
-    match tokens {
-        [first, rest @ ..] => match first.kind {
-            TokenKind::Punctuator(found) if found == wanted => Some((first.span, rest)),
-            _ => None,
-        },
-        [] => None,
+    let [first, rest @ ..] = tokens else {
+        return None;
+    };
+    match first.kind {
+        TokenKind::Punctuator(found) if found == wanted => Some((first.span, rest)),
+        _ => None,
     }
 }
 
@@ -52,12 +52,12 @@ pub fn take_mark(tokens: &[Token], wanted: Punctuator) -> Option<(Span, &[Token]
 pub fn take_word(tokens: &[Token], wanted: Keyword) -> Option<(Span, &[Token])>
     ensures { option_map (λ x. (x.0, x.1.now)) result ≡ take_word wanted tokens.now }
 {
-    match tokens {
-        [first, rest @ ..] => match first.kind {
-            TokenKind::Keyword(found) if found == wanted => Some((first.span, rest)),
-            _ => None,
-        },
-        [] => None,
+    let [first, rest @ ..] = tokens else {
+        return None;
+    };
+    match first.kind {
+        TokenKind::Keyword(found) if found == wanted => Some((first.span, rest)),
+        _ => None,
     }
 }
 
@@ -66,19 +66,14 @@ pub fn take_word(tokens: &[Token], wanted: Keyword) -> Option<(Span, &[Token])>
 pub fn take_number(tokens: &[Token]) -> Option<(Number, &[Token])>
     ensures { option_map (λ x. (x.0, x.1.now)) result ≡ take_number tokens.now }
 {
-    match tokens {
-        [first, rest @ ..] => match first.kind {
-            TokenKind::Constant(value) => Some((
-                Number {
-                    value,
-                    span: first.span,
-                },
-                rest,
-            )),
-            _ => None,
-        },
-        [] => None,
-    }
+    let [first, rest @ ..] = tokens else {
+        return None;
+    };
+    let TokenKind::Constant(value) = first.kind else {
+        return None;
+    };
+    let span = first.span;
+    Some((Number { value, span }, rest))
 }
 
 /// The span of this punctuator, which must stand first, and the tokens behind it.

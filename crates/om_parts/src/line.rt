@@ -225,8 +225,8 @@ fn is_end(kind: &TokenKind) -> bool
 fn take_first(tokens: &[Token]) -> Option<(&Token, &[Token])>
     ensures { option_map (λ x. (x.0.now, x.1.now)) result ≡ take_first tokens.now }
 {
-    match tokens {
-        [first, rest @ ..] => Some((first, rest)),
-        [] => None,
-    }
+    let [first, rest @ ..] = tokens else {
+        return None;
+    };
+    Some((first, rest))
 }

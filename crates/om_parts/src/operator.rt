@@ -110,13 +110,11 @@ fn is_unary(expression: &Expression) -> bool
 pub fn take_prefix(tokens: &[Token]) -> Option<(PrefixOperator, Span, &[Token])>
     ensures { Takes result (take_operator prefix_of tokens.now) }
 {
-    match tokens {
-        [first, rest @ ..] => {
-            let operator = prefix_operator(&first.kind)?;
-            Some((operator, first.span, rest))
-        }
-        [] => None,
-    }
+    let [first, rest @ ..] = tokens else {
+        return None;
+    };
+    let operator = prefix_operator(&first.kind)?;
+    Some((operator, first.span, rest))
 }
 
 /// The operator behind an operand that stands first, its span, and the tokens behind it.
@@ -124,13 +122,11 @@ pub fn take_prefix(tokens: &[Token]) -> Option<(PrefixOperator, Span, &[Token])>
 pub fn take_postfix(tokens: &[Token]) -> Option<(PostfixOperator, Span, &[Token])>
     ensures { Takes result (take_operator postfix_of tokens.now) }
 {
-    match tokens {
-        [first, rest @ ..] => {
-            let operator = postfix_operator(&first.kind)?;
-            Some((operator, first.span, rest))
-        }
-        [] => None,
-    }
+    let [first, rest @ ..] = tokens else {
+        return None;
+    };
+    let operator = postfix_operator(&first.kind)?;
+    Some((operator, first.span, rest))
 }
 
 /// The binary operator of this level that a token of this kind is.
@@ -150,13 +146,11 @@ fn operator_of_level(kind: &TokenKind, wanted: usize) -> Option<BinaryOperator>
 fn take_binary(tokens: &[Token], wanted: usize) -> Option<(BinaryOperator, Span, &[Token])>
     ensures { Takes result (take_operator (level_operator wanted) tokens.now) }
 {
-    match tokens {
-        [first, rest @ ..] => {
-            let operator = operator_of_level(&first.kind, wanted)?;
-            Some((operator, first.span, rest))
-        }
-        [] => None,
-    }
+    let [first, rest @ ..] = tokens else {
+        return None;
+    };
+    let operator = operator_of_level(&first.kind, wanted)?;
+    Some((operator, first.span, rest))
 }
 
 /// The operator that stands first, if it is of the next looser level than the tightest
@@ -172,13 +166,11 @@ pub fn take_looser(tokens: &[Token], tighter: usize) -> Option<(BinaryOperator, 
 fn take_any_assign(tokens: &[Token]) -> Option<(AssignOperator, Span, &[Token])>
     ensures { Takes result (take_operator assign_of tokens.now) }
 {
-    match tokens {
-        [first, rest @ ..] => {
-            let operator = assign_operator(&first.kind)?;
-            Some((operator, first.span, rest))
-        }
-        [] => None,
-    }
+    let [first, rest @ ..] = tokens else {
+        return None;
+    };
+    let operator = assign_operator(&first.kind)?;
+    Some((operator, first.span, rest))
 }
 
 /// The assignment to this expression that stands first, its span, and the tokens behind it.
@@ -204,17 +196,15 @@ fn take_any_text(alloc: Global, tokens: &[Token]) -> Result<Option<(Text, &[Toke
     ensures { IfOk result (λ found. option_map (λ x. (x.0, x.1.now)) found ≡ take
         (λ t. text_of t.kind t.span) tokens.now) }
 {
-    match tokens {
-        [first, rest @ ..] => match &first.kind {
-            TokenKind::Text(value) => {
-                let value = Seq::of(value.as_slice().to_vec(alloc)?);
-                let span = first.span;
-                Ok(Some((Text { value, span }, rest)))
-            }
-            _ => Ok(None),
-        },
-        [] => Ok(None),
-    }
+    let [first, rest @ ..] = tokens else {
+        return Ok(None);
+    };
+    let TokenKind::Text(value) = &first.kind else {
+        return Ok(None);
+    };
+    let value = Seq::of(value.as_slice().to_vec(alloc)?);
+    let span = first.span;
+    Ok(Some((Text { value, span }, rest)))
 }
 
 /// The text that stands first, where the function of this name takes one, and the tokens

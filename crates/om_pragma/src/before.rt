@@ -40,10 +40,10 @@ fn expression_at<'a>(word: &Token, tokens: &'a [Token], place: u32) -> Option<&'
     if place <= word.span.start {
         None
     } else if is_named(&word.kind, b"num_threads") || is_named(&word.kind, b"filter") {
-        match in_parentheses(tokens) {
-            Ok((expression, close_paren, _)) => ends_before(expression, close_paren, place),
-            Err(_) => None,
-        }
+        let Ok((expression, close_paren, _)) = in_parentheses(tokens) else {
+            return None;
+        };
+        ends_before(expression, close_paren, place)
     } else {
         None
     }
@@ -67,8 +67,8 @@ fn ends_before(tokens: &[Token], close_paren: Span, place: u32) -> Option<&[Toke
     if place <= close_paren.start {
         return None;
     }
-    match tokens {
-        [] => None,
-        [_, ..] => Some(tokens),
-    }
+    let [_, ..] = tokens else {
+        return None;
+    };
+    Some(tokens)
 }

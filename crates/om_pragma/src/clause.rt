@@ -203,9 +203,9 @@ impl<E> Clause<E> {
     pub fn expression(&self) -> Option<&E>
         ensures { option_copied result ≡ clause_expression self.now }
     {
-        match self {
-            Clause::Value(_, _, value) => Some(&value.expression),
-            _ => None,
-        }
+        let Clause::Value(_, _, value) = self else {
+            return None;
+        };
+        Some(&value.expression)
     }
 }

@@ -30,13 +30,13 @@ impl DirectiveKind {
     pub fn stands_alone(self) -> bool
         ensures { result ≡ stands_alone self }
     {
-        match self {
-            DirectiveKind::Barrier => true,
-            DirectiveKind::Taskwait => true,
-            DirectiveKind::Taskyield => true,
-            DirectiveKind::Flush => true,
-            _ => false,
-        }
+        matches!(
+            self,
+            DirectiveKind::Barrier
+                | DirectiveKind::Taskwait
+                | DirectiveKind::Taskyield
+                | DirectiveKind::Flush
+        )
     }
 
     /// Whether it begins a part of `sections`: `section`.
@@ -50,11 +50,10 @@ impl DirectiveKind {
     pub fn has_parts(self) -> bool
         ensures { result ≡ has_parts self }
     {
-        match self {
-            DirectiveKind::Sections => true,
-            DirectiveKind::ParallelSections => true,
-            _ => false,
-        }
+        matches!(
+            self,
+            DirectiveKind::Sections | DirectiveKind::ParallelSections
+        )
     }
 
     /// Whether it is `atomic`, whose statement must have one of its forms.

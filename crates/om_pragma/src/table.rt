@@ -93,13 +93,10 @@ fn clauses_of(kind: DirectiveKind) -> &'static [ClauseKind]
 fn may_repeat(kind: ClauseKind) -> bool
     ensures { result ≡ may_repeat kind }
 {
-    match kind {
-        ClauseKind::Shared
-        | ClauseKind::Private
-        | ClauseKind::Firstprivate
-        | ClauseKind::Reduction => true,
-        _ => false,
-    }
+    matches!(
+        kind,
+        ClauseKind::Shared | ClauseKind::Private | ClauseKind::Firstprivate | ClauseKind::Reduction
+    )
 }
 
 /// The clause that stands for those of which only one can stand.

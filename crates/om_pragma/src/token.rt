@@ -25,10 +25,10 @@ pub fn place(tokens: &[Token]) -> u32
 pub fn take_first(tokens: &[Token]) -> Option<(&Token, &[Token])>
     ensures { option_map (λ x. (x.0.now, x.1.now)) result ≡ take_first tokens.now }
 {
-    match tokens {
-        [first, rest @ ..] => Some((first, rest)),
-        [] => None,
-    }
+    let [first, rest @ ..] = tokens else {
+        return None;
+    };
+    Some((first, rest))
 }
 
 /// The first token's span, if it is this punctuator, and the tokens behind it.
@@ -37,15 +37,13 @@ pub fn take_mark(tokens: &[Token], wanted: Punctuator) -> Option<(Span, &[Token]
     ensures { option_map (λ x. (x.0, x.1.now)) result
         ≡ take_kind (kinds.Punctuator wanted) tokens.now }
 {
-    match tokens {
-        [first, rest @ ..] => {
-            if is_mark(&first.kind, wanted) {
-                Some((first.span, rest))
-            } else {
-                None
-            }
-        }
-        [] => None,
+    let [first, rest @ ..] = tokens else {
+        return None;
+    };
+    if is_mark(&first.kind, wanted) {
+        Some((first.span, rest))
+    } else {
+        None
     }
 }
 
@@ -55,15 +53,13 @@ pub fn take_named<'a>(tokens: &'a [Token], wanted: &[u8]) -> Option<(Span, &'a [
     ensures { option_map (λ x. (x.0, x.1.now)) result
         ≡ take_kind (kinds.Name wanted.now) tokens.now }
 {
-    match tokens {
-        [first, rest @ ..] => {
-            if is_named(&first.kind, wanted) {
-                Some((first.span, rest))
-            } else {
-                None
-            }
-        }
-        [] => None,
+    let [first, rest @ ..] = tokens else {
+        return None;
+    };
+    if is_named(&first.kind, wanted) {
+        Some((first.span, rest))
+    } else {
+        None
     }
 }
 
@@ -73,15 +69,13 @@ pub fn take_keyword(tokens: &[Token], wanted: Keyword) -> Option<(Span, &[Token]
     ensures { option_map (λ x. (x.0, x.1.now)) result
         ≡ take_kind (kinds.Keyword wanted) tokens.now }
 {
-    match tokens {
-        [first, rest @ ..] => {
-            if is_keyword(&first.kind, wanted) {
-                Some((first.span, rest))
-            } else {
-                None
-            }
-        }
-        [] => None,
+    let [first, rest @ ..] = tokens else {
+        return None;
+    };
+    if is_keyword(&first.kind, wanted) {
+        Some((first.span, rest))
+    } else {
+        None
     }
 }
 
@@ -90,13 +84,13 @@ pub fn take_keyword(tokens: &[Token], wanted: Keyword) -> Option<(Span, &[Token]
 pub fn take_begin(tokens: &[Token]) -> Option<(Span, &[Token])>
     ensures { option_map (λ x. (x.0, x.1.now)) result ≡ take_kind kinds.DirectiveBegin tokens.now }
 {
-    match tokens {
-        [first, rest @ ..] => match first.kind {
-            TokenKind::DirectiveBegin => Some((first.span, rest)),
-            _ => None,
-        },
-        [] => None,
-    }
+    let [first, rest @ ..] = tokens else {
+        return None;
+    };
+    let TokenKind::DirectiveBegin = first.kind else {
+        return None;
+    };
+    Some((first.span, rest))
 }
 
 /// The place where the run ends, where nothing else is left.
@@ -104,13 +98,13 @@ pub fn take_begin(tokens: &[Token]) -> Option<(Span, &[Token])>
 pub fn take_end(tokens: &[Token]) -> Option<Span>
     ensures { option_map (λ x. (x, [])) result ≡ take_end tokens.now }
 {
-    match tokens {
-        [end] => match end.kind {
-            TokenKind::DirectiveEnd => Some(end.span),
-            _ => None,
-        },
-        _ => None,
-    }
+    let [end] = tokens else {
+        return None;
+    };
+    let TokenKind::DirectiveEnd = end.kind else {
+        return None;
+    };
+    Some(end.span)
 }
 
 /// The first token, if it is a constant of 1 or more, and the tokens behind it.
@@ -118,18 +112,18 @@ pub fn take_end(tokens: &[Token]) -> Option<Span>
 pub fn take_chunk(tokens: &[Token]) -> Option<(Number, &[Token])>
     ensures { option_map (λ x. (x.0, x.1.now)) result ≡ take_chunk tokens.now }
 {
-    match tokens {
-        [first, rest @ ..] => match first.kind {
-            TokenKind::Constant(value) if value >= 1 => Some((
-                Number {
-                    value,
-                    span: first.span,
-                },
-                rest,
-            )),
-            _ => None,
-        },
-        [] => None,
+    let [first, rest @ ..] = tokens else {
+        return None;
+    };
+    match first.kind {
+        TokenKind::Constant(value) if value >= 1 => Some((
+            Number {
+                value,
+                span: first.span,
+            },
+            rest,
+        )),
+        _ => None,
     }
 }
 

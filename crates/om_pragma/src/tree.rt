@@ -161,8 +161,8 @@ fn first_expression<E>(items: &[ClauseItem<E>]) -> Option<&E>
 fn first_item<E>(items: &[ClauseItem<E>]) -> Option<(&ClauseItem<E>, &[ClauseItem<E>])>
     ensures { option_map (λ x. (x.0.now, x.1.now)) result ≡ take_item items.now }
 {
-    match items {
-        [first, rest @ ..] => Some((first, rest)),
-        [] => None,
-    }
+    let [first, rest @ ..] = items else {
+        return None;
+    };
+    Some((first, rest))
 }

@@ -133,10 +133,10 @@ pub fn schedule_kind(kind: &TokenKind) -> Option<ScheduleKind>
 pub fn is_named(kind: &TokenKind, wanted: &[u8]) -> bool
     ensures { result ≡ same_kind kind.now (kinds.Name wanted.now) }
 {
-    match kind {
-        TokenKind::Name(found) => found.as_slice() == wanted,
-        _ => false,
-    }
+    let TokenKind::Name(found) = kind else {
+        return false;
+    };
+    found.as_slice() == wanted
 }
 
 /// Whether a token is this keyword.
@@ -144,10 +144,10 @@ pub fn is_named(kind: &TokenKind, wanted: &[u8]) -> bool
 pub fn is_keyword(kind: &TokenKind, wanted: Keyword) -> bool
     ensures { result ≡ same_kind kind.now (kinds.Keyword wanted) }
 {
-    match kind {
-        TokenKind::Keyword(found) => *found == wanted,
-        _ => false,
-    }
+    let TokenKind::Keyword(found) = kind else {
+        return false;
+    };
+    *found == wanted
 }
 
 /// Whether a token is this punctuator.
@@ -155,10 +155,10 @@ pub fn is_keyword(kind: &TokenKind, wanted: Keyword) -> bool
 pub fn is_mark(kind: &TokenKind, wanted: Punctuator) -> bool
     ensures { result ≡ same_kind kind.now (kinds.Punctuator wanted) }
 {
-    match kind {
-        TokenKind::Punctuator(found) => *found == wanted,
-        _ => false,
-    }
+    let TokenKind::Punctuator(found) = kind else {
+        return false;
+    };
+    *found == wanted
 }
 
 /// The fault of tokens of which the first is no word that may stand there.
