@@ -92,10 +92,10 @@ fn team_at_end(barrier: Barrier, team: &Name) -> Name
 fn is_misplaced_barrier(barrier: Barrier, context: &Context) -> bool
     ensures { result ≡ is_misplaced_barrier barrier context.now }
 {
-    match barrier {
-        Barrier::Explicit => is_misplaced(context),
-        Barrier::Worksharing | Barrier::Parallel => false,
-    }
+    let Barrier::Explicit = barrier else {
+        return false;
+    };
+    is_misplaced(context)
 }
 
 /// The names of a member that reaches a barrier.

@@ -60,10 +60,7 @@ pub fn reply_to(outcome: &Outcome, serial: u64, line: u32) -> StepReply
 fn is_undone(reply: &UndoReply) -> bool
     ensures { result ≡ is_done reply.now }
 {
-    match reply {
-        UndoReply::Undone { .. } => true,
-        _ => false,
-    }
+    matches!(reply, UndoReply::Undone { .. })
 }
 
 impl History {

@@ -51,10 +51,10 @@ impl Model for Kept {
 fn start(alloc: Global, choice: &Choice) -> Result<Option<Box<Name>>, AllocError>
     ensures { IfOk result (λ start. choice_of start ≡ choice.now) }
 {
-    match choice {
-        Choice::Next => Ok(None),
-        Choice::Start(name) => Ok(Some(Box::new(alloc, *name)?)),
-    }
+    let Choice::Start(name) = choice else {
+        return Ok(None);
+    };
+    Ok(Some(Box::new(alloc, *name)?))
 }
 
 /// The choice that starts the task of this name, if there is one.

@@ -103,10 +103,10 @@ fn name_own(
         (own.new ≡ own.old ++ own_slot context.now slot cells
         (home_at context.now.frame.homes slot)) }
 {
-    match home_at(context.frame.homes.get().as_slice(), slot) {
-        Home::Own => name_slot(own, context, slot, cells),
-        Home::Elsewhere { .. } => Ok(()),
-    }
+    let Home::Own = home_at(context.frame.homes.get().as_slice(), slot) else {
+        return Ok(());
+    };
+    name_slot(own, context, slot, cells)
 }
 
 /// The cells of the running frame's own slots, as what is written.
@@ -192,11 +192,10 @@ pub fn innermost(context: &Context) -> Option<Construct>
 fn group_name(construct: &Construct) -> Option<Name>
     ensures { result ≡ group_name construct.now }
 {
-    match construct {
-        Construct::Group(name) => Some(*name),
-        Construct::Share(_) | Construct::Single { .. } => None,
-        Construct::Masked | Construct::Critical(_) => None,
-    }
+    let Construct::Group(name) = construct else {
+        return None;
+    };
+    Some(*name)
 }
 
 /// The innermost task group of a context.

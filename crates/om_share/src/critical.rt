@@ -83,11 +83,10 @@ fn is_critical(context: &Context, number: u32) -> bool
     let Some(region) = innermost(context) else {
         return false;
     };
-    match &region {
-        Construct::Critical(held) => *held == number,
-        Construct::Share(_) | Construct::Single { .. } => false,
-        Construct::Masked | Construct::Group(_) => false,
-    }
+    let Construct::Critical(held) = &region else {
+        return false;
+    };
+    *held == number
 }
 
 /// The row of a thread that gives a lock back.

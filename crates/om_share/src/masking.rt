@@ -81,11 +81,7 @@ fn is_masked(context: &Context) -> bool
     let Some(region) = innermost(context) else {
         return false;
     };
-    match &region {
-        Construct::Masked => true,
-        Construct::Share(_) | Construct::Single { .. } => false,
-        Construct::Critical(_) | Construct::Group(_) => false,
-    }
+    matches!(region, Construct::Masked)
 }
 
 /// ENDM: closes a masked region.

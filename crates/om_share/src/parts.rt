@@ -157,11 +157,10 @@ pub(crate) fn work_record(context: &Context, work: Work, endpoint: Endpoint, cou
 fn share_of(region: &Construct) -> Option<Share>
     ensures { result ≡ share_of region.now }
 {
-    match region {
-        Construct::Share(share) => Some(*share),
-        Construct::Single { .. } | Construct::Masked => None,
-        Construct::Critical(_) | Construct::Group(_) => None,
-    }
+    let Construct::Share(share) = region else {
+        return None;
+    };
+    Some(*share)
 }
 
 /// The loop or the sections that the innermost region of a context is, if it is either.

@@ -294,10 +294,7 @@ fn value_of(lower: i32, step: i32, iteration: u64) -> i128
 fn is_loop(sharing: Sharing) -> bool
     ensures { result ≡ is_loop sharing }
 {
-    match sharing {
-        Sharing::Loop => true,
-        Sharing::Sections => false,
-    }
+    matches!(sharing, Sharing::Loop)
 }
 
 /// Begins an iteration, where one is left in the chunk.

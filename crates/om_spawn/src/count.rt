@@ -32,10 +32,10 @@ pub(crate) fn is_zero(alloc: Global, store: &Store, object: &Obj) -> bool
 fn name_group(names: &mut Seq<Access>, group: &Option<Name>) -> Result<(), AllocError>
     ensures { OnOk result (names.new ≡ names.old ++ group_count group.now) }
 {
-    match group {
-        Some(group) => name(names, Obj::Group(*group), Mode::Add),
-        None => Ok(()),
-    }
+    let Some(group) = group else {
+        return Ok(());
+    };
+    name(names, Obj::Group(*group), Mode::Add)
 }
 
 /// Appends the counts in which a context's phase has a task of this parent and group, as what is

@@ -105,18 +105,13 @@ fn ready_for<'a>(store: &'a Store, name: &Name, team: &Name) -> Option<&'a Ready
     ensures { option_map (λ ready. ready.now) result
         ≡ ready_for team.now (task_in (state_of store.now (obj.Task name.now))) }
 {
-    match store.task(name) {
-        Some(Task::Ready(ready)) => {
-            if *ready.team.get() == *team {
-                Some(ready)
-            } else {
-                None
-            }
-        }
-        Some(Task::Absent) => None,
-        Some(Task::Running(_)) => None,
-        Some(Task::Done) => None,
-        None => None,
+    let Task::Ready(ready) = store.task(name)? else {
+        return None;
+    };
+    if *ready.team.get() == *team {
+        Some(ready)
+    } else {
+        None
     }
 }
 

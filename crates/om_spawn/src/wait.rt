@@ -154,11 +154,11 @@ fn closed(alloc: Global, to: u32, context: &Context, is_over: bool) -> Result<Ro
 fn innermost_group(context: &Context) -> Option<Name>
     ensures { result ≡ innermost_group (innermost context.now.constructs) }
 {
-    match &innermost(context)? {
-        Construct::Group(group) => Some(*group),
-        Construct::Share(_) | Construct::Single { .. } => None,
-        Construct::Masked | Construct::Critical(_) => None,
-    }
+    let region = &innermost(context)?;
+    let Construct::Group(group) = region else {
+        return None;
+    };
+    Some(*group)
 }
 
 /// TGE: the innermost task group closes once all of its tasks have ended, and the task goes on to a

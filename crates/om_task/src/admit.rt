@@ -35,10 +35,10 @@ pub(crate) fn leaving(instruction: Option<Instr>) -> Option<TaskStatus>
 fn departs(instruction: Option<Instr>) -> bool
     ensures { result ≡ departs instruction }
 {
-    match instruction {
-        Some(instruction) => matches!(instruction, Instr::Depart(_) | Instr::Leave),
-        None => false,
-    }
+    let Some(instruction) = instruction else {
+        return false;
+    };
+    matches!(instruction, Instr::Depart(_) | Instr::Leave)
 }
 
 /// Whether the task of a name descends from another one.
