@@ -36,14 +36,12 @@ fn stands(journal: &[JournalRecord], seat: u8, opened: usize, low: u128, receipt
     if receipt.place < opened as u64 || u128::from(receipt.place) < low {
         return false;
     }
-    match journal.get(receipt.place as usize) {
-        None => false,
-        Some(made) => {
-            made.seat == seat
-                && made.command.is_same(&receipt.command)
-                && made.reply.is_same(&receipt.reply)
-        }
-    }
+    let Some(made) = journal.get(receipt.place as usize) else {
+        return false;
+    };
+    made.seat == seat
+        && made.command.is_same(&receipt.command)
+        && made.reply.is_same(&receipt.reply)
 }
 
 /// How many receipts of a seat stand from `opened` on, each above the one before.

@@ -29,15 +29,7 @@ impl Reply {
     pub fn is_done(&self) -> bool
         ensures { result ≡ is_done self.now }
     {
-        match self {
-            Reply::Step(StepReply::Done { .. }) => true,
-            Reply::Step(StepReply::Blocked(_) | StepReply::Ended)
-            | Reply::Undo(_)
-            | Reply::Roll(_)
-            | Reply::Value(_)
-            | Reply::Ready(_)
-            | Reply::Entries(_) => false,
-        }
+        matches!(self, Reply::Step(StepReply::Done { .. }))
     }
 
     /// A copy; its only error is out of memory.

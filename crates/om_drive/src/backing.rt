@@ -71,11 +71,13 @@ fn is_backed<L: Sitting>(rows: &Rows<'_, L>, answer: &Answer) -> bool
     ensures { IsTrue result
         → IsBacked (λ o. o.items) rows.now.seats.now rows.now.orders.now answer.now }
 {
-    match (&answer.reply, answer.place) {
-        (Ok(reply), Some(place)) => is_made(rows, answer.number, place, reply),
-        (Ok(_), None) => false,
-        (Err(_), _) => true,
-    }
+    let Ok(reply) = &answer.reply else {
+        return true;
+    };
+    let Some(place) = answer.place else {
+        return false;
+    };
+    is_made(rows, answer.number, place, reply)
 }
 
 /// Keeps the answers before the first without its receipt, and says whether these are all.

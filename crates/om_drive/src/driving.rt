@@ -267,10 +267,10 @@ impl<G: Drop> Ring<G> {
     fn next_gate(&mut self) -> Option<G>
         ensures { self.new.answers ≡ self.old.answers }
     {
-        match self.fault {
-            None => self.gates.pop(),
-            Some(_) => None,
+        if self.fault.is_some() {
+            return None;
         }
+        self.gates.pop()
     }
 
     /// Puts a worker's ends before the others.

@@ -68,9 +68,10 @@ fn await_one<R: Wait>(
         return Err(Fault::Strange);
     }
     match answers.push(answer) {
-        Ok(()) => Ok(()),
+        Ok(()) => {}
         Err(_) => unreachable!(),
     }
+    Ok(())
 }
 
 /// Takes the answer of an order, where there is one.
@@ -84,10 +85,10 @@ fn await_next<R: Wait>(
         ≡ map answer_number answers.old.items ++ listed order) }
     ensures err { OnErr result (answers.new.items ≡ answers.old.items) }
 {
-    match order {
-        None => Ok(()),
-        Some(order) => await_one(rt, receiver, order.number, answers),
-    }
+    let Some(order) = order else {
+        return Ok(());
+    };
+    await_one(rt, receiver, order.number, answers)
 }
 
 /// The order that a list has in a round.

@@ -144,10 +144,10 @@ impl<G: Gate + Drop, D: Debuggee + Drop> Runner<G, D> {
 
 /// The first of the tasks that are ready.
 fn first_name(reply: &Reply) -> Option<Name> {
-    match reply {
-        Reply::Ready(names) => names.as_slice().first().copied(),
-        _ => None,
-    }
+    let Reply::Ready(names) = reply else {
+        return None;
+    };
+    names.as_slice().first().copied()
 }
 
 /// Whether a step waits at a barrier or for tasks, so that another task may be begun there.

@@ -117,10 +117,10 @@ fn push_global(text: &mut Vec<u8>, program: &Program, cell: GlobalCell) -> Resul
 fn push_name(text: &mut Vec<u8>, program: &Program, global: u32) -> Result<(), AllocError>
     ensures { OnOk result (text.new.items ≡ text.old.items ++ name_of program.now global) }
 {
-    match program.globals().get(global as usize) {
-        Some(variable) => text.extend_from_slice(variable.name.as_slice()),
-        None => Ok(()),
-    }
+    let Some(variable) = program.globals().get(global as usize) else {
+        return Ok(());
+    };
+    text.extend_from_slice(variable.name.as_slice())
 }
 
 // The length of a global, where it is an array.
@@ -134,14 +134,12 @@ fn length_in(program: &Program, global: u32) -> Option<u32>
 fn push_index(text: &mut Vec<u8>, length: Option<u32>, index: u32) -> Result<(), AllocError>
     ensures { OnOk result (text.new.items ≡ text.old.items ++ index_text length index) }
 {
-    match length {
-        Some(_) => {
-            text.extend_from_slice(b"[")?;
-            push_number(text, index)?;
-            text.extend_from_slice(b"]")
-        }
-        None => Ok(()),
-    }
+    let Some(_) = length else {
+        return Ok(());
+    };
+    text.extend_from_slice(b"[")?;
+    push_number(text, index)?;
+    text.extend_from_slice(b"]")
 }
 
 // A critical region, `-` where it is the unnamed one.
@@ -150,10 +148,10 @@ fn push_lock(text: &mut Vec<u8>, program: &Program, lock: u32) -> Result<(), All
         (text.new.items ≡ text.old.items ++ object_text program.now (Obj.Lock lock)) }
 {
     text.extend_from_slice(b"lock ")?;
-    match program.raw().locks.as_slice().get(lock as usize) {
-        Some(name) => push_lock_name(text, name.as_slice()),
-        None => Ok(()),
-    }
+    let Some(name) = program.raw().locks.as_slice().get(lock as usize) else {
+        return Ok(());
+    };
+    push_lock_name(text, name.as_slice())
 }
 
 // The name of a critical region.

@@ -34,26 +34,22 @@ pub(crate) fn push_entry(
 pub(crate) fn push_fault(text: &mut Vec<u8>, fault: Option<Fault>) -> Result<(), AllocError>
     ensures { OnOk result (text.new.items ≡ text.old.items ++ fault_text fault) }
 {
-    match fault {
-        Some(fault) => {
-            text.extend_from_slice(b" fault F")?;
-            push_number(text, fault.number())
-        }
-        None => Ok(()),
-    }
+    let Some(fault) = fault else {
+        return Ok(());
+    };
+    text.extend_from_slice(b" fault F")?;
+    push_number(text, fault.number())
 }
 
 // The worker that holds the lock, or has to be idle.
 fn push_blocker(text: &mut Vec<u8>, why: Blocked) -> Result<(), AllocError>
     ensures { OnOk result (text.new.items ≡ text.old.items ++ blocker_text why) }
 {
-    match why {
-        Blocked::Critical(worker) | Blocked::Busy(worker) => {
-            text.extend_from_slice(b" by ")?;
-            push_number(text, worker)
-        }
-        _ => Ok(()),
-    }
+    let (Blocked::Critical(worker) | Blocked::Busy(worker)) = why else {
+        return Ok(());
+    };
+    text.extend_from_slice(b" by ")?;
+    push_number(text, worker)
 }
 
 /// Appends the reply to a step.

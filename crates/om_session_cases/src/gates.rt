@@ -55,10 +55,8 @@ impl<'a> Debuggee for Fake<'a> {
     }
 
     fn last_place(&self) -> Option<u64> {
-        match &self.made {
-            Some(receipt) => Some(receipt.place),
-            None => None,
-        }
+        let receipt = self.made.as_ref()?;
+        Some(receipt.place)
     }
 }
 

@@ -240,20 +240,17 @@ impl Debugger {
 fn is_quit(request: &Request) -> bool
     ensures { result ≡ is_quit request.now }
 {
-    match request {
-        Request::Command(command) => matches!(command, Command::Quit),
-        Request::Nothing | Request::Fault(_) => false,
-    }
+    matches!(request, Request::Command(Command::Quit))
 }
 
 // How many rounds a free run is asked for, where one is.
 fn rounds_asked(request: &Request) -> Option<u64>
     ensures { result ≡ rounds_asked request.now }
 {
-    match request {
-        Request::Command(command) => free_rounds(command),
-        Request::Nothing | Request::Fault(_) => None,
-    }
+    let Request::Command(command) = request else {
+        return None;
+    };
+    free_rounds(command)
 }
 
 fn free_rounds(command: &Command) -> Option<u64>

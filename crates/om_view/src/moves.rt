@@ -63,20 +63,14 @@ pub(crate) fn undo(
 pub(crate) fn is_done(reply: &StepReply) -> bool
     ensures { result ≡ is_done reply.now }
 {
-    match reply {
-        StepReply::Done { .. } => true,
-        StepReply::Blocked(_) | StepReply::Ended => false,
-    }
+    matches!(reply, StepReply::Done { .. })
 }
 
 // Whether a step was taken out.
 fn is_undone(reply: &UndoReply) -> bool
     ensures { result ≡ is_undone reply.now }
 {
-    match reply {
-        UndoReply::Undone { .. } => true,
-        UndoReply::Conflict { .. } | UndoReply::Nothing => false,
-    }
+    matches!(reply, UndoReply::Undone { .. })
 }
 
 // Whether a worker still is at the line.

@@ -18,17 +18,17 @@ use std::alloc::{AllocError, Global};
 fn fault_stop(reply: &StepReply, worker: u8) -> Option<Stop>
     ensures { result ≡ fault_stop reply.now worker }
 {
-    match reply {
-        StepReply::Done {
-            serial: _,
-            line: _,
-            fault: Some(fault),
-        } => Some(Stop::Fault {
-            fault: *fault,
-            worker,
-        }),
-        StepReply::Done { fault: None, .. } | StepReply::Blocked(_) | StepReply::Ended => None,
-    }
+    let StepReply::Done {
+        fault: Some(fault),
+        ..
+    } = reply
+    else {
+        return None;
+    };
+    Some(Stop::Fault {
+        fault: *fault,
+        worker,
+    })
 }
 
 // A worker that came from another line to one at which there is a break.

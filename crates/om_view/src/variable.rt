@@ -29,10 +29,8 @@ fn index_of(globals: &[GlobalVariable], name: &[u8]) -> Option<usize>
 fn global_named(program: &Program, name: &[u8]) -> Option<u32>
     ensures { result ≡ global_named program.now name.now }
 {
-    match index_of(program.globals(), name) {
-        Some(index) => Some(index as u32),
-        None => None,
-    }
+    let index = index_of(program.globals(), name)?;
+    Some(index as u32)
 }
 
 // How many cells a global variable has, where it is an array.

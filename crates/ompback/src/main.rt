@@ -47,10 +47,7 @@ fn session<R: Files + Input + Print + Threads + Wait + Sync>(
     let mut writer = io::writer(rt);
     let options = Options {
         workers: words.workers,
-        source: match &source {
-            Some(bytes) => Some(bytes.as_slice()),
-            None => None,
-        },
+        source: source.as_ref().map(|bytes| bytes.as_slice()),
     };
     let ended = run(rt, alloc, &mut reader, &mut writer, options)?;
     Ok(ended.into_status())
