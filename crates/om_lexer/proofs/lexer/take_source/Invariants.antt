@@ -7,7 +7,7 @@ abbrev pub invariant-loop-at : goal.invariant-loop-at
 invariant-loop-at l = record {
   inside : l.at ≤ length l.source;
   below : source_limit < length l.source → l.at < source_limit;
-  read : IsReadTo l.source l.tokens.items l.at l.line l.state l.macros;
+  read : IsReadTo l.source l.output.tokens.items l.at l.line l.state l.output.macros;
 }
 
 abbrev pub decreases-loop-at : goal.decreases-loop-at
