@@ -4,7 +4,7 @@ ghost use Rattle.std.specs.Prelude.{◌≡◌};
 ghost use Rattle.om_events.specs.Numbers.{endpoint_number, thread_number, status_number, work_number, sync_number, flag_number};
 
 /// Which end of a region a record stands for (`ompt_scope_endpoint_t`).
-#[derive(Clone, Copy)]
+#[derive(Clone, Copy, PartialEq, Eq)]
 pub enum Endpoint {
     Begin,
     End,
@@ -23,7 +23,7 @@ impl Endpoint {
 }
 
 /// What kind of thread begins (`ompt_thread_t`).
-#[derive(Clone, Copy)]
+#[derive(Clone, Copy, PartialEq, Eq)]
 pub enum Thread {
     /// The thread of the initial task.
     Initial,
@@ -43,7 +43,7 @@ impl Thread {
 }
 
 /// Why a thread leaves a task (`ompt_task_status_t`).
-#[derive(Clone, Copy)]
+#[derive(Clone, Copy, PartialEq, Eq)]
 pub enum TaskStatus {
     /// It is complete.
     Complete,
@@ -67,7 +67,7 @@ impl TaskStatus {
 }
 
 /// What kind of worksharing region is meant (`ompt_work_t`).
-#[derive(Clone, Copy)]
+#[derive(Clone, Copy, PartialEq, Eq)]
 pub enum Work {
     Loop,
     Sections,
@@ -92,7 +92,7 @@ impl Work {
 }
 
 /// What kind of synchronization region is meant (`ompt_sync_region_t`).
-#[derive(Clone, Copy)]
+#[derive(Clone, Copy, PartialEq, Eq)]
 pub enum Sync {
     /// A `barrier`.
     BarrierExplicit,
@@ -120,7 +120,7 @@ impl Sync {
 }
 
 /// What kind of task is meant (`ompt_task_flag_t`).
-#[derive(Clone, Copy)]
+#[derive(Clone, Copy, PartialEq, Eq)]
 pub enum TaskFlag {
     Initial,
     Implicit,

@@ -6,68 +6,37 @@ use om_events::kind::{Endpoint, Sync, TaskFlag, TaskStatus, Thread, Work};
 
 impl Same for Endpoint {
     fn is_same(&self, other: &Endpoint) -> bool {
-        match (self, other) {
-            (Endpoint::Begin, Endpoint::Begin) => true,
-            (Endpoint::End, Endpoint::End) => true,
-            _ => false,
-        }
+        self == other
     }
 }
 
 impl Same for Thread {
     fn is_same(&self, other: &Thread) -> bool {
-        match (self, other) {
-            (Thread::Initial, Thread::Initial) => true,
-            (Thread::Worker, Thread::Worker) => true,
-            _ => false,
-        }
+        self == other
     }
 }
 
 impl Same for TaskStatus {
     fn is_same(&self, other: &TaskStatus) -> bool {
-        match (self, other) {
-            (TaskStatus::Complete, TaskStatus::Complete) => true,
-            (TaskStatus::Yield, TaskStatus::Yield) => true,
-            (TaskStatus::Switch, TaskStatus::Switch) => true,
-            _ => false,
-        }
+        self == other
     }
 }
 
 impl Same for Work {
     fn is_same(&self, other: &Work) -> bool {
-        match (self, other) {
-            (Work::Loop, Work::Loop) => true,
-            (Work::Sections, Work::Sections) => true,
-            (Work::SingleExecutor, Work::SingleExecutor) => true,
-            (Work::SingleOther, Work::SingleOther) => true,
-            _ => false,
-        }
+        self == other
     }
 }
 
 impl Same for Sync {
     fn is_same(&self, other: &Sync) -> bool {
-        match (self, other) {
-            (Sync::BarrierExplicit, Sync::BarrierExplicit) => true,
-            (Sync::TaskWait, Sync::TaskWait) => true,
-            (Sync::TaskGroup, Sync::TaskGroup) => true,
-            (Sync::BarrierWorksharing, Sync::BarrierWorksharing) => true,
-            (Sync::BarrierParallel, Sync::BarrierParallel) => true,
-            _ => false,
-        }
+        self == other
     }
 }
 
 impl Same for TaskFlag {
     fn is_same(&self, other: &TaskFlag) -> bool {
-        match (self, other) {
-            (TaskFlag::Initial, TaskFlag::Initial) => true,
-            (TaskFlag::Implicit, TaskFlag::Implicit) => true,
-            (TaskFlag::Explicit, TaskFlag::Explicit) => true,
-            _ => false,
-        }
+        self == other
     }
 }
 
