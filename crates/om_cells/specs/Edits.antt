@@ -11,22 +11,27 @@ use Rattle.om_cells.specs.declared.control.Control.TheVariants.{Idle, Running, F
 use Rattle.om_cells.specs.declared.edit.Edit.{Edit}
 use Rattle.om_cells.specs.declared.edit.Outlook.{Outlook}
 use Rattle.om_cells.specs.declared.edit.Outlook.TheVariants.{Runs, Returns, Fails, Ends}
-use Rattle.om_cells.specs.declared.edit.Edit.TheVariants.{Go, BeginFrame, EndFrame, BeginContext, EndContext, Open, Close, Replace, CountBirth, CountRegion, CountPhase, Fail, End}
+use Rattle.om_cells.specs.declared.edit.Edit.TheVariants.{Go, BeginFrame, EndFrame, BeginContext, EndContext, Open,
+    Close, Replace, CountBirth, CountRegion, CountPhase, Fail, End}
 
 -- a frame at a place, with so many operands taken and then one pushed
 abbrev pub frame_at : ℕ → ℕ → Option Operand → Frame → Frame
-frame_at to takes pushed frame = record frame { next = to; operands = option_to_list pushed ++ drop takes frame.operands }
+frame_at to takes pushed frame = record frame { next = to; operands = option_to_list pushed
+    ++ drop takes frame.operands }
 
 abbrev pub context_at : ℕ → ℕ → Option Operand → Context → Context
 context_at to takes pushed context = record context { frame = frame_at to takes pushed context.frame }
 
 -- a context that has begun a frame of this body, for which the one before waits
 abbrev pub frame_begun : ℕ → List Home → Context → Context
-frame_begun body homes context = record context { frames = context.frames + 1; frame = record { body = body; next = 0; ordinal = context.frames; operands = []; homes = homes }; callers = context.frame ∷ context.callers }
+frame_begun body homes context = record context { frames = context.frames + 1; frame = record
+    { body = body; next = 0; ordinal = context.frames; operands = []; homes = homes }; callers = context.frame
+    ∷ context.callers }
 
 -- a context whose running frame has ended, with a value for the one that waits for it
 abbrev pub value_given : Operand → List Frame → Context → Context
-value_given value (frame ∷ callers) context = record context { frame = record frame { operands = value ∷ frame.operands }; callers = callers }
+value_given value (frame ∷ callers) context = record context
+    { frame = record frame { operands = value ∷ frame.operands }; callers = callers }
 value_given value [] context = context
 
 -- a stack on which a context has begun
@@ -45,7 +50,8 @@ in_constructs constructs stack = Running (record stack { top = record stack.top 
 -- the control after an edit of a stack that runs
 abbrev pub edited : Edit → Stack → Control
 edited (Go to takes pushed) stack = Running (record stack { top = context_at to takes pushed stack.top })
-edited (BeginFrame to takes body homes) stack = Running (record stack { top = frame_begun body homes (context_at to takes None stack.top) })
+edited (BeginFrame to takes body homes) stack = Running
+    (record stack { top = frame_begun body homes (context_at to takes None stack.top) })
 edited (EndFrame value) stack = Running (record stack { top = value_given value stack.top.callers stack.top })
 edited (BeginContext context) stack = Running (context_begun context stack)
 edited EndContext stack = context_ended stack.below

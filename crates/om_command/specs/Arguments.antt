@@ -1,5 +1,6 @@
 -- What words behind a command's own may be.
-use Rattle.std.specs.Prelude.{ℕ, ◌+◌, ◌*◌, ◌-◌, Bool, ◌&&◌, ◌==◌, nat_lt, nat_le, List, [], ◌∷◌, ◌++◌, if◌then◌else◌, length, take, drop, Option, None, Some, option_map, option_and_then, position, slice_index}
+use Rattle.std.specs.Prelude.{ℕ, ◌+◌, ◌*◌, ◌-◌, Bool, ◌&&◌, ◌==◌, nat_lt, nat_le, List, [], ◌∷◌, ◌++◌,
+    if◌then◌else◌, length, take, drop, Option, None, Some, option_map, option_and_then, position, slice_index}
 use Rattle.std.specs.List.{slice_split}
 use Rattle.om_foot.specs.Names.{name_of}
 use Rattle.om_command.specs.declared.command.Variable.{Variable}
@@ -84,8 +85,10 @@ one_count words = count_of (one_number words)
 
 -- exactly two words, of which the first is a worker
 abbrev pub behind_worker : {A : Type 0} → (ℕ → List ℕ → Option A) → ℕ → List (List ℕ) → Option A
-behind_worker read workers (first ∷ (second ∷ [])) = option_and_then (λ worker. read worker second) (worker_of workers first)
+behind_worker read workers (first ∷ (second ∷ [])) = option_and_then (λ worker. read worker second)
+    (worker_of workers first)
 behind_worker read workers _ = None
 
 abbrev pub worker_and_task : ℕ → List (List ℕ) → Option (ℕ × List ℕ)
-worker_and_task workers words = behind_worker (λ worker word. option_map (λ task. (worker, task)) (task_of word)) workers words
+worker_and_task workers words = behind_worker (λ worker word. option_map (λ task. (worker, task)) (task_of word))
+    workers words

@@ -7,7 +7,8 @@ use Rattle.om_command.specs.declared.command.Request.{Request}
 use Rattle.om_command.specs.declared.command.Request.TheVariants as request
 use Rattle.om_command.specs.declared.verb.Verb.{Verb}
 use Rattle.om_command.specs.declared.verb.Verb.TheVariants as verb
-use Rattle.om_command.specs.Arguments.{one_worker, one_number, one_count, one_variable, behind_worker, worker_and_task, variable_of}
+use Rattle.om_command.specs.Arguments.{one_worker, one_number, one_count, one_variable, behind_worker,
+    worker_and_task, variable_of}
 use Rattle.om_command.specs.Verbs.{verb_of}
 use Rattle.om_command.specs.Words.{words_of}
 
@@ -23,7 +24,8 @@ start_of workers words = option_map (λ (pair : ℕ × List ℕ). command.Start 
 -- `print VAR` or `print W VAR`
 abbrev pub print_of : ℕ → List (List ℕ) → Option Command
 print_of workers (first ∷ (second ∷ [])) =
-    behind_worker (λ worker word. option_map (λ variable. command.PrintLocal worker variable) (variable_of word)) workers (first ∷ (second ∷ []))
+    behind_worker (λ worker word. option_map (λ variable. command.PrintLocal worker variable) (variable_of word))
+        workers (first ∷ (second ∷ []))
 print_of workers words = option_map (λ variable. command.Print variable) (one_variable words)
 
 -- what a verb asks for with the words behind it, where they are what it takes
@@ -64,7 +66,8 @@ request_in workers (word ∷ words) = request_by (verb_of word) workers words
 
 -- a line of more than 1,024 bytes is a bad argument, whatever it holds
 unfoldable pub request_of : ℕ → List ℕ → Request
-request_of workers line = if nat_lt 1024 (length line) then request.Fault BadArgument else request_in workers (words_of line)
+request_of workers line = if nat_lt 1024 (length line) then request.Fault BadArgument else request_in workers
+    (words_of line)
 
 -- the worker of a command, where it has one, is one of those that there are
 abbrev pub HasWorkerBelow : ℕ → Command → Type 0

@@ -1,5 +1,6 @@
 -- Words that are appended one after the other.
-use Rattle.std.proofs.Common.{◌≡◌, ℕ, suc, ◌+◌, ◌<◌, List, [], ◌∷◌, ◌++◌, length, map, take, get_or, sym, ◌∙◌, ap, arith, append_assoc, append-nil, length-append, take-suc}
+use Rattle.std.proofs.Common.{◌≡◌, ℕ, suc, ◌+◌, ◌<◌, List, [], ◌∷◌, ◌++◌, length, map, take, get_or, sym, ◌∙◌, ap,
+    arith, append_assoc, append-nil, length-append, take-suc}
 use Rattle.std.specs.Prelude.{Result, Ok, Err, OnErr}
 use Rattle.std.proofs.lemmas.List.{take-take}
 use Rattle.std.proofs.Math.Seq.{take-append_seam}
@@ -34,7 +35,8 @@ next_word old now more ws k w l is h m =
     ∙ ap (λ s. old ++ s) (sym (text-next ws k w l is))
 
 -- what stood before still stands at the front, where what stood behind it stays at the front
-pub front_of : (old now added new : List ℕ) → now ≡ old ++ added → take (length now) new ≡ now → take (length old) new ≡ old
+pub front_of : (old now added new : List ℕ) → now ≡ old ++ added → take (length now) new ≡ now → take (length old)
+    new ≡ old
 front_of old now added new h front =
     sym (take-take (length old) (length now) new (omega (arith, length-append old added, ap length h)))
     ∙ ap (take (length old)) (front ∙ h)

@@ -57,7 +57,8 @@ pub IsApart-flip : (a b : Access) → IsApart a b → IsApart b a
 IsApart-flip a b h e = modes_conflict-flip b.mode a.mode ∙ h (sym e)
 
 -- each of the first is apart from b
-pub heads : (first : List Access) (b : Access) (bs : List Access) → AllApart first (b ∷ bs) → AllByRecursion (λ a. IsApart a b) first
+pub heads : (first : List Access) (b : Access) (bs : List Access) → AllApart first (b ∷ bs)
+    → AllByRecursion (λ a. IsApart a b) first
 heads [] b bs h = tt
 heads (a ∷ rest) b bs h = (h.0.0, heads rest b bs h.1)
 

@@ -1,5 +1,6 @@
 -- What `is_below` decides: matter of proofs, for whoever asks for descendants.
-use Rattle.std.proofs.Common.{◌≡◌, ℕ, suc, ◌<◌, List, ◌∷◌, ◌++◌, Bool, true, false, ◌&&◌, length, take, drop, get_or, refl, sym, ◌∙◌, ap, arith, ◌↔◌, IsTrue, nat_lt, nat_eq, length-append, take-append-drop}
+use Rattle.std.proofs.Common.{◌≡◌, ℕ, suc, ◌<◌, List, ◌∷◌, ◌++◌, Bool, true, false, ◌&&◌, length, take, drop,
+    get_or, refl, sym, ◌∙◌, ap, arith, ◌↔◌, IsTrue, nat_lt, nat_eq, length-append, take-append-drop}
 use Rattle.std.specs.Bool.{Decides}
 use Rattle.std.proofs.lemmas.Bool.Decides.{Decides-eqb, Decides-ltb}
 use Rattle.std.proofs.lemmas.Slice.Eq.{slice_eq-Decides}
@@ -24,7 +25,8 @@ below_to a b h =
     let front : take (length b) a ≡ b = (same_list (take (length b) a) b).0 two.1 in (
       get_or a (length b) 0,
       drop (suc (length b)) a,
-      sym (take-append-drop (length b) a) ∙ ap (λ r. take (length b) a ++ r) (drop-cons a (length b) 0 less) ∙ ap (λ t. t ++ get_or a (length b) 0 ∷ drop (suc (length b)) a) front,
+      sym (take-append-drop (length b) a) ∙ ap (λ r. take (length b) a ++ r) (drop-cons a (length b) 0 less)
+          ∙ ap (λ t. t ++ get_or a (length b) 0 ∷ drop (suc (length b)) a) front,
     )
 
 below_here : (b : List ℕ) (x : ℕ) (rest : List ℕ) → is_below (b ++ x ∷ rest) b ≡ true

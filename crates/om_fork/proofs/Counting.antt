@@ -1,5 +1,6 @@
 -- Lists and tests that count down: the first one, and what is left.
-use Rattle.std.proofs.Common.{◌≡◌, refl, sym, ◌∙◌, ap, ℕ, ℤ, pos, zero, suc, ◌+◌, ◌-◌, ◌<◌, arith, List, [], ◌∷◌, ◌++◌, false, if◌then◌else◌, Some, replicate, append_assoc, length, length-append, ◌≤◌}
+use Rattle.std.proofs.Common.{◌≡◌, refl, sym, ◌∙◌, ap, ℕ, ℤ, pos, zero, suc, ◌+◌, ◌-◌, ◌<◌, arith, List, [], ◌∷◌,
+    ◌++◌, false, if◌then◌else◌, Some, replicate, append_assoc, length, length-append, ◌≤◌}
 use Rattle.std.specs.Prelude.{nat_lt, unwrap_or}
 use Rattle.std.proofs.lemmas.Bool.Decides.{nat_tests}
 use Rattle.om_foot.specs.declared.object.Obj.TheVariants as obj
@@ -21,21 +22,32 @@ use Rattle.om_fork.specs.Teams.{workers_from, first_busy, busy_in, member, membe
 one_less : (n size : ℕ) → n < size → size - n ≡ suc (size - (n + 1))
 one_less n size h = omega arith
 
-pub open_in_next : (s : State) (team : List ℕ) (phase n size : ℕ) → n < size → open_in s team phase n (size - n) ≡ (if nat_lt phase (number_in (s (obj.Arrived team n))) then open_in s team phase (n + 1) (size - (n + 1)) else false)
+pub open_in_next : (s : State) (team : List ℕ) (phase n size : ℕ) → n < size → open_in s team phase n (size - n)
+    ≡ (if nat_lt phase (number_in (s (obj.Arrived team n))) then open_in s team phase (n + 1) (size - (n + 1)) else
+    false)
 open_in_next s team phase n size h = ap (open_in s team phase n) (one_less n size h)
 
-open_from : (s : State) (team : List ℕ) (phase n k : ℕ) (more : List Access) → is_open phase k (values_read (arrivals team n k ++ read (obj.Pending team phase) ∷ more) s) ≡ open_in s team phase n k
+open_from : (s : State) (team : List ℕ) (phase n k : ℕ) (more : List Access) → is_open phase k
+    (values_read (arrivals team n k ++ read (obj.Pending team phase) ∷ more) s) ≡ open_in s team phase n k
 open_from s team phase n zero more = refl
-open_from s team phase n (suc k) more = ap (λ b. if nat_lt phase (number_in (s (obj.Arrived team n))) then b else false) (open_from s team phase (n + 1) k more)
+open_from s team phase n (suc k) more = ap (λ b. if nat_lt phase (number_in (s (obj.Arrived team n))) then b else
+    false) (open_from s team phase (n + 1) k more)
 
 -- what is read at a barrier says whether it is open
-pub barrier_read : (s : State) (team : Team) (phase : ℕ) (more : List Access) → is_open phase team.size (values_read (barrier team phase ++ more) s) ≡ open_in s team.name phase 0 team.size
-barrier_read s team phase more = ap (λ names. is_open phase team.size (values_read names s)) (append_assoc (arrivals team.name 0 team.size) (read (obj.Pending team.name phase) ∷ []) more) ∙ open_from s team.name phase 0 team.size more
+pub barrier_read : (s : State) (team : Team) (phase : ℕ) (more : List Access) → is_open phase team.size
+    (values_read (barrier team phase ++ more) s) ≡ open_in s team.name phase 0 team.size
+barrier_read s team phase more = ap (λ names. is_open phase team.size (values_read names s))
+    (append_assoc (arrivals team.name 0 team.size) (read (obj.Pending team.name phase) ∷ []) more)
+    ∙ open_from s team.name phase 0 team.size more
 
-pub arrivals_past : (names : List Access) (team : List ℕ) (n size : ℕ) → n < size → (names ++ read (obj.Arrived team n) ∷ []) ++ arrivals team (n + 1) (size - (n + 1)) ≡ names ++ arrivals team n (size - n)
-arrivals_past names team n size h = append_assoc names _ _ ∙ ap (λ k. names ++ arrivals team n k) (sym (one_less n size h))
+pub arrivals_past : (names : List Access) (team : List ℕ) (n size : ℕ) → n < size
+    → (names ++ read (obj.Arrived team n) ∷ []) ++ arrivals team (n + 1) (size - (n + 1)) ≡ names ++ arrivals team n
+    (size - n)
+arrivals_past names team n size h = append_assoc names _ _ ∙ ap (λ k. names ++ arrivals team n k)
+    (sym (one_less n size h))
 
-pub replicate_past : (us : List Update) (u : Update) (n size : ℕ) → n < size → (us ++ u ∷ []) ++ replicate (size - (n + 1)) u ≡ us ++ replicate (size - n) u
+pub replicate_past : (us : List Update) (u : Update) (n size : ℕ) → n < size → (us ++ u ∷ [])
+    ++ replicate (size - (n + 1)) u ≡ us ++ replicate (size - n) u
 replicate_past us u n size h = append_assoc us _ _ ∙ ap (λ k. us ++ replicate k u) (sym (one_less n size h))
 
 -- the count that a value is
@@ -52,32 +64,46 @@ count_read (value.Events records) = refl
 pub regrouped : (a b : List Access) (e : Access) → (a ++ b) ++ e ∷ [] ≡ a ++ (b ++ e ∷ [])
 regrouped a b e = append_assoc a b (e ∷ [])
 
-pub workers_past : (names : List Access) (n size : ℕ) → n < size → (names ++ write (obj.Control n) ∷ []) ++ workers_from (n + 1) (size - (n + 1)) ≡ names ++ workers_from n (size - n)
+pub workers_past : (names : List Access) (n size : ℕ) → n < size → (names ++ write (obj.Control n) ∷ [])
+    ++ workers_from (n + 1) (size - (n + 1)) ≡ names ++ workers_from n (size - n)
 workers_past names n size h = append_assoc names _ _ ∙ ap (λ k. names ++ workers_from n k) (sym (one_less n size h))
 
-pub members_past : (names : List Access) (team given : List ℕ) (n size : ℕ) → n < size → (names ++ given_cells (team ++ n ∷ []) 0 given) ++ member_cells team given (n + 1) (size - (n + 1)) ≡ names ++ member_cells team given n (size - n)
-members_past names team given n size h = append_assoc names _ _ ∙ ap (λ k. names ++ member_cells team given n k) (sym (one_less n size h))
+pub members_past : (names : List Access) (team given : List ℕ) (n size : ℕ) → n < size
+    → (names ++ given_cells (team ++ n ∷ []) 0 given) ++ member_cells team given (n + 1) (size - (n + 1)) ≡ names
+    ++ member_cells team given n (size - n)
+members_past names team given n size h = append_assoc names _ _ ∙ ap (λ k. names ++ member_cells team given n k)
+    (sym (one_less n size h))
 
-pub controls_past : (us : List Update) (team : Team) (frame : Frame) (n : ℕ) → n < team.size → (us ++ Put (value.Control (control.Running (record { top = member (record team { number = n }) frame; below = [] }))) ∷ []) ++ member_controls team frame (n + 1) (team.size - (n + 1)) ≡ us ++ member_controls team frame n (team.size - n)
-controls_past us team frame n h = append_assoc us _ _ ∙ ap (λ k. us ++ member_controls team frame n k) (sym (one_less n team.size h))
+pub controls_past : (us : List Update) (team : Team) (frame : Frame) (n : ℕ) → n < team.size
+    → (us ++ Put (value.Control
+    (control.Running (record { top = member (record team { number = n }) frame; below = [] }))) ∷ [])
+    ++ member_controls team frame (n + 1) (team.size - (n + 1)) ≡ us ++ member_controls team frame n (team.size - n)
+controls_past us team frame n h = append_assoc us _ _ ∙ ap (λ k. us ++ member_controls team frame n k)
+    (sym (one_less n team.size h))
 
-pub given_past : (us : List Update) (ns : List ℤ) (n size : ℕ) → n < size → (us ++ puts ns) ++ member_puts ns (size - (n + 1)) ≡ us ++ member_puts ns (size - n)
+pub given_past : (us : List Update) (ns : List ℤ) (n size : ℕ) → n < size → (us ++ puts ns) ++ member_puts ns
+    (size - (n + 1)) ≡ us ++ member_puts ns (size - n)
 given_past us ns n size h = append_assoc us _ _ ∙ ap (λ k. us ++ member_puts ns k) (sym (one_less n size h))
 
-pub busy_in_next : (s : State) (n size : ℕ) → n < size → busy_in s n (size - n) ≡ (if is_idle (control_in (s (obj.Control n))) then busy_in s (n + 1) (size - (n + 1)) else Some n)
+pub busy_in_next : (s : State) (n size : ℕ) → n < size → busy_in s n (size - n)
+    ≡ (if is_idle (control_in (s (obj.Control n))) then busy_in s (n + 1) (size - (n + 1)) else Some n)
 busy_in_next s n size h = ap (busy_in s n) (one_less n size h)
 
-busy_from : (s : State) (n k : ℕ) (more : List Access) → first_busy n k (values_read (workers_from n k ++ more) s) ≡ busy_in s n k
+busy_from : (s : State) (n k : ℕ) (more : List Access) → first_busy n k (values_read (workers_from n k ++ more) s)
+    ≡ busy_in s n k
 busy_from s n zero more = refl
-busy_from s n (suc k) more = ap (λ o. if is_idle (control_in (s (obj.Control n))) then o else Some n) (busy_from s (n + 1) k more)
+busy_from s n (suc k) more = ap (λ o. if is_idle (control_in (s (obj.Control n))) then o else Some n)
+    (busy_from s (n + 1) k more)
 
 -- what is read of the workers says which is busy
-pub busy_read : (s : State) (k : ℕ) (more : List Access) → first_busy 1 k (values_read (workers_from 1 k ++ more) s) ≡ busy_in s 1 k
+pub busy_read : (s : State) (k : ℕ) (more : List Access) → first_busy 1 k (values_read (workers_from 1 k ++ more) s)
+    ≡ busy_in s 1 k
 busy_read s k more = busy_from s 1 k more
 
 -- a name with room has children
 pub has_child : (xs : List ℕ) (n : ℕ) → length xs ≤ 63 → name_of (xs ++ n ∷ []) ≡ Some (xs ++ n ∷ [])
-has_child xs n h = let few : length (xs ++ n ∷ []) ≤ 64 = omega (arith, length-append xs (n ∷ [])) in grind (arith, nat_tests, few)
+has_child xs n h = let few : length (xs ++ n ∷ []) ≤ 64 = omega (arith, length-append xs (n ∷ [])) in grind
+    (arith, nat_tests, few)
 
 pub regrouped_updates : (a b : List Update) (u : Update) → (a ++ b) ++ u ∷ [] ≡ a ++ (b ++ u ∷ [])
 regrouped_updates a b u = append_assoc a b (u ∷ [])

@@ -1,5 +1,6 @@
 -- Barriers: how far each member came, and the tasks of the phase (OpenMP 5.2, 15.3).
-use Rattle.std.specs.Prelude.{ℕ, zero, suc, ◌+◌, ℤ, pos, negsuc, Bool, true, false, nat_lt, if◌then◌else◌, List, [], ◌∷◌, ◌++◌}
+use Rattle.std.specs.Prelude.{ℕ, zero, suc, ◌+◌, ℤ, pos, negsuc, Bool, true, false, nat_lt, if◌then◌else◌, List, [],
+    ◌∷◌, ◌++◌}
 use Rattle.om_foot.specs.declared.object.Obj.TheVariants as obj
 use Rattle.om_foot.specs.declared.footprint.Access.{Access}
 use Rattle.om_cells.specs.declared.control.Team.{Team}
@@ -31,4 +32,5 @@ is_open phase (suc size) (v ∷ rest) = if nat_lt phase (number_in v) then is_op
 -- the same by a state, for the members from this thread number on
 abbrev pub open_in : State → List ℕ → ℕ → ℕ → ℕ → Bool
 open_in s team phase number zero = is_zero (count_in (s (obj.Pending team phase)))
-open_in s team phase number (suc count) = if nat_lt phase (number_in (s (obj.Arrived team number))) then open_in s team phase (number + 1) count else false
+open_in s team phase number (suc count) = if nat_lt phase (number_in (s (obj.Arrived team number))) then open_in s
+    team phase (number + 1) count else false

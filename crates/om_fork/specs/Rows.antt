@@ -1,5 +1,6 @@
 -- The rows of parallel regions and barriers.
-use Rattle.std.specs.Prelude.{ℕ, zero, suc, ◌+◌, ◌-◌, ℤ, pos, negsuc, Bool, true, false, nat_lt, if◌then◌else◌, Option, None, Some, List, [], ◌∷◌, ◌++◌, length, replicate}
+use Rattle.std.specs.Prelude.{ℕ, zero, suc, ◌+◌, ◌-◌, ℤ, pos, negsuc, Bool, true, false, nat_lt, if◌then◌else◌,
+    Option, None, Some, List, [], ◌∷◌, ◌++◌, length, replicate}
 use Rattle.om_foot.specs.declared.footprint.Access.{Access}
 use Rattle.om_foot.specs.declared.object.Obj.TheVariants as obj
 use Rattle.om_code.specs.declared.frame.Fault.TheVariants as fault
@@ -30,36 +31,44 @@ use Rattle.om_row.specs.declared.row.Row.TheVariants.{Goes, Faults, Blocked, Lac
 use Rattle.om_row.specs.Rows.{Asked, decided, goes}
 use Rattle.om_row.specs.Objects.{write, events, event, homes_in, own_cells, deaths, is_misplaced}
 use Rattle.om_fork.specs.Barriers.{barrier, is_open}
-use Rattle.om_fork.specs.Teams.{first_frame, member, member_cells, member_controls, member_puts, workers_from, first_busy, size_of, level_of}
+use Rattle.om_fork.specs.Teams.{first_frame, member, member_cells, member_controls, member_puts, workers_from,
+    first_busy, size_of, level_of}
 
--- what is put where a team is made: the controls of its other members, the firstprivate values, and the begin of the region
+-- what is put where a team is made: the controls of its other members, the firstprivate values, and the begin
+-- of the region
 abbrev pub team_updates : List ℕ → Team → Frame → List ℤ → List Update
-team_updates task team frame ns = member_controls team frame 1 (team.size - 1) ++ (member_puts ns team.size ++ event (event_record.ParallelBegin task team.name team.size) ∷ [])
+team_updates task team frame ns = member_controls team frame 1 (team.size - 1)
+    ++ (member_puts ns team.size ++ event (event_record.ParallelBegin task team.name team.size) ∷ [])
 
 -- a team that is made, unless a worker that it needs is busy
 abbrev pub forked : Launch → List ℕ → Team → Frame → List ℤ → Option ℕ → Row
 forked launch task team frame ns (Some worker) = Blocked (blocked.Busy worker)
-forked launch task team frame ns None = Goes (Go launch.to launch.takes None ∷ CountBirth ∷ BeginContext (member team frame) ∷ []) (team_updates task team frame ns)
+forked launch task team frame ns None = Goes (Go launch.to launch.takes None ∷ CountBirth
+    ∷ BeginContext (member team frame) ∷ []) (team_updates task team frame ns)
 
 -- the team of this name and size, which the context's task makes on a body
 abbrev pub team_row : ℕ → Launch → Body → Context → Team → List ℤ → Asked
 team_row worker launch body c team ns = record {
   names = workers_from 1 (team.size - 1) ++ (member_cells team.name body.given 0 team.size ++ events worker ∷ []);
-  row = λ values. forked launch c.task team (first_frame launch.body (homes_in c body.slots)) ns (first_busy 1 (team.size - 1) values);
+  row = λ values. forked launch c.task team (first_frame launch.body (homes_in c body.slots)) ns
+      (first_busy 1 (team.size - 1) values);
 }
 
 abbrev pub team_of : ℕ → Context → Option ℕ → Team
-team_of workers c asked = let size = size_of workers c.team.level asked in record { name = c.task ++ (c.births + 1) ∷ []; number = 0; size = size; level = level_of size c.team.level }
+team_of workers c asked = let size = size_of workers c.team.level asked in record { name = c.task ++ (c.births + 1)
+    ∷ []; number = 0; size = size; level = level_of size c.team.level }
 
 -- where the names of the team and of its members would have more than 64 numbers, that is the fault
 abbrev pub named_row : ℕ → ℕ → Launch → Body → Context → Option ℕ → List ℤ → Asked
-named_row worker workers launch body c asked ns = if nat_lt 62 (length c.task) then decided (Faults fault.Name) else team_row worker launch body c (team_of workers c asked) ns
+named_row worker workers launch body c asked ns = if nat_lt 62 (length c.task) then decided (Faults fault.Name) else
+    team_row worker launch body c (team_of workers c asked) ns
 
 -- OpenMP 5.2, 10.1.2: the number of threads that is asked for is positive
 abbrev pub sized_row : ℕ → ℕ → Launch → Body → Context → Option ℤ → List ℤ → Asked
 sized_row worker workers launch body c None ns = decided Lacks
 sized_row worker workers launch body c (Some (pos zero)) ns = decided (Faults fault.Size)
-sized_row worker workers launch body c (Some (pos (suc n))) ns = named_row worker workers launch body c (Some (suc n)) ns
+sized_row worker workers launch body c (Some (pos (suc n))) ns = named_row worker workers launch body c
+    (Some (suc n)) ns
 sized_row worker workers launch body c (Some (negsuc n)) ns = decided (Faults fault.Size)
 
 -- OpenMP 5.2, 10.1: a team is made, with the firstprivate values; the size asked for, if any, lies below them
@@ -70,7 +79,8 @@ fork_row worker workers launch body c true size (Some ns) = sized_row worker wor
 
 -- OMPT's callback for implicit tasks: a member begins
 abbrev pub begin_row : ℕ → ℕ → Context → Asked
-begin_row worker to c = record { names = events worker ∷ []; row = λ _. goes to 0 None (event (event_record.ImplicitTask endpoint.Begin c.team.name c.task c.team.size c.team.number flag.Implicit) ∷ []) }
+begin_row worker to c = record { names = events worker ∷ []; row = λ _. goes to 0 None
+    (event (event_record.ImplicitTask endpoint.Begin c.team.name c.task c.team.size c.team.number flag.Implicit) ∷ []) }
 
 -- the kind of synchronization that a barrier is
 abbrev pub sync_of : barriers.Barrier → syncs.Sync
@@ -87,7 +97,8 @@ team_at_end barrier_kind.Parallel team = []
 abbrev pub reached_row : ℕ → ℕ → barriers.Barrier → Context → Asked
 reached_row worker to b c = record {
   names = write (obj.Arrived c.team.name c.team.number) ∷ events worker ∷ [];
-  row = λ _. goes to 0 None (Put (value.Number (c.phase + 1)) ∷ event (event_record.SyncRegion (sync_of b) endpoint.Begin c.team.name c.task) ∷ []);
+  row = λ _. goes to 0 None (Put (value.Number (c.phase + 1))
+      ∷ event (event_record.SyncRegion (sync_of b) endpoint.Begin c.team.name c.task) ∷ []);
 }
 
 -- OpenMP 5.2, 17.1: whether a barrier may not be met in a context; the barriers at the ends of regions may
@@ -98,7 +109,8 @@ is_misplaced_barrier barrier_kind.Parallel c = false
 
 -- OpenMP 5.2, 15.3: a member reaches a barrier
 abbrev pub arrive_row : ℕ → ℕ → barriers.Barrier → Context → Asked
-arrive_row worker to b c = if is_misplaced_barrier b c then decided (Faults fault.Nesting) else reached_row worker to b c
+arrive_row worker to b c = if is_misplaced_barrier b c then decided (Faults fault.Nesting) else reached_row worker
+    to b c
 
 -- what is left where a member reads how far the others came
 abbrev pub kept : ℕ → List Update
@@ -107,11 +119,13 @@ kept size = replicate (size + 1) Keep
 -- a member at a barrier that is open or not
 abbrev pub departed : ℕ → barriers.Barrier → Context → Bool → Row
 departed to b c false = Blocked blocked.Barrier
-departed to b c true = Goes (Go to 0 None ∷ CountPhase ∷ []) (kept c.team.size ++ event (event_record.SyncRegion (sync_of b) endpoint.End (team_at_end b c.team.name) c.task) ∷ [])
+departed to b c true = Goes (Go to 0 None ∷ CountPhase ∷ []) (kept c.team.size
+    ++ event (event_record.SyncRegion (sync_of b) endpoint.End (team_at_end b c.team.name) c.task) ∷ [])
 
 -- it goes on once all members have reached it and the phase's tasks are done
 abbrev pub depart_row : ℕ → ℕ → barriers.Barrier → Context → Asked
-depart_row worker to b c = record { names = barrier c.team c.phase ++ events worker ∷ []; row = λ values. departed to b c (is_open c.phase c.team.size values) }
+depart_row worker to b c = record { names = barrier c.team c.phase ++ events worker ∷ []; row = λ values. departed
+    to b c (is_open c.phase c.team.size values) }
 
 -- number 0 records the end of the region, for the task that made it
 abbrev pub region_end : List ℕ → ℕ → List Context → List Record
@@ -120,15 +134,19 @@ region_end team number below = []
 
 -- what a member's end records: that of the barrier, of its task, and of the region
 abbrev pub left_records : Context → List Context → List Record
-left_records c below = event_record.SyncRegion sync.BarrierParallel endpoint.End [] c.task ∷ event_record.ImplicitTask endpoint.End [] c.task 0 c.team.number flag.Implicit ∷ region_end c.team.name c.team.number below
+left_records c below = event_record.SyncRegion sync.BarrierParallel endpoint.End [] c.task
+    ∷ event_record.ImplicitTask endpoint.End [] c.task 0 c.team.number flag.Implicit ∷ region_end c.team.name
+    c.team.number below
 
 -- a member's task ends at the open barrier of its region, and its own cells die
 abbrev pub left : Context → List Context → List Access → Bool → Row
 left c below own false = Blocked blocked.Barrier
-left c below own true = Goes (EndContext ∷ []) (kept c.team.size ++ (deaths own ++ Append (Events (left_records c below)) ∷ []))
+left c below own true = Goes (EndContext ∷ []) (kept c.team.size
+    ++ (deaths own ++ Append (Events (left_records c below)) ∷ []))
 
 abbrev pub left_row : ℕ → Context → List Context → List Access → Asked
-left_row worker c below own = record { names = barrier c.team c.phase ++ (own ++ events worker ∷ []); row = λ values. left c below own (is_open c.phase c.team.size values) }
+left_row worker c below own = record { names = barrier c.team c.phase ++ (own ++ events worker ∷ []); row =
+    λ values. left c below own (is_open c.phase c.team.size values) }
 
 -- the end of a member's task: number 0 goes on with the context that made the team, the others are idle
 abbrev pub leave_row : ℕ → Context → List Context → List Slot → Kind → ℕ → Asked

@@ -22,7 +22,8 @@ first_frame body homes = record { body = body; next = 0; ordinal = 0; operands =
 
 -- a member of a team, at the start of its region's body
 abbrev pub member : Team → Frame → Context
-member team frame = record { task = team.name ++ team.number ∷ []; kind = kind.Implicit; team = team; phase = 0; births = 0; regions = 0; frames = 1; group = None; constructs = []; frame = frame; callers = [] }
+member team frame = record { task = team.name ++ team.number ∷ []; kind = kind.Implicit; team = team; phase =
+    0; births = 0; regions = 0; frames = 1; group = None; constructs = []; frame = frame; callers = [] }
 
 -- the controls of workers, from this one on
 abbrev pub workers_from : ℕ → ℕ → List Access
@@ -33,22 +34,27 @@ workers_from worker (suc count) = write (obj.Control worker) ∷ workers_from (w
 abbrev pub first_busy : ℕ → ℕ → List Val → Option ℕ
 first_busy worker zero values = None
 first_busy worker (suc count) [] = None
-first_busy worker (suc count) (v ∷ rest) = if is_idle (control_in v) then first_busy (worker + 1) count rest else Some worker
+first_busy worker (suc count) (v ∷ rest) = if is_idle (control_in v) then first_busy (worker + 1) count rest else
+    Some worker
 
 -- the same by a state
 abbrev pub busy_in : State → ℕ → ℕ → Option ℕ
 busy_in s worker zero = None
-busy_in s worker (suc count) = if is_idle (control_in (s (obj.Control worker))) then busy_in s (worker + 1) count else Some worker
+busy_in s worker (suc count) = if is_idle (control_in (s (obj.Control worker))) then busy_in s (worker + 1) count
+    else Some worker
 
 -- the controls that the members from this thread number on become: member i of the team is worker i
 abbrev pub member_controls : Team → Frame → ℕ → ℕ → List Update
 member_controls team frame number zero = []
-member_controls team frame number (suc count) = Put (value.Control (control.Running (record { top = member (record team { number = number }) frame; below = [] }))) ∷ member_controls team frame (number + 1) count
+member_controls team frame number (suc count) =
+    Put (value.Control (control.Running (record { top = member (record team { number = number }) frame; below =
+    [] }))) ∷ member_controls team frame (number + 1) count
 
 -- the cells of the members' firstprivate copies, and the values put there
 abbrev pub member_cells : List ℕ → List ℕ → ℕ → ℕ → List Access
 member_cells team given number zero = []
-member_cells team given number (suc count) = given_cells (team ++ number ∷ []) 0 given ++ member_cells team given (number + 1) count
+member_cells team given number (suc count) = given_cells (team ++ number ∷ []) 0 given ++ member_cells team given
+    (number + 1) count
 
 abbrev pub member_puts : List ℤ → ℕ → List Update
 member_puts ns zero = []

@@ -1,6 +1,9 @@
 -- With which bytes tokens begin.
-use Rattle.std.proofs.Common.{◌≡◌, ℕ, ◌-◌, ◌<◌, ◌⊎◌, min, Bool, true, false, not, ◌||◌, ◌==◌, ltb, List, length, take, drop, get_or, arith, refl, ap, subst, ◌∙◌, ⊎_elim, inl, inr, add-zero, length-take, get_or-take, get_or-drop, slice_index, slice_range}
-use Rattle.std.proofs.lemmas.Bool.{both_ways, or_cases, or_left, eqb-true, ltb-true, not-true, not_from_true, false_from_ne_true}
+use Rattle.std.proofs.Common.{◌≡◌, ℕ, ◌-◌, ◌<◌, ◌⊎◌, min, Bool, true, false, not, ◌||◌, ◌==◌, ltb, List, length,
+    take, drop, get_or, arith, refl, ap, subst, ◌∙◌, ⊎_elim, inl, inr, add-zero, length-take, get_or-take,
+    get_or-drop, slice_index, slice_range}
+use Rattle.std.proofs.lemmas.Bool.{both_ways, or_cases, or_left, eqb-true, ltb-true, not-true, not_from_true,
+    false_from_ne_true}
 use Rattle.std.specs.Char.{is_ascii_digit}
 use Rattle.om_lexer.specs.declared.token.Keyword.{Keyword}
 use Rattle.om_lexer.specs.declared.token.Punctuator.{Punctuator}
@@ -29,10 +32,12 @@ refuted : (test : ℕ → Bool) (b n : ℕ) → test n ≡ false → test b ≡ 
 refuted test b n fails passes same = both_ways (test b) (ap test same ∙ fails) passes
 
 -- what passes a test that those bytes fail is apart from them
-apart_from_test : (test : ℕ → Bool) (b : ℕ) → test 10 ≡ false → test 32 ≡ false → test 9 ≡ false → test 13 ≡ false → test 92 ≡ false → test 35 ≡ false → test 34 ≡ false → test b ≡ true → IsApart b
+apart_from_test : (test : ℕ → Bool) (b : ℕ) → test 10 ≡ false → test 32 ≡ false → test 9 ≡ false → test 13 ≡ false
+    → test 92 ≡ false → test 35 ≡ false → test 34 ≡ false → test b ≡ true → IsApart b
 apart_from_test test b line_feed space tab return backslash hash quote passes = record {
   no_line_feed = refuted test b 10 line_feed passes;
-  no_blank = λ blank. ⊎_elim (⊎_elim (refuted test b 32 space passes) (refuted test b 9 tab passes)) (refuted test b 13 return passes) (blank_cases b blank);
+  no_blank = λ blank. ⊎_elim (⊎_elim (refuted test b 32 space passes) (refuted test b 9 tab passes))
+      (refuted test b 13 return passes) (blank_cases b blank);
   no_backslash = refuted test b 92 backslash passes;
   no_hash = refuted test b 35 hash passes;
   no_quote = refuted test b 34 quote passes;
@@ -61,18 +66,23 @@ other_apart b = apart_from_test is_other b refl refl refl refl refl refl refl
 
 other_no_word : (b : ℕ) → is_other b ≡ true → is_word_byte b ≡ false
 unfolding is_other
-other_no_word b other = false_from_ne_true _ (λ word. both_ways (is_other b) (not_from_true _ (or_left _ _ (or_left _ _ (or_left _ _ (or_left _ _ (or_left _ _ word)))))) other)
+other_no_word b other = false_from_ne_true _
+    (λ word. both_ways (is_other b)
+    (not_from_true _ (or_left _ _ (or_left _ _ (or_left _ _ (or_left _ _ (or_left _ _ word)))))) other)
 
 pub punctuator_long : (p : Punctuator) → 0 < length (punctuator_text p)
 unfolding all_punctuators
 punctuator_long p = ltb-true 0 _ (punctuators_pass (λ p. ltb 0 (length (punctuator_text p))) refl p)
 
 -- the first byte of a slice that has one
-pub first_of_slice : (source : List ℕ) (from to : ℕ) → 0 < length (slice_range source from to) → slice_index (slice_range source from to) 0 ≡ slice_index source from
+pub first_of_slice : (source : List ℕ) (from to : ℕ) → 0 < length (slice_range source from to)
+    → slice_index (slice_range source from to) 0 ≡ slice_index source from
 first_of_slice source from to some =
-    let long : length (take (to - from) (drop from source)) ≡ min (to - from) (length (drop from source)) = length-take (to - from) (drop from source) in
+    let long : length (take (to - from) (drop from source)) ≡ min (to - from) (length (drop from source)) =
+        length-take (to - from) (drop from source) in
     let positive : 0 < to - from = omega (arith, long, some) in
-    get_or-take (to - from) (drop from source) 0 0 positive ∙ get_or-drop from source 0 0 ∙ ap (λ k. get_or source k 0) (add-zero from)
+    get_or-take (to - from) (drop from source) 0 0 positive ∙ get_or-drop from source 0 0
+        ∙ ap (λ k. get_or source k 0) (add-zero from)
 
 -- what could be a token has a byte, and its first byte is apart
 pub could_be_some : (text : List ℕ) → CouldBeToken text → 0 < length text
@@ -83,11 +93,14 @@ could_be_apart : (text : List ℕ) → CouldBeToken text → IsApart (slice_inde
 could_be_apart text (inl word) = word_apart _ (word.word_bytes 0 0 word.some)
 could_be_apart text (inr p) = other_apart _ (ap (λ t. is_other (slice_index t 0)) p.1 ∙ punctuator_other p.0)
 
-pub token_apart : (source : List ℕ) (from to : ℕ) → CouldBeToken (slice_range source from to) → IsApart (slice_index source from)
-token_apart source from to could_be = subst IsApart (first_of_slice source from to (could_be_some _ could_be)) (could_be_apart _ could_be)
+pub token_apart : (source : List ℕ) (from to : ℕ) → CouldBeToken (slice_range source from to)
+    → IsApart (slice_index source from)
+token_apart source from to could_be = subst IsApart (first_of_slice source from to (could_be_some _ could_be))
+    (could_be_apart _ could_be)
 
 -- a punctuator begins with no byte of a word
-pub punctuator_no_word : (text : List ℕ) (p : Punctuator) → text ≡ punctuator_text p → is_word_byte (slice_index text 0) ≡ false
+pub punctuator_no_word : (text : List ℕ) (p : Punctuator) → text ≡ punctuator_text p
+    → is_word_byte (slice_index text 0) ≡ false
 punctuator_no_word text p same = other_no_word _ (ap (λ t. is_other (slice_index t 0)) same ∙ punctuator_other p)
 
 -- a text that could be a token and begins with a byte of a word is a word
@@ -96,7 +109,8 @@ word_from_first text (inl word) first = word
 word_from_first text (inr p) first = absurd (both_ways _ (punctuator_no_word text p.0 p.1) first)
 
 -- .. and else a punctuator
-pub punctuator_from_first : (text : List ℕ) → CouldBeToken text → is_word_byte (slice_index text 0) ≡ false → (p : Punctuator) × (text ≡ punctuator_text p)
+pub punctuator_from_first : (text : List ℕ) → CouldBeToken text → is_word_byte (slice_index text 0) ≡ false
+    → (p : Punctuator) × (text ≡ punctuator_text p)
 punctuator_from_first text (inl word) first = absurd (both_ways _ first (word.word_bytes 0 0 word.some))
 punctuator_from_first text (inr p) first = p
 

@@ -1,5 +1,6 @@
 -- A text spells one token at most, and one piece at most stands at a byte.
-use Rattle.std.proofs.Common.{◌≡◌, ℕ, ◌<◌, true, false, List, Some, arith, refl, sym, ap, subst, ◌∙◌, ⊎_elim, slice_index, slice_range}
+use Rattle.std.proofs.Common.{◌≡◌, ℕ, ◌<◌, true, false, List, Some, arith, refl, sym, ap, subst, ◌∙◌, ⊎_elim,
+    slice_index, slice_range}
 use Rattle.std.proofs.lemmas.Bool.{both_ways, or_left}
 use Rattle.std.specs.List.{find}
 use Rattle.std.specs.Str.{bytes_eq}
@@ -82,10 +83,12 @@ keyword_found keywords.ThreadLocal = refl
 
 keyword_one : (k l : Keyword) → keyword_text k ≡ keyword_text l → k ≡ l
 keyword_one k l same =
-    let found : Some k ≡ Some l = sym (keyword_found k) ∙ ap (λ text. find (λ j. bytes_eq (keyword_text j) text) all_keywords) same ∙ keyword_found l in
+    let found : Some k ≡ Some l = sym (keyword_found k) ∙ ap (λ text. find (λ j. bytes_eq (keyword_text j) text)
+        all_keywords) same ∙ keyword_found l in
     cc
 
-punctuator_found : (p : Punctuator) → find (λ q. bytes_eq (punctuator_text q) (punctuator_text p)) all_punctuators ≡ Some p
+punctuator_found : (p : Punctuator) → find (λ q. bytes_eq (punctuator_text q) (punctuator_text p)) all_punctuators
+    ≡ Some p
 unfolding all_punctuators
 punctuator_found punctuators.OpenParen = refl
 punctuator_found punctuators.CloseParen = refl
@@ -122,7 +125,8 @@ punctuator_found punctuators.OrOr = refl
 
 punctuator_one : (p q : Punctuator) → punctuator_text p ≡ punctuator_text q → p ≡ q
 punctuator_one p q same =
-    let found : Some p ≡ Some q = sym (punctuator_found p) ∙ ap (λ text. find (λ r. bytes_eq (punctuator_text r) text) all_punctuators) same ∙ punctuator_found q in
+    let found : Some p ≡ Some q = sym (punctuator_found p)
+        ∙ ap (λ text. find (λ r. bytes_eq (punctuator_text r) text) all_punctuators) same ∙ punctuator_found q in
     cc
 
 digit_word : (b : ℕ) → is_ascii_digit b ≡ true → is_word_byte b ≡ true
@@ -137,13 +141,18 @@ name_constant : (text : List ℕ) (value : ℕ) → IsName text → IsConstant t
 name_constant text value name constant = both_ways _ name.no_digit_first (constant_first text value constant)
 
 keyword_constant : (text : List ℕ) (k : Keyword) (value : ℕ) → text ≡ keyword_text k → IsConstant text value → ⊥
-keyword_constant text k value keyword constant = both_ways _ (keyword_no_digit k) (ap (λ t. is_ascii_digit (slice_index t 0)) (sym keyword) ∙ constant_first text value constant)
+keyword_constant text k value keyword constant = both_ways _ (keyword_no_digit k)
+    (ap (λ t. is_ascii_digit (slice_index t 0)) (sym keyword) ∙ constant_first text value constant)
 
-constant_punctuator : (text : List ℕ) (value : ℕ) (p : Punctuator) → IsConstant text value → text ≡ punctuator_text p → ⊥
-constant_punctuator text value p constant same = both_ways _ (punctuator_no_word text p same) (digit_word _ (constant_first text value constant))
+constant_punctuator : (text : List ℕ) (value : ℕ) (p : Punctuator) → IsConstant text value → text ≡ punctuator_text
+    p → ⊥
+constant_punctuator text value p constant same = both_ways _ (punctuator_no_word text p same)
+    (digit_word _ (constant_first text value constant))
 
-keyword_punctuator : (text : List ℕ) (k : Keyword) (p : Punctuator) → text ≡ keyword_text k → text ≡ punctuator_text p → ⊥
-keyword_punctuator text k p keyword punctuator = both_ways _ (punctuator_no_word text p punctuator) (ap (λ t. is_word_byte (slice_index t 0)) keyword ∙ keyword_word k)
+keyword_punctuator : (text : List ℕ) (k : Keyword) (p : Punctuator) → text ≡ keyword_text k → text ≡ punctuator_text
+    p → ⊥
+keyword_punctuator text k p keyword punctuator = both_ways _ (punctuator_no_word text p punctuator)
+    (ap (λ t. is_word_byte (slice_index t 0)) keyword ∙ keyword_word k)
 
 pub spells_one : (text : List ℕ) (k l : TokenKind) → Spells text k → Spells text l → k ≡ l
 spells_one text (kinds.Name n) (kinds.Name m) s t = ap kinds.Name (s.0 ∙ sym t.0)
@@ -184,9 +193,11 @@ spells_one text (kinds.Punctuator p) kinds.DirectiveEnd s t = absurd t
 spells_one text (kinds.Punctuator p) kinds.End s t = absurd t
 
 -- a constant above the limit spells no token
-large_spells_nothing : (text : List ℕ) (value : ℕ) (k : TokenKind) → IsConstant text value → 2147483647 < value → Spells text k → ⊥
+large_spells_nothing : (text : List ℕ) (value : ℕ) (k : TokenKind) → IsConstant text value → 2147483647 < value
+    → Spells text k → ⊥
 large_spells_nothing text value (kinds.Name n) constant large s = name_constant text value s.1 constant
-large_spells_nothing text value (kinds.Constant w) constant large s = omega (arith, constant.value_is, s.0.value_is, s.1)
+large_spells_nothing text value (kinds.Constant w) constant large s = omega (arith, constant.value_is, s.0.value_is,
+    s.1)
 large_spells_nothing text value (kinds.Keyword k) constant large s = keyword_constant text k value s constant
 large_spells_nothing text value (kinds.Punctuator p) constant large s = constant_punctuator text value p constant s
 large_spells_nothing text value (kinds.Text characters) constant large s = s
@@ -209,11 +220,13 @@ module _ (source : List ℕ) (from : ℕ) where
   token_one a b k l x y =
       ⊎_elim
       (λ e. ⊎_elim (spelled_one a b k l e) (λ t. absurd ((spelled_apart a k e).no_quote t.2.0)) y)
-      (λ t. ⊎_elim (λ e. absurd ((spelled_apart b l e).no_quote t.2.0)) (λ u. let same = text_one source from t.0 u.0 a b t.2 u.2 in (same.1, t.1 ∙ ap kinds.Text same.0 ∙ sym u.1)) y)
+      (λ t. ⊎_elim (λ e. absurd ((spelled_apart b l e).no_quote t.2.0)) (λ u. let same = text_one source from t.0
+          u.0 a b t.2 u.2 in (same.1, t.1 ∙ ap kinds.Text same.0 ∙ sym u.1)) y)
       x
 
   -- no token begins where this byte stands
-  no_token : (n : ℕ) → slice_index source from ≡ n → (IsApart n → ⊥) → (n ≡ 34 → ⊥) → (to : ℕ) (kind : TokenKind) → IsToken source from to kind → ⊥
+  no_token : (n : ℕ) → slice_index source from ≡ n → (IsApart n → ⊥) → (n ≡ 34 → ⊥) → (to : ℕ) (kind : TokenKind)
+      → IsToken source from to kind → ⊥
   no_token n same no_apart no_quote to kind token =
       ⊎_elim (λ e. no_apart (subst IsApart same (spelled_apart to kind e))) (λ t. no_quote (sym same ∙ t.2.0)) token
 
@@ -257,26 +270,35 @@ module _ (source : List ℕ) (from : ℕ) where
   fresh_not_ignored (states.Directive last) fresh ignored = both_ways false refl ignored
 
   module _ (context : Context) where
-    stands_one : (a b : ℕ) (k l : PieceKind) → Stands source context from a k → Stands source context from b l → (a ≡ b) × (k ≡ l)
+    stands_one : (a b : ℕ) (k l : PieceKind) → Stands source context from a k → Stands source context from b l
+        → (a ≡ b) × (k ≡ l)
     stands_one a b pieces.LineFeed pieces.LineFeed x y = (x.1 ∙ sym y.1, refl)
     stands_one a b pieces.LineFeed pieces.Space x y = absurd (feed_no_white x.0 b y)
     stands_one a b pieces.LineFeed (pieces.Token l) x y = absurd (feed_no_token x.0 b l y.1)
-    stands_one a b pieces.LineFeed (pieces.HashLine m) x y = absurd (omega (arith, x.0, line_hash source context.macros from b m y.1))
+    stands_one a b pieces.LineFeed (pieces.HashLine m) x y = absurd
+        (omega (arith, x.0, line_hash source context.macros from b m y.1))
     stands_one a b pieces.LineFeed pieces.Passed x y = absurd (y.1.no_line_feed x.0)
     stands_one a b pieces.Space pieces.LineFeed x y = absurd (feed_no_white y.0 a x)
     stands_one a b pieces.Space pieces.Space x y = (white_one source from a b x y, refl)
     stands_one a b pieces.Space (pieces.Token l) x y = absurd (token_no_white b a l y.1 x)
-    stands_one a b pieces.Space (pieces.HashLine m) x y = absurd (hash_no_white (line_hash source context.macros from b m y.1) a x)
+    stands_one a b pieces.Space (pieces.HashLine m) x y = absurd
+        (hash_no_white (line_hash source context.macros from b m y.1) a x)
     stands_one a b pieces.Space pieces.Passed x y = absurd (y.1.no_white_space a x)
     stands_one a b (pieces.Token k) pieces.LineFeed x y = absurd (feed_no_token y.0 a k x.1)
     stands_one a b (pieces.Token k) pieces.Space x y = absurd (token_no_white a b k x.1 y)
-    stands_one a b (pieces.Token k) (pieces.Token l) x y = let same = token_one a b k l x.1 y.1 in (same.0, ap pieces.Token same.1)
-    stands_one a b (pieces.Token k) (pieces.HashLine m) x y = absurd (hash_no_token (line_hash source context.macros from b m y.1) a k x.1)
+    stands_one a b (pieces.Token k) (pieces.Token l) x y = let same = token_one a b k l x.1 y.1 in
+        (same.0, ap pieces.Token same.1)
+    stands_one a b (pieces.Token k) (pieces.HashLine m) x y = absurd
+        (hash_no_token (line_hash source context.macros from b m y.1) a k x.1)
     stands_one a b (pieces.Token k) pieces.Passed x y = absurd (both_ways _ x.0 y.0)
-    stands_one a b (pieces.HashLine h) pieces.LineFeed x y = absurd (omega (arith, y.0, line_hash source context.macros from a h x.1))
-    stands_one a b (pieces.HashLine h) pieces.Space x y = absurd (hash_no_white (line_hash source context.macros from a h x.1) b y)
-    stands_one a b (pieces.HashLine h) (pieces.Token l) x y = absurd (hash_no_token (line_hash source context.macros from a h x.1) b l y.1)
-    stands_one a b (pieces.HashLine h) (pieces.HashLine m) x y = let same = line_one source context.macros from a b h m x.1 y.1 in (same.0, ap pieces.HashLine same.1)
+    stands_one a b (pieces.HashLine h) pieces.LineFeed x y = absurd
+        (omega (arith, y.0, line_hash source context.macros from a h x.1))
+    stands_one a b (pieces.HashLine h) pieces.Space x y = absurd
+        (hash_no_white (line_hash source context.macros from a h x.1) b y)
+    stands_one a b (pieces.HashLine h) (pieces.Token l) x y = absurd
+        (hash_no_token (line_hash source context.macros from a h x.1) b l y.1)
+    stands_one a b (pieces.HashLine h) (pieces.HashLine m) x y = let same = line_one source context.macros from a b
+        h m x.1 y.1 in (same.0, ap pieces.HashLine same.1)
     stands_one a b (pieces.HashLine h) pieces.Passed x y = absurd (fresh_not_ignored context.state x.0 y.0)
     stands_one a b pieces.Passed pieces.LineFeed x y = absurd (x.1.no_line_feed y.0)
     stands_one a b pieces.Passed pieces.Space x y = absurd (x.1.no_white_space b y)
@@ -285,20 +307,27 @@ module _ (source : List ℕ) (from : ℕ) where
     stands_one a b pieces.Passed pieces.Passed x y = (x.1.end ∙ sym y.1.end, refl)
 
     -- where a constant above the limit stands, no piece does, unless the line is ignored
-    large_stands : is_ignored context.state ≡ false → IsTooLarge source from → (to : ℕ) (kind : PieceKind) → Stands source context from to kind → ⊥
-    large_stands heard large to pieces.LineFeed s = (token_apart source from large.to large.longest.could_be).no_line_feed s.0
+    large_stands : is_ignored context.state ≡ false → IsTooLarge source from → (to : ℕ) (kind : PieceKind)
+        → Stands source context from to kind → ⊥
+    large_stands heard large to pieces.LineFeed s =
+        (token_apart source from large.to large.longest.could_be).no_line_feed s.0
     large_stands heard large to pieces.Space s = longest_no_white large.to to large.longest s
     large_stands heard large to (pieces.Token kind) s =
         ⊎_elim
         (λ e.
         let same = longest_one source from large.to to large.longest e.longest in
-        large_spells_nothing (slice_range source from to) large.value kind (subst (λ n. IsConstant (slice_range source from n) large.value) same large.spelled) large.large e.spelled)
+        large_spells_nothing (slice_range source from to) large.value kind
+            (subst (λ n. IsConstant (slice_range source from n) large.value) same large.spelled) large.large e.spelled)
         (λ t. (token_apart source from large.to large.longest.could_be).no_quote t.2.0)
         s.1
-    large_stands heard large to (pieces.HashLine line) s = (token_apart source from large.to large.longest.could_be).no_hash (line_hash source context.macros from to line s.1)
+    large_stands heard large to (pieces.HashLine line) s =
+        (token_apart source from large.to large.longest.could_be).no_hash (line_hash source context.macros from to
+        line s.1)
     large_stands heard large to pieces.Passed s = both_ways _ heard s.0
 
-    bad_line_stands : slice_index source from ≡ 35 → is_fresh context.state ≡ true → ((to : ℕ) (line : HashLine) → IsHashLine source context.macros from to line → ⊥) → (to : ℕ) (kind : PieceKind) → Stands source context from to kind → ⊥
+    bad_line_stands : slice_index source from ≡ 35 → is_fresh context.state ≡ true
+        → ((to : ℕ) (line : HashLine) → IsHashLine source context.macros from to line → ⊥)
+        → (to : ℕ) (kind : PieceKind) → Stands source context from to kind → ⊥
     bad_line_stands hash fresh no_line to pieces.LineFeed s = omega (arith, hash, s.0)
     bad_line_stands hash fresh no_line to pieces.Space s = hash_no_white hash to s
     bad_line_stands hash fresh no_line to (pieces.Token kind) s = hash_no_token hash to kind s.1
@@ -308,13 +337,19 @@ module _ (source : List ℕ) (from : ℕ) where
 pub large_no_hash : (source : List ℕ) (from : ℕ) → IsTooLarge source from → slice_index source from ≡ 35 → ⊥
 large_no_hash source from large = (token_apart source from large.to large.longest.could_be).no_hash
 
-pub large_no_piece : (source : List ℕ) (context : Context) (from : ℕ) (p : Piece) → is_ignored context.state ≡ false → IsTooLarge source from → IsPiece source context from p → ⊥
-large_no_piece source context from p heard large piece = large_stands source from context heard large p.end p.kind piece.stands
+pub large_no_piece : (source : List ℕ) (context : Context) (from : ℕ) (p : Piece) → is_ignored context.state ≡ false
+    → IsTooLarge source from → IsPiece source context from p → ⊥
+large_no_piece source context from p heard large piece = large_stands source from context heard large p.end p.kind
+    piece.stands
 
-pub line_no_piece : (source : List ℕ) (context : Context) (from : ℕ) (p : Piece) → slice_index source from ≡ 35 → is_fresh context.state ≡ true → ((to : ℕ) (line : HashLine) → IsHashLine source context.macros from to line → ⊥) → IsPiece source context from p → ⊥
-line_no_piece source context from p hash fresh no_line piece = bad_line_stands source from context hash fresh no_line p.end p.kind piece.stands
+pub line_no_piece : (source : List ℕ) (context : Context) (from : ℕ) (p : Piece) → slice_index source from ≡ 35
+    → is_fresh context.state ≡ true → ((to : ℕ) (line : HashLine) → IsHashLine source context.macros from to line
+    → ⊥) → IsPiece source context from p → ⊥
+line_no_piece source context from p hash fresh no_line piece = bad_line_stands source from context hash fresh
+    no_line p.end p.kind piece.stands
 
-pub piece_one : (source : List ℕ) (context : Context) (from : ℕ) (p q : Piece) → IsPiece source context from p → IsPiece source context from q → p ≡ q
+pub piece_one : (source : List ℕ) (context : Context) (from : ℕ) (p q : Piece) → IsPiece source context from p
+    → IsPiece source context from q → p ≡ q
 piece_one source context from p q x y =
     let same = stands_one source from context p.end q.end p.kind q.kind x.stands y.stands in
     λ i. record { kind = same.1 i; end = same.0 i }

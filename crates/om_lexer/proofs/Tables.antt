@@ -1,5 +1,6 @@
 -- The tables of keywords and punctuators have each of them.
-use Rattle.std.proofs.Common.{◌≡◌, ℕ, ◌<◌, ◌≤◌, Bool, true, cond, ltb, eqb, List, [], ◌∷◌, length, get_or, arith, lit<, refl, sym, ap, ◌∙◌}
+use Rattle.std.proofs.Common.{◌≡◌, ℕ, ◌<◌, ◌≤◌, Bool, true, cond, ltb, eqb, List, [], ◌∷◌, length, get_or, arith,
+    lit<, refl, sym, ap, ◌∙◌}
 use Rattle.std.proofs.lemmas.Bool.{agree_below, agree_below_at, eqb-true}
 use Rattle.std.proofs.lemmas.Bool.Decides.{nat_tests}
 use Rattle.om_lexer.specs.declared.token.Keyword.{Keyword}
@@ -197,7 +198,8 @@ punctuator_stands punctuators.Bang = record { index = 31; inside = lit< tt; ther
 -- how long the punctuator at a place of the table is
 pub width_at : (i : ℕ) → i < 32 → length (punctuator_text (punctuator_at i)) ≡ cond (ltb i 13) 2 1
 unfolding all_punctuators
-width_at i inside = eqb-true _ _ (agree_below_at (λ n. eqb (length (punctuator_text (punctuator_at n))) (cond (ltb n 13) 2 1)) (λ n. true) 32 i refl inside)
+width_at i inside = eqb-true _ _ (agree_below_at (λ n. eqb (length (punctuator_text (punctuator_at n)))
+    (cond (ltb n 13) 2 1)) (λ n. true) 32 i refl inside)
 
 width : ℕ → ℕ
 width i = cond (ltb i 13) 2 1
@@ -207,17 +209,22 @@ unfolding width
 narrows i j later = grind (arith, nat_tests)
 
 -- those that stand later are no longer
-pub wide_first : (i j : ℕ) → i ≤ j → j < 32 → length (punctuator_text (punctuator_at j)) ≤ length (punctuator_text (punctuator_at i))
+pub wide_first : (i j : ℕ) → i ≤ j → j < 32 → length (punctuator_text (punctuator_at j)) ≤ length
+    (punctuator_text (punctuator_at i))
 unfolding width
 wide_first i j later inside = omega (arith, width_at i (omega arith), width_at j inside, narrows i j later)
 
 -- what the table shows holds of every keyword, and of every punctuator
-pub keywords_pass : (test : Keyword → Bool) → agree_below (λ n. test (keyword_at n)) (λ n. true) 44 ≡ true → (k : Keyword) → test k ≡ true
+pub keywords_pass : (test : Keyword → Bool) → agree_below (λ n. test (keyword_at n)) (λ n. true) 44 ≡ true
+    → (k : Keyword) → test k ≡ true
 keywords_pass test checked k =
     let stands = keyword_stands k in
-    ap test (sym stands.there) ∙ agree_below_at (λ n. test (keyword_at n)) (λ n. true) 44 stands.index checked stands.inside
+    ap test (sym stands.there) ∙ agree_below_at (λ n. test (keyword_at n)) (λ n. true) 44 stands.index checked
+        stands.inside
 
-pub punctuators_pass : (test : Punctuator → Bool) → agree_below (λ n. test (punctuator_at n)) (λ n. true) 32 ≡ true → (p : Punctuator) → test p ≡ true
+pub punctuators_pass : (test : Punctuator → Bool) → agree_below (λ n. test (punctuator_at n)) (λ n. true) 32 ≡ true
+    → (p : Punctuator) → test p ≡ true
 punctuators_pass test checked p =
     let stands = punctuator_stands p in
-    ap test (sym stands.there) ∙ agree_below_at (λ n. test (punctuator_at n)) (λ n. true) 32 stands.index checked stands.inside
+    ap test (sym stands.there) ∙ agree_below_at (λ n. test (punctuator_at n)) (λ n. true) 32 stands.index checked
+        stands.inside

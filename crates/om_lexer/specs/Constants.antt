@@ -7,7 +7,8 @@ use Rattle.om_lexer.specs.declared.fault.FaultCode.TheVariants as codes
 
 -- a constant that begins with `0x` is hexadecimal, any other that begins with `0` octal, the rest are decimal
 unfoldable pub base_of : List ℕ → ℕ
-base_of text = if starts_with nat_eq text (codes "0x") then 16 else (if starts_with nat_eq text (codes "0") then 8 else 10)
+base_of text = if starts_with nat_eq text (codes "0x") then 16 else (if starts_with nat_eq text (codes "0") then 8
+    else 10)
 
 -- the digits of a constant: all of it but the prefix `0x`
 unfoldable pub digits_of : List ℕ → List ℕ

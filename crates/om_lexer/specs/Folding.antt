@@ -49,7 +49,8 @@ tokens_of_line source from lines.Ignored = []
 abbrev pub tokens_in : List ℕ → Context → ℕ → ℕ → PieceKind → List Token
 tokens_in source context from to pieces.LineFeed = directive_end context.state
 tokens_in source context from to pieces.Space = []
-tokens_in source context from to (pieces.Token kind) = token_in context.state context.macros (span_of source from to) kind
+tokens_in source context from to (pieces.Token kind) = token_in context.state context.macros
+    (span_of source from to) kind
 tokens_in source context from to (pieces.HashLine line) = tokens_of_line source from line
 tokens_in source context from to pieces.Passed = []
 
@@ -57,7 +58,8 @@ tokens_in source context from to pieces.Passed = []
 abbrev pub tokens_of : List ℕ → Context → ℕ → List Piece → List Token
 tokens_of source context from [] = []
 tokens_of source context from (piece ∷ rest) =
-    tokens_in source context from piece.end piece.kind ++ tokens_of source (context_behind source context piece) piece.end rest
+    tokens_in source context from piece.end piece.kind ++ tokens_of source (context_behind source context piece)
+        piece.end rest
 
 -- the words of a directive stand between the ends of its beginning
 abbrev pub HasWords : HashLine → ℕ → ℕ → Type 0

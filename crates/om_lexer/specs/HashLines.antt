@@ -1,5 +1,6 @@
 -- `#` lines: include, define and pragma (C17 6.10).
-use Rattle.std.specs.Prelude.{◌≡◌, ℕ, ◌+◌, ◌<◌, ◌≤◌, ◌⊎◌, false, List, None, length, slice_index, slice_range, All, codes}
+use Rattle.std.specs.Prelude.{◌≡◌, ℕ, ◌+◌, ◌<◌, ◌≤◌, ◌⊎◌, false, List, None, length, slice_index, slice_range, All,
+    codes}
 use Rattle.std.specs.Char.{is_ascii_digit, digit_value}
 use Rattle.om_lexer.specs.declared.fault.FaultCode.{FaultCode}
 use Rattle.om_lexer.specs.declared.fault.FaultCode.TheVariants as codes
@@ -24,7 +25,8 @@ pub record IsHashWord (source : List ℕ) (from word to : ℕ) (text : List ℕ)
 
 -- the end of a line or of the source, or the beginning of a block comment
 abbrev pub IsLineEnding : List ℕ → ℕ → Type 0
-IsLineEnding source at = (length source ≤ at) ⊎ ((slice_index source at ≡ 10) ⊎ ((slice_index source at ≡ 47) × (slice_index source (at + 1) ≡ 42)))
+IsLineEnding source at = (length source ≤ at)
+    ⊎ ((slice_index source at ≡ 10) ⊎ ((slice_index source at ≡ 47) × (slice_index source (at + 1) ≡ 42)))
 
 -- nothing but white space follows on the line; a comment that never ends is a fault of its own
 pub record EndsLine (source : List ℕ) (from : ℕ) : Type 0 where
@@ -50,7 +52,8 @@ pub record IsInclude (source : List ℕ) (from to : ℕ) : Type 0 where
   pub is_header : IsHeader source header to
   pub tail : EndsLine source to
 
--- a name or a keyword (C17 6.10.3 makes no difference), of at most 63 bytes, where it is a run of letters, digits and `_`
+-- a name or a keyword (C17 6.10.3 makes no difference), of at most 63 bytes, where it is a run of letters,
+-- digits and `_`
 abbrev pub IsMacroName : List ℕ → Type 0
 IsMacroName text = (0 < length text) × (is_ascii_digit (slice_index text 0) ≡ false) × (length text ≤ 63)
 
@@ -96,7 +99,8 @@ pub record IsOtherPragma (source : List ℕ) (from to : ℕ) : Type 0 where
 -- the `#` line that begins there, as far as it is one piece
 abbrev pub IsHashLine : List ℕ → MacroList → ℕ → ℕ → HashLine → Type 0
 IsHashLine source macros from to lines.Include = IsInclude source from to
-IsHashLine source macros from to (lines.Define name) = (value : ℕ) × IsDefine source from to name value × MayDefine macros name value
+IsHashLine source macros from to (lines.Define name) = (value : ℕ) × IsDefine source from to name value
+    × MayDefine macros name value
 IsHashLine source macros from to (lines.Directive pragma omp) = IsDirective source from pragma omp to
 IsHashLine source macros from to lines.Ignored = IsOtherPragma source from to
 

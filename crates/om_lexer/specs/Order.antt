@@ -1,5 +1,6 @@
 -- The order of the tokens of a source, and what stands at the place of each.
-use Rattle.std.specs.Prelude.{◌≡◌, ℕ, ◌+◌, ◌<◌, ◌≤◌, ◌⊎◌, Bool, true, false, List, [], ◌∷◌, ◌++◌, length, slice_index, slice_range}
+use Rattle.std.specs.Prelude.{◌≡◌, ℕ, ◌+◌, ◌<◌, ◌≤◌, ◌⊎◌, Bool, true, false, List, [], ◌∷◌, ◌++◌, length,
+    slice_index, slice_range}
 use Rattle.om_lexer.specs.declared.token.Keyword.{Keyword}
 use Rattle.om_lexer.specs.declared.token.Token.{Token}
 use Rattle.om_lexer.specs.declared.token.TokenKind.{TokenKind}
@@ -17,7 +18,8 @@ IsDefinable text = IsName text ⊎ ((k : Keyword) × (text ≡ keyword_text k))
 -- What stands from one byte up to another as a token of this kind. A macro is a constant at its name's place.
 abbrev pub StandsAs : List ℕ → ℕ → ℕ → TokenKind → Type 0
 StandsAs source from to (kinds.Name text) = text ≡ slice_range source from to
-StandsAs source from to (kinds.Constant value) = IsConstant (slice_range source from to) value ⊎ IsDefinable (slice_range source from to)
+StandsAs source from to (kinds.Constant value) = IsConstant (slice_range source from to) value
+    ⊎ IsDefinable (slice_range source from to)
 StandsAs source from to (kinds.Keyword k) = slice_range source from to ≡ keyword_text k
 StandsAs source from to (kinds.Text characters) = IsText source from characters to
 StandsAs source from to (kinds.Punctuator p) = slice_range source from to ≡ punctuator_text p
@@ -49,7 +51,8 @@ GoesOn inside kinds.DirectiveEnd last rest = (inside ≡ true) × rest false
 GoesOn inside kinds.End last rest = (inside ≡ false) × last
 GoesOn inside _ last rest = rest inside
 
--- The tokens from a place on, in a directive or outside of one: each directive that begins has its end, with no other in it,
+-- The tokens from a place on, in a directive or outside of one: each directive that begins has its end, with
+-- no other in it,
 -- and the end of the source stands last, outside, and nowhere else.
 unfoldable pub AreWhole : (inside : Bool) → List Token → Type 0
 AreWhole inside [] = ⊥

@@ -1,5 +1,6 @@
 -- Translation phase 3 (C17 5.1.1.2): a source is decomposed into tokens, white space and the beginnings of `#` lines.
-use Rattle.std.specs.Prelude.{◌≡◌, ℕ, ◌+◌, ◌<◌, Bool, true, false, List, [], ◌∷◌, ◌==◌, length, slice_index, take, count_by}
+use Rattle.std.specs.Prelude.{◌≡◌, ℕ, ◌+◌, ◌<◌, Bool, true, false, List, [], ◌∷◌, ◌==◌, length, slice_index, take,
+    count_by}
 use Rattle.om_lexer.specs.declared.token.Span.{Span}
 use Rattle.om_lexer.specs.declared.token.TokenKind.{TokenKind}
 use Rattle.om_lexer.specs.declared.token.TokenKind.TheVariants as kinds
@@ -53,7 +54,8 @@ abbrev pub Stands : List ℕ → Context → ℕ → ℕ → PieceKind → Type 
 Stands source context from to pieces.LineFeed = (slice_index source from ≡ 10) × (to ≡ from + 1)
 Stands source context from to pieces.Space = IsWhiteSpace source from to
 Stands source context from to (pieces.Token kind) = (is_ignored context.state ≡ false) × IsToken source from to kind
-Stands source context from to (pieces.HashLine line) = (is_fresh context.state ≡ true) × IsHashLine source context.macros from to line
+Stands source context from to (pieces.HashLine line) = (is_fresh context.state ≡ true) × IsHashLine source
+    context.macros from to line
 Stands source context from to pieces.Passed = (is_ignored context.state ≡ true) × IsPassed source from to
 
 -- this piece begins there

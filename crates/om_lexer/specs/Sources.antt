@@ -9,7 +9,8 @@ use Rattle.om_lexer.specs.declared.fault.SourceFault.{SourceFault}
 use Rattle.om_lexer.specs.Faults.{no_memory}
 use Rattle.om_lexer.specs.Tokens.{IsTooLarge}
 use Rattle.om_lexer.specs.HashLines.{IsWrongHashLine}
-use Rattle.om_lexer.specs.Pieces.{Context, at_first, is_fresh, is_ignored, IsPiece, Decomposes, context_behind_all, span_of}
+use Rattle.om_lexer.specs.Pieces.{Context, at_first, is_fresh, is_ignored, IsPiece, Decomposes, context_behind_all,
+    span_of}
 use Rattle.om_lexer.specs.Folding.{tokens_of, directive_end}
 
 -- the bytes that a source may have
@@ -23,7 +24,8 @@ end_token source = record { kind = kinds.End; span = span_of source (length sour
 -- the tokens of a source that is these pieces
 abbrev pub all_tokens : List ℕ → List Piece → List Token
 all_tokens source pieces =
-    (tokens_of source at_first 0 pieces ++ directive_end (context_behind_all source at_first pieces).state) ++ end_token source ∷ []
+    (tokens_of source at_first 0 pieces ++ directive_end (context_behind_all source at_first pieces).state)
+        ++ end_token source ∷ []
 
 -- the source is within the limit, and these are its tokens
 pub record IsTokens (source : List ℕ) (tokens : List Token) : Type 0 where
@@ -46,8 +48,10 @@ pub record IsBadToken (source : List ℕ) (context : Context) (at : ℕ) : Type 
 -- what is wrong at a byte where no piece begins
 abbrev pub IsWrong : List ℕ → Context → ℕ → FaultCode → Type 0
 IsWrong source context at codes.BadToken = IsBadToken source context at
-IsWrong source context at codes.BadHashLine = BeginsHashLine source context at × IsWrongHashLine source context.macros at codes.BadHashLine
-IsWrong source context at codes.TooMany = BeginsHashLine source context at × IsWrongHashLine source context.macros at codes.TooMany
+IsWrong source context at codes.BadHashLine = BeginsHashLine source context at × IsWrongHashLine source
+    context.macros at codes.BadHashLine
+IsWrong source context at codes.TooMany = BeginsHashLine source context at × IsWrongHashLine source context.macros
+    at codes.TooMany
 IsWrong source context at codes.ConstantTooLarge = (is_ignored context.state ≡ false) × IsTooLarge source at
 IsWrong source context at _ = ⊥
 

@@ -1,5 +1,6 @@
 -- Text literals (C17 6.4.5), with the escapes \n, \t, \\ and \".
-use Rattle.std.specs.Prelude.{◌≡◌, ℕ, ◌+◌, ◌<◌, ◌⊎◌, ◌==◌, List, [], ◌∷◌, Option, None, Some, length, slice_index, if◌then◌else◌}
+use Rattle.std.specs.Prelude.{◌≡◌, ℕ, ◌+◌, ◌<◌, ◌⊎◌, ◌==◌, List, [], ◌∷◌, Option, None, Some, length, slice_index,
+    if◌then◌else◌}
 
 -- an ASCII character that stands for itself: no quote, backslash or line feed
 abbrev pub IsPlain : ℕ → Type 0
@@ -7,7 +8,8 @@ IsPlain b = (b < 128) × (b ≡ 34 → ⊥) × (b ≡ 92 → ⊥) × (b ≡ 10 �
 
 -- the character that a letter behind a backslash stands for
 unfoldable pub escaped : ℕ → Option ℕ
-escaped letter = if letter == 110 then Some 10 else (if letter == 116 then Some 9 else (if letter == 92 then Some 92 else (if letter == 34 then Some 34 else None)))
+escaped letter = if letter == 110 then Some 10 else (if letter == 116 then Some 9 else
+    (if letter == 92 then Some 92 else (if letter == 34 then Some 34 else None)))
 
 -- what stands from one byte up to another is this character of a text
 abbrev pub IsCharacter : List ℕ → ℕ → ℕ → ℕ → Type 0
@@ -18,7 +20,8 @@ IsCharacter source from character to =
 -- from there up to a quote, and over it, stand these characters
 abbrev pub Characters : List ℕ → ℕ → List ℕ → ℕ → Type 0
 Characters source from [] to = (slice_index source from ≡ 34) × (to ≡ from + 1)
-Characters source from (character ∷ rest) to = (next : ℕ) × IsCharacter source from character next × Characters source next rest to
+Characters source from (character ∷ rest) to = (next : ℕ) × IsCharacter source from character next
+    × Characters source next rest to
 
 -- a text literal of these characters
 abbrev pub IsText : List ℕ → ℕ → List ℕ → ℕ → Type 0

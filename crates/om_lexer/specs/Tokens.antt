@@ -81,6 +81,7 @@ IsWrongText text _ = ⊥
 
 -- what is wrong where no token stands: nothing that could be one, or a constant above 2147483647
 abbrev pub IsNoToken : List ℕ → ℕ → FaultCode → Type 0
-IsNoToken source from codes.BadToken = ((to : ℕ) (kind : TokenKind) → IsToken source from to kind → ⊥) × (IsTooLarge source from → ⊥)
+IsNoToken source from codes.BadToken = ((to : ℕ) (kind : TokenKind) → IsToken source from to kind → ⊥)
+    × (IsTooLarge source from → ⊥)
 IsNoToken source from codes.ConstantTooLarge = IsTooLarge source from
 IsNoToken source from _ = ⊥

@@ -1,5 +1,6 @@
 -- A run and a meaning agree in both directions.
-use Rattle.std.proofs.Common.{◌≡◌, ℕ, zero, suc, ◌<◌, ◌≤◌, ℤ, Bool, true, false, List, [], ◌∷◌, Option, Some, None, refl, sym, ◌∙◌, subst, ⊎_elim, arith}
+use Rattle.std.proofs.Common.{◌≡◌, ℕ, zero, suc, ◌<◌, ◌≤◌, ℤ, Bool, true, false, List, [], ◌∷◌, Option, Some, None,
+    refl, sym, ◌∙◌, subst, ⊎_elim, arith}
 use Rattle.std.specs.Prelude.{All, IsSomeAnd, slice_get}
 use Rattle.std.specs.List.{flat_map}
 use Rattle.std.proofs.lemmas.Bool.{cases_lt}
@@ -44,7 +45,8 @@ module _ (raw : Raw) (body : Body) where
   longer (suc m) zero le c o over e = absurd (omega (arith, le))
   longer (suc m) (suc n) le c o over e = behind_turn (frame_turn raw body c) e (longer m n (omega (arith, le)))
     where
-      behind_turn : (t : FrameTurn) → on_from t (run raw body m) ≡ o → ((d : Frame) (p : FrameTurn) → IsOver p → run raw body m d ≡ p → run raw body n d ≡ p)
+      behind_turn : (t : FrameTurn) → on_from t (run raw body m) ≡ o → ((d : Frame) (p : FrameTurn) → IsOver p
+          → run raw body m d ≡ p → run raw body n d ≡ p)
           → on_from t (run raw body n) ≡ o
       behind_turn (frames.Onward d) e more = more d o over e
       behind_turn (frames.Returned v d) e more = e
@@ -52,7 +54,8 @@ module _ (raw : Raw) (body : Body) where
       behind_turn (Faulted x d) e more = e
       behind_turn Stuck e more = e
 
-  one_end : (m n : ℕ) (c : Frame) (o p : FrameTurn) → IsOver o → IsOver p → run raw body m c ≡ o → run raw body n c ≡ p → o ≡ p
+  one_end : (m n : ℕ) (c : Frame) (o p : FrameTurn) → IsOver o → IsOver p → run raw body m c ≡ o → run raw body n c
+      ≡ p → o ≡ p
   one_end m n c o p over_o over_p e f =
       ⊎_elim
       (λ (lt : m < n). sym (longer m n (omega (arith, lt)) c o over_o e) ∙ f)
@@ -67,10 +70,13 @@ module _ (raw : Raw) (body : Body) where
     Follows n c OutOfTurns = (j : ℕ) × (f : Frame) × (n ≤ j) × (run raw body j c ≡ frames.Onward f)
     Follows n c _ = ⊥
 
-    comes_end : (c d : Frame) (end : Frame → FrameTurn) (w : World) → Comes raw body c d → Ends raw body d end w → Ends raw body c end w
-    comes_end c d end w l h = let a = l.by h.turns in record { turns = a.0; last = h.last; over = a.2 ∙ h.over; world = h.world }
+    comes_end : (c d : Frame) (end : Frame → FrameTurn) (w : World) → Comes raw body c d → Ends raw body d end w
+        → Ends raw body c end w
+    comes_end c d end w l h = let a = l.by h.turns in record { turns = a.0; last = h.last; over = a.2
+        ∙ h.over; world = h.world }
 
-    follows_from : (n m : ℕ) (c : Frame) (r : Flow) → ((u : World) → Ends raw body (frame m [] u) (ended is_main None) u) → Does raw body is_main n c m nowhere [] r
+    follows_from : (n m : ℕ) (c : Frame) (r : Flow)
+        → ((u : World) → Ends raw body (frame m [] u) (ended is_main None) u) → Does raw body is_main n c m nowhere [] r
         → Follows n c (then_do r (flows.Returned None))
     follows_from n m c (flows.Onward u) h g = comes_end c (frame m [] u) (ended is_main None) u g (h u)
     follows_from n m c (Broke u) h g = g
@@ -79,7 +85,8 @@ module _ (raw : Raw) (body : Body) where
     follows_from n m c (Failed x u) h g = g
     follows_from n m c OutOfTurns h g = g
 
-    over_too : (m : ℕ) (c : Frame) (r : Flow) (t : FrameTurn) → IsOver t → run raw body m c ≡ t → Follows m c r → Agrees is_main r t
+    over_too : (m : ℕ) (c : Frame) (r : Flow) (t : FrameTurn) → IsOver t → run raw body m c ≡ t → Follows m c r
+        → Agrees is_main r t
     over_too m c (flows.Returned v u) t over e f =
         (f.last, one_end m f.turns c t (ended is_main v f.last) over (ended_over is_main v f.last) e f.over, f.world)
     over_too m c (Failed x u) t over e f = (f.last, one_end m f.turns c t (Faulted x f.last) over tt e f.over, f.world)
@@ -96,14 +103,16 @@ module _ (raw : Raw) (body : Body) where
     stuck_never (Broke u) a = a
     stuck_never (Continued u) a = a
 
-  not_yet : (n j : ℕ) (c f : Frame) (t : FrameTurn) → n ≤ j → run raw body j c ≡ frames.Onward f → run raw body n c ≡ t → (d : Frame) × (t ≡ frames.Onward d)
+  not_yet : (n j : ℕ) (c f : Frame) (t : FrameTurn) → n ≤ j → run raw body j c ≡ frames.Onward f → run raw body n c
+      ≡ t → (d : Frame) × (t ≡ frames.Onward d)
   not_yet n j c f (frames.Onward d) le e at = (d, refl)
   not_yet n j c f (frames.Returned v d) le e at = absurd (let o = longer n j le c (frames.Returned v d) tt at in cc)
   not_yet n j c f (Finished v d) le e at = absurd (let o = longer n j le c (Finished v d) tt at in cc)
   not_yet n j c f (Faulted x d) le e at = absurd (let o = longer n j le c (Faulted x d) tt at in cc)
   not_yet n j c f Stuck le e at = absurd (let o = longer n j le c Stuck tt at in cc)
 
-  pub behaves : (is_main : Bool) (means : ℕ → World → Flow) → ((n : ℕ) (w : World) → Follows is_main n (frame 0 [] w) (means n w)) → Behaves raw body is_main means
+  pub behaves : (is_main : Bool) (means : ℕ → World → Flow)
+      → ((n : ℕ) (w : World) → Follows is_main n (frame 0 [] w) (means n w)) → Behaves raw body is_main means
   behaves is_main means follows = record {
     ends = λ w n v u e. subst (λ z. Follows is_main n (frame 0 [] w) z) e (follows n w);
     faults = λ w n x u e. subst (λ z. Follows is_main n (frame 0 [] w) z) e (follows n w);
@@ -111,44 +120,58 @@ module _ (raw : Raw) (body : Body) where
         let f = subst (λ z. Follows is_main n (frame 0 [] w) z) e (follows n w) in
         not_yet n f.0 (frame 0 [] w) f.1 (run raw body n (frame 0 [] w)) f.2 f.3 refl;
     only = λ w n t over e. over_too is_main n (frame 0 [] w) (means n w) t over e (follows n w);
-    never_stuck = λ w n e. stuck_never is_main (means n w) (over_too is_main n (frame 0 [] w) (means n w) Stuck tt e (follows n w));
+    never_stuck = λ w n e. stuck_never is_main (means n w) (over_too is_main n (frame 0 [] w) (means n w) Stuck tt e
+        (follows n w));
   }
 
   -- the end of a function
-  closes : (is_main : Bool) (m l : ℕ) (u : World) → steps.Has raw body m l (last_instruction is_main) → Ends raw body (frame m [] u) (ended is_main None) u
-  closes true m l u has = steps.stop raw body m l (i.Finish false) [] u u (ended true None) (frame m [] u) has refl refl refl
-  closes false m l u has = steps.stop raw body m l i.ReturnNothing [] u u (ended false None) (frame m [] u) has refl refl refl
+  closes : (is_main : Bool) (m l : ℕ) (u : World) → steps.Has raw body m l (last_instruction is_main)
+      → Ends raw body (frame m [] u) (ended is_main None) u
+  closes true m l u has = steps.stop raw body m l (i.Finish false) [] u u (ended true None) (frame m [] u) has refl
+      refl refl
+  closes false m l u has = steps.stop raw body m l i.ReturnNothing [] u u (ended false None) (frame m [] u) has refl
+      refl refl
 
 -- the formats of a function are among those of its program
-function_formats : (formats : List (List ℕ)) (fs : List ResolvedFunctionTree) (k : ℕ) (f : ResolvedFunctionTree) → slice_get fs k ≡ Some f
-    → All (Found formats) (flat_map (function_mentioned format_mention) fs) → All (Found formats) (function_mentioned format_mention f)
+function_formats : (formats : List (List ℕ)) (fs : List ResolvedFunctionTree) (k : ℕ) (f : ResolvedFunctionTree)
+    → slice_get fs k ≡ Some f
+    → All (Found formats) (flat_map (function_mentioned format_mention) fs) → All (Found formats)
+        (function_mentioned format_mention f)
 function_formats formats [] k f e h = absurd cc
 function_formats formats (g ∷ fs) zero f e h =
     let same : g ≡ f = cc e in
     subst (λ z. All (Found formats) (function_mentioned format_mention z)) same
     (front formats (function_mentioned format_mention g) (flat_map (function_mentioned format_mention) fs) h)
 function_formats formats (g ∷ fs) (suc k) f e h =
-    function_formats formats fs k f e (back formats (function_mentioned format_mention g) (flat_map (function_mentioned format_mention) fs) h)
+    function_formats formats fs k f e (back formats (function_mentioned format_mention g)
+        (flat_map (function_mentioned format_mention) fs) h)
 
-body_behaves : (tree : ResolvedTree) (raw : Raw) (f : ResolvedFunctionTree) (n : Numbers) (body : Body) → IsCodeOf tree raw
-    → IsBodyOf tree raw (record { function = f; tree = FunctionBody; outer = []; numbers = n }) body → AreSpoken (formats_of tree) f.body
+body_behaves : (tree : ResolvedTree) (raw : Raw) (f : ResolvedFunctionTree) (n : Numbers) (body : Body)
+    → IsCodeOf tree raw
+    → IsBodyOf tree raw (record { function = f; tree = FunctionBody; outer = []; numbers = n }) body
+        → AreSpoken (formats_of tree) f.body
     → Behaves raw body (is_main_function f) (source (layout_of raw body (function_variables f)) f.body)
 body_behaves tree raw f n body code is serial =
     let at : Site = site_of tree raw (record { function = f; tree = FunctionBody; outer = []; numbers = n }) body in
     let row = is.code in
     behaves raw body (is_main_function f) (source (layout_of raw body (function_variables f)) f.body)
-    (λ k w. follows_from raw body (is_main_function f) k row.0 (frame 0 [] w) (meanings (layout_of raw body (function_variables f)) f.body k w)
+    (λ k w. follows_from raw body (is_main_function f) k row.0 (frame 0 [] w)
+        (meanings (layout_of raw body (function_variables f)) f.body k w)
     (λ u. closes raw body (is_main_function f) row.0 f.closing_line u row.2.0)
     (statements.statements_run raw body at refl code.texts f.body n k nowhere 0 row.0 [] w serial row.1))
 
 -- by what is known of the bodies and the formats of a program
 pub serial_meaning : FunctionBodies → FormatsAreNumbered → SerialMeaning
 serial_meaning bodies formats tree raw code k f e serial =
-    let found = bodies tree raw code k f e in there (slice_get raw.bodies (called_body tree.functions k)) found.0 found.1
+    let found = bodies tree raw code k f e in there (slice_get raw.bodies (called_body tree.functions k)) found.0
+        found.1
   where
-    there : (o : Option Body) (n : Numbers) → IsSomeAnd o (IsBodyOf tree raw (record { function = f; tree = FunctionBody; outer = []; numbers = n }))
-        → IsSomeAnd o (λ body. Behaves raw body (is_main_function f) (source (layout_of raw body (function_variables f)) f.body))
+    there : (o : Option Body) (n : Numbers)
+        → IsSomeAnd o (IsBodyOf tree raw (record { function = f; tree = FunctionBody; outer = []; numbers = n }))
+        → IsSomeAnd o (λ body. Behaves raw body (is_main_function f)
+            (source (layout_of raw body (function_variables f)) f.body))
     there None n is = absurd is
     there (Some body) n is =
         body_behaves tree raw f n body code is
-        (all_spoken (formats_of tree) f.body serial (function_formats (formats_of tree) tree.functions k f e (formats tree)))
+        (all_spoken (formats_of tree) f.body serial (function_formats (formats_of tree) tree.functions k f e
+            (formats tree)))

@@ -6,19 +6,29 @@ use Rattle.om_code.specs.declared.frame.Cell.TheVariants as cell
 use Rattle.om_code.specs.declared.instruction.Place.TheVariants as place
 use Rattle.om_resolved.specs.declared.resolved.LocalVariable.{LocalVariable}
 use Rattle.om_resolved.specs.declared.resolved.Variable.TheVariants.{Local}
-use Rattle.om_resolved.specs.ResolvedTree.{ResolvedExpressionTree, Constant, Variable, Element, Call, ThreadNumber, TeamSize, Print, Unary, Binary, Conditional, Assign, AssignElement, Postfix, PostfixElement, ValuesTree, NoValues, Value, ResolvedDeclaratorTree, ResolvedStartTree, StartNothing, StartExpression, StartDeclaration, ResolvedStatementTree, Declaration, Block, Empty, Expression, If, IfElse, While, Do, For, Return, Break, Continue, Parallel, Task, Loop, Sections, Construct, Update, StandAlone, ResolvedStatementsTree, NoStatements, Statement}
+use Rattle.om_resolved.specs.ResolvedTree.{ResolvedExpressionTree, Constant, Variable, Element, Call, ThreadNumber,
+    TeamSize, Print, Unary, Binary, Conditional, Assign, AssignElement, Postfix, PostfixElement, ValuesTree,
+    NoValues, Value, ResolvedDeclaratorTree, ResolvedStartTree, StartNothing, StartExpression, StartDeclaration,
+    ResolvedStatementTree, Declaration, Block, Empty, Expression, If, IfElse, While, Do, For, Return, Break,
+    Continue, Parallel, Task, Loop, Sections, Construct, Update, StandAlone, ResolvedStatementsTree, NoStatements,
+    Statement}
 use Rattle.om_rows.specs.Operators.{step_of}
-use Rattle.om_meaning.specs.Ints.{IsInt, HoldsInt, HoldsInts, LeavesInts, HasInts, AllHaveInts, EffectHasInts, DeclaratorHasInts, StartHasInts, StatementHasInts, StatementsHaveInts, FlowLeavesInts}
+use Rattle.om_meaning.specs.Ints.{IsInt, HoldsInt, HoldsInts, LeavesInts, HasInts, AllHaveInts, EffectHasInts,
+    DeclaratorHasInts, StartHasInts, StatementHasInts, StatementsHaveInts, FlowLeavesInts}
 use Rattle.om_meaning.specs.Laws.{IntsStayBehind}
-use Rattle.om_meaning.specs.Meaning.{is_zero, one, value_of, values_of, effect_of, printed, Flow, Onward, Broke, Continued, Returned, Failed, OutOfTurns, flow_value, then_do, after_turn, turns, turns_first, tested, tested_if_any, effect_flow, effect_if_any, slot_number, declared, all_declared, begun, returned, meaning, meanings}
-use Rattle.om_meaning.specs.Worlds.{World, Layout, Outcome, Got, Faulty, Values, GotAll, FaultyAt, after_value, with_first, store, clear, print}
+use Rattle.om_meaning.specs.Meaning.{is_zero, one, value_of, values_of, effect_of, printed, Flow, Onward, Broke,
+    Continued, Returned, Failed, OutOfTurns, flow_value, then_do, after_turn, turns, turns_first, tested,
+    tested_if_any, effect_flow, effect_if_any, slot_number, declared, all_declared, begun, returned, meaning, meanings}
+use Rattle.om_meaning.specs.Worlds.{World, Layout, Outcome, Got, Faulty, Values, GotAll, FaultyAt, after_value,
+    with_first, store, clear, print}
 use Rattle.om_meaning.proofs.Ints.{Stays, value_ints, store_ints, assigned_ints, element_assigned_ints, one_ints}
 
 -- from a world of ints it leaves ints
 abbrev Keeps : (World → Flow) → Type 0
 Keeps f = (w : World) → HoldsInts w → FlowLeavesInts (f w)
 
-flow_of : (r : Outcome) (f : ℤ → World → Flow) → LeavesInts r → ((v : ℤ) (u : World) → IsInt v → HoldsInts u → FlowLeavesInts (f v u)) → FlowLeavesInts (flow_value r f)
+flow_of : (r : Outcome) (f : ℤ → World → Flow) → LeavesInts r → ((v : ℤ) (u : World) → IsInt v → HoldsInts u
+    → FlowLeavesInts (f v u)) → FlowLeavesInts (flow_value r f)
 flow_of (Got v w) f h g = g v w h.0 h.1
 flow_of (Faulty x w) f h g = h
 
@@ -47,21 +57,26 @@ abbrev Tests : (World → (World → Flow) → Flow) → Type 0
 Tests test = (f : World → Flow) → Keeps f → Keeps (λ w. test w f)
 
 tested_ints : (c : World → Outcome) → Stays c → Tests (tested c)
-tested_ints c hc f hf w h = flow_of (c w) (λ v u. if is_zero v then Onward u else f u) (hc w h) (λ v u int h. chosen_flow (is_zero v) (Onward u) (f u) h (hf u h))
+tested_ints c hc f hf w h = flow_of (c w) (λ v u. if is_zero v then Onward u else f u) (hc w h)
+    (λ v u int h. chosen_flow (is_zero v) (Onward u) (f u) h (hf u h))
 
-turns_ints : (n : ℕ) (test : World → (World → Flow) → Flow) (body between_turns : World → Flow) → Tests test → Keeps body → Keeps between_turns
+turns_ints : (n : ℕ) (test : World → (World → Flow) → Flow) (body between_turns : World → Flow) → Tests test
+    → Keeps body → Keeps between_turns
     → Keeps (turns n test body between_turns)
 turns_ints zero test body between_turns ht hb hn w h = tt
 turns_ints (suc n) test body between_turns ht hb hn w h =
     ht (λ u. after_turn (body u) (λ t. then_do (between_turns t) (turns n test body between_turns)))
     (λ u h. after_ints (body u) (λ t. then_do (between_turns t) (turns n test body between_turns)) (hb u h)
-    (λ t h. then_ints (between_turns t) (turns n test body between_turns) (hn t h) (turns_ints n test body between_turns ht hb hn)))
+    (λ t h. then_ints (between_turns t) (turns n test body between_turns) (hn t h)
+        (turns_ints n test body between_turns ht hb hn)))
     w h
 
-first_ints : (n : ℕ) (body : World → Flow) (test : World → (World → Flow) → Flow) → Keeps body → Tests test → Keeps (turns_first n body test)
+first_ints : (n : ℕ) (body : World → Flow) (test : World → (World → Flow) → Flow) → Keeps body → Tests test
+    → Keeps (turns_first n body test)
 first_ints zero body test hb ht w h = tt
 first_ints (suc n) body test hb ht w h =
-    after_ints (body w) (λ u. test u (turns_first n body test)) (hb w h) (ht (turns_first n body test) (first_ints n body test hb ht))
+    after_ints (body w) (λ u. test u (turns_first n body test)) (hb w h)
+        (ht (turns_first n body test) (first_ints n body test hb ht))
 
 -- ---- printing and expressions whose value nothing uses
 
@@ -73,7 +88,8 @@ first_ints_of : (v : ℤ) (r : Values) → ValuesLeaveInts r → ValuesLeaveInts
 first_ints_of v (GotAll vs w) h = h
 first_ints_of v (FaultyAt f w) h = h
 
-after_value_ints : (r : Outcome) (f : ℤ → World → Values) → LeavesInts r → ((v : ℤ) (u : World) → HoldsInts u → ValuesLeaveInts (f v u)) → ValuesLeaveInts (after_value r f)
+after_value_ints : (r : Outcome) (f : ℤ → World → Values) → LeavesInts r → ((v : ℤ) (u : World) → HoldsInts u
+    → ValuesLeaveInts (f v u)) → ValuesLeaveInts (after_value r f)
 after_value_ints (Got v w) f h g = g v w h.1
 after_value_ints (Faulty x w) f h g = h
 
@@ -95,7 +111,8 @@ module _ (at : Layout) where
   effect_ints : (e : ResolvedExpressionTree) → EffectHasInts e → Stays (λ w. effect_of at e w)
   effect_ints (Postfix x o) g w h = assigned_ints (at.place x) (Some (step_of o)) one one_ints w h
   effect_ints (PostfixElement a j o) g w h =
-      element_assigned_ints (at.place a) (at.cells (at.place a)) (λ u. value_of at j u) (Some (step_of o)) one (value_ints at j g) one_ints w h
+      element_assigned_ints (at.place a) (at.cells (at.place a)) (λ u. value_of at j u) (Some (step_of o)) one
+          (value_ints at j g) one_ints w h
   effect_ints (Print format es) g w h = printed_ints format (values_of at es w) (values_ints es g w h)
   effect_ints (Constant c) g w h = value_ints at (Constant c) g w h
   effect_ints (Variable x) g w h = value_ints at (Variable x) g w h
@@ -134,13 +151,16 @@ module _ (at : Layout) where
   declared_keeps : (x : LocalVariable) (e : Option ResolvedExpressionTree) → IfSome e HasInts → Keeps (declared at x e)
   declared_keeps x None g w h = clear_ints (slot_number (at.place (Local x.at))) w h
   declared_keeps x (Some e) g w h =
-      flow_of (value_of at e w) (λ v u. flow_value (store (at.place (Local x.at)) 0 v u) (λ z t. Onward t)) (value_ints at e g w h)
-      (λ v u int h. flow_of (store (at.place (Local x.at)) 0 v u) (λ z t. Onward t) (store_ints (at.place (Local x.at)) 0 v u int h) (λ z t int h. h))
+      flow_of (value_of at e w) (λ v u. flow_value (store (at.place (Local x.at)) 0 v u) (λ z t. Onward t))
+          (value_ints at e g w h)
+      (λ v u int h. flow_of (store (at.place (Local x.at)) 0 v u) (λ z t. Onward t)
+          (store_ints (at.place (Local x.at)) 0 v u int h) (λ z t int h. h))
 
   declarators_keep : (ds : List ResolvedDeclaratorTree) → All DeclaratorHasInts ds → Keeps (all_declared at ds)
   declarators_keep [] g w h = h
   declarators_keep (d ∷ ds) g w h =
-      then_ints (declared at d.variable d.initial w) (all_declared at ds) (declared_keeps d.variable d.initial (All-head DeclaratorHasInts d ds g) w h)
+      then_ints (declared at d.variable d.initial w) (all_declared at ds) (declared_keeps d.variable d.initial
+          (All-head DeclaratorHasInts d ds g) w h)
       (declarators_keep ds (All-tail DeclaratorHasInts d ds g))
 
   start_keeps : (start : ResolvedStartTree) → StartHasInts start → Keeps (begun at start)
@@ -150,7 +170,8 @@ module _ (at : Layout) where
 
   returned_keeps : (e : Option ResolvedExpressionTree) → IfSome e HasInts → Keeps (returned at e)
   returned_keeps None g w h = (tt, h)
-  returned_keeps (Some e) g w h = flow_of (value_of at e w) (λ v u. Returned (Some v) u) (value_ints at e g w h) (λ v u int h. (int, h))
+  returned_keeps (Some e) g w h = flow_of (value_of at e w) (λ v u. Returned (Some v) u) (value_ints at e g w h)
+      (λ v u int h. (int, h))
 
   mutual
     statement_keeps : (x : ResolvedStatementTree) (n : ℕ) → StatementHasInts x → Keeps (λ w. meaning at x n w)
@@ -162,15 +183,21 @@ module _ (at : Layout) where
         flow_of (value_of at c w) (λ v u. if is_zero v then Onward u else meaning at s n u) (value_ints at c g.0 w h)
         (λ v u int h. chosen_flow (is_zero v) (Onward u) (meaning at s n u) h (statement_keeps s n g.1 u h))
     statement_keeps (IfElse first c s t) n g w h =
-        flow_of (value_of at c w) (λ v u. if is_zero v then meaning at t n u else meaning at s n u) (value_ints at c g.0 w h)
-        (λ v u int h. chosen_flow (is_zero v) (meaning at t n u) (meaning at s n u) (statement_keeps t n g.2 u h) (statement_keeps s n g.1 u h))
+        flow_of (value_of at c w) (λ v u. if is_zero v then meaning at t n u else meaning at s n u)
+            (value_ints at c g.0 w h)
+        (λ v u int h. chosen_flow (is_zero v) (meaning at t n u) (meaning at s n u) (statement_keeps t n g.2 u h)
+            (statement_keeps s n g.1 u h))
     statement_keeps (While first c s) n g w h =
-        turns_ints n (tested (λ u. value_of at c u)) (λ u. meaning at s n u) Onward (tested_ints (λ u. value_of at c u) (value_ints at c g.0)) (statement_keeps s n g.1) (λ u h. h) w h
+        turns_ints n (tested (λ u. value_of at c u)) (λ u. meaning at s n u) Onward
+            (tested_ints (λ u. value_of at c u) (value_ints at c g.0)) (statement_keeps s n g.1) (λ u h. h) w h
     statement_keeps (Do first s c) n g w h =
-        first_ints n (λ u. meaning at s n u) (tested (λ u. value_of at c u)) (statement_keeps s n g.0) (tested_ints (λ u. value_of at c u) (value_ints at c g.1)) w h
+        first_ints n (λ u. meaning at s n u) (tested (λ u. value_of at c u)) (statement_keeps s n g.0)
+            (tested_ints (λ u. value_of at c u) (value_ints at c g.1)) w h
     statement_keeps (For first start c step s) n g w h =
-        then_ints (begun at start w) (turns n (tested_if_any at c) (λ u. meaning at s n u) (effect_if_any at step)) (start_keeps start g.0 w h)
-        (turns_ints n (tested_if_any at c) (λ u. meaning at s n u) (effect_if_any at step) (test_keeps c g.1) (statement_keeps s n g.3) (step_keeps step g.2))
+        then_ints (begun at start w) (turns n (tested_if_any at c) (λ u. meaning at s n u) (effect_if_any at step))
+            (start_keeps start g.0 w h)
+        (turns_ints n (tested_if_any at c) (λ u. meaning at s n u) (effect_if_any at step) (test_keeps c g.1)
+            (statement_keeps s n g.3) (step_keeps step g.2))
     statement_keeps (Return first e) n g w h = returned_keeps e g w h
     statement_keeps (Break first) n g w h = h
     statement_keeps (Continue first) n g w h = h
@@ -184,7 +211,8 @@ module _ (at : Layout) where
 
     statements_keep : (xs : ResolvedStatementsTree) (n : ℕ) → StatementsHaveInts xs → Keeps (λ w. meanings at xs n w)
     statements_keep NoStatements n g w h = h
-    statements_keep (Statement x xs) n g w h = then_ints (meaning at x n w) (λ u. meanings at xs n u) (statement_keeps x n g.0 w h) (statements_keep xs n g.1)
+    statements_keep (Statement x xs) n g w h = then_ints (meaning at x n w) (λ u. meanings at xs n u)
+        (statement_keeps x n g.0 w h) (statements_keep xs n g.1)
 
 pub ints_stay_behind : IntsStayBehind
 ints_stay_behind at x n w g h = statement_keeps at x n g w h

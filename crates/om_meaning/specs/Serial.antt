@@ -1,6 +1,10 @@
 -- What has a meaning here: expressions and statements without calls and directives.
 use Rattle.std.specs.Prelude.{All, IfSome}
-use Rattle.om_resolved.specs.ResolvedTree.{ResolvedExpressionTree, Constant, Variable, Element, Unary, Binary, Conditional, Assign, AssignElement, Postfix, PostfixElement, Print, ValuesTree, NoValues, Value, ResolvedStartTree, StartNothing, StartExpression, StartDeclaration, ResolvedStatementTree, Declaration, Block, Empty, Expression, If, IfElse, While, Do, For, Return, Break, Continue, ResolvedStatementsTree, NoStatements, Statement}
+use Rattle.om_resolved.specs.ResolvedTree.{ResolvedExpressionTree, Constant, Variable, Element, Unary, Binary,
+    Conditional, Assign, AssignElement, Postfix, PostfixElement, Print, ValuesTree, NoValues, Value,
+    ResolvedStartTree, StartNothing, StartExpression, StartDeclaration, ResolvedStatementTree, Declaration, Block,
+    Empty, Expression, If, IfElse, While, Do, For, Return, Break, Continue, ResolvedStatementsTree, NoStatements,
+    Statement}
 
 abbrev mutual
   pub IsSerial : ResolvedExpressionTree → Type 0

@@ -1,5 +1,6 @@
 -- The declarations of names, as scopes get further ones and end.
-use Rattle.std.proofs.Common.{◌≡◌, ℕ, Bool, true, false, cond, List, [], ◌∷◌, ◌++◌, Option, None, Some, is_some, if◌then◌else◌, length, refl, sym, ap, ◌∙◌, true≢false, Vec}
+use Rattle.std.proofs.Common.{◌≡◌, ℕ, Bool, true, false, cond, List, [], ◌∷◌, ◌++◌, Option, None, Some, is_some,
+    if◌then◌else◌, length, refl, sym, ap, ◌∙◌, true≢false, Vec}
 use Rattle.std.specs.declared.alloc.Global.{Global}
 use Rattle.std.specs.List.{AllByRecursion, IsDistinct}
 use Rattle.std.specs.Map.{keys_of, lookup}
@@ -16,79 +17,108 @@ use Rattle.om_names.proofs.Stacked.{name_itself, same_names, without-last}
 -- ---- scopes
 
 lookup-push : (scope : Scope) (name : List ℕ) (meaning : Meaning) (other : List ℕ)
-    → lookup (bytes_eq other) (scope ++ (name, meaning) ∷ []) ≡ option_or (lookup (bytes_eq other) scope) (cond (bytes_eq other name) (Some meaning) None)
+    → lookup (bytes_eq other) (scope ++ (name, meaning) ∷ []) ≡ option_or (lookup (bytes_eq other) scope)
+        (cond (bytes_eq other name) (Some meaning) None)
 lookup-push [] name meaning other = refl
 lookup-push (binding ∷ scope) name meaning other = by (bytes_eq other binding.0) (lookup-push scope name meaning other)
   where
-    by : (b : Bool) → lookup (bytes_eq other) (scope ++ (name, meaning) ∷ []) ≡ option_or (lookup (bytes_eq other) scope) (cond (bytes_eq other name) (Some meaning) None)
-        → cond b (Some binding.1) (lookup (bytes_eq other) (scope ++ (name, meaning) ∷ [])) ≡ option_or (cond b (Some binding.1) (lookup (bytes_eq other) scope)) (cond (bytes_eq other name) (Some meaning) None)
+    by : (b : Bool) → lookup (bytes_eq other) (scope ++ (name, meaning) ∷ [])
+        ≡ option_or (lookup (bytes_eq other) scope) (cond (bytes_eq other name) (Some meaning) None)
+        → cond b (Some binding.1) (lookup (bytes_eq other) (scope ++ (name, meaning) ∷ []))
+            ≡ option_or (cond b (Some binding.1) (lookup (bytes_eq other) scope))
+            (cond (bytes_eq other name) (Some meaning) None)
     by true rest = refl
     by false rest = rest
 
 -- a new name in the innermost
-pub sightings-push : (scope : Scope) (outer : List Scope) (name : List ℕ) (meaning : Meaning) → lookup (bytes_eq name) scope ≡ None → (other : List ℕ)
+pub sightings-push : (scope : Scope) (outer : List Scope) (name : List ℕ) (meaning : Meaning)
+    → lookup (bytes_eq name) scope ≡ None → (other : List ℕ)
     → sightings ((scope ++ (name, meaning) ∷ []) ∷ outer) other
-    ≡ (if bytes_eq other name then sightings (scope ∷ outer) other ++ record { depth = length outer; meaning = meaning } ∷ [] else sightings (scope ∷ outer) other)
+    ≡ (if bytes_eq other name then sightings (scope ∷ outer) other
+        ++ record { depth = length outer; meaning = meaning } ∷ [] else sightings (scope ∷ outer) other)
 sightings-push scope outer name meaning new other =
-    ap (with_sighting (length outer) (sightings outer other)) (lookup-push scope name meaning other) ∙ by (bytes_eq other name) refl
+    ap (with_sighting (length outer) (sightings outer other)) (lookup-push scope name meaning other)
+        ∙ by (bytes_eq other name) refl
   where
     to_none : (found : Option Meaning) → option_or found None ≡ found
     to_none None = refl
     to_none (Some m) = refl
 
     by : (b : Bool) → bytes_eq other name ≡ b
-        → with_sighting (length outer) (sightings outer other) (option_or (lookup (bytes_eq other) scope) (cond b (Some meaning) None))
-        ≡ (if b then with_sighting (length outer) (sightings outer other) (lookup (bytes_eq other) scope) ++ record { depth = length outer; meaning = meaning } ∷ [] else with_sighting (length outer) (sightings outer other) (lookup (bytes_eq other) scope))
+        → with_sighting (length outer) (sightings outer other) (option_or (lookup (bytes_eq other) scope)
+            (cond b (Some meaning) None))
+        ≡ (if b then with_sighting (length outer) (sightings outer other) (lookup (bytes_eq other) scope)
+            ++ record { depth = length outer; meaning = meaning } ∷ [] else with_sighting (length outer)
+            (sightings outer other) (lookup (bytes_eq other) scope))
     by true e =
-        let none : lookup (bytes_eq other) scope ≡ None = ap (λ n. lookup (bytes_eq n) scope) (same_names other name e) ∙ new in
+        let none : lookup (bytes_eq other) scope ≡ None = ap (λ n. lookup (bytes_eq n) scope)
+            (same_names other name e) ∙ new in
         rw none refl
     by false e = ap (with_sighting (length outer) (sightings outer other)) (to_none (lookup (bytes_eq other) scope))
 
 -- a table that notes it
-pub shows-push : (table now : List (List ℕ × List Sighting)) (scope : Scope) (outer : List Scope) (name : List ℕ) (meaning : Meaning) (depth : ℕ) → lookup (bytes_eq name) scope ≡ None → depth ≡ length outer
-    → ((other : List ℕ) → seen_in now other ≡ (if bytes_eq other name then seen_in table other ++ record { depth = depth; meaning = meaning } ∷ [] else seen_in table other))
+pub shows-push : (table now : List (List ℕ × List Sighting)) (scope : Scope) (outer : List Scope) (name : List ℕ)
+    (meaning : Meaning) (depth : ℕ) → lookup (bytes_eq name) scope ≡ None → depth ≡ length outer
+    → ((other : List ℕ) → seen_in now other ≡ (if bytes_eq other name then seen_in table other
+        ++ record { depth = depth; meaning = meaning } ∷ [] else seen_in table other))
     → Shows table (scope ∷ outer) → Shows now ((scope ++ (name, meaning) ∷ []) ∷ outer)
 shows-push table now scope outer name meaning depth new at noted shows other =
     noted other
-    ∙ ap (λ seen. if bytes_eq other name then seen ++ record { depth = depth; meaning = meaning } ∷ [] else seen) (shows other)
-    ∙ ap (λ d. if bytes_eq other name then sightings (scope ∷ outer) other ++ record { depth = d; meaning = meaning } ∷ [] else sightings (scope ∷ outer) other) at
+    ∙ ap (λ seen. if bytes_eq other name then seen ++ record { depth = depth; meaning = meaning } ∷ [] else seen)
+        (shows other)
+    ∙ ap (λ d. if bytes_eq other name then sightings (scope ∷ outer) other
+        ++ record { depth = d; meaning = meaning } ∷ [] else sightings (scope ∷ outer) other) at
     ∙ sym (sightings-push scope outer name meaning new other)
 
 -- and one that forgets it again
-pub shows-pop : (table now : List (List ℕ × List Sighting)) (scope : Scope) (outer : List Scope) (name : List ℕ) (meaning : Meaning) → lookup (bytes_eq name) scope ≡ None
-    → ((other : List ℕ) → seen_in now other ≡ (if bytes_eq other name then without_innermost (seen_in table other) else seen_in table other))
+pub shows-pop : (table now : List (List ℕ × List Sighting)) (scope : Scope) (outer : List Scope) (name : List ℕ)
+    (meaning : Meaning) → lookup (bytes_eq name) scope ≡ None
+    → ((other : List ℕ) → seen_in now other ≡ (if bytes_eq other name then without_innermost (seen_in table other)
+        else seen_in table other))
     → Shows table ((scope ++ (name, meaning) ∷ []) ∷ outer) → Shows now (scope ∷ outer)
 shows-pop table now scope outer name meaning new forgotten shows other =
     forgotten other
-    ∙ ap (λ seen. if bytes_eq other name then without_innermost seen else seen) (shows other ∙ sightings-push scope outer name meaning new other)
+    ∙ ap (λ seen. if bytes_eq other name then without_innermost seen else seen) (shows other ∙ sightings-push scope
+        outer name meaning new other)
     ∙ by (bytes_eq other name)
   where
-    by : (b : Bool) → (if b then without_innermost (if b then sightings (scope ∷ outer) other ++ record { depth = length outer; meaning = meaning } ∷ [] else sightings (scope ∷ outer) other) else (if b then sightings (scope ∷ outer) other ++ record { depth = length outer; meaning = meaning } ∷ [] else sightings (scope ∷ outer) other)) ≡ sightings (scope ∷ outer) other
+    by : (b : Bool) → (if b then without_innermost (if b then sightings (scope ∷ outer) other
+        ++ record { depth = length outer; meaning = meaning } ∷ [] else sightings (scope ∷ outer) other) else
+        (if b then sightings (scope ∷ outer) other ++ record { depth = length outer; meaning = meaning }
+        ∷ [] else sightings (scope ∷ outer) other)) ≡ sightings (scope ∷ outer) other
     by true = without-last (sightings (scope ∷ outer) other) (record { depth = length outer; meaning = meaning })
     by false = refl
 
 -- a scope in which nothing is declared yet
-pub shows-empty : (table : List (List ℕ × List Sighting)) (scopes : List Scope) → Shows table scopes → Shows table ([] ∷ scopes)
+pub shows-empty : (table : List (List ℕ × List Sighting)) (scopes : List Scope) → Shows table scopes
+    → Shows table ([] ∷ scopes)
 shows-empty table scopes shows name = shows name
 
 -- ---- names that are each there once
 
-last_apart : (P : Vec ℕ Global → Type 0) (front rest : List (Vec ℕ Global × Meaning)) (name : Vec ℕ Global) (meaning : Meaning) → AllByRecursion P (keys_of (front ++ (name, meaning) ∷ rest)) → P name
+last_apart : (P : Vec ℕ Global → Type 0) (front rest : List (Vec ℕ Global × Meaning)) (name : Vec ℕ Global)
+    (meaning : Meaning) → AllByRecursion P (keys_of (front ++ (name, meaning) ∷ rest)) → P name
 last_apart P [] rest name meaning all = all.0
 last_apart P (entry ∷ front) rest name meaning all = last_apart P front rest name meaning all.1
 
 abbrev pub same_key : Vec ℕ Global → Vec ℕ Global → Bool
 same_key one other = bytes_eq one.items other.items
 
-pub new-behind : (front rest : List (Vec ℕ Global × Meaning)) (name : Vec ℕ Global) (meaning : Meaning) → IsDistinct same_key (keys_of (front ++ (name, meaning) ∷ rest))
+pub new-behind : (front rest : List (Vec ℕ Global × Meaning)) (name : Vec ℕ Global) (meaning : Meaning)
+    → IsDistinct same_key (keys_of (front ++ (name, meaning) ∷ rest))
     → is_some (lookup (bytes_eq name.items) (scope_of front)) ≡ false
 new-behind [] rest name meaning distinct = refl
 new-behind (entry ∷ front) rest name meaning distinct =
     by (bytes_eq name.items entry.0.items) refl
-    (last_apart (λ other. same_key entry.0 other ≡ false) front rest name meaning (IsDistinct-head same_key entry.0 (keys_of (front ++ (name, meaning) ∷ rest)) distinct))
-    (new-behind front rest name meaning (IsDistinct-tail same_key entry.0 (keys_of (front ++ (name, meaning) ∷ rest)) distinct))
+    (last_apart (λ other. same_key entry.0 other ≡ false) front rest name meaning
+        (IsDistinct-head same_key entry.0 (keys_of (front ++ (name, meaning) ∷ rest)) distinct))
+    (new-behind front rest name meaning
+        (IsDistinct-tail same_key entry.0 (keys_of (front ++ (name, meaning) ∷ rest)) distinct))
   where
-    by : (b : Bool) → bytes_eq name.items entry.0.items ≡ b → bytes_eq entry.0.items name.items ≡ false → is_some (lookup (bytes_eq name.items) (scope_of front)) ≡ false
+    by : (b : Bool) → bytes_eq name.items entry.0.items ≡ b → bytes_eq entry.0.items name.items ≡ false
+        → is_some (lookup (bytes_eq name.items) (scope_of front)) ≡ false
         → is_some (cond b (Some entry.1) (lookup (bytes_eq name.items) (scope_of front))) ≡ false
-    by true e apart rest = absurd (true≢false (sym (ap (λ n. bytes_eq n name.items) (sym (same_names name.items entry.0.items e)) ∙ name_itself name.items) ∙ apart))
+    by true e apart rest = absurd
+        (true≢false (sym (ap (λ n. bytes_eq n name.items) (sym (same_names name.items entry.0.items e))
+        ∙ name_itself name.items) ∙ apart))
     by false e apart rest = rest

@@ -1,5 +1,6 @@
 -- The constructs among the scopes round a place. In each list the first is the innermost.
-use Rattle.std.specs.Prelude.{◌≡◌, ℕ, suc, ◌<◌, List, [], ◌∷◌, ◌++◌, Option, None, Some, Bool, true, false, not, ◌&&◌, ◌||◌, if◌then◌else◌, is_some, length, nat_eq, nat_lt}
+use Rattle.std.specs.Prelude.{◌≡◌, ℕ, suc, ◌<◌, List, [], ◌∷◌, ◌++◌, Option, None, Some, Bool, true, false, not,
+    ◌&&◌, ◌||◌, if◌then◌else◌, is_some, length, nat_eq, nat_lt}
 use Rattle.std.specs.List.{list_any}
 use Rattle.std.specs.Str.{bytes_eq}
 use Rattle.om_names.specs.declared.nesting.Construct.{Construct}
@@ -36,7 +37,8 @@ outside_of (construct ∷ outer) depth = if nat_eq construct.depth depth then ou
 abbrev pub enclosing_of : List Scope → List Construct → List Enclosing
 enclosing_of [] constructs = []
 enclosing_of (scope ∷ outer) constructs =
-    record { scope = scope; region = region_in constructs (length outer) } ∷ enclosing_of outer (outside_of constructs (length outer))
+    record { scope = scope; region = region_in constructs (length outer) } ∷ enclosing_of outer
+        (outside_of constructs (length outer))
 
 -- ---- the innermost construct of a kind
 
@@ -54,19 +56,22 @@ lists region name = list_any (bytes_eq name) region.shared
 -- how many scopes stand round the one in the innermost construct that is such; 0 where none is
 abbrev pub innermost : (Region → Bool) → List Construct → ℕ
 innermost is_such [] = 0
-innermost is_such (construct ∷ outer) = if is_such construct.region then suc construct.depth else innermost is_such outer
+innermost is_such (construct ∷ outer) = if is_such construct.region then suc construct.depth else innermost is_such
+    outer
 
 -- the same of those that do not list a name
 abbrev pub innermost_without : (Region → Bool) → List Construct → List ℕ → ℕ
 innermost_without is_such [] name = 0
 innermost_without is_such (construct ∷ outer) name =
-    if is_such construct.region && not (lists construct.region name) then suc construct.depth else innermost_without is_such outer name
+    if is_such construct.region && not (lists construct.region name) then suc construct.depth else innermost_without
+        is_such outer name
 
 abbrev pub marks_of : List Construct → Marks
 marks_of constructs = record { asking = innermost asks constructs; copying = innermost copies constructs }
 
 abbrev pub marks_without : List Construct → List ℕ → Marks
-marks_without constructs name = record { asking = innermost_without asks constructs name; copying = innermost_without copies constructs name }
+marks_without constructs name = record { asking = innermost_without asks constructs name; copying =
+    innermost_without copies constructs name }
 
 -- those in a construct, round whose inner scope so many stand
 abbrev pub marks_in : Region → ℕ → Marks → Marks
@@ -82,7 +87,8 @@ AreMarked (construct ∷ outer) = (construct.marks ≡ marks_of (construct ∷ o
 
 -- the constructs, once one is entered in the scope of this depth
 abbrev pub entered : ℕ → Region → List Construct → List Construct
-entered depth region outer = record { depth = depth; region = region; marks = marks_in region (suc depth) (marks_of outer) } ∷ outer
+entered depth region outer = record { depth = depth; region = region; marks = marks_in region (suc depth)
+    (marks_of outer) } ∷ outer
 
 -- ---- the constructs that list a name
 
@@ -94,7 +100,8 @@ listing inside outer name = record { depth = inside; outer = marks_without outer
 abbrev pub listings : List Construct → List ℕ → List Listing
 listings [] name = []
 listings (construct ∷ outer) name =
-    if lists construct.region name then listings outer name ++ listing (suc construct.depth) outer name ∷ [] else listings outer name
+    if lists construct.region name then listings outer name ++ listing (suc construct.depth) outer name
+        ∷ [] else listings outer name
 
 -- a table has the listings of each name
 abbrev pub Lists : List (List ℕ × List Listing) → List Construct → Type 0
@@ -117,9 +124,11 @@ abbrev pub with_listing : ℕ → Marks → List Listing → List Listing
 with_listing inside all seen = seen ++ record { depth = inside; outer = marks_behind (innermost_of seen) all } ∷ []
 
 -- of a table, for each of these names, what is noted changes so; for the others it stays
-abbrev pub ChangedFor : (List Listing → List Listing) → (before now : List (List ℕ × List Listing)) → List (List ℕ) → Type 0
+abbrev pub ChangedFor : (List Listing → List Listing) → (before now : List (List ℕ × List Listing)) → List (List ℕ)
+    → Type 0
 ChangedFor change before now names =
-    (other : List ℕ) → seen_in now other ≡ (if list_any (bytes_eq other) names then change (seen_in before other) else seen_in before other)
+    (other : List ℕ) → seen_in now other ≡ (if list_any (bytes_eq other) names then change (seen_in before other)
+        else seen_in before other)
 
 -- ---- what constructs make of a name
 
@@ -132,7 +141,8 @@ end_of (construct ∷ outer) = suc construct.depth
 abbrev pub unlisted_since : List Construct → ℕ → List ℕ → Bool
 unlisted_since [] depth name = false
 unlisted_since (construct ∷ outer) depth name =
-    if nat_lt construct.depth depth then false else lacks_clause construct.region name || unlisted_since outer depth name
+    if nat_lt construct.depth depth then false else lacks_clause construct.region name || unlisted_since outer depth
+        name
 
 -- what a construct makes of the variable of a function round it
 abbrev pub holder_in : Region → List ℕ → Holder
@@ -148,13 +158,15 @@ outer_first Task inner = Task
 abbrev pub holder_since : List Construct → ℕ → List ℕ → Holder
 holder_since [] depth name = Own
 holder_since (construct ∷ outer) depth name =
-    if nat_lt construct.depth depth then Own else outer_first (holder_since outer depth name) (holder_in construct.region name)
+    if nat_lt construct.depth depth then Own else outer_first (holder_since outer depth name)
+        (holder_in construct.region name)
 
 -- the same, where the first is the outermost
 abbrev pub holder_within : List Construct → ℕ → List ℕ → Holder
 holder_within [] depth name = Own
 holder_within (construct ∷ inner) depth name =
-    if nat_lt construct.depth depth then holder_within inner depth name else outer_first (holder_in construct.region name) (holder_within inner depth name)
+    if nat_lt construct.depth depth then holder_within inner depth name else outer_first
+        (holder_in construct.region name) (holder_within inner depth name)
 
 abbrev pub is_copy : Holder → Bool
 is_copy Own = false

@@ -9,7 +9,8 @@ use Rattle.om_lexer.specs.declared.token.Punctuator.{Punctuator}
 use Rattle.om_lexer.specs.declared.token.Span.{Span}
 use Rattle.om_lexer.specs.declared.token.Token.{Token}
 use Rattle.om_pragma.specs.declared.name.Name as names
-use Rattle.om_parts.specs.Reading.{◌>>=◌, Outcome, too_deep, take, same_mark, same_word, take_mark, take_word, take_name, mark_at, word_at, name_at}
+use Rattle.om_parts.specs.Reading.{◌>>=◌, Outcome, too_deep, take, same_mark, same_word, take_mark, take_word,
+    take_name, mark_at, word_at, name_at}
 use Rattle.om_tree.specs.Spelling.{mark, word, name}
 use Rattle.om_parser.proofs.Outcomes.{ok, some}
 use Rattle.om_parts.specs.Laws.{Stopping, IsAnswer}
@@ -41,11 +42,13 @@ too_deep_other s e = absurd cc
 abbrev pub deep_at : Span → Stopping
 deep_at s = record { fault = too_deep s; other = too_deep_other s }
 
-pub bind_answer : {A B : Type 0} {Part Whole : Type 0} (read : Outcome A) (f : A → Outcome B) (x : A) (y : B) → (Whole → Part) → IsAnswer Part read x → IsAnswer Whole (f x) y → IsAnswer Whole (read >>= f) y
+pub bind_answer : {A B : Type 0} {Part Whole : Type 0} (read : Outcome A) (f : A → Outcome B) (x : A) (y : B)
+    → (Whole → Part) → IsAnswer Part read x → IsAnswer Whole (f x) y → IsAnswer Whole (read >>= f) y
 bind_answer {A} {B} {Part} {Whole} read f x y part (inl e) h = subst (λ r. IsAnswer Whole (r >>= f) y) (sym e) h
 bind_answer {A} {B} {Part} {Whole} read f x y part (inr (stop, e, never)) h = inr (stop, rw e refl, λ w. never (part w))
 
 -- what is asked of the whole asks as much of the part
-pub narrower : {A : Type 0} {Part Whole : Type 0} (read : Outcome A) (x : A) → (Whole → Part) → IsAnswer Part read x → IsAnswer Whole read x
+pub narrower : {A : Type 0} {Part Whole : Type 0} (read : Outcome A) (x : A) → (Whole → Part) → IsAnswer Part read x
+    → IsAnswer Whole read x
 narrower read x part (inl e) = inl e
 narrower read x part (inr (stop, e, never)) = inr (stop, e, λ w. never (part w))

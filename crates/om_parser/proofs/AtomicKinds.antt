@@ -22,7 +22,9 @@ kind_mapped f (clauses.Reduction s r) = refl
 kind_mapped f (clauses.Schedule s a) = refl
 kind_mapped f (clauses.Plain k s) = refl
 
-any_mapped : {E F : Type 0} (f : E → F) (k : ClauseKind) (items : List (ClauseItem E)) → list_any (λ (i : ClauseItem F). same_clause (kind_of i.clause) k) (map (map_item f) items) ≡ list_any (λ (i : ClauseItem E). same_clause (kind_of i.clause) k) items
+any_mapped : {E F : Type 0} (f : E → F) (k : ClauseKind) (items : List (ClauseItem E))
+    → list_any (λ (i : ClauseItem F). same_clause (kind_of i.clause) k) (map (map_item f) items)
+    ≡ list_any (λ (i : ClauseItem E). same_clause (kind_of i.clause) k) items
 any_mapped f k [] = refl
 any_mapped f k (i ∷ items) = rw (kind_mapped f i.clause, any_mapped f k items) refl
 

@@ -5,7 +5,9 @@ use Rattle.om_pragma.specs.Questions.{is_atomic, atomic_kind}
 use Rattle.om_tree.specs.AtomicForms.{has_atomic_form}
 use Rattle.om_tree.specs.Limits.{Limits}
 use Rattle.om_tree.specs.Sizes.{Where, HasForms, HaveForms, IsItemWithin, HasItemForms}
-use Rattle.om_tree.specs.Tree.{StatementTree, StatementsTree, LocalDeclaration, Block, Empty, Expression, If, IfElse, While, Do, For, Return, Break, Continue, Construct, StandAlone, Sections, Section, NoStatements, Statement, ItemTree}
+use Rattle.om_tree.specs.Tree.{StatementTree, StatementsTree, LocalDeclaration, Block, Empty, Expression, If,
+    IfElse, While, Do, For, Return, Break, Continue, Construct, StandAlone, Sections, Section, NoStatements,
+    Statement, ItemTree}
 
 -- the one of two that is asked, where both hold
 where_both : (b : Bool) (First Second : Type 0) → First → Second → Where b First Second
@@ -32,7 +34,8 @@ mutual
   no_forms (Return at value semicolon) = tt
   no_forms (Break at semicolon) = tt
   no_forms (Continue at semicolon) = tt
-  no_forms (Construct d s) = where_both (is_atomic d.name) ((not false || has_atomic_form (atomic_kind d) s) ≡ true) (HasForms false s) refl (no_forms s)
+  no_forms (Construct d s) = where_both (is_atomic d.name) ((not false || has_atomic_form (atomic_kind d) s) ≡ true)
+      (HasForms false s) refl (no_forms s)
   no_forms (StandAlone d) = tt
   no_forms (Sections d left items right) = no_forms_of items
   no_forms (Section d s) = no_forms s

@@ -33,20 +33,26 @@ unfolding take_name take
 no_name _ (EndsByComma s us) = refl
 no_name _ (EndsByParen s us) = refl
 
-name_if_any : (n : Option names.Name) (rest : List Token) → EndsParameter rest → optional (take_name (perhaps (λ n. name n ∷ []) n ++ rest)) (perhaps (λ n. name n ∷ []) n ++ rest) ≡ (n, rest)
+name_if_any : (n : Option names.Name) (rest : List Token) → EndsParameter rest
+    → optional (take_name (perhaps (λ n. name n ∷ []) n ++ rest)) (perhaps (λ n. name n ∷ []) n ++ rest) ≡ (n, rest)
 unfolding take_name take
 name_if_any (Some n) rest ends = refl
 name_if_any None rest ends = rw (no_name rest ends) refl
 
-parameter_again : (p : Parameter) (rest : List Token) → EndsParameter rest → parameter_at (parameter_spelling p ++ rest) ≡ ok (p, rest)
+parameter_again : (p : Parameter) (rest : List Token) → EndsParameter rest → parameter_at (parameter_spelling p
+    ++ rest) ≡ ok (p, rest)
 unfolding parameter_at
-parameter_again p rest ends = rw (word_again keywords.Int p.int (perhaps (λ n. name n ∷ []) p.name ++ rest), name_if_any p.name rest ends) refl
+parameter_again p rest ends = rw (word_again keywords.Int p.int (perhaps (λ n. name n ∷ []) p.name ++ rest),
+    name_if_any p.name rest ends) refl
 
-further_parameter_again : (p : Span × Parameter) (rest : List Token) → EndsParameter rest → further_parameter_at (behind_comma parameter_spelling p ++ rest) ≡ ok (p, rest)
+further_parameter_again : (p : Span × Parameter) (rest : List Token) → EndsParameter rest → further_parameter_at
+    (behind_comma parameter_spelling p ++ rest) ≡ ok (p, rest)
 unfolding further_parameter_at
-further_parameter_again p rest ends = rw (mark_again punctuators.Comma p.0 (parameter_spelling p.1 ++ rest), parameter_again p.1 rest ends) refl
+further_parameter_again p rest ends = rw (mark_again punctuators.Comma p.0 (parameter_spelling p.1 ++ rest),
+    parameter_again p.1 rest ends) refl
 
-all_further_again : AreAgain (behind_comma parameter_spelling) IsAny IsAny EndsParameter (take_mark punctuators.CloseParen) further_parameter_at
+all_further_again : AreAgain (behind_comma parameter_spelling) IsAny IsAny EndsParameter
+    (take_mark punctuators.CloseParen) further_parameter_at
 unfolding take_mark take same_mark
 all_further_again = record {
   one = λ p rest f ends. inl (further_parameter_again p rest ends);
@@ -55,20 +61,27 @@ all_further_again = record {
   some_tokens = λ p f. further_parameter_some p;
 }
 
-ends_first : (ps : List (Span × Parameter)) (s : Span) (rest : List Token) → EndsParameter (flat_map (behind_comma parameter_spelling) ps ++ mark punctuators.CloseParen s ∷ rest)
+ends_first : (ps : List (Span × Parameter)) (s : Span) (rest : List Token)
+    → EndsParameter (flat_map (behind_comma parameter_spelling) ps ++ mark punctuators.CloseParen s ∷ rest)
 ends_first [] s rest = EndsByParen s rest
-ends_first (p ∷ ps) s rest = EndsByComma p.0 ((parameter_spelling p.1 ++ flat_map (behind_comma parameter_spelling) ps) ++ mark punctuators.CloseParen s ∷ rest)
+ends_first (p ∷ ps) s rest = EndsByComma p.0 ((parameter_spelling p.1 ++ flat_map (behind_comma parameter_spelling)
+    ps) ++ mark punctuators.CloseParen s ∷ rest)
 
 -- an answer that no limit hinders
 surely : {A : Type 0} {Fits : Type 0} (read : Outcome A) (x : A) → Fits → IsAnswer Fits read x → read ≡ ok x
 surely read x fits (inl e) = e
 surely read x fits (inr (stop, e, never)) = absurd (never fits)
 
-listed_again : (p : Parameter) (ps : List (Span × Parameter)) (s : Span) (rest : List Token) → listed_at (parameter_spelling p ++ (flat_map (behind_comma parameter_spelling) ps ++ mark punctuators.CloseParen s ∷ rest)) ≡ ok ((Listed p ps, s), rest)
+listed_again : (p : Parameter) (ps : List (Span × Parameter)) (s : Span) (rest : List Token)
+    → listed_at (parameter_spelling p ++ (flat_map (behind_comma parameter_spelling) ps
+    ++ mark punctuators.CloseParen s ∷ rest)) ≡ ok ((Listed p ps, s), rest)
 unfolding listed_at
 listed_again p ps s rest =
     let others : List Token = flat_map (behind_comma parameter_spelling) ps ++ mark punctuators.CloseParen s ∷ rest in
-    let read = surely (until (take_mark punctuators.CloseParen) further_parameter_at (length others) others) (ps, s, rest) (all_any ps) (until_again (behind_comma parameter_spelling) IsAny IsAny EndsParameter (take_mark punctuators.CloseParen) further_parameter_at all_further_again (mark punctuators.CloseParen s) s rest (take_mark_again punctuators.CloseParen s rest) (EndsByParen s rest) ps (all_any ps)) in
+    let read = surely (until (take_mark punctuators.CloseParen) further_parameter_at (length others) others)
+        (ps, s, rest) (all_any ps) (until_again (behind_comma parameter_spelling) IsAny IsAny EndsParameter
+        (take_mark punctuators.CloseParen) further_parameter_at all_further_again (mark punctuators.CloseParen s) s
+        rest (take_mark_again punctuators.CloseParen s rest) (EndsByParen s rest) ps (all_any ps)) in
     rw (parameter_again p others (ends_first ps s rest), read) refl
 
 word_is_no_mark : (s : Span) (ts : List Token) → take_mark punctuators.CloseParen (word keywords.Int s ∷ ts) ≡ None
@@ -83,16 +96,19 @@ pub int_is_no_void : (s : Span) (ts : List Token) → take_word keywords.Void (w
 unfolding take_word take same_word
 int_is_no_void s ts = refl
 
-parameters_again : (p : ParametersTree) (s : Span) (rest : List Token) → parameters_at (parameters_spelling p ++ mark punctuators.CloseParen s ∷ rest) ≡ ok ((p, s), rest)
+parameters_again : (p : ParametersTree) (s : Span) (rest : List Token) → parameters_at (parameters_spelling p
+    ++ mark punctuators.CloseParen s ∷ rest) ≡ ok ((p, s), rest)
 unfolding parameters_at parameters_spelling
 parameters_again NoParameters s rest = rw (take_mark_again punctuators.CloseParen s rest) refl
-parameters_again (Void at) s rest = rw (void_is_no_mark at (mark punctuators.CloseParen s ∷ rest), take_word_again keywords.Void at (mark punctuators.CloseParen s ∷ rest), mark_again punctuators.CloseParen s rest) refl
+parameters_again (Void at) s rest = rw (void_is_no_mark at (mark punctuators.CloseParen s ∷ rest), take_word_again
+    keywords.Void at (mark punctuators.CloseParen s ∷ rest), mark_again punctuators.CloseParen s rest) refl
 parameters_again (Listed p ps) s rest =
     let others : List Token = flat_map (behind_comma parameter_spelling) ps ++ mark punctuators.CloseParen s ∷ rest in
     let back : List Token = perhaps (λ n. name n ∷ []) p.name ++ others in
     rw (append_assoc, word_is_no_mark p.int back, int_is_no_void p.int back) (listed_again p ps s rest)
 
 -- a head is read again behind its left parenthesis
-pub head_again : (h : HeadTree) (rest : List Token) → head_after h.result h.name h.open_paren (parameters_spelling h.parameters ++ mark punctuators.CloseParen h.close_paren ∷ rest) ≡ ok (h, rest)
+pub head_again : (h : HeadTree) (rest : List Token) → head_after h.result h.name h.open_paren
+    (parameters_spelling h.parameters ++ mark punctuators.CloseParen h.close_paren ∷ rest) ≡ ok (h, rest)
 unfolding head_after
 head_again h rest = rw (parameters_again h.parameters h.close_paren rest) refl

@@ -17,16 +17,22 @@ parameter_plain ts = bind_plain (word_at keywords.Int ts) _ (known_plain ts _) (
 
 further_parameter_plain : (ts : List Token) → IsPlain (further_parameter_at ts)
 unfolding further_parameter_at mark_at
-further_parameter_plain ts = bind_plain (mark_at punctuators.Comma ts) _ (known_plain ts _) (λ c. bind_plain (parameter_at c.1) _ (parameter_plain c.1) (λ p. ok_plain _))
+further_parameter_plain ts = bind_plain (mark_at punctuators.Comma ts) _ (known_plain ts _)
+    (λ c. bind_plain (parameter_at c.1) _ (parameter_plain c.1) (λ p. ok_plain _))
 
 listed_plain : (ts : List Token) → IsPlain (listed_at ts)
 unfolding listed_at
-listed_plain ts = bind_plain (parameter_at ts) _ (parameter_plain ts) (λ p. bind_plain (until (take_mark punctuators.CloseParen) further_parameter_at (length p.1) p.1) _ (until_plain _ further_parameter_at further_parameter_plain (length p.1) p.1) (λ m. ok_plain _))
+listed_plain ts = bind_plain (parameter_at ts) _ (parameter_plain ts)
+    (λ p. bind_plain (until (take_mark punctuators.CloseParen) further_parameter_at (length p.1) p.1) _
+    (until_plain _ further_parameter_at further_parameter_plain (length p.1) p.1) (λ m. ok_plain _))
 
 parameters_plain : (ts : List Token) → IsPlain (parameters_at ts)
 unfolding parameters_at mark_at
-parameters_plain ts = choose_plain (take_mark punctuators.CloseParen ts) _ _ (λ r. ok_plain _) (choose_plain _ _ _ (λ (v : Span × List Token). bind_plain (mark_at punctuators.CloseParen v.1) _ (known_plain v.1 _) (λ r. ok_plain _)) (listed_plain ts))
+parameters_plain ts = choose_plain (take_mark punctuators.CloseParen ts) _ _ (λ r. ok_plain _)
+    (choose_plain _ _ _ (λ (v : Span × List Token). bind_plain (mark_at punctuators.CloseParen v.1) _
+    (known_plain v.1 _) (λ r. ok_plain _)) (listed_plain ts))
 
-pub head_plain : (result : ResultType) (n : names.Name) (left : Span) (ts : List Token) → IsPlain (head_after result n left ts)
+pub head_plain : (result : ResultType) (n : names.Name) (left : Span) (ts : List Token)
+    → IsPlain (head_after result n left ts)
 unfolding head_after
 head_plain result n left ts = bind_plain (parameters_at ts) _ (parameters_plain ts) (λ p. ok_plain _)

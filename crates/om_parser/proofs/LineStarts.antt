@@ -17,7 +17,8 @@ use Rattle.om_tree.specs.Tree.{ExpressionTree}
 abbrev pub start_of_directive : DirectiveName → LineStart
 start_of_directive name = start_of_kind (directive_kind name)
 
-name_start_is : (n : DirectiveName) (pragma omp : Token) (more rest : List Token) → word_start (pragma ∷ omp ∷ ((name_spelling n ++ more) ++ rest)) ≡ start_of_directive n
+name_start_is : (n : DirectiveName) (pragma omp : Token) (more rest : List Token)
+    → word_start (pragma ∷ omp ∷ ((name_spelling n ++ more) ++ rest)) ≡ start_of_directive n
 unfolding name_spelling same_keyword
 name_start_is (directives.Parallel s) pragma omp more rest = refl
 name_start_is (directives.For s) pragma omp more rest = refl
@@ -37,6 +38,9 @@ name_start_is (directives.Taskwait s) pragma omp more rest = refl
 name_start_is (directives.Taskyield s) pragma omp more rest = refl
 name_start_is (directives.Flush s l) pragma omp more rest = refl
 
-pub line_start_is : (d : Directive ExpressionTree) (rest : List Token) → line_start (directive_spelling expression_spelling d ++ rest) ≡ start_of_directive d.name
+pub line_start_is : (d : Directive ExpressionTree) (rest : List Token)
+    → line_start (directive_spelling expression_spelling d ++ rest) ≡ start_of_directive d.name
 unfolding directive_spelling opening_spelling
-line_start_is d rest = name_start_is d.name (token (kinds.Name (codes "pragma")) d.pragma) (token (kinds.Name (codes "omp")) d.omp) (flat_map (item_spelling expression_spelling) d.clauses ++ token kinds.DirectiveEnd d.end ∷ []) rest
+line_start_is d rest = name_start_is d.name (token (kinds.Name (codes "pragma")) d.pragma)
+    (token (kinds.Name (codes "omp")) d.omp) (flat_map (item_spelling expression_spelling) d.clauses
+    ++ token kinds.DirectiveEnd d.end ∷ []) rest

@@ -14,7 +14,8 @@ use Rattle.om_parser.proofs.UnitComplete.{unit_again}
 
 -- limits that both keep, where no `atomic` is checked
 abbrev both : Limits → Limits → Limits
-both l m = record { nested = l.nested + m.nested; tokens = l.tokens + m.tokens; blocks = l.blocks + m.blocks; statements = l.statements + m.statements; checked = false }
+both l m = record { nested = l.nested + m.nested; tokens = l.tokens + m.tokens; blocks = l.blocks + m.blocks;
+    statements = l.statements + m.statements; checked = false }
 
 -- limits that an item keeps
 abbrev limits_of : ItemTree → Limits
@@ -22,7 +23,8 @@ limits_of (Declaration d) = record { nested = 0; tokens = 0; blocks = 0; stateme
 limits_of (Prototype h semicolon) = record { nested = 0; tokens = 0; blocks = 0; statements = 0; checked = false }
 limits_of (Function f) =
     let items = statements f.body.items in
-    record { nested = brackets_of items; tokens = longest_of items; blocks = blocks_of items + 1; statements = height_of items; checked = false }
+    record { nested = brackets_of items; tokens = longest_of items; blocks = blocks_of items + 1; statements =
+        height_of items; checked = false }
 
 -- limits that these items keep, with room for a parenthesis
 abbrev large : List ItemTree → Limits
@@ -54,33 +56,39 @@ wider : (l m : Limits) → IsWider l m → (items : List ItemTree) → All (IsKe
 wider l m w items g = All-weaker (IsKeptItem l) (IsKeptItem m) (λ i h. item_wider l m w i h) items g
 
 first_wider : (l m : Limits) → IsWider l (both l m)
-first_wider l m = record { nested = omega arith; tokens = omega arith; blocks = omega arith; statements = omega arith; checked = refl }
+first_wider l m = record { nested = omega arith; tokens = omega arith; blocks = omega arith; statements = omega
+    arith; checked = refl }
 
 second_wider : (l m : Limits) → IsWider m (both l m)
-second_wider l m = record { nested = omega arith; tokens = omega arith; blocks = omega arith; statements = omega arith; checked = refl }
+second_wider l m = record { nested = omega arith; tokens = omega arith; blocks = omega arith; statements = omega
+    arith; checked = refl }
 
 own_limits : (i : ItemTree) → IsKeptItem (limits_of i) i
 own_limits (Declaration d) = (tt, tt)
 own_limits (Prototype h semicolon) = (tt, tt)
-own_limits (Function f) = (record { high = omega arith; deep = omega arith; nested = omega arith; long = omega arith }, no_forms_of (statements f.body.items))
+own_limits (Function f) = (record { high = omega arith; deep = omega arith; nested = omega arith; long = omega arith
+    }, no_forms_of (statements f.body.items))
 
 large_enough : (items : List ItemTree) → All (IsKeptItem (large items)) items
 large_enough [] = All-nil (IsKeptItem (large []))
 large_enough (i ∷ items) =
-    All-cons (IsKeptItem (large (i ∷ items))) i items (item_wider (limits_of i) (large (i ∷ items)) (first_wider (limits_of i) (large items)) i (own_limits i))
+    All-cons (IsKeptItem (large (i ∷ items))) i items (item_wider (limits_of i) (large (i ∷ items))
+        (first_wider (limits_of i) (large items)) i (own_limits i))
     (wider (large items) (large (i ∷ items)) (second_wider (limits_of i) (large items)) items (large_enough items))
 
 some_nested : (items : List ItemTree) → 1 ≤ (large items).nested
 some_nested [] = omega arith
 some_nested (i ∷ items) = let le = some_nested items in omega (arith, le)
 
-read_whole : PartsAreReadAgain → GlobalsAreReadAgain → (l : Limits) → 1 ≤ l.nested → (u : UnitTree) → IsUnit u → All (IsKeptItem l) u.items → unit_at l (unit_spelling u) ≡ ok u
+read_whole : PartsAreReadAgain → GlobalsAreReadAgain → (l : Limits) → 1 ≤ l.nested → (u : UnitTree) → IsUnit u
+    → All (IsKeptItem l) u.items → unit_at l (unit_spelling u) ≡ ok u
 read_whole again globals l one u f w = elim (unit_again again globals l one u f) [
   | inl e ↦ e
   | inr (stop, e, never) ↦ absurd (never w)
 ]
 
-pub same_unit : PartsAreReadAgain → GlobalsAreReadAgain → (t u : UnitTree) → IsUnit t → IsUnit u → unit_spelling t ≡ unit_spelling u → t ≡ u
+pub same_unit : PartsAreReadAgain → GlobalsAreReadAgain → (t u : UnitTree) → IsUnit t → IsUnit u → unit_spelling t
+    ≡ unit_spelling u → t ≡ u
 same_unit again globals t u f g e =
     let a = large t.items in
     let b = large u.items in

@@ -1,5 +1,6 @@
 -- Outcomes of reading, step by step.
-use Rattle.std.proofs.Common.{◌≡◌, List, ◌∷◌, ◌++◌, Option, Some, None, Ok, Err, refl, ap, ◌∙◌, sym, cond, Bool, true, false, ◌⊎◌, inl, inr, append_assoc}
+use Rattle.std.proofs.Common.{◌≡◌, List, ◌∷◌, ◌++◌, Option, Some, None, Ok, Err, refl, ap, ◌∙◌, sym, cond, Bool,
+    true, false, ◌⊎◌, inl, inr, append_assoc}
 use Rattle.om_lexer.specs.declared.fault.SourceFault.{SourceFault}
 use Rattle.om_lexer.specs.declared.token.Token.{Token}
 use Rattle.om_parts.specs.Reading.{◌>>=◌, Outcome, choose, known}
@@ -19,16 +20,19 @@ some_is x y e = cc
 pub err_is : {A : Type 0} (e f : SourceFault) → ◌≡◌ {A = Outcome A} (Err e) (Err f) → e ≡ f
 err_is e f h = cc
 
-pub bind_ok : {A B : Type 0} (r : Outcome A) (f : A → Outcome B) (y : B) → (r >>= f) ≡ ok y → (x : A) × (r ≡ ok x) × (f x ≡ ok y)
+pub bind_ok : {A B : Type 0} (r : Outcome A) (f : A → Outcome B) (y : B) → (r >>= f) ≡ ok y → (x : A) × (r ≡ ok x)
+    × (f x ≡ ok y)
 bind_ok (Ok x) f y e = (x, refl, e)
 bind_ok (Err d) f y e = absurd cc
 
 -- a step fails, or the one after it
-pub bind_err : {A B : Type 0} (r : Outcome A) (f : A → Outcome B) (d : SourceFault) → (r >>= f) ≡ Err d → (r ≡ Err d) ⊎ ((x : A) × (r ≡ ok x) × (f x ≡ Err d))
+pub bind_err : {A B : Type 0} (r : Outcome A) (f : A → Outcome B) (d : SourceFault) → (r >>= f) ≡ Err d
+    → (r ≡ Err d) ⊎ ((x : A) × (r ≡ ok x) × (f x ≡ Err d))
 bind_err (Ok x) f d e = inr (x, refl, e)
 bind_err (Err c) f d e = inl cc
 
-pub choose_cases : {A B : Type 0} (o : Option A) (f : A → B) (z y : B) → choose o f z ≡ y → ((x : A) × (o ≡ some x) × (f x ≡ y)) ⊎ ((o ≡ None) × (z ≡ y))
+pub choose_cases : {A B : Type 0} (o : Option A) (f : A → B) (z y : B) → choose o f z ≡ y
+    → ((x : A) × (o ≡ some x) × (f x ≡ y)) ⊎ ((o ≡ None) × (z ≡ y))
 choose_cases (Some x) f z y e = inl (x, refl, e)
 choose_cases None f z y e = inr (refl, e)
 

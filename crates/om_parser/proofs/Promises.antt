@@ -28,29 +28,37 @@ memory_only : (f : SourceFault) → f ≡ no_memory → f.code ≡ codes.Memory
 memory_only f e = ap (λ (g : SourceFault). g.code) e
 
 module _ (laws : PartLaws) (ts : List Token) where
-  pub is_found : (r : Result units.Unit SourceFault) → Reads view_unit r (unit_at accepted ts) → IfOk r (λ unit. IsTreeOf ts (view_unit unit))
-  is_found (Ok u) h = let s = unit_sound laws.sound laws.globals_sound accepted (omega arith) ts (view_unit u) h in record { formed = s.0; spelled = s.1 }
+  pub is_found : (r : Result units.Unit SourceFault) → Reads view_unit r (unit_at accepted ts)
+      → IfOk r (λ unit. IsTreeOf ts (view_unit unit))
+  is_found (Ok u) h = let s = unit_sound laws.sound laws.globals_sound accepted (omega arith) ts (view_unit u) h in
+      record { formed = s.0; spelled = s.1 }
   is_found (Err f) h = tt
 
-  pub is_within : (r : Result units.Unit SourceFault) → Reads view_unit r (unit_at accepted ts) → IfOk r (λ unit. IsWithinLimits (view_unit unit))
+  pub is_within : (r : Result units.Unit SourceFault) → Reads view_unit r (unit_at accepted ts)
+      → IfOk r (λ unit. IsWithinLimits (view_unit unit))
   unfolding IsWithinLimits
-  is_within (Ok u) h = All-weaker (IsKeptItem accepted) (IsItemWithin accepted) (λ i k. k.0) (view_unit u).items (unit_sound laws.sound laws.globals_sound accepted (omega arith) ts (view_unit u) h).2
+  is_within (Ok u) h = All-weaker (IsKeptItem accepted) (IsItemWithin accepted) (λ i k. k.0) (view_unit u).items
+      (unit_sound laws.sound laws.globals_sound accepted (omega arith) ts (view_unit u) h).2
   is_within (Err f) h = tt
 
-  pub has_forms : (r : Result units.Unit SourceFault) → Reads view_unit r (unit_at accepted ts) → IfOk r (λ unit. AtomicsHaveForms (view_unit unit))
+  pub has_forms : (r : Result units.Unit SourceFault) → Reads view_unit r (unit_at accepted ts)
+      → IfOk r (λ unit. AtomicsHaveForms (view_unit unit))
   unfolding AtomicsHaveForms
-  has_forms (Ok u) h = All-weaker (IsKeptItem accepted) (HasItemForms true) (λ i k. k.1) (view_unit u).items (unit_sound laws.sound laws.globals_sound accepted (omega arith) ts (view_unit u) h).2
+  has_forms (Ok u) h = All-weaker (IsKeptItem accepted) (HasItemForms true) (λ i k. k.1) (view_unit u).items
+      (unit_sound laws.sound laws.globals_sound accepted (omega arith) ts (view_unit u) h).2
   has_forms (Err f) h = tt
 
   -- a tree with these tokens is read again
   again : (u : UnitTree) → IsTreeOf ts u → IsAnswer (All (IsKeptItem accepted) u.items) (unit_at accepted ts) u
-  again u t = subst (λ us. IsAnswer (All (IsKeptItem accepted) u.items) (unit_at accepted us) u) t.spelled (unit_again laws.again laws.globals_again accepted (omega arith) u t.formed)
+  again u t = subst (λ us. IsAnswer (All (IsKeptItem accepted) u.items) (unit_at accepted us) u) t.spelled
+      (unit_again laws.again laws.globals_again accepted (omega arith) u t.formed)
 
   keeps : (u : UnitTree) → IsWithinLimits u → AtomicsHaveForms u → All (IsKeptItem accepted) u.items
   unfolding IsWithinLimits AtomicsHaveForms
   keeps u within forms k d lt = (within k d lt, forms k d lt)
 
-  pub is_only : (r : Result units.Unit SourceFault) → Reads view_unit r (unit_at accepted ts) → (u : UnitTree) → IsTreeOf ts u → IsWithinLimits u → AtomicsHaveForms u → IsTreeOrMemory u r
+  pub is_only : (r : Result units.Unit SourceFault) → Reads view_unit r (unit_at accepted ts) → (u : UnitTree)
+      → IsTreeOf ts u → IsWithinLimits u → AtomicsHaveForms u → IsTreeOrMemory u r
   is_only (Ok found) h u t w forms = elim (again u t) [
     | inl e ↦ ok_is (view_unit found) u (sym h ∙ e)
     | inr (s, e, never) ↦ absurd (never (keeps u w forms))
@@ -61,30 +69,37 @@ module _ (laws : PartLaws) (ts : List Token) where
     | inr (s, e, never) ↦ absurd (never (keeps u w forms))
   ]
 
-  pub is_syntax : (r : Result units.Unit SourceFault) → Reads view_unit r (unit_at accepted ts) → IfErr r (λ f. f.code ≡ codes.Syntax → (u : UnitTree) → IsTreeOf ts u → ⊥)
+  pub is_syntax : (r : Result units.Unit SourceFault) → Reads view_unit r (unit_at accepted ts)
+      → IfErr r (λ f. f.code ≡ codes.Syntax → (u : UnitTree) → IsTreeOf ts u → ⊥)
   is_syntax (Ok u) h = tt
   is_syntax (Err f) (inl memory) = λ wrong u t. let m = memory_only f memory in absurd cc
   is_syntax (Err f) (inr e) = λ wrong u t. elim (again u t) [
     | inl read ↦ let both : ok u ≡ Err f = sym read ∙ e in absurd cc
-    | inr (stop, stops, never) ↦ stop.other (ap (λ (g : SourceFault). g.code) (err_is stop.fault f (sym stops ∙ e)) ∙ wrong)
+    | inr (stop, stops, never) ↦ stop.other (ap (λ (g : SourceFault). g.code) (err_is stop.fault f (sym stops ∙ e))
+        ∙ wrong)
   ]
 
-  pub is_too_deep : (r : Result units.Unit SourceFault) → Reads view_unit r (unit_at accepted ts) → IfErr r (λ f. f.code ≡ codes.TooDeep → IsLimitPassed ts f.at)
+  pub is_too_deep : (r : Result units.Unit SourceFault) → Reads view_unit r (unit_at accepted ts)
+      → IfErr r (λ f. f.code ≡ codes.TooDeep → IsLimitPassed ts f.at)
   is_too_deep (Ok u) h = tt
   is_too_deep (Err f) (inl memory) = λ deep. let m = memory_only f memory in absurd cc
   is_too_deep (Err f) (inr e) = λ deep. too_deep_unit laws accepted (omega arith) ts f e deep
 
-  pub is_unknown : (r : Result units.Unit SourceFault) → Reads view_unit r (unit_at accepted ts) → IfErr r (λ f. f.code ≡ codes.UnknownDirective → IsRefusedLine ts f)
+  pub is_unknown : (r : Result units.Unit SourceFault) → Reads view_unit r (unit_at accepted ts)
+      → IfErr r (λ f. f.code ≡ codes.UnknownDirective → IsRefusedLine ts f)
   is_unknown (Ok u) h = tt
   is_unknown (Err f) (inl memory) = λ unknown. let m = memory_only f memory in absurd cc
   is_unknown (Err f) (inr e) = λ unknown. unknown_in_unit laws accepted (omega arith) ts f e unknown
 
-  pub is_bad_clause : (r : Result units.Unit SourceFault) → Reads view_unit r (unit_at accepted ts) → IfErr r (λ f. f.code ≡ codes.BadClause → IsRefusedLine ts f ⊎ IsBadAtomic ts f.at)
+  pub is_bad_clause : (r : Result units.Unit SourceFault) → Reads view_unit r (unit_at accepted ts)
+      → IfErr r (λ f. f.code ≡ codes.BadClause → IsRefusedLine ts f ⊎ IsBadAtomic ts f.at)
   is_bad_clause (Ok u) h = tt
   is_bad_clause (Err f) (inl memory) = λ bad. let m = memory_only f memory in absurd cc
   is_bad_clause (Err f) (inr e) = λ bad. bad_in_unit laws accepted (omega arith) ts f e bad
 
-  pub is_no_other : (r : Result units.Unit SourceFault) → Reads view_unit r (unit_at accepted ts) → IfErr r (λ f. (f ≡ no_memory) ⊎ (f.code ≡ codes.Syntax) ⊎ (f.code ≡ codes.TooDeep) ⊎ (f.code ≡ codes.UnknownDirective) ⊎ (f.code ≡ codes.BadClause))
+  pub is_no_other : (r : Result units.Unit SourceFault) → Reads view_unit r (unit_at accepted ts)
+      → IfErr r (λ f. (f ≡ no_memory) ⊎ (f.code ≡ codes.Syntax) ⊎ (f.code ≡ codes.TooDeep)
+      ⊎ (f.code ≡ codes.UnknownDirective) ⊎ (f.code ≡ codes.BadClause))
   is_no_other (Ok u) h = tt
   is_no_other (Err f) (inl memory) = inl memory
   is_no_other (Err f) (inr e) = inr (unit_refuses laws accepted (omega arith) ts f e)

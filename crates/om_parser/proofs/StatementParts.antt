@@ -1,5 +1,6 @@
 -- What statements are made of, as it is read.
-use Rattle.std.proofs.Common.{◌≡◌, ℕ, ◌+◌, ◌≤◌, List, [], ◌∷◌, ◌++◌, Option, None, Err, Bool, true, false, refl, sym, ap, ◌∙◌, arith, inl, inr, ◌⊎◌, cond, All}
+use Rattle.std.proofs.Common.{◌≡◌, ℕ, ◌+◌, ◌≤◌, List, [], ◌∷◌, ◌++◌, Option, None, Err, Bool, true, false, refl,
+    sym, ap, ◌∙◌, arith, inl, inr, ◌⊎◌, cond, All}
 use Rattle.std.specs.List.{flat_map}
 use Rattle.std.proofs.lemmas.List.Elements.{All-head, All-tail}
 use Rattle.om_lexer.specs.declared.fault.SourceFault.{SourceFault}
@@ -22,12 +23,16 @@ use Rattle.om_parser.specs.declared.start.Start.{Start}
 use Rattle.om_parser.specs.declared.start.Start.TheVariants as starts
 use Rattle.om_parser.specs.ConstructReading.{line_start, PartsReader}
 use Rattle.om_parts.specs.Reading.{Outcome, Reader, take_word}
-use Rattle.om_tree.specs.Spelling.{token, mark, word, perhaps, expression_spelling, condition_spelling, for_head_spelling, statement_spelling, statements_spelling}
-use Rattle.om_tree.specs.Formed.{IsOptional, IsForStart, ends_open, IsBody, IsBlockItem, IsSectionItem, IsPartItem, AreSome, IsStatement, AreStatements, AreSectionItems}
+use Rattle.om_tree.specs.Spelling.{token, mark, word, perhaps, expression_spelling, condition_spelling,
+    for_head_spelling, statement_spelling, statements_spelling}
+use Rattle.om_tree.specs.Formed.{IsOptional, IsForStart, ends_open, IsBody, IsBlockItem, IsSectionItem, IsPartItem,
+    AreSome, IsStatement, AreStatements, AreSectionItems}
 use Rattle.om_tree.specs.Limits.{Limits}
-use Rattle.om_tree.specs.Sizes.{longest_of, brackets_of, blocks_of, height_of, HasForms, HaveForms, HasRoom, HaveRoom, HasBlockRoom, optional_extent, optional_nesting, for_start_extent, for_start_nesting}
+use Rattle.om_tree.specs.Sizes.{longest_of, brackets_of, blocks_of, height_of, HasForms, HaveForms, HasRoom,
+    HaveRoom, HasBlockRoom, optional_extent, optional_nesting, for_start_extent, for_start_nesting}
 use Rattle.om_parser.specs.StatementReading.{start_of, OpeningTree, OpensIf, OpensWhile, OpensFor}
-use Rattle.om_tree.specs.Tree.{ExpressionTree, ForStartTree, ForHeadTree, StatementTree, StatementsTree, LocalDeclaration, Section, statements, BlockTree}
+use Rattle.om_tree.specs.Tree.{ExpressionTree, ForStartTree, ForHeadTree, StatementTree, StatementsTree,
+    LocalDeclaration, Section, statements, BlockTree}
 use Rattle.om_parts.specs.Laws.{IsSound, IsWhole}
 use Rattle.om_parser.proofs.Outcomes.{ok}
 use Rattle.om_parser.proofs.LineStarts.{line_start_is, start_of_directive}
@@ -123,7 +128,8 @@ AreInside insides.Block items = AreStatements items
 AreInside insides.Sections items = AreSectionItems items
 
 -- the same of one that may stand in such braces
-pub record IsGoodItem (i : Inside) (l : Limits) (checked : Bool) (room blocks_left : ℕ) (s : StatementTree) : Type 0 where
+pub record IsGoodItem (i : Inside) (l : Limits) (checked : Bool) (room blocks_left : ℕ) (s : StatementTree) : Type 0
+    where
   pub formed : IsStatement s
   pub room_for : HasRoom l checked room blocks_left s
   pub inside : StandsInside i s
@@ -134,7 +140,8 @@ pub record IsGoodPart (l : Limits) (checked : Bool) (room blocks_left : ℕ) (s 
   pub room_for : HasRoom l checked room blocks_left s
   pub part : IsPartItem s
 
-pub record AreGood (i : Inside) (l : Limits) (checked : Bool) (room blocks_left : ℕ) (items : List StatementTree) : Type 0 where
+pub record AreGood (i : Inside) (l : Limits) (checked : Bool) (room blocks_left : ℕ)
+    (items : List StatementTree) : Type 0 where
   pub formed : AreInside i (statements items)
   pub room_for : HaveRoom l checked room blocks_left (statements items)
 
@@ -143,17 +150,21 @@ unfolding IsStatement
 none_inside insides.Block = tt
 none_inside insides.Sections = tt
 
-one_more_inside : (i : Inside) (s : StatementTree) (rest : List StatementTree) → IsStatement s → StandsInside i s → AreInside i (statements rest) → AreInside i (statements (s ∷ rest))
+one_more_inside : (i : Inside) (s : StatementTree) (rest : List StatementTree) → IsStatement s → StandsInside i s
+    → AreInside i (statements rest) → AreInside i (statements (s ∷ rest))
 unfolding IsStatement
 one_more_inside insides.Block s rest formed inside others = (formed, inside, others)
 one_more_inside insides.Sections s rest formed inside others = (formed, inside, others)
 
-pub are_good : (i : Inside) (l : Limits) (checked : Bool) (room blocks_left : ℕ) (items : List StatementTree) → All (IsGoodItem i l checked room blocks_left) items → AreGood i l checked room blocks_left items
+pub are_good : (i : Inside) (l : Limits) (checked : Bool) (room blocks_left : ℕ) (items : List StatementTree)
+    → All (IsGoodItem i l checked room blocks_left) items → AreGood i l checked room blocks_left items
 unfolding HasForms
-are_good i l checked room blocks_left [] h = record { formed = none_inside i; room_for = record { high = omega arith; deep = omega arith; nested = omega arith; long = omega arith; forms = tt } }
+are_good i l checked room blocks_left [] h = record { formed = none_inside i; room_for = record
+    { high = omega arith; deep = omega arith; nested = omega arith; long = omega arith; forms = tt } }
 are_good i l checked room blocks_left (s ∷ rest) h =
     let first = All-head (IsGoodItem i l checked room blocks_left) s rest h in
-    let others = are_good i l checked room blocks_left rest (All-tail (IsGoodItem i l checked room blocks_left) s rest h) in
+    let others = are_good i l checked room blocks_left rest (All-tail (IsGoodItem i l checked room blocks_left) s
+        rest h) in
     record {
       formed = one_more_inside i s rest first.formed first.inside others.formed;
       room_for = record {
@@ -177,22 +188,26 @@ part_inside i (Section d s) part = absurd part
 part_inside insides.Block _ part = tt
 part_inside insides.Sections _ part = tt
 
-pub statements_flat : (items : List StatementTree) → statements_spelling (statements items) ≡ flat_map statement_spelling items
+pub statements_flat : (items : List StatementTree) → statements_spelling (statements items)
+    ≡ flat_map statement_spelling items
 unfolding statement_spelling
 statements_flat [] = refl
 statements_flat (s ∷ rest) = ap (λ w. statement_spelling s ++ w) (statements_flat rest)
 
 -- a well-formed statement that stands at the front, as far as it can
-pub record IsStatementRead (l : Limits) (checked : Bool) (room blocks_left : ℕ) (ts : List Token) (x : StatementTree × List Token) : Type 0 where
+pub record IsStatementRead (l : Limits) (checked : Bool) (room blocks_left : ℕ) (ts : List Token) (x : StatementTree
+    × List Token) : Type 0 where
   pub parts : ts ≡ statement_spelling x.0 ++ x.1
   pub good : IsGoodBody l checked room blocks_left x.0
   pub nearest : ends_open x.0 ≡ true → take_word keywords.Else x.1 ≡ None
 
 abbrev pub IsStatementSound : (l : Limits) (checked : Bool) (room blocks_left : ℕ) → Reader StatementTree → Type 0
-IsStatementSound l checked room blocks_left r = (ts : List Token) (x : StatementTree × List Token) → r ts ≡ ok x → IsStatementRead l checked room blocks_left ts x
+IsStatementSound l checked room blocks_left r = (ts : List Token) (x : StatementTree × List Token) → r ts ≡ ok x
+    → IsStatementRead l checked room blocks_left ts x
 
 -- the items of a block that are read behind its left brace
-pub record AreItemsRead (l : Limits) (checked : Bool) (room blocks_left : ℕ) (ts : List Token) (x : List StatementTree × Span × List Token) : Type 0 where
+pub record AreItemsRead (l : Limits) (checked : Bool) (room blocks_left : ℕ) (ts : List Token)
+    (x : List StatementTree × Span × List Token) : Type 0 where
   pub parts : ts ≡ (statements_spelling (statements x.0) ++ mark punctuators.CloseBrace x.1 ∷ []) ++ x.2
   pub formed : AreStatements (statements x.0)
   pub high : height_of (statements x.0) ≤ room
@@ -202,7 +217,8 @@ pub record AreItemsRead (l : Limits) (checked : Bool) (room blocks_left : ℕ) (
   pub forms : HaveForms checked (statements x.0)
 
 -- the items of such braces that are read behind the left one
-pub record AreItemsInside (i : Inside) (l : Limits) (checked : Bool) (room blocks_left : ℕ) (ts : List Token) (x : List StatementTree × Span × List Token) : Type 0 where
+pub record AreItemsInside (i : Inside) (l : Limits) (checked : Bool) (room blocks_left : ℕ) (ts : List Token)
+    (x : List StatementTree × Span × List Token) : Type 0 where
   pub parts : ts ≡ (statements_spelling (statements x.0) ++ mark punctuators.CloseBrace x.1 ∷ []) ++ x.2
   pub good : AreGood i l checked room blocks_left x.0
 
@@ -211,7 +227,8 @@ abbrev pub braces_spelling : Span × StatementsTree × Span → List Token
 braces_spelling x = mark punctuators.OpenBrace x.0 ∷ (statements_spelling x.1 ++ mark punctuators.CloseBrace x.2 ∷ [])
 
 -- well-formed items in the braces of `sections` that keep the limits; the braces are a statement and a block
-pub record AreGoodBraces (l : Limits) (checked : Bool) (room blocks_left : ℕ) (x : Span × StatementsTree × Span) : Type 0 where
+pub record AreGoodBraces (l : Limits) (checked : Bool) (room blocks_left : ℕ) (x : Span × StatementsTree
+    × Span) : Type 0 where
   pub one_stands : AreSome x.1
   pub formed : AreSectionItems x.1
   pub high : height_of x.1 + 1 ≤ room
@@ -260,30 +277,41 @@ section_of_kinds true section e = absurd cc
 section_of_kinds false true e = refl
 section_of_kinds false false e = absurd cc
 
-construct_of_kinds : (alone section : Bool) → start_of_kinds alone section ≡ lines.Construct → (alone ≡ false) × (section ≡ false)
+construct_of_kinds : (alone section : Bool) → start_of_kinds alone section ≡ lines.Construct → (alone ≡ false)
+    × (section ≡ false)
 construct_of_kinds true section e = absurd cc
 construct_of_kinds false true e = absurd cc
 construct_of_kinds false false e = (refl, refl)
 
 -- what the line that stands first begins is what its name says
-pub line_named : (ts : List Token) (d : Directive ExpressionTree) (us : List Token) (start : LineStart) → line_start ts ≡ start → ts ≡ directive_spelling expression_spelling d ++ us → start_of_directive d.name ≡ start
+pub line_named : (ts : List Token) (d : Directive ExpressionTree) (us : List Token) (start : LineStart)
+    → line_start ts ≡ start → ts ≡ directive_spelling expression_spelling d ++ us → start_of_directive d.name ≡ start
 line_named ts d us start is parts = sym (line_start_is d us) ∙ ap line_start (sym parts) ∙ is
 
-pub alone_named : (ts : List Token) (d : Directive ExpressionTree) (us : List Token) → line_start ts ≡ lines.StandAlone → ts ≡ directive_spelling expression_spelling d ++ us → is_stand_alone d.name ≡ true
-alone_named ts d us is parts = alone_of_kinds (is_stand_alone d.name) (is_section d.name) (line_named ts d us lines.StandAlone is parts)
+pub alone_named : (ts : List Token) (d : Directive ExpressionTree) (us : List Token) → line_start ts
+    ≡ lines.StandAlone → ts ≡ directive_spelling expression_spelling d ++ us → is_stand_alone d.name ≡ true
+alone_named ts d us is parts = alone_of_kinds (is_stand_alone d.name) (is_section d.name)
+    (line_named ts d us lines.StandAlone is parts)
 
-pub section_named : (ts : List Token) (d : Directive ExpressionTree) (us : List Token) → line_start ts ≡ lines.Section → ts ≡ directive_spelling expression_spelling d ++ us → is_section d.name ≡ true
-section_named ts d us is parts = section_of_kinds (is_stand_alone d.name) (is_section d.name) (line_named ts d us lines.Section is parts)
+pub section_named : (ts : List Token) (d : Directive ExpressionTree) (us : List Token) → line_start ts
+    ≡ lines.Section → ts ≡ directive_spelling expression_spelling d ++ us → is_section d.name ≡ true
+section_named ts d us is parts = section_of_kinds (is_stand_alone d.name) (is_section d.name)
+    (line_named ts d us lines.Section is parts)
 
-pub construct_named : (ts : List Token) (d : Directive ExpressionTree) (us : List Token) → line_start ts ≡ lines.Construct → ts ≡ directive_spelling expression_spelling d ++ us → (is_stand_alone d.name ≡ false) × (is_section d.name ≡ false)
-construct_named ts d us is parts = construct_of_kinds (is_stand_alone d.name) (is_section d.name) (line_named ts d us lines.Construct is parts)
+pub construct_named : (ts : List Token) (d : Directive ExpressionTree) (us : List Token) → line_start ts
+    ≡ lines.Construct → ts ≡ directive_spelling expression_spelling d ++ us → (is_stand_alone d.name ≡ false)
+    × (is_section d.name ≡ false)
+construct_named ts d us is parts = construct_of_kinds (is_stand_alone d.name) (is_section d.name)
+    (line_named ts d us lines.Construct is parts)
 
 -- one of two outcomes, by a test
-pub either_way : {A : Type 0} (b : Bool) (first other x : A) → cond b first other ≡ x → ((b ≡ true) × (first ≡ x)) ⊎ ((b ≡ false) × (other ≡ x))
+pub either_way : {A : Type 0} (b : Bool) (first other x : A) → cond b first other ≡ x → ((b ≡ true) × (first ≡ x))
+    ⊎ ((b ≡ false) × (other ≡ x))
 either_way true first other x h = inl (refl, h)
 either_way false first other x h = inr (refl, h)
 
 -- an outcome that is good only where a test holds
-pub only_where : {A : Type 0} (b : Bool) (first : Outcome A) (f : SourceFault) (x : A) → cond b first (Err f) ≡ ok x → (b ≡ true) × (first ≡ ok x)
+pub only_where : {A : Type 0} (b : Bool) (first : Outcome A) (f : SourceFault) (x : A) → cond b first (Err f) ≡ ok x
+    → (b ≡ true) × (first ≡ ok x)
 only_where true first f x h = (refl, h)
 only_where false first f x h = absurd cc

@@ -1,5 +1,6 @@
 -- What does not stand first where a statement begins, and what a line is seen to be.
-use Rattle.std.proofs.Common.{◌≡◌, ℕ, ◌+◌, ◌≤◌, List, [], ◌∷◌, ◌++◌, Option, Some, None, true, false, refl, sym, ap, subst, ◌∙◌, inl, inr}
+use Rattle.std.proofs.Common.{◌≡◌, ℕ, ◌+◌, ◌≤◌, List, [], ◌∷◌, ◌++◌, Option, Some, None, true, false, refl, sym, ap,
+    subst, ◌∙◌, inl, inr}
 use Rattle.std.specs.List.{flat_map}
 use Rattle.om_lexer.specs.declared.token.Keyword.{Keyword}
 use Rattle.om_lexer.specs.declared.token.Keyword.TheVariants as keywords
@@ -20,12 +21,14 @@ use Rattle.om_parser.specs.declared.start.Start.{Start}
 use Rattle.om_parser.specs.declared.start.Start.TheVariants as starts
 use Rattle.om_parser.specs.ConstructReading.{line_start}
 use Rattle.om_parts.specs.Reading.{take, take_mark, take_word}
-use Rattle.om_tree.specs.Spelling.{token, mark, word, perhaps, expression_spelling, condition_spelling, for_start_spelling, statement_spelling, statements_spelling}
+use Rattle.om_tree.specs.Spelling.{token, mark, word, perhaps, expression_spelling, condition_spelling,
+    for_start_spelling, statement_spelling, statements_spelling}
 use Rattle.om_tree.specs.Formed.{IsForHead, IsExpression}
 use Rattle.om_tree.specs.Limits.{Limits}
 use Rattle.om_tree.specs.Sizes.{optional_extent, optional_nesting, for_start_extent, for_start_nesting}
 use Rattle.om_parser.specs.StatementReading.{start_of, OpeningTree, OpensIf, OpensWhile, OpensFor}
-use Rattle.om_tree.specs.Tree.{ExpressionTree, ForHeadTree, StatementTree, StatementsTree, NoStatements, Statement, statements}
+use Rattle.om_tree.specs.Tree.{ExpressionTree, ForHeadTree, StatementTree, StatementsTree, NoStatements, Statement,
+    statements}
 use Rattle.om_parts.specs.Laws.{Keeps, IsEnd}
 use Rattle.om_parser.proofs.Taken.{take_mark_is, take_word_is}
 use Rattle.om_parser.proofs.LineStarts.{start_of_directive, line_start_is}
@@ -33,7 +36,8 @@ use Rattle.om_parser.proofs.Begins.{StartsExpression}
 
 -- ---- what does not stand first
 
-pub no_mark : (q : Punctuator) (ts : List Token) → (start_of (kinds.Punctuator q) ≡ starts.Expression → ⊥) → StartsExpression ts → take_mark q ts ≡ None
+pub no_mark : (q : Punctuator) (ts : List Token) → (start_of (kinds.Punctuator q) ≡ starts.Expression → ⊥)
+    → StartsExpression ts → take_mark q ts ≡ None
 no_mark q ts other x = go (take_mark q ts) refl
   where
     go : (o : Option (Span × List Token)) → take_mark q ts ≡ o → o ≡ None
@@ -43,7 +47,8 @@ no_mark q ts other x = go (take_mark q ts) refl
         let first : x.first ≡ mark q y.0 = cc in
         absurd (other (sym (ap (λ (t : Token). start_of t.kind) first) ∙ x.start))
 
-pub no_word : (k : Keyword) (ts : List Token) → (start_of (kinds.Keyword k) ≡ starts.Expression → ⊥) → StartsExpression ts → take_word k ts ≡ None
+pub no_word : (k : Keyword) (ts : List Token) → (start_of (kinds.Keyword k) ≡ starts.Expression → ⊥)
+    → StartsExpression ts → take_word k ts ≡ None
 no_word k ts other x = go (take_word k ts) refl
   where
     go : (o : Option (Span × List Token)) → take_word k ts ≡ o → o ≡ None
@@ -55,8 +60,10 @@ no_word k ts other x = go (take_word k ts) refl
 
 -- an ender here begins no expression
 pub end_other : (q : Punctuator) → IsEnd q → start_of (kinds.Punctuator q) ≡ starts.Expression → ⊥
-end_other q (inl is) e = let f : start_of (kinds.Punctuator punctuators.Semicolon) ≡ starts.Expression = sym (ap (λ r. start_of (kinds.Punctuator r)) is) ∙ e in absurd cc
-end_other q (inr is) e = let f : start_of (kinds.Punctuator punctuators.CloseParen) ≡ starts.Expression = sym (ap (λ r. start_of (kinds.Punctuator r)) is) ∙ e in absurd cc
+end_other q (inl is) e = let f : start_of (kinds.Punctuator punctuators.Semicolon) ≡ starts.Expression =
+    sym (ap (λ r. start_of (kinds.Punctuator r)) is) ∙ e in absurd cc
+end_other q (inr is) e = let f : start_of (kinds.Punctuator punctuators.CloseParen) ≡ starts.Expression =
+    sym (ap (λ r. start_of (kinds.Punctuator r)) is) ∙ e in absurd cc
 
 abbrev pub KeepsOptional : (l : Limits) (round : ℕ) → Option ExpressionTree → Type 0
 KeepsOptional l round e = (optional_nesting e + round ≤ l.nested) × (optional_extent e ≤ l.tokens)
@@ -95,11 +102,13 @@ opening_place (OpensIf at c) = at
 opening_place (OpensWhile at c) = at
 opening_place (OpensFor h) = h.word
 
-pub no_int_before_semicolon : (s : Span) (rest : List Token) → take_word keywords.Int (mark punctuators.Semicolon s ∷ rest) ≡ None
+pub no_int_before_semicolon : (s : Span) (rest : List Token) → take_word keywords.Int (mark punctuators.Semicolon s
+    ∷ rest) ≡ None
 unfolding take_word take
 no_int_before_semicolon s rest = refl
 
-pub no_else_at_brace : (s : Span) (rest : List Token) → take_word keywords.Else (mark punctuators.CloseBrace s ∷ rest) ≡ None
+pub no_else_at_brace : (s : Span) (rest : List Token) → take_word keywords.Else (mark punctuators.CloseBrace s
+    ∷ rest) ≡ None
 unfolding take_word take
 no_else_at_brace s rest = refl
 
@@ -120,27 +129,33 @@ list_flat (Statement s rest) = ap (λ w. statement_spelling s ++ w) (list_flat r
 -- ---- what a line is seen to be
 
 -- a token that begins an expression begins no line
-no_line_of : (k : TokenKind) (s : Span) (ts : List Token) → start_of k ≡ starts.Expression → line_start (token k s ∷ ts) ≡ lines.Nothing
+no_line_of : (k : TokenKind) (s : Span) (ts : List Token) → start_of k ≡ starts.Expression
+    → line_start (token k s ∷ ts) ≡ lines.Nothing
 no_line_of kinds.DirectiveBegin s ts e = absurd cc
 no_line_of _ s ts e = refl
 
 pub no_line : (ts : List Token) → StartsExpression ts → line_start ts ≡ lines.Nothing
-no_line ts x = subst (λ us. line_start us ≡ lines.Nothing) (sym x.is) (no_line_of x.first.kind x.first.span x.behind x.start)
+no_line ts x = subst (λ us. line_start us ≡ lines.Nothing) (sym x.is) (no_line_of x.first.kind x.first.span x.behind
+    x.start)
 
-pub construct_starts : (d : Directive ExpressionTree) (rest : List Token) → is_stand_alone d.name ≡ false → is_section d.name ≡ false → line_start (directive_spelling expression_spelling d ++ rest) ≡ lines.Construct
+pub construct_starts : (d : Directive ExpressionTree) (rest : List Token) → is_stand_alone d.name ≡ false
+    → is_section d.name ≡ false → line_start (directive_spelling expression_spelling d ++ rest) ≡ lines.Construct
 construct_starts d rest alone part = line_start_is d rest ∙ rw (alone, part) refl
 
-pub stand_alone_starts : (d : Directive ExpressionTree) (rest : List Token) → is_stand_alone d.name ≡ true → line_start (directive_spelling expression_spelling d ++ rest) ≡ lines.StandAlone
+pub stand_alone_starts : (d : Directive ExpressionTree) (rest : List Token) → is_stand_alone d.name ≡ true
+    → line_start (directive_spelling expression_spelling d ++ rest) ≡ lines.StandAlone
 stand_alone_starts d rest alone = line_start_is d rest ∙ rw alone refl
 
-pub section_starts : (d : Directive ExpressionTree) (rest : List Token) → is_section d.name ≡ true → line_start (directive_spelling expression_spelling d ++ rest) ≡ lines.Section
+pub section_starts : (d : Directive ExpressionTree) (rest : List Token) → is_section d.name ≡ true
+    → line_start (directive_spelling expression_spelling d ++ rest) ≡ lines.Section
 section_starts d rest part = line_start_is d rest ∙ go d.name part
   where
     go : (n : DirectiveName) → is_section n ≡ true → start_of_directive n ≡ lines.Section
     go (directives.Section s) e = refl
     go _ e = absurd cc
 
-pub sections_starts : (d : Directive ExpressionTree) (rest : List Token) → is_sections d.name ≡ true → line_start (directive_spelling expression_spelling d ++ rest) ≡ lines.Construct
+pub sections_starts : (d : Directive ExpressionTree) (rest : List Token) → is_sections d.name ≡ true
+    → line_start (directive_spelling expression_spelling d ++ rest) ≡ lines.Construct
 sections_starts d rest parts = line_start_is d rest ∙ go d.name parts
   where
     go : (n : DirectiveName) → is_sections n ≡ true → start_of_directive n ≡ lines.Construct

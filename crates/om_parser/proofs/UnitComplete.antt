@@ -12,11 +12,14 @@ use Rattle.om_tree.specs.Formed.{IsGlobalDeclaration, IsFunction, IsItem, IsUnit
 use Rattle.om_tree.specs.Limits.{Limits}
 use Rattle.om_parts.specs.Reading.{take, same_mark, take_mark}
 use Rattle.om_parts.specs.Repetition.{until}
-use Rattle.om_tree.specs.Spelling.{token, mark, name, block_spelling, declarator_spelling, declaration_spelling, parameters_spelling, head_spelling, item_spelling, unit_spelling}
+use Rattle.om_tree.specs.Spelling.{token, mark, name, block_spelling, declarator_spelling, declaration_spelling,
+    parameters_spelling, head_spelling, item_spelling, unit_spelling}
 use Rattle.om_parts.specs.PartReading.{parts}
 use Rattle.om_parser.specs.StatementReading.{block_at}
-use Rattle.om_tree.specs.Tree.{DeclarationTree, HeadTree, FunctionTree, ItemTree, Declaration, Prototype, Function, UnitTree}
-use Rattle.om_parser.specs.UnitReading.{function_after, prototype_after, void_after, int_after, item_at, take_end, unit_at}
+use Rattle.om_tree.specs.Tree.{DeclarationTree, HeadTree, FunctionTree, ItemTree, Declaration, Prototype, Function,
+    UnitTree}
+use Rattle.om_parser.specs.UnitReading.{function_after, prototype_after, void_after, int_after, item_at, take_end,
+    unit_at}
 use Rattle.om_parser.proofs.Again.{take_mark_again, take_word_again, mark_again, word_again, name_again, bind_answer}
 use Rattle.om_parts.specs.Laws.{IsAnswer, PartsAreReadAgain, GlobalsAreReadAgain}
 use Rattle.om_parser.proofs.Outcomes.{ok}
@@ -32,7 +35,8 @@ unfolding take_mark take same_mark
 no_semicolon s ts = refl
 
 -- a body is no semicolon
-not_prototype : (f : FunctionTree) (rest : List Token) → take_mark punctuators.Semicolon (block_spelling f.body ++ rest) ≡ None
+not_prototype : (f : FunctionTree) (rest : List Token) → take_mark punctuators.Semicolon (block_spelling f.body
+    ++ rest) ≡ None
 unfolding block_spelling
 not_prototype f rest = no_semicolon f.body.open_brace _
 
@@ -40,7 +44,9 @@ head_unended : (h : HeadTree) (rest : List Token) → take_end (head_spelling h 
 unfolding head_spelling take_end
 head_unended h rest = go h.result
   where
-    go : (r : ResultType) → take_end (head_spelling (record { result = r; name = h.name; open_paren = h.open_paren; parameters = h.parameters; close_paren = h.close_paren }) ++ rest) ≡ None
+    go : (r : ResultType)
+        → take_end (head_spelling (record { result = r; name = h.name; open_paren = h.open_paren; parameters =
+        h.parameters; close_paren = h.close_paren }) ++ rest) ≡ None
     go (results.Int at) = refl
     go (results.Void at) = refl
 
@@ -48,19 +54,25 @@ module _ (again : PartsAreReadAgain) (globals : GlobalsAreReadAgain) (l : Limits
   abbrev IsSmallItem : ItemTree → Type 0
   IsSmallItem i = IsKeptItem l i
 
-  declaration_answer : (d : DeclarationTree) (rest : List Token) → IsGlobalDeclaration d → IsAnswer (IsSmallItem (Declaration d)) ((item_at l) (item_spelling (Declaration d) ++ rest)) (Declaration d, rest)
+  declaration_answer : (d : DeclarationTree) (rest : List Token) → IsGlobalDeclaration d
+      → IsAnswer (IsSmallItem (Declaration d)) ((item_at l) (item_spelling (Declaration d) ++ rest))
+      (Declaration d, rest)
   unfolding item_at int_after item_spelling
   declaration_answer d rest f =
       let g = globals d rest f in
-      inl (subst (λ us. (item_at l) us ≡ ok (Declaration d, rest)) g.parts (rw (int_is_no_void d.int (name d.first.name ∷ g.behind), word_again keywords.Int d.int (name d.first.name ∷ g.behind), name_again d.first.name g.behind, g.no_function, g.read) refl))
+      inl (subst (λ us. (item_at l) us ≡ ok (Declaration d, rest)) g.parts
+          (rw (int_is_no_void d.int (name d.first.name ∷ g.behind), word_again keywords.Int d.int (name d.first.name
+          ∷ g.behind), name_again d.first.name g.behind, g.no_function, g.read) refl))
 
   -- an item whose head is read again
-  after_head : (h : HeadTree) (i : ItemTree) (rest us : List Token) → IsAnswer (IsSmallItem i) (function_after l h us) (i, rest) → IsAnswer (IsSmallItem i) (item_at l (head_spelling h ++ us)) (i, rest)
+  after_head : (h : HeadTree) (i : ItemTree) (rest us : List Token) → IsAnswer (IsSmallItem i)
+      (function_after l h us) (i, rest) → IsAnswer (IsSmallItem i) (item_at l (head_spelling h ++ us)) (i, rest)
   unfolding item_at void_after int_after prototype_after head_spelling
   after_head h i rest us answer = go h.result answer
     where
       tree : ResultType → HeadTree
-      tree r = record { result = r; name = h.name; open_paren = h.open_paren; parameters = h.parameters; close_paren = h.close_paren }
+      tree r = record { result = r; name = h.name; open_paren = h.open_paren; parameters = h.parameters;
+          close_paren = h.close_paren }
 
       inner : List Token
       inner = parameters_spelling h.parameters ++ mark punctuators.CloseParen h.close_paren ∷ us
@@ -68,26 +80,37 @@ module _ (again : PartsAreReadAgain) (globals : GlobalsAreReadAgain) (l : Limits
       behind : List Token
       behind = name h.name ∷ mark punctuators.OpenParen h.open_paren ∷ inner
 
-      go : (r : ResultType) → IsAnswer (IsSmallItem i) (function_after l (tree r) us) (i, rest) → IsAnswer (IsSmallItem i) (item_at l (head_spelling (tree r) ++ us)) (i, rest)
-      go (results.Int at) answer = rw (append_assoc, int_is_no_void at behind, word_again keywords.Int at behind, name_again h.name (mark punctuators.OpenParen h.open_paren ∷ inner), take_mark_again punctuators.OpenParen h.open_paren inner, head_again (tree (results.Int at)) us) answer
-      go (results.Void at) answer = rw (append_assoc, take_word_again keywords.Void at behind, name_again h.name (mark punctuators.OpenParen h.open_paren ∷ inner), mark_again punctuators.OpenParen h.open_paren inner, head_again (tree (results.Void at)) us) answer
+      go : (r : ResultType) → IsAnswer (IsSmallItem i) (function_after l (tree r) us) (i, rest)
+          → IsAnswer (IsSmallItem i) (item_at l (head_spelling (tree r) ++ us)) (i, rest)
+      go (results.Int at) answer = rw (append_assoc, int_is_no_void at behind, word_again keywords.Int at behind,
+          name_again h.name (mark punctuators.OpenParen h.open_paren ∷ inner), take_mark_again punctuators.OpenParen
+          h.open_paren inner, head_again (tree (results.Int at)) us) answer
+      go (results.Void at) answer = rw (append_assoc, take_word_again keywords.Void at behind, name_again h.name
+          (mark punctuators.OpenParen h.open_paren ∷ inner), mark_again punctuators.OpenParen h.open_paren inner,
+          head_again (tree (results.Void at)) us) answer
 
-  prototype_answer : (h : HeadTree) (s : Span) (rest : List Token) → IsAnswer (IsSmallItem (Prototype h s)) (function_after l h (mark punctuators.Semicolon s ∷ rest)) (Prototype h s, rest)
+  prototype_answer : (h : HeadTree) (s : Span) (rest : List Token) → IsAnswer (IsSmallItem (Prototype h s))
+      (function_after l h (mark punctuators.Semicolon s ∷ rest)) (Prototype h s, rest)
   unfolding function_after
   prototype_answer h s rest = inl (rw (take_mark_again punctuators.Semicolon s rest) refl)
 
-  function_answer : (f : FunctionTree) (rest : List Token) → IsFunction f → IsAnswer (IsSmallItem (Function f)) (function_after l f.head (block_spelling f.body ++ rest)) (Function f, rest)
+  function_answer : (f : FunctionTree) (rest : List Token) → IsFunction f → IsAnswer (IsSmallItem (Function f))
+      (function_after l f.head (block_spelling f.body ++ rest)) (Function f, rest)
   unfolding function_after IsFunction block_at
   function_answer f rest formed =
       let body : List Token = block_spelling f.body ++ rest in
       rw (not_prototype f rest, is_named f.head.parameters formed.0)
-      (bind_answer ((block_at l) body) _ (f.body, rest) (Function f, rest) (λ w. w) (function_block_again (parts l) l (again l one) l.statements l.blocks f.body rest formed.1) (inl refl))
+      (bind_answer ((block_at l) body) _ (f.body, rest) (Function f, rest) (λ w. w)
+          (function_block_again (parts l) l (again l one) l.statements l.blocks f.body rest formed.1) (inl refl))
 
-  item_again : (i : ItemTree) (rest : List Token) → IsItem i → IsAnswer (IsSmallItem i) ((item_at l) (item_spelling i ++ rest)) (i, rest)
+  item_again : (i : ItemTree) (rest : List Token) → IsItem i → IsAnswer (IsSmallItem i)
+      ((item_at l) (item_spelling i ++ rest)) (i, rest)
   unfolding IsItem item_spelling
   item_again (Declaration d) rest f = declaration_answer d rest f
-  item_again (Prototype h s) rest f = rw append_assoc (after_head h (Prototype h s) rest (mark punctuators.Semicolon s ∷ rest) (prototype_answer h s rest))
-  item_again (Function g) rest f = rw append_assoc (after_head g.head (Function g) rest (block_spelling g.body ++ rest) (function_answer g rest f))
+  item_again (Prototype h s) rest f = rw append_assoc (after_head h (Prototype h s) rest
+      (mark punctuators.Semicolon s ∷ rest) (prototype_answer h s rest))
+  item_again (Function g) rest f = rw append_assoc (after_head g.head (Function g) rest (block_spelling g.body
+      ++ rest) (function_answer g rest f))
 
   items_again : AreAgain item_spelling IsItem IsSmallItem (λ ts. Unit {0}) take_end (item_at l)
   unfolding item_spelling declaration_spelling head_spelling take_end declarator_spelling
@@ -109,5 +132,6 @@ module _ (again : PartsAreReadAgain) (globals : GlobalsAreReadAgain) (l : Limits
       let last : Token = token kinds.End u.end in
       let ts : List Token = flat_map item_spelling u.items ++ last ∷ [] in
       bind_answer (until take_end (item_at l) (length ts) ts) _ (u.items, u.end, []) u (λ w. w)
-      (until_again item_spelling IsItem IsSmallItem (λ ts. Unit {0}) take_end (item_at l) items_again last u.end [] refl tt u.items f)
+      (until_again item_spelling IsItem IsSmallItem (λ ts. Unit {0}) take_end (item_at l) items_again last u.end []
+          refl tt u.items f)
       (inl refl)

@@ -1,5 +1,7 @@
--- Where a unit is refused by another code than that of syntax: at a limit its tokens up to there begin a well-formed one.
-use Rattle.std.proofs.Common.{◌≡◌, ◌≤◌, ℕ, zero, suc, List, [], ◌∷◌, ◌++◌, length, Err, sym, ap, subst, ◌∙◌, refl, inl, inr, All}
+-- Where a unit is refused by another code than that of syntax: at a limit its tokens up to there begin a
+-- well-formed one.
+use Rattle.std.proofs.Common.{◌≡◌, ◌≤◌, ℕ, zero, suc, List, [], ◌∷◌, ◌++◌, length, Err, sym, ap, subst, ◌∙◌, refl,
+    inl, inr, All}
 use Rattle.std.specs.List.{flat_map}
 use Rattle.std.proofs.lemmas.List.{append-nil}
 use Rattle.std.proofs.lemmas.List.Elements.{All-nil, All-cons}
@@ -22,9 +24,11 @@ use Rattle.om_parser.specs.StatementReading.{block_at}
 use Rattle.om_tree.specs.Places.{IsOverInItem, IsOverInUnitItems, IsOverInUnit}
 use Rattle.om_parts.specs.Reading.{take_mark, take_word, mark_at, word_at, name_at}
 use Rattle.om_parts.specs.Repetition.{until}
-use Rattle.om_tree.specs.Spelling.{token, mark, word, name, result_spelling, block_spelling, head_spelling, item_spelling, unit_spelling}
+use Rattle.om_tree.specs.Spelling.{token, mark, word, name, result_spelling, block_spelling, head_spelling,
+    item_spelling, unit_spelling}
 use Rattle.om_tree.specs.Tree.{HeadTree, Function}
-use Rattle.om_parser.specs.UnitReading.{function_after, prototype_after, void_after, int_after, item_at, take_end, unit_at}
+use Rattle.om_parser.specs.UnitReading.{function_after, prototype_after, void_after, int_after, item_at, take_end,
+    unit_at}
 use Rattle.om_parser.proofs.Outcomes.{bind_err, choose_cases}
 use Rattle.om_parser.proofs.Taken.{take_mark_is, take_word_is, mark_at_is, word_at_is, name_at_is}
 use Rattle.om_parser.proofs.FunctionSound.{head_sound, named_is}
@@ -38,7 +42,8 @@ module _ (laws : PartLaws) (l : Limits) (one : 1 ≤ l.nested) where
   abbrev IsItemCut : List Token → SourceFault → Type 0
   IsItemCut ts f = IsStopped item_spelling IsItem (IsOverInItem l) l ts f
 
-  function_cut : (h : HeadTree) (ts : List Token) (f : SourceFault) → function_after l h ts ≡ Err f → Stops f → IsItemCut (head_spelling h ++ ts) f
+  function_cut : (h : HeadTree) (ts : List Token) (f : SourceFault) → function_after l h ts ≡ Err f → Stops f
+      → IsItemCut (head_spelling h ++ ts) f
   unfolding function_after item_spelling IsItem IsFunction block_at
   function_cut h ts f e stops = elim (choose_cases (take_mark punctuators.Semicolon ts) _ _ (Err f) e) [
     | inl (s, taken, no_err) ↦ absurd cc
@@ -46,53 +51,67 @@ module _ (laws : PartLaws) (l : Limits) (one : 1 ≤ l.nested) where
         let named = or_else (are_named h.parameters) _ _ f g (λ d. syntax_plain ts f d stops) in
         elim (bind_err (block_at l ts) _ f named.1) [
           | inr (b, read, no_err) ↦ absurd cc
-          | inl d ↦ within_larger item_spelling IsItem (IsOverInItem l) (head_spelling h) [] (λ b. Function (record { head = h; body = b })) (head_spelling h ++ ts) ts f
-              (λ b is. (named_is h.parameters named.0, is)) (λ b. ap (λ w. head_spelling h ++ w) (sym (append-nil (block_spelling b)))) (λ b before t over. (before, refl, over)) refl
+          | inl d ↦ within_larger item_spelling IsItem (IsOverInItem l) (head_spelling h) []
+              (λ b. Function (record { head = h; body = b })) (head_spelling h ++ ts) ts f
+              (λ b is. (named_is h.parameters named.0, is)) (λ b. ap (λ w. head_spelling h ++ w)
+                  (sym (append-nil (block_spelling b)))) (λ b before t over. (before, refl, over)) refl
               (function_block_cut (parts l) l one (laws.sound l one) (laws.stop l one) ts f d stops)
         ]
   ]
 
-  prototype_cut : (result : ResultType) (n : names.Name) (left : Span) (ts : List Token) (f : SourceFault) → prototype_after l result n left ts ≡ Err f → Stops f → IsItemCut (result_spelling result ∷ name n ∷ mark punctuators.OpenParen left ∷ ts) f
+  prototype_cut : (result : ResultType) (n : names.Name) (left : Span) (ts : List Token) (f : SourceFault)
+      → prototype_after l result n left ts ≡ Err f → Stops f → IsItemCut (result_spelling result ∷ name n
+      ∷ mark punctuators.OpenParen left ∷ ts) f
   unfolding prototype_after
   prototype_cut result n left ts f e stops = elim (bind_err (head_after result n left ts) _ f e) [
     | inl wrong ↦ absurd (head_plain result n left ts f wrong stops)
-    | inr (h, read, g) ↦ subst (λ w. IsItemCut w f) (sym (head_sound result n left ts h read)) (function_cut h.0 h.1 f g stops)
+    | inr (h, read, g) ↦ subst (λ w. IsItemCut w f) (sym (head_sound result n left ts h read))
+        (function_cut h.0 h.1 f g stops)
   ]
 
-  void_cut : (void : Span) (ts : List Token) (f : SourceFault) → void_after l void ts ≡ Err f → Stops f → IsItemCut (word keywords.Void void ∷ ts) f
+  void_cut : (void : Span) (ts : List Token) (f : SourceFault) → void_after l void ts ≡ Err f → Stops f
+      → IsItemCut (word keywords.Void void ∷ ts) f
   unfolding void_after name_at mark_at
   void_cut void ts f e stops = elim (bind_err (name_at ts) _ f e) [
     | inl wrong ↦ absurd (known_plain ts _ f wrong stops)
     | inr (n, named, g) ↦ elim (bind_err (mark_at punctuators.OpenParen n.1) _ f g) [
       | inl wrong ↦ absurd (known_plain n.1 _ f wrong stops)
       | inr (p, taken, k) ↦
-          let front : ts ≡ name n.0 ∷ mark punctuators.OpenParen p.0 ∷ p.1 = name_at_is ts n named ∙ ap (λ w. name n.0 ∷ w) (mark_at_is punctuators.OpenParen n.1 p taken) in
-          subst (λ w. IsItemCut (word keywords.Void void ∷ w) f) (sym front) (prototype_cut (results.Void void) n.0 p.0 p.1 f k stops)
+          let front : ts ≡ name n.0 ∷ mark punctuators.OpenParen p.0 ∷ p.1 = name_at_is ts n named
+              ∙ ap (λ w. name n.0 ∷ w) (mark_at_is punctuators.OpenParen n.1 p taken) in
+          subst (λ w. IsItemCut (word keywords.Void void ∷ w) f) (sym front) (prototype_cut (results.Void void) n.0
+              p.0 p.1 f k stops)
     ]
   ]
 
   global_plain : (int : Span) (n : names.Name) (ts : List Token) → IsPlain (global_at int n ts)
   global_plain int n ts f h stops = stops (laws.globals_stop int n ts f h)
 
-  int_cut : (int : Span) (ts : List Token) (f : SourceFault) → int_after l int ts ≡ Err f → Stops f → IsItemCut (word keywords.Int int ∷ ts) f
+  int_cut : (int : Span) (ts : List Token) (f : SourceFault) → int_after l int ts ≡ Err f → Stops f
+      → IsItemCut (word keywords.Int int ∷ ts) f
   unfolding int_after name_at
   int_cut int ts f e stops = elim (bind_err (name_at ts) _ f e) [
     | inl wrong ↦ absurd (known_plain ts _ f wrong stops)
     | inr (n, named, g) ↦ elim (choose_cases (take_mark punctuators.OpenParen n.1) _ _ (Err f) g) [
       | inl (p, taken, k) ↦
-          let front : ts ≡ name n.0 ∷ mark punctuators.OpenParen p.0 ∷ p.1 = name_at_is ts n named ∙ ap (λ w. name n.0 ∷ w) (take_mark_is punctuators.OpenParen n.1 p.0 p.1 taken) in
-          subst (λ w. IsItemCut (word keywords.Int int ∷ w) f) (sym front) (prototype_cut (results.Int int) n.0 p.0 p.1 f k stops)
-      | inr (none, k) ↦ absurd (bind_plain (global_at int n.0 n.1) _ (global_plain int n.0 n.1) (λ d f h stops. absurd cc) f k stops)
+          let front : ts ≡ name n.0 ∷ mark punctuators.OpenParen p.0 ∷ p.1 = name_at_is ts n named
+              ∙ ap (λ w. name n.0 ∷ w) (take_mark_is punctuators.OpenParen n.1 p.0 p.1 taken) in
+          subst (λ w. IsItemCut (word keywords.Int int ∷ w) f) (sym front) (prototype_cut (results.Int int) n.0 p.0
+              p.1 f k stops)
+      | inr (none, k) ↦ absurd (bind_plain (global_at int n.0 n.1) _ (global_plain int n.0 n.1)
+          (λ d f h stops. absurd cc) f k stops)
     ]
   ]
 
   item_cut : (ts : List Token) (f : SourceFault) → item_at l ts ≡ Err f → Stops f → IsItemCut ts f
   unfolding item_at word_at
   item_cut ts f h stops = elim (choose_cases (take_word keywords.Void ts) _ _ (Err f) h) [
-    | inl (v, taken, g) ↦ subst (λ w. IsItemCut w f) (sym (take_word_is keywords.Void ts v.0 v.1 taken)) (void_cut v.0 v.1 f g stops)
+    | inl (v, taken, g) ↦ subst (λ w. IsItemCut w f) (sym (take_word_is keywords.Void ts v.0 v.1 taken))
+        (void_cut v.0 v.1 f g stops)
     | inr (none, g) ↦ elim (bind_err (word_at keywords.Int ts) _ f g) [
       | inl wrong ↦ absurd (known_plain ts _ f wrong stops)
-      | inr (i, int, k) ↦ subst (λ w. IsItemCut w f) (sym (word_at_is keywords.Int ts i int)) (int_cut i.0 i.1 f k stops)
+      | inr (i, int, k) ↦ subst (λ w. IsItemCut w f) (sym (word_at_is keywords.Int ts i int))
+          (int_cut i.0 i.1 f k stops)
     ]
   ]
 
@@ -100,9 +119,11 @@ module _ (laws : PartLaws) (l : Limits) (one : 1 ≤ l.nested) where
   AreItemsCut ts f = IsStopped (flat_map item_spelling) (All IsItem) (IsOverInUnitItems l) l ts f
 
   one_item : (ts : List Token) (f : SourceFault) → IsItemCut ts f → AreItemsCut ts f
-  one_item ts f c = within_larger (flat_map item_spelling) (All IsItem) (IsOverInUnitItems l) [] [] (λ i. i ∷ []) ts ts f (λ i is. All-cons IsItem i [] is (All-nil IsItem)) (λ i. refl) (λ i before t over. inl over) refl c
+  one_item ts f c = within_larger (flat_map item_spelling) (All IsItem) (IsOverInUnitItems l) [] [] (λ i. i ∷ []) ts
+      ts f (λ i is. All-cons IsItem i [] is (All-nil IsItem)) (λ i. refl) (λ i before t over. inl over) refl c
 
-  items_cut : (k : ℕ) (ts : List Token) (f : SourceFault) → until take_end (item_at l) k ts ≡ Err f → Stops f → AreItemsCut ts f
+  items_cut : (k : ℕ) (ts : List Token) (f : SourceFault) → until take_end (item_at l) k ts ≡ Err f → Stops f
+      → AreItemsCut ts f
   unfolding until
   items_cut zero ts f h stops = elim (bind_err (item_at l ts) _ f h) [
     | inl fails ↦ one_item ts f (item_cut ts f fails stops)
@@ -116,16 +137,22 @@ module _ (laws : PartLaws) (l : Limits) (one : 1 ≤ l.nested) where
         | inr (b, read, no_err) ↦ absurd cc
         | inl fails ↦
             let first = item_sound laws.sound laws.globals_sound l one ts a reads in
-            within_larger (flat_map item_spelling) (All IsItem) (IsOverInUnitItems l) (item_spelling a.0) [] (λ items. a.0 ∷ items) ts a.1 f (λ items is. All-cons IsItem a.0 items first.formed.0 is) (λ items. ap (λ w. item_spelling a.0 ++ w) (sym (append-nil (flat_map item_spelling items)))) (λ items before t over. inr (before, refl, over)) first.parts (items_cut k a.1 f fails stops)
+            within_larger (flat_map item_spelling) (All IsItem) (IsOverInUnitItems l) (item_spelling a.0) []
+                (λ items. a.0 ∷ items) ts a.1 f (λ items is. All-cons IsItem a.0 items first.formed.0 is)
+                (λ items. ap (λ w. item_spelling a.0 ++ w) (sym (append-nil (flat_map item_spelling items))))
+                (λ items before t over. inr (before, refl, over)) first.parts (items_cut k a.1 f fails stops)
       ]
     ]
   ]
 
-  pub unit_cut : (ts : List Token) (f : SourceFault) → unit_at l ts ≡ Err f → Stops f → IsStopped unit_spelling IsUnit (IsOverInUnit l) l ts f
+  pub unit_cut : (ts : List Token) (f : SourceFault) → unit_at l ts ≡ Err f → Stops f → IsStopped unit_spelling
+      IsUnit (IsOverInUnit l) l ts f
   unfolding unit_at unit_spelling IsUnit
   unit_cut ts f h stops = elim (bind_err (until take_end (item_at l) (length ts) ts) _ f h) [
     | inr (u, read, no_err) ↦ absurd cc
     | inl e ↦
         let filler : Span = record { start = 0; end = 0; line = 0 } in
-        within_larger unit_spelling IsUnit (IsOverInUnit l) [] (token kinds.End filler ∷ []) (λ items. record { items = items; end = filler }) ts ts f (λ items is. is) (λ items. refl) (λ items before t over. over) refl (items_cut (length ts) ts f e stops)
+        within_larger unit_spelling IsUnit (IsOverInUnit l) [] (token kinds.End filler ∷ [])
+            (λ items. record { items = items; end = filler }) ts ts f (λ items is. is) (λ items. refl)
+            (λ items before t over. over) refl (items_cut (length ts) ts f e stops)
   ]

@@ -18,9 +18,11 @@ use Rattle.om_parser.proofs.UnitCut.{unit_cut}
 
 -- the codes by which a unit is refused
 abbrev pub IsUnitRefusal : SourceFault → Type 0
-IsUnitRefusal f = (f.code ≡ codes.Syntax) ⊎ (f.code ≡ codes.TooDeep) ⊎ (f.code ≡ codes.UnknownDirective) ⊎ (f.code ≡ codes.BadClause)
+IsUnitRefusal f = (f.code ≡ codes.Syntax) ⊎ (f.code ≡ codes.TooDeep) ⊎ (f.code ≡ codes.UnknownDirective)
+    ⊎ (f.code ≡ codes.BadClause)
 
-word_code : (run : List Token) (code : FaultCode) (at : ℕ) → IsWordFault run code at → (code ≡ codes.UnknownDirective) ⊎ (code ≡ codes.BadClause)
+word_code : (run : List Token) (code : FaultCode) (at : ℕ) → IsWordFault run code at
+    → (code ≡ codes.UnknownDirective) ⊎ (code ≡ codes.BadClause)
 word_code run codes.UnknownDirective at w = inl refl
 word_code run codes.BadClause at w = inr refl
 word_code run _ at w = absurd w
@@ -33,7 +35,8 @@ syntax_or_not : (code : FaultCode) → (code ≡ codes.Syntax) ⊎ (code ≡ cod
 syntax_or_not codes.Syntax = inl refl
 syntax_or_not _ = inr (λ e. absurd cc)
 
-module _ (laws : PartLaws) (l : Limits) (one : 1 ≤ l.nested) (ts : List Token) (f : SourceFault) (fails : unit_at l ts ≡ Err f) where
+module _ (laws : PartLaws) (l : Limits) (one : 1 ≤ l.nested) (ts : List Token) (f : SourceFault)
+    (fails : unit_at l ts ≡ Err f) where
   pub unit_refuses : IsUnitRefusal f
   unit_refuses = elim (syntax_or_not f.code) [
     | inl wrong ↦ inl wrong
@@ -44,7 +47,8 @@ module _ (laws : PartLaws) (l : Limits) (one : 1 ≤ l.nested) (ts : List Token)
     ]
   ]
 
-  pub too_deep_unit : f.code ≡ codes.TooDeep → IsPassed unit_spelling IsUnit (IsOverInUnit l) ts f.at ⊎ IsPassedInLine l ts f.at
+  pub too_deep_unit : f.code ≡ codes.TooDeep → IsPassed unit_spelling IsUnit (IsOverInUnit l) ts f.at
+      ⊎ IsPassedInLine l ts f.at
   too_deep_unit is = elim (unit_cut laws l one ts f fails (λ wrong. absurd cc)) [
     | inl (deep, passed) ↦ inl passed
     | inr (inl c) ↦ elim c.wrong [

@@ -21,7 +21,8 @@ use Rattle.om_tree.specs.Tree.{ExpressionTree, StatementTree, Construct, StandAl
 -- ---- which directive a line is, by its first word
 
 abbrev pub start_of_kind : DirectiveKind → LineStart
-start_of_kind kind = if stands_alone kind then lines.StandAlone else if begins_part kind then lines.Section else lines.Construct
+start_of_kind kind = if stands_alone kind then lines.StandAlone else if begins_part kind then lines.Section else
+    lines.Construct
 
 -- what the word behind `omp` begins
 abbrev pub start_of_line : TokenKind → LineStart
@@ -95,10 +96,12 @@ bad_atomic d = record { code = faults.BadClause; at = (word_span d.name).start }
 
 -- an `atomic` with its statement, which has one of the forms where that is asked
 unfoldable pub atomic_of : (checked : Bool) → Directive ExpressionTree → StatementTree → Reader StatementTree
-atomic_of checked d s ts = if not checked || has_atomic_form (atomic_kind d) s then Ok (Construct d s, ts) else Err (bad_atomic d)
+atomic_of checked d s ts = if not checked || has_atomic_form (atomic_kind d) s then Ok (Construct d s, ts) else Err
+    (bad_atomic d)
 
 -- an `atomic` behind its line; no other one in it is asked, so that the outermost is refused
-unfoldable pub atomic_after : (checked : Bool) → (statement : Bool → Reader StatementTree) → Directive ExpressionTree → Reader StatementTree
+unfoldable pub atomic_after : (checked : Bool) → (statement : Bool → Reader StatementTree)
+    → Directive ExpressionTree → Reader StatementTree
 atomic_after checked statement d ts = statement false ts >>= λ s. atomic_of checked d s.0 s.1
 
 -- a construct with one statement behind its line
@@ -114,18 +117,21 @@ unfoldable pub sections_after : PartsReader → Directive ExpressionTree → Rea
 sections_after parts d ts = parts ts >>= λ x. Ok (Sections d x.0.0 x.0.1 x.0.2, x.1)
 
 -- a construct behind its line
-unfoldable pub construct_after : (checked : Bool) → (statement : Bool → Reader StatementTree) → PartsReader → Directive ExpressionTree → Reader StatementTree
+unfoldable pub construct_after : (checked : Bool) → (statement : Bool → Reader StatementTree) → PartsReader
+    → Directive ExpressionTree → Reader StatementTree
 construct_after checked statement parts d ts =
     if is_sections d.name then sections_after parts d ts
     else if is_atomic d.name then atomic_after checked statement d ts
     else constructed_after (statement checked) d ts
 
 -- a line that begins a construct
-unfoldable pub construct_at : LineReader → (checked : Bool) → (statement : Bool → Reader StatementTree) → PartsReader → Reader StatementTree
+unfoldable pub construct_at : LineReader → (checked : Bool) → (statement : Bool → Reader StatementTree)
+    → PartsReader → Reader StatementTree
 construct_at line checked statement parts ts = line ts >>= λ d. construct_after checked statement parts d.0 d.1
 
 -- a line of this start where a statement must stand
-unfoldable pub line_of : LineReader → (checked : Bool) → (statement : Bool → Reader StatementTree) → PartsReader → LineStart → Reader StatementTree
+unfoldable pub line_of : LineReader → (checked : Bool) → (statement : Bool → Reader StatementTree) → PartsReader
+    → LineStart → Reader StatementTree
 line_of line checked statement parts lines.Construct ts = construct_at line checked statement parts ts
 line_of line checked statement parts lines.Unknown ts = unknown_line line ts
 line_of line checked statement parts _ ts = misplaced ts

@@ -13,7 +13,8 @@ use Rattle.om_tree.specs.Places.{Place, IsPassed}
 use Rattle.om_tree.specs.Spelling.{statement_spelling}
 use Rattle.om_tree.specs.Tree.{ExpressionTree, StatementTree, Construct}
 
--- The tokens have an `atomic` with its word at this place, and its statement is none of its forms (OpenMP 5.2 section 15.8.4).
+-- The tokens have an `atomic` with its word at this place, and its statement is none of its forms (OpenMP 5.2
+-- section 15.8.4).
 pub record IsBadAtomic (tokens : List Token) (place : ℕ) : Type 0 where
   pub before : List Token
   pub directive : Directive ExpressionTree
@@ -28,7 +29,8 @@ pub record IsBadAtomic (tokens : List Token) (place : ℕ) : Type 0 where
   pub at_place : (word_span directive.name).start ≡ place
 
 -- why tokens that begin with such parts are refused by another code than that of syntax
-abbrev pub IsStopped : {A : Type 0} → (A → List Token) → (A → Type 0) → (A → Place) → Limits → List Token → SourceFault → Type 0
+abbrev pub IsStopped : {A : Type 0} → (A → List Token) → (A → Type 0) → (A → Place) → Limits → List Token
+    → SourceFault → Type 0
 IsStopped spelling IsFormed over l tokens f = ((f.code ≡ codes.TooDeep) × IsPassed spelling IsFormed over tokens f.at)
     ⊎ IsLineFault spelling IsFormed l tokens f
     ⊎ ((f.code ≡ codes.BadClause) × IsBadAtomic tokens f.at)

@@ -10,9 +10,11 @@ use Rattle.om_tree.specs.Formed.{IsUnit}
 use Rattle.om_tree.specs.Limits.{Limits}
 use Rattle.om_tree.specs.Spelling.{token, unit_spelling}
 
--- Some of the tokens are a whole line, where one may stand: some well-formed part begins with the tokens before the line, and
+-- Some of the tokens are a whole line, where one may stand: some well-formed part begins with the tokens
+-- before the line, and
 -- goes on with the beginning of one.
-pub record HasLine {A : Type 0} (spelling : A → List Token) (IsFormed : A → Type 0) (tokens line : List Token) : Type 0 where
+pub record HasLine {A : Type 0} (spelling : A → List Token) (IsFormed : A → Type 0)
+    (tokens line : List Token) : Type 0 where
   pub before : List Token
   pub after : List Token
   pub stands : tokens ≡ before ++ line ++ after
@@ -24,7 +26,8 @@ pub record HasLine {A : Type 0} (spelling : A → List Token) (IsFormed : A → 
   pub in_part : spelling part ≡ before ++ token kinds.DirectiveBegin hash ∷ rest_of_part
 
 -- one of the lines is refused so
-pub record IsLineFault {A : Type 0} (spelling : A → List Token) (IsFormed : A → Type 0) (l : Limits) (tokens : List Token) (f : SourceFault) : Type 0 where
+pub record IsLineFault {A : Type 0} (spelling : A → List Token) (IsFormed : A → Type 0) (l : Limits)
+    (tokens : List Token) (f : SourceFault) : Type 0 where
   pub line : List Token
   pub has_line : HasLine spelling IsFormed tokens line
   pub wrong : IsWrongLine l line f

@@ -16,9 +16,12 @@ use Rattle.om_parser.specs.declared.statement.Inside.{Inside}
 use Rattle.om_parser.specs.declared.statement.Inside.TheVariants as insides
 use Rattle.om_parser.specs.declared.start.Start.{Start}
 use Rattle.om_parser.specs.declared.start.Start.TheVariants as starts
-use Rattle.om_parts.specs.Reading.{◌>>=◌, choose, Outcome, Reader, syntax, too_deep, take_mark, take_word, mark_at, word_at}
+use Rattle.om_parts.specs.Reading.{◌>>=◌, choose, Outcome, Reader, syntax, too_deep, take_mark, take_word, mark_at,
+    word_at}
 use Rattle.om_parts.specs.Repetition.{until}
-use Rattle.om_tree.specs.Tree.{ExpressionTree, ConditionTree, ForStartTree, Nothing, StartExpression, StartDeclaration, ForHeadTree, StatementTree, LocalDeclaration, Block, Empty, Expression, If, IfElse, While, Do, For, Return, Break, Continue, statements, BlockTree}
+use Rattle.om_tree.specs.Tree.{ExpressionTree, ConditionTree, ForStartTree, Nothing, StartExpression,
+    StartDeclaration, ForHeadTree, StatementTree, LocalDeclaration, Block, Empty, Expression, If, IfElse, While, Do,
+    For, Return, Break, Continue, statements, BlockTree}
 
 -- ---- what a first token begins
 
@@ -72,7 +75,8 @@ optional_before p expression ts = choose (take_mark p ts)
 unfoldable pub for_start_at : Parts → Reader ForStartTree
 for_start_at p ts = choose (take_word keywords.Int ts)
     (λ i. p.enclosed_declaration i.0 i.1 >>= λ d. Ok (StartDeclaration d.0, d.1))
-    (optional_before punctuators.Semicolon p.enclosed ts >>= λ e. Ok (choose e.0.0 (λ x. StartExpression x e.0.1) (Nothing e.0.1), e.1))
+    (optional_before punctuators.Semicolon p.enclosed ts >>= λ e. Ok (choose e.0.0 (λ x. StartExpression x e.0.1)
+        (Nothing e.0.1), e.1))
 
 -- a `for` up to its closing parenthesis, behind its word
 unfoldable pub for_head_after : Parts → Span → Reader ForHeadTree
@@ -81,7 +85,8 @@ for_head_after p word ts = do
   s ← for_start_at p l.1
   c ← optional_before punctuators.Semicolon p.enclosed s.1
   e ← optional_before punctuators.CloseParen p.enclosed c.1
-  Ok (record { word = word; open_paren = l.0; start = s.0; condition = c.0.0; semicolon = c.0.1; step = e.0.0; close_paren = e.0.1 }, e.1)
+  Ok (record { word = word; open_paren = l.0; start = s.0; condition = c.0.0; semicolon = c.0.1; step = e.0.0;
+      close_paren = e.0.1 }, e.1)
 
 -- what stands before the statement that is its body
 pub data OpeningTree : Type 0 where
@@ -169,28 +174,34 @@ item_at insides.Block p statement = block_item_at p statement
 item_at insides.Sections p statement = section_item_at p.line statement
 
 -- the items in such braces, behind the left one
-abbrev pub items_at : Inside → Parts → Reader StatementTree → List Token → Outcome (List StatementTree × Span × List Token)
+abbrev pub items_at : Inside → Parts → Reader StatementTree → List Token → Outcome (List StatementTree × Span
+    × List Token)
 items_at i p statement ts = until (take_mark punctuators.CloseBrace) (item_at i p statement) (length ts) ts
 
 -- the items of a block behind its left brace, with room for so many blocks round it
-unfoldable pub block_items_after : Parts → (ℕ → Reader StatementTree) → (blocks : ℕ) → Span → List Token → Outcome (List StatementTree × Span × List Token)
+unfoldable pub block_items_after : Parts → (ℕ → Reader StatementTree) → (blocks : ℕ) → Span → List Token
+    → Outcome (List StatementTree × Span × List Token)
 block_items_after p statement zero left ts = Err (too_deep left)
 block_items_after p statement (suc blocks) left ts = items_at insides.Block p (statement blocks) ts
 
 -- a block behind its left brace
 unfoldable pub block_after : Parts → (ℕ → Reader StatementTree) → (blocks : ℕ) → Span → Reader StatementTree
-block_after p statement blocks left ts = block_items_after p statement blocks left ts >>= λ x. Ok (Block left (statements x.0) x.1, x.2)
+block_after p statement blocks left ts = block_items_after p statement blocks left ts >>= λ x. Ok
+    (Block left (statements x.0) x.1, x.2)
 
 -- the items in the braces of `sections`, behind the left one: one at least
-unfoldable pub section_items_after : Parts → Reader StatementTree → List Token → Outcome (List StatementTree × Span × List Token)
+unfoldable pub section_items_after : Parts → Reader StatementTree → List Token → Outcome (List StatementTree × Span
+    × List Token)
 section_items_after p statement ts = choose (take_mark punctuators.CloseBrace ts)
     (λ r. Err (syntax ts))
     (items_at insides.Sections p statement ts)
 
 -- what stands in the braces of `sections`, behind the left one, with room for so many blocks
-unfoldable pub parts_after : Parts → (statement : (blocks : ℕ) → Reader StatementTree) → (blocks : ℕ) → Span → PartsReader
+unfoldable pub parts_after : Parts → (statement : (blocks : ℕ) → Reader StatementTree) → (blocks : ℕ) → Span
+    → PartsReader
 parts_after p statement zero left ts = Err (too_deep left)
-parts_after p statement (suc blocks) left ts = section_items_after p (statement blocks) ts >>= λ x. Ok ((left, statements x.0, x.1), x.2)
+parts_after p statement (suc blocks) left ts = section_items_after p (statement blocks) ts >>= λ x. Ok
+    ((left, statements x.0, x.1), x.2)
 
 -- a statement of this start that has no statement in it
 unfoldable pub simple_of : Parts → Start → Span → (behind whole : List Token) → Outcome (StatementTree × List Token)
@@ -202,13 +213,19 @@ simple_of p starts.Expression at ts whole = expression_statement_at p whole
 simple_of p _ at ts whole = Err (syntax whole)
 
 -- a statement whose first token is taken, over the readers of the statements in it
-unfoldable pub statement_of : Parts → (checked : Bool) → (statement : Bool → (blocks : ℕ) → Reader StatementTree) → (parts : (blocks : ℕ) → PartsReader) → (blocks : ℕ) → Start → Span → (behind whole : List Token) → Outcome (StatementTree × List Token)
+unfoldable pub statement_of : Parts → (checked : Bool) → (statement : Bool → (blocks : ℕ) → Reader StatementTree)
+    → (parts : (blocks : ℕ) → PartsReader) → (blocks : ℕ) → Start → Span → (behind whole : List Token)
+    → Outcome (StatementTree × List Token)
 statement_of p checked statement parts blocks starts.Block at ts whole = block_after p (statement checked) blocks at ts
-statement_of p checked statement parts blocks starts.If at ts whole = headed_of p (statement checked blocks) starts.If at ts
-statement_of p checked statement parts blocks starts.While at ts whole = headed_of p (statement checked blocks) starts.While at ts
-statement_of p checked statement parts blocks starts.For at ts whole = headed_of p (statement checked blocks) starts.For at ts
+statement_of p checked statement parts blocks starts.If at ts whole = headed_of p (statement checked blocks)
+    starts.If at ts
+statement_of p checked statement parts blocks starts.While at ts whole = headed_of p (statement checked blocks)
+    starts.While at ts
+statement_of p checked statement parts blocks starts.For at ts whole = headed_of p (statement checked blocks)
+    starts.For at ts
 statement_of p checked statement parts blocks starts.Do at ts whole = do_after p (statement checked blocks) at ts
-statement_of p checked statement parts blocks starts.Directive at ts whole = line_of p.line checked (λ c. statement c blocks) (parts blocks) (line_start whole) whole
+statement_of p checked statement parts blocks starts.Directive at ts whole = line_of p.line checked
+    (λ c. statement c blocks) (parts blocks) (line_start whole) whole
 statement_of p checked statement parts blocks start at ts whole = simple_of p start at ts whole
 
 -- the fault of a statement that has no room
@@ -222,12 +239,14 @@ unfoldable mutual
   pub statement_at : Parts → (checked : Bool) → (room blocks : ℕ) → Reader StatementTree
   statement_at p checked room blocks [] = Err (syntax [])
   statement_at p checked zero blocks (t ∷ ts) = no_room (start_of t.kind) t.span (t ∷ ts)
-  statement_at p checked (suc room) blocks (t ∷ ts) = statement_of p checked (λ c. statement_at p c room) (parts_at p checked room) blocks (start_of t.kind) t.span ts (t ∷ ts)
+  statement_at p checked (suc room) blocks (t ∷ ts) = statement_of p checked (λ c. statement_at p c room)
+      (parts_at p checked room) blocks (start_of t.kind) t.span ts (t ∷ ts)
 
   -- the braces of `sections` and what stands in them
   pub parts_at : Parts → (checked : Bool) → (room blocks : ℕ) → PartsReader
   parts_at p checked zero blocks ts = mark_at punctuators.OpenBrace ts >>= λ o. Err (too_deep o.0)
-  parts_at p checked (suc room) blocks ts = mark_at punctuators.OpenBrace ts >>= λ o. parts_after p (statement_at p checked room) blocks o.0 o.1
+  parts_at p checked (suc room) blocks ts = mark_at punctuators.OpenBrace ts >>= λ o. parts_after p
+      (statement_at p checked room) blocks o.0 o.1
 
 -- the block of a function (C17 6.8.2)
 unfoldable pub block_with : Parts → (checked : Bool) → (room blocks : ℕ) → Reader BlockTree

@@ -1,5 +1,6 @@
 -- What is spelled is taken again, and answers that only a fault of another code than that of syntax hinders.
-use Rattle.std.proofs.Common.{◌≡◌, ℕ, ◌≤◌, Option, List, ◌∷◌, length, Err, refl, sym, subst, Bool, true, false, cond, arith, inl, inr}
+use Rattle.std.proofs.Common.{◌≡◌, ℕ, ◌≤◌, Option, List, ◌∷◌, length, Err, refl, sym, subst, Bool, true, false,
+    cond, arith, inl, inr}
 use Rattle.std.proofs.lemmas.Bool.{leb-false}
 use Rattle.std.specs.Prelude.{nat_le}
 use denote.Enum.Bare.{true_same}
@@ -13,7 +14,8 @@ use Rattle.om_lexer.specs.declared.token.TokenKind.TheVariants as kinds
 use Rattle.om_pragma.specs.declared.name.Name as names
 use Rattle.om_pragma.specs.declared.name.Number.{Number}
 use Rattle.om_parts.specs.ExpressionReading.{within, take_operator}
-use Rattle.om_parts.specs.Reading.{◌>>=◌, Outcome, too_deep, take, same_mark, take_mark, take_name, take_number, mark_at, name_at, number_at}
+use Rattle.om_parts.specs.Reading.{◌>>=◌, Outcome, too_deep, take, same_mark, take_mark, take_name, take_number,
+    mark_at, name_at, number_at}
 use Rattle.om_tree.specs.Spelling.{mark, name, number}
 use Rattle.om_parts.proofs.Outcomes.{ok, some}
 use Rattle.om_parts.specs.Laws.{Stopping, IsAnswer}
@@ -26,11 +28,14 @@ pub take_number_again : (n : Number) (ts : List Token) → take_number (number n
 unfolding take_number take
 take_number_again n ts = refl
 
-pub take_operator_here : {O : Type 0} (f : TokenKind → Option O) (p : Punctuator) (o : O) (s : Span) (ts : List Token) → f (kinds.Punctuator p) ≡ some o → take_operator f (mark p s ∷ ts) ≡ some ((o, s), ts)
+pub take_operator_here : {O : Type 0} (f : TokenKind → Option O) (p : Punctuator) (o : O) (s : Span)
+    (ts : List Token) → f (kinds.Punctuator p) ≡ some o → take_operator f (mark p s ∷ ts) ≡ some ((o, s), ts)
 unfolding take_operator take
 take_operator_here f p o s ts is = rw is refl
 
-pub take_operator_again : {O : Type 0} (f : TokenKind → Option O) (spell : O → Punctuator) → ((o : O) → f (kinds.Punctuator (spell o)) ≡ some o) → (o : O) (s : Span) (ts : List Token) → take_operator f (mark (spell o) s ∷ ts) ≡ some ((o, s), ts)
+pub take_operator_again : {O : Type 0} (f : TokenKind → Option O) (spell : O → Punctuator)
+    → ((o : O) → f (kinds.Punctuator (spell o)) ≡ some o) → (o : O) (s : Span) (ts : List Token) → take_operator f
+    (mark (spell o) s ∷ ts) ≡ some ((o, s), ts)
 take_operator_again f spell is o s ts = take_operator_here f (spell o) o s ts (is o)
 
 pub mark_again : (p : Punctuator) (s : Span) (ts : List Token) → mark_at p (mark p s ∷ ts) ≡ ok (s, ts)
@@ -52,16 +57,19 @@ too_deep_other s e = absurd cc
 abbrev pub deep_at : Span → Stopping
 deep_at s = record { fault = too_deep s; other = too_deep_other s }
 
-pub bind_answer : {A B : Type 0} {Part Whole : Type 0} (read : Outcome A) (f : A → Outcome B) (x : A) (y : B) → (Whole → Part) → IsAnswer Part read x → IsAnswer Whole (f x) y → IsAnswer Whole (read >>= f) y
+pub bind_answer : {A B : Type 0} {Part Whole : Type 0} (read : Outcome A) (f : A → Outcome B) (x : A) (y : B)
+    → (Whole → Part) → IsAnswer Part read x → IsAnswer Whole (f x) y → IsAnswer Whole (read >>= f) y
 bind_answer {A} {B} {Part} {Whole} read f x y part (inl e) h = subst (λ r. IsAnswer Whole (r >>= f) y) (sym e) h
 bind_answer {A} {B} {Part} {Whole} read f x y part (inr (stop, e, never)) h = inr (stop, rw e refl, λ w. never (part w))
 
 -- what is asked of the whole asks as much of the part
-pub narrower : {A : Type 0} {Part Whole : Type 0} (read : Outcome A) (x : A) → (Whole → Part) → IsAnswer Part read x → IsAnswer Whole read x
+pub narrower : {A : Type 0} {Part Whole : Type 0} (read : Outcome A) (x : A) → (Whole → Part) → IsAnswer Part read x
+    → IsAnswer Whole read x
 narrower read x part (inl e) = inl e
 narrower read x part (inr (stop, e, never)) = inr (stop, e, λ w. never (part w))
 
-pub within_answer : {A : Type 0} {Fits : Type 0} (beyond : ℕ) (s : Span) (rest : List Token) (read : Outcome A) (x : A) → (Fits → beyond ≤ length rest) → IsAnswer Fits read x → IsAnswer Fits (within beyond s rest read) x
+pub within_answer : {A : Type 0} {Fits : Type 0} (beyond : ℕ) (s : Span) (rest : List Token) (read : Outcome A)
+    (x : A) → (Fits → beyond ≤ length rest) → IsAnswer Fits read x → IsAnswer Fits (within beyond s rest read) x
 unfolding within
 within_answer {A} {Fits} beyond s rest read x inside h = go (nat_le beyond (length rest)) refl
   where

@@ -9,12 +9,14 @@ use Rattle.om_lexer.specs.declared.token.Token.{Token}
 use Rattle.om_tree.specs.declared.tree.ArrayLength.{ArrayLength}
 use Rattle.om_pragma.specs.declared.name.Number.{Number}
 use Rattle.om_tree.specs.declared.tree.PrefixOperator.TheVariants as prefixes
-use Rattle.om_parts.specs.DeclarationReading.{constant_at, array_after, declarator_after, further_at, declaration_after, declared_at}
+use Rattle.om_parts.specs.DeclarationReading.{constant_at, array_after, declarator_after, further_at,
+    declaration_after, declared_at}
 use Rattle.om_tree.specs.Formed.{IsSignedConstant, IsDeclarator, IsDeclaration}
 use Rattle.om_tree.specs.Limits.{expressions_of_declarator, expressions_of_declaration}
 use Rattle.om_parts.specs.Reading.{Reader, take, same_mark, take_mark}
 use Rattle.om_parts.specs.Repetition.{until}
-use Rattle.om_tree.specs.Spelling.{mark, name, number, perhaps, word, expression_spelling, array_spelling, initializer_spelling, declarator_spelling, further_spelling, declaration_spelling}
+use Rattle.om_tree.specs.Spelling.{mark, name, number, perhaps, word, expression_spelling, array_spelling,
+    initializer_spelling, declarator_spelling, further_spelling, declaration_spelling}
 use Rattle.om_tree.specs.Tree.{ExpressionTree, Constant, Prefix, InitializerTree, DeclaratorTree, DeclarationTree}
 use Rattle.om_parts.proofs.Outcomes.{ok}
 use Rattle.om_parts.proofs.Again.{take_mark_again, mark_again, name_again, number_again, bind_answer}
@@ -37,60 +39,82 @@ unfolding take_mark take same_mark
 no_array _ (EndsByComma s us) = refl
 no_array _ (EndsBySemicolon s us) = refl
 
-equal_is_no_bracket : (s : Span) (ts : List Token) → take_mark punctuators.OpenBracket (mark punctuators.Equal s ∷ ts) ≡ None
+equal_is_no_bracket : (s : Span) (ts : List Token) → take_mark punctuators.OpenBracket (mark punctuators.Equal s
+    ∷ ts) ≡ None
 unfolding take_mark take same_mark
 equal_is_no_bracket s ts = refl
 
-array_again : (a : ArrayLength) (rest : List Token) → array_after a.open_bracket (number a.size ∷ mark punctuators.CloseBracket a.close_bracket ∷ rest) ≡ ok (a, rest)
+array_again : (a : ArrayLength) (rest : List Token) → array_after a.open_bracket
+    (number a.size ∷ mark punctuators.CloseBracket a.close_bracket ∷ rest) ≡ ok (a, rest)
 unfolding array_after
-array_again a rest = rw (number_again a.size (mark punctuators.CloseBracket a.close_bracket ∷ rest), mark_again punctuators.CloseBracket a.close_bracket rest) refl
+array_again a rest = rw (number_again a.size (mark punctuators.CloseBracket a.close_bracket ∷ rest),
+    mark_again punctuators.CloseBracket a.close_bracket rest) refl
 
 number_is_no_minus : (n : Number) (ts : List Token) → take_mark punctuators.Minus (number n ∷ ts) ≡ None
 unfolding take_mark take
 number_is_no_minus n ts = refl
 
-pub constant_again : (e : ExpressionTree) (rest : List Token) → IsSignedConstant e → constant_at (expression_spelling e ++ rest) ≡ ok (e, rest)
+pub constant_again : (e : ExpressionTree) (rest : List Token) → IsSignedConstant e
+    → constant_at (expression_spelling e ++ rest) ≡ ok (e, rest)
 unfolding constant_at expression_spelling
 constant_again (Constant n) rest f = rw (number_is_no_minus n rest, number_again n rest) refl
-constant_again (Prefix prefixes.Minus at (Constant n)) rest f = rw (take_mark_again punctuators.Minus at (number n ∷ rest), number_again n rest) refl
+constant_again (Prefix prefixes.Minus at (Constant n)) rest f = rw (take_mark_again punctuators.Minus at
+    (number n ∷ rest), number_again n rest) refl
 constant_again _ rest f = absurd f
 
 -- the rest of a declaration, behind `int` and the first name
 unfoldable pub declaration_rest : DeclarationTree → List Token → List Token
-declaration_rest d rest = (perhaps array_spelling d.first.array ++ perhaps initializer_spelling d.first.initializer) ++ (flat_map further_spelling d.rest ++ mark punctuators.Semicolon d.semicolon ∷ rest)
+declaration_rest d rest = (perhaps array_spelling d.first.array ++ perhaps initializer_spelling d.first.initializer)
+    ++ (flat_map further_spelling d.rest ++ mark punctuators.Semicolon d.semicolon ∷ rest)
 
-pub rest_is : (d : DeclarationTree) (rest : List Token) → word keywords.Int d.int ∷ name d.first.name ∷ declaration_rest d rest ≡ declaration_spelling d ++ rest
+pub rest_is : (d : DeclarationTree) (rest : List Token) → word keywords.Int d.int ∷ name d.first.name
+    ∷ declaration_rest d rest ≡ declaration_spelling d ++ rest
 unfolding declaration_rest declaration_spelling declarator_spelling
 rest_is d rest = simp append_assoc
 
 -- a declaration is no function
-pub no_parameters : (d : DeclarationTree) (rest : List Token) → take_mark punctuators.OpenParen (declaration_rest d rest) ≡ None
+pub no_parameters : (d : DeclarationTree) (rest : List Token) → take_mark punctuators.OpenParen
+    (declaration_rest d rest) ≡ None
 unfolding declaration_rest take_mark take same_mark initializer_spelling further_spelling
 no_parameters d rest = go d.first.array d.first.initializer d.rest
   where
-    go : (a : Option ArrayLength) (i : Option InitializerTree) (ds : List (Span × DeclaratorTree)) → take_mark punctuators.OpenParen ((perhaps array_spelling a ++ perhaps initializer_spelling i) ++ (flat_map further_spelling ds ++ mark punctuators.Semicolon d.semicolon ∷ rest)) ≡ None
+    go : (a : Option ArrayLength) (i : Option InitializerTree) (ds : List (Span × DeclaratorTree))
+        → take_mark punctuators.OpenParen ((perhaps array_spelling a ++ perhaps initializer_spelling i)
+        ++ (flat_map further_spelling ds ++ mark punctuators.Semicolon d.semicolon ∷ rest)) ≡ None
     go (Some a) i ds = refl
     go None (Some i) ds = refl
     go None None [] = refl
     go None None (d ∷ ds) = refl
 
-module _ (Admitted Fits : ExpressionTree → Type 0) (initial : Reader ExpressionTree) (again : (e : ExpressionTree) (rest : List Token) → Admitted e → EndsDeclarator rest → IsAnswer (Fits e) (initial (expression_spelling e ++ rest)) (e, rest)) where
+module _ (Admitted Fits : ExpressionTree → Type 0) (initial : Reader ExpressionTree)
+    (again : (e : ExpressionTree) (rest : List Token) → Admitted e → EndsDeclarator rest → IsAnswer (Fits e)
+    (initial (expression_spelling e ++ rest)) (e, rest)) where
   abbrev FitsDeclarator : DeclaratorTree → Type 0
   FitsDeclarator d = All Fits (expressions_of_declarator d)
 
-  pub declarator_again : (d : DeclaratorTree) (rest : List Token) → IsDeclarator Admitted d → EndsDeclarator rest → IsAnswer (FitsDeclarator d) (declarator_after initial d.name ((perhaps array_spelling d.array ++ perhaps initializer_spelling d.initializer) ++ rest)) (d, rest)
+  pub declarator_again : (d : DeclaratorTree) (rest : List Token) → IsDeclarator Admitted d → EndsDeclarator rest
+      → IsAnswer (FitsDeclarator d)
+      (declarator_after initial d.name
+      ((perhaps array_spelling d.array ++ perhaps initializer_spelling d.initializer) ++ rest)) (d, rest)
   unfolding declarator_after IsDeclarator initializer_spelling
   declarator_again d rest formed ends = go d.array d.initializer formed
     where
       tree : Option ArrayLength → Option InitializerTree → DeclaratorTree
       tree a i = record { name = d.name; array = a; initializer = i }
 
-      go : (a : Option ArrayLength) (i : Option InitializerTree) → IsDeclarator Admitted (tree a i) → IsAnswer (FitsDeclarator (tree a i)) (declarator_after initial d.name ((perhaps array_spelling a ++ perhaps initializer_spelling i) ++ rest)) (tree a i, rest)
+      go : (a : Option ArrayLength) (i : Option InitializerTree) → IsDeclarator Admitted (tree a i)
+          → IsAnswer (FitsDeclarator (tree a i))
+          (declarator_after initial d.name ((perhaps array_spelling a ++ perhaps initializer_spelling i) ++ rest))
+          (tree a i, rest)
       go None None f = inl (rw (no_array rest ends, no_initializer rest ends) refl)
-      go (Some a) None f = inl (rw (take_mark_again punctuators.OpenBracket a.open_bracket (number a.size ∷ mark punctuators.CloseBracket a.close_bracket ∷ rest), array_again a rest) refl)
+      go (Some a) None f = inl
+          (rw (take_mark_again punctuators.OpenBracket a.open_bracket (number a.size ∷ mark punctuators.CloseBracket
+          a.close_bracket ∷ rest), array_again a rest) refl)
       go None (Some i) f =
           let value : List Token = expression_spelling i.value ++ rest in
-          rw (equal_is_no_bracket i.equal value, take_mark_again punctuators.Equal i.equal value) (bind_answer (initial value) _ (i.value, rest) (tree None (Some i), rest) (λ w. All-head Fits i.value [] w) (again i.value rest f ends) (inl refl))
+          rw (equal_is_no_bracket i.equal value, take_mark_again punctuators.Equal i.equal value)
+              (bind_answer (initial value) _ (i.value, rest) (tree None (Some i), rest)
+              (λ w. All-head Fits i.value [] w) (again i.value rest f ends) (inl refl))
       go (Some a) (Some i) f = absurd f
 
   abbrev IsFurther : Span × DeclaratorTree → Type 0
@@ -99,13 +123,18 @@ module _ (Admitted Fits : ExpressionTree → Type 0) (initial : Reader Expressio
   abbrev FitsFurther : Span × DeclaratorTree → Type 0
   FitsFurther d = FitsDeclarator d.1
 
-  further_again : (d : Span × DeclaratorTree) (rest : List Token) → IsFurther d → EndsDeclarator rest → IsAnswer (FitsFurther d) (further_at initial (further_spelling d ++ rest)) (d, rest)
+  further_again : (d : Span × DeclaratorTree) (rest : List Token) → IsFurther d → EndsDeclarator rest
+      → IsAnswer (FitsFurther d) (further_at initial (further_spelling d ++ rest)) (d, rest)
   unfolding further_at further_spelling declarator_spelling
   further_again d rest formed ends =
-      let back : List Token = (perhaps array_spelling d.1.array ++ perhaps initializer_spelling d.1.initializer) ++ rest in
-      rw (mark_again punctuators.Comma d.0 (name d.1.name ∷ back), name_again d.1.name back) (bind_answer (declarator_after initial d.1.name back) _ (d.1, rest) (d, rest) (λ w. w) (declarator_again d.1 rest formed ends) (inl refl))
+      let back : List Token = (perhaps array_spelling d.1.array ++ perhaps initializer_spelling d.1.initializer)
+          ++ rest in
+      rw (mark_again punctuators.Comma d.0 (name d.1.name ∷ back), name_again d.1.name back)
+          (bind_answer (declarator_after initial d.1.name back) _ (d.1, rest) (d, rest) (λ w. w)
+          (declarator_again d.1 rest formed ends) (inl refl))
 
-  all_further_again : AreAgain further_spelling IsFurther FitsFurther EndsDeclarator (take_mark punctuators.Semicolon) (further_at initial)
+  all_further_again : AreAgain further_spelling IsFurther FitsFurther EndsDeclarator
+      (take_mark punctuators.Semicolon) (further_at initial)
   unfolding further_spelling take_mark take same_mark
   all_further_again = record {
     one = further_again;
@@ -114,25 +143,38 @@ module _ (Admitted Fits : ExpressionTree → Type 0) (initial : Reader Expressio
     some_tokens = λ d f. further_some d;
   }
 
-  ends_first : (ds : List (Span × DeclaratorTree)) (s : Span) (rest : List Token) → EndsDeclarator (flat_map further_spelling ds ++ mark punctuators.Semicolon s ∷ rest)
+  ends_first : (ds : List (Span × DeclaratorTree)) (s : Span) (rest : List Token)
+      → EndsDeclarator (flat_map further_spelling ds ++ mark punctuators.Semicolon s ∷ rest)
   unfolding further_spelling
   ends_first [] s rest = EndsBySemicolon s rest
-  ends_first (d ∷ ds) s rest = EndsByComma d.0 ((declarator_spelling d.1 ++ flat_map further_spelling ds) ++ mark punctuators.Semicolon s ∷ rest)
+  ends_first (d ∷ ds) s rest = EndsByComma d.0 ((declarator_spelling d.1 ++ flat_map further_spelling ds)
+      ++ mark punctuators.Semicolon s ∷ rest)
 
-  pub declaration_again : (d : DeclarationTree) (rest : List Token) → IsDeclaration Admitted d → IsAnswer (All Fits (expressions_of_declaration d)) (declaration_after initial d.int d.first.name (declaration_rest d rest)) (d, rest)
+  pub declaration_again : (d : DeclarationTree) (rest : List Token) → IsDeclaration Admitted d
+      → IsAnswer (All Fits (expressions_of_declaration d)) (declaration_after initial d.int d.first.name
+      (declaration_rest d rest)) (d, rest)
   unfolding declaration_after IsDeclaration declaration_rest
   declaration_again d rest formed =
       let last : Token = mark punctuators.Semicolon d.semicolon in
       let others : List Token = flat_map further_spelling d.rest ++ last ∷ rest in
-      bind_answer (declarator_after initial d.first.name (declaration_rest d rest)) _ (d.first, others) (d, rest) (λ w. all_front Fits (expressions_of_declarator d.first) (flat_map (λ x. expressions_of_declarator x.1) d.rest) w) (declarator_again d.first others formed.0 (ends_first d.rest d.semicolon rest))
-      (bind_answer (until (take_mark punctuators.Semicolon) (further_at initial) (length others) others) _ (d.rest, d.semicolon, rest) (d, rest) (λ w. flat_all Fits (λ x. expressions_of_declarator x.1) d.rest (all_back Fits (expressions_of_declarator d.first) (flat_map (λ x. expressions_of_declarator x.1) d.rest) w))
-      (until_again further_spelling IsFurther FitsFurther EndsDeclarator (take_mark punctuators.Semicolon) (further_at initial) all_further_again last d.semicolon rest (take_mark_again punctuators.Semicolon d.semicolon rest) (EndsBySemicolon d.semicolon rest) d.rest formed.1)
+      bind_answer (declarator_after initial d.first.name (declaration_rest d rest)) _ (d.first, others) (d, rest)
+          (λ w. all_front Fits (expressions_of_declarator d.first) (flat_map (λ x. expressions_of_declarator x.1)
+          d.rest) w) (declarator_again d.first others formed.0 (ends_first d.rest d.semicolon rest))
+      (bind_answer (until (take_mark punctuators.Semicolon) (further_at initial) (length others) others) _
+          (d.rest, d.semicolon, rest) (d, rest) (λ w. flat_all Fits (λ x. expressions_of_declarator x.1) d.rest
+          (all_back Fits (expressions_of_declarator d.first) (flat_map (λ x. expressions_of_declarator x.1) d.rest) w))
+      (until_again further_spelling IsFurther FitsFurther EndsDeclarator (take_mark punctuators.Semicolon)
+          (further_at initial) all_further_again last d.semicolon rest (take_mark_again punctuators.Semicolon
+          d.semicolon rest) (EndsBySemicolon d.semicolon rest) d.rest formed.1)
       (inl refl))
 
   -- what stands behind the `int` of a declaration
-  pub declared_again : (d : DeclarationTree) (rest : List Token) → IsDeclaration Admitted d → IsAnswer (All Fits (expressions_of_declaration d)) (declared_at initial d.int (name d.first.name ∷ declaration_rest d rest)) (d, rest)
+  pub declared_again : (d : DeclarationTree) (rest : List Token) → IsDeclaration Admitted d
+      → IsAnswer (All Fits (expressions_of_declaration d))
+      (declared_at initial d.int (name d.first.name ∷ declaration_rest d rest)) (d, rest)
   unfolding declared_at
-  declared_again d rest formed = rw (name_again d.first.name (declaration_rest d rest)) (declaration_again d rest formed)
+  declared_again d rest formed = rw (name_again d.first.name (declaration_rest d rest))
+      (declaration_again d rest formed)
 
 pub all_any : {A : Type 0} (xs : List A) → All (λ (x : A). Unit {0}) xs
 all_any [] = All-nil (λ x. Unit {0})

@@ -9,7 +9,8 @@ use Rattle.om_tree.specs.Formed.{IsSignedConstant}
 use Rattle.om_tree.specs.Limits.{expressions_of_declaration}
 use Rattle.om_tree.specs.Spelling.{expression_spelling}
 use Rattle.om_tree.specs.Tree.{ExpressionTree}
-use Rattle.om_parts.proofs.DeclarationComplete.{EndsDeclarator, constant_again, declaration_rest, rest_is, no_parameters, declaration_again, all_any}
+use Rattle.om_parts.proofs.DeclarationComplete.{EndsDeclarator, constant_again, declaration_rest, rest_is,
+    no_parameters, declaration_again, all_any}
 use Rattle.om_parts.proofs.DeclarationCut.{constant_never_deep, declaration_never_deep}
 use Rattle.om_parts.proofs.DeclarationRefusals.{constant_refuses, declaration_refuses}
 use Rattle.om_parts.proofs.DeclarationSound.{IsAny, constant_sound, declaration_after_sound}
@@ -19,7 +20,8 @@ pub globals_sound : GlobalsAreSound
 unfolding global_at
 globals_sound int n ts x h = declaration_after_sound IsSignedConstant constant_at constant_sound int n ts x h
 
-constant_answer : (e : ExpressionTree) (rest : List Token) → IsSignedConstant e → EndsDeclarator rest → IsAnswer (IsAny e) (constant_at (expression_spelling e ++ rest)) (e, rest)
+constant_answer : (e : ExpressionTree) (rest : List Token) → IsSignedConstant e → EndsDeclarator rest
+    → IsAnswer (IsAny e) (constant_at (expression_spelling e ++ rest)) (e, rest)
 constant_answer e rest f ends = inl (constant_again e rest f)
 
 -- what always fits is read
@@ -33,7 +35,9 @@ globals_again d rest f = record {
   behind = declaration_rest d rest;
   parts = rest_is d rest;
   no_function = no_parameters d rest;
-  read = always (declaration_after constant_at d.int d.first.name (declaration_rest d rest)) (d, rest) (all_any (expressions_of_declaration d)) (declaration_again IsSignedConstant IsAny constant_at constant_answer d rest f);
+  read = always (declaration_after constant_at d.int d.first.name (declaration_rest d rest)) (d, rest)
+      (all_any (expressions_of_declaration d)) (declaration_again IsSignedConstant IsAny constant_at constant_answer
+      d rest f);
 }
 
 pub globals_stop : GlobalsStopAtSyntax

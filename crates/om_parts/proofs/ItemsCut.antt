@@ -18,7 +18,8 @@ use Rattle.om_parts.proofs.Loops.{Ender}
 
 -- A limit is passed at this place: some well-formed part of a program begins with the same tokens up to there,
 -- and there one of its whole expressions has too many tokens, or parentheses that nest too deep.
-pub record PassesLimit {A : Type 0} (spelling : A → List Token) (IsFormed : A → Type 0) (expressions : A → List ExpressionTree) (l : Limits) (tokens : List Token) (place : ℕ) : Type 0 where
+pub record PassesLimit {A : Type 0} (spelling : A → List Token) (IsFormed : A → Type 0)
+    (expressions : A → List ExpressionTree) (l : Limits) (tokens : List Token) (place : ℕ) : Type 0 where
   pub part : A
   pub formed : IsFormed part
   pub expression : ExpressionTree
@@ -39,17 +40,24 @@ abbrev pub Deep : SourceFault → Type 0
 Deep f = f.code ≡ faults.TooDeep
 
 -- a reader that stops at a limit only where one is passed
-abbrev pub IsCuttingAt : {A : Type 0} → (A → List Token) → (A → Type 0) → (A → List ExpressionTree) → Limits → Reader A → Type 0
-IsCuttingAt {A} spell P whole l r = (ts : List Token) (f : SourceFault) → r ts ≡ Err f → Deep f → PassesLimit spell P whole l ts f.at
+abbrev pub IsCuttingAt : {A : Type 0} → (A → List Token) → (A → Type 0) → (A → List ExpressionTree) → Limits
+    → Reader A → Type 0
+IsCuttingAt {A} spell P whole l r = (ts : List Token) (f : SourceFault) → r ts ≡ Err f → Deep f → PassesLimit spell
+    P whole l ts f.at
 
-pub bind_never_deep : {A B : Type 0} (read : Outcome A) (g : A → Outcome B) → IsNeverDeep read → ((x : A) → IsNeverDeep (g x)) → IsNeverDeep (read >>= g)
+pub bind_never_deep : {A B : Type 0} (read : Outcome A) (g : A → Outcome B) → IsNeverDeep read
+    → ((x : A) → IsNeverDeep (g x)) → IsNeverDeep (read >>= g)
 bind_never_deep (Ok x) g first second f e deep = second x f e deep
 bind_never_deep (Err d) g first second f e deep = first f (ap (λ (c : SourceFault). Err c) (err_is d f e)) deep
 
 -- a part in its place in a larger one
-pub embedded : {A B : Type 0} (spell : A → List Token) (P : A → Type 0) (whole : A → List ExpressionTree) (larger : B → List Token) (Q : B → Type 0) (of_larger : B → List ExpressionTree) (l : Limits) (front : List Token) (make : A → B) (back : List Token)
-    → ((a : A) → larger (make a) ≡ front ++ spell a ++ back) → ((a : A) → P a → Q (make a)) → ((a : A) (e : ExpressionTree) → Contains (whole a) e → Contains (of_larger (make a)) e)
-    → (ts : List Token) (place : ℕ) → PassesLimit spell P whole l ts place → PassesLimit larger Q of_larger l (front ++ ts) place
+pub embedded : {A B : Type 0} (spell : A → List Token) (P : A → Type 0) (whole : A → List ExpressionTree)
+    (larger : B → List Token) (Q : B → Type 0) (of_larger : B → List ExpressionTree) (l : Limits)
+    (front : List Token) (make : A → B) (back : List Token)
+    → ((a : A) → larger (make a) ≡ front ++ spell a ++ back) → ((a : A) → P a → Q (make a))
+        → ((a : A) (e : ExpressionTree) → Contains (whole a) e → Contains (of_larger (make a)) e)
+    → (ts : List Token) (place : ℕ) → PassesLimit spell P whole l ts place → PassesLimit larger Q of_larger l
+        (front ++ ts) place
 embedded spell P whole larger Q of_larger l front make back spelled formed contains ts place c = record {
   part = make c.part;
   formed = formed c.part c.formed;
@@ -68,8 +76,10 @@ embedded spell P whole larger Q of_larger l front make back spelled formed conta
   too_much = c.too_much;
 }
 
-module _ {A : Type 0} (spell : A → List Token) (P : A → Type 0) (whole : A → List ExpressionTree) (l : Limits) (ender : Ender) (item : Reader A) where
-  one_cut : (ts : List Token) (place : ℕ) → PassesLimit spell P whole l ts place → PassesLimit (flat_map spell) (All P) (flat_map whole) l ts place
+module _ {A : Type 0} (spell : A → List Token) (P : A → Type 0) (whole : A → List ExpressionTree) (l : Limits)
+    (ender : Ender) (item : Reader A) where
+  one_cut : (ts : List Token) (place : ℕ) → PassesLimit spell P whole l ts place → PassesLimit (flat_map spell)
+      (All P) (flat_map whole) l ts place
   one_cut ts place c = record {
     part = c.part ∷ [];
     formed = All-cons P c.part [] c.formed (All-nil P);
@@ -88,7 +98,9 @@ module _ {A : Type 0} (spell : A → List Token) (P : A → Type 0) (whole : A �
     too_much = c.too_much;
   }
 
-  pub until_cut : ((ts : List Token) (x : A × List Token) → item ts ≡ ok x → (ts ≡ spell x.0 ++ x.1) × P x.0) → IsCuttingAt spell P whole l item → (k : ℕ) (ts : List Token) (f : SourceFault) → until ender item k ts ≡ Err f → Deep f → PassesLimit (flat_map spell) (All P) (flat_map whole) l ts f.at
+  pub until_cut : ((ts : List Token) (x : A × List Token) → item ts ≡ ok x → (ts ≡ spell x.0 ++ x.1) × P x.0)
+      → IsCuttingAt spell P whole l item → (k : ℕ) (ts : List Token) (f : SourceFault) → until ender item k ts
+      ≡ Err f → Deep f → PassesLimit (flat_map spell) (All P) (flat_map whole) l ts f.at
   unfolding until
   until_cut sound cutting zero ts f h deep = elim (bind_err (item ts) _ f h) [
     | inl e ↦ one_cut ts f.at (cutting ts f e deep)
@@ -124,10 +136,13 @@ module _ {A : Type 0} (spell : A → List Token) (P : A → Type 0) (whole : A �
     ]
   ]
 
-pub until_never_deep : {A : Type 0} (ender : Ender) (item : Reader A) → ((ts : List Token) → IsNeverDeep (item ts)) → (k : ℕ) (ts : List Token) → IsNeverDeep (until ender item k ts)
+pub until_never_deep : {A : Type 0} (ender : Ender) (item : Reader A) → ((ts : List Token) → IsNeverDeep (item ts))
+    → (k : ℕ) (ts : List Token) → IsNeverDeep (until ender item k ts)
 unfolding until
-until_never_deep ender item never zero ts f h deep = bind_never_deep (item ts) _ (never ts) (λ a f e deep. syntax_never_deep ts f e deep) f h deep
+until_never_deep ender item never zero ts f h deep = bind_never_deep (item ts) _ (never ts)
+    (λ a f e deep. syntax_never_deep ts f e deep) f h deep
 until_never_deep ender item never (suc k) ts f h deep = elim (choose_cases (ender ts) _ _ (Err f) h) [
   | inl (e, ends, no_err) ↦ absurd cc
-  | inr (none, g) ↦ bind_never_deep (item ts) _ (never ts) (λ a. bind_never_deep (until ender item k a.1) _ (until_never_deep ender item never k a.1) (λ b e h deep. absurd cc)) f g deep
+  | inr (none, g) ↦ bind_never_deep (item ts) _ (never ts) (λ a. bind_never_deep (until ender item k a.1) _
+      (until_never_deep ender item never k a.1) (λ b e h deep. absurd cc)) f g deep
 ]

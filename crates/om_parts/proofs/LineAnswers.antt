@@ -27,35 +27,45 @@ abbrev pub HasOneExpression : Type 0
 HasOneExpression = (d : Directive (List Token)) → IsDirective IsClosed d → length (expressions d) ≤ 1
 
 -- what is read of a run is a directive with its tokens
-pub run_directive : IsReading → (run : List Token) → EndsOnce run → (d : Directive (List Token)) → directive_at run ≡ Ok d → IsDirectiveOf run d
+pub run_directive : IsReading → (run : List Token) → EndsOnce run → (d : Directive (List Token)) → directive_at run
+    ≡ Ok d → IsDirectiveOf run d
 run_directive is_read run once d is = rw is at (is_read run once)
 
 -- a directive with the tokens of a run is read of it
-pub run_reads : OnlyOne → IsReading → (run : List Token) → EndsOnce run → (d : Directive (List Token)) → IsDirectiveOf run d → directive_at run ≡ Ok d
+pub run_reads : OnlyOne → IsReading → (run : List Token) → EndsOnce run → (d : Directive (List Token))
+    → IsDirectiveOf run d → directive_at run ≡ Ok d
 run_reads only is_read run once d is = only run (directive_at run) (Ok d) (is_read run once) is
 
 -- what is refused of a run
-pub run_refused : IsReading → (run : List Token) → EndsOnce run → (f : SourceFault) → directive_at run ≡ Err f → (f.code ≡ codes.Syntax) ⊎ IsWordFault run f.code f.at
+pub run_refused : IsReading → (run : List Token) → EndsOnce run → (f : SourceFault) → directive_at run ≡ Err f
+    → (f.code ≡ codes.Syntax) ⊎ IsWordFault run f.code f.at
 run_refused is_read run once f is = go (rw is at (is_read run once))
   where
     go : IsAnswer run (Err f) → (f.code ≡ codes.Syntax) ⊎ IsWordFault run f.code f.at
     go (inl syntax, stops) = inl syntax.0
     go (inr word, stops) = inr word
 
-pub answered : OnlyOne → IsReading → (run : List Token) → EndsOnce run → (r : Result (Directive (Bor (List Token))) SourceFault)
-    → IfOk r (λ d. IsDirectiveOf run (with_tokens d)) → IfErr r (λ f. (f ≡ no_memory) ⊎ IsRefusal run f) → IfErr r (λ f. f.code ≡ codes.Syntax → EndsOnce run → StopsAt run f.at)
+pub answered : OnlyOne → IsReading → (run : List Token) → EndsOnce run
+    → (r : Result (Directive (Bor (List Token))) SourceFault)
+    → IfOk r (λ d. IsDirectiveOf run (with_tokens d)) → IfErr r (λ f. (f ≡ no_memory) ⊎ IsRefusal run f)
+        → IfErr r (λ f. f.code ≡ codes.Syntax → EndsOnce run → StopsAt run f.at)
     → Reads with_tokens r (directive_at run)
-answered only is_read run once (Ok d) found refused stops = only run (directive_at run) (Ok (with_tokens d)) (is_read run once) found
+answered only is_read run once (Ok d) found refused stops = only run (directive_at run) (Ok (with_tokens d))
+    (is_read run once) found
 answered only is_read run once (Err f) found (inl memory) stops = inl memory
-answered only is_read run once (Err f) found (inr refusal) stops = inr (only run (directive_at run) (Err f) (is_read run once) (refusal, λ syntax. stops syntax once))
+answered only is_read run once (Err f) found (inr refusal) stops = inr (only run (directive_at run) (Err f)
+    (is_read run once) (refusal, λ syntax. stops syntax once))
 
 -- ---- an expression before a place
 
 abbrev pub FindsFirst : Type 0
 FindsFirst = (ts es : List Token) (place : ℕ) → expression_before place ts ≡ some es → IsFirstValue ts place es
 
-pub value_found : FindsFirst → ((ts es : List Token) (place : ℕ) → IsFirstValue ts place es → expression_before place ts ≡ some es)
-    → (ts : List Token) (place : ℕ) (o : Option (Bor (List Token))) → IfSome o (λ e. IsFirstValue ts place e.now) → (o ≡ None → (e : List Token) → StandsAsValue ts place e → ⊥) → option_map (λ (e : Bor (List Token)). e.now) o ≡ expression_before place ts
+pub value_found : FindsFirst → ((ts es : List Token) (place : ℕ) → IsFirstValue ts place es → expression_before
+    place ts ≡ some es)
+    → (ts : List Token) (place : ℕ) (o : Option (Bor (List Token))) → IfSome o (λ e. IsFirstValue ts place e.now)
+        → (o ≡ None → (e : List Token) → StandsAsValue ts place e → ⊥)
+        → option_map (λ (e : Bor (List Token)). e.now) o ≡ expression_before place ts
 value_found only found ts place (Some e) first absent = sym (found ts e.now place first)
 value_found only found ts place None first absent = go (expression_before place ts) refl
   where

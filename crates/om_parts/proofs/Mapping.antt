@@ -16,11 +16,15 @@ use Rattle.std.proofs.lemmas.List.{map_push}
 module _ {E F : Type 0} (f : E → F) where
   -- ---- expressions
 
-  items_expressions : (items : List (ClauseItem E)) → flat_map (λ (i : ClauseItem F). clause_expressions i.clause) (map (map_item f) items) ≡ map f (flat_map (λ (i : ClauseItem E). clause_expressions i.clause) items)
+  items_expressions : (items : List (ClauseItem E)) → flat_map (λ (i : ClauseItem F). clause_expressions i.clause)
+      (map (map_item f) items) ≡ map f (flat_map (λ (i : ClauseItem E). clause_expressions i.clause) items)
   items_expressions [] = refl
   items_expressions (i ∷ items) = go i.clause (items_expressions items)
     where
-      go : (c : Clause E) → flat_map (λ (j : ClauseItem F). clause_expressions j.clause) (map (map_item f) items) ≡ map f (flat_map (λ (j : ClauseItem E). clause_expressions j.clause) items) → clause_expressions (map_clause f c) ++ flat_map (λ (j : ClauseItem F). clause_expressions j.clause) (map (map_item f) items) ≡ map f (clause_expressions c ++ flat_map (λ (j : ClauseItem E). clause_expressions j.clause) items)
+      go : (c : Clause E) → flat_map (λ (j : ClauseItem F). clause_expressions j.clause) (map (map_item f) items)
+          ≡ map f (flat_map (λ (j : ClauseItem E). clause_expressions j.clause) items) → clause_expressions
+          (map_clause f c) ++ flat_map (λ (j : ClauseItem F). clause_expressions j.clause) (map (map_item f) items)
+          ≡ map f (clause_expressions c ++ flat_map (λ (j : ClauseItem E). clause_expressions j.clause) items)
       go (clauses.Value k s v) later = ap (λ (es : List F). f v.expression ∷ es) later
       go (clauses.Default s a) later = later
       go (clauses.Data k s l) later = later
@@ -34,7 +38,8 @@ module _ {E F : Type 0} (f : E → F) where
 
   -- ---- spelling
 
-  clause_mapped : (g : F → List Token) (c : Clause E) → clause_spelling g (map_clause f c) ≡ clause_spelling (λ e. g (f e)) c
+  clause_mapped : (g : F → List Token) (c : Clause E) → clause_spelling g (map_clause f c) ≡ clause_spelling
+      (λ e. g (f e)) c
   unfolding clause_spelling argument_spelling
   clause_mapped g (clauses.Value k s v) = refl
   clause_mapped g (clauses.Default s a) = refl
@@ -43,12 +48,14 @@ module _ {E F : Type 0} (f : E → F) where
   clause_mapped g (clauses.Schedule s a) = refl
   clause_mapped g (clauses.Plain k s) = refl
 
-  items_mapped : (g : F → List Token) (items : List (ClauseItem E)) → flat_map (item_spelling g) (map (map_item f) items) ≡ flat_map (item_spelling (λ e. g (f e))) items
+  items_mapped : (g : F → List Token) (items : List (ClauseItem E)) → flat_map (item_spelling g)
+      (map (map_item f) items) ≡ flat_map (item_spelling (λ e. g (f e))) items
   unfolding item_spelling
   items_mapped g [] = refl
   items_mapped g (i ∷ items) = rw (clause_mapped g i.clause, items_mapped g items) refl
 
-  pub mapped_spelling : (g : F → List Token) (d : Directive E) → directive_spelling g (map_directive f d) ≡ directive_spelling (λ e. g (f e)) d
+  pub mapped_spelling : (g : F → List Token) (d : Directive E) → directive_spelling g (map_directive f d)
+      ≡ directive_spelling (λ e. g (f e)) d
   unfolding directive_spelling
   mapped_spelling g d = rw (items_mapped g d.clauses) refl
 
@@ -66,7 +73,8 @@ module _ {E F : Type 0} (f : E → F) where
   mapped_kinds [] = refl
   mapped_kinds (i ∷ items) = rw (mapped_kind i.clause, mapped_kinds items) refl
 
-  mapped_between : (before : List (ClauseItem E)) (c : Option Span) → IsBetween before c → IsBetween (map (map_item f) before) c
+  mapped_between : (before : List (ClauseItem E)) (c : Option Span) → IsBetween before c
+      → IsBetween (map (map_item f) before) c
   mapped_between [] (Some c) between = between
   mapped_between [] None between = tt
   mapped_between (i ∷ before) c between = tt
@@ -80,7 +88,8 @@ module _ {E F : Type 0} (f : E → F) where
     mapped_clause (clauses.Schedule s a) formed = formed
     mapped_clause (clauses.Plain k s) formed = formed
 
-    mapped_each : (n : DirectiveName) (before items : List (ClauseItem E)) → EachBehind (IsItem P n) before items → EachBehind (IsItem Q n) (map (map_item f) before) (map (map_item f) items)
+    mapped_each : (n : DirectiveName) (before items : List (ClauseItem E)) → EachBehind (IsItem P n) before items
+        → EachBehind (IsItem Q n) (map (map_item f) before) (map (map_item f) items)
     unfolding EachBehind
     mapped_each n before [] each = tt
     mapped_each n before (i ∷ items) each =
@@ -89,7 +98,8 @@ module _ {E F : Type 0} (f : E → F) where
           can_stand = rw (mapped_kinds before, mapped_kind i.clause) each.0.can_stand;
           formed = mapped_clause i.clause each.0.formed;
         } in
-        (first, subst (λ (b : List (ClauseItem F)). EachBehind (IsItem Q n) b (map (map_item f) items)) (map_push (map_item f) before i) (mapped_each n (before ++ i ∷ []) items each.1))
+        (first, subst (λ (b : List (ClauseItem F)). EachBehind (IsItem Q n) b (map (map_item f) items))
+            (map_push (map_item f) before i) (mapped_each n (before ++ i ∷ []) items each.1))
 
     pub mapped_directive : (d : Directive E) → IsDirective P d → IsDirective Q (map_directive f d)
     unfolding IsDirective

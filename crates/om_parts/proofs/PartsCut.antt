@@ -1,4 +1,5 @@
--- Where a part of a statement is refused by another code than that of syntax: at a limit its tokens up to there begin a well-formed one.
+-- Where a part of a statement is refused by another code than that of syntax: at a limit its tokens up to
+-- there begin a well-formed one.
 use Rattle.std.proofs.Common.{ℕ, List, [], ◌∷◌, ◌++◌, refl, ap, ◌∙◌, arith, append_assoc}
 use Rattle.std.proofs.lemmas.List.{append-nil}
 use Rattle.om_lexer.specs.declared.token.Token.{Token}
@@ -23,7 +24,9 @@ use Rattle.om_parts.proofs.DeclarationRefusals.{declared_refuses}
 use Rattle.om_parts.proofs.Refusals.{Refuses, stops_too_deep}
 
 -- where a limit is passed, said by the place
-passed_in : {A : Type 0} (spell : A → List Token) (P : A → Type 0) (whole : A → List ExpressionTree) (m : Limits) (ts : List Token) (place : ℕ) → PassesLimit spell P whole m ts place → IsPassed spell P (IsOverIn spell whole m) ts place
+passed_in : {A : Type 0} (spell : A → List Token) (P : A → Type 0) (whole : A → List ExpressionTree) (m : Limits)
+    (ts : List Token) (place : ℕ) → PassesLimit spell P whole m ts place → IsPassed spell P (IsOverIn spell whole m)
+    ts place
 passed_in spell P whole m ts place c = record {
   part = c.part;
   formed = c.formed;
@@ -85,7 +88,8 @@ module _ (m : Limits) where
   unfolding initial_at
   initial_sound ts x h = let r = whole_sound m m.nested ts x h in record { parts = r.parts; formed = r.formed.0 }
 
-  initial_cut : IsCuttingAt expression_spelling IsExpression (λ e. e ∷ []) m (initial_at m (initials.Expression m.nested))
+  initial_cut : IsCuttingAt expression_spelling IsExpression (λ e. e ∷ []) m
+      (initial_at m (initials.Expression m.nested))
   unfolding initial_at
   initial_cut ts f h deep =
       let c = whole_cut m m.nested ts f h deep in
@@ -115,7 +119,8 @@ module _ (m : Limits) where
   local_passed int ts f h stops =
       let initial = initial_at m (initials.Expression m.nested) in
       let deep = stops_too_deep f (declared_refuses initial initial_refuses int ts f h) stops in
-      (deep, passed_in declaration_spelling _ expressions_of_declaration m (_ ∷ ts) f.at (declared_cut IsExpression m initial initial_sound initial_cut int ts f h deep))
+      (deep, passed_in declaration_spelling _ expressions_of_declaration m (_ ∷ ts) f.at
+          (declared_cut IsExpression m initial initial_sound initial_cut int ts f h deep))
 
 pub parts_cut : LineLaws → PartsStopSo
 unfolding parts whole_at initial_at

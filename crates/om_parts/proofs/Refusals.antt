@@ -1,5 +1,6 @@
 -- Reading refuses by no other code than those of syntax and of limits.
-use Rattle.std.proofs.Common.{◌≡◌, ℕ, zero, suc, List, length, Option, Some, None, Ok, Err, sym, ap, Bool, true, false, cond, ◌⊎◌, inl, inr}
+use Rattle.std.proofs.Common.{◌≡◌, ℕ, zero, suc, List, length, Option, Some, None, Ok, Err, sym, ap, Bool, true,
+    false, cond, ◌⊎◌, inl, inr}
 use Rattle.std.specs.Prelude.{nat_le}
 use Rattle.om_lexer.specs.declared.fault.FaultCode.TheVariants as codes
 use Rattle.om_lexer.specs.declared.fault.SourceFault.{SourceFault}
@@ -21,17 +22,20 @@ Refuses read = (f : SourceFault) → read ≡ Err f → IsRefusal f
 pub done : {A : Type 0} (x : A) → Refuses (Ok x)
 done x f e = absurd cc
 
-pub wrong : {A : Type 0} (ts : List Token) → (f : SourceFault) → ◌≡◌ {A = Outcome A} (Err (syntax ts)) (Err f) → IsRefusal f
+pub wrong : {A : Type 0} (ts : List Token) → (f : SourceFault) → ◌≡◌ {A = Outcome A} (Err (syntax ts)) (Err f)
+    → IsRefusal f
 wrong ts f e = inl (sym (ap (λ (g : SourceFault). g.code) (err_is (syntax ts) f e)))
 
 pub deep : {A : Type 0} (s : Span) → (f : SourceFault) → ◌≡◌ {A = Outcome A} (Err (too_deep s)) (Err f) → IsRefusal f
 deep s f e = inr (sym (ap (λ (g : SourceFault). g.code) (err_is (too_deep s) f e)))
 
-pub bind : {A B : Type 0} (read : Outcome A) (g : A → Outcome B) → Refuses read → ((x : A) → Refuses (g x)) → Refuses (read >>= g)
+pub bind : {A B : Type 0} (read : Outcome A) (g : A → Outcome B) → Refuses read → ((x : A) → Refuses (g x))
+    → Refuses (read >>= g)
 bind (Ok x) g first second f e = second x f e
 bind (Err d) g first second f e = first f (ap (λ (c : SourceFault). Err c) (err_is d f e))
 
-pub either : {A B : Type 0} (o : Option A) (g : A → Outcome B) (z : Outcome B) → ((x : A) → Refuses (g x)) → Refuses z → Refuses (choose o g z)
+pub either : {A B : Type 0} (o : Option A) (g : A → Outcome B) (z : Outcome B) → ((x : A) → Refuses (g x))
+    → Refuses z → Refuses (choose o g z)
 either (Some x) g z first second = first x
 either None g z first second = second
 
@@ -39,7 +43,8 @@ pub expected : {A : Type 0} (ts : List Token) (o : Option A) → Refuses (known 
 expected ts (Some x) = done x
 expected ts None = wrong ts
 
-pub limited : {A : Type 0} (beyond : ℕ) (s : Span) (ts : List Token) (read : Outcome A) → Refuses read → Refuses (within beyond s ts read)
+pub limited : {A : Type 0} (beyond : ℕ) (s : Span) (ts : List Token) (read : Outcome A) → Refuses read
+    → Refuses (within beyond s ts read)
 unfolding within
 limited beyond s ts read h = go (nat_le beyond (length ts))
   where
@@ -47,10 +52,12 @@ limited beyond s ts read h = go (nat_le beyond (length ts))
     go true = h
     go false = deep s
 
-pub until_refuses : {A : Type 0} (ender : Ender) (item : Reader A) → ((ts : List Token) → Refuses (item ts)) → (k : ℕ) (ts : List Token) → Refuses (until ender item k ts)
+pub until_refuses : {A : Type 0} (ender : Ender) (item : Reader A) → ((ts : List Token) → Refuses (item ts))
+    → (k : ℕ) (ts : List Token) → Refuses (until ender item k ts)
 unfolding until
 until_refuses ender item h zero ts = bind (item ts) _ (h ts) (λ a. wrong ts)
-until_refuses ender item h (suc k) ts = either _ _ _ (λ e. done _) (bind (item ts) _ (h ts) (λ a. bind (until ender item k a.1) _ (until_refuses ender item h k a.1) (λ b. done _)))
+until_refuses ender item h (suc k) ts = either _ _ _ (λ e. done _)
+    (bind (item ts) _ (h ts) (λ a. bind (until ender item k a.1) _ (until_refuses ender item h k a.1) (λ b. done _)))
 
 -- what is refused by syntax or a limit, and not by syntax
 pub stops_too_deep : (f : SourceFault) → IsRefusal f → Stops f → f.code ≡ codes.TooDeep

@@ -9,11 +9,13 @@ use Rattle.om_lexer.specs.declared.token.TokenKind.{TokenKind}
 use Rattle.om_lexer.specs.declared.token.TokenKind.TheVariants as kinds
 use Rattle.om_pragma.specs.declared.name.Name as names
 use Rattle.om_pragma.specs.declared.name.Number.{Number}
-use Rattle.om_parts.specs.Reading.{take, same_mark, mark_of, name_of, number_of, take_mark, take_name, take_number, mark_at, name_at, number_at}
+use Rattle.om_parts.specs.Reading.{take, same_mark, mark_of, name_of, number_of, take_mark, take_name, take_number,
+    mark_at, name_at, number_at}
 use Rattle.om_tree.specs.Spelling.{token, mark, name, number}
 use Rattle.om_parts.proofs.Outcomes.{ok, some, some_is, choose_cases, known_ok, cond_some}
 
-pub take_is : {A : Type 0} (f : Token → Option A) (ts : List Token) (x : A) (us : List Token) → take f ts ≡ some (x, us) → (t : Token) × (ts ≡ t ∷ us) × (f t ≡ some x)
+pub take_is : {A : Type 0} (f : Token → Option A) (ts : List Token) (x : A) (us : List Token) → take f ts
+    ≡ some (x, us) → (t : Token) × (ts ≡ t ∷ us) × (f t ≡ some x)
 unfolding take
 take_is f [] x us e = absurd cc
 take_is f (t ∷ ts) x us e = elim (choose_cases (f t) (λ y. some (y, ts)) None (some (x, us)) e) [
@@ -38,13 +40,15 @@ number_is : (k : TokenKind) (s : Span) (n : Number) → number_of k s ≡ some n
 number_is (kinds.Constant value) s n e = ap number (some_is _ n e)
 number_is _ s n e = absurd cc
 
-pub take_mark_is : (p : Punctuator) (ts : List Token) (s : Span) (us : List Token) → take_mark p ts ≡ some (s, us) → ts ≡ mark p s ∷ us
+pub take_mark_is : (p : Punctuator) (ts : List Token) (s : Span) (us : List Token) → take_mark p ts ≡ some (s, us)
+    → ts ≡ mark p s ∷ us
 unfolding take_mark
 take_mark_is p ts s us e =
     let t = take_is (λ t. mark_of p t.kind t.span) ts s us e in
     t.1 ∙ ap (λ u. u ∷ us) (mark_is p t.0.kind t.0.span s t.2)
 
-pub mark_shorter : (p : Punctuator) (ts : List Token) (s : Span) (us : List Token) → take_mark p ts ≡ some (s, us) → length us < length ts
+pub mark_shorter : (p : Punctuator) (ts : List Token) (s : Span) (us : List Token) → take_mark p ts ≡ some (s, us)
+    → length us < length ts
 mark_shorter p ts s us e = omega (arith, ap length (take_mark_is p ts s us e))
 
 pub take_name_is : (ts : List Token) (n : names.Name) (us : List Token) → take_name ts ≡ some (n, us) → ts ≡ name n ∷ us
@@ -53,13 +57,15 @@ take_name_is ts n us e =
     let t = take_is (λ t. name_of t.kind t.span) ts n us e in
     t.1 ∙ ap (λ u. u ∷ us) (name_is t.0.kind t.0.span n t.2)
 
-pub take_number_is : (ts : List Token) (n : Number) (us : List Token) → take_number ts ≡ some (n, us) → ts ≡ number n ∷ us
+pub take_number_is : (ts : List Token) (n : Number) (us : List Token) → take_number ts ≡ some (n, us) → ts
+    ≡ number n ∷ us
 unfolding take_number
 take_number_is ts n us e =
     let t = take_is (λ t. number_of t.kind t.span) ts n us e in
     t.1 ∙ ap (λ u. u ∷ us) (number_is t.0.kind t.0.span n t.2)
 
-pub mark_at_is : (p : Punctuator) (ts : List Token) (x : Span × List Token) → mark_at p ts ≡ ok x → ts ≡ mark p x.0 ∷ x.1
+pub mark_at_is : (p : Punctuator) (ts : List Token) (x : Span × List Token) → mark_at p ts ≡ ok x → ts ≡ mark p x.0
+    ∷ x.1
 unfolding mark_at
 mark_at_is p ts x e = take_mark_is p ts x.0 x.1 (known_ok ts (take_mark p ts) x e)
 

@@ -1,5 +1,6 @@
 -- Reading an expression from the left.
-use Rattle.std.specs.Prelude.{◌≡◌, ℕ, zero, suc, ◌-◌, List, [], ◌∷◌, length, Option, Some, None, Result, Ok, Err, ⊤, Bool, true, false, ◌&&◌, nat_le, nat_eq, bytes_eq, codes, option_map, if◌then◌else◌}
+use Rattle.std.specs.Prelude.{◌≡◌, ℕ, zero, suc, ◌-◌, List, [], ◌∷◌, length, Option, Some, None, Result, Ok, Err, ⊤,
+    Bool, true, false, ◌&&◌, nat_le, nat_eq, bytes_eq, codes, option_map, if◌then◌else◌}
 use Rattle.om_lexer.specs.declared.fault.SourceFault.{SourceFault}
 use Rattle.om_lexer.specs.declared.token.Punctuator.{Punctuator}
 use Rattle.om_lexer.specs.declared.token.Punctuator.TheVariants as punctuators
@@ -20,11 +21,14 @@ use Rattle.om_tree.specs.declared.tree.PrefixOperator.TheVariants as prefixes
 use Rattle.om_tree.specs.declared.tree.Text as texts
 use Rattle.om_tree.specs.Formed.{binary_level, level}
 use Rattle.om_tree.specs.Limits.{Limits}
-use Rattle.om_parts.specs.Reading.{◌>>=◌, choose, Outcome, Reader, syntax, too_deep, take, take_mark, take_number, mark_at, name_at}
+use Rattle.om_parts.specs.Reading.{◌>>=◌, choose, Outcome, Reader, syntax, too_deep, take, take_mark, take_number,
+    mark_at, name_at}
 use Rattle.om_parts.specs.Repetition.{until}
-use Rattle.om_tree.specs.Tree.{ExpressionTree, Name, Constant, Text, Paren, Index, Call, Prefix, Postfix, Binary, Conditional, Assign, NoArguments, arguments}
+use Rattle.om_tree.specs.Tree.{ExpressionTree, Name, Constant, Text, Paren, Index, Call, Prefix, Postfix, Binary,
+    Conditional, Assign, NoArguments, arguments}
 
--- goes on, unless the token before these is beyond the expression's limit: at least so many tokens are left behind those that it may have
+-- goes on, unless the token before these is beyond the expression's limit: at least so many tokens are left
+-- behind those that it may have
 unfoldable pub within : {A : Type 0} → (beyond : ℕ) → Span → List Token → Outcome A → Outcome A
 within beyond s rest read = if nat_le beyond (length rest) then read else Err (too_deep s)
 
@@ -119,11 +123,13 @@ closed_by beyond p whole ts = do
 
 -- the rest of an expression in parentheses, behind the left one
 unfoldable pub paren_after : (beyond : ℕ) → Reader ExpressionTree → Span → Reader ExpressionTree
-paren_after beyond whole left ts = closed_by beyond punctuators.CloseParen whole ts >>= λ e. Ok (Paren left e.0.0 e.0.1, e.1)
+paren_after beyond whole left ts = closed_by beyond punctuators.CloseParen whole ts >>= λ e. Ok
+    (Paren left e.0.0 e.0.1, e.1)
 
 -- the rest of an element of an array, behind the left bracket
 unfoldable pub index_after : (beyond : ℕ) → Reader ExpressionTree → names.Name → Span → Reader ExpressionTree
-index_after beyond whole n left ts = closed_by beyond punctuators.CloseBracket whole ts >>= λ e. Ok (Index n left e.0.0 e.0.1, e.1)
+index_after beyond whole n left ts = closed_by beyond punctuators.CloseBracket whole ts >>= λ e. Ok
+    (Index n left e.0.0 e.0.1, e.1)
 
 -- the first argument of a call of this function
 unfoldable pub first_at : (beyond : ℕ) → Reader ExpressionTree → names.Name → Reader ExpressionTree
@@ -136,12 +142,16 @@ argument_at beyond whole ts = do
   within beyond c.0 c.1 (whole c.1 >>= λ e. Ok ((Some c.0, e.0), e.1))
 
 -- the arguments of a call, of which the first is read, and the parenthesis behind them
-unfoldable pub arguments_at : (beyond : ℕ) → Reader ExpressionTree → ExpressionTree → List Token → Outcome (List (Option Span × ExpressionTree) × Span × List Token)
-arguments_at beyond whole first ts = until (take_mark punctuators.CloseParen) (argument_at beyond whole) (length ts) ts >>= λ m. Ok ((None, first) ∷ m.0, m.1, m.2)
+unfoldable pub arguments_at : (beyond : ℕ) → Reader ExpressionTree → ExpressionTree → List Token
+    → Outcome (List (Option Span × ExpressionTree) × Span × List Token)
+arguments_at beyond whole first ts = until (take_mark punctuators.CloseParen) (argument_at beyond whole) (length ts)
+    ts >>= λ m. Ok ((None, first) ∷ m.0, m.1, m.2)
 
 -- the rest of a call with arguments, behind the first one
-unfoldable pub arguments_after : (beyond : ℕ) → Reader ExpressionTree → names.Name → Span → ExpressionTree → Reader ExpressionTree
-arguments_after beyond whole n left first ts = arguments_at beyond whole first ts >>= λ m. within beyond m.1 m.2 (Ok (Call n left (arguments m.0) m.1, m.2))
+unfoldable pub arguments_after : (beyond : ℕ) → Reader ExpressionTree → names.Name → Span → ExpressionTree
+    → Reader ExpressionTree
+arguments_after beyond whole n left first ts = arguments_at beyond whole first ts >>= λ m. within beyond m.1 m.2
+    (Ok (Call n left (arguments m.0) m.1, m.2))
 
 -- the rest of a call, behind the left parenthesis (C17 6.5.2.2)
 unfoldable pub call_after : (beyond : ℕ) → Reader ExpressionTree → names.Name → Span → Reader ExpressionTree
@@ -176,11 +186,14 @@ chain_at more (suc k) a ts = choose (more a ts) (λ read. read >>= λ b. chain_a
 
 -- an operator behind its operand
 unfoldable pub postfix_more : (beyond : ℕ) → More
-postfix_more beyond a ts = option_map (λ o. within beyond o.0.1 o.1 (Ok (Postfix a o.0.0 o.0.1, o.1))) (take_operator postfix_of ts)
+postfix_more beyond a ts = option_map (λ o. within beyond o.0.1 o.1 (Ok (Postfix a o.0.0 o.0.1, o.1)))
+    (take_operator postfix_of ts)
 
 -- an operator of this level and its right operand
 unfoldable pub binary_more : (beyond m : ℕ) → Reader ExpressionTree → More
-binary_more beyond m operand a ts = option_map (λ o. within beyond o.0.1 o.1 (operand o.1 >>= λ b. Ok (Binary a o.0.0 o.0.1 b.0, b.1))) (take_operator (level_operator m) ts)
+binary_more beyond m operand a ts = option_map
+    (λ o. within beyond o.0.1 o.1 (operand o.1 >>= λ b. Ok (Binary a o.0.0 o.0.1 b.0, b.1)))
+    (take_operator (level_operator m) ts)
 
 -- an operand with the operators behind it (C17 6.5.2)
 unfoldable pub postfix_step : (beyond : ℕ) → Reader ExpressionTree → Reader ExpressionTree
@@ -195,17 +208,20 @@ unary_step beyond again inside ts = choose (take_operator prefix_of ts)
 -- operands and the operators between them, of the tightest so many levels (C17 6.5.5 to 6.5.14)
 unfoldable pub binary_at : (beyond : ℕ) → Reader ExpressionTree → (levels : ℕ) → Reader ExpressionTree
 binary_at beyond unary zero ts = unary ts
-binary_at beyond unary (suc k) ts = binary_at beyond unary k ts >>= λ a. chain_at (binary_more beyond (8 - k) (binary_at beyond unary k)) (length a.1) a.0 a.1
+binary_at beyond unary (suc k) ts = binary_at beyond unary k ts >>= λ a. chain_at
+    (binary_more beyond (8 - k) (binary_at beyond unary k)) (length a.1) a.0 a.1
 
 -- the rest of a conditional expression, behind the question mark (C17 6.5.15)
-unfoldable pub conditional_after : (beyond : ℕ) → (whole choice : Reader ExpressionTree) → ExpressionTree → Span → Reader ExpressionTree
+unfoldable pub conditional_after : (beyond : ℕ) → (whole choice : Reader ExpressionTree) → ExpressionTree → Span
+    → Reader ExpressionTree
 conditional_after beyond whole choice c question ts = do
   a ← whole ts
   colon ← mark_at punctuators.Colon a.1
   within beyond colon.0 colon.1 (choice colon.1 >>= λ b. Ok (Conditional c question a.0 colon.0 b.0, b.1))
 
 -- what goes on with an operand: the rest of a conditional expression, of an assignment, or nothing
-unfoldable pub expression_after : (beyond : ℕ) → (may_assign : Bool) → (whole choice : Reader ExpressionTree) → ExpressionTree → Reader ExpressionTree
+unfoldable pub expression_after : (beyond : ℕ) → (may_assign : Bool) → (whole choice : Reader ExpressionTree)
+    → ExpressionTree → Reader ExpressionTree
 expression_after beyond may_assign whole choice c ts = choose (take_mark punctuators.Question ts)
     (λ q. within beyond q.0 q.1 (conditional_after beyond whole choice c q.0 q.1))
     (choose (take_assign may_assign c ts)
@@ -213,10 +229,13 @@ expression_after beyond may_assign whole choice c ts = choose (take_mark punctua
     (Ok (c, ts)))
 
 -- an expression, or one that is no assignment (C17 6.5.15, 6.5.16)
-unfoldable pub expression_step : (beyond : ℕ) → (may_assign : Bool) → (operand whole choice : Reader ExpressionTree) → Reader ExpressionTree
-expression_step beyond may_assign operand whole choice ts = operand ts >>= λ c. expression_after beyond may_assign whole choice c.0 c.1
+unfoldable pub expression_step : (beyond : ℕ) → (may_assign : Bool) → (operand whole choice : Reader ExpressionTree)
+    → Reader ExpressionTree
+expression_step beyond may_assign operand whole choice ts = operand ts >>= λ c. expression_after beyond may_assign
+    whole choice c.0 c.1
 
--- ---- the whole, by turns, of which one is taken at each operator before an operand, bracket, question mark, colon and assignment
+-- ---- the whole, by turns, of which one is taken at each operator before an operand, bracket, question mark,
+-- colon and assignment
 
 -- a reader with room for one bracket less
 abbrev pub deeper : (ℕ → Reader ExpressionTree) → ℕ → Inside
@@ -227,18 +246,22 @@ unfoldable mutual
   -- an operand with the operators round it
   pub unary_at : (beyond turns room : ℕ) → Reader ExpressionTree
   unary_at beyond zero room ts = Err (syntax ts)
-  unary_at beyond (suc turns) room ts = unary_step beyond (unary_at beyond turns room) (deeper (expression_at beyond turns true) room) ts
+  unary_at beyond (suc turns) room ts = unary_step beyond (unary_at beyond turns room)
+      (deeper (expression_at beyond turns true) room) ts
 
   -- an expression, or one that is no assignment, with room for so many brackets round a part of it
   pub expression_at : (beyond turns : ℕ) → (may_assign : Bool) → (room : ℕ) → Reader ExpressionTree
   expression_at beyond zero may_assign room ts = Err (syntax ts)
   expression_at beyond (suc turns) may_assign room ts =
-      expression_step beyond may_assign (binary_at beyond (unary_step beyond (unary_at beyond turns room) (deeper (expression_at beyond turns true) room)) LEVELS)
+      expression_step beyond may_assign
+          (binary_at beyond (unary_step beyond (unary_at beyond turns room)
+          (deeper (expression_at beyond turns true) room)) LEVELS)
       (expression_at beyond turns true room) (expression_at beyond turns false room) ts
 
 -- an operand with the operators round it, with so many turns left
 abbrev pub operand_at : (beyond turns room : ℕ) → Reader ExpressionTree
-operand_at beyond turns room = unary_step beyond (unary_at beyond turns room) (deeper (expression_at beyond turns true) room)
+operand_at beyond turns room = unary_step beyond (unary_at beyond turns room)
+    (deeper (expression_at beyond turns true) room)
 
 -- an operand with the operators behind it, with so many turns left
 abbrev pub postfix_at : (beyond turns room : ℕ) → Reader ExpressionTree
@@ -250,7 +273,8 @@ prefixed [] e = e
 prefixed (o ∷ more) e = Prefix o.0 o.1 (prefixed more e)
 
 -- what reading an operand gives, behind these operators
-abbrev pub behind : List (PrefixOperator × Span) → Outcome (ExpressionTree × List Token) → Outcome (ExpressionTree × List Token)
+abbrev pub behind : List (PrefixOperator × Span) → Outcome (ExpressionTree × List Token)
+    → Outcome (ExpressionTree × List Token)
 behind operators read = read >>= λ e. Ok (prefixed operators e.0, e.1)
 
 -- a whole expression, which begins with the first token, with room for so many brackets round a part of it

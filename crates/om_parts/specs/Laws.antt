@@ -19,13 +19,15 @@ use Rattle.om_tree.specs.Formed.{IsExpression, IsLine, IsLocalDeclaration, IsGlo
 use Rattle.om_tree.specs.Limits.{Limits, nesting}
 use Rattle.om_tree.specs.Places.{Place, IsPassed, IsOverInExpression, IsOverInDeclaration, in_parentheses}
 use Rattle.om_tree.specs.Sizes.{extent, declaration_nesting, declaration_longest, line_longest, line_nesting}
-use Rattle.om_tree.specs.Spelling.{token, mark, word, name, expression_spelling, declarator_spelling, further_spelling, declaration_spelling}
+use Rattle.om_tree.specs.Spelling.{token, mark, word, name, expression_spelling, declarator_spelling,
+    further_spelling, declaration_spelling}
 use Rattle.om_tree.specs.Tree.{ExpressionTree, DeclarationTree}
 
 -- ---- what is read is well-formed, within the limits, and spelled as the tokens were
 
 -- an item of such a kind that stands at the front
-pub record IsRead {A : Type 0} (spell : A → List Token) (P : A → Type 0) (ts : List Token) (x : A × List Token) : Type 0 where
+pub record IsRead {A : Type 0} (spell : A → List Token) (P : A → Type 0) (ts : List Token)
+    (x : A × List Token) : Type 0 where
   pub parts : ts ≡ spell x.0 ++ x.1
   pub formed : P x.0
 
@@ -96,12 +98,14 @@ abbrev pub IsEnd : Punctuator → Type 0
 IsEnd q = (q ≡ punctuators.Semicolon) ⊎ (q ≡ punctuators.CloseParen)
 
 abbrev pub IsExpressionAgain : (l : Limits) (round : ℕ) → Reader ExpressionTree → Type 0
-IsExpressionAgain l round r = (e : ExpressionTree) (q : Punctuator) (s : Span) (rest : List Token) → IsEnd q → IsExpression e
+IsExpressionAgain l round r = (e : ExpressionTree) (q : Punctuator) (s : Span) (rest : List Token) → IsEnd q
+    → IsExpression e
     → IsAnswer (Keeps l round e) (r (expression_spelling e ++ mark q s ∷ rest)) (e, mark q s ∷ rest)
 
 -- what stands behind the `int` of a declaration
 abbrev pub declaration_tail : DeclarationTree → List Token
-declaration_tail d = declarator_spelling d.first ++ flat_map further_spelling d.rest ++ mark punctuators.Semicolon d.semicolon ∷ []
+declaration_tail d = declarator_spelling d.first ++ flat_map further_spelling d.rest ++ mark punctuators.Semicolon
+    d.semicolon ∷ []
 
 abbrev pub IsDeclarationAgain : (l : Limits) (round : ℕ) → (Span → Reader DeclarationTree) → Type 0
 IsDeclarationAgain l round r = (d : DeclarationTree) (rest : List Token) → IsLocalDeclaration d
@@ -148,7 +152,8 @@ pub record IsFirstLineFault (l : Limits) (tokens : List Token) (f : SourceFault)
   pub wrong : IsWrongLine l line f
 
 abbrev pub IsLineCut : Limits → LineReader → Type 0
-IsLineCut l r = (hash : Span) (us : List Token) (f : SourceFault) → r (token kinds.DirectiveBegin hash ∷ us) ≡ Err f → Stops f
+IsLineCut l r = (hash : Span) (us : List Token) (f : SourceFault) → r (token kinds.DirectiveBegin hash ∷ us) ≡ Err f
+    → Stops f
     → IsFirstLineFault l (token kinds.DirectiveBegin hash ∷ us) f
 
 -- the readers of the parts stop only so
@@ -165,7 +170,8 @@ PartsStopSo = (l : Limits) → 1 ≤ l.nested → ArePartsCut (parts l) l
 -- ---- declarations at file scope
 
 abbrev pub GlobalsAreSound : Type 0
-GlobalsAreSound = (int : Span) (n : names.Name) (ts : List Token) (x : DeclarationTree × List Token) → global_at int n ts ≡ Ok x
+GlobalsAreSound = (int : Span) (n : names.Name) (ts : List Token) (x : DeclarationTree × List Token)
+    → global_at int n ts ≡ Ok x
     → IsRead declaration_spelling IsGlobalDeclaration (word keywords.Int int ∷ name n ∷ ts) x
 
 -- behind `int` and the first name, where no parenthesis stands

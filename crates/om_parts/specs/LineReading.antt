@@ -1,5 +1,6 @@
 -- Reading a directive line with its expression.
-use Rattle.std.specs.Prelude.{ℕ, ◌-◌, List, [], ◌∷◌, length, Option, Some, None, Ok, Err, Bool, true, false, ◌&&◌, nat_eq, nat_lt, slice_get, option_map, if◌then◌else◌}
+use Rattle.std.specs.Prelude.{ℕ, ◌-◌, List, [], ◌∷◌, length, Option, Some, None, Ok, Err, Bool, true, false, ◌&&◌,
+    nat_eq, nat_lt, slice_get, option_map, if◌then◌else◌}
 use Rattle.om_lexer.specs.declared.fault.FaultCode.{FaultCode}
 use Rattle.om_lexer.specs.declared.fault.FaultCode.TheVariants as codes
 use Rattle.om_lexer.specs.declared.fault.SourceFault.{SourceFault}
@@ -34,7 +35,8 @@ is_syntax _ = false
 
 -- a fault of some tokens of a run; where it is that they end, it stands at the token behind them
 abbrev pub in_run : (run es : List Token) → SourceFault → SourceFault
-in_run run es f = if is_syntax f.code && nat_eq f.at 4294967295 then record { code = codes.Syntax; at = place_behind (last_start es) run } else f
+in_run run es f = if is_syntax f.code && nat_eq f.at 4294967295 then record { code = codes.Syntax; at = place_behind
+    (last_start es) run } else f
 
 -- the expression, where no tokens are left behind it
 abbrev pub alone : ExpressionTree → List Token → Outcome ExpressionTree
@@ -46,7 +48,8 @@ abbrev pub all_of : (run es : List Token) → Outcome (ExpressionTree × List To
 all_of run es (Ok x) = alone x.0 x.1
 all_of run es (Err f) = Err (in_run run es f)
 
--- all tokens between the parentheses of a clause of a run, which are the outermost ones round their parts, as one expression
+-- all tokens between the parentheses of a clause of a run, which are the outermost ones round their parts, as
+-- one expression
 unfoldable pub clause_value : Limits → (run es : List Token) → Outcome ExpressionTree
 clause_value l run es = all_of run es (whole_at l (l.nested - 1) es)
 

@@ -13,7 +13,8 @@ use Rattle.om_tree.specs.Tree.{ExpressionTree}
 use Rattle.om_tree.specs.View.{view_expression}
 
 -- what was returned is the expression that reading gives
-abbrev pub ReadsExpression : Result (Box Expression × Bor (List Token)) SourceFault → Outcome (ExpressionTree × List Token) → Type 0
+abbrev pub ReadsExpression : Result (Box Expression × Bor (List Token)) SourceFault
+    → Outcome (ExpressionTree × List Token) → Type 0
 ReadsExpression = Reads (λ x. (view_expression x.0.value, x.1.now))
 
 -- what was returned is the operator that is taken

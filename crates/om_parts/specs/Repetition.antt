@@ -9,7 +9,8 @@ abbrev pub optional : {A : Type 0} → Option (A × List Token) → List Token �
 optional found ts = choose found (λ x. (Some x.0, x.1)) (None, ts)
 
 -- items up to one that ends them, at most so many
-unfoldable pub until : {A : Type 0} → (List Token → Option (Span × List Token)) → Reader A → ℕ → List Token → Outcome (List A × Span × List Token)
+unfoldable pub until : {A : Type 0} → (List Token → Option (Span × List Token)) → Reader A → ℕ → List Token
+    → Outcome (List A × Span × List Token)
 until ender item zero ts = item ts >>= λ a. Err (syntax ts)
 until ender item (suc k) ts = choose (ender ts)
     (λ e. Ok ([], e.0, e.1))

@@ -42,8 +42,10 @@ pub record ExpectsClause (line rest : List Token) : Type 0 where
 abbrev pub IsNoDirective : List Token → Type 0
 IsNoDirective line = (d : Directive (List Token)) → IsDirectiveOf line d → ⊥
 
--- A limit is passed at this place of a line, in the parentheses of a clause: some well-formed expression begins with the same
--- tokens up to there, and with the token there, which is one too many for it or nests too deep in it. In a line that is no
+-- A limit is passed at this place of a line, in the parentheses of a clause: some well-formed expression
+-- begins with the same
+-- tokens up to there, and with the token there, which is one too many for it or nests too deep in it. In a
+-- line that is no
 -- directive, the parentheses behind any word of such a clause are meant.
 pub record IsPassedInClause (l : Limits) (line : List Token) (place : ℕ) : Type 0 where
   pub before : List Token
@@ -57,7 +59,8 @@ pub record IsPassedInClause (l : Limits) (line : List Token) (place : ℕ) : Typ
   pub after : List Token
   pub rest_of_expression : List Token
   pub stands : line ≡ before ++ clause_token word at ∷ mark punctuators.OpenParen left ∷ (begun ++ token ∷ after)
-  pub in_clause : ExpectsClause line (clause_token word at ∷ mark punctuators.OpenParen left ∷ (begun ++ token ∷ after)) ⊎ IsNoDirective line
+  pub in_clause : ExpectsClause line (clause_token word at ∷ mark punctuators.OpenParen left
+      ∷ (begun ++ token ∷ after)) ⊎ IsNoDirective line
   pub in_expression : expression_spelling expression ≡ begun ++ token ∷ rest_of_expression
   pub at_place : token.span.start ≡ place
   pub too_much : IsTooMuch (in_parentheses l) begun token

@@ -15,13 +15,15 @@ use Rattle.om_pragma.specs.declared.tree.DirectiveName.TheVariants as directives
 use Rattle.om_pragma.specs.Expressions.{clause_expressions, expressions}
 use Rattle.om_pragma.specs.Kinds.{directive_kind}
 use Rattle.om_pragma.specs.Spelling.{kind_of, value_kind}
-use Rattle.om_pragma.specs.Table.{clauses_of, same_clause, excludes, may_stand, kinds_of, EachBehind, IsItem, IsDirective}
+use Rattle.om_pragma.specs.Table.{clauses_of, same_clause, excludes, may_stand, kinds_of, EachBehind, IsItem,
+    IsDirective}
 
 any_more : {A : Type 0} (p : A → Bool) (xs : List A) (x : A) → list_any p xs ≡ true → list_any p (xs ++ x ∷ []) ≡ true
 any_more p [] x e = absurd cc
 any_more p (y ∷ ys) x e = go (p y) (any_more p ys x) e
   where
-    go : (b : Bool) → (list_any p ys ≡ true → list_any p (ys ++ x ∷ []) ≡ true) → (b || list_any p ys) ≡ true → (b || list_any p (ys ++ x ∷ [])) ≡ true
+    go : (b : Bool) → (list_any p ys ≡ true → list_any p (ys ++ x ∷ []) ≡ true) → (b || list_any p ys) ≡ true
+        → (b || list_any p (ys ++ x ∷ [])) ≡ true
     go true later e = refl
     go false later e = later e
 
@@ -33,7 +35,8 @@ any_last p (y ∷ ys) x e = go (p y) (any_last p ys x e)
     go true later = refl
     go false later = later
 
-any_kind : {E : Type 0} (p : ClauseKind → Bool) (items : List (ClauseItem E)) → list_any p (kinds_of items) ≡ list_any (λ i. p (kind_of i.clause)) items
+any_kind : {E : Type 0} (p : ClauseKind → Bool) (items : List (ClauseItem E)) → list_any p (kinds_of items)
+    ≡ list_any (λ i. p (kind_of i.clause)) items
 any_kind p [] = refl
 any_kind p (i ∷ items) = rw (any_kind p items) refl
 
@@ -50,7 +53,8 @@ and_second : (a b : Bool) → (a && b) ≡ true → b ≡ true
 and_second true b e = e
 and_second false b e = absurd cc
 
-only_value : (n : DirectiveName) (k : ValueClause) → list_any (λ j. same_clause j (value_kind k)) (clauses_of (directive_kind n)) ≡ true → value_kind k ≡ value_of_name n
+only_value : (n : DirectiveName) (k : ValueClause) → list_any (λ j. same_clause j (value_kind k))
+    (clauses_of (directive_kind n)) ≡ true → value_kind k ≡ value_of_name n
 unfolding value_of_name same_clause
 only_value (directives.Masked s) value_kinds.NumThreads e = absurd cc
 only_value (directives.Masked s) value_kinds.Filter e = refl
@@ -71,20 +75,26 @@ not_both true true e f = absurd cc
 not_both true false e f = absurd cc
 not_both false b e f = absurd cc
 
-no_value : {E : Type 0} (n : DirectiveName) (before : List (ClauseItem E)) (k : ValueClause) → may_stand n (kinds_of before) (value_kind k) ≡ true → IsTaken n before → ⊥
+no_value : {E : Type 0} (n : DirectiveName) (before : List (ClauseItem E)) (k : ValueClause)
+    → may_stand n (kinds_of before) (value_kind k) ≡ true → IsTaken n before → ⊥
 unfolding may_stand IsTaken
 no_value n before k can taken =
     let has = and_first (list_any (λ j. same_clause j (value_kind k)) (clauses_of (directive_kind n))) _ can in
     let same = only_value n k has in
-    not_both (list_any (λ j. same_clause j (value_kind k)) (clauses_of (directive_kind n))) (list_any (λ j. excludes j (value_kind k)) (kinds_of before)) can
+    not_both (list_any (λ j. same_clause j (value_kind k)) (clauses_of (directive_kind n)))
+        (list_any (λ j. excludes j (value_kind k)) (kinds_of before)) can
     (any_kind (λ j. excludes j (value_kind k)) before ∙ rw same taken)
 
-none_left : {E : Type 0} (P : E → Type 0) (n : DirectiveName) (before items : List (ClauseItem E)) → EachBehind (IsItem P n) before items → IsTaken n before → length (flat_map (λ (i : ClauseItem E). clause_expressions i.clause) items) ≡ 0
+none_left : {E : Type 0} (P : E → Type 0) (n : DirectiveName) (before items : List (ClauseItem E))
+    → EachBehind (IsItem P n) before items → IsTaken n before
+    → length (flat_map (λ (i : ClauseItem E). clause_expressions i.clause) items) ≡ 0
 unfolding EachBehind IsTaken
 none_left P n before [] each taken = refl
-none_left {E} P n before (i ∷ items) each taken = go i.clause refl (none_left P n (before ++ i ∷ []) items each.1 (any_more (λ (j : ClauseItem E). excludes (kind_of j.clause) (value_of_name n)) before i taken))
+none_left {E} P n before (i ∷ items) each taken = go i.clause refl (none_left P n (before ++ i ∷ []) items each.1
+    (any_more (λ (j : ClauseItem E). excludes (kind_of j.clause) (value_of_name n)) before i taken))
   where
-    go : (c : Clause E) → i.clause ≡ c → length (flat_map (λ (j : ClauseItem E). clause_expressions j.clause) items) ≡ 0 → length (clause_expressions c ++ flat_map (λ (j : ClauseItem E). clause_expressions j.clause) items) ≡ 0
+    go : (c : Clause E) → i.clause ≡ c → length (flat_map (λ (j : ClauseItem E). clause_expressions j.clause) items)
+        ≡ 0 → length (clause_expressions c ++ flat_map (λ (j : ClauseItem E). clause_expressions j.clause) items) ≡ 0
     go (clauses.Value k s v) is later = absurd (no_value n before k (rw is at each.0.can_stand) taken)
     go (clauses.Default s a) is later = later
     go (clauses.Data k s l) is later = later
@@ -92,17 +102,25 @@ none_left {E} P n before (i ∷ items) each taken = go i.clause refl (none_left 
     go (clauses.Schedule s a) is later = later
     go (clauses.Plain k s) is later = later
 
-at_most_one : {E : Type 0} (P : E → Type 0) (n : DirectiveName) (before items : List (ClauseItem E)) → EachBehind (IsItem P n) before items → length (flat_map (λ (i : ClauseItem E). clause_expressions i.clause) items) ≤ 1
+at_most_one : {E : Type 0} (P : E → Type 0) (n : DirectiveName) (before items : List (ClauseItem E))
+    → EachBehind (IsItem P n) before items → length (flat_map (λ (i : ClauseItem E). clause_expressions i.clause)
+    items) ≤ 1
 unfolding EachBehind IsTaken may_stand
 at_most_one P n before [] each = omega arith
-at_most_one {E} P n before (i ∷ items) each = go i.clause refl (at_most_one P n (before ++ i ∷ []) items each.1) (none_left P n (before ++ i ∷ []) items each.1)
+at_most_one {E} P n before (i ∷ items) each = go i.clause refl (at_most_one P n (before ++ i ∷ []) items each.1)
+    (none_left P n (before ++ i ∷ []) items each.1)
   where
-    go : (c : Clause E) → i.clause ≡ c → length (flat_map (λ (j : ClauseItem E). clause_expressions j.clause) items) ≤ 1 → (IsTaken n (before ++ i ∷ []) → length (flat_map (λ (j : ClauseItem E). clause_expressions j.clause) items) ≡ 0) → length (clause_expressions c ++ flat_map (λ (j : ClauseItem E). clause_expressions j.clause) items) ≤ 1
+    go : (c : Clause E) → i.clause ≡ c → length (flat_map (λ (j : ClauseItem E). clause_expressions j.clause) items)
+        ≤ 1 → (IsTaken n (before ++ i ∷ []) → length (flat_map (λ (j : ClauseItem E). clause_expressions j.clause)
+        items) ≡ 0) → length (clause_expressions c ++ flat_map (λ (j : ClauseItem E). clause_expressions j.clause)
+        items) ≤ 1
     go (clauses.Value k s v) is later none =
         let can : may_stand n (kinds_of before) (value_kind k) ≡ true = rw is at each.0.can_stand in
-        let same = only_value n k (and_first (list_any (λ j. same_clause j (value_kind k)) (clauses_of (directive_kind n))) _ can) in
+        let same = only_value n k
+            (and_first (list_any (λ j. same_clause j (value_kind k)) (clauses_of (directive_kind n))) _ can) in
         let itself : excludes (kind_of i.clause) (value_of_name n) ≡ true = rw (is, sym same) (excludes_itself k) in
-        omega (arith, none (any_last (λ (j : ClauseItem E). excludes (kind_of j.clause) (value_of_name n)) before i itself))
+        omega (arith, none (any_last (λ (j : ClauseItem E). excludes (kind_of j.clause) (value_of_name n)) before i
+            itself))
     go (clauses.Default s a) is later none = later
     go (clauses.Data k s l) is later none = later
     go (clauses.Reduction s r) is later none = later

@@ -1,5 +1,6 @@
 -- Outcomes of reading, step by step.
-use Rattle.std.proofs.Common.{◌≡◌, List, ◌∷◌, ◌++◌, Option, Some, None, Result, Ok, Err, refl, ap, ◌∙◌, sym, cond, Bool, true, false, ◌⊎◌, inl, inr, append_assoc}
+use Rattle.std.proofs.Common.{◌≡◌, List, ◌∷◌, ◌++◌, Option, Some, None, Result, Ok, Err, refl, ap, ◌∙◌, sym, cond,
+    Bool, true, false, ◌⊎◌, inl, inr, append_assoc}
 use Rattle.om_lexer.specs.declared.token.Token.{Token}
 use Rattle.om_pragma.specs.Reading.{◌>>=◌, choose, known}
 
@@ -27,16 +28,19 @@ some_is x y e = cc
 pub none_some : {A : Type 0} (x : A) → None ≡ some x → ⊥
 none_some x e = absurd cc
 
-pub bind_ok : {A B X : Type 0} (r : Result A X) (f : A → Result B X) (y : B) → (r >>= f) ≡ ok y → (x : A) × (r ≡ ok x) × (f x ≡ ok y)
+pub bind_ok : {A B X : Type 0} (r : Result A X) (f : A → Result B X) (y : B) → (r >>= f) ≡ ok y → (x : A)
+    × (r ≡ ok x) × (f x ≡ ok y)
 bind_ok (Ok x) f y e = (x, refl, e)
 bind_ok (Err d) f y e = absurd cc
 
 -- a step fails, or the one after it
-pub bind_err : {A B X : Type 0} (r : Result A X) (f : A → Result B X) (d : X) → (r >>= f) ≡ err d → (r ≡ err d) ⊎ ((x : A) × (r ≡ ok x) × (f x ≡ err d))
+pub bind_err : {A B X : Type 0} (r : Result A X) (f : A → Result B X) (d : X) → (r >>= f) ≡ err d → (r ≡ err d)
+    ⊎ ((x : A) × (r ≡ ok x) × (f x ≡ err d))
 bind_err (Ok x) f d e = inr (x, refl, e)
 bind_err (Err c) f d e = inl cc
 
-pub choose_cases : {A B : Type 0} (o : Option A) (f : A → B) (z y : B) → choose o f z ≡ y → ((x : A) × (o ≡ some x) × (f x ≡ y)) ⊎ ((o ≡ None) × (z ≡ y))
+pub choose_cases : {A B : Type 0} (o : Option A) (f : A → B) (z y : B) → choose o f z ≡ y
+    → ((x : A) × (o ≡ some x) × (f x ≡ y)) ⊎ ((o ≡ None) × (z ≡ y))
 choose_cases (Some x) f z y e = inl (x, refl, e)
 choose_cases None f z y e = inr (refl, e)
 

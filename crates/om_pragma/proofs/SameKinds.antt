@@ -19,11 +19,13 @@ same_kind_of f (clauses.Reduction s r) = refl
 same_kind_of f (clauses.Schedule s a) = refl
 same_kind_of f (clauses.Plain k s) = refl
 
-pub excluded : (before : List (ClauseItem (Bor (List Token)))) (k : ClauseKind) → list_any (λ j. excludes j k) (kinds_of (map (map_item tokens_in) before)) ≡ list_any (λ i. excludes (kind_of i.clause) k) before
+pub excluded : (before : List (ClauseItem (Bor (List Token)))) (k : ClauseKind) → list_any (λ j. excludes j k)
+    (kinds_of (map (map_item tokens_in) before)) ≡ list_any (λ i. excludes (kind_of i.clause) k) before
 excluded [] k = refl
 excluded (i ∷ is) k = rw (same_kind_of tokens_in i.clause, excluded is k) refl
 
 -- none excludes a clause that can repeat
-pub none_excluded : (before : List ClauseKind) (k : ClauseKind) → may_repeat k ≡ true → list_any (λ j. excludes j k) before ≡ false
+pub none_excluded : (before : List ClauseKind) (k : ClauseKind) → may_repeat k ≡ true → list_any (λ j. excludes j k)
+    before ≡ false
 none_excluded [] k repeats = refl
 none_excluded (j ∷ js) k repeats = rw (repeats, none_excluded js k repeats) refl

@@ -15,9 +15,12 @@ use Rattle.om_pragma.specs.Table.{EachBehind, IsBetween, IsItem, IsDirective}
 use Rattle.om_pragma.proofs.Directives.{Items, spelling, whole_written, each_written}
 
 -- the clauses before one are formed, and a comma stands only between two
-each_before : (name : DirectiveName) (before front rest : Items) (i : ClauseItem (List Token)) → EachBehind (IsItem IsClosed name) before (front ++ i ∷ rest) → EachBehind (IsItem IsClosed name) before front × IsBetween (before ++ front) i.comma
+each_before : (name : DirectiveName) (before front rest : Items) (i : ClauseItem (List Token))
+    → EachBehind (IsItem IsClosed name) before (front ++ i ∷ rest) → EachBehind (IsItem IsClosed name) before front
+    × IsBetween (before ++ front) i.comma
 unfolding EachBehind
-each_before name before [] rest i each = (tt, subst (λ (b : Items). IsBetween b i.comma) (sym (append-nil before)) each.0.between)
+each_before name before [] rest i each = (tt, subst (λ (b : Items). IsBetween b i.comma) (sym (append-nil before))
+    each.0.between)
 each_before name before (j ∷ front) rest i each =
     let later = each_before name (before ++ j ∷ []) front rest i each.1 in
     ((each.0, later.0), subst (λ (b : Items). IsBetween b i.comma) (append_assoc before (j ∷ []) front) later.1)
@@ -25,7 +28,8 @@ each_before name before (j ∷ front) rest i each =
 pub clauses_stand : ClausesStand
 unfolding directive_spelling item_spelling IsDirective
 clauses_stand d front rest i formed split =
-    let each = each_before d.name [] front rest i (subst (λ (w : Items). EachBehind (IsItem IsClosed d.name) [] w) split formed) in
+    let each = each_before d.name [] front rest i (subst (λ (w : Items). EachBehind (IsItem IsClosed d.name) [] w)
+        split formed) in
     let end : List Token = token kinds.DirectiveEnd d.end ∷ [] in
     record {
       hash = d.hash;
@@ -34,7 +38,8 @@ clauses_stand d front rest i formed split =
       comma = i.comma;
       behind_name = spelling d.clauses ++ end;
       parts = refl;
-      behind_parts = ap (λ (w : Items). spelling w ++ end) split ∙ ap (λ (w : List Token). w ++ end) (flat_map-append (item_spelling (λ e. e)) front (i ∷ rest)) ∙ simp append_assoc;
+      behind_parts = ap (λ (w : Items). spelling w ++ end) split ∙ ap (λ (w : List Token). w ++ end)
+          (flat_map-append (item_spelling (λ e. e)) front (i ∷ rest)) ∙ simp append_assoc;
       whole_name = whole_written d.name d.clauses d.end (each_written d.name [] d.clauses formed);
       formed = each.0;
       between = each.1;

@@ -23,26 +23,32 @@ same_kind_is (kinds.Punctuator a) (kinds.Punctuator b) h = ap kinds.Punctuator (
 same_kind_is kinds.DirectiveBegin kinds.DirectiveBegin h = refl
 same_kind_is _ _ h = absurd cc
 
-pub among_is : {K : Type 0} (word : K → TokenKind) (ks : List K) (kind : TokenKind) (k : K) → among word ks kind ≡ some k → kind ≡ word k
+pub among_is : {K : Type 0} (word : K → TokenKind) (ks : List K) (kind : TokenKind) (k : K) → among word ks kind
+    ≡ some k → kind ≡ word k
 among_is word [] kind k e = absurd (none_some k e)
 among_is {K} word (j ∷ ks) kind k e = go (λ h. among_is word ks kind k h) (same_kind kind (word j)) refl e
   where
-    go : (among word ks kind ≡ some k → kind ≡ word k) → (b : Bool) → same_kind kind (word j) ≡ b → cond b (some j) (among word ks kind) ≡ some k → kind ≡ word k
+    go : (among word ks kind ≡ some k → kind ≡ word k) → (b : Bool) → same_kind kind (word j) ≡ b → cond b (some j)
+        (among word ks kind) ≡ some k → kind ≡ word k
     go later true is e = same_kind_is kind (word j) is ∙ ap word (some_is j k e)
     go later false is e = later e
 
-pub take_kind_is : (w : TokenKind) (ts : List Token) (s : Span) (us : List Token) → take_kind w ts ≡ some (s, us) → ts ≡ token w s ∷ us
+pub take_kind_is : (w : TokenKind) (ts : List Token) (s : Span) (us : List Token) → take_kind w ts ≡ some (s, us)
+    → ts ≡ token w s ∷ us
 unfolding take_kind
 take_kind_is w [] s us e = absurd (none_some (s, us) e)
 take_kind_is w (t ∷ ts) s us e =
     let g = cond_some (same_kind t.kind w) (t.span, ts) (s, us) e in
     ap (λ k. token k t.span ∷ ts) (same_kind_is t.kind w g.0) ∙ ap (λ p. token w p.0 ∷ p.1) g.1
 
-pub take_word_is : {K : Type 0} (word : K → TokenKind) (ks : List K) (ts : List Token) (x : (K × Span) × List Token) → take_word word ks ts ≡ some x → ts ≡ token (word x.0.0) x.0.1 ∷ x.1
+pub take_word_is : {K : Type 0} (word : K → TokenKind) (ks : List K) (ts : List Token) (x : (K × Span) × List Token)
+    → take_word word ks ts ≡ some x → ts ≡ token (word x.0.0) x.0.1 ∷ x.1
 unfolding take_word
 take_word_is word ks [] x e = absurd (none_some x e)
-take_word_is {K} word ks (t ∷ ts) x e = elim (choose_cases (among word ks t.kind) (λ k. some ((k, t.span), ts)) None (some x) e) [
-  | inl g ↦ ap (λ k. token k t.span ∷ ts) (among_is word ks t.kind g.0 g.1) ∙ ap (λ (p : (K × Span) × List Token). token (word p.0.0) p.0.1 ∷ p.1) (some_is ((g.0, t.span), ts) x g.2)
+take_word_is {K} word ks (t ∷ ts) x e = elim (choose_cases (among word ks t.kind) (λ k. some ((k, t.span), ts)) None
+    (some x) e) [
+  | inl g ↦ ap (λ k. token k t.span ∷ ts) (among_is word ks t.kind g.0 g.1)
+      ∙ ap (λ (p : (K × Span) × List Token). token (word p.0.0) p.0.1 ∷ p.1) (some_is ((g.0, t.span), ts) x g.2)
   | inr g ↦ absurd (none_some x g.1)
 ]
 
@@ -54,11 +60,13 @@ pub take_name_is : (ts : List Token) (x : names.Name × List Token) → take_nam
 unfolding take_name
 take_name_is [] x e = absurd (none_some x e)
 take_name_is (t ∷ ts) x e = elim (choose_cases (name_of t.kind t.span) (λ n. some (n, ts)) None (some x) e) [
-  | inl g ↦ ap (λ u. u ∷ ts) (name_of_is t.kind t.span g.0 g.1) ∙ ap (λ (p : names.Name × List Token). name p.0 ∷ p.1) (some_is (g.0, ts) x g.2)
+  | inl g ↦ ap (λ u. u ∷ ts) (name_of_is t.kind t.span g.0 g.1) ∙ ap (λ (p : names.Name × List Token). name p.0
+      ∷ p.1) (some_is (g.0, ts) x g.2)
   | inr g ↦ absurd (none_some x g.1)
 ]
 
-pub mark_at_is : (p : Punctuator) (ts : List Token) (x : Span × List Token) → mark_at p ts ≡ ok x → ts ≡ mark p x.0 ∷ x.1
+pub mark_at_is : (p : Punctuator) (ts : List Token) (x : Span × List Token) → mark_at p ts ≡ ok x → ts ≡ mark p x.0
+    ∷ x.1
 unfolding mark_at
 mark_at_is p ts x e = take_kind_is (kinds.Punctuator p) ts x.0 x.1 (known_ok ts (take_kind (kinds.Punctuator p) ts) x e)
 
@@ -68,7 +76,8 @@ name_at_is ts x e = take_name_is ts x (known_ok ts (take_name ts) x e)
 
 -- ---- again
 
-pub take_mark_again : (p : Punctuator) (s : Span) (ts : List Token) → take_kind (kinds.Punctuator p) (mark p s ∷ ts) ≡ some (s, ts)
+pub take_mark_again : (p : Punctuator) (s : Span) (ts : List Token) → take_kind (kinds.Punctuator p) (mark p s ∷ ts)
+    ≡ some (s, ts)
 unfolding take_kind same_mark
 take_mark_again p s ts = rw (true_same the_punctuators p p refl) refl
 
@@ -80,9 +89,11 @@ pub name_again : (n : names.Name) (ts : List Token) → name_at (name n ∷ ts) 
 unfolding name_at take_name
 name_again n ts = refl
 
-pub word_known : {K : Type 0} (word : K → TokenKind) (ks : List K) (kind : TokenKind) (k : K) → among word ks kind ≡ some k → (s : Span) (ts : List Token) → take_word word ks (token kind s ∷ ts) ≡ some ((k, s), ts)
+pub word_known : {K : Type 0} (word : K → TokenKind) (ks : List K) (kind : TokenKind) (k : K) → among word ks kind
+    ≡ some k → (s : Span) (ts : List Token) → take_word word ks (token kind s ∷ ts) ≡ some ((k, s), ts)
 unfolding take_word
 word_known word ks kind k e s ts = rw e refl
 
-pub word_again : {K : Type 0} (word : K → TokenKind) (ks : List K) (k : K) → among word ks (word k) ≡ some k → (s : Span) (ts : List Token) → take_word word ks (token (word k) s ∷ ts) ≡ some ((k, s), ts)
+pub word_again : {K : Type 0} (word : K → TokenKind) (ks : List K) (k : K) → among word ks (word k) ≡ some k
+    → (s : Span) (ts : List Token) → take_word word ks (token (word k) s ∷ ts) ≡ some ((k, s), ts)
 word_again word ks k e s ts = word_known word ks (word k) k e s ts

@@ -1,5 +1,6 @@
 -- What is found as the first expression before a place is the first that stands there.
-use Rattle.std.proofs.Common.{◌≡◌, ◌≢◌, ℕ, suc, ◌<◌, List, [], ◌∷◌, ◌++◌, length, Option, Some, None, Bool, true, false, cond, Result, Ok, Err, refl, sym, ap, subst, ◌∙◌, arith, codes}
+use Rattle.std.proofs.Common.{◌≡◌, ◌≢◌, ℕ, suc, ◌<◌, List, [], ◌∷◌, ◌++◌, length, Option, Some, None, Bool, true,
+    false, cond, Result, Ok, Err, refl, sym, ap, subst, ◌∙◌, arith, codes}
 use Rattle.std.specs.Prelude.{nat_le, ◌||◌}
 use Rattle.std.proofs.lemmas.Bool.{leb-false, lt-leb}
 use Rattle.om_lexer.specs.declared.token.Punctuator.TheVariants as punctuators
@@ -9,7 +10,8 @@ use Rattle.om_lexer.specs.declared.token.TokenKind.TheVariants as kinds
 use Rattle.om_pragma.specs.declared.clause.ValueClause.{ValueClause}
 use Rattle.om_pragma.specs.declared.clause.ValueClause.TheVariants as value_kinds
 use Rattle.om_pragma.specs.Expressions.{or_else, Closes, IsClosed}
-use Rattle.om_pragma.specs.Reading.{mark_at, closing, some_tokens, ends_before, in_parentheses, expression_at, expression_before}
+use Rattle.om_pragma.specs.Reading.{mark_at, closing, some_tokens, ends_before, in_parentheses, expression_at,
+    expression_before}
 use Rattle.om_pragma.specs.Spelling.{token, mark, value_kind}
 use Rattle.om_pragma.specs.Values.{StandsAsValue, IsFirstValue}
 use Rattle.om_pragma.specs.Words.{same_kind, clause_word}
@@ -37,13 +39,17 @@ record IsValueAt (place : ℕ) (t : Token) (ts inside : List Token) : Type 0 whe
 
 some_inside : (xs es : List Token) → some_tokens xs ≡ some es → (xs ≡ es) × (es ≢ [])
 some_inside [] es e = absurd cc
-some_inside (x ∷ xs) es e = (some_is (x ∷ xs) es e, λ none. let is : some (x ∷ xs) ≡ some [] = e ∙ ap some none in absurd cc)
+some_inside (x ∷ xs) es e = (some_is (x ∷ xs) es e, λ none. let is : some (x ∷ xs) ≡ some [] = e ∙ ap some none in
+    absurd cc)
 
-in_parentheses_is : (place : ℕ) (k : ValueClause) (t : Token) (ts es : List Token) → t.kind ≡ clause_word (value_kind k) → t.span.start < place → ends_before place (in_parentheses ts) ≡ some es → IsValueAt place t ts es
+in_parentheses_is : (place : ℕ) (k : ValueClause) (t : Token) (ts es : List Token) → t.kind
+    ≡ clause_word (value_kind k) → t.span.start < place → ends_before place (in_parentheses ts) ≡ some es
+    → IsValueAt place t ts es
 unfolding in_parentheses
 in_parentheses_is place k t ts es word starts h = go (in_parentheses ts) refl h
   where
-    inside : (c : List Token × Span × List Token) → in_parentheses ts ≡ Ok c → c.1.start < place → (c.0 ≡ es) × (es ≢ []) → IsValueAt place t ts es
+    inside : (c : List Token × Span × List Token) → in_parentheses ts ≡ Ok c → c.1.start < place → (c.0 ≡ es)
+        × (es ≢ []) → IsValueAt place t ts es
     inside c is before same =
         let o = bind_ok (mark_at punctuators.OpenParen ts) _ c is in
         let rest = closing_is 0 o.0.1 c o.2 in
@@ -53,49 +59,63 @@ in_parentheses_is place k t ts es word starts h = go (in_parentheses ts) refl h
           right = c.1;
           behind = c.2;
           word_is = word;
-          parts = mark_at_is punctuators.OpenParen ts o.0 o.1 ∙ ap (λ (w : List Token). mark punctuators.OpenParen o.0.0 ∷ w) (rest.0 ∙ ap (λ (w : List Token). w ++ mark punctuators.CloseParen c.1 ∷ c.2) same.0);
+          parts = mark_at_is punctuators.OpenParen ts o.0 o.1 ∙ ap (λ (w : List Token). mark punctuators.OpenParen
+              o.0.0 ∷ w) (rest.0 ∙ ap (λ (w : List Token). w ++ mark punctuators.CloseParen c.1 ∷ c.2) same.0);
           closed = (same.1, subst (Closes 0) same.0 rest.1);
           starts = starts;
           ends = before;
         }
 
-    ends : (c : List Token × Span × List Token) → in_parentheses ts ≡ Ok c → (b : Bool) → nat_le place c.1.start ≡ b → cond b None (some_tokens c.0) ≡ some es → IsValueAt place t ts es
+    ends : (c : List Token × Span × List Token) → in_parentheses ts ≡ Ok c → (b : Bool) → nat_le place c.1.start ≡ b
+        → cond b None (some_tokens c.0) ≡ some es → IsValueAt place t ts es
     ends c is true past e = absurd cc
     ends c is false past e = inside c is (leb-false place c.1.start past) (some_inside c.0 es e)
 
-    go : (r : Result (List Token × Span × List Token) ℕ) → in_parentheses ts ≡ r → ends_before place r ≡ some es → IsValueAt place t ts es
+    go : (r : Result (List Token × Span × List Token) ℕ) → in_parentheses ts ≡ r → ends_before place r ≡ some es
+        → IsValueAt place t ts es
     go (Ok c) is e = ends c is (nat_le place c.1.start) refl e
     go (Err at) is e = absurd cc
 
-value_at_is : (place : ℕ) (t : Token) (ts es : List Token) → expression_at place t ts ≡ some es → IsValueAt place t ts es
+value_at_is : (place : ℕ) (t : Token) (ts es : List Token) → expression_at place t ts ≡ some es → IsValueAt place t
+    ts es
 unfolding expression_at
-value_at_is place t ts es h = go (nat_le place t.span.start) (same_kind t.kind (kinds.Name (codes "num_threads"))) (same_kind t.kind (kinds.Name (codes "filter"))) refl refl refl h
+value_at_is place t ts es h = go (nat_le place t.span.start) (same_kind t.kind (kinds.Name (codes "num_threads")))
+    (same_kind t.kind (kinds.Name (codes "filter"))) refl refl refl h
   where
-    go : (a b c : Bool) → nat_le place t.span.start ≡ a → same_kind t.kind (kinds.Name (codes "num_threads")) ≡ b → same_kind t.kind (kinds.Name (codes "filter")) ≡ c
+    go : (a b c : Bool) → nat_le place t.span.start ≡ a → same_kind t.kind (kinds.Name (codes "num_threads")) ≡ b
+        → same_kind t.kind (kinds.Name (codes "filter")) ≡ c
         → cond a None (cond (b || c) (ends_before place (in_parentheses ts)) None) ≡ some es → IsValueAt place t ts es
     go true b c past is other e = absurd cc
-    go false true c past is other e = in_parentheses_is place value_kinds.NumThreads t ts es (same_kind_is t.kind (kinds.Name (codes "num_threads")) is) (leb-false place t.span.start past) e
-    go false false true past is other e = in_parentheses_is place value_kinds.Filter t ts es (same_kind_is t.kind (kinds.Name (codes "filter")) other) (leb-false place t.span.start past) e
+    go false true c past is other e = in_parentheses_is place value_kinds.NumThreads t ts es
+        (same_kind_is t.kind (kinds.Name (codes "num_threads")) is) (leb-false place t.span.start past) e
+    go false false true past is other e = in_parentheses_is place value_kinds.Filter t ts es
+        (same_kind_is t.kind (kinds.Name (codes "filter")) other) (leb-false place t.span.start past) e
     go false false false past is other e = absurd cc
 
 some_again : (es : List Token) → es ≢ [] → some_tokens es ≡ some es
 some_again [] none = absurd (none refl)
 some_again (e ∷ es) none = refl
 
-value_at_again : (place : ℕ) (t : Token) (ts es : List Token) → IsValueAt place t ts es → expression_at place t ts ≡ some es
+value_at_again : (place : ℕ) (t : Token) (ts es : List Token) → IsValueAt place t ts es → expression_at place t ts
+    ≡ some es
 unfolding expression_at in_parentheses
 value_at_again place t ts es v = rw (v.word_is, lt-leb place t.span.start v.starts) (go v.word)
   where
     inside : ends_before place (in_parentheses ts) ≡ some es
-    inside = rw (v.parts, mark_again punctuators.OpenParen v.left (es ++ mark punctuators.CloseParen v.right ∷ v.behind), closing_again 0 es v.right v.behind v.closed.1, lt-leb place v.right.start v.ends) (some_again es v.closed.0)
+    inside = rw (v.parts, mark_again punctuators.OpenParen v.left (es ++ mark punctuators.CloseParen v.right
+        ∷ v.behind), closing_again 0 es v.right v.behind v.closed.1, lt-leb place v.right.start v.ends)
+        (some_again es v.closed.0)
 
-    go : (k : ValueClause) → cond (same_kind (clause_word (value_kind k)) (kinds.Name (codes "num_threads")) || same_kind (clause_word (value_kind k)) (kinds.Name (codes "filter"))) (ends_before place (in_parentheses ts)) None ≡ some es
+    go : (k : ValueClause) → cond (same_kind (clause_word (value_kind k)) (kinds.Name (codes "num_threads"))
+        || same_kind (clause_word (value_kind k)) (kinds.Name (codes "filter")))
+        (ends_before place (in_parentheses ts)) None ≡ some es
     go value_kinds.NumThreads = inside
     go value_kinds.Filter = inside
 
 -- ---- among the tokens
 
-abbrev stands_first : (place : ℕ) (t : Token) (ts es : List Token) → IsValueAt place t ts es → StandsAsValue (t ∷ ts) place es
+abbrev stands_first : (place : ℕ) (t : Token) (ts es : List Token) → IsValueAt place t ts es
+    → StandsAsValue (t ∷ ts) place es
 stands_first place t ts es v = record {
   before = [];
   word = v.word;
@@ -103,13 +123,15 @@ stands_first place t ts es v = record {
   left = v.left;
   right = v.right;
   behind = v.behind;
-  parts = ap (λ (w : List Token). t ∷ w) v.parts ∙ ap (λ k. token k t.span ∷ inside es v.left v.right v.behind) v.word_is;
+  parts = ap (λ (w : List Token). t ∷ w) v.parts ∙ ap (λ k. token k t.span ∷ inside es v.left v.right v.behind)
+      v.word_is;
   closed = v.closed;
   starts = v.starts;
   ends = v.ends;
 }
 
-abbrev stands_later : (place : ℕ) (t : Token) (ts es : List Token) → StandsAsValue ts place es → StandsAsValue (t ∷ ts) place es
+abbrev stands_later : (place : ℕ) (t : Token) (ts es : List Token) → StandsAsValue ts place es
+    → StandsAsValue (t ∷ ts) place es
 stands_later place t ts es s = record {
   before = t ∷ s.before;
   word = s.word;
@@ -125,7 +147,8 @@ stands_later place t ts es s = record {
 
 -- one that stands among tokens of which the first begins none
 further : (place : ℕ) (t : Token) (ts es : List Token) → expression_at place t ts ≡ None
-    → (o : StandsAsValue (t ∷ ts) place es) → (s : StandsAsValue ts place es) × (length o.before ≡ suc (length s.before))
+    → (o : StandsAsValue (t ∷ ts) place es) → (s : StandsAsValue ts place es)
+        × (length o.before ≡ suc (length s.before))
 further place t ts es absent o = go o.before refl o.parts
   where
     word : Token
@@ -167,7 +190,8 @@ further place t ts es absent o = go o.before refl o.parts
 nothing_stands : (place : ℕ) (es : List Token) → StandsAsValue [] place es → ⊥
 nothing_stands place es s = go s.before s.parts
   where
-    go : (before : List Token) → [] ≡ before ++ token (clause_word (value_kind s.word)) s.at ∷ mark punctuators.OpenParen s.left ∷ (es ++ mark punctuators.CloseParen s.right ∷ s.behind) → ⊥
+    go : (before : List Token) → [] ≡ before ++ token (clause_word (value_kind s.word)) s.at
+        ∷ mark punctuators.OpenParen s.left ∷ (es ++ mark punctuators.CloseParen s.right ∷ s.behind) → ⊥
     go [] e = absurd cc
     go (u ∷ before) e = absurd cc
 
@@ -176,36 +200,48 @@ unfolding expression_before
 is_first place [] es e = absurd cc
 is_first place (t ∷ ts) es e = go (λ h. is_first place ts es h) (expression_at place t ts) refl e
   where
-    go : (expression_before place ts ≡ some es → IsFirstValue ts place es) → (o : Option (List Token)) → expression_at place t ts ≡ o → or_else o (expression_before place ts) ≡ some es → IsFirstValue (t ∷ ts) place es
-    go later (Some x) is e = record { stands = stands_first place t ts es (value_at_is place t ts es (is ∙ e)); first = λ other o. omega arith }
+    go : (expression_before place ts ≡ some es → IsFirstValue ts place es) → (o : Option (List Token))
+        → expression_at place t ts ≡ o → or_else o (expression_before place ts) ≡ some es → IsFirstValue (t ∷ ts)
+        place es
+    go later (Some x) is e = record { stands = stands_first place t ts es (value_at_is place t ts es (is ∙ e));
+        first = λ other o. omega arith }
     go later None is e =
         let h = later e in
-        record { stands = stands_later place t ts es h.stands; first = λ other o. let f = further place t ts other is o in omega (arith, h.first other f.0, f.1) }
+        record { stands = stands_later place t ts es h.stands; first = λ other o. let f = further place t ts other
+            is o in omega (arith, h.first other f.0, f.1) }
 
-pub is_absent : (place : ℕ) (ts : List Token) → expression_before place ts ≡ None → (es : List Token) → StandsAsValue ts place es → ⊥
+pub is_absent : (place : ℕ) (ts : List Token) → expression_before place ts ≡ None → (es : List Token)
+    → StandsAsValue ts place es → ⊥
 unfolding expression_before
 is_absent place [] e es s = nothing_stands place es s
 is_absent place (t ∷ ts) e es s = go (λ h. is_absent place ts h es) (expression_at place t ts) refl e
   where
-    go : (expression_before place ts ≡ None → StandsAsValue ts place es → ⊥) → (o : Option (List Token)) → expression_at place t ts ≡ o → or_else o (expression_before place ts) ≡ None → ⊥
+    go : (expression_before place ts ≡ None → StandsAsValue ts place es → ⊥) → (o : Option (List Token))
+        → expression_at place t ts ≡ o → or_else o (expression_before place ts) ≡ None → ⊥
     go later (Some x) is e = absurd cc
     go later None is e = later e (further place t ts es is s).0
 
 -- ---- one is the first
 
-same_rest : (front rest other left : List Token) → front ++ rest ≡ other ++ left → length front ≡ length other → rest ≡ left
+same_rest : (front rest other left : List Token) → front ++ rest ≡ other ++ left → length front ≡ length other
+    → rest ≡ left
 same_rest [] rest [] left e long = e
 same_rest [] rest (t ∷ other) left e long = absurd cc
 same_rest (t ∷ front) rest [] left e long = absurd cc
-same_rest (t ∷ front) rest (u ∷ other) left e long = same_rest front rest other left (let tail : front ++ rest ≡ other ++ left = cc in tail) (omega (arith, long))
+same_rest (t ∷ front) rest (u ∷ other) left e long = same_rest front rest other left (let tail : front ++ rest
+    ≡ other ++ left = cc in tail) (omega (arith, long))
 
 first_one : (place : ℕ) (ts xs es : List Token) → IsFirstValue ts place xs → IsFirstValue ts place es → xs ≡ es
 first_one place ts xs es x y =
-    let long : length x.stands.before ≡ length y.stands.before = omega (arith, x.first es y.stands, y.first xs x.stands) in
+    let long : length x.stands.before ≡ length y.stands.before = omega (arith, x.first es y.stands,
+        y.first xs x.stands) in
     let rest = same_rest x.stands.before _ y.stands.before _ (sym x.stands.parts ∙ y.stands.parts) long in
-    let inside : xs ++ mark punctuators.CloseParen x.stands.right ∷ x.stands.behind ≡ es ++ mark punctuators.CloseParen y.stands.right ∷ y.stands.behind = cc in
-    let same = sym (closing_again 0 xs x.stands.right x.stands.behind x.stands.closed.1) ∙ ap (closing 0) inside ∙ closing_again 0 es y.stands.right y.stands.behind y.stands.closed.1 in
-    ap (λ (c : List Token × Span × List Token). c.0) (ok_is (xs, x.stands.right, x.stands.behind) (es, y.stands.right, y.stands.behind) same)
+    let inside : xs ++ mark punctuators.CloseParen x.stands.right ∷ x.stands.behind ≡ es
+        ++ mark punctuators.CloseParen y.stands.right ∷ y.stands.behind = cc in
+    let same = sym (closing_again 0 xs x.stands.right x.stands.behind x.stands.closed.1) ∙ ap (closing 0) inside
+        ∙ closing_again 0 es y.stands.right y.stands.behind y.stands.closed.1 in
+    ap (λ (c : List Token × Span × List Token). c.0) (ok_is (xs, x.stands.right, x.stands.behind)
+        (es, y.stands.right, y.stands.behind) same)
 
 pub is_found : (place : ℕ) (ts es : List Token) → IsFirstValue ts place es → expression_before place ts ≡ some es
 is_found place ts es h = go (expression_before place ts) refl

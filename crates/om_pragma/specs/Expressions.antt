@@ -1,5 +1,6 @@
 -- The expressions of a directive.
-use Rattle.std.specs.Prelude.{◌≡◌, ◌≢◌, ℕ, ◌+◌, ◌-◌, ◌==◌, List, [], ◌∷◌, map, if◌then◌else◌, Option, Some, None, IsSomeAnd, IfSome, option_to_list}
+use Rattle.std.specs.Prelude.{◌≡◌, ◌≢◌, ℕ, ◌+◌, ◌-◌, ◌==◌, List, [], ◌∷◌, map, if◌then◌else◌, Option, Some, None,
+    IsSomeAnd, IfSome, option_to_list}
 use Rattle.std.specs.List.{flat_map}
 use denote.Ref.{Bor}
 use Rattle.om_lexer.specs.declared.token.Punctuator.TheVariants as punctuators
@@ -46,7 +47,8 @@ first_expression (i ∷ items) = or_else (clause_expression i.clause) (first_exp
 
 -- a clause with another expression in place of its own
 abbrev pub map_clause : {E F : Type 0} → (E → F) → Clause E → Clause F
-map_clause f (clauses.Value k s v) = clauses.Value k s (record { open_paren = v.open_paren; expression = f v.expression; close_paren = v.close_paren })
+map_clause f (clauses.Value k s v) = clauses.Value k s
+    (record { open_paren = v.open_paren; expression = f v.expression; close_paren = v.close_paren })
 map_clause f (clauses.Default s a) = clauses.Default s a
 map_clause f (clauses.Data k s l) = clauses.Data k s l
 map_clause f (clauses.Reduction s r) = clauses.Reduction s r
@@ -58,7 +60,8 @@ map_item f i = record { comma = i.comma; clause = map_clause f i.clause }
 
 -- a directive with other expressions in place of its own
 abbrev pub map_directive : {E F : Type 0} → (E → F) → Directive E → Directive F
-map_directive f d = record { hash = d.hash; pragma = d.pragma; omp = d.omp; name = d.name; clauses = map (map_item f) d.clauses; end = d.end }
+map_directive f d = record { hash = d.hash; pragma = d.pragma; omp = d.omp; name = d.name; clauses =
+    map (map_item f) d.clauses; end = d.end }
 
 -- a function that gives the value, where there is one
 abbrev pub IsValue : {E F : Type 0} → (E → F) → Option F → Type 0

@@ -54,4 +54,5 @@ has_clause k d = list_any (λ i. same_clause (kind_of i.clause) k) d.clauses
 
 -- OpenMP API 5.2, 15.8.4: `atomic` without one of the three is an update
 abbrev pub atomic_kind : {E : Type 0} → Directive E → AtomicKind
-atomic_kind d = if has_clause clauses.Read d then atomics.Read else if has_clause clauses.Write d then atomics.Write else atomics.Update
+atomic_kind d = if has_clause clauses.Read d then atomics.Read else if has_clause clauses.Write d then atomics.Write
+    else atomics.Update

@@ -1,5 +1,7 @@
--- Reading the tokens of a directive from the left, as the code does: a part and the tokens behind it, or where it stops.
-use Rattle.std.specs.Prelude.{◌≡◌, ℕ, zero, suc, List, [], ◌∷◌, ◌++◌, length, Option, Some, None, Result, Ok, Err, Bool, true, false, ◌⊎◌, codes, if◌then◌else◌, nat_le, ◌||◌}
+-- Reading the tokens of a directive from the left, as the code does: a part and the tokens behind it, or
+-- where it stops.
+use Rattle.std.specs.Prelude.{◌≡◌, ℕ, zero, suc, List, [], ◌∷◌, ◌++◌, length, Option, Some, None, Result, Ok, Err,
+    Bool, true, false, ◌⊎◌, codes, if◌then◌else◌, nat_le, ◌||◌}
 use Rattle.om_lexer.specs.Faults.{no_memory}
 use Rattle.om_lexer.specs.declared.fault.FaultCode.{FaultCode}
 use Rattle.om_lexer.specs.declared.fault.FaultCode.TheVariants as fault_codes
@@ -38,7 +40,8 @@ use Rattle.om_pragma.specs.declared.kind.DirectiveKind.{DirectiveKind}
 use Rattle.om_pragma.specs.declared.kind.DirectiveKind.TheVariants as words
 use Rattle.om_pragma.specs.Expressions.{open_behind, or_else}
 use Rattle.om_pragma.specs.Table.{may_stand, kinds_of}
-use Rattle.om_pragma.specs.Words.{same_kind, is_word, among, directive_word, directive_words, clause_word, sharing_word, operator_word, schedule_word}
+use Rattle.om_pragma.specs.Words.{same_kind, is_word, among, directive_word, directive_words, clause_word,
+    sharing_word, operator_word, schedule_word}
 
 -- the next step, where this one gives a value
 infixl 10 ◌>>=◌
@@ -121,7 +124,9 @@ name_at ts = known ts (take_name ts)
 -- ---- rows
 
 -- Items up to one that ends them, at most so many, behind those before; `none` where there are more.
-unfoldable pub until : {A X : Type 0} → (none : List Token → X) → (List Token → Option (Span × List Token)) → (List A → List Token → Result (A × List Token) X) → ℕ → List A → List Token → Result (List A × Span × List Token) X
+unfoldable pub until : {A X : Type 0} → (none : List Token → X) → (List Token → Option (Span × List Token))
+    → (List A → List Token → Result (A × List Token) X) → ℕ → List A → List Token
+    → Result (List A × Span × List Token) X
 until none ender item zero before ts = Err (none ts)
 until none ender item (suc k) before ts = choose (ender ts)
     (λ e. Ok (before, e.0, e.1))
@@ -163,9 +168,11 @@ closing n (t ∷ ts) = choose (open_behind t.kind n)
     (Ok ([], t.span, ts))
 
 -- one or more tokens between parentheses
-abbrev pub value_in : ValueClause → (word left : Span) → List Token → (right : Span) → List Token → Part (Clause (List Token))
+abbrev pub value_in : ValueClause → (word left : Span) → List Token → (right : Span) → List Token
+    → Part (Clause (List Token))
 value_in k word left [] right rest = Err right.start
-value_in k word left (t ∷ ts) right rest = Ok (clauses.Value k word (record { open_paren = left; expression = t ∷ ts; close_paren = right }), rest)
+value_in k word left (t ∷ ts) right rest =
+    Ok (clauses.Value k word (record { open_paren = left; expression = t ∷ ts; close_paren = right }), rest)
 
 -- some tokens in parentheses
 unfoldable pub value_after : ValueClause → Span → List Token → Part (Clause (List Token))
@@ -203,7 +210,8 @@ reduction_after s ts = do
   w ← known o.1 (take_word operator_word reduction_operators o.1)
   c ← mark_at punctuators.Colon w.1
   n ← names_at c.1
-  Ok (clauses.Reduction s (record { open_paren = o.0; operator = w.0.0; sign = w.0.1; colon = c.0; first = n.0.0; rest = n.0.1; close_paren = n.0.2 }), n.1)
+  Ok (clauses.Reduction s (record { open_paren = o.0; operator = w.0.0; sign = w.0.1; colon = c.0; first = n.0.0;
+      rest = n.0.1; close_paren = n.0.2 }), n.1)
 
 -- the kinds of schedules
 abbrev pub schedule_kinds : List ScheduleKind
@@ -272,12 +280,16 @@ in_clause s (Err at) = Err (fault fault_codes.BadClause s.start)
 
 -- all clauses
 abbrev pub all_clauses : List ClauseKind
-all_clauses = clause_kinds.NumThreads ∷ clause_kinds.Filter ∷ clause_kinds.Default ∷ clause_kinds.Shared ∷ clause_kinds.Private ∷ clause_kinds.Firstprivate ∷ clause_kinds.Reduction ∷ clause_kinds.Schedule ∷ clause_kinds.Nowait ∷ clause_kinds.Update ∷ clause_kinds.Read ∷ clause_kinds.Write ∷ clause_kinds.SeqCst ∷ clause_kinds.Relaxed ∷ []
+all_clauses = clause_kinds.NumThreads ∷ clause_kinds.Filter ∷ clause_kinds.Default ∷ clause_kinds.Shared
+    ∷ clause_kinds.Private ∷ clause_kinds.Firstprivate ∷ clause_kinds.Reduction ∷ clause_kinds.Schedule
+    ∷ clause_kinds.Nowait ∷ clause_kinds.Update ∷ clause_kinds.Read ∷ clause_kinds.Write ∷ clause_kinds.SeqCst
+    ∷ clause_kinds.Relaxed ∷ []
 
 -- a clause behind those before it
 unfoldable pub clause_at : DirectiveName → List ClauseKind → List Token → Outcome (Clause (List Token) × List Token)
 clause_at name before ts = choose (take_word clause_word all_clauses ts)
-    (λ w. if may_stand name before w.0.0 then in_clause w.0.1 (clause_after w.0.0 w.0.1 w.1) else Err (fault fault_codes.BadClause w.0.1.start))
+    (λ w. if may_stand name before w.0.0 then in_clause w.0.1 (clause_after w.0.0 w.0.1 w.1) else Err
+        (fault fault_codes.BadClause w.0.1.start))
     (Err (no_word ts))
 
 -- a comma that may stand there, if something stands before it
@@ -286,8 +298,10 @@ comma_at [] ts = (None, ts)
 comma_at (b ∷ bs) ts = choose (take_kind (kinds.Punctuator punctuators.Comma) ts) (λ c. (Some c.0, c.1)) (None, ts)
 
 -- a clause and the comma before it
-unfoldable pub item_at : DirectiveName → List (ClauseItem (List Token)) → List Token → Outcome (ClauseItem (List Token) × List Token)
-item_at name before ts = let c = comma_at before ts in clause_at name (kinds_of before) c.1 >>= λ x. Ok (record { comma = c.0; clause = x.0 }, x.1)
+unfoldable pub item_at : DirectiveName → List (ClauseItem (List Token)) → List Token
+    → Outcome (ClauseItem (List Token) × List Token)
+item_at name before ts = let c = comma_at before ts in clause_at name (kinds_of before) c.1 >>= λ x. Ok
+    (record { comma = c.0; clause = x.0 }, x.1)
 
 -- the name of `critical`, behind its parenthesis
 unfoldable pub critical_after : Span → List Token → Part (Span × names.Name × Span)
@@ -338,7 +352,8 @@ name_after words.Flush s ts = flush_at s ts
 
 -- the words of a directive
 unfoldable pub directive_name_at : List Token → Outcome (DirectiveName × List Token)
-directive_name_at ts = choose (take_word directive_word directive_words ts) (λ w. name_after w.0.0 w.0.1 w.1) (Err (no_word ts))
+directive_name_at ts = choose (take_word directive_word directive_words ts) (λ w. name_after w.0.0 w.0.1 w.1)
+    (Err (no_word ts))
 
 -- `#`, `pragma` and `omp`
 unfoldable pub opening_at : List Token → Part (Span × Span × Span)

@@ -20,11 +20,14 @@ use Rattle.om_pragma.specs.declared.tree.DirectiveName.TheVariants as directives
 use Rattle.om_pragma.specs.declared.kind.DirectiveKind.{DirectiveKind}
 use Rattle.om_pragma.specs.declared.kind.DirectiveKind.TheVariants as words
 use Rattle.om_pragma.specs.Expressions.{IsClosed, with_tokens}
-use Rattle.om_pragma.specs.Spelling.{token, name_spelling, opening_spelling, item_spelling, comma_spelling, clause_spelling, directive_spelling}
-use Rattle.om_pragma.specs.Table.{may_stand, kinds_of, IsBetween, IsClause, IsItem, EachBehind, IsDirective, IsDirectiveOf}
+use Rattle.om_pragma.specs.Spelling.{token, name_spelling, opening_spelling, item_spelling, comma_spelling,
+    clause_spelling, directive_spelling}
+use Rattle.om_pragma.specs.Table.{may_stand, kinds_of, IsBetween, IsClause, IsItem, EachBehind, IsDirective,
+    IsDirectiveOf}
 use Rattle.om_pragma.specs.Words.{is_word, directive_word, clause_word}
 
--- the words of a directive go on with this token: to those of a combined one, to the name of `critical` or to the list of `flush`
+-- the words of a directive go on with this token: to those of a combined one, to the name of `critical` or to
+-- the list of `flush`
 abbrev pub GoesOnWith : DirectiveName → TokenKind → Type 0
 GoesOnWith (directives.Parallel s) k = (k ≡ directive_word words.For) ⊎ (k ≡ directive_word words.Sections)
 GoesOnWith (directives.Critical s None) k = k ≡ kinds.Punctuator punctuators.OpenParen
@@ -35,8 +38,10 @@ GoesOnWith _ k = ⊥
 abbrev pub IsWhole : DirectiveName → List Token → Type 0
 IsWhole name behind = (t : Token) (more : List Token) → behind ≡ t ∷ more → GoesOnWith name t.kind → ⊥
 
--- Behind the words of a directive, some of its clauses and perhaps a comma, these tokens stand where a clause is expected.
-pub record StandsClause (tokens : List Token) (name : DirectiveName) (before : List (ClauseItem (List Token))) (rest : List Token) : Type 0 where
+-- Behind the words of a directive, some of its clauses and perhaps a comma, these tokens stand where a clause
+-- is expected.
+pub record StandsClause (tokens : List Token) (name : DirectiveName) (before : List (ClauseItem (List Token)))
+    (rest : List Token) : Type 0 where
   pub hash : Span
   pub pragma : Span
   pub omp : Span
@@ -50,8 +55,10 @@ pub record StandsClause (tokens : List Token) (name : DirectiveName) (before : L
 
 -- each clause of a directive stands where one is expected
 abbrev pub ClausesStand : Type 0
-ClausesStand = (d : Directive (List Token)) (front rest : List (ClauseItem (List Token))) (i : ClauseItem (List Token)) → IsDirective IsClosed d → d.clauses ≡ front ++ i ∷ rest
-    → StandsClause (directive_spelling (λ e. e) d) d.name front (clause_spelling (λ e. e) i.clause ++ (flat_map (item_spelling (λ e. e)) rest ++ token kinds.DirectiveEnd d.end ∷ []))
+ClausesStand = (d : Directive (List Token)) (front rest : List (ClauseItem (List Token)))
+    (i : ClauseItem (List Token)) → IsDirective IsClosed d → d.clauses ≡ front ++ i ∷ rest
+    → StandsClause (directive_spelling (λ e. e) d) d.name front (clause_spelling (λ e. e) i.clause
+        ++ (flat_map (item_spelling (λ e. e)) rest ++ token kinds.DirectiveEnd d.end ∷ []))
 
 -- S5: where the directive must stand, a word stands that the table does not have as one.
 pub record IsUnknownDirective (tokens : List Token) (at : ℕ) : Type 0 where
@@ -76,7 +83,8 @@ pub record IsUnknownClause (tokens : List Token) (at : ℕ) : Type 0 where
   pub unknown : (k : ClauseKind) → word.kind ≢ clause_word k
   pub place : word.span.start ≡ at
 
--- S6: where a clause is expected, the word of one stands that the directive does not have, or not once more, or behind which
+-- S6: where a clause is expected, the word of one stands that the directive does not have, or not once more,
+-- or behind which
 -- nothing stands that makes it a clause.
 pub record IsBadClause (tokens : List Token) (at : ℕ) : Type 0 where
   pub name : DirectiveName
@@ -86,7 +94,8 @@ pub record IsBadClause (tokens : List Token) (at : ℕ) : Type 0 where
   pub rest : List Token
   pub stands : StandsClause tokens name before (token (clause_word kind) word ∷ rest)
   pub bad : (may_stand name (kinds_of before) kind ≡ false)
-      ⊎ ((c : Clause (List Token)) (behind : List Token) → IsClause IsClosed c → token (clause_word kind) word ∷ rest ≢ clause_spelling (λ e. e) c ++ behind)
+      ⊎ ((c : Clause (List Token)) (behind : List Token) → IsClause IsClosed c → token (clause_word kind) word
+          ∷ rest ≢ clause_spelling (λ e. e) c ++ behind)
   pub place : word.start ≡ at
 
 -- S5 or S6 stands at a place

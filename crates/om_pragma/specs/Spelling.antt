@@ -51,7 +51,8 @@ further_spelling n = mark punctuators.Comma n.0 ∷ name n.1 ∷ []
 
 -- names with commas between them, up to the parenthesis
 unfoldable pub names_spelling : names.Name → List (Span × names.Name) → Span → List Token
-names_spelling first rest close = name first ∷ (flat_map further_spelling rest ++ mark punctuators.CloseParen close ∷ [])
+names_spelling first rest close = name first ∷ (flat_map further_spelling rest ++ mark punctuators.CloseParen close
+    ∷ [])
 
 -- names in parentheses
 unfoldable pub list_spelling : lists.NameList → List Token
@@ -64,11 +65,16 @@ chunk_spelling None = []
 
 -- what stands behind the word of a clause, with its expression spelled so
 unfoldable pub argument_spelling : {E : Type 0} → (E → List Token) → Clause E → List Token
-argument_spelling expression (clauses.Value k s v) = mark punctuators.OpenParen v.open_paren ∷ (expression v.expression ++ mark punctuators.CloseParen v.close_paren ∷ [])
-argument_spelling expression (clauses.Default s a) = mark punctuators.OpenParen a.open_paren ∷ token (sharing_word a.sharing) a.word ∷ mark punctuators.CloseParen a.close_paren ∷ []
+argument_spelling expression (clauses.Value k s v) = mark punctuators.OpenParen v.open_paren
+    ∷ (expression v.expression ++ mark punctuators.CloseParen v.close_paren ∷ [])
+argument_spelling expression (clauses.Default s a) = mark punctuators.OpenParen a.open_paren
+    ∷ token (sharing_word a.sharing) a.word ∷ mark punctuators.CloseParen a.close_paren ∷ []
 argument_spelling expression (clauses.Data k s l) = list_spelling l
-argument_spelling expression (clauses.Reduction s r) = mark punctuators.OpenParen r.open_paren ∷ token (operator_word r.operator) r.sign ∷ mark punctuators.Colon r.colon ∷ names_spelling r.first r.rest r.close_paren
-argument_spelling expression (clauses.Schedule s a) = mark punctuators.OpenParen a.open_paren ∷ token (schedule_word a.kind) a.word ∷ (chunk_spelling a.chunk ++ mark punctuators.CloseParen a.close_paren ∷ [])
+argument_spelling expression (clauses.Reduction s r) = mark punctuators.OpenParen r.open_paren
+    ∷ token (operator_word r.operator) r.sign ∷ mark punctuators.Colon r.colon ∷ names_spelling r.first r.rest
+    r.close_paren
+argument_spelling expression (clauses.Schedule s a) = mark punctuators.OpenParen a.open_paren
+    ∷ token (schedule_word a.kind) a.word ∷ (chunk_spelling a.chunk ++ mark punctuators.CloseParen a.close_paren ∷ [])
 argument_spelling expression (clauses.Plain k s) = []
 
 -- ---- clauses
@@ -140,8 +146,10 @@ name_spelling (directives.For s) = token (directive_word words.For) s ∷ []
 name_spelling (directives.Sections s) = token (directive_word words.Sections) s ∷ []
 name_spelling (directives.Section s) = token (directive_word words.Section) s ∷ []
 name_spelling (directives.Single s) = token (directive_word words.Single) s ∷ []
-name_spelling (directives.ParallelFor s t) = token (directive_word words.Parallel) s ∷ token (directive_word words.For) t ∷ []
-name_spelling (directives.ParallelSections s t) = token (directive_word words.Parallel) s ∷ token (directive_word words.Sections) t ∷ []
+name_spelling (directives.ParallelFor s t) = token (directive_word words.Parallel) s
+    ∷ token (directive_word words.For) t ∷ []
+name_spelling (directives.ParallelSections s t) = token (directive_word words.Parallel) s
+    ∷ token (directive_word words.Sections) t ∷ []
 name_spelling (directives.Masked s) = token (directive_word words.Masked) s ∷ []
 name_spelling (directives.Master s) = token (directive_word words.Master) s ∷ []
 name_spelling (directives.Critical s n) = token (directive_word words.Critical) s ∷ critical_spelling n
@@ -155,8 +163,10 @@ name_spelling (directives.Flush s l) = token (directive_word words.Flush) s ∷ 
 
 -- `#`, `pragma` and `omp`
 unfoldable pub opening_spelling : (hash pragma omp : Span) → List Token
-opening_spelling hash pragma omp = token kinds.DirectiveBegin hash ∷ token (kinds.Name (codes "pragma")) pragma ∷ token (kinds.Name (codes "omp")) omp ∷ []
+opening_spelling hash pragma omp = token kinds.DirectiveBegin hash ∷ token (kinds.Name (codes "pragma")) pragma
+    ∷ token (kinds.Name (codes "omp")) omp ∷ []
 
 -- the run of tokens of a directive, its end last, with its expressions spelled so
 unfoldable pub directive_spelling : {E : Type 0} → (E → List Token) → Directive E → List Token
-directive_spelling expression d = opening_spelling d.hash d.pragma d.omp ++ (name_spelling d.name ++ (flat_map (item_spelling expression) d.clauses ++ token kinds.DirectiveEnd d.end ∷ []))
+directive_spelling expression d = opening_spelling d.hash d.pragma d.omp
+    ++ (name_spelling d.name ++ (flat_map (item_spelling expression) d.clauses ++ token kinds.DirectiveEnd d.end ∷ []))

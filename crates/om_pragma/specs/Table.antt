@@ -21,13 +21,17 @@ use Rattle.om_pragma.specs.Spelling.{kind_of, directive_spelling}
 
 -- the clauses that a directive can have; a combined one has those of both, but no `nowait`
 abbrev pub clauses_of : DirectiveKind → List ClauseKind
-clauses_of directives.Parallel = clauses.NumThreads ∷ clauses.Default ∷ clauses.Shared ∷ clauses.Private ∷ clauses.Firstprivate ∷ clauses.Reduction ∷ []
-clauses_of directives.For = clauses.Schedule ∷ clauses.Private ∷ clauses.Firstprivate ∷ clauses.Reduction ∷ clauses.Nowait ∷ []
+clauses_of directives.Parallel = clauses.NumThreads ∷ clauses.Default ∷ clauses.Shared ∷ clauses.Private
+    ∷ clauses.Firstprivate ∷ clauses.Reduction ∷ []
+clauses_of directives.For = clauses.Schedule ∷ clauses.Private ∷ clauses.Firstprivate ∷ clauses.Reduction
+    ∷ clauses.Nowait ∷ []
 clauses_of directives.Sections = clauses.Private ∷ clauses.Firstprivate ∷ clauses.Reduction ∷ clauses.Nowait ∷ []
 clauses_of directives.Section = []
 clauses_of directives.Single = clauses.Private ∷ clauses.Firstprivate ∷ clauses.Nowait ∷ []
-clauses_of directives.ParallelFor = clauses.NumThreads ∷ clauses.Default ∷ clauses.Shared ∷ clauses.Private ∷ clauses.Firstprivate ∷ clauses.Reduction ∷ clauses.Schedule ∷ []
-clauses_of directives.ParallelSections = clauses.NumThreads ∷ clauses.Default ∷ clauses.Shared ∷ clauses.Private ∷ clauses.Firstprivate ∷ clauses.Reduction ∷ []
+clauses_of directives.ParallelFor = clauses.NumThreads ∷ clauses.Default ∷ clauses.Shared ∷ clauses.Private
+    ∷ clauses.Firstprivate ∷ clauses.Reduction ∷ clauses.Schedule ∷ []
+clauses_of directives.ParallelSections = clauses.NumThreads ∷ clauses.Default ∷ clauses.Shared ∷ clauses.Private
+    ∷ clauses.Firstprivate ∷ clauses.Reduction ∷ []
 clauses_of directives.Masked = clauses.Filter ∷ []
 clauses_of directives.Master = []
 clauses_of directives.Critical = []
@@ -64,7 +68,8 @@ excludes earlier later = not (may_repeat later) && same_clause (group_of earlier
 
 -- whether a directive can have a clause behind those before it
 unfoldable pub may_stand : DirectiveName → List ClauseKind → ClauseKind → Bool
-may_stand name before k = list_any (λ j. same_clause j k) (clauses_of (directive_kind name)) && not (list_any (λ j. excludes j k) before)
+may_stand name before k = list_any (λ j. same_clause j k) (clauses_of (directive_kind name))
+    && not (list_any (λ j. excludes j k) before)
 
 -- a comma stands between two clauses, not before the first
 abbrev pub IsBetween : {A : Type 0} → List A → Option Span → Type 0
@@ -90,7 +95,8 @@ IsClause IsExpression (clause.Schedule s a) = IsChunk a.chunk
 IsClause IsExpression (clause.Plain k s) = Unit {0}
 
 -- a clause as the directive can have it behind those before it
-pub record IsItem {E : Type 0} (IsExpression : E → Type 0) (name : DirectiveName) (before : List (ClauseItem E)) (i : ClauseItem E) : Type 0 where
+pub record IsItem {E : Type 0} (IsExpression : E → Type 0) (name : DirectiveName) (before : List (ClauseItem E))
+    (i : ClauseItem E) : Type 0 where
   pub between : IsBetween before i.comma
   pub can_stand : may_stand name (kinds_of before) (kind_of i.clause) ≡ true
   pub formed : IsClause IsExpression i.clause

@@ -16,7 +16,8 @@ pub record StandsAsValue (tokens : List Token) (place : ℕ) (inside : List Toke
   pub left : Span
   pub right : Span
   pub behind : List Token
-  pub parts : tokens ≡ before ++ token (clause_word (value_kind word)) at ∷ mark punctuators.OpenParen left ∷ (inside ++ mark punctuators.CloseParen right ∷ behind)
+  pub parts : tokens ≡ before ++ token (clause_word (value_kind word)) at ∷ mark punctuators.OpenParen left
+      ∷ (inside ++ mark punctuators.CloseParen right ∷ behind)
   pub closed : IsClosed inside
   pub starts : at.start < place
   pub ends : right.start < place

@@ -69,8 +69,10 @@ among word (k ∷ ks) kind = if same_kind kind (word k) then Some k else among w
 
 -- the directives of one word
 abbrev pub directive_words : List DirectiveKind
-directive_words = directives.Parallel ∷ directives.For ∷ directives.Sections ∷ directives.Section ∷ directives.Single ∷ directives.Masked ∷ directives.Master
-    ∷ directives.Critical ∷ directives.Atomic ∷ directives.Task ∷ directives.Taskgroup ∷ directives.Barrier ∷ directives.Taskwait ∷ directives.Taskyield ∷ directives.Flush ∷ []
+directive_words = directives.Parallel ∷ directives.For ∷ directives.Sections ∷ directives.Section
+    ∷ directives.Single ∷ directives.Masked ∷ directives.Master
+    ∷ directives.Critical ∷ directives.Atomic ∷ directives.Task ∷ directives.Taskgroup ∷ directives.Barrier
+        ∷ directives.Taskwait ∷ directives.Taskyield ∷ directives.Flush ∷ []
 
 -- the directive that a word is alone, as the first of its line; a combined one may go on behind it
 abbrev pub begun_by : TokenKind → Option DirectiveKind

@@ -40,12 +40,14 @@ place_text team number = name_text team ++ codes " " ++ decimal number
 
 -- its task, the ordinal of its frame, its slot and its index: `0.1.0/0/2/0`
 abbrev pub cell_place_text : List ℕ → ℕ → ℕ → ℕ → List ℕ
-cell_place_text task frame slot index = name_text task ++ codes "/" ++ decimal frame ++ codes "/" ++ decimal slot ++ codes "/" ++ decimal index
+cell_place_text task frame slot index = name_text task ++ codes "/" ++ decimal frame ++ codes "/" ++ decimal slot
+    ++ codes "/" ++ decimal index
 
 abbrev pub object_text : Raw → Obj → List ℕ
 object_text program (object.Control worker) = codes "control " ++ decimal worker
 object_text program (object.Cell task frame slot index) = codes "cell " ++ cell_place_text task frame slot index
-object_text program (object.Global global index) = codes "global " ++ variable_text program (record { variable = global; index = index })
+object_text program (object.Global global index) = codes "global " ++ variable_text program
+    (record { variable = global; index = index })
 object_text program (object.Task task) = codes "task " ++ name_text task
 object_text program (object.Kids task) = codes "children " ++ name_text task
 object_text program (object.Pending team phase) = codes "pending " ++ place_text team phase

@@ -16,7 +16,8 @@ use Rattle.om_replies.specs.Objects.{object_text}
 
 -- `#S worker W line L`
 abbrev pub entry_text : ℕ → ℕ → ℕ → List ℕ
-entry_text serial worker line = codes "#" ++ decimal serial ++ codes " worker " ++ decimal worker ++ codes " line " ++ decimal line
+entry_text serial worker line = codes "#" ++ decimal serial ++ codes " worker " ++ decimal worker ++ codes " line "
+    ++ decimal line
 
 -- what stands behind a step that came to a fault
 abbrev pub fault_text : Option Fault → List ℕ
@@ -31,12 +32,14 @@ blocker_text _ = []
 
 abbrev pub step_text : ℕ → StepReply → List ℕ
 step_text worker (step_reply.Done serial line fault) = entry_text serial worker line ++ fault_text fault ++ codes "\n"
-step_text worker (step_reply.Blocked why) = codes "blocked B" ++ decimal (blocked_number why) ++ blocker_text why ++ codes "\n"
+step_text worker (step_reply.Blocked why) = codes "blocked B" ++ decimal (blocked_number why) ++ blocker_text why
+    ++ codes "\n"
 step_text worker step_reply.Ended = codes "ended\n"
 
 abbrev pub undo_text : Raw → ℕ → UndoReply → List ℕ
 undo_text program worker (Undone serial line) = codes "undone " ++ entry_text serial worker line ++ codes "\n"
-undo_text program worker (Conflict serial other at) = codes "refused by #" ++ decimal serial ++ codes " worker " ++ decimal other ++ codes " on " ++ object_text program at ++ codes "\n"
+undo_text program worker (Conflict serial other at) = codes "refused by #" ++ decimal serial ++ codes " worker "
+    ++ decimal other ++ codes " on " ++ object_text program at ++ codes "\n"
 undo_text program worker Nothing = codes "nothing to undo\n"
 
 abbrev pub command_fault_text : CommandFault → List ℕ

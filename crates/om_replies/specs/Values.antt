@@ -25,4 +25,5 @@ written_index (Some index) = codes "[" ++ decimal index ++ codes "]"
 
 -- the variable that a worker sees by a name, as the command writes it: `i = 3`, `a[2] = unset`, `y = dead`
 abbrev pub local_text : Variable → Val → List ℕ
-local_text variable value = variable.name ++ written_index variable.index ++ codes " = " ++ cell_text (cell_in value) ++ codes "\n"
+local_text variable value = variable.name ++ written_index variable.index ++ codes " = "
+    ++ cell_text (cell_in value) ++ codes "\n"

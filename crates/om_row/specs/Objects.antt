@@ -1,5 +1,6 @@
 -- The objects that instructions name, and what is put there.
-use Rattle.std.specs.Prelude.{ℕ, Bool, true, false, is_some, if◌then◌else◌, zero, suc, ◌+◌, ℤ, Option, None, Some, List, [], ◌∷◌, ◌++◌, slice_index_or}
+use Rattle.std.specs.Prelude.{ℕ, Bool, true, false, is_some, if◌then◌else◌, zero, suc, ◌+◌, ℤ, Option, None, Some,
+    List, [], ◌∷◌, ◌++◌, slice_index_or}
 use Rattle.om_foot.specs.declared.object.Obj.{Obj}
 use Rattle.om_foot.specs.declared.object.Obj.TheVariants as obj
 use Rattle.om_foot.specs.declared.footprint.Access.{Access}
@@ -45,7 +46,8 @@ object_of c (place.Slot slot) index = cell_of c.task c.frame.ordinal slot index 
 -- the cells of a slot, from this index on
 abbrev pub slot_cells : List ℕ → ℕ → ℕ → Home → ℕ → ℕ → List Access
 slot_cells task frame slot home index zero = []
-slot_cells task frame slot home index (suc count) = write (cell_of task frame slot index home) ∷ slot_cells task frame slot home (index + 1) count
+slot_cells task frame slot home index (suc count) = write (cell_of task frame slot index home) ∷ slot_cells task
+    frame slot home (index + 1) count
 
 -- the first cells of these slots, in the frame of a task with this ordinal
 abbrev pub given_cells : List ℕ → ℕ → List ℕ → List Access
@@ -60,7 +62,8 @@ own_slot c slot cells (Elsewhere t f s) = []
 -- the cells of the running frame's own slots, from the slot of this number on
 abbrev pub own_from : Context → ℕ → List Slot → List Access
 own_from c number [] = []
-own_from c number (slot ∷ slots) = own_slot c number slot.cells (home_at c.frame.homes number) ++ own_from c (number + 1) slots
+own_from c number (slot ∷ slots) = own_slot c number slot.cells (home_at c.frame.homes number)
+    ++ own_from c (number + 1) slots
 
 abbrev pub own_cells : Context → List Slot → List Access
 own_cells c slots = own_from c 0 slots
@@ -74,7 +77,8 @@ abbrev pub home_for : List ℕ → ℕ → List Home → Source → Home
 home_for task frame homes source.Own = Own
 home_for task frame homes (source.Outer slot) = home_from task frame slot (home_at homes slot)
 
--- where the cells of a body's slots lie, for a frame that is begun from the frame of a task with this ordinal and these homes
+-- where the cells of a body's slots lie, for a frame that is begun from the frame of a task with this ordinal
+-- and these homes
 abbrev pub homes_for : List ℕ → ℕ → List Home → List Slot → List Home
 homes_for task frame homes [] = []
 homes_for task frame homes (slot ∷ slots) = home_for task frame homes slot.source ∷ homes_for task frame homes slots
@@ -121,7 +125,8 @@ abbrev pub group_in : List Construct → Option (List ℕ) → Option (List ℕ)
 group_in [] began = began
 group_in (c ∷ constructs) began = or_else (group_name c) (group_in constructs began)
 
--- OpenMP 5.2, 17.1: no barrier or worksharing region binds in an explicit task, or inside a worksharing, masked or critical region
+-- OpenMP 5.2, 17.1: no barrier or worksharing region binds in an explicit task, or inside a worksharing,
+-- masked or critical region
 abbrev pub is_in_region : List Construct → Bool
 is_in_region [] = false
 is_in_region (c ∷ constructs) = if is_some (group_name c) then is_in_region constructs else true

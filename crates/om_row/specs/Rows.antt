@@ -12,7 +12,8 @@ use Rattle.om_row.specs.declared.row.Row.{Row}
 use Rattle.om_row.specs.declared.row.Row.TheVariants.{Goes}
 use Rattle.om_row.specs.declared.row.Answer.{Answer}
 
--- what a step asks: the objects that it names besides its worker's control, by that control alone, and its row, by the values that it reads there
+-- what a step asks: the objects that it names besides its worker's control, by that control alone, and its
+-- row, by the values that it reads there
 pub record Asked : Type 0 where
   pub names : List Access
   pub row : List Val → Row

@@ -1,5 +1,6 @@
 -- The rules of directives, each by the breaches that one has of it, in the order of the text.
-use Rattle.std.specs.Prelude.{ℕ, List, [], ◌∷◌, ◌++◌, Option, None, Some, Bool, true, false, fold, map, not, ◌&&◌, ◌||◌, if◌then◌else◌}
+use Rattle.std.specs.Prelude.{ℕ, List, [], ◌∷◌, ◌++◌, Option, None, Some, Bool, true, false, fold, map, not, ◌&&◌,
+    ◌||◌, if◌then◌else◌}
 use Rattle.std.specs.List.{list_any, flat_map}
 use Rattle.std.specs.Str.{bytes_eq}
 use Rattle.om_lexer.specs.declared.fault.FaultCode.TheVariants as faults
@@ -38,9 +39,11 @@ use Rattle.om_rules.specs.Sharing.{declares, is_parallel, is_unlisted}
 -- ---- directives
 
 abbrev pub row : RegionKind → (is_bound : Bool) → Inside → (takes_loop : Bool) → Traits
-row region is_bound inside takes_loop = record { region = region; is_bound = is_bound; inside = inside; takes_loop = takes_loop }
+row region is_bound inside takes_loop = record { region = region; is_bound = is_bound; inside = inside; takes_loop =
+    takes_loop }
 
--- What a directive is as a construct: whether it is a worksharing construct or a barrier, whether such may stand in it (OpenMP
+-- What a directive is as a construct: whether it is a worksharing construct or a barrier, whether such may
+-- stand in it (OpenMP
 -- API 5.2, section 17.1), and whether it is for a loop.
 abbrev pub traits_of : DirectiveName → Traits
 traits_of (directives.Parallel s) = row regions.Parallel false insides.Opens false
@@ -81,10 +84,12 @@ constructing d flow = record {
   parallel = parallel_in d flow.parallel;
 }
 
--- S14 at the word: a worksharing construct or a barrier in a region of worksharing, `task`, `critical` or `masked`, with no `parallel`
+-- S14 at the word: a worksharing construct or a barrier in a region of worksharing, `task`, `critical` or
+-- `masked`, with no `parallel`
 -- between
 abbrev pub nesting_breaches : Flow → DirectiveName → List SourceFault
-nesting_breaches flow name = breach_if ((traits_of name).is_bound && flow.is_closed) faults.LeavesConstruct (word_span name).start
+nesting_breaches flow name = breach_if ((traits_of name).is_bound && flow.is_closed) faults.LeavesConstruct
+    (word_span name).start
 
 -- ---- clauses
 
@@ -107,9 +112,12 @@ copy_of name = (name.text, meanings.Variable (variables.Local name.span.start) s
 
 -- once a name stands in the list of a clause
 abbrev pub after_name : DataSharing → Listed → names.Name → Listed
-after_name lists.Shared listed name = record { default = listed.default; shared = with_name listed.shared name.text; copies = listed.copies }
-after_name lists.Private listed name = record { default = listed.default; shared = listed.shared; copies = listed.copies ++ copy_of name ∷ [] }
-after_name lists.Firstprivate listed name = record { default = listed.default; shared = listed.shared; copies = listed.copies ++ copy_of name ∷ [] }
+after_name lists.Shared listed name = record { default = listed.default; shared = with_name listed.shared name.text;
+    copies = listed.copies }
+after_name lists.Private listed name = record { default = listed.default; shared = listed.shared; copies =
+    listed.copies ++ copy_of name ∷ [] }
+after_name lists.Firstprivate listed name = record { default = listed.default; shared = listed.shared; copies =
+    listed.copies ++ copy_of name ∷ [] }
 
 abbrev pub is_variable : Option Meaning → Bool
 is_variable (Some (meanings.Variable variable shape)) = true
@@ -129,7 +137,8 @@ uses_original lists.Shared = true
 uses_original lists.Private = false
 uses_original lists.Firstprivate = true
 
--- how a variable is listed of which a construct has such a copy, or none: a `reduction` has copies and uses the originals, as `firstprivate`
+-- how a variable is listed of which a construct has such a copy, or none: a `reduction` has copies and uses
+-- the originals, as `firstprivate`
 abbrev pub sharing_of : Option CopyKind → DataSharing
 sharing_of None = lists.Shared
 sharing_of (Some copies.Private) = lists.Private
@@ -159,8 +168,10 @@ with_default listed sharing = record { default = Some sharing; shared = listed.s
 unfoldable pub clause_breaches : Scopes → Listed → Clause ExpressionTree → List SourceFault
 clause_breaches scopes listed (clauses.Value kind s v) = expression_breaches scopes true v.expression
 clause_breaches scopes listed (clauses.Default s argument) = []
-clause_breaches scopes listed (clauses.Data sharing s list) = names_breaches scopes sharing listed (names_in list.first list.rest)
-clause_breaches scopes listed (clauses.Reduction s r) = names_breaches scopes lists.Firstprivate listed (names_in r.first r.rest)
+clause_breaches scopes listed (clauses.Data sharing s list) = names_breaches scopes sharing listed
+    (names_in list.first list.rest)
+clause_breaches scopes listed (clauses.Reduction s r) = names_breaches scopes lists.Firstprivate listed
+    (names_in r.first r.rest)
 clause_breaches scopes listed (clauses.Schedule s argument) = []
 clause_breaches scopes listed (clauses.Plain kind s) = []
 
@@ -180,7 +191,8 @@ after_item listed item = after_clause listed item.clause
 
 -- of a directive and its clauses
 abbrev pub directive_breaches : Scopes → Flow → Directive ExpressionTree → List SourceFault
-directive_breaches scopes flow d = nesting_breaches flow d.name ++ breaches_along (item_breaches scopes) after_item nothing_listed d.clauses
+directive_breaches scopes flow d = nesting_breaches flow d.name ++ breaches_along (item_breaches scopes) after_item
+    nothing_listed d.clauses
 
 -- what all its clauses say
 abbrev pub listed_by : Directive ExpressionTree → Listed
@@ -188,7 +200,8 @@ listed_by d = fold after_item nothing_listed d.clauses
 
 -- the scopes in a construct of a kind whose clauses say this
 abbrev pub in_kind : RegionKind → Listed → Scopes → Scopes
-in_kind kind listed scopes = within listed.copies (record { kind = kind; default = listed.default; shared = listed.shared }) scopes
+in_kind kind listed scopes = within listed.copies
+    (record { kind = kind; default = listed.default; shared = listed.shared }) scopes
 
 abbrev pub in_construct : Directive ExpressionTree → Scopes → Scopes
 in_construct d scopes = in_kind (traits_of d.name).region (listed_by d) scopes

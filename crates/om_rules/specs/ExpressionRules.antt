@@ -1,5 +1,6 @@
 -- The rules of names and expressions, each by the breaches that a tree has of it, in the order of the text.
-use Rattle.std.specs.Prelude.{ℕ, ◌+◌, ◌==◌, List, [], ◌++◌, Option, None, Some, Bool, true, false, codes, nat_lt, nat_eq, if◌then◌else◌, not, ◌&&◌, ◌||◌, is_some, position}
+use Rattle.std.specs.Prelude.{ℕ, ◌+◌, ◌==◌, List, [], ◌++◌, Option, None, Some, Bool, true, false, codes, nat_lt,
+    nat_eq, if◌then◌else◌, not, ◌&&◌, ◌||◌, is_some, position}
 use Rattle.std.specs.Str.{bytes_eq}
 use Rattle.om_lexer.specs.declared.fault.FaultCode.TheVariants as faults
 use Rattle.om_lexer.specs.declared.fault.SourceFault.{SourceFault}
@@ -7,7 +8,8 @@ use Rattle.om_pragma.specs.declared.name.Name as names
 use Rattle.om_pragma.specs.declared.name.Number.{Number}
 use Rattle.om_tree.specs.declared.tree.PrefixOperator.{PrefixOperator}
 use Rattle.om_tree.specs.declared.tree.PrefixOperator.TheVariants as prefixes
-use Rattle.om_tree.specs.Tree.{ExpressionTree, Name, Constant, Text, Paren, Index, Call, Prefix, Postfix, Binary, Conditional, Assign, ArgumentsTree, NoArguments, Argument}
+use Rattle.om_tree.specs.Tree.{ExpressionTree, Name, Constant, Text, Paren, Index, Call, Prefix, Postfix, Binary,
+    Conditional, Assign, ArgumentsTree, NoArguments, Argument}
 use Rattle.om_rules.specs.declared.meaning.Meaning.{Meaning}
 use Rattle.om_rules.specs.declared.meaning.Meaning.TheVariants as meanings
 use Rattle.om_resolved.specs.declared.resolved.Shape.TheVariants as shapes
@@ -33,7 +35,8 @@ is_undeclared scopes name (Some (meanings.Variable variable shape)) = false
 
 -- S7
 abbrev pub undeclared_breaches : Scopes → names.Name → List SourceFault
-undeclared_breaches scopes name = breach_if (is_undeclared scopes name.text (meaning_of scopes name.text)) faults.Undeclared name.span.start
+undeclared_breaches scopes name = breach_if (is_undeclared scopes name.text (meaning_of scopes name.text))
+    faults.Undeclared name.span.start
 
 abbrev pub is_scalar : Option Meaning → Bool
 is_scalar (Some (meanings.Variable variable shapes.Scalar)) = true
@@ -59,7 +62,8 @@ misused_scalar_breaches meaning at = breach_if (not (is_scalar meaning)) faults.
 
 abbrev pub scalar_breaches : Scopes → names.Name → List SourceFault
 scalar_breaches scopes name =
-    undeclared_breaches scopes name ++ misused_scalar_breaches (meaning_of scopes name.text) name.span.start ++ unlisted_breaches scopes name
+    undeclared_breaches scopes name ++ misused_scalar_breaches (meaning_of scopes name.text) name.span.start
+        ++ unlisted_breaches scopes name
 
 -- an array of which a `task` round the place would make a copy
 abbrev pub is_copied_array : Scopes → List ℕ → Bool
@@ -86,7 +90,8 @@ is_miscalled for_value name count None = true
 -- S9 at the name of the called
 abbrev pub call_breaches : Scopes → Bool → names.Name → ℕ → List SourceFault
 call_breaches scopes for_value name count =
-    undeclared_breaches scopes name ++ breach_if (is_miscalled for_value name.text count (meaning_of scopes name.text)) faults.Misuse name.span.start
+    undeclared_breaches scopes name ++ breach_if (is_miscalled for_value name.text count
+        (meaning_of scopes name.text)) faults.Misuse name.span.start
 
 abbrev pub is_printf : Option Meaning → Bool
 is_printf (Some meanings.Printf) = true
@@ -160,41 +165,49 @@ unfoldable mutual
   expression_breaches scopes for_value (Constant n) = constant_breaches n
   expression_breaches scopes for_value (Text t) = breach_if true faults.Misuse t.span.start
   expression_breaches scopes for_value (Paren left e right) = expression_breaches scopes for_value e
-  expression_breaches scopes for_value (Index n left e right) = array_breaches scopes n ++ expression_breaches scopes true e
+  expression_breaches scopes for_value (Index n left e right) = array_breaches scopes n ++ expression_breaches
+      scopes true e
   expression_breaches scopes for_value (Call n left values right) =
       if is_printf (meaning_of scopes n.text)
       then misprint_breaches for_value n values ++ printed_breaches scopes 0 values
       else call_breaches scopes for_value n (argument_count values) ++ arguments_breaches scopes values
-  expression_breaches scopes for_value (Prefix o at e) = if is_step o then target_breaches scopes e else expression_breaches scopes true e
+  expression_breaches scopes for_value (Prefix o at e) = if is_step o then target_breaches scopes e else
+      expression_breaches scopes true e
   expression_breaches scopes for_value (Postfix e o at) = target_breaches scopes e
-  expression_breaches scopes for_value (Binary a o at b) = expression_breaches scopes true a ++ expression_breaches scopes true b
+  expression_breaches scopes for_value (Binary a o at b) = expression_breaches scopes true a ++ expression_breaches
+      scopes true b
   expression_breaches scopes for_value (Conditional c question a colon b) =
       expression_breaches scopes true c ++ expression_breaches scopes true a ++ expression_breaches scopes true b
   expression_breaches scopes for_value (Assign a o at b) = target_breaches scopes a ++ expression_breaches scopes true b
 
   pub arguments_breaches : Scopes → ArgumentsTree → List SourceFault
   arguments_breaches scopes NoArguments = []
-  arguments_breaches scopes (Argument comma e rest) = expression_breaches scopes true e ++ arguments_breaches scopes rest
+  arguments_breaches scopes (Argument comma e rest) = expression_breaches scopes true e ++ arguments_breaches scopes
+      rest
 
-  -- of the arguments of a `printf` from a place on, at the first of which the format stands; S11 at the first token of a value too many
+  -- of the arguments of a `printf` from a place on, at the first of which the format stands; S11 at the first
+  -- token of a value too many
   pub printed_breaches : Scopes → ℕ → ArgumentsTree → List SourceFault
   printed_breaches scopes place NoArguments = []
   printed_breaches scopes place (Argument comma e rest) =
-      (if place == 0 then [] else perhaps_with (nat_lt PRINTED_LIMIT place) faults.TooMany (expression_start e) (expression_breaches scopes true e))
+      (if place == 0 then [] else perhaps_with (nat_lt PRINTED_LIMIT place) faults.TooMany (expression_start e)
+          (expression_breaches scopes true e))
       ++ printed_breaches scopes (place + 1) rest
 
   -- S9: what is assigned to is such (C17 6.5.16p2)
   pub target_breaches : Scopes → ExpressionTree → List SourceFault
   target_breaches scopes (Name n) = scalar_breaches scopes n
   target_breaches scopes (Index n left e right) = array_breaches scopes n ++ expression_breaches scopes true e
-  target_breaches scopes (Paren left e right) = if is_target e then target_breaches scopes e else misplaced_breaches scopes (Paren left e right)
+  target_breaches scopes (Paren left e right) = if is_target e then target_breaches scopes e else misplaced_breaches
+      scopes (Paren left e right)
   target_breaches scopes (Text t) = misplaced_breaches scopes (Text t)
   target_breaches scopes (Constant n) = misplaced_breaches scopes (Constant n)
   target_breaches scopes (Call n left values right) = misplaced_breaches scopes (Call n left values right)
   target_breaches scopes (Prefix o at e) = misplaced_breaches scopes (Prefix o at e)
   target_breaches scopes (Postfix e o at) = misplaced_breaches scopes (Postfix e o at)
   target_breaches scopes (Binary a o at b) = misplaced_breaches scopes (Binary a o at b)
-  target_breaches scopes (Conditional c question a colon b) = misplaced_breaches scopes (Conditional c question a colon b)
+  target_breaches scopes (Conditional c question a colon b) = misplaced_breaches scopes
+      (Conditional c question a colon b)
   target_breaches scopes (Assign a o at b) = misplaced_breaches scopes (Assign a o at b)
 
 -- of an operator before its operand
@@ -203,7 +216,8 @@ prefix_breaches scopes o e = if is_step o then target_breaches scopes e else exp
 
 -- of a call of another function than `printf`
 abbrev pub own_call_breaches : Scopes → Bool → names.Name → ArgumentsTree → List SourceFault
-own_call_breaches scopes for_value n values = call_breaches scopes for_value n (argument_count values) ++ arguments_breaches scopes values
+own_call_breaches scopes for_value n values = call_breaches scopes for_value n (argument_count values)
+    ++ arguments_breaches scopes values
 
 -- of a call of `printf`
 abbrev pub print_breaches : Scopes → Bool → names.Name → ArgumentsTree → List SourceFault
@@ -212,7 +226,8 @@ print_breaches scopes for_value n values = misprint_breaches for_value n values 
 -- of an argument of a `printf` at a place
 abbrev pub argument_breaches : Scopes → ℕ → ExpressionTree → List SourceFault
 argument_breaches scopes place e =
-    if place == 0 then [] else perhaps_with (nat_lt PRINTED_LIMIT place) faults.TooMany (expression_start e) (expression_breaches scopes true e)
+    if place == 0 then [] else perhaps_with (nat_lt PRINTED_LIMIT place) faults.TooMany (expression_start e)
+        (expression_breaches scopes true e)
 
 -- of an element of an array
 abbrev pub element_breaches : Scopes → names.Name → ExpressionTree → List SourceFault
@@ -220,4 +235,5 @@ element_breaches scopes n e = array_breaches scopes n ++ expression_breaches sco
 
 -- of a call
 abbrev pub called_breaches : Scopes → Bool → names.Name → ArgumentsTree → List SourceFault
-called_breaches scopes for_value n values = if is_printf (meaning_of scopes n.text) then print_breaches scopes for_value n values else own_call_breaches scopes for_value n values
+called_breaches scopes for_value n values = if is_printf (meaning_of scopes n.text) then print_breaches scopes
+    for_value n values else own_call_breaches scopes for_value n values

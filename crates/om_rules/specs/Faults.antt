@@ -1,5 +1,6 @@
 -- Breaches of rules, and where they stand.
-use Rattle.std.specs.Prelude.{ℕ, List, [], ◌∷◌, ◌++◌, ◌&&◌, ◌||◌, nat_lt, nat_le, nat_eq, Option, None, Some, Bool, true, if◌then◌else◌}
+use Rattle.std.specs.Prelude.{ℕ, List, [], ◌∷◌, ◌++◌, ◌&&◌, ◌||◌, nat_lt, nat_le, nat_eq, Option, None, Some, Bool,
+    true, if◌then◌else◌}
 use Rattle.om_lexer.specs.Faults.{number_of}
 use Rattle.om_lexer.specs.declared.fault.FaultCode.{FaultCode}
 use Rattle.om_lexer.specs.declared.fault.FaultCode.TheVariants as faults
@@ -21,7 +22,8 @@ goes_first a b = nat_lt a.at b.at || (nat_eq a.at b.at && nat_le (number_of a.co
 -- a further breach among others, in the order in which they are answered
 abbrev pub with_breach : SourceFault → List SourceFault → List SourceFault
 with_breach b [] = b ∷ []
-with_breach b (breach ∷ breaches) = if goes_first breach b then breach ∷ with_breach b breaches else b ∷ breach ∷ breaches
+with_breach b (breach ∷ breaches) = if goes_first breach b then breach ∷ with_breach b breaches else b ∷ breach
+    ∷ breaches
 
 -- what is answered of a part that has this fault, or none, and in which a further rule is broken
 abbrev pub answered_among : Option SourceFault → SourceFault → SourceFault
@@ -30,7 +32,8 @@ answered_among (Some fault) b = if goes_first fault b then fault else b
 
 -- a further breach at a place, where there is one, among others
 abbrev pub perhaps_with : Bool → FaultCode → ℕ → List SourceFault → List SourceFault
-perhaps_with broken code at breaches = if broken then with_breach (record { code = code; at = at }) breaches else breaches
+perhaps_with broken code at breaches = if broken then with_breach (record { code = code; at = at }) breaches else
+    breaches
 
 -- S3 at the first token of an unsupported form; nothing else of it is looked at
 abbrev pub untaken_breaches : ℕ → List SourceFault

@@ -1,6 +1,7 @@
 -- The formats of `printf` (C17 7.21.6.1): `%d` takes a value, `%%` none, and there is no other conversion.
 use Rattle.std.specs.Prelude.{ℕ, ◌-◌, ◌==◌, List, Bool, false, fold, if◌then◌else◌}
-use Rattle.om_tree.specs.Tree.{ExpressionTree, Name, Constant, Text, Paren, Index, Call, Prefix, Postfix, Binary, Conditional, Assign}
+use Rattle.om_tree.specs.Tree.{ExpressionTree, Name, Constant, Text, Paren, Index, Call, Prefix, Postfix, Binary,
+    Conditional, Assign}
 use Rattle.om_rules.specs.declared.reading.Reading.{Reading}
 use Rattle.om_rules.specs.declared.reading.Reading.TheVariants as readings
 
@@ -11,7 +12,8 @@ with_value left = if left == 0 then readings.Wrong else readings.Text (left - 1)
 -- a character of a format
 abbrev pub after_character : Reading → ℕ → Reading
 after_character (readings.Text left) c = if c == 37 then readings.Conversion left else readings.Text left
-after_character (readings.Conversion left) c = if c == 100 then with_value left else if c == 37 then readings.Text left else readings.Wrong
+after_character (readings.Conversion left) c = if c == 100 then with_value left else if c == 37 then readings.Text
+    left else readings.Wrong
 after_character readings.Wrong c = readings.Wrong
 
 abbrev pub is_whole : Reading → Bool

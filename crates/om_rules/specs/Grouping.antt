@@ -1,6 +1,7 @@
 -- The items of `sections` in their parts (OpenMP API 5.2, section 11.3).
 use Rattle.std.specs.Prelude.{List, [], ◌∷◌, ◌++◌, Bool, true, false}
-use Rattle.om_resolved.specs.ResolvedTree.{ResolvedStatementTree, ResolvedStatementsTree, NoStatements, Statement, ResolvedPartsTree, NoParts, Part}
+use Rattle.om_resolved.specs.ResolvedTree.{ResolvedStatementTree, ResolvedStatementsTree, NoStatements, Statement,
+    ResolvedPartsTree, NoParts, Part}
 
 pub record Grouped : Type 0 where
   -- those that go on with a part that begins before them
@@ -27,7 +28,8 @@ with_last s NoStatements = Statement s NoStatements
 with_last s (Statement first rest) = Statement first (with_last s rest)
 
 -- an item behind those of parts: it begins a part, or goes on with the last one
-abbrev pub with_item : (begins : Bool) → ResolvedStatementTree → List ResolvedStatementsTree → List ResolvedStatementsTree
+abbrev pub with_item : (begins : Bool) → ResolvedStatementTree → List ResolvedStatementsTree
+    → List ResolvedStatementsTree
 with_item true s parts = parts ++ Statement s NoStatements ∷ []
 with_item false s [] = []
 with_item false s (items ∷ []) = with_last s items ∷ []

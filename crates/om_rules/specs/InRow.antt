@@ -1,12 +1,14 @@
 -- Parts in a row, as a loop goes through them: matter of proofs, for whoever checks and resolves part after part.
-use Rattle.std.proofs.Common.{◌≡◌, List, [], ◌∷◌, ◌++◌, append_assoc, Option, None, Some, fold, option_map, refl, sym, ap, ◌∙◌}
+use Rattle.std.proofs.Common.{◌≡◌, List, [], ◌∷◌, ◌++◌, append_assoc, Option, None, Some, fold, option_map, refl,
+    sym, ap, ◌∙◌}
 use Rattle.om_lexer.specs.declared.fault.SourceFault.{SourceFault}
 use Rattle.om_rules.specs.Faults.{breaches_along, first_of}
 use Rattle.om_rules.specs.Outcomes.{Refuses}
 use Rattle.om_rules.specs.Perhaps.{◌>>=◌, all_along, all_of, each, each_along}
 
 -- the first breach of the first part that has one
-pub first_of_left : (xs ys : List SourceFault) (fault : SourceFault) → first_of xs ≡ Some fault → first_of (xs ++ ys) ≡ Some fault
+pub first_of_left : (xs ys : List SourceFault) (fault : SourceFault) → first_of xs ≡ Some fault
+    → first_of (xs ++ ys) ≡ Some fault
 first_of_left [] ys fault e = cc
 first_of_left (x ∷ xs) ys fault e = e
 
@@ -27,9 +29,11 @@ module _ {S X : Type 0} (breaches : S → X → List SourceFault) (after : S →
   }
 
   pub unbroken-refuse : {start : S} {all : List X} {state : S} {x : X} {left : List X} {fault : SourceFault}
-      → Unbroken start all state (x ∷ left) → Refuses (breaches state x) fault → Refuses (breaches_along breaches after start all) fault
+      → Unbroken start all state (x ∷ left) → Refuses (breaches state x) fault
+          → Refuses (breaches_along breaches after start all) fault
   unbroken-refuse {start} {all} {state} {x} {left} {fault} l refused other =
-      ap first_of l.unbroken ∙ first_of_left (breaches state x) (breaches_along breaches after (after state x) left) fault (refused other)
+      ap first_of l.unbroken ∙ first_of_left (breaches state x) (breaches_along breaches after (after state x) left)
+          fault (refused other)
 
 -- what is made so far, and behind it what the parts that are left give
 abbrev pub made_and : {Y : Type 0} → List Y → Option (List Y) → Option (List Y)
@@ -59,7 +63,8 @@ more_made made grown (Some front) rest e =
     front_made made front rest ∙ ap (λ done. made_and done rest) same
 
 -- one more, where there is one
-next_made : {Y : Type 0} (made grown : List Y) (next : Option Y) (rest : Option (List Y)) → option_map (λ y. made ++ y ∷ []) next ≡ Some grown
+next_made : {Y : Type 0} (made grown : List Y) (next : Option Y) (rest : Option (List Y))
+    → option_map (λ y. made ++ y ∷ []) next ≡ Some grown
     → made_and made (next >>= λ y. rest >>= λ ys. Some (y ∷ ys)) ≡ made_and grown rest
 next_made made grown None rest e = cc
 next_made made grown (Some y) rest e =
@@ -67,13 +72,17 @@ next_made made grown (Some y) rest e =
     one_made made y rest ∙ ap (λ done. made_and done rest) same
 
 module _ {S X Y : Type 0} (after : S → X → S) where
-  pub each_along-step : (f : S → X → Option Y) (state : S) (x : X) (left : List X) (made grown : List Y) → option_map (λ y. made ++ y ∷ []) (f state x) ≡ Some grown
+  pub each_along-step : (f : S → X → Option Y) (state : S) (x : X) (left : List X) (made grown : List Y)
+      → option_map (λ y. made ++ y ∷ []) (f state x) ≡ Some grown
       → made_and made (each_along f after state (x ∷ left)) ≡ made_and grown (each_along f after (after state x) left)
-  each_along-step f state x left made grown found = next_made made grown (f state x) (each_along f after (after state x) left) found
+  each_along-step f state x left made grown found = next_made made grown (f state x)
+      (each_along f after (after state x) left) found
 
-  pub all_along-step : (f : S → X → Option (List Y)) (state : S) (x : X) (left : List X) (made grown : List Y) → made_and made (f state x) ≡ Some grown
+  pub all_along-step : (f : S → X → Option (List Y)) (state : S) (x : X) (left : List X) (made grown : List Y)
+      → made_and made (f state x) ≡ Some grown
       → made_and made (all_along f after state (x ∷ left)) ≡ made_and grown (all_along f after (after state x) left)
-  all_along-step f state x left made grown found = more_made made grown (f state x) (all_along f after (after state x) left) found
+  all_along-step f state x left made grown found = more_made made grown (f state x)
+      (all_along f after (after state x) left) found
 
 module _ {X Y : Type 0} where
   pub each-step : (f : X → Option Y) (x : X) (left : List X) (made : List Y) (y : Y) → f x ≡ Some y
@@ -81,6 +90,7 @@ module _ {X Y : Type 0} where
   each-step f x left made y found =
       ap (λ one. made_and made (one >>= λ y. each f left >>= λ ys. Some (y ∷ ys))) found ∙ one_made made y (each f left)
 
-  pub all_of-step : (f : X → Option (List Y)) (x : X) (left : List X) (made grown : List Y) → made_and made (f x) ≡ Some grown
+  pub all_of-step : (f : X → Option (List Y)) (x : X) (left : List X) (made grown : List Y) → made_and made (f x)
+      ≡ Some grown
       → made_and made (all_of f (x ∷ left)) ≡ made_and grown (all_of f left)
   all_of-step f x left made grown found = more_made made grown (f x) (all_of f left) found

@@ -1,5 +1,6 @@
 -- Canonical loops (OpenMP API 5.2, section 4.4.1).
-use Rattle.std.specs.Prelude.{ℕ, ℤ, pos, ◌-ℤ◌, List, [], ◌∷◌, Option, None, Some, Bool, true, false, ◌&&◌, not, nat_lt, nat_le, if◌then◌else◌}
+use Rattle.std.specs.Prelude.{ℕ, ℤ, pos, ◌-ℤ◌, List, [], ◌∷◌, Option, None, Some, Bool, true, false, ◌&&◌, not,
+    nat_lt, nat_le, if◌then◌else◌}
 use Rattle.std.specs.Str.{bytes_eq}
 use Rattle.om_lexer.specs.declared.token.Span.{Span}
 use Rattle.om_pragma.specs.declared.name.Name as names
@@ -12,7 +13,10 @@ use Rattle.om_tree.specs.declared.tree.PostfixOperator.{PostfixOperator}
 use Rattle.om_tree.specs.declared.tree.PostfixOperator.TheVariants as postfixes
 use Rattle.om_tree.specs.declared.tree.PrefixOperator.{PrefixOperator}
 use Rattle.om_tree.specs.declared.tree.PrefixOperator.TheVariants as prefixes
-use Rattle.om_tree.specs.Tree.{ExpressionTree, Name, Constant, Text, Paren, Index, Call, Prefix, Postfix, Binary, Conditional, Assign, InitializerTree, DeclaratorTree, ForStartTree, Nothing, StartExpression, StartDeclaration, ForHeadTree, StatementTree, LocalDeclaration, Block, Empty, Expression, If, IfElse, While, Do, For, Return, Break, Continue, Construct, StandAlone, Sections, Section}
+use Rattle.om_tree.specs.Tree.{ExpressionTree, Name, Constant, Text, Paren, Index, Call, Prefix, Postfix, Binary,
+    Conditional, Assign, InitializerTree, DeclaratorTree, ForStartTree, Nothing, StartExpression, StartDeclaration,
+    ForHeadTree, StatementTree, LocalDeclaration, Block, Empty, Expression, If, IfElse, While, Do, For, Return,
+    Break, Continue, Construct, StandAlone, Sections, Section}
 use Rattle.om_rules.specs.declared.direction.Direction.{Direction}
 use Rattle.om_rules.specs.declared.direction.Direction.TheVariants as directions
 use Rattle.om_rules.specs.declared.direction.Step.{Step}
@@ -56,7 +60,8 @@ one_step direction = record { direction = direction; value = signed direction 1 
 
 -- a step of 1 or more
 abbrev pub step_of : Direction → ℕ → Option Step
-step_of direction value = if nat_lt 0 value && nat_le value 2147483647 then Some (record { direction = direction; value = signed direction value }) else None
+step_of direction value = if nat_lt 0 value && nat_le value 2147483647 then Some
+    (record { direction = direction; value = signed direction value }) else None
 
 -- the step by an expression, which is a constant
 abbrev pub stride_in : Direction → ExpressionTree → Option Step
@@ -176,7 +181,8 @@ postfix_step postfixes.Decrement = one_step directions.Down
 
 -- `i + c` or `c + i`
 abbrev pub added_step : ExpressionTree → ExpressionTree → List ℕ → Option Step
-added_step a b name = if is_named a name then stride_in directions.Up b else (if is_named b name then stride_in directions.Up a else None)
+added_step a b name = if is_named a name then stride_in directions.Up b else (if is_named b name then stride_in
+    directions.Up a else None)
 
 -- `i - c`
 abbrev pub subtracted_step : ExpressionTree → ExpressionTree → List ℕ → Option Step

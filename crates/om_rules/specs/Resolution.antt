@@ -7,7 +7,8 @@ use Rattle.om_tree.specs.declared.tree.AssignOperator.TheVariants as assigns
 use Rattle.om_tree.specs.declared.tree.PostfixOperator.{PostfixOperator}
 use Rattle.om_tree.specs.declared.tree.PrefixOperator.{PrefixOperator}
 use Rattle.om_tree.specs.declared.tree.PrefixOperator.TheVariants as prefixes
-use Rattle.om_tree.specs.Tree.{ExpressionTree, Name, Constant, Text, Paren, Index, Call, Prefix, Postfix, Binary, Conditional, Assign, ArgumentsTree, NoArguments, Argument}
+use Rattle.om_tree.specs.Tree.{ExpressionTree, Name, Constant, Text, Paren, Index, Call, Prefix, Postfix, Binary,
+    Conditional, Assign, ArgumentsTree, NoArguments, Argument}
 use Rattle.om_pragma.specs.declared.name.Name as names
 use Rattle.om_resolved.specs.declared.resolved.UnaryOperator.TheVariants as unaries
 use Rattle.om_resolved.specs.declared.resolved.Variable.{Variable}
@@ -45,9 +46,11 @@ stepped (Scalar variable) o = resolved.Postfix variable o
 stepped (ElementOf variable index) o = resolved.PostfixElement variable index o
 
 -- `++x` is `x += 1` (C17 6.5.3.1p2)
-abbrev pub prefixed : PrefixOperator → (target : Option TargetTree) → (operand : Option ResolvedExpressionTree) → Option ResolvedExpressionTree
+abbrev pub prefixed : PrefixOperator → (target : Option TargetTree) → (operand : Option ResolvedExpressionTree)
+    → Option ResolvedExpressionTree
 prefixed prefixes.Increment target operand = target >>= λ t. Some (assigned t assigns.Add (resolved.Constant (pos 1)))
-prefixed prefixes.Decrement target operand = target >>= λ t. Some (assigned t assigns.Subtract (resolved.Constant (pos 1)))
+prefixed prefixes.Decrement target operand = target >>= λ t. Some
+    (assigned t assigns.Subtract (resolved.Constant (pos 1)))
 prefixed prefixes.Plus target operand = operand >>= λ e. Some (resolved.Unary unaries.Plus e)
 prefixed prefixes.Minus target operand = operand >>= λ e. Some (resolved.Unary unaries.Negate e)
 prefixed prefixes.Not target operand = operand >>= λ e. Some (resolved.Unary unaries.Not e)

@@ -1,5 +1,6 @@
 -- Names, what they are declared as, and where that is seen (C17 6.2.1).
-use Rattle.std.specs.Prelude.{ℕ, ◌+◌, List, [], ◌∷◌, ◌++◌, Option, None, Some, Bool, codes, fold, length, map, is_some, Vec, true, false, if◌then◌else◌, nat_eq, ◌&&◌, not}
+use Rattle.std.specs.Prelude.{ℕ, ◌+◌, List, [], ◌∷◌, ◌++◌, Option, None, Some, Bool, codes, fold, length, map,
+    is_some, Vec, true, false, if◌then◌else◌, nat_eq, ◌&&◌, not}
 use Rattle.std.specs.List.{list_any}
 use Rattle.std.specs.Map.{lookup}
 use Rattle.std.specs.Option.{option_or}
@@ -11,7 +12,8 @@ use Rattle.om_pragma.specs.declared.name.Name as names
 use Rattle.om_tree.specs.declared.tree.Parameter.{Parameter}
 use Rattle.om_tree.specs.declared.tree.ResultType.{ResultType}
 use Rattle.om_tree.specs.declared.tree.ResultType.TheVariants as results
-use Rattle.om_tree.specs.Tree.{DeclaratorTree, DeclarationTree, ParametersTree, NoParameters, Void, Listed, HeadTree, ItemTree, Declaration, Prototype, Function}
+use Rattle.om_tree.specs.Tree.{DeclaratorTree, DeclarationTree, ParametersTree, NoParameters, Void, Listed,
+    HeadTree, ItemTree, Declaration, Prototype, Function}
 use Rattle.om_resolved.specs.declared.resolved.Variable.TheVariants as variables
 use Rattle.om_rules.specs.declared.meaning.Meaning.{Meaning}
 use Rattle.om_rules.specs.declared.meaning.Meaning.TheVariants as meanings
@@ -84,7 +86,8 @@ with_bindings scopes bindings = record {
 
 -- the scopes once a name is declared as a variable of a function, which is known by where it is declared
 abbrev pub with_local : Scopes → names.Name → Shape → Scopes
-with_local scopes name shape = with_bindings scopes ((name.text, meanings.Variable (variables.Local name.span.start) shape) ∷ [])
+with_local scopes name shape = with_bindings scopes
+    ((name.text, meanings.Variable (variables.Local name.span.start) shape) ∷ [])
 
 abbrev pub with_function : Scopes → List ℕ → Signature → Scopes
 with_function scopes name signature = with_bindings scopes ((name, meanings.Function signature) ∷ [])
@@ -167,12 +170,14 @@ predeclared = codes "printf" ∷ codes "omp_get_thread_num" ∷ codes "omp_get_n
 
 -- no name is declared yet, in a source that defines these functions
 abbrev pub nothing_declared : List (List ℕ) → Scopes
-nothing_declared definitions = record { inner = []; outer = []; globals = 0; cells = 0; definitions = definitions; defined = [] }
+nothing_declared definitions = record { inner = []; outer = []; globals = 0; cells = 0; definitions = definitions;
+    defined = [] }
 
 -- what is in scope where a source begins that defines these functions besides
 abbrev pub file_scope : List (List ℕ) → Scopes
 file_scope definitions = record {
-  inner = (codes "printf", meanings.Printf) ∷ (codes "omp_get_thread_num", meanings.Function asks) ∷ (codes "omp_get_num_threads", meanings.Function asks) ∷ [];
+  inner = (codes "printf", meanings.Printf) ∷ (codes "omp_get_thread_num", meanings.Function asks)
+      ∷ (codes "omp_get_num_threads", meanings.Function asks) ∷ [];
   outer = [];
   globals = 0;
   cells = 0;
@@ -242,7 +247,8 @@ after_parameters scopes parameters = fold after_parameter scopes parameters
 
 -- the scopes behind a function's declaration, which may repeat an earlier one
 abbrev pub after_prototype : Scopes → HeadTree → Scopes
-after_prototype scopes head = if is_declared scopes head.name.text then scopes else with_function scopes head.name.text (signature_of head)
+after_prototype scopes head = if is_declared scopes head.name.text then scopes else with_function scopes
+    head.name.text (signature_of head)
 
 -- and behind its definition
 abbrev pub after_function : Scopes → HeadTree → Scopes

@@ -2,7 +2,10 @@
 use Rattle.std.specs.Prelude.{ℕ, List, [], ◌∷◌, Option, None, Some, Bool, true, option_map, not, if◌then◌else◌}
 use Rattle.om_lexer.specs.declared.token.Span.{Span}
 use Rattle.om_tree.specs.declared.tree.ArrayLength.{ArrayLength}
-use Rattle.om_tree.specs.Tree.{ExpressionTree, InitializerTree, DeclaratorTree, ForStartTree, Nothing, StartExpression, StartDeclaration, ForHeadTree, StatementTree, LocalDeclaration, Block, Empty, Expression, If, IfElse, While, Do, For, Return, Break, Continue, Construct, StandAlone, Sections, Section, StatementsTree, NoStatements, Statement}
+use Rattle.om_tree.specs.Tree.{ExpressionTree, InitializerTree, DeclaratorTree, ForStartTree, Nothing,
+    StartExpression, StartDeclaration, ForHeadTree, StatementTree, LocalDeclaration, Block, Empty, Expression, If,
+    IfElse, While, Do, For, Return, Break, Continue, Construct, StandAlone, Sections, Section, StatementsTree,
+    NoStatements, Statement}
 use Rattle.om_pragma.specs.declared.clause.Clause.{Clause}
 use Rattle.om_pragma.specs.declared.clause.Clause.TheVariants as clauses
 use Rattle.om_pragma.specs.declared.clause.ClauseItem.{ClauseItem}
@@ -35,11 +38,13 @@ use Rattle.om_rules.specs.Perhaps.{◌>>=◌, perhaps, each, each_along, all_of}
 use Rattle.om_rules.specs.Places.{expression_first, statement_first}
 use Rattle.om_rules.specs.Resolution.{resolved_expression, variable_named}
 use Rattle.om_resolved.specs.ResolvedTree as resolved
-use Rattle.om_resolved.specs.ResolvedTree.{ResolvedDeclaratorTree, ResolvedClauseTree, ResolvedLoopTree, ResolvedStartTree, ResolvedUpdateTree, ResolvedStatementTree, ResolvedStatementsTree, ResolvedPartsTree}
+use Rattle.om_resolved.specs.ResolvedTree.{ResolvedDeclaratorTree, ResolvedClauseTree, ResolvedLoopTree,
+    ResolvedStartTree, ResolvedUpdateTree, ResolvedStatementTree, ResolvedStatementsTree, ResolvedPartsTree}
 use Rattle.om_rules.specs.Scopes.{Scopes, inside, declarators_of, after_local}
 use Rattle.om_rules.specs.Sharing.{is_parallel}
 use Rattle.om_rules.specs.Updates.{statement_side, update_of}
-use Rattle.om_rules.specs.StatementRules.{after_for_start, after_statement, begins_part, in_loop, parts_behind, round_bounds, with_iteration}
+use Rattle.om_rules.specs.StatementRules.{after_for_start, after_statement, begins_part, in_loop, parts_behind,
+    round_bounds, with_iteration}
 
 -- ---- declarations
 
@@ -80,10 +85,13 @@ kind_of lists.Private = Some copies.Private
 kind_of lists.Firstprivate = Some copies.Firstprivate
 
 unfoldable pub resolved_clause : Scopes → Clause ExpressionTree → Option (List ResolvedClauseTree)
-resolved_clause scopes (clauses.Value kind s v) = resolved_expression scopes v.expression >>= λ e. Some (resolved.ClauseValue kind e ∷ [])
+resolved_clause scopes (clauses.Value kind s v) = resolved_expression scopes v.expression >>= λ e. Some
+    (resolved.ClauseValue kind e ∷ [])
 resolved_clause scopes (clauses.Default s argument) = Some []
-resolved_clause scopes (clauses.Data sharing s list) = each (resolved_listed (kind_of sharing) scopes) (names_in list.first list.rest)
-resolved_clause scopes (clauses.Reduction s r) = each (resolved_listed (Some (copies.Reduction r.operator)) scopes) (names_in r.first r.rest)
+resolved_clause scopes (clauses.Data sharing s list) = each (resolved_listed (kind_of sharing) scopes)
+    (names_in list.first list.rest)
+resolved_clause scopes (clauses.Reduction s r) = each (resolved_listed (Some (copies.Reduction r.operator)) scopes)
+    (names_in r.first r.rest)
 resolved_clause scopes (clauses.Schedule s argument) = Some []
 resolved_clause scopes (clauses.Plain kind s) = Some []
 
@@ -120,11 +128,13 @@ has_nowait d = has_clause kinds.Nowait d
 abbrev pub has_default : Directive ExpressionTree → Bool
 has_default d = has_clause kinds.Default d
 
-abbrev pub parallel_of : Directive ExpressionTree → List ResolvedClauseTree → ResolvedStatementTree → ResolvedStatementTree
+abbrev pub parallel_of : Directive ExpressionTree → List ResolvedClauseTree → ResolvedStatementTree
+    → ResolvedStatementTree
 parallel_of d cs body = resolved.Parallel d.hash cs (captures_of taken_by_parallel d.hash.start cs body) body
 
 -- in the innermost `parallel` that begins there
-abbrev pub task_of : Option ℕ → Directive ExpressionTree → List ResolvedClauseTree → ResolvedStatementTree → ResolvedStatementTree
+abbrev pub task_of : Option ℕ → Directive ExpressionTree → List ResolvedClauseTree → ResolvedStatementTree
+    → ResolvedStatementTree
 task_of parallel d cs body =
     let taking = taken_by_task (has_default d) parallel (listed_variables d.hash.start cs) in
     resolved.Task d.hash cs (captures_of taking d.hash.start cs body) body
@@ -137,20 +147,24 @@ abbrev pub with_update : Span → Option ResolvedUpdateTree → ResolvedStatemen
 with_update at None = resolved.Empty at
 with_update at (Some update) = resolved.Update at update
 
-abbrev pub atomic_of : AtomicKind → Side → Span → List ResolvedClauseTree → ResolvedStatementTree → ResolvedStatementTree
+abbrev pub atomic_of : AtomicKind → Side → Span → List ResolvedClauseTree → ResolvedStatementTree
+    → ResolvedStatementTree
 atomic_of atomics.Update side at cs body = with_update at (update_of side body)
 atomic_of atomics.Read side at cs body = resolved.Construct at constructs.Atomic cs body
 atomic_of atomics.Write side at cs body = resolved.Construct at constructs.Atomic cs body
 
 -- a directive that is no construct for one statement leaves its statement as it is
-unfoldable pub construct_of : Option ℕ → Side → Directive ExpressionTree → DirectiveName → List ResolvedClauseTree → ResolvedStatementTree → ResolvedStatementTree
+unfoldable pub construct_of : Option ℕ → Side → Directive ExpressionTree → DirectiveName → List ResolvedClauseTree
+    → ResolvedStatementTree → ResolvedStatementTree
 construct_of parallel side d (directives.Parallel s) cs body = parallel_of d cs body
 construct_of parallel side d (directives.Task s) cs body = task_of parallel d cs body
 construct_of parallel side d (directives.Taskgroup s) cs body = resolved.Construct d.hash constructs.Taskgroup cs body
-construct_of parallel side d (directives.Single s) cs body = resolved.Construct d.hash (constructs.Single (has_nowait d)) cs body
+construct_of parallel side d (directives.Single s) cs body = resolved.Construct d.hash
+    (constructs.Single (has_nowait d)) cs body
 construct_of parallel side d (directives.Masked s) cs body = resolved.Construct d.hash constructs.Masked cs body
 construct_of parallel side d (directives.Master s) cs body = resolved.Construct d.hash constructs.Masked cs body
-construct_of parallel side d (directives.Critical s name) cs body = resolved.Construct d.hash (constructs.Critical (critical_name name)) cs body
+construct_of parallel side d (directives.Critical s name) cs body = resolved.Construct d.hash
+    (constructs.Critical (critical_name name)) cs body
 construct_of parallel side d (directives.Atomic s) cs body = atomic_of (atomic_kind d) side d.hash cs body
 construct_of parallel side d (directives.For s) cs body = body
 construct_of parallel side d (directives.Sections s) cs body = body
@@ -163,14 +177,16 @@ construct_of parallel side d (directives.Taskyield s) cs body = body
 construct_of parallel side d (directives.Flush s list) cs body = body
 
 -- the clauses of a `parallel for` belong to its `parallel`, at whose end its loop's threads wait for each other
-abbrev pub loop_construct_of : Directive ExpressionTree → List ResolvedClauseTree → ResolvedLoopTree → ResolvedStatementTree → ResolvedStatementTree
+abbrev pub loop_construct_of : Directive ExpressionTree → List ResolvedClauseTree → ResolvedLoopTree
+    → ResolvedStatementTree → ResolvedStatementTree
 loop_construct_of d cs l body =
     if is_parallel (traits_of d.name).region
     then parallel_of d cs (resolved.Loop d.hash [] true l body)
     else resolved.Loop d.hash cs (has_nowait d) l body
 
 -- the same of a `parallel sections`
-abbrev pub sections_construct_of : Directive ExpressionTree → List ResolvedClauseTree → ResolvedPartsTree → ResolvedStatementTree
+abbrev pub sections_construct_of : Directive ExpressionTree → List ResolvedClauseTree → ResolvedPartsTree
+    → ResolvedStatementTree
 sections_construct_of d cs parts =
     if is_parallel (traits_of d.name).region
     then parallel_of d cs (resolved.Sections d.hash [] true parts)
@@ -200,8 +216,10 @@ resolved_loop scopes schedule found = do
 
 unfoldable pub resolved_start : Scopes → ForStartTree → Option ResolvedStartTree
 resolved_start scopes (Nothing semicolon) = Some resolved.StartNothing
-resolved_start scopes (StartExpression e semicolon) = resolved_expression scopes e >>= λ x. Some (resolved.StartExpression x)
-resolved_start scopes (StartDeclaration d) = resolved_declarators scopes (declarators_of d) >>= λ ds. Some (resolved.StartDeclaration ds)
+resolved_start scopes (StartExpression e semicolon) = resolved_expression scopes e >>= λ x. Some
+    (resolved.StartExpression x)
+resolved_start scopes (StartDeclaration d) = resolved_declarators scopes (declarators_of d) >>= λ ds. Some
+    (resolved.StartDeclaration ds)
 
 abbrev pub resolved_perhaps : Scopes → Option ExpressionTree → Option (Option resolved.ResolvedExpressionTree)
 resolved_perhaps scopes e = perhaps (resolved_expression scopes) e
@@ -216,7 +234,8 @@ abbrev pub resolved_alone : Scopes → Directive ExpressionTree → DirectiveNam
 resolved_alone scopes d (directives.Barrier s) = Some (resolved.StandAlone d.hash alones.Barrier)
 resolved_alone scopes d (directives.Taskwait s) = Some (resolved.StandAlone d.hash alones.Taskwait)
 resolved_alone scopes d (directives.Taskyield s) = Some (resolved.StandAlone d.hash alones.Taskyield)
-resolved_alone scopes d (directives.Flush s list) = flushed scopes list >>= λ vs. Some (resolved.StandAlone d.hash (alones.Flush vs))
+resolved_alone scopes d (directives.Flush s list) = flushed scopes list >>= λ vs. Some
+    (resolved.StandAlone d.hash (alones.Flush vs))
 resolved_alone scopes d (directives.Parallel s) = Some (resolved.Empty d.hash)
 resolved_alone scopes d (directives.For s) = Some (resolved.Empty d.hash)
 resolved_alone scopes d (directives.Sections s) = Some (resolved.Empty d.hash)
@@ -234,10 +253,13 @@ resolved_alone scopes d (directives.Taskgroup s) = Some (resolved.Empty d.hash)
 -- in the innermost `parallel` that begins there
 unfoldable mutual
   pub resolved_statement : Scopes → Option ℕ → StatementTree → Option ResolvedStatementTree
-  resolved_statement scopes parallel (LocalDeclaration d) = resolved_declarators scopes (declarators_of d) >>= λ ds. Some (resolved.Declaration d.int ds)
-  resolved_statement scopes parallel (Block left items right) = resolved_statements (inside scopes) parallel items >>= λ ss. Some (resolved.Block left ss)
+  resolved_statement scopes parallel (LocalDeclaration d) = resolved_declarators scopes (declarators_of d) >>= λ ds.
+      Some (resolved.Declaration d.int ds)
+  resolved_statement scopes parallel (Block left items right) = resolved_statements (inside scopes) parallel items
+      >>= λ ss. Some (resolved.Block left ss)
   resolved_statement scopes parallel (Empty semicolon) = Some (resolved.Empty semicolon)
-  resolved_statement scopes parallel (Expression e semicolon) = resolved_expression scopes e >>= λ x. Some (resolved.Expression (expression_first e) x)
+  resolved_statement scopes parallel (Expression e semicolon) = resolved_expression scopes e >>= λ x. Some
+      (resolved.Expression (expression_first e) x)
   resolved_statement scopes parallel (If at c s) = do
     x ← resolved_expression scopes c.value
     branch ← resolved_statement (inside scopes) parallel s
@@ -261,16 +283,19 @@ unfoldable mutual
     step ← resolved_perhaps (after_for_start (inside scopes) h.start) h.step
     body ← resolved_statement (inside (after_for_start (inside scopes) h.start)) parallel s
     Some (resolved.For h.word start condition step body)
-  resolved_statement scopes parallel (Return at value semicolon) = resolved_perhaps scopes value >>= λ x. Some (resolved.Return at x)
+  resolved_statement scopes parallel (Return at value semicolon) = resolved_perhaps scopes value >>= λ x. Some
+      (resolved.Return at x)
   resolved_statement scopes parallel (Break at semicolon) = Some (resolved.Break at)
   resolved_statement scopes parallel (Continue at semicolon) = Some (resolved.Continue at)
   resolved_statement scopes parallel (Construct d s) =
       if not (traits_of d.name).takes_loop
       then (resolved_clauses scopes d.clauses >>= λ cs.
-      resolved_statement (in_construct d scopes) (parallel_in d parallel) s >>= λ body. Some (construct_of parallel (statement_side s) d d.name cs body))
+      resolved_statement (in_construct d scopes) (parallel_in d parallel) s >>= λ body. Some
+          (construct_of parallel (statement_side s) d d.name cs body))
       else (resolved_clauses scopes d.clauses >>= λ cs.
       loop_in s >>= λ found. resolved_loop (round_bounds d scopes) (schedule_of d.clauses) found >>= λ l.
-      resolved_repeated (in_construct d scopes) (parallel_in d parallel) found s >>= λ body. Some (loop_construct_of d cs l body))
+      resolved_repeated (in_construct d scopes) (parallel_in d parallel) found s >>= λ body. Some
+          (loop_construct_of d cs l body))
   resolved_statement scopes parallel (StandAlone d) = resolved_alone scopes d d.name
   resolved_statement scopes parallel (Sections d left items right) = do
     cs ← resolved_clauses scopes d.clauses
@@ -289,20 +314,29 @@ unfoldable mutual
   -- of what a canonical loop repeats
   pub resolved_repeated : Scopes → Option ℕ → Loop → StatementTree → Option ResolvedStatementTree
   resolved_repeated scopes parallel found (For h s) = resolved_statement (in_loop scopes (Some found)) parallel s
-  resolved_repeated scopes parallel found (LocalDeclaration d) = Some (resolved.Empty (statement_first (LocalDeclaration d)))
-  resolved_repeated scopes parallel found (Block left items right) = Some (resolved.Empty (statement_first (Block left items right)))
+  resolved_repeated scopes parallel found (LocalDeclaration d) =
+      Some (resolved.Empty (statement_first (LocalDeclaration d)))
+  resolved_repeated scopes parallel found (Block left items right) =
+      Some (resolved.Empty (statement_first (Block left items right)))
   resolved_repeated scopes parallel found (Empty semicolon) = Some (resolved.Empty (statement_first (Empty semicolon)))
-  resolved_repeated scopes parallel found (Expression e semicolon) = Some (resolved.Empty (statement_first (Expression e semicolon)))
+  resolved_repeated scopes parallel found (Expression e semicolon) =
+      Some (resolved.Empty (statement_first (Expression e semicolon)))
   resolved_repeated scopes parallel found (If at c s) = Some (resolved.Empty (statement_first (If at c s)))
-  resolved_repeated scopes parallel found (IfElse at c s other t) = Some (resolved.Empty (statement_first (IfElse at c s other t)))
+  resolved_repeated scopes parallel found (IfElse at c s other t) =
+      Some (resolved.Empty (statement_first (IfElse at c s other t)))
   resolved_repeated scopes parallel found (While at c s) = Some (resolved.Empty (statement_first (While at c s)))
-  resolved_repeated scopes parallel found (Do at s again c semicolon) = Some (resolved.Empty (statement_first (Do at s again c semicolon)))
-  resolved_repeated scopes parallel found (Return at value semicolon) = Some (resolved.Empty (statement_first (Return at value semicolon)))
-  resolved_repeated scopes parallel found (Break at semicolon) = Some (resolved.Empty (statement_first (Break at semicolon)))
-  resolved_repeated scopes parallel found (Continue at semicolon) = Some (resolved.Empty (statement_first (Continue at semicolon)))
+  resolved_repeated scopes parallel found (Do at s again c semicolon) =
+      Some (resolved.Empty (statement_first (Do at s again c semicolon)))
+  resolved_repeated scopes parallel found (Return at value semicolon) =
+      Some (resolved.Empty (statement_first (Return at value semicolon)))
+  resolved_repeated scopes parallel found (Break at semicolon) =
+      Some (resolved.Empty (statement_first (Break at semicolon)))
+  resolved_repeated scopes parallel found (Continue at semicolon) =
+      Some (resolved.Empty (statement_first (Continue at semicolon)))
   resolved_repeated scopes parallel found (Construct d s) = Some (resolved.Empty (statement_first (Construct d s)))
   resolved_repeated scopes parallel found (StandAlone d) = Some (resolved.Empty (statement_first (StandAlone d)))
-  resolved_repeated scopes parallel found (Sections d left parts right) = Some (resolved.Empty (statement_first (Sections d left parts right)))
+  resolved_repeated scopes parallel found (Sections d left parts right) =
+      Some (resolved.Empty (statement_first (Sections d left parts right)))
   resolved_repeated scopes parallel found (Section d s) = Some (resolved.Empty (statement_first (Section d s)))
 
   -- of the items of `sections`, behind so many parts
@@ -314,24 +348,31 @@ unfoldable mutual
     Some (grouped (begins_part before s) t items)
 
 -- of a construct that is for any statement
-abbrev pub resolved_plain_construct : Scopes → Option ℕ → Directive ExpressionTree → StatementTree → Option ResolvedStatementTree
+abbrev pub resolved_plain_construct : Scopes → Option ℕ → Directive ExpressionTree → StatementTree
+    → Option ResolvedStatementTree
 resolved_plain_construct scopes parallel d s =
     resolved_clauses scopes d.clauses >>= λ cs.
-    resolved_statement (in_construct d scopes) (parallel_in d parallel) s >>= λ body. Some (construct_of parallel (statement_side s) d d.name cs body)
+    resolved_statement (in_construct d scopes) (parallel_in d parallel) s >>= λ body. Some
+        (construct_of parallel (statement_side s) d d.name cs body)
 
 -- of one that is for a loop, which is this one
-abbrev pub resolved_loop_construct : Scopes → Option ℕ → Directive ExpressionTree → Option Loop → StatementTree → Option ResolvedStatementTree
+abbrev pub resolved_loop_construct : Scopes → Option ℕ → Directive ExpressionTree → Option Loop → StatementTree
+    → Option ResolvedStatementTree
 resolved_loop_construct scopes parallel d perhaps_found s =
     resolved_clauses scopes d.clauses >>= λ cs.
     perhaps_found >>= λ found. resolved_loop (round_bounds d scopes) (schedule_of d.clauses) found >>= λ l.
-    resolved_repeated (in_construct d scopes) (parallel_in d parallel) found s >>= λ body. Some (loop_construct_of d cs l body)
+    resolved_repeated (in_construct d scopes) (parallel_in d parallel) found s >>= λ body. Some
+        (loop_construct_of d cs l body)
 
 -- of a construct
-abbrev pub resolved_construct : Scopes → Option ℕ → Directive ExpressionTree → StatementTree → Option ResolvedStatementTree
+abbrev pub resolved_construct : Scopes → Option ℕ → Directive ExpressionTree → StatementTree
+    → Option ResolvedStatementTree
 resolved_construct scopes parallel d s =
-    if not (traits_of d.name).takes_loop then resolved_plain_construct scopes parallel d s else resolved_loop_construct scopes parallel d (loop_in s) s
+    if not (traits_of d.name).takes_loop then resolved_plain_construct scopes parallel d s else
+        resolved_loop_construct scopes parallel d (loop_in s) s
 
-abbrev pub resolved_sections : Scopes → Option ℕ → Directive ExpressionTree → StatementsTree → Option ResolvedStatementTree
+abbrev pub resolved_sections : Scopes → Option ℕ → Directive ExpressionTree → StatementsTree
+    → Option ResolvedStatementTree
 resolved_sections scopes parallel d items = do
   cs ← resolved_clauses scopes d.clauses
   parts ← option_map parts_of (resolved_parts (in_construct d scopes) (parallel_in d parallel) 0 items)

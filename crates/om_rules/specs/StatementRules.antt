@@ -1,10 +1,14 @@
 -- The rules of declarations and statements, by the breaches that a tree has of them, in the order of the text.
-use Rattle.std.specs.Prelude.{ℕ, ◌+◌, List, [], ◌++◌, Option, None, Some, Bool, true, false, nat_eq, nat_le, not, ◌&&◌, ◌||◌, if◌then◌else◌, is_some, fold}
+use Rattle.std.specs.Prelude.{ℕ, ◌+◌, List, [], ◌++◌, Option, None, Some, Bool, true, false, nat_eq, nat_le, not,
+    ◌&&◌, ◌||◌, if◌then◌else◌, is_some, fold}
 use Rattle.om_lexer.specs.declared.fault.FaultCode.TheVariants as faults
 use Rattle.om_lexer.specs.declared.fault.SourceFault.{SourceFault}
 use Rattle.om_tree.specs.declared.tree.ArrayLength.{ArrayLength}
 use Rattle.om_pragma.specs.declared.name.Name as names
-use Rattle.om_tree.specs.Tree.{ExpressionTree, InitializerTree, DeclaratorTree, ForStartTree, Nothing, StartExpression, StartDeclaration, ForHeadTree, StatementTree, LocalDeclaration, Block, Empty, Expression, If, IfElse, While, Do, For, Return, Break, Continue, Construct, StandAlone, Sections, Section, StatementsTree, NoStatements, Statement}
+use Rattle.om_tree.specs.Tree.{ExpressionTree, InitializerTree, DeclaratorTree, ForStartTree, Nothing,
+    StartExpression, StartDeclaration, ForHeadTree, StatementTree, LocalDeclaration, Block, Empty, Expression, If,
+    IfElse, While, Do, For, Return, Break, Continue, Construct, StandAlone, Sections, Section, StatementsTree,
+    NoStatements, Statement}
 use Rattle.om_pragma.specs.declared.tree.Directive.{Directive}
 use Rattle.om_rules.specs.declared.flow.Flow.{Flow}
 use Rattle.om_rules.specs.declared.limits.TheConstants.{SECTION_LIMIT}
@@ -15,7 +19,8 @@ use Rattle.om_rules.specs.DirectiveRules.{constructing, directive_breaches, flus
 use Rattle.om_rules.specs.Loops.{Loop, loop_in}
 use Rattle.om_rules.specs.Sharing.{is_parallel}
 use Rattle.om_resolved.specs.declared.resolved.Shape.TheVariants as shapes
-use Rattle.om_rules.specs.Scopes.{Scopes, is_declared, inside, meaning_of, with_local, declarators_of, after_local, after_locals}
+use Rattle.om_rules.specs.Scopes.{Scopes, is_declared, inside, meaning_of, with_local, declarators_of, after_local,
+    after_locals}
 
 -- S8: declared again in the same scope (C17 6.7p3)
 abbrev pub redeclared_breaches : Scopes → names.Name → List SourceFault
@@ -35,7 +40,8 @@ initializer_breaches scopes (Some initializer) = expression_breaches scopes true
 
 -- the name's scope begins behind it, so its initializer reads the name itself (C17 6.2.1p7)
 unfoldable pub local_breaches : Scopes → DeclaratorTree → List SourceFault
-local_breaches scopes d = redeclared_breaches scopes d.name ++ array_size_breaches d ++ initializer_breaches (after_local scopes d) d.initializer
+local_breaches scopes d = redeclared_breaches scopes d.name ++ array_size_breaches d ++ initializer_breaches
+    (after_local scopes d) d.initializer
 
 abbrev pub locals_breaches : Scopes → List DeclaratorTree → List SourceFault
 locals_breaches = breaches_along local_breaches after_local
@@ -47,7 +53,8 @@ jump_breaches allowed at = breach_if (not allowed) faults.LeavesConstruct at
 -- S9: a value that a `void` function returns (C17 6.8.6.4p1)
 abbrev pub return_breaches : Scopes → Flow → Option ExpressionTree → List SourceFault
 return_breaches scopes flow None = []
-return_breaches scopes flow (Some e) = if flow.returns then expression_breaches scopes true e else misplaced_breaches scopes e
+return_breaches scopes flow (Some e) = if flow.returns then expression_breaches scopes true e else
+    misplaced_breaches scopes e
 
 abbrev pub perhaps_breaches : Scopes → Bool → Option ExpressionTree → List SourceFault
 perhaps_breaches scopes for_value None = []
@@ -69,11 +76,13 @@ for_turn_breaches scopes h = perhaps_breaches scopes true h.condition ++ perhaps
 
 -- in a loop
 abbrev pub looping : Flow → Flow
-looping flow = record { may_break = true; may_continue = true; returns = flow.returns; in_construct = flow.in_construct; is_closed = flow.is_closed; parallel = flow.parallel }
+looping flow = record { may_break = true; may_continue = true; returns = flow.returns; in_construct =
+    flow.in_construct; is_closed = flow.is_closed; parallel = flow.parallel }
 
 -- ---- canonical loops
 
--- the bounds of a loop use the originals of the copies that a `for` makes, and the copies of a `parallel for`, which are those of its
+-- the bounds of a loop use the originals of the copies that a `for` makes, and the copies of a `parallel
+-- for`, which are those of its
 -- `parallel` (OpenMP API 5.2, section 11.5)
 abbrev pub round_bounds : Directive ExpressionTree → Scopes → Scopes
 round_bounds d scopes = if is_parallel (traits_of d.name).region then in_construct d scopes else scopes
@@ -84,10 +93,12 @@ with_iteration scopes found = with_local (inside scopes) found.start.variable sh
 
 -- S7, S9: a variable that the loop does not declare is an `int`; the loop uses a copy of it, and not the original
 abbrev pub variable_breaches : Scopes → names.Name → List SourceFault
-variable_breaches scopes name = undeclared_breaches scopes name ++ breach_if (not (is_scalar (meaning_of scopes name.text))) faults.Misuse name.span.start
+variable_breaches scopes name = undeclared_breaches scopes name
+    ++ breach_if (not (is_scalar (meaning_of scopes name.text))) faults.Misuse name.span.start
 
 abbrev pub values_breaches : Scopes → Loop → List SourceFault
-values_breaches scopes found = expression_breaches scopes true found.start.from ++ expression_breaches scopes true found.to
+values_breaches scopes found = expression_breaches scopes true found.start.from ++ expression_breaches scopes true
+    found.to
 
 -- a variable that the loop declares is seen in the bounds
 abbrev pub found_breaches : Scopes → Loop → List SourceFault
@@ -106,7 +117,8 @@ in_loop scopes (Some found) = inside (with_iteration scopes found)
 
 -- a `continue` goes on with the next iteration
 abbrev pub continuing : Flow → Flow
-continuing flow = record { may_break = flow.may_break; may_continue = true; returns = flow.returns; in_construct = flow.in_construct; is_closed = flow.is_closed; parallel = flow.parallel }
+continuing flow = record { may_break = flow.may_break; may_continue = true; returns = flow.returns; in_construct =
+    flow.in_construct; is_closed = flow.is_closed; parallel = flow.parallel }
 
 -- ---- statements
 
@@ -152,16 +164,21 @@ unfoldable mutual
   statement_breaches scopes flow (Block left items right) = statements_breaches (inside scopes) flow items
   statement_breaches scopes flow (Empty semicolon) = []
   statement_breaches scopes flow (Expression e semicolon) = expression_breaches scopes false e
-  statement_breaches scopes flow (If at c s) = expression_breaches scopes true c.value ++ statement_breaches (inside scopes) flow s
+  statement_breaches scopes flow (If at c s) = expression_breaches scopes true c.value ++ statement_breaches
+      (inside scopes) flow s
   statement_breaches scopes flow (IfElse at c s other t) =
-      expression_breaches scopes true c.value ++ statement_breaches (inside scopes) flow s ++ statement_breaches (inside scopes) flow t
-  statement_breaches scopes flow (While at c s) = expression_breaches scopes true c.value ++ statement_breaches (inside scopes) (looping flow) s
-  statement_breaches scopes flow (Do at s again c semicolon) = statement_breaches (inside scopes) (looping flow) s ++ expression_breaches scopes true c.value
+      expression_breaches scopes true c.value ++ statement_breaches (inside scopes) flow s ++ statement_breaches
+          (inside scopes) flow t
+  statement_breaches scopes flow (While at c s) = expression_breaches scopes true c.value ++ statement_breaches
+      (inside scopes) (looping flow) s
+  statement_breaches scopes flow (Do at s again c semicolon) = statement_breaches (inside scopes) (looping flow) s
+      ++ expression_breaches scopes true c.value
   statement_breaches scopes flow (For h s) =
       for_start_breaches (inside scopes) h.start
       ++ for_turn_breaches (after_for_start (inside scopes) h.start) h
       ++ statement_breaches (inside (after_for_start (inside scopes) h.start)) (looping flow) s
-  statement_breaches scopes flow (Return at value semicolon) = jump_breaches (not flow.in_construct) at.start ++ return_breaches scopes flow value
+  statement_breaches scopes flow (Return at value semicolon) = jump_breaches (not flow.in_construct) at.start
+      ++ return_breaches scopes flow value
   statement_breaches scopes flow (Break at semicolon) = jump_breaches flow.may_break at.start
   statement_breaches scopes flow (Continue at semicolon) = jump_breaches flow.may_continue at.start
   statement_breaches scopes flow (Construct d s) =
@@ -169,8 +186,10 @@ unfoldable mutual
       ++ (if not (traits_of d.name).takes_loop
       then statement_breaches (in_construct d scopes) (constructing d flow) s
       else if is_some (loop_in s)
-      then bounds_breaches (round_bounds d scopes) (loop_in s) ++ body_breaches (in_construct d scopes) (constructing d flow) (loop_in s) s
-      else with_breach (record { code = faults.LoopForm; at = statement_start s }) (statement_breaches (in_construct d scopes) (constructing d flow) s))
+      then bounds_breaches (round_bounds d scopes) (loop_in s) ++ body_breaches (in_construct d scopes)
+          (constructing d flow) (loop_in s) s
+      else with_breach (record { code = faults.LoopForm; at = statement_start s })
+          (statement_breaches (in_construct d scopes) (constructing d flow) s))
   statement_breaches scopes flow (StandAlone d) = directive_breaches scopes flow d ++ flush_breaches scopes d.name
   statement_breaches scopes flow (Sections d left parts right) =
       directive_breaches scopes flow d ++ sections_breaches (in_construct d scopes) (constructing d flow) 0 parts
@@ -179,7 +198,8 @@ unfoldable mutual
   -- of the items of a block, in their order
   pub statements_breaches : Scopes → Flow → StatementsTree → List SourceFault
   statements_breaches scopes flow NoStatements = []
-  statements_breaches scopes flow (Statement s rest) = statement_breaches scopes flow s ++ statements_breaches (after_statement scopes s) flow rest
+  statements_breaches scopes flow (Statement s rest) = statement_breaches scopes flow s ++ statements_breaches
+      (after_statement scopes s) flow rest
 
   -- of the body of a canonical loop
   pub body_breaches : Scopes → Flow → Option Loop → StatementTree → List SourceFault
@@ -209,16 +229,20 @@ unfoldable mutual
       ++ sections_breaches scopes flow (parts_behind before s) rest
 
 -- of a construct that is for a loop, which is this one
-abbrev pub loop_construct_breaches : Scopes → Flow → Directive ExpressionTree → Option Loop → StatementTree → List SourceFault
+abbrev pub loop_construct_breaches : Scopes → Flow → Directive ExpressionTree → Option Loop → StatementTree
+    → List SourceFault
 loop_construct_breaches scopes flow d found s =
     directive_breaches scopes flow d
     ++ (if is_some found
-    then bounds_breaches (round_bounds d scopes) found ++ body_breaches (in_construct d scopes) (constructing d flow) found s
-    else with_breach (record { code = faults.LoopForm; at = statement_start s }) (statement_breaches (in_construct d scopes) (constructing d flow) s))
+    then bounds_breaches (round_bounds d scopes) found ++ body_breaches (in_construct d scopes)
+        (constructing d flow) found s
+    else with_breach (record { code = faults.LoopForm; at = statement_start s })
+        (statement_breaches (in_construct d scopes) (constructing d flow) s))
 
 -- of another construct
 abbrev pub plain_construct_breaches : Scopes → Flow → Directive ExpressionTree → StatementTree → List SourceFault
-plain_construct_breaches scopes flow d s = directive_breaches scopes flow d ++ statement_breaches (in_construct d scopes) (constructing d flow) s
+plain_construct_breaches scopes flow d s = directive_breaches scopes flow d ++ statement_breaches
+    (in_construct d scopes) (constructing d flow) s
 
 -- of a construct
 abbrev pub construct_breaches : Scopes → Flow → Directive ExpressionTree → StatementTree → List SourceFault
@@ -227,14 +251,18 @@ construct_breaches scopes flow d s =
     ++ (if not (traits_of d.name).takes_loop
     then statement_breaches (in_construct d scopes) (constructing d flow) s
     else if is_some (loop_in s)
-    then bounds_breaches (round_bounds d scopes) (loop_in s) ++ body_breaches (in_construct d scopes) (constructing d flow) (loop_in s) s
-    else with_breach (record { code = faults.LoopForm; at = statement_start s }) (statement_breaches (in_construct d scopes) (constructing d flow) s))
+    then bounds_breaches (round_bounds d scopes) (loop_in s) ++ body_breaches (in_construct d scopes)
+        (constructing d flow) (loop_in s) s
+    else with_breach (record { code = faults.LoopForm; at = statement_start s })
+        (statement_breaches (in_construct d scopes) (constructing d flow) s))
 
 abbrev pub sections_construct_breaches : Scopes → Flow → Directive ExpressionTree → StatementsTree → List SourceFault
-sections_construct_breaches scopes flow d parts = directive_breaches scopes flow d ++ sections_breaches (in_construct d scopes) (constructing d flow) 0 parts
+sections_construct_breaches scopes flow d parts = directive_breaches scopes flow d ++ sections_breaches
+    (in_construct d scopes) (constructing d flow) 0 parts
 
 abbrev pub part_breaches : Scopes → Flow → ℕ → StatementTree → List SourceFault
-part_breaches scopes flow before s = breach_if (begins_part before s && nat_le SECTION_LIMIT before) faults.TooMany (statement_start s) ++ statement_breaches (inside scopes) flow s
+part_breaches scopes flow before s = breach_if (begins_part before s && nat_le SECTION_LIMIT before) faults.TooMany
+    (statement_start s) ++ statement_breaches (inside scopes) flow s
 
 abbrev pub stand_alone_breaches : Scopes → Flow → Directive ExpressionTree → List SourceFault
 stand_alone_breaches scopes flow d = directive_breaches scopes flow d ++ flush_breaches scopes d.name

@@ -2,7 +2,8 @@
 use Rattle.std.specs.Prelude.{ℤ, pos, List, [], ◌∷◌, Option, None, Some, map}
 use Rattle.std.specs.List.{flat_map}
 use Rattle.om_tree.specs.declared.tree.Parameter.{Parameter}
-use Rattle.om_tree.specs.Tree.{InitializerTree, DeclaratorTree, statements, FunctionTree, ItemTree, Declaration, Prototype, Function, UnitTree}
+use Rattle.om_tree.specs.Tree.{InitializerTree, DeclaratorTree, statements, FunctionTree, ItemTree, Declaration,
+    Prototype, Function, UnitTree}
 use Rattle.om_pragma.specs.declared.name.Name as names
 use Rattle.om_resolved.specs.declared.resolved.GlobalVariable.{GlobalVariable}
 use Rattle.om_resolved.specs.declared.resolved.LocalVariable.{LocalVariable}
@@ -10,7 +11,8 @@ use Rattle.om_rules.specs.Constants.{signed_constant, signed_value}
 use Rattle.om_rules.specs.Perhaps.{◌>>=◌, all_along}
 use Rattle.om_rules.specs.Places.{head_first}
 use Rattle.om_resolved.specs.ResolvedTree.{ResolvedFunctionTree, ResolvedStatementsTree, ResolvedTree}
-use Rattle.om_rules.specs.Scopes.{Scopes, file_scope, inside, declarators_of, definitions_of, parameters_of, returns_value, after_function, after_item, after_parameters}
+use Rattle.om_rules.specs.Scopes.{Scopes, file_scope, inside, declarators_of, definitions_of, parameters_of,
+    returns_value, after_function, after_item, after_parameters}
 use Rattle.om_rules.specs.StatementResolution.{length_of, local_of, resolved_statements}
 
 -- ---- functions
@@ -25,7 +27,8 @@ parameter_variable parameter = named_parameter parameter.name
 
 -- parameters and body are one scope (C17 6.2.1p4)
 abbrev pub resolved_inside : Scopes → FunctionTree → Option ResolvedStatementsTree
-resolved_inside scopes f = resolved_statements (after_parameters (inside scopes) (parameters_of f.head.parameters)) None (statements f.body.items)
+resolved_inside scopes f = resolved_statements (after_parameters (inside scopes) (parameters_of f.head.parameters))
+    None (statements f.body.items)
 
 unfoldable pub resolved_function : Scopes → FunctionTree → Option ResolvedFunctionTree
 resolved_function scopes f =
@@ -47,7 +50,8 @@ initial_of None = pos 0
 initial_of (Some initializer) = signed_value (signed_constant initializer.value)
 
 abbrev pub global_of : DeclaratorTree → GlobalVariable
-global_of d = record { name = d.name.text; at = d.name.span.start; length = length_of d.array; initial = initial_of d.initializer }
+global_of d = record { name = d.name.text; at = d.name.span.start; length = length_of d.array; initial = initial_of
+    d.initializer }
 
 -- the globals that an item declares
 abbrev pub globals_of : ItemTree → List GlobalVariable
@@ -63,7 +67,8 @@ item_functions scopes (Function f) = resolved_function scopes f >>= λ function.
 
 -- the resolution of items, each in the scopes behind those before it
 abbrev pub items_resolution : List ItemTree → Option ResolvedTree
-items_resolution items = all_along item_functions after_item (file_scope (definitions_of items)) items >>= λ functions. Some (record {
+items_resolution items = all_along item_functions after_item (file_scope (definitions_of items)) items >>=
+    λ functions. Some (record {
   globals = flat_map globals_of items;
   functions = functions;
 })

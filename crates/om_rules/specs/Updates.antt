@@ -57,7 +57,8 @@ other_operand sides.Left a b = b
 other_operand sides.Right a b = a
 
 abbrev pub value_operation : Side → ResolvedExpressionTree → Option Operation
-value_operation side (resolved.Binary a o b) = binary_operator o >>= λ operator. Some (operation_of operator side (other_operand side a b))
+value_operation side (resolved.Binary a o b) = binary_operator o >>= λ operator. Some
+    (operation_of operator side (other_operand side a b))
 value_operation side _ = None
 
 -- `x op= e` has x on the left
@@ -79,12 +80,15 @@ step_operation o = operation_of (step_operator o) sides.Left (resolved.Constant 
 
 -- ---- updates
 
-abbrev pub updated : Span → variables.Variable → (index : Option ResolvedExpressionTree) → Operation → ResolvedUpdateTree
-updated at variable index found = record { at = at; variable = variable; index = index; operator = found.operator; side = found.side; operand = found.operand }
+abbrev pub updated : Span → variables.Variable → (index : Option ResolvedExpressionTree) → Operation
+    → ResolvedUpdateTree
+updated at variable index found = record { at = at; variable = variable; index = index; operator = found.operator;
+    side = found.side; operand = found.operand }
 
 abbrev pub expression_update : Span → Side → ResolvedExpressionTree → Option ResolvedUpdateTree
 expression_update at side (resolved.Assign v o e) = operation side o e >>= λ found. Some (updated at v None found)
-expression_update at side (resolved.AssignElement v index o e) = operation side o e >>= λ found. Some (updated at v (Some index) found)
+expression_update at side (resolved.AssignElement v index o e) = operation side o e >>= λ found. Some
+    (updated at v (Some index) found)
 expression_update at side (resolved.Postfix v o) = Some (updated at v None (step_operation o))
 expression_update at side (resolved.PostfixElement v index o) = Some (updated at v (Some index) (step_operation o))
 expression_update at side _ = None

@@ -1,11 +1,13 @@
 -- A static schedule parts the iterations of a loop.
-use Rattle.std.proofs.Common.{◌≡◌, ⊎_elim, subst, sym, ◌∙◌, ap, ℕ, zero, suc, ◌+◌, ◌-◌, ◌*◌, ◌/◌, ◌%◌, ◌<◌, ◌≤◌, arith, Option, None, Some}
+use Rattle.std.proofs.Common.{◌≡◌, ⊎_elim, subst, sym, ◌∙◌, ap, ℕ, zero, suc, ◌+◌, ◌-◌, ◌*◌, ◌/◌, ◌%◌, ◌<◌, ◌≤◌,
+    arith, Option, None, Some}
 use Rattle.std.specs.Prelude.{nat_lt, nat_eq, min, if◌then◌else◌, IsSomeAnd}
 use Rattle.std.proofs.lemmas.Grind.{common_steps}
 use Rattle.std.proofs.lemmas.Nat.{div-add-mod', mod_below, mul-le, same_from_place, div-mul-add}
 use Rattle.std.proofs.lemmas.Bool.{cases_lt, cases_order}
 use Rattle.om_share.specs.declared.chunk.Chunk.{Chunk}
-use Rattle.om_share.specs.Chunks.{chunk_within, round_robin, block_start, block_size, block, IsChunkSize, LiesIn, IsPartition, AreShares}
+use Rattle.om_share.specs.Chunks.{chunk_within, round_robin, block_start, block_size, block, IsChunkSize, LiesIn,
+    IsPartition, AreShares}
 
 -- a chunk, if there is one, holds an iteration
 abbrev pub Holds : Option Chunk → ℕ → Type 0
@@ -24,9 +26,11 @@ holds n first size k h = grind (arith, common_steps)
 
 -- the number of the chunk in which an iteration lies
 same_number : (size a b k : ℕ) → a * size ≤ k → k < a * size + size → b * size ≤ k → k < b * size + size → a ≡ b
-same_number size a b k p q r s = (same_from_place a (k - a * size) b (k - b * size) size (omega arith) (omega arith) (omega arith)).0
+same_number size a b k p q r s = (same_from_place a (k - a * size) b (k - b * size) size (omega arith) (omega arith)
+    (omega arith)).0
 
-round_one : (n size t i r j s k : ℕ) → i < t → j < t → Holds (round_robin n size t i r) k → Holds (round_robin n size t j s) k → (i ≡ j) × (r ≡ s)
+round_one : (n size t i r j s k : ℕ) → i < t → j < t → Holds (round_robin n size t i r) k
+    → Holds (round_robin n size t j s) k → (i ≡ j) × (r ≡ s)
 round_one n size t i r j s k p q h g =
     let a = held n ((r * t + i) * size) size k h in
     let b = held n ((s * t + j) * size) size k g in
@@ -68,19 +72,22 @@ record IsStarted (n t i k : ℕ) : Type 0 where
   high : k < block_start n t (thread + 1)
 
 in_last : (n t i m k : ℕ) → m ≡ i + 1 → block_start n t i ≤ k → k < block_start n t m → IsStarted n t m k
-in_last n t i m k e low high = record { thread = i; before = omega (arith, e); low = low; high = subst (λ q. k < block_start n t q) e high }
+in_last n t i m k e low high = record { thread = i; before = omega (arith, e); low = low; high = subst
+    (λ q. k < block_start n t q) e high }
 
 further : (n t i k : ℕ) → IsStarted n t i k → IsStarted n t (suc i) k
 further n t i k r = record { thread = r.thread; before = omega (arith, r.before); low = r.low; high = r.high }
 
 started : (n t i k : ℕ) → k < block_start n t i → IsStarted n t i k
 started n t zero k h = record { thread = 0; before = omega (arith, h); low = omega (arith, h); high = omega (arith, h) }
-started n t (suc i) k h = ⊎_elim (λ less. further n t i k (started n t i k less)) (λ more. in_last n t i (suc i) k (omega arith) more h) (cases_lt k (block_start n t i))
+started n t (suc i) k h = ⊎_elim (λ less. further n t i k (started n t i k less))
+    (λ more. in_last n t i (suc i) k (omega arith) more h) (cases_lt k (block_start n t i))
 
 block_some : (n t k : ℕ) → 1 ≤ t → k < n → (i : ℕ) × (i < t) × Holds (block n t i) k
 block_some n t k p h =
     let r = started n t t k (omega (arith, last_block n t p)) in
-    (r.thread, r.before, holds n _ _ k (record { low = r.low; high = omega (arith, r.high, next_block n t r.thread); below = h }))
+    (r.thread, r.before, holds n _ _ k (record { low = r.low; high = omega (arith, r.high, next_block n t r.thread);
+        below = h }))
 
 -- a later block begins where this one ends, or further on
 apart : (n t i j k : ℕ) → i < j → Holds (block n t i) k → Holds (block n t j) k → i ≡ j
@@ -90,7 +97,8 @@ apart n t i j k p h g =
     omega (arith, a.high, b.low, next_block n t i, later_block n t (i + 1) j (omega arith))
 
 block_one : (n t i j k : ℕ) → Holds (block n t i) k → Holds (block n t j) k → i ≡ j
-block_one n t i j k h g = ⊎_elim (λ same. same) (λ other. ⊎_elim (λ less. apart n t i j k less h g) (λ more. sym (apart n t j i k more g h)) other) (cases_order i j)
+block_one n t i j k h g = ⊎_elim (λ same. same) (λ other. ⊎_elim (λ less. apart n t i j k less h g)
+    (λ more. sym (apart n t j i k more g h)) other) (cases_order i j)
 
 -- a block is the chunk of number 0 alone
 only_block : (found : Option Chunk) (r k : ℕ) → Holds (if nat_eq r 0 then found else None) k → (r ≡ 0) × Holds found k
@@ -122,7 +130,8 @@ round_to n size t i r k h =
     let a = held n ((r * t + i) * size) size k h in
     (a.below, quotient_is size (r * t + i) k a.low a.high)
 
-whole_to : (n t i r k : ℕ) → LiesIn None n t i r k → (r ≡ 0) × (block_start n t i ≤ k) × (k < block_start n t i + block_size n t i)
+whole_to : (n t i r k : ℕ) → LiesIn None n t i r k → (r ≡ 0) × (block_start n t i ≤ k)
+    × (k < block_start n t i + block_size n t i)
 whole_to n t i r k h =
     let first = only_block (block n t i) r k h in
     let a = held n (block_start n t i) _ k first.1 in
@@ -131,11 +140,13 @@ whole_to n t i r k h =
 first_block : (found : Option Chunk) (r k : ℕ) → r ≡ 0 → Holds found k → Holds (if nat_eq r 0 then found else None) k
 first_block found r k e h = subst (λ q. Holds (if nat_eq q 0 then found else None) k) (sym e) h
 
-whole_from : (n t i r k : ℕ) → i < t → r ≡ 0 → block_start n t i ≤ k → k < block_start n t i + block_size n t i → LiesIn None n t i r k
+whole_from : (n t i r k : ℕ) → i < t → r ≡ 0 → block_start n t i ≤ k → k < block_start n t i + block_size n t i
+    → LiesIn None n t i r k
 whole_from n t i r k p e low high =
     let last = last_block n t (omega arith) in
     let rises = later_block n t (i + 1) t (omega arith) in
-    first_block (block n t i) r k e (holds n _ _ k (record { low = low; high = high; below = omega (arith, last, rises, high, next_block n t i) }))
+    first_block (block n t i) r k e
+        (holds n _ _ k (record { low = low; high = high; below = omega (arith, last, rises, high, next_block n t i) }))
 
 pub shares : (n t : ℕ) → AreShares n t
 shares n t = record {

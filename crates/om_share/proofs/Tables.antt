@@ -12,26 +12,41 @@ use Rattle.om_events.specs.declared.kind.Work.{Work}
 use Rattle.om_cells.specs.State.{State}
 use Rattle.om_row.specs.declared.row.Answer.{Answer}
 use Rattle.om_row.specs.Rows.{Asked, answered}
-use Rattle.om_share.specs.Rows.{end_worksharing_row, closed_row, work_of, single_work, is_right_form, loop_of, open_row, loop_row, is_loop, iteration_row, iterate_row, grab_row, static_row}
+use Rattle.om_share.specs.Rows.{end_worksharing_row, closed_row, work_of, single_work, is_right_form, loop_of,
+    open_row, loop_row, is_loop, iteration_row, iterate_row, grab_row, static_row}
 
 -- what is promised of a row holds of the same row in other words
-pub carried : {E : Type 0} (r : Result Answer E) (a b : Asked) (s : State) → a ≡ b → ((t : State) → IfOk r (λ answer. answer ≡ answered a t)) → IfOk r (λ answer. answer ≡ answered b s)
+pub carried : {E : Type 0} (r : Result Answer E) (a b : Asked) (s : State) → a ≡ b
+    → ((t : State) → IfOk r (λ answer. answer ≡ answered a t)) → IfOk r (λ answer. answer ≡ answered b s)
 carried r a b s e h = subst (λ asked. IfOk r (λ answer. answer ≡ answered asked s)) e (h s)
 
-pub loop_opened : (worker to : ℕ) (c : Context) (form : LoopForm) (low high : Option ℤ) (lower upper from_lower from_upper : ℤ) (share : Share) (right : Bool) → low ≡ Some lower → high ≡ Some upper → right ≡ is_right_form form → right ≡ true → share ≡ loop_of c.regions form from_lower from_upper → from_lower ≡ lower → from_upper ≡ upper → open_row worker to 2 c share ≡ loop_row worker to c form low high
-loop_opened worker to c form low high lower upper from_lower from_upper share right e f g h k l m = grind (arith, common_steps)
+pub loop_opened : (worker to : ℕ) (c : Context) (form : LoopForm) (low high : Option ℤ)
+    (lower upper from_lower from_upper : ℤ) (share : Share) (right : Bool) → low ≡ Some lower → high ≡ Some upper
+    → right ≡ is_right_form form → right ≡ true → share ≡ loop_of c.regions form from_lower from_upper → from_lower
+    ≡ lower → from_upper ≡ upper → open_row worker to 2 c share ≡ loop_row worker to c form low high
+loop_opened worker to c form low high lower upper from_lower from_upper share right e f g h k l m = grind
+    (arith, common_steps)
 
-pub iterated : (to otherwise : ℕ) (c : Context) (slot : ℕ) (found : Option Share) (share : Share) (right : Bool) → found ≡ Some share → right ≡ is_loop share.sharing → right ≡ true → iteration_row to otherwise c slot share ≡ iterate_row to otherwise c slot found
+pub iterated : (to otherwise : ℕ) (c : Context) (slot : ℕ) (found : Option Share) (share : Share) (right : Bool)
+    → found ≡ Some share → right ≡ is_loop share.sharing → right ≡ true → iteration_row to otherwise c slot share
+    ≡ iterate_row to otherwise c slot found
 iterated to otherwise c slot found share right e g h = grind (arith, common_steps)
 
-pub grabbed : (to otherwise : ℕ) (c : Context) (found : Option Share) (share : Share) → found ≡ Some share → share.schedule ≡ schedule.Static → static_row to otherwise c share None ≡ grab_row to otherwise c found
+pub grabbed : (to otherwise : ℕ) (c : Context) (found : Option Share) (share : Share) → found ≡ Some share
+    → share.schedule ≡ schedule.Static → static_row to otherwise c share None ≡ grab_row to otherwise c found
 grabbed to otherwise c found share e g = grind (arith, common_steps)
 
-pub grabbed_chunk : (to otherwise size : ℕ) (c : Context) (found : Option Share) (share : Share) → found ≡ Some share → share.schedule ≡ schedule.StaticChunk size → static_row to otherwise c share (Some size) ≡ grab_row to otherwise c found
+pub grabbed_chunk : (to otherwise size : ℕ) (c : Context) (found : Option Share) (share : Share) → found
+    ≡ Some share → share.schedule ≡ schedule.StaticChunk size → static_row to otherwise c share (Some size)
+    ≡ grab_row to otherwise c found
 grabbed_chunk to otherwise size c found share e g = grind (arith, common_steps)
 
-pub share_closed : (worker to : ℕ) (c : Context) (found : Option Construct) (region : Construct) (share : Share) (w : Work) → found ≡ Some region → region ≡ construct.Share share → w ≡ work_of share.sharing → closed_row worker to c w share.count ≡ end_worksharing_row worker to c found
+pub share_closed : (worker to : ℕ) (c : Context) (found : Option Construct) (region : Construct) (share : Share)
+    (w : Work) → found ≡ Some region → region ≡ construct.Share share → w ≡ work_of share.sharing
+    → closed_row worker to c w share.count ≡ end_worksharing_row worker to c found
 share_closed worker to c found region share w e g h = grind (arith, common_steps)
 
-pub single_closed : (worker to : ℕ) (c : Context) (found : Option Construct) (region : Construct) (runs : Bool) (w : Work) → found ≡ Some region → region ≡ construct.Single runs → w ≡ single_work runs → closed_row worker to c w 1 ≡ end_worksharing_row worker to c found
+pub single_closed : (worker to : ℕ) (c : Context) (found : Option Construct) (region : Construct) (runs : Bool)
+    (w : Work) → found ≡ Some region → region ≡ construct.Single runs → w ≡ single_work runs → closed_row worker to
+    c w 1 ≡ end_worksharing_row worker to c found
 single_closed worker to c found region runs w e g h = grind (arith, common_steps)

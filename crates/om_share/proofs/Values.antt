@@ -1,5 +1,6 @@
 -- The value of an iteration has 128 bits.
-use Rattle.std.proofs.Common.{◌≡◌, ◌∙◌, ap, arith, ℕ, ◌*◌, ◌<◌, ◌≤◌, ◌^◌, ℤ, pos, negsuc, ◌+ℤ◌, ◌*ℤ◌, to_z, of_z, FitsSigned, subst, sym}
+use Rattle.std.proofs.Common.{◌≡◌, ◌∙◌, ap, arith, ℕ, ◌*◌, ◌<◌, ◌≤◌, ◌^◌, ℤ, pos, negsuc, ◌+ℤ◌, ◌*ℤ◌, to_z, of_z,
+    FitsSigned, subst, sym}
 use Rattle.std.specs.Prelude.{unsigned_abs}
 use Rattle.std.specs.Int.{w32, w128}
 use Rattle.std.proofs.lemmas.Int.{ints, to_z-of_z, fits_signed_from_abs, unsigned_abs-mul}
@@ -11,7 +12,8 @@ abs_of_int (negsuc n) h = omega (arith, ints)
 
 abs_of_product : (n : ℕ) (step : ℤ) → n < 2 ^ 64 → FitsSigned w32 step → unsigned_abs (pos n *ℤ step) ≤ 2 ^ 95
 abs_of_product n step h f =
-    let parts : n * unsigned_abs step ≤ 2 ^ 64 * 2 ^ 31 = mul-le n (unsigned_abs step) (2 ^ 64) (2 ^ 31) (omega arith) (abs_of_int step f) in
+    let parts : n * unsigned_abs step ≤ 2 ^ 64 * 2 ^ 31 = mul-le n (unsigned_abs step) (2 ^ 64) (2 ^ 31)
+        (omega arith) (abs_of_int step f) in
     subst (λ k. k ≤ 2 ^ 95) (sym (unsigned_abs-mul (pos n) step)) (omega (arith, parts))
 
 abs_fits : (z : ℤ) → unsigned_abs z ≤ 2 ^ 95 → FitsSigned w128 z
@@ -22,13 +24,15 @@ sum_fits a (pos k) f h = omega (arith, ints)
 sum_fits a (negsuc k) f h = omega (arith, ints)
 
 -- a product and a sum in 128 bits, of numbers that have fewer
-product_is : (n : ℕ) (y z step : ℤ) → n < 2 ^ 64 → FitsSigned w32 step → y ≡ pos n → z ≡ step → to_z w128 (of_z w128 (y *ℤ z)) ≡ pos n *ℤ step
+product_is : (n : ℕ) (y z step : ℤ) → n < 2 ^ 64 → FitsSigned w32 step → y ≡ pos n → z ≡ step
+    → to_z w128 (of_z w128 (y *ℤ z)) ≡ pos n *ℤ step
 product_is n y z step h f e g =
     ap (λ k. to_z w128 (of_z w128 (k *ℤ z))) e
     ∙ ap (λ k. to_z w128 (of_z w128 (pos n *ℤ k))) g
     ∙ to_z-of_z w128 (pos n *ℤ step) (abs_fits (pos n *ℤ step) (abs_of_product n step h f))
 
-pub value_is : (n : ℕ) (x y z lower step : ℤ) → n < 2 ^ 64 → FitsSigned w32 lower → FitsSigned w32 step → x ≡ lower → y ≡ pos n → z ≡ step
+pub value_is : (n : ℕ) (x y z lower step : ℤ) → n < 2 ^ 64 → FitsSigned w32 lower → FitsSigned w32 step → x ≡ lower
+    → y ≡ pos n → z ≡ step
     → to_z w128 (of_z w128 (x +ℤ to_z w128 (of_z w128 (y *ℤ z)))) ≡ lower +ℤ pos n *ℤ step
 value_is n x y z lower step h f g d e k =
     ap (λ q. to_z w128 (of_z w128 (q +ℤ to_z w128 (of_z w128 (y *ℤ z))))) d

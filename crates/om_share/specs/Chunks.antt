@@ -1,5 +1,6 @@
 -- The iterations of a loop, and the chunks in which they are shared out (OpenMP 5.2, 4.4.2 and 11.5.3).
-use Rattle.std.specs.Prelude.{◌≡◌, ◌↔◌, ℕ, ◌+◌, ◌-◌, ◌*◌, ◌/◌, ◌%◌, ◌<◌, ◌≤◌, ℤ, pos, negsuc, ◌+ℤ◌, ◌-ℤ◌, ◌*ℤ◌, neg_ℤ, nat_lt, nat_eq, ◌&&◌, min, if◌then◌else◌, Option, None, Some, IsSomeAnd, IfSome}
+use Rattle.std.specs.Prelude.{◌≡◌, ◌↔◌, ℕ, ◌+◌, ◌-◌, ◌*◌, ◌/◌, ◌%◌, ◌<◌, ◌≤◌, ℤ, pos, negsuc, ◌+ℤ◌, ◌-ℤ◌, ◌*ℤ◌,
+    neg_ℤ, nat_lt, nat_eq, ◌&&◌, min, if◌then◌else◌, Option, None, Some, IsSomeAnd, IfSome}
 use Rattle.om_code.specs.declared.instruction.Comparison.{Comparison}
 use Rattle.om_code.specs.declared.instruction.Comparison.TheVariants.{Less, LessOrEqual, Greater, GreaterOrEqual}
 use Rattle.om_share.specs.declared.chunk.Chunk.{Chunk}
@@ -39,7 +40,8 @@ value_of lower step iteration = lower +ℤ pos iteration *ℤ step
 
 -- so many iterations from the first on, cut at n; none where none is left
 abbrev pub chunk_within : ℕ → ℕ → ℕ → Option Chunk
-chunk_within n first size = if nat_lt 0 size && nat_lt first n then Some (record { first = first; end = min (first + size) n }) else None
+chunk_within n first size = if nat_lt 0 size && nat_lt first n then Some
+    (record { first = first; end = min (first + size) n }) else None
 
 -- the r-th chunk, from 0, of thread i of t, where chunks of this size go round by thread number
 abbrev pub round_robin : ℕ → ℕ → ℕ → ℕ → ℕ → Option Chunk
@@ -68,7 +70,8 @@ IsChunkSize size = IfSome size (λ s. 1 ≤ s)
 
 -- an iteration lies in the r-th chunk of thread i of t
 abbrev pub LiesIn : Option ℕ → ℕ → ℕ → ℕ → ℕ → ℕ → Type 0
-LiesIn size n t i r iteration = IsSomeAnd (static_chunk size n t i r) (λ chunk. (chunk.first ≤ iteration) × (iteration < chunk.end))
+LiesIn size n t i r iteration = IsSomeAnd (static_chunk size n t i r) (λ chunk. (chunk.first ≤ iteration)
+    × (iteration < chunk.end))
 
 -- OpenMP 5.2, 11.5.3: a static schedule parts the n iterations of a loop among t threads, and each thread's into chunks
 pub record IsPartition (size : Option ℕ) (n t : ℕ) : Type 0 where
@@ -77,9 +80,13 @@ pub record IsPartition (size : Option ℕ) (n t : ℕ) : Type 0 where
   -- each iteration below n lies in a chunk of a thread
   pub some : (iteration : ℕ) → iteration < n → (i : ℕ) × (r : ℕ) × (i < t) × LiesIn size n t i r iteration
   -- it lies in no other chunk, and in none of another thread
-  pub one : (i r j s iteration : ℕ) → i < t → j < t → LiesIn size n t i r iteration → LiesIn size n t j s iteration → (i ≡ j) × (r ≡ s)
+  pub one : (i r j s iteration : ℕ) → i < t → j < t → LiesIn size n t i r iteration → LiesIn size n t j s iteration
+      → (i ≡ j) × (r ≡ s)
 
--- OpenMP 5.2, 11.5.3: whose iterations they are. Chunks of a size go round by thread number; without one, each thread has its block
+-- OpenMP 5.2, 11.5.3: whose iterations they are. Chunks of a size go round by thread number; without one,
+-- each thread has its block
 pub record AreShares (n t : ℕ) : Type 0 where
-  pub round : (size i r iteration : ℕ) → 1 ≤ size → i < t → LiesIn (Some size) n t i r iteration ↔ ((iteration < n) × (iteration / size ≡ r * t + i))
-  pub whole : (i r iteration : ℕ) → i < t → LiesIn None n t i r iteration ↔ ((r ≡ 0) × (block_start n t i ≤ iteration) × (iteration < block_start n t i + block_size n t i))
+  pub round : (size i r iteration : ℕ) → 1 ≤ size → i < t → LiesIn (Some size) n t i r iteration
+      ↔ ((iteration < n) × (iteration / size ≡ r * t + i))
+  pub whole : (i r iteration : ℕ) → i < t → LiesIn None n t i r iteration
+      ↔ ((r ≡ 0) × (block_start n t i ≤ iteration) × (iteration < block_start n t i + block_size n t i))

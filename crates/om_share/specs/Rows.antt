@@ -1,5 +1,6 @@
 -- The rows of worksharing, masked and critical regions.
-use Rattle.std.specs.Prelude.{ℕ, ◌+◌, ℤ, pos, ◌&&◌, Bool, true, false, nat_lt, nat_eq, if◌then◌else◌, Option, None, Some, List, [], ◌∷◌, slice_get}
+use Rattle.std.specs.Prelude.{ℕ, ◌+◌, ℤ, pos, ◌&&◌, Bool, true, false, nat_lt, nat_eq, if◌then◌else◌, Option, None,
+    Some, List, [], ◌∷◌, slice_get}
 use Rattle.std.specs.Ordering.{int_eq}
 use Rattle.om_foot.specs.declared.object.Obj.TheVariants as obj
 use Rattle.om_code.specs.declared.frame.Fault.TheVariants as fault
@@ -73,12 +74,14 @@ work_of sharing.Sections = work.Sections
 
 -- a loop or sections that a member opens: it has no chunk yet
 abbrev pub opened : sharings.Sharing → ℕ → ℕ → ℤ → ℤ → Schedule → Share
-opened s region n lower step sched = record { sharing = s; region = region; count = n; lower = lower; step = step; schedule = sched; taken = 0; next = 0; end = 0 }
+opened s region n lower step sched = record { sharing = s; region = region; count = n; lower = lower; step = step;
+    schedule = sched; taken = 0; next = 0; end = 0 }
 
 abbrev pub open_row : ℕ → ℕ → ℕ → Context → Share → Asked
 open_row worker to takes c share =
     if is_misplaced c then decided (Faults fault.Nesting)
-    else recorded worker (begun to takes (construct.Share share)) (event_record.Work (work_of share.sharing) endpoint.Begin c.team.name c.task share.count)
+    else recorded worker (begun to takes (construct.Share share)) (event_record.Work (work_of share.sharing)
+        endpoint.Begin c.team.name c.task share.count)
 
 -- whether the chunks of a schedule have at least one iteration
 abbrev pub is_right_schedule : Schedule → Bool
@@ -91,17 +94,20 @@ abbrev pub is_right_form : LoopForm → Bool
 is_right_form form = nat_lt 0 (step_size form.comparison form.step) && is_right_schedule form.schedule
 
 abbrev pub loop_of : ℕ → LoopForm → ℤ → ℤ → Share
-loop_of region form lower upper = opened sharing.Loop region (count_of form.comparison lower upper (step_size form.comparison form.step)) lower form.step form.schedule
+loop_of region form lower upper = opened sharing.Loop region (count_of form.comparison lower upper
+    (step_size form.comparison form.step)) lower form.step form.schedule
 
 -- OpenMP 5.2, 11.5: a loop is opened
 abbrev pub loop_row : ℕ → ℕ → Context → LoopForm → Option ℤ → Option ℤ → Asked
-loop_row worker to c form (Some lower) (Some upper) = if is_right_form form then open_row worker to 2 c (loop_of c.regions form lower upper) else decided Lacks
+loop_row worker to c form (Some lower) (Some upper) = if is_right_form form then open_row worker to 2 c
+    (loop_of c.regions form lower upper) else decided Lacks
 loop_row worker to c form (Some lower) None = decided Lacks
 loop_row worker to c form None upper = decided Lacks
 
 -- OpenMP 5.2, 11.3: sections are opened, which are given out one by one
 abbrev pub sections_row : ℕ → ℕ → Context → ℕ → Asked
-sections_row worker to c n = open_row worker to 0 c (opened sharing.Sections c.regions n (pos 0) (pos 1) (schedule.Dynamic 1))
+sections_row worker to c n = open_row worker to 0 c (opened sharing.Sections c.regions n (pos 0) (pos 1)
+    (schedule.Dynamic 1))
 
 -- a share whose member has begun a chunk
 abbrev pub in_chunk : Share → ℕ → Chunk → Construct
@@ -114,7 +120,8 @@ taken_row to otherwise share None = goes otherwise 0 None []
 
 -- the team's next chunk is taken, and counts as given out, or there is none
 abbrev pub given_row : ℕ → ℕ → Share → Option Chunk → Row
-given_row to otherwise share (Some chunk) = Goes (edits to 0 (Replace (in_chunk share share.taken chunk))) (Put (value.Number chunk.end) ∷ [])
+given_row to otherwise share (Some chunk) = Goes (edits to 0 (Replace (in_chunk share share.taken chunk)))
+    (Put (value.Number chunk.end) ∷ [])
 given_row to otherwise share None = goes otherwise 0 None []
 
 -- whether a member is one of as many as its team has
@@ -122,7 +129,8 @@ abbrev pub is_member : Team → Bool
 is_member team = nat_lt team.number team.size
 
 abbrev pub static_row : ℕ → ℕ → Context → Share → Option ℕ → Asked
-static_row to otherwise c share size = decided (if is_member c.team then taken_row to otherwise share (static_chunk size share.count c.team.size c.team.number share.taken) else Lacks)
+static_row to otherwise c share size = decided (if is_member c.team then taken_row to otherwise share
+    (static_chunk size share.count c.team.size c.team.number share.taken) else Lacks)
 
 abbrev pub dynamic_row : ℕ → ℕ → Context → Share → ℕ → Asked
 dynamic_row to otherwise c share size = record {
@@ -148,7 +156,8 @@ int_of n = if is_int n then Some n else None
 abbrev pub value_row : ℕ → Context → ℕ → Share → Option ℤ → Asked
 value_row to c slot share (Some n) = record {
   names = write (object_of c (Slot slot) 0) ∷ [];
-  row = λ _. Goes (edits to 0 (Replace (construct.Share (record share { next = share.next + 1 })))) (Put (value.Cell (cell.Int n)) ∷ []);
+  row = λ _. Goes (edits to 0 (Replace (construct.Share (record share { next = share.next + 1 }))))
+      (Put (value.Cell (cell.Int n)) ∷ []);
 }
 value_row to c slot share None = decided Lacks
 
@@ -159,7 +168,8 @@ iteration_row to otherwise c slot share =
 
 -- the next iteration of the chunk, where one is left
 abbrev pub iterate_row : ℕ → ℕ → Context → ℕ → Option Share → Asked
-iterate_row to otherwise c slot (Some share) = if is_loop share.sharing then iteration_row to otherwise c slot share else decided Lacks
+iterate_row to otherwise c slot (Some share) = if is_loop share.sharing then iteration_row to otherwise c slot share
+    else decided Lacks
 iterate_row to otherwise c slot None = decided Lacks
 
 abbrev pub section_row : Option ℕ → Row
@@ -182,8 +192,10 @@ single_work false = work.SingleOther
 
 -- OpenMP 5.2, 11.1: the first thread that comes runs a `single` region
 abbrev pub chosen_row : ℕ → ℕ → Context → Bool → Row
-chosen_row to otherwise c true = Goes (begun to 0 (construct.Single true)) (Put (value.Number 1) ∷ event (event_record.Work (single_work true) endpoint.Begin c.team.name c.task 1) ∷ [])
-chosen_row to otherwise c false = Goes (begun otherwise 0 (construct.Single false)) (Keep ∷ event (event_record.Work (single_work false) endpoint.Begin c.team.name c.task 1) ∷ [])
+chosen_row to otherwise c true = Goes (begun to 0 (construct.Single true)) (Put (value.Number 1)
+    ∷ event (event_record.Work (single_work true) endpoint.Begin c.team.name c.task 1) ∷ [])
+chosen_row to otherwise c false = Goes (begun otherwise 0 (construct.Single false))
+    (Keep ∷ event (event_record.Work (single_work false) endpoint.Begin c.team.name c.task 1) ∷ [])
 
 abbrev pub single_row : ℕ → ℕ → ℕ → Context → Asked
 single_row worker to otherwise c =
@@ -198,7 +210,8 @@ abbrev pub closed_row : ℕ → ℕ → Context → works.Work → ℕ → Asked
 closed_row worker to c w n = recorded worker (edits to 0 Close) (event_record.Work w endpoint.End c.team.name c.task n)
 
 abbrev pub end_worksharing_row : ℕ → ℕ → Context → Option Construct → Asked
-end_worksharing_row worker to c (Some (construct.Share share)) = closed_row worker to c (work_of share.sharing) share.count
+end_worksharing_row worker to c (Some (construct.Share share)) = closed_row worker to c (work_of share.sharing)
+    share.count
 end_worksharing_row worker to c (Some (construct.Single runs)) = closed_row worker to c (single_work runs) 1
 end_worksharing_row worker to c (Some construct.Masked) = decided Lacks
 end_worksharing_row worker to c (Some (construct.Critical lock)) = decided Lacks
@@ -207,7 +220,8 @@ end_worksharing_row worker to c None = decided Lacks
 
 -- OpenMP 5.2, 10.5: the thread of the filter runs a masked region
 abbrev pub filtered_row : ℕ → ℕ → ℕ → Context → Bool → Asked
-filtered_row worker to otherwise c true = recorded worker (edits to 1 (Open construct.Masked)) (event_record.Masked endpoint.Begin c.team.name c.task)
+filtered_row worker to otherwise c true = recorded worker (edits to 1 (Open construct.Masked))
+    (event_record.Masked endpoint.Begin c.team.name c.task)
 filtered_row worker to otherwise c false = record { names = events worker ∷ []; row = λ _. goes otherwise 1 None [] }
 
 abbrev pub masked_row : ℕ → ℕ → ℕ → Context → Option ℤ → Asked
@@ -233,16 +247,19 @@ abbrev pub ask_critical_row : ℕ → ℕ → List ℕ → Asked
 ask_critical_row worker to lock = recorded worker (Go to 0 None ∷ []) (event_record.MutexAcquire lock)
 
 abbrev pub lock_row : ℕ → ℕ → ℕ → List ℕ → Option ℕ → Row
-lock_row worker to number lock None = Goes (edits to 0 (Open (construct.Critical number))) (Put (value.Lock (Some worker)) ∷ event (event_record.MutexAcquired lock) ∷ [])
+lock_row worker to number lock None = Goes (edits to 0 (Open (construct.Critical number)))
+    (Put (value.Lock (Some worker)) ∷ event (event_record.MutexAcquired lock) ∷ [])
 lock_row worker to number lock (Some holder) = Blocked (blocked.Critical holder)
 
 abbrev pub enter_critical_row : ℕ → ℕ → ℕ → List ℕ → Asked
-enter_critical_row worker to number lock = record { names = write (obj.Lock number) ∷ events worker ∷ []; row = λ values. lock_row worker to number lock (holder_in (first_of values)) }
+enter_critical_row worker to number lock = record { names = write (obj.Lock number) ∷ events worker ∷ []; row =
+    λ values. lock_row worker to number lock (holder_in (first_of values)) }
 
 abbrev pub unlock_row : ℕ → List ℕ → Row
 unlock_row to lock = Goes (edits to 0 Close) (Put (value.Lock None) ∷ event (event_record.MutexReleased lock) ∷ [])
 
 abbrev pub leave_critical_row : ℕ → ℕ → ℕ → List ℕ → Option Construct → Asked
 leave_critical_row worker to number lock region =
-    if is_critical number region then record { names = write (obj.Lock number) ∷ events worker ∷ []; row = λ _. unlock_row to lock }
+    if is_critical number region then record { names = write (obj.Lock number) ∷ events worker ∷ []; row =
+        λ _. unlock_row to lock }
     else decided Lacks

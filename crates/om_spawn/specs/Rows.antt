@@ -1,5 +1,6 @@
 -- The rows of tasks, task groups, and the end of the program.
-use Rattle.std.specs.Prelude.{ℕ, ℤ, pos, negsuc, Bool, true, false, if◌then◌else◌, nat_eq, Option, None, Some, List, [], ◌∷◌, ◌++◌}
+use Rattle.std.specs.Prelude.{ℕ, ℤ, pos, negsuc, Bool, true, false, if◌then◌else◌, nat_eq, Option, None, Some, List,
+    [], ◌∷◌, ◌++◌}
 use Rattle.std.specs.Cmp.Lexicographic.{pointwise}
 use Rattle.om_foot.specs.Names.{parent_of}
 use Rattle.om_foot.specs.declared.object.Obj.TheVariants as obj
@@ -42,7 +43,8 @@ use Rattle.om_spawn.specs.Tasks.{is_zero, born, group_of, innermost_group, count
 
 -- OpenMP 5.2, 12.5: a task of this name is made, with its firstprivate values
 abbrev pub made_names : ℕ → Body → Context → List ℕ → List Access
-made_names worker body c new = write (obj.Task new) ∷ (given_cells new 0 body.given ++ (counts c.task c (group_of c) ++ events worker ∷ []))
+made_names worker body c new = write (obj.Task new)
+    ∷ (given_cells new 0 body.given ++ (counts c.task c (group_of c) ++ events worker ∷ []))
 
 -- the values go to the cells, the counts have one more, and the event is recorded
 abbrev pub values_given : Context → List ℕ → List ℤ → List Update
@@ -71,7 +73,9 @@ abbrev pub ended_names : ℕ → Context → List Access → List ℕ → List A
 ended_names worker c own parent = write (obj.Task c.task) ∷ (own ++ (counts parent c c.group ++ events worker ∷ []))
 
 abbrev pub ended_updates : Context → List Access → List ℕ → List Update
-ended_updates c own next = Put (value.Task task.Done) ∷ (deaths own ++ (additions (negsuc 0) c.group ++ event (event_record.TaskSchedule c.task status.Complete next) ∷ []))
+ended_updates c own next = Put (value.Task task.Done)
+    ∷ (deaths own ++ (additions (negsuc 0) c.group ++ event (event_record.TaskSchedule c.task status.Complete next)
+    ∷ []))
 
 abbrev pub ended_row : ℕ → Context → List Context → List Access → Option (List ℕ) → Asked
 ended_row worker c below own None = decided Lacks
@@ -85,7 +89,8 @@ ended_row worker c (next ∷ below) own (Some parent) = record {
 abbrev pub end_row_of : ℕ → Stack → List Slot → Kind → Asked
 end_row_of worker stack slots kind.Initial = decided Lacks
 end_row_of worker stack slots kind.Implicit = decided Lacks
-end_row_of worker stack slots kind.Explicit = ended_row worker stack.top stack.below (own_cells stack.top slots) (parent_of stack.top.task)
+end_row_of worker stack slots kind.Explicit = ended_row worker stack.top stack.below (own_cells stack.top slots)
+    (parent_of stack.top.task)
 
 abbrev pub task_end_row : ℕ → Stack → List Slot → Asked
 task_end_row worker stack slots = end_row_of worker stack slots stack.top.kind
@@ -96,14 +101,16 @@ sync_event s e c = event_record.SyncRegion s e c.team.name c.task
 
 -- OpenMP 5.2, 15.5: a task waits for its children
 abbrev pub wait_begin_row : ℕ → ℕ → Context → Asked
-wait_begin_row worker to c = record { names = events worker ∷ []; row = λ _. goes to 0 None (event (sync_event sync.TaskWait endpoint.Begin c) ∷ []) }
+wait_begin_row worker to c = record { names = events worker ∷ []; row = λ _. goes to 0 None
+    (event (sync_event sync.TaskWait endpoint.Begin c) ∷ []) }
 
 abbrev pub waited : ℕ → Context → Bool → Row
 waited to c true = goes to 0 None (Keep ∷ event (sync_event sync.TaskWait endpoint.End c) ∷ [])
 waited to c false = Blocked blocked.Children
 
 abbrev pub wait_end_row : ℕ → ℕ → Context → Asked
-wait_end_row worker to c = record { names = read (obj.Kids c.task) ∷ events worker ∷ []; row = λ values. waited to c (is_zero (count_in (first_of values))) }
+wait_end_row worker to c = record { names = read (obj.Kids c.task) ∷ events worker ∷ []; row = λ values. waited to c
+    (is_zero (count_in (first_of values))) }
 
 -- OpenMP 5.2, 12.7: a task goes on, and might have started another one
 abbrev pub task_yield_row : ℕ → Asked
@@ -114,7 +121,8 @@ abbrev pub opened_row : ℕ → ℕ → Context → Option (List ℕ) → Asked
 opened_row worker to c None = decided (Faults fault.Name)
 opened_row worker to c (Some group) = record {
   names = events worker ∷ [];
-  row = λ _. Goes (Go to 0 None ∷ CountBirth ∷ Open (construct.Group group) ∷ []) (event (sync_event sync.TaskGroup endpoint.Begin c) ∷ []);
+  row = λ _. Goes (Go to 0 None ∷ CountBirth ∷ Open (construct.Group group) ∷ [])
+      (event (sync_event sync.TaskGroup endpoint.Begin c) ∷ []);
 }
 
 abbrev pub group_begin_row : ℕ → ℕ → Context → Asked
@@ -127,7 +135,8 @@ closed to c false = Blocked blocked.Group
 
 abbrev pub closed_row : ℕ → ℕ → Context → Option (List ℕ) → Asked
 closed_row worker to c None = decided Lacks
-closed_row worker to c (Some group) = record { names = read (obj.Group group) ∷ events worker ∷ []; row = λ values. closed to c (is_zero (count_in (first_of values))) }
+closed_row worker to c (Some group) = record { names = read (obj.Group group) ∷ events worker ∷ []; row = λ values.
+    closed to c (is_zero (count_in (first_of values))) }
 
 abbrev pub group_end_row : ℕ → ℕ → Context → Asked
 group_end_row worker to c = closed_row worker to c (innermost_group (innermost c.constructs))
@@ -139,7 +148,8 @@ value_of c false = Some (pos 0)
 
 -- it ends once all tasks of the initial task's team have ended
 abbrev pub finished : Context → ℤ → Bool → Row
-finished c n true = Goes (End n ∷ []) (Keep ∷ event (event_record.ImplicitTask endpoint.End [] c.task 0 1 flag.Initial) ∷ [])
+finished c n true = Goes (End n ∷ [])
+    (Keep ∷ event (event_record.ImplicitTask endpoint.End [] c.task 0 1 flag.Initial) ∷ [])
 finished c n false = Blocked blocked.Children
 
 -- only an initial task has such an end
@@ -161,16 +171,19 @@ ready_for team (task.Ready ready) = if pointwise nat_eq ready.team team then Som
 ready_for team _ = None
 
 abbrev pub begun_updates : ℕ → List ℕ → statuses.TaskStatus → List ℕ → List Update
-begun_updates worker prior s name = Put (value.Task (task.Running worker)) ∷ event (event_record.TaskSchedule prior s name) ∷ []
+begun_updates worker prior s name = Put (value.Task (task.Running worker))
+    ∷ event (event_record.TaskSchedule prior s name) ∷ []
 
 abbrev pub started : ℕ → List ℕ → Context → statuses.TaskStatus → Option Ready → Row
 started worker name c s None = Blocked blocked.Task
-started worker name c s (Some ready) = Goes (BeginContext (task_context name c ready) ∷ []) (begun_updates worker c.task s name)
+started worker name c s (Some ready) = Goes (BeginContext (task_context name c ready) ∷ [])
+    (begun_updates worker c.task s name)
 
 abbrev pub started_row : ℕ → List ℕ → Context → Bool → Option statuses.TaskStatus → Asked
 started_row worker name c admits None = decided (Blocked blocked.Place)
 started_row worker name c false (Some s) = decided (Blocked blocked.Task)
-started_row worker name c true (Some s) = record { names = write (obj.Task name) ∷ events worker ∷ []; row = λ values. started worker name c s (ready_for c.team.name (task_in (first_of values))) }
+started_row worker name c true (Some s) = record { names = write (obj.Task name) ∷ events worker ∷ []; row =
+    λ values. started worker name c s (ready_for c.team.name (task_in (first_of values))) }
 
 -- OpenMP 5.2, 12.9: the task of a name is started on a context, at a scheduling point
 abbrev pub start_row : Starting → List ℕ → Context → Asked

@@ -12,7 +12,8 @@ use Rattle.om_spawn.specs.Rows.{spawn_row}
 use Rattle.om_task.specs.Sites.{body_of}
 
 -- an answer at every state is one at this state
-pub at_state : {E : Type 0} (r : Result Answer E) (a : Asked) (s : State) → IfOk r (λ answer. (t : State) → answer ≡ answered a t) → IfOk r (λ answer. answer ≡ answered a s)
+pub at_state : {E : Type 0} (r : Result Answer E) (a : Asked) (s : State) → IfOk r (λ answer. (t : State) → answer
+    ≡ answered a t) → IfOk r (λ answer. answer ≡ answered a s)
 at_state (Ok answer) a s h = h s
 at_state (Err e) a s h = tt
 
@@ -21,6 +22,9 @@ pub body_is : (raw : Raw) (n : ℕ) (b : Body) → slice_get raw.bodies n ≡ So
 body_is raw n b h = sym (ap (λ o. unwrap_or o (record { code = []; slots = []; given = [] })) h)
 
 -- equal makings of equal bodies have equal answers
-pub same_spawn : {E : Type 0} (r : Result Answer E) (m n : Making) (b d : Body) (c : Context) (s : State) → m ≡ n → b ≡ d → IfOk r (λ answer. answer ≡ answered (spawn_row m b c) s) → IfOk r (λ answer. answer ≡ answered (spawn_row n d c) s)
+pub same_spawn : {E : Type 0} (r : Result Answer E) (m n : Making) (b d : Body) (c : Context) (s : State) → m ≡ n
+    → b ≡ d → IfOk r (λ answer. answer ≡ answered (spawn_row m b c) s)
+    → IfOk r (λ answer. answer ≡ answered (spawn_row n d c) s)
 same_spawn r m n b d c s makings bodies h =
-    subst (λ q. IfOk r (λ answer. answer ≡ answered (spawn_row n q c) s)) bodies (subst (λ q. IfOk r (λ answer. answer ≡ answered (spawn_row q b c) s)) makings h)
+    subst (λ q. IfOk r (λ answer. answer ≡ answered (spawn_row n q c) s)) bodies
+        (subst (λ q. IfOk r (λ answer. answer ≡ answered (spawn_row q b c) s)) makings h)

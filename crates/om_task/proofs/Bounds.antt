@@ -1,4 +1,5 @@
--- What every row keeps to: it counts up one number at most, begins and puts nothing that has counted more than before, puts no count, and adds at most one.
+-- What every row keeps to: it counts up one number at most, begins and puts nothing that has counted more
+-- than before, puts no count, and adds at most one.
 use Rattle.std.proofs.Common.{ℕ, ◌+◌, ◌≤◌, pos, List, [], ◌∷◌}
 use Rattle.std.specs.Prelude.{neg_ℤ, ◌≤ℤ◌}
 use Rattle.om_cells.specs.declared.edit.Edit.{Edit}

@@ -31,7 +31,8 @@ use Rattle.om_task.proofs.Walk.{choice_within, row_within}
 
 -- some number that no counter is above
 context_bound : (c : Context) → (n : ℕ) × IsWithin n c
-context_bound c = (c.births + c.regions + c.phase + c.frames, record { births = omega arith; regions = omega arith; phase = omega arith; frames = omega arith })
+context_bound c = (c.births + c.regions + c.phase + c.frames, record { births = omega arith; regions = omega arith;
+    phase = omega arith; frames = omega arith })
 
 contexts_bound : (cs : List Context) → (n : ℕ) × AreWithin n cs
 contexts_bound [] = (0, tt)
@@ -79,22 +80,29 @@ modest n (Keep ∷ us) g = (tt, modest n us g.1)
 modest n (Append t ∷ us) g = (tt, modest n us g.1)
 modest n (Cut k ∷ us) g = (tt, modest n us g.1)
 
-outcome_modest : (n : ℕ) (c : controls.Control) (r : Row) (us : List Update) → RowWithin n r → outcome_after c r ≡ Updates us → AreModest us
-outcome_modest n c (row.Goes edits ws) us k e = let same : Put (value.Control (changed edits c)) ∷ ws ≡ us = cc in subst AreModest same (tt, modest n ws k.gentle)
-outcome_modest n c (row.Faults f) us k e = let same : Put (value.Control (changed (Fail f ∷ []) c)) ∷ [] ≡ us = cc in subst AreModest same (tt, tt)
+outcome_modest : (n : ℕ) (c : controls.Control) (r : Row) (us : List Update) → RowWithin n r → outcome_after c r
+    ≡ Updates us → AreModest us
+outcome_modest n c (row.Goes edits ws) us k e = let same : Put (value.Control (changed edits c)) ∷ ws ≡ us = cc in
+    subst AreModest same (tt, modest n ws k.gentle)
+outcome_modest n c (row.Faults f) us k e = let same : Put (value.Control (changed (Fail f ∷ []) c)) ∷ []
+    ≡ us = cc in subst AreModest same (tt, tt)
 outcome_modest n c (row.Blocked b) us k e = cc
 outcome_modest n c row.Lacks us k e = cc
 
-values_modest : (program : Raw) (workers : ℕ) (l : Label) (values : List Val) (us : List Update) → outcome_of program workers l values ≡ Updates us → AreModest us
+values_modest : (program : Raw) (workers : ℕ) (l : Label) (values : List Val) (us : List Update)
+    → outcome_of program workers l values ≡ Updates us → AreModest us
 values_modest program workers l [] us e = cc
 values_modest program workers l (v ∷ values) us e =
     let c = control_in v in
     let a = control_bound c in let b = values_bound values in
     outcome_modest (a.0 + b.0) c (row_in program workers l c values) us
-    (row_within (a.0 + b.0) program workers l c values (control_more a.0 (a.0 + b.0) c (omega arith) a.1) (values_more b.0 (a.0 + b.0) values (omega arith) b.1)) e
+    (row_within (a.0 + b.0) program workers l c values (control_more a.0 (a.0 + b.0) c (omega arith) a.1)
+        (values_more b.0 (a.0 + b.0) values (omega arith) b.1)) e
 
 names_once : (program : Raw) (workers : ℕ) (l : Label) (c : controls.Control) → AddOnce (further_in program workers l c)
-names_once program workers l (Running stack) = let a = context_bound stack.top in (choice_within a.0 (site program workers l.worker stack) (instruction_at program stack.top.frame.body stack.top.frame.next) l.choice [] a.1 tt).names
+names_once program workers l (Running stack) = let a = context_bound stack.top in
+    (choice_within a.0 (site program workers l.worker stack) (instruction_at program stack.top.frame.body
+    stack.top.frame.next) l.choice [] a.1 tt).names
 names_once program workers l Idle = tt
 names_once program workers l (Faulted f stack) = tt
 names_once program workers l (Ended v) = tt

@@ -1,5 +1,6 @@
 -- Gentle updates, and accesses that add nothing.
-use Rattle.std.proofs.Common.{◌≡◌, refl, ℕ, zero, suc, ◌+◌, ℤ, pos, negsuc, Bool, true, false, if◌then◌else◌, arith, List, [], ◌∷◌, ◌++◌, replicate}
+use Rattle.std.proofs.Common.{◌≡◌, refl, ℕ, zero, suc, ◌+◌, ℤ, pos, negsuc, Bool, true, false, if◌then◌else◌, arith,
+    List, [], ◌∷◌, ◌++◌, replicate}
 use Rattle.std.proofs.lemmas.Int.{ints}
 use Rattle.om_foot.specs.declared.footprint.Access.{Access}
 use Rattle.om_code.specs.declared.raw.Slot.{Slot}
@@ -39,7 +40,8 @@ pub once : (xs : List Access) → AddNone xs → AddOnce xs
 once [] h = tt
 once (x ∷ xs) h = ((λ e. cc (h.0)), once xs h.1)
 
-pub slot_none : (task : List ℕ) (frame slot : ℕ) (home : Home) (index count : ℕ) → AddNone (slot_cells task frame slot home index count)
+pub slot_none : (task : List ℕ) (frame slot : ℕ) (home : Home) (index count : ℕ)
+    → AddNone (slot_cells task frame slot home index count)
 slot_none task frame slot home index zero = tt
 slot_none task frame slot home index (suc count) = (refl, slot_none task frame slot home (index + 1) count)
 
@@ -53,7 +55,8 @@ own_slot_none c slot cells (Elsewhere t f s) = tt
 
 pub own_none : (c : Context) (number : ℕ) (slots : List Slot) → AddNone (own_from c number slots)
 own_none c number [] = tt
-own_none c number (slot ∷ slots) = none_append _ _ (own_slot_none c number slot.cells (home_at c.frame.homes number)) (own_none c (number + 1) slots)
+own_none c number (slot ∷ slots) = none_append _ _ (own_slot_none c number slot.cells
+    (home_at c.frame.homes number)) (own_none c (number + 1) slots)
 
 pub arrivals_none : (team : List ℕ) (number count : ℕ) → AddNone (arrivals team number count)
 arrivals_none team number zero = tt
@@ -65,7 +68,8 @@ workers_none worker (suc count) = (refl, workers_none (worker + 1) count)
 
 pub members_none : (team given : List ℕ) (number count : ℕ) → AddNone (member_cells team given number count)
 members_none team given number zero = tt
-members_none team given number (suc count) = none_append _ _ (given_none (team ++ number ∷ []) 0 given) (members_none team given (number + 1) count)
+members_none team given number (suc count) = none_append _ _ (given_none (team ++ number ∷ []) 0 given)
+    (members_none team given (number + 1) count)
 
 pub gentle_append : (n : ℕ) (us ws : List Update) → AreGentle n us → AreGentle n ws → AreGentle n (us ++ ws)
 gentle_append n [] ws g h = h
@@ -85,15 +89,20 @@ keeps_gentle n (suc k) = (tt, keeps_gentle n k)
 
 -- a member of a team begins with nothing counted
 pub member_within : (n : ℕ) (team : Team) (frame : Frame) → IsWithin n (member team frame)
-member_within n team frame = record { births = omega arith; regions = omega arith; phase = omega arith; frames = omega arith }
+member_within n team frame = record { births = omega arith; regions = omega arith; phase = omega arith; frames =
+    omega arith }
 
-pub controls_gentle : (n : ℕ) (team : Team) (frame : Frame) (number count : ℕ) → AreGentle n (member_controls team frame number count)
+pub controls_gentle : (n : ℕ) (team : Team) (frame : Frame) (number count : ℕ)
+    → AreGentle n (member_controls team frame number count)
 controls_gentle n team frame number zero = tt
-controls_gentle n team frame number (suc count) = ((tt, (member_within n (record team { number = number }) frame, tt)), controls_gentle n team frame (number + 1) count)
+controls_gentle n team frame number (suc count) =
+    ((tt, (member_within n (record team { number = number }) frame, tt)), controls_gentle n team frame (number + 1)
+    count)
 
 pub values_gentle : (n : ℕ) (ns : List ℤ) (count : ℕ) → AreGentle n (member_puts ns count)
 values_gentle n ns zero = tt
-values_gentle n ns (suc count) = gentle_append n (puts ns) (member_puts ns count) (puts_gentle n ns) (values_gentle n ns count)
+values_gentle n ns (suc count) = gentle_append n (puts ns) (member_puts ns count) (puts_gentle n ns)
+    (values_gentle n ns count)
 
 pub up_gentle : (n : ℕ) → AreGentle n (Add (pos 1) ∷ [])
 up_gentle n = ((omega (arith, ints), omega (arith, ints)), tt)
@@ -109,13 +118,15 @@ pub by_control : (n : ℕ) (r : Row) (values : List Val) → RowWithin n r → A
 by_control n r values h = record { names = tt; row = h }
 
 -- one that adds nothing
-pub plain : (n : ℕ) (a : Asked) (values : List Val) → AddNone a.names → RowWithin n (a.row values) → AskedWithin n a values
+pub plain : (n : ℕ) (a : Asked) (values : List Val) → AddNone a.names → RowWithin n (a.row values) → AskedWithin n a
+    values
 plain n a values h k = record { names = once a.names h; row = k }
 
 pub if_row : (n : ℕ) (b : Bool) (x y : Row) → RowWithin n x → RowWithin n y → RowWithin n (if b then x else y)
 if_row n true x y h k = h
 if_row n false x y h k = k
 
-pub if_asked : (n : ℕ) (b : Bool) (x y : Asked) (values : List Val) → AskedWithin n x values → AskedWithin n y values → AskedWithin n (if b then x else y) values
+pub if_asked : (n : ℕ) (b : Bool) (x y : Asked) (values : List Val) → AskedWithin n x values → AskedWithin n y
+    values → AskedWithin n (if b then x else y) values
 if_asked n true x y values h k = h
 if_asked n false x y values h k = k

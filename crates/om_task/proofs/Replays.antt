@@ -1,5 +1,6 @@
 -- Counters stay below the number of steps.
-use Rattle.std.proofs.Common.{◌≡◌, refl, subst, ℕ, ◌+◌, ◌≤◌, arith, Bool, true, false, cond, List, [], ◌∷◌, Option, None, Some, length}
+use Rattle.std.proofs.Common.{◌≡◌, refl, subst, ℕ, ◌+◌, ◌≤◌, arith, Bool, true, false, cond, List, [], ◌∷◌, Option,
+    None, Some, length}
 use Rattle.om_code.specs.declared.raw.Raw.{Raw}
 use Rattle.om_foot.specs.Footprint.{obj_eq}
 use Rattle.om_foot.specs.declared.object.Obj.TheVariants as obj
@@ -88,7 +89,8 @@ with_within n (tail.Events records) (value.Cell c) w = tt
 with_within n (tail.Events records) (value.Number k) w = tt
 with_within n (tail.Events records) (value.Lock k) w = tt
 
-after_within : (n : ℕ) (m : Mode) (u : Update) (old : Val) → IsGentle n u → ValueWithin n old → ValueWithin n (value_after m u old)
+after_within : (n : ℕ) (m : Mode) (u : Update) (old : Val) → IsGentle n u → ValueWithin n old
+    → ValueWithin n (value_after m u old)
 after_within n mode.Write (Put v) old g w = g.1
 after_within n mode.Write (Append t) old g w = with_within n t old w
 after_within n mode.Write (Add d) old g w = w
@@ -110,48 +112,63 @@ one_of n true v w h k = h
 one_of n false v w h k = k
 
 -- gentle updates leave the counters low
-updated_within : (n : ℕ) (accesses : List Access) (us : List Update) (s : State) → AreGentle n us → StateWithin n s → StateWithin n (updated accesses us s)
+updated_within : (n : ℕ) (accesses : List Access) (us : List Update) (s : State) → AreGentle n us → StateWithin n s
+    → StateWithin n (updated accesses us s)
 updated_within n [] us s g w = w
 updated_within n (a ∷ rest) [] s g w = w
-updated_within n (a ∷ rest) (u ∷ us) s g w = updated_within n rest us (state_after a u s) g.1 (λ q. one_of n (obj_eq a.object q) (value_after a.mode u (s q)) (s q) (after_within n a.mode u (s q) g.0 (w q)) (w q))
+updated_within n (a ∷ rest) (u ∷ us) s g w = updated_within n rest us (state_after a u s) g.1
+    (λ q. one_of n (obj_eq a.object q) (value_after a.mode u (s q)) (s q) (after_within n a.mode u (s q) g.0 (w q))
+    (w q))
 
-outcome_within : (n : ℕ) (c : controls.Control) (r : Row) (accesses : List Access) (s t : State) → ControlWithin n c → RowWithin n r → StateWithin n s → state_after_outcome accesses (outcome_after c r) s ≡ Some t → StateWithin (n + 1) t
+outcome_within : (n : ℕ) (c : controls.Control) (r : Row) (accesses : List Access) (s t : State) → ControlWithin n c
+    → RowWithin n r → StateWithin n s → state_after_outcome accesses (outcome_after c r) s ≡ Some t
+    → StateWithin (n + 1) t
 outcome_within n c (row.Goes edits us) accesses s t w k h e =
     let new : updated accesses (Put (value.Control (changed edits c)) ∷ us) s ≡ t = cc in
     subst (StateWithin (n + 1)) new
     (updated_within (n + 1) accesses (Put (value.Control (changed edits c)) ∷ us) s
-    ((tt, control_more (n + counts edits) (n + 1) (changed edits c) (omega (arith, k.few)) (changed_within n edits c k.begun w)), gentle_more n (n + 1) us (omega arith) k.gentle)
+    ((tt, control_more (n + counts edits) (n + 1) (changed edits c) (omega (arith, k.few))
+        (changed_within n edits c k.begun w)), gentle_more n (n + 1) us (omega arith) k.gentle)
     (state_more n (n + 1) s (omega arith) h))
 outcome_within n c (row.Faults f) accesses s t w k h e =
     let new : updated accesses (Put (value.Control (changed (Fail f ∷ []) c)) ∷ []) s ≡ t = cc in
     subst (StateWithin (n + 1)) new
     (updated_within (n + 1) accesses (Put (value.Control (changed (Fail f ∷ []) c)) ∷ []) s
-    ((tt, control_more (n + counts (Fail f ∷ [])) (n + 1) (changed (Fail f ∷ []) c) (omega arith) (changed_within n (Fail f ∷ []) c (tt, tt) w)), tt)
+    ((tt, control_more (n + counts (Fail f ∷ [])) (n + 1) (changed (Fail f ∷ []) c) (omega arith)
+        (changed_within n (Fail f ∷ []) c (tt, tt) w)), tt)
     (state_more n (n + 1) s (omega arith) h))
 outcome_within n c (row.Blocked b) accesses s t w k h e = cc
 outcome_within n c row.Lacks accesses s t w k h e = cc
 
 -- a step raises no counter by more than one
-step_within : (program : Raw) (workers n : ℕ) (s t : State) (l : Label) → StateWithin n s → next_state (rules_of program workers) s l ≡ Some t → StateWithin (n + 1) t
+step_within : (program : Raw) (workers n : ℕ) (s t : State) (l : Label) → StateWithin n s
+    → next_state (rules_of program workers) s l ≡ Some t → StateWithin (n + 1) t
 unfolding step_at
 step_within program workers n s t l h e =
     let c : controls.Control = control_in (s (obj.Control l.worker)) in
     let names : List Access = further_in program workers l c in
     let w : ControlWithin n c = control_within n l.worker s c refl h in
-    outcome_within n c (row_in program workers l c (values_read names s)) (step_at (rules_of program workers) s l).footprint s t w (row_within n program workers l c (values_read names s) w (values_within n names s h)) h e
+    outcome_within n c (row_in program workers l c (values_read names s)) (step_at (rules_of program workers) s
+        l).footprint s t w (row_within n program workers l c (values_read names s) w (values_within n names s h)) h e
 
-then_within : (n : ℕ) (o : Option State) (f : State → Option State) (t : State) → ((u : State) → o ≡ Some u → f u ≡ Some t → StateWithin n t) → and_then o f ≡ Some t → StateWithin n t
+then_within : (n : ℕ) (o : Option State) (f : State → Option State) (t : State)
+    → ((u : State) → o ≡ Some u → f u ≡ Some t → StateWithin n t) → and_then o f ≡ Some t → StateWithin n t
 then_within n None f t h e = cc
 then_within n (Some u) f t h e = h u refl e
 
-replay_within : (program : Raw) (workers n m : ℕ) (ls : List Label) (s t : State) → StateWithin n s → replay_from (rules_of program workers) s ls ≡ Some t → n + length ls ≤ m → StateWithin m t
-replay_within program workers n m [] s t h e few = let same : s ≡ t = cc in subst (StateWithin m) same (state_more n m s (omega (arith, few)) h)
+replay_within : (program : Raw) (workers n m : ℕ) (ls : List Label) (s t : State) → StateWithin n s
+    → replay_from (rules_of program workers) s ls ≡ Some t → n + length ls ≤ m → StateWithin m t
+replay_within program workers n m [] s t h e few = let same : s ≡ t = cc in subst (StateWithin m) same
+    (state_more n m s (omega (arith, few)) h)
 replay_within program workers n m (l ∷ ls) s t h e few =
     then_within m (next_state (rules_of program workers) s l) (λ u. replay_from (rules_of program workers) u ls) t
-    (λ u is rest. replay_within program workers (n + 1) m ls u t (step_within program workers n s u l h is) rest (omega (arith, few))) e
+    (λ u is rest. replay_within program workers (n + 1) m ls u t (step_within program workers n s u l h is) rest
+        (omega (arith, few))) e
 
-first_within : (program : Raw) (b : Bool) → ControlWithin 0 (if b then Running (record { top = first_context program; below = [] }) else Idle)
-first_within program true = (record { births = omega arith; regions = omega arith; phase = omega arith; frames = omega arith }, tt)
+first_within : (program : Raw) (b : Bool) → ControlWithin 0
+    (if b then Running (record { top = first_context program; below = [] }) else Idle)
+first_within program true = (record { births = omega arith; regions = omega arith; phase = omega arith; frames =
+    omega arith }, tt)
 first_within program false = tt
 
 start_within : (program : Raw) (workers : ℕ) → StateWithin 0 (start_of program workers)
@@ -169,4 +186,5 @@ start_within program workers obj.Output = tt
 start_within program workers (obj.Events w) = tt
 
 pub low_counters : LowCounters
-low_counters program workers n ls s e few = replay_within program workers 0 n ls (start_of program workers) s (start_within program workers) e (omega (arith, few))
+low_counters program workers n ls s e few = replay_within program workers 0 n ls (start_of program workers) s
+    (start_within program workers) e (omega (arith, few))

@@ -21,34 +21,58 @@ use Rattle.om_task.specs.Sites.{Site, context, operands, next, slots, line, laun
 use Rattle.om_task.proofs.Bounds.{RowWithin, AskedWithin, ValuesWithin}
 use Rattle.om_task.specs.Table.{row_of, fork_takes}
 use Rattle.om_task.proofs.Gentle.{lacks}
-use Rattle.om_task.proofs.ShareRows.{loop_within, sections_within, grab_within, iterate_within, pick_within, single_within, end_worksharing_within, masked_within, end_masked_within, ask_critical_within, enter_critical_within, leave_critical_within}
-use Rattle.om_task.proofs.TaskRows.{serial_within, number_within, call_within, return_within, reduce_within, fork_within, begin_within, arrive_within, depart_within, leave_within, spawn_within, task_end_within, wait_begin_within, wait_end_within, yield_within, group_begin_within, group_end_within, finish_within, start_within}
+use Rattle.om_task.proofs.ShareRows.{loop_within, sections_within, grab_within, iterate_within, pick_within,
+    single_within, end_worksharing_within, masked_within, end_masked_within, ask_critical_within,
+    enter_critical_within, leave_critical_within}
+use Rattle.om_task.proofs.TaskRows.{serial_within, number_within, call_within, return_within, reduce_within,
+    fork_within, begin_within, arrive_within, depart_within, leave_within, spawn_within, task_end_within,
+    wait_begin_within, wait_end_within, yield_within, group_begin_within, group_end_within, finish_within, start_within}
 
-instruction_within : (n : ℕ) (s : Site) (instr : Instr) (values : List Val) → IsWithin n s.stack.top → AskedWithin n (row_of s instr) values
+instruction_within : (n : ℕ) (s : Site) (instr : Instr) (values : List Val) → IsWithin n s.stack.top
+    → AskedWithin n (row_of s instr) values
 instruction_within n s i.ThreadNumber values w = number_within n (context s) (context s).team.number values
 instruction_within n s i.TeamSize values w = number_within n (context s) (context s).team.size values
-instruction_within n s (i.Call body count) values w = call_within n (launch s count body) (body_of s.program body) (context s) (ints_on count (operands s)) values
-instruction_within n s i.Return values w = return_within n (context s) (slots s) (context s).callers (option_map Int (int_at 0 (operands s))) values
-instruction_within n s i.ReturnNothing values w = return_within n (context s) (slots s) (context s).callers (Some NoValue) values
-instruction_within n s (i.Reduce reduction copy place) values w = reduce_within n (context s) reduction copy place values
-instruction_within n s (i.Fork body sized count) values w = fork_within n s.worker s.workers (launch s (fork_takes sized count) body) (body_of s.program body) (context s) sized (int_at count (operands s)) (ints_on count (operands s)) values
+instruction_within n s (i.Call body count) values w = call_within n (launch s count body) (body_of s.program body)
+    (context s) (ints_on count (operands s)) values
+instruction_within n s i.Return values w = return_within n (context s) (slots s) (context s).callers
+    (option_map Int (int_at 0 (operands s))) values
+instruction_within n s i.ReturnNothing values w = return_within n (context s) (slots s) (context s).callers
+    (Some NoValue) values
+instruction_within n s (i.Reduce reduction copy place) values w = reduce_within n (context s) reduction copy place
+    values
+instruction_within n s (i.Fork body sized count) values w = fork_within n s.worker s.workers
+    (launch s (fork_takes sized count) body) (body_of s.program body) (context s) sized (int_at count (operands s))
+    (ints_on count (operands s)) values
 instruction_within n s i.Begin values w = begin_within n s.worker (next s) (context s) values
 instruction_within n s (i.Arrive barrier) values w = arrive_within n s.worker (next s) barrier (context s) values
 instruction_within n s (i.Depart barrier) values w = depart_within n s.worker (next s) barrier (context s) values
-instruction_within n s i.Leave values w = leave_within n s.worker (context s) s.stack.below (slots s) (context s).kind (context s).team.number values
-instruction_within n s (i.Loop form) values w = loop_within n s.worker (next s) (context s) form (int_at 1 (operands s)) (int_at 0 (operands s)) values
+instruction_within n s i.Leave values w = leave_within n s.worker (context s) s.stack.below (slots s)
+    (context s).kind (context s).team.number values
+instruction_within n s (i.Loop form) values w = loop_within n s.worker (next s) (context s) form
+    (int_at 1 (operands s)) (int_at 0 (operands s)) values
 instruction_within n s (i.Sections count) values w = sections_within n s.worker (next s) (context s) count values
-instruction_within n s (i.Grab otherwise) values w = grab_within n (next s) otherwise (context s) (share_in (context s)) values
-instruction_within n s (i.Iterate slot otherwise) values w = iterate_within n (next s) otherwise (context s) slot (share_in (context s)) values
-instruction_within n s (i.Pick number) values w = pick_within n (targets_of s.program number) (share_in (context s)) values
+instruction_within n s (i.Grab otherwise) values w = grab_within n (next s) otherwise (context s)
+    (share_in (context s)) values
+instruction_within n s (i.Iterate slot otherwise) values w = iterate_within n (next s) otherwise (context s) slot
+    (share_in (context s)) values
+instruction_within n s (i.Pick number) values w = pick_within n (targets_of s.program number) (share_in (context s))
+    values
 instruction_within n s (i.Single otherwise) values w = single_within n s.worker (next s) otherwise (context s) values
-instruction_within n s i.EndWorksharing values w = end_worksharing_within n s.worker (next s) (context s) (innermost (context s).constructs) values
-instruction_within n s (i.Masked otherwise) values w = masked_within n s.worker (next s) otherwise (context s) (int_at 0 (operands s)) values
-instruction_within n s i.EndMasked values w = end_masked_within n s.worker (next s) (context s) (innermost (context s).constructs) values
-instruction_within n s (i.AskCritical lock) values w = ask_critical_within n s.worker (next s) (lock_of s.program lock) values
-instruction_within n s (i.EnterCritical lock) values w = enter_critical_within n s.worker (next s) lock (lock_of s.program lock) values
-instruction_within n s (i.LeaveCritical lock) values w = leave_critical_within n s.worker (next s) lock (lock_of s.program lock) (innermost (context s).constructs) values
-instruction_within n s (i.Spawn body count) values w = spawn_within n (record { worker = s.worker; line = line s; launch = launch s count body }) (body_of s.program body) (context s) values w
+instruction_within n s i.EndWorksharing values w = end_worksharing_within n s.worker (next s) (context s)
+    (innermost (context s).constructs) values
+instruction_within n s (i.Masked otherwise) values w = masked_within n s.worker (next s) otherwise (context s)
+    (int_at 0 (operands s)) values
+instruction_within n s i.EndMasked values w = end_masked_within n s.worker (next s) (context s)
+    (innermost (context s).constructs) values
+instruction_within n s (i.AskCritical lock) values w = ask_critical_within n s.worker (next s)
+    (lock_of s.program lock) values
+instruction_within n s (i.EnterCritical lock) values w = enter_critical_within n s.worker (next s) lock
+    (lock_of s.program lock) values
+instruction_within n s (i.LeaveCritical lock) values w = leave_critical_within n s.worker (next s) lock
+    (lock_of s.program lock) (innermost (context s).constructs) values
+instruction_within n s (i.Spawn body count) values w = spawn_within n
+    (record { worker = s.worker; line = line s; launch = launch s count body }) (body_of s.program body) (context s)
+    values w
 instruction_within n s i.TaskEnd values w = task_end_within n s.worker s.stack (slots s) values
 instruction_within n s i.WaitBegin values w = wait_begin_within n s.worker (next s) (context s) values
 instruction_within n s i.WaitEnd values w = wait_end_within n s.worker (next s) (context s) values
@@ -64,27 +88,39 @@ instruction_within n s i.Use values w = serial_within n s.program (context s) i.
 instruction_within n s (i.Unary operator) values w = serial_within n s.program (context s) (i.Unary operator) values
 instruction_within n s (i.Binary operator) values w = serial_within n s.program (context s) (i.Binary operator) values
 instruction_within n s (i.Jump target) values w = serial_within n s.program (context s) (i.Jump target) values
-instruction_within n s (i.JumpIfZero target) values w = serial_within n s.program (context s) (i.JumpIfZero target) values
+instruction_within n s (i.JumpIfZero target) values w = serial_within n s.program (context s) (i.JumpIfZero target)
+    values
 instruction_within n s (i.Load place) values w = serial_within n s.program (context s) (i.Load place) values
-instruction_within n s (i.Store place keeps) values w = serial_within n s.program (context s) (i.Store place keeps) values
-instruction_within n s (i.LoadElement place) values w = serial_within n s.program (context s) (i.LoadElement place) values
-instruction_within n s (i.StoreElement place keeps) values w = serial_within n s.program (context s) (i.StoreElement place keeps) values
+instruction_within n s (i.Store place keeps) values w = serial_within n s.program (context s) (i.Store place keeps)
+    values
+instruction_within n s (i.LoadElement place) values w = serial_within n s.program (context s) (i.LoadElement place)
+    values
+instruction_within n s (i.StoreElement place keeps) values w = serial_within n s.program (context s)
+    (i.StoreElement place keeps) values
 instruction_within n s (i.Clear slot) values w = serial_within n s.program (context s) (i.Clear slot) values
 instruction_within n s (i.Print text count) values w = serial_within n s.program (context s) (i.Print text count) values
-instruction_within n s (i.Atomic operator side place) values w = serial_within n s.program (context s) (i.Atomic operator side place) values
-instruction_within n s (i.AtomicElement operator side place) values w = serial_within n s.program (context s) (i.AtomicElement operator side place) values
+instruction_within n s (i.Atomic operator side place) values w = serial_within n s.program (context s)
+    (i.Atomic operator side place) values
+instruction_within n s (i.AtomicElement operator side place) values w = serial_within n s.program (context s)
+    (i.AtomicElement operator side place) values
 
-next_within : (n : ℕ) (s : Site) (instr : Option Instr) (values : List Val) → IsWithin n s.stack.top → AskedWithin n (next_row s instr) values
+next_within : (n : ℕ) (s : Site) (instr : Option Instr) (values : List Val) → IsWithin n s.stack.top
+    → AskedWithin n (next_row s instr) values
 next_within n s None values w = lacks n values
 next_within n s (Some instr) values w = instruction_within n s instr values w
 
-pub choice_within : (n : ℕ) (s : Site) (instr : Option Instr) (choice : Choice) (values : List Val) → IsWithin n s.stack.top → ValuesWithin n values → AskedWithin n (choice_row s instr choice) values
+pub choice_within : (n : ℕ) (s : Site) (instr : Option Instr) (choice : Choice) (values : List Val)
+    → IsWithin n s.stack.top → ValuesWithin n values → AskedWithin n (choice_row s instr choice) values
 choice_within n s instr Next values w h = next_within n s instr values w
-choice_within n s instr (Start name) values w h = start_within n (record { worker = s.worker; status = leaving instr; admits = admits_all s.program name (s.stack.top ∷ s.stack.below) }) name s.stack.top values h
+choice_within n s instr (Start name) values w h = start_within n
+    (record { worker = s.worker; status = leaving instr; admits = admits_all s.program name
+    (s.stack.top ∷ s.stack.below) }) name s.stack.top values h
 
 -- the row of a control keeps to its bounds
-pub row_within : (n : ℕ) (program : Raw) (workers : ℕ) (l : Label) (c : controls.Control) (values : List Val) → ControlWithin n c → ValuesWithin n values → RowWithin n (row_in program workers l c values)
-row_within n program workers l (Running stack) values w h = (choice_within n (site program workers l.worker stack) (instruction_at program stack.top.frame.body stack.top.frame.next) l.choice values w.0 h).row
+pub row_within : (n : ℕ) (program : Raw) (workers : ℕ) (l : Label) (c : controls.Control) (values : List Val)
+    → ControlWithin n c → ValuesWithin n values → RowWithin n (row_in program workers l c values)
+row_within n program workers l (Running stack) values w h = (choice_within n (site program workers l.worker stack)
+    (instruction_at program stack.top.frame.body stack.top.frame.next) l.choice values w.0 h).row
 row_within n program workers l Idle values w h = tt
 row_within n program workers l (Faulted fault stack) values w h = tt
 row_within n program workers l (Ended result) values w h = tt

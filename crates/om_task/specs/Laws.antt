@@ -15,7 +15,8 @@ use Rattle.om_task.specs.Steps.{AddOnce, AreModest}
 
 -- after n steps from the start no counter is above n
 abbrev pub LowCounters : Type 0
-LowCounters = (program : Raw) (workers n : ℕ) (ls : List Label) (s : State) → replay (rules_of program workers) ls ≡ Some s → length ls ≤ n → StateWithin n s
+LowCounters = (program : Raw) (workers n : ℕ) (ls : List Label) (s : State) → replay (rules_of program workers) ls
+    ≡ Some s → length ls ≤ n → StateWithin n s
 
 -- rules whose start has no count but 0, and whose steps put no count and add at most one, once to each object
 pub record IsCalm (r : Rules) : Type 0 where

@@ -1,5 +1,6 @@
 -- The rules of a program: the state that it starts in, and what each worker's step names, does and shows as its line.
-use Rattle.std.specs.Prelude.{ℕ, pos, ℤ, Bool, true, false, nat_eq, nat_lt, if◌then◌else◌, Option, None, Some, option_map, unwrap_or, List, [], ◌∷◌, slice_get}
+use Rattle.std.specs.Prelude.{ℕ, pos, ℤ, Bool, true, false, nat_eq, nat_lt, if◌then◌else◌, Option, None, Some,
+    option_map, unwrap_or, List, [], ◌∷◌, slice_get}
 use Rattle.om_foot.specs.Names.{is_below}
 use Rattle.om_foot.specs.declared.footprint.Access.{Access}
 use Rattle.om_foot.specs.declared.object.Obj.TheVariants as obj
@@ -61,7 +62,8 @@ first_context program = record {
 }
 
 abbrev pub first_control : Raw → ℕ → controls.Control
-first_control program worker = if nat_eq worker 0 then Running (record { top = first_context program; below = [] }) else Idle
+first_control program worker = if nat_eq worker 0 then Running (record { top = first_context program; below = [] })
+    else Idle
 
 -- C17 6.7.9 paragraph 10: a global scalar begins with its initializer, else with 0, and so does each cell of an array
 abbrev pub initial_in : Option GlobalVariable → ℤ
@@ -74,7 +76,8 @@ initial_at program variable index = if nat_eq index 0 then initial_in (slice_get
 -- OMPT's callbacks for threads and implicit tasks: what is recorded before the first step
 abbrev pub first_records : ℕ → ℕ → List Record
 first_records workers worker =
-    if nat_eq worker 0 then event_record.ThreadBegin thread.Initial ∷ event_record.ImplicitTask endpoint.Begin [] (0 ∷ []) 1 1 flag.Initial ∷ []
+    if nat_eq worker 0 then event_record.ThreadBegin thread.Initial ∷ event_record.ImplicitTask endpoint.Begin []
+        (0 ∷ []) 1 1 flag.Initial ∷ []
     else if nat_lt worker workers then event_record.ThreadBegin thread.Worker ∷ [] else []
 
 -- the state in which a program starts: worker 0 runs the initial task, all else is as by default
@@ -102,7 +105,8 @@ departs _ = false
 
 -- OpenMP 5.2, 12.9: a task may be started on a stack where it descends from each task there that isn't at a barrier
 abbrev pub admits_on : Raw → List ℕ → Context → Bool
-admits_on program name c = if departs (instruction_at program c.frame.body c.frame.next) then true else is_below name c.task
+admits_on program name c = if departs (instruction_at program c.frame.body c.frame.next) then true else is_below
+    name c.task
 
 abbrev pub admits_all : Raw → List ℕ → List Context → Bool
 admits_all program name [] = true
@@ -116,7 +120,8 @@ next_row s (Some instr) = row_of s instr
 -- the row of a choice
 abbrev pub choice_row : Site → Option Instr → Choice → Asked
 choice_row s instr Next = next_row s instr
-choice_row s instr (Start name) = start_row (record { worker = s.worker; status = leaving instr; admits = admits_all s.program name (s.stack.top ∷ s.stack.below) }) name s.stack.top
+choice_row s instr (Start name) = start_row (record { worker = s.worker; status = leaving instr; admits = admits_all
+    s.program name (s.stack.top ∷ s.stack.below) }) name s.stack.top
 
 abbrev pub asked : Site → Choice → Asked
 asked s choice = choice_row s (instruction_at s.program s.stack.top.frame.body s.stack.top.frame.next) choice
@@ -136,7 +141,8 @@ abbrev pub further_in : Raw → ℕ → Label → controls.Control → List Acce
 further_in program workers l (Running stack) = (asked (site program workers l.worker stack) l.choice).names
 further_in program workers l _ = []
 
--- the row of a control that runs, and of one that doesn't: a worker that is idle waits; one that is done or faulted has ended
+-- the row of a control that runs, and of one that doesn't: a worker that is idle waits; one that is done or
+-- faulted has ended
 abbrev pub row_in : Raw → ℕ → Label → controls.Control → List Val → Row
 row_in program workers l (Running stack) values = (asked (site program workers l.worker stack) l.choice).row values
 row_in program workers l Idle values = row.Blocked blocked.Idle
@@ -145,7 +151,8 @@ row_in program workers l _ values = row.Lacks
 -- what comes of a control and of the values read
 abbrev pub outcome_of : Raw → ℕ → Label → List Val → Outcome
 outcome_of program workers l [] = Ended
-outcome_of program workers l (v ∷ values) = outcome_after (control_in v) (row_in program workers l (control_in v) values)
+outcome_of program workers l (v ∷ values) = outcome_after (control_in v) (row_in program workers l (control_in v)
+    values)
 
 -- the line of the instruction that a control runs, or of the one that met its fault; 0 where there is none
 abbrev pub line_in : Raw → controls.Control → ℕ

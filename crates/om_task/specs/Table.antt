@@ -10,8 +10,10 @@ use Rattle.om_row.specs.Rows.{Asked, decided}
 use Rattle.om_row.specs.Objects.{innermost}
 use Rattle.om_serial.specs.Rows.{serial_row, number_row, call_row, return_row, reduce_row}
 use Rattle.om_fork.specs.Rows.{fork_row, begin_row, arrive_row, depart_row, leave_row}
-use Rattle.om_share.specs.Rows.{share_in, loop_row, sections_row, grab_row, iterate_row, pick_row, single_row, end_worksharing_row, masked_row, end_masked_row, ask_critical_row, enter_critical_row, leave_critical_row}
-use Rattle.om_spawn.specs.Rows.{spawn_row, task_end_row, wait_begin_row, wait_end_row, task_yield_row, group_begin_row, group_end_row, finish_row}
+use Rattle.om_share.specs.Rows.{share_in, loop_row, sections_row, grab_row, iterate_row, pick_row, single_row,
+    end_worksharing_row, masked_row, end_masked_row, ask_critical_row, enter_critical_row, leave_critical_row}
+use Rattle.om_spawn.specs.Rows.{spawn_row, task_end_row, wait_begin_row, wait_end_row, task_yield_row,
+    group_begin_row, group_end_row, finish_row}
 use Rattle.om_task.specs.Sites.{Site, context, operands, next, slots, line, launch, body_of, lock_of, targets_of}
 
 abbrev pub fork_takes : Bool → ℕ → ℕ
@@ -22,7 +24,8 @@ fork_takes false values = values
 abbrev pub frame_row : Site → Instr → Asked
 frame_row s i.ThreadNumber = number_row (context s) (context s).team.number
 frame_row s i.TeamSize = number_row (context s) (context s).team.size
-frame_row s (i.Call body values) = call_row (launch s values body) (body_of s.program body) (context s) (ints_on values (operands s))
+frame_row s (i.Call body values) = call_row (launch s values body) (body_of s.program body) (context s)
+    (ints_on values (operands s))
 frame_row s i.Return = return_row (context s) (slots s) (context s).callers (option_map Int (int_at 0 (operands s)))
 frame_row s i.ReturnNothing = return_row (context s) (slots s) (context s).callers (Some NoValue)
 frame_row s (i.Reduce reduction copy place) = reduce_row (context s) reduction copy place
@@ -30,7 +33,8 @@ frame_row s _ = decided Lacks
 
 -- parallel regions and barriers
 abbrev pub team_row : Site → Instr → Asked
-team_row s (i.Fork body sized values) = fork_row s.worker s.workers (launch s (fork_takes sized values) body) (body_of s.program body) (context s) sized (int_at values (operands s)) (ints_on values (operands s))
+team_row s (i.Fork body sized values) = fork_row s.worker s.workers (launch s (fork_takes sized values) body)
+    (body_of s.program body) (context s) sized (int_at values (operands s)) (ints_on values (operands s))
 team_row s i.Begin = begin_row s.worker (next s) (context s)
 team_row s (i.Arrive barrier) = arrive_row s.worker (next s) barrier (context s)
 team_row s (i.Depart barrier) = depart_row s.worker (next s) barrier (context s)
@@ -54,12 +58,14 @@ region_row s (i.Masked otherwise) = masked_row s.worker (next s) otherwise (cont
 region_row s i.EndMasked = end_masked_row s.worker (next s) (context s) (innermost (context s).constructs)
 region_row s (i.AskCritical lock) = ask_critical_row s.worker (next s) (lock_of s.program lock)
 region_row s (i.EnterCritical lock) = enter_critical_row s.worker (next s) lock (lock_of s.program lock)
-region_row s (i.LeaveCritical lock) = leave_critical_row s.worker (next s) lock (lock_of s.program lock) (innermost (context s).constructs)
+region_row s (i.LeaveCritical lock) = leave_critical_row s.worker (next s) lock (lock_of s.program lock)
+    (innermost (context s).constructs)
 region_row s _ = decided Lacks
 
 -- tasks, task groups and the end of the program
 abbrev pub task_row : Site → Instr → Asked
-task_row s (i.Spawn body values) = spawn_row (record { worker = s.worker; line = line s; launch = launch s values body }) (body_of s.program body) (context s)
+task_row s (i.Spawn body values) = spawn_row (record { worker = s.worker; line = line s; launch = launch s values
+    body }) (body_of s.program body) (context s)
 task_row s i.TaskEnd = task_end_row s.worker s.stack (slots s)
 task_row s i.WaitBegin = wait_begin_row s.worker (next s) (context s)
 task_row s i.WaitEnd = wait_end_row s.worker (next s) (context s)

@@ -6,5 +6,7 @@ use Rattle.om_tree.specs.declared.tree.Expression.TheVariants as expressions
 use Rattle.om_tree.specs.Tree.{ExpressionTree, Call, arguments}
 use Rattle.om_tree.specs.View.{expression_layer, view_argument, view_expression}
 
-pub view_call : (n : _) (left : _) (v : _) (right : _) → view_expression (expressions.Call n left v right) ≡ Call n left (arguments (map view_argument v.items)) right
-view_call n left v right = ap view_expression (sym (expressions.rolls-Call n left v right)) ∙ fold-roll-Expression ExpressionTree expression_layer (Expression-F.Call n left v right)
+pub view_call : (n : _) (left : _) (v : _) (right : _) → view_expression (expressions.Call n left v right)
+    ≡ Call n left (arguments (map view_argument v.items)) right
+view_call n left v right = ap view_expression (sym (expressions.rolls-Call n left v right)) ∙ fold-roll-Expression
+    ExpressionTree expression_layer (Expression-F.Call n left v right)

@@ -13,7 +13,8 @@ use Rattle.om_tree.specs.declared.tree.BinaryOperator.{BinaryOperator}
 use Rattle.om_tree.specs.declared.tree.BinaryOperator.TheVariants as binaries
 use Rattle.om_tree.specs.declared.tree.PrefixOperator.{PrefixOperator}
 use Rattle.om_tree.specs.declared.tree.PrefixOperator.TheVariants as prefixes
-use Rattle.om_tree.specs.Tree.{ExpressionTree, Name, Constant, Text, Paren, Index, Call, Prefix, Postfix, Binary, Conditional, Assign, ArgumentsTree, NoArguments, Argument, StatementTree, Expression}
+use Rattle.om_tree.specs.Tree.{ExpressionTree, Name, Constant, Text, Paren, Index, Call, Prefix, Postfix, Binary,
+    Conditional, Assign, ArgumentsTree, NoArguments, Argument, StatementTree, Expression}
 
 unfoldable mutual
   -- the same but for the spans
@@ -26,9 +27,12 @@ unfoldable mutual
   same_expression (Call m _ ds _) (Call n _ es _) = bytes_eq m.text n.text && same_arguments ds es
   same_expression (Prefix o _ d) (Prefix p _ e) = sameb the_prefixes o p && same_expression d e
   same_expression (Postfix d o _) (Postfix e p _) = sameb the_postfixes o p && same_expression d e
-  same_expression (Binary a o _ b) (Binary d p _ e) = sameb the_binaries o p && same_expression a d && same_expression b e
-  same_expression (Conditional a _ b _ c) (Conditional d _ e _ f) = same_expression a d && same_expression b e && same_expression c f
-  same_expression (Assign a o _ b) (Assign d p _ e) = sameb the_assignments o p && same_expression a d && same_expression b e
+  same_expression (Binary a o _ b) (Binary d p _ e) = sameb the_binaries o p && same_expression a d
+      && same_expression b e
+  same_expression (Conditional a _ b _ c) (Conditional d _ e _ f) = same_expression a d && same_expression b e
+      && same_expression c f
+  same_expression (Assign a o _ b) (Assign d p _ e) = sameb the_assignments o p && same_expression a d
+      && same_expression b e
   same_expression _ _ = false
 
   -- as many, and each the same as the other's
@@ -49,7 +53,8 @@ unfoldable mutual
   contains x (Prefix o at e) = same_expression x (Prefix o at e) || contains x e
   contains x (Postfix e o at) = same_expression x (Postfix e o at) || contains x e
   contains x (Binary a o at b) = same_expression x (Binary a o at b) || contains x a || contains x b
-  contains x (Conditional a question b colon c) = same_expression x (Conditional a question b colon c) || contains x a || contains x b || contains x c
+  contains x (Conditional a question b colon c) = same_expression x (Conditional a question b colon c)
+      || contains x a || contains x b || contains x c
   contains x (Assign a o at b) = same_expression x (Assign a o at b) || contains x a || contains x b
 
   -- one of these does

@@ -9,10 +9,17 @@ use Rattle.om_tree.specs.declared.tree.ArrayLength.{ArrayLength}
 use Rattle.om_tree.specs.declared.tree.BinaryOperator.{BinaryOperator}
 use Rattle.om_tree.specs.declared.tree.BinaryOperator.TheVariants as binaries
 use Rattle.om_tree.specs.declared.tree.PrefixOperator.TheVariants as prefixes
-use Rattle.om_tree.specs.Tree.{ExpressionTree, Name, Constant, Text, Paren, Index, Call, Prefix, Postfix, Binary, Conditional, Assign, ArgumentsTree, NoArguments, Argument, InitializerTree, DeclaratorTree, DeclarationTree, StatementTree, Expression, Return, ParametersTree, NoParameters, Void, Listed, FunctionTree, ItemTree, Declaration, Prototype, Function, UnitTree, ForStartTree, Nothing, StartExpression, StartDeclaration, ForHeadTree, StatementsTree, LocalDeclaration, Block, Empty, If, IfElse, While, Do, For, Break, Continue, Construct, StandAlone, Sections, Section, NoStatements, Statement, statements}
+use Rattle.om_tree.specs.Tree.{ExpressionTree, Name, Constant, Text, Paren, Index, Call, Prefix, Postfix, Binary,
+    Conditional, Assign, ArgumentsTree, NoArguments, Argument, InitializerTree, DeclaratorTree, DeclarationTree,
+    StatementTree, Expression, Return, ParametersTree, NoParameters, Void, Listed, FunctionTree, ItemTree,
+    Declaration, Prototype, Function, UnitTree, ForStartTree, Nothing, StartExpression, StartDeclaration,
+    ForHeadTree, StatementsTree, LocalDeclaration, Block, Empty, If, IfElse, While, Do, For, Break, Continue,
+    Construct, StandAlone, Sections, Section, NoStatements, Statement, statements}
 
--- levels of precedence, the loosest first: 1 assignment (C17 6.5.16), 2 conditional (6.5.15), 3 and 4 logical (6.5.14, 6.5.13),
--- 5 equality (6.5.9), 6 relational (6.5.8), 7 additive (6.5.6), 8 multiplicative (6.5.5), 9 unary (6.5.3), 10 postfix (6.5.2), 11 primary, indexed or called (6.5.1, 6.5.2)
+-- levels of precedence, the loosest first: 1 assignment (C17 6.5.16), 2 conditional (6.5.15), 3 and 4 logical
+-- (6.5.14, 6.5.13),
+-- 5 equality (6.5.9), 6 relational (6.5.8), 7 additive (6.5.6), 8 multiplicative (6.5.5), 9 unary (6.5.3), 10
+-- postfix (6.5.2), 11 primary, indexed or called (6.5.1, 6.5.2)
 abbrev pub binary_level : BinaryOperator → ℕ
 binary_level binaries.Or = 3
 binary_level binaries.And = 4
@@ -59,8 +66,10 @@ unfoldable mutual
   IsExpression (Call n left values right) = AreArguments n values
   IsExpression (Prefix o at e) = IsExpression e × (9 ≤ level e)
   IsExpression (Postfix e o at) = IsExpression e × (10 ≤ level e)
-  IsExpression (Binary a o at b) = IsExpression a × IsExpression b × (binary_level o ≤ level a) × (binary_level o < level b)
-  IsExpression (Conditional c question a colon b) = IsExpression c × IsExpression a × IsExpression b × (3 ≤ level c) × (2 ≤ level b)
+  IsExpression (Binary a o at b) = IsExpression a × IsExpression b × (binary_level o ≤ level a)
+      × (binary_level o < level b)
+  IsExpression (Conditional c question a colon b) = IsExpression c × IsExpression a × IsExpression b × (3 ≤ level c)
+      × (2 ≤ level b)
   IsExpression (Assign a o at b) = IsExpression a × IsExpression b × (9 ≤ level a)
 
   -- the arguments of a call of this function: commas stand between them
@@ -174,7 +183,8 @@ unfoldable mutual
   IsStatement (Empty semicolon) = Unit {0}
   IsStatement (Expression e semicolon) = IsExpression e
   IsStatement (If at c s) = IsExpression c.value × IsStatement s × IsBody s
-  IsStatement (IfElse at c s other t) = IsExpression c.value × IsStatement s × IsBody s × (ends_open s ≡ false) × IsStatement t × IsBody t
+  IsStatement (IfElse at c s other t) = IsExpression c.value × IsStatement s × IsBody s × (ends_open s ≡ false)
+      × IsStatement t × IsBody t
   IsStatement (While at c s) = IsExpression c.value × IsStatement s × IsBody s
   IsStatement (Do at s again c semicolon) = IsExpression c.value × IsStatement s × IsBody s
   IsStatement (For h s) = IsForHead h × IsStatement s × IsBody s
@@ -183,14 +193,16 @@ unfoldable mutual
   IsStatement (Continue at semicolon) = Unit {0}
   IsStatement (Construct d s) = IsLine d × IsConstruct d.name × IsStatement s × IsBody s
   IsStatement (StandAlone d) = IsLine d × (is_stand_alone d.name ≡ true)
-  IsStatement (Sections d left items right) = IsLine d × (is_sections d.name ≡ true) × AreSome items × AreSectionItems items
+  IsStatement (Sections d left items right) = IsLine d × (is_sections d.name ≡ true) × AreSome items
+      × AreSectionItems items
   IsStatement (Section d s) = IsLine d × (is_section d.name ≡ true) × IsStatement s × IsPartItem s
 
   pub AreStatements : StatementsTree → Type 0
   AreStatements NoStatements = Unit {0}
   AreStatements (Statement s rest) = IsStatement s × IsBlockItem s × AreStatements rest
 
-  -- the items in the braces of `sections` (OpenMP 5.2 section 11.3): each part begins with `section`, which the first may lack
+  -- the items in the braces of `sections` (OpenMP 5.2 section 11.3): each part begins with `section`, which
+  -- the first may lack
   pub AreSectionItems : StatementsTree → Type 0
   AreSectionItems NoStatements = Unit {0}
   AreSectionItems (Statement s rest) = IsStatement s × IsSectionItem s × AreSectionItems rest

@@ -1,5 +1,6 @@
 -- How large the expressions of an accepted source are.
-use Rattle.std.specs.Prelude.{◌≡◌, ℕ, ◌+◌, ◌-◌, ◌≤◌, ◌⊎◌, max, List, [], ◌∷◌, ◌++◌, length, Option, Some, None, Bool, true}
+use Rattle.std.specs.Prelude.{◌≡◌, ℕ, ◌+◌, ◌-◌, ◌≤◌, ◌⊎◌, max, List, [], ◌∷◌, ◌++◌, length, Option, Some, None,
+    Bool, true}
 use Rattle.std.specs.List.{flat_map}
 use Rattle.om_lexer.specs.declared.token.Punctuator.TheVariants as punctuators
 use Rattle.om_lexer.specs.declared.token.Token.{Token}
@@ -7,7 +8,8 @@ use Rattle.om_lexer.specs.declared.token.TokenKind.{TokenKind}
 use Rattle.om_lexer.specs.declared.token.TokenKind.TheVariants as kinds
 use Rattle.om_tree.specs.declared.limit.TheConstants.{NESTING_LIMIT, TOKEN_LIMIT, BLOCK_LIMIT, STATEMENT_LIMIT}
 use Rattle.om_tree.specs.Spelling.{expression_spelling}
-use Rattle.om_tree.specs.Tree.{ExpressionTree, Name, Constant, Text, Paren, Index, Call, Prefix, Postfix, Binary, Conditional, Assign, ArgumentsTree, NoArguments, Argument, InitializerTree, DeclaratorTree, DeclarationTree}
+use Rattle.om_tree.specs.Tree.{ExpressionTree, Name, Constant, Text, Paren, Index, Call, Prefix, Postfix, Binary,
+    Conditional, Assign, ArgumentsTree, NoArguments, Argument, InitializerTree, DeclaratorTree, DeclarationTree}
 
 abbrev mutual
   -- how many parentheses and brackets stand round the innermost part
@@ -40,7 +42,8 @@ expressions_of_declarator d = started d.initializer
 
 -- those of a declaration in a block
 abbrev pub expressions_of_declaration : DeclarationTree → List ExpressionTree
-expressions_of_declaration d = expressions_of_declarator d.first ++ flat_map (λ further. expressions_of_declarator further.1) d.rest
+expressions_of_declaration d = expressions_of_declarator d.first
+    ++ flat_map (λ further. expressions_of_declarator further.1) d.rest
 
 -- how deep parentheses may nest, how many tokens a whole expression may have, how deep blocks may nest, and how many
 -- statements may stand round a statement; and whether each outermost `atomic` must have one of its forms
@@ -53,7 +56,8 @@ pub record Limits : Type 0 where
 
 -- those of an accepted source
 abbrev pub accepted : Limits
-accepted = record { nested = NESTING_LIMIT; tokens = TOKEN_LIMIT; blocks = BLOCK_LIMIT; statements = STATEMENT_LIMIT; checked = true }
+accepted = record { nested = NESTING_LIMIT; tokens = TOKEN_LIMIT; blocks = BLOCK_LIMIT; statements =
+    STATEMENT_LIMIT; checked = true }
 
 -- the parentheses and the tokens of an expression keep these limits
 unfoldable pub IsWithin : Limits → ExpressionTree → Type 0

@@ -5,9 +5,13 @@ use Rattle.om_lexer.specs.declared.token.Punctuator.TheVariants as punctuators
 use Rattle.om_lexer.specs.declared.token.Token.{Token}
 use Rattle.om_pragma.specs.Spelling.{directive_spelling}
 use Rattle.om_tree.specs.Limits.{Limits, IsTooMuch, expressions_of_declaration}
-use Rattle.om_tree.specs.Spelling.{mark, word, perhaps, expression_spelling, declaration_spelling, condition_spelling, for_start_spelling, for_head_spelling, statement_spelling, head_spelling, item_spelling}
+use Rattle.om_tree.specs.Spelling.{mark, word, perhaps, expression_spelling, declaration_spelling,
+    condition_spelling, for_start_spelling, for_head_spelling, statement_spelling, head_spelling, item_spelling}
 use Rattle.om_tree.specs.Formed.{IsBody}
-use Rattle.om_tree.specs.Tree.{ExpressionTree, DeclarationTree, ConditionTree, ForStartTree, Nothing, StartExpression, StartDeclaration, ForHeadTree, StatementTree, StatementsTree, LocalDeclaration, Block, Empty, Expression, If, IfElse, While, Do, For, Return, Break, Continue, Construct, StandAlone, Sections, Section, NoStatements, Statement, statements, BlockTree, ItemTree, Declaration, Prototype, Function, UnitTree}
+use Rattle.om_tree.specs.Tree.{ExpressionTree, DeclarationTree, ConditionTree, ForStartTree, Nothing,
+    StartExpression, StartDeclaration, ForHeadTree, StatementTree, StatementsTree, LocalDeclaration, Block, Empty,
+    Expression, If, IfElse, While, Do, For, Return, Break, Continue, Construct, StandAlone, Sections, Section,
+    NoStatements, Statement, statements, BlockTree, ItemTree, Declaration, Prototype, Function, UnitTree}
 
 -- Where a limit is passed in a part: the tokens of the part before that place, and the token there.
 abbrev pub Place : Type 1
@@ -26,7 +30,8 @@ abbrev pub Either : Place → Place → Place
 Either first second before token = first before token ⊎ second before token
 
 -- The token there, behind those before it, is one too many for a whole expression of the part, or nests too deep in it.
-pub record IsOverIn {A : Type 0} (spelling : A → List Token) (expressions : A → List ExpressionTree) (l : Limits) (part : A) (before : List Token) (token : Token) : Type 0 where
+pub record IsOverIn {A : Type 0} (spelling : A → List Token) (expressions : A → List ExpressionTree) (l : Limits)
+    (part : A) (before : List Token) (token : Token) : Type 0 where
   pub expression : ExpressionTree
   pub whole : Contains (expressions part) expression
   pub front : List Token
@@ -40,7 +45,8 @@ pub record IsOverIn {A : Type 0} (spelling : A → List Token) (expressions : A 
 
 -- the limits of an expression in the parentheses of a statement, which are the outermost ones round its parts
 abbrev pub in_parentheses : Limits → Limits
-in_parentheses l = record { nested = l.nested - 1; tokens = l.tokens; blocks = l.blocks; statements = l.statements; checked = l.checked }
+in_parentheses l = record { nested = l.nested - 1; tokens = l.tokens; blocks = l.blocks; statements = l.statements;
+    checked = l.checked }
 
 -- in an expression
 abbrev pub IsOverInExpression : Limits → ExpressionTree → Place
@@ -69,8 +75,11 @@ unfoldable pub InForHead : Limits → ForHeadTree → Place
 InForHead l h =
     let start : List Token = word keywords.For h.word ∷ mark punctuators.OpenParen h.open_paren ∷ [] in
     let condition : List Token = start ++ for_start_spelling h.start in
-    let step : List Token = condition ++ (perhaps expression_spelling h.condition ++ mark punctuators.Semicolon h.semicolon ∷ []) in
-    Either (Behind start (InForStart l h.start)) (Either (Behind condition (InOptional (in_parentheses l) h.condition)) (Behind step (InOptional (in_parentheses l) h.step)))
+    let step : List Token = condition ++ (perhaps expression_spelling h.condition ++ mark punctuators.Semicolon
+        h.semicolon ∷ []) in
+    Either (Behind start (InForStart l h.start))
+        (Either (Behind condition (InOptional (in_parentheses l) h.condition))
+        (Behind step (InOptional (in_parentheses l) h.step)))
 
 -- at the first token of a statement round which so many stand already
 abbrev pub AtFirst : Limits → (depth : ℕ) → StatementTree → Place
@@ -85,29 +94,48 @@ abbrev pub AtBrace : Limits → (nested : ℕ) → Place
 AtBrace l nested before token = (nested ≡ l.blocks) × (before ≡ [])
 
 unfoldable mutual
-  -- in a statement, behind its first token or at the brace that it begins with; so many statements and blocks stand round it
+  -- in a statement, behind its first token or at the brace that it begins with; so many statements and blocks
+  -- stand round it
   pub IsOverInside : Limits → (depth nested : ℕ) → StatementTree → Place
   IsOverInside l depth nested (LocalDeclaration d) = IsOverInDeclaration l d
-  IsOverInside l depth nested (Block left items right) = Either (AtBrace l nested) (Behind (mark punctuators.OpenBrace left ∷ []) (IsOverInItems l (suc depth) (suc nested) items))
+  IsOverInside l depth nested (Block left items right) = Either (AtBrace l nested)
+      (Behind (mark punctuators.OpenBrace left ∷ []) (IsOverInItems l (suc depth) (suc nested) items))
   IsOverInside l depth nested (Empty semicolon) = Nowhere
   IsOverInside l depth nested (Expression e semicolon) = IsOverInExpression l e
-  IsOverInside l depth nested (If at c s) = Either (Behind (word keywords.If at ∷ []) (InCondition l c)) (Behind (word keywords.If at ∷ condition_spelling c) (Either (AtFirst l (suc depth) s) (IsOverInside l (suc depth) nested s)))
-  IsOverInside l depth nested (IfElse at c s other t) = Either (Behind (word keywords.If at ∷ []) (InCondition l c)) (Either (Behind (word keywords.If at ∷ condition_spelling c) (Either (AtFirst l (suc depth) s) (IsOverInside l (suc depth) nested s))) (Behind (word keywords.If at ∷ (condition_spelling c ++ statement_spelling s ++ word keywords.Else other ∷ [])) (Either (AtFirst l (suc depth) t) (IsOverInside l (suc depth) nested t))))
-  IsOverInside l depth nested (While at c s) = Either (Behind (word keywords.While at ∷ []) (InCondition l c)) (Behind (word keywords.While at ∷ condition_spelling c) (Either (AtFirst l (suc depth) s) (IsOverInside l (suc depth) nested s)))
-  IsOverInside l depth nested (Do at s again c semicolon) = Either (Behind (word keywords.Do at ∷ []) (Either (AtFirst l (suc depth) s) (IsOverInside l (suc depth) nested s))) (Behind (word keywords.Do at ∷ (statement_spelling s ++ word keywords.While again ∷ [])) (InCondition l c))
-  IsOverInside l depth nested (For h s) = Either (InForHead l h) (Behind (for_head_spelling h) (Either (AtFirst l (suc depth) s) (IsOverInside l (suc depth) nested s)))
+  IsOverInside l depth nested (If at c s) = Either (Behind (word keywords.If at ∷ []) (InCondition l c))
+      (Behind (word keywords.If at ∷ condition_spelling c)
+      (Either (AtFirst l (suc depth) s) (IsOverInside l (suc depth) nested s)))
+  IsOverInside l depth nested (IfElse at c s other t) = Either (Behind (word keywords.If at ∷ []) (InCondition l c))
+      (Either (Behind (word keywords.If at ∷ condition_spelling c)
+      (Either (AtFirst l (suc depth) s) (IsOverInside l (suc depth) nested s)))
+      (Behind (word keywords.If at ∷ (condition_spelling c ++ statement_spelling s ++ word keywords.Else other
+      ∷ [])) (Either (AtFirst l (suc depth) t) (IsOverInside l (suc depth) nested t))))
+  IsOverInside l depth nested (While at c s) = Either (Behind (word keywords.While at ∷ []) (InCondition l c))
+      (Behind (word keywords.While at ∷ condition_spelling c)
+      (Either (AtFirst l (suc depth) s) (IsOverInside l (suc depth) nested s)))
+  IsOverInside l depth nested (Do at s again c semicolon) = Either (Behind (word keywords.Do at ∷ [])
+      (Either (AtFirst l (suc depth) s) (IsOverInside l (suc depth) nested s)))
+      (Behind (word keywords.Do at ∷ (statement_spelling s ++ word keywords.While again ∷ [])) (InCondition l c))
+  IsOverInside l depth nested (For h s) = Either (InForHead l h)
+      (Behind (for_head_spelling h) (Either (AtFirst l (suc depth) s) (IsOverInside l (suc depth) nested s)))
   IsOverInside l depth nested (Return at value semicolon) = Behind (word keywords.Return at ∷ []) (InOptional l value)
   IsOverInside l depth nested (Break at semicolon) = Nowhere
   IsOverInside l depth nested (Continue at semicolon) = Nowhere
-  IsOverInside l depth nested (Construct d s) = Behind (directive_spelling expression_spelling d) (Either (AtFirst l (suc depth) s) (IsOverInside l (suc depth) nested s))
+  IsOverInside l depth nested (Construct d s) = Behind (directive_spelling expression_spelling d)
+      (Either (AtFirst l (suc depth) s) (IsOverInside l (suc depth) nested s))
   IsOverInside l depth nested (StandAlone d) = Nowhere
-  IsOverInside l depth nested (Sections d left items right) = Behind (directive_spelling expression_spelling d) (Either (Either (AtDepth l (suc depth)) (AtBrace l nested)) (Behind (mark punctuators.OpenBrace left ∷ []) (IsOverInItems l (suc (suc depth)) (suc nested) items)))
-  IsOverInside l depth nested (Section d s) = Behind (directive_spelling expression_spelling d) (Either (AtFirst l depth s) (IsOverInside l depth nested s))
+  IsOverInside l depth nested (Sections d left items right) = Behind (directive_spelling expression_spelling d)
+      (Either (Either (AtDepth l (suc depth)) (AtBrace l nested)) (Behind (mark punctuators.OpenBrace left ∷ [])
+      (IsOverInItems l (suc (suc depth)) (suc nested) items)))
+  IsOverInside l depth nested (Section d s) = Behind (directive_spelling expression_spelling d)
+      (Either (AtFirst l depth s) (IsOverInside l depth nested s))
 
   -- in one of the items of a block
   pub IsOverInItems : Limits → (depth nested : ℕ) → StatementsTree → Place
   IsOverInItems l depth nested NoStatements = Nowhere
-  IsOverInItems l depth nested (Statement s rest) = Either (Either (AtFirst l depth s) (IsOverInside l depth nested s)) (Behind (statement_spelling s) (IsOverInItems l depth nested rest))
+  IsOverInItems l depth nested (Statement s rest) = Either
+      (Either (AtFirst l depth s) (IsOverInside l depth nested s))
+      (Behind (statement_spelling s) (IsOverInItems l depth nested rest))
 
 -- in a statement round which so many statements and blocks stand
 abbrev pub IsOverInStatement : Limits → (depth nested : ℕ) → StatementTree → Place
@@ -115,7 +143,8 @@ IsOverInStatement l depth nested s = Either (AtFirst l depth s) (IsOverInside l 
 
 -- in the block of a function
 abbrev pub IsOverInBlock : Limits → BlockTree → Place
-IsOverInBlock l b = Either (AtBrace l 0) (Behind (mark punctuators.OpenBrace b.open_brace ∷ []) (IsOverInItems l 1 1 (statements b.items)))
+IsOverInBlock l b = Either (AtBrace l 0) (Behind (mark punctuators.OpenBrace b.open_brace ∷ [])
+    (IsOverInItems l 1 1 (statements b.items)))
 
 -- in a function
 abbrev pub IsOverInItem : Limits → ItemTree → Place
@@ -132,9 +161,11 @@ IsOverInUnitItems l (i ∷ items) = Either (IsOverInItem l i) (Behind (item_spel
 abbrev pub IsOverInUnit : Limits → UnitTree → Place
 IsOverInUnit l u = IsOverInUnitItems l u.items
 
--- A limit is passed at this place: some well-formed part begins with the same tokens up to there, and with the token there,
+-- A limit is passed at this place: some well-formed part begins with the same tokens up to there, and with
+-- the token there,
 -- which is one too many for it.
-pub record IsPassed {A : Type 0} (spelling : A → List Token) (IsFormed : A → Type 0) (over : A → Place) (tokens : List Token) (place : ℕ) : Type 0 where
+pub record IsPassed {A : Type 0} (spelling : A → List Token) (IsFormed : A → Type 0) (over : A → Place)
+    (tokens : List Token) (place : ℕ) : Type 0 where
   pub part : A
   pub formed : IsFormed part
   pub before : List Token

@@ -1,12 +1,16 @@
 -- How large the statements of an accepted source are, and which forms its `atomic`s have.
-use Rattle.std.specs.Prelude.{◌≡◌, ℕ, ◌+◌, ◌≤◌, max, List, [], ◌∷◌, length, Option, Some, None, All, Bool, true, false, not, ◌||◌}
+use Rattle.std.specs.Prelude.{◌≡◌, ℕ, ◌+◌, ◌≤◌, max, List, [], ◌∷◌, length, Option, Some, None, All, Bool, true,
+    false, not, ◌||◌}
 use Rattle.om_pragma.specs.declared.tree.Directive.{Directive}
 use Rattle.om_pragma.specs.Expressions.{expressions}
 use Rattle.om_pragma.specs.Questions.{is_atomic, atomic_kind}
 use Rattle.om_tree.specs.AtomicForms.{has_atomic_form}
 use Rattle.om_tree.specs.Limits.{Limits, accepted, nesting, expressions_of_declaration}
 use Rattle.om_tree.specs.Spelling.{expression_spelling}
-use Rattle.om_tree.specs.Tree.{ExpressionTree, DeclarationTree, ForStartTree, Nothing, StartExpression, StartDeclaration, StatementTree, StatementsTree, LocalDeclaration, Block, Empty, Expression, If, IfElse, While, Do, For, Return, Break, Continue, Construct, StandAlone, Sections, Section, NoStatements, Statement, statements, BlockTree, ItemTree, Declaration, Prototype, Function, UnitTree}
+use Rattle.om_tree.specs.Tree.{ExpressionTree, DeclarationTree, ForStartTree, Nothing, StartExpression,
+    StartDeclaration, StatementTree, StatementsTree, LocalDeclaration, Block, Empty, Expression, If, IfElse, While,
+    Do, For, Return, Break, Continue, Construct, StandAlone, Sections, Section, NoStatements, Statement, statements,
+    BlockTree, ItemTree, Declaration, Prototype, Function, UnitTree}
 
 -- the largest of these
 abbrev pub most : {A : Type 0} → (A → ℕ) → List A → ℕ
@@ -60,7 +64,8 @@ abbrev mutual
   longest (IfElse at c s other t) = max (extent c.value) (max (longest s) (longest t))
   longest (While at c s) = max (extent c.value) (longest s)
   longest (Do at s again c semicolon) = max (extent c.value) (longest s)
-  longest (For h s) = max (max (for_start_extent h.start) (max (optional_extent h.condition) (optional_extent h.step))) (longest s)
+  longest (For h s) = max
+      (max (for_start_extent h.start) (max (optional_extent h.condition) (optional_extent h.step))) (longest s)
   longest (Return at value semicolon) = optional_extent value
   longest (Break at semicolon) = 0
   longest (Continue at semicolon) = 0
@@ -84,7 +89,8 @@ abbrev mutual
   brackets (IfElse at c s other t) = max (nesting c.value + 1) (max (brackets s) (brackets t))
   brackets (While at c s) = max (nesting c.value + 1) (brackets s)
   brackets (Do at s again c semicolon) = max (nesting c.value + 1) (brackets s)
-  brackets (For h s) = max (max (for_start_nesting h.start) (max (optional_nesting h.condition) (optional_nesting h.step)) + 1) (brackets s)
+  brackets (For h s) = max (max (for_start_nesting h.start) (max (optional_nesting h.condition)
+      (optional_nesting h.step)) + 1) (brackets s)
   brackets (Return at value semicolon) = optional_nesting value
   brackets (Break at semicolon) = 0
   brackets (Continue at semicolon) = 0
@@ -116,7 +122,8 @@ abbrev mutual
   blocks_of (Statement s rest) = max (blocks s) (blocks_of rest)
 
 abbrev mutual
-  -- how many statements stand in one another, where a declaration and a directive alone are none, and the braces of `sections` are one
+  -- how many statements stand in one another, where a declaration and a directive alone are none, and the
+  -- braces of `sections` are one
   pub height : StatementTree → ℕ
   height (LocalDeclaration d) = 0
   height (Block left items right) = height_of items + 1
@@ -149,7 +156,8 @@ unfoldable mutual
   HasForms checked (While at c s) = HasForms checked s
   HasForms checked (Do at s again c semicolon) = HasForms checked s
   HasForms checked (For h s) = HasForms checked s
-  HasForms checked (Construct d s) = Where (is_atomic d.name) ((not checked || has_atomic_form (atomic_kind d) s) ≡ true) (HasForms checked s)
+  HasForms checked (Construct d s) = Where (is_atomic d.name) ((not checked || has_atomic_form (atomic_kind d) s)
+      ≡ true) (HasForms checked s)
   HasForms checked (Sections d left items right) = HaveForms checked items
   HasForms checked (Section d s) = HasForms checked s
   HasForms checked _ = Unit {0}

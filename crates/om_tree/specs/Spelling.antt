@@ -25,7 +25,12 @@ use Rattle.om_tree.specs.declared.tree.PrefixOperator.TheVariants as prefixes
 use Rattle.om_tree.specs.declared.tree.ResultType.{ResultType}
 use Rattle.om_tree.specs.declared.tree.ResultType.TheVariants as results
 use Rattle.om_tree.specs.declared.tree.Text as texts
-use Rattle.om_tree.specs.Tree.{ExpressionTree, Name, Constant, Text, Paren, Index, Call, Prefix, Postfix, Binary, Conditional, Assign, ArgumentsTree, NoArguments, Argument, InitializerTree, DeclaratorTree, DeclarationTree, ConditionTree, ForStartTree, Nothing, StartExpression, StartDeclaration, ForHeadTree, StatementTree, LocalDeclaration, Block, Empty, Expression, If, IfElse, While, Do, For, Return, Break, Continue, Construct, StandAlone, Sections, Section, StatementsTree, NoStatements, Statement, BlockTree, ParametersTree, NoParameters, Void, Listed, HeadTree, ItemTree, Declaration, Prototype, Function, UnitTree}
+use Rattle.om_tree.specs.Tree.{ExpressionTree, Name, Constant, Text, Paren, Index, Call, Prefix, Postfix, Binary,
+    Conditional, Assign, ArgumentsTree, NoArguments, Argument, InitializerTree, DeclaratorTree, DeclarationTree,
+    ConditionTree, ForStartTree, Nothing, StartExpression, StartDeclaration, ForHeadTree, StatementTree,
+    LocalDeclaration, Block, Empty, Expression, If, IfElse, While, Do, For, Return, Break, Continue, Construct,
+    StandAlone, Sections, Section, StatementsTree, NoStatements, Statement, BlockTree, ParametersTree, NoParameters,
+    Void, Listed, HeadTree, ItemTree, Declaration, Prototype, Function, UnitTree}
 
 -- a token of a kind, where it stands
 abbrev pub token : TokenKind → Span → Token
@@ -104,19 +109,24 @@ unfoldable mutual
   expression_spelling (Name n) = name n ∷ []
   expression_spelling (Constant n) = number n ∷ []
   expression_spelling (Text t) = text t ∷ []
-  expression_spelling (Paren left e right) = mark punctuators.OpenParen left ∷ (expression_spelling e ++ mark punctuators.CloseParen right ∷ [])
-  expression_spelling (Index n left e right) = name n ∷ mark punctuators.OpenBracket left ∷ (expression_spelling e ++ mark punctuators.CloseBracket right ∷ [])
-  expression_spelling (Call n left values right) = name n ∷ mark punctuators.OpenParen left ∷ (arguments_spelling values ++ mark punctuators.CloseParen right ∷ [])
+  expression_spelling (Paren left e right) = mark punctuators.OpenParen left
+      ∷ (expression_spelling e ++ mark punctuators.CloseParen right ∷ [])
+  expression_spelling (Index n left e right) = name n ∷ mark punctuators.OpenBracket left
+      ∷ (expression_spelling e ++ mark punctuators.CloseBracket right ∷ [])
+  expression_spelling (Call n left values right) = name n ∷ mark punctuators.OpenParen left
+      ∷ (arguments_spelling values ++ mark punctuators.CloseParen right ∷ [])
   expression_spelling (Prefix o at e) = mark (prefix_mark o) at ∷ expression_spelling e
   expression_spelling (Postfix e o at) = expression_spelling e ++ mark (postfix_mark o) at ∷ []
   expression_spelling (Binary a o at b) = expression_spelling a ++ mark (binary_mark o) at ∷ expression_spelling b
-  expression_spelling (Conditional c question a colon b) = expression_spelling c ++ mark punctuators.Question question ∷ (expression_spelling a ++ mark punctuators.Colon colon ∷ expression_spelling b)
+  expression_spelling (Conditional c question a colon b) = expression_spelling c ++ mark punctuators.Question
+      question ∷ (expression_spelling a ++ mark punctuators.Colon colon ∷ expression_spelling b)
   expression_spelling (Assign a o at b) = expression_spelling a ++ mark (assign_mark o) at ∷ expression_spelling b
 
   -- C17 6.5.2.2
   pub arguments_spelling : ArgumentsTree → List Token
   arguments_spelling NoArguments = []
-  arguments_spelling (Argument comma e rest) = perhaps (λ at. mark punctuators.Comma at ∷ []) comma ++ expression_spelling e ++ arguments_spelling rest
+  arguments_spelling (Argument comma e rest) = perhaps (λ at. mark punctuators.Comma at ∷ []) comma
+      ++ expression_spelling e ++ arguments_spelling rest
 
 -- C17 6.7.9
 unfoldable pub initializer_spelling : InitializerTree → List Token
@@ -124,7 +134,8 @@ initializer_spelling i = mark punctuators.Equal i.equal ∷ expression_spelling 
 
 -- the length of an array in its brackets
 abbrev pub array_spelling : ArrayLength → List Token
-array_spelling a = mark punctuators.OpenBracket a.open_bracket ∷ number a.size ∷ mark punctuators.CloseBracket a.close_bracket ∷ []
+array_spelling a = mark punctuators.OpenBracket a.open_bracket ∷ number a.size ∷ mark punctuators.CloseBracket
+    a.close_bracket ∷ []
 
 -- C17 6.7.6
 unfoldable pub declarator_spelling : DeclaratorTree → List Token
@@ -136,11 +147,13 @@ further_spelling = behind_comma declarator_spelling
 
 -- C17 6.7
 unfoldable pub declaration_spelling : DeclarationTree → List Token
-declaration_spelling d = word keywords.Int d.int ∷ (declarator_spelling d.first ++ flat_map further_spelling d.rest ++ mark punctuators.Semicolon d.semicolon ∷ [])
+declaration_spelling d = word keywords.Int d.int ∷ (declarator_spelling d.first ++ flat_map further_spelling d.rest
+    ++ mark punctuators.Semicolon d.semicolon ∷ [])
 
 -- an expression in parentheses
 unfoldable pub condition_spelling : ConditionTree → List Token
-condition_spelling c = mark punctuators.OpenParen c.open_paren ∷ (expression_spelling c.value ++ mark punctuators.CloseParen c.close_paren ∷ [])
+condition_spelling c = mark punctuators.OpenParen c.open_paren
+    ∷ (expression_spelling c.value ++ mark punctuators.CloseParen c.close_paren ∷ [])
 
 -- C17 6.8.5.3
 unfoldable pub for_start_spelling : ForStartTree → List Token
@@ -159,20 +172,26 @@ unfoldable mutual
   -- C17 6.8
   pub statement_spelling : StatementTree → List Token
   statement_spelling (LocalDeclaration d) = declaration_spelling d
-  statement_spelling (Block left items right) = mark punctuators.OpenBrace left ∷ (statements_spelling items ++ mark punctuators.CloseBrace right ∷ [])
+  statement_spelling (Block left items right) = mark punctuators.OpenBrace left
+      ∷ (statements_spelling items ++ mark punctuators.CloseBrace right ∷ [])
   statement_spelling (Empty semicolon) = mark punctuators.Semicolon semicolon ∷ []
   statement_spelling (Expression e semicolon) = expression_spelling e ++ mark punctuators.Semicolon semicolon ∷ []
   statement_spelling (If at c s) = word keywords.If at ∷ (condition_spelling c ++ statement_spelling s)
-  statement_spelling (IfElse at c s other t) = word keywords.If at ∷ (condition_spelling c ++ statement_spelling s ++ word keywords.Else other ∷ statement_spelling t)
+  statement_spelling (IfElse at c s other t) = word keywords.If at ∷ (condition_spelling c ++ statement_spelling s
+      ++ word keywords.Else other ∷ statement_spelling t)
   statement_spelling (While at c s) = word keywords.While at ∷ (condition_spelling c ++ statement_spelling s)
-  statement_spelling (Do at s again c semicolon) = word keywords.Do at ∷ (statement_spelling s ++ word keywords.While again ∷ (condition_spelling c ++ mark punctuators.Semicolon semicolon ∷ []))
+  statement_spelling (Do at s again c semicolon) = word keywords.Do at
+      ∷ (statement_spelling s ++ word keywords.While again ∷ (condition_spelling c ++ mark punctuators.Semicolon
+      semicolon ∷ []))
   statement_spelling (For h s) = for_head_spelling h ++ statement_spelling s
-  statement_spelling (Return at value semicolon) = word keywords.Return at ∷ (perhaps expression_spelling value ++ mark punctuators.Semicolon semicolon ∷ [])
+  statement_spelling (Return at value semicolon) = word keywords.Return at ∷ (perhaps expression_spelling value
+      ++ mark punctuators.Semicolon semicolon ∷ [])
   statement_spelling (Break at semicolon) = word keywords.Break at ∷ mark punctuators.Semicolon semicolon ∷ []
   statement_spelling (Continue at semicolon) = word keywords.Continue at ∷ mark punctuators.Semicolon semicolon ∷ []
   statement_spelling (Construct d s) = directive_spelling expression_spelling d ++ statement_spelling s
   statement_spelling (StandAlone d) = directive_spelling expression_spelling d
-  statement_spelling (Sections d left parts right) = directive_spelling expression_spelling d ++ mark punctuators.OpenBrace left ∷ (statements_spelling parts ++ mark punctuators.CloseBrace right ∷ [])
+  statement_spelling (Sections d left parts right) = directive_spelling expression_spelling d
+      ++ mark punctuators.OpenBrace left ∷ (statements_spelling parts ++ mark punctuators.CloseBrace right ∷ [])
   statement_spelling (Section d s) = directive_spelling expression_spelling d ++ statement_spelling s
 
   -- several of them
@@ -182,7 +201,8 @@ unfoldable mutual
 
 -- C17 6.8.2
 unfoldable pub block_spelling : BlockTree → List Token
-block_spelling b = mark punctuators.OpenBrace b.open_brace ∷ (flat_map statement_spelling b.items ++ mark punctuators.CloseBrace b.close_brace ∷ [])
+block_spelling b = mark punctuators.OpenBrace b.open_brace ∷ (flat_map statement_spelling b.items
+    ++ mark punctuators.CloseBrace b.close_brace ∷ [])
 
 -- the word of a function's result
 abbrev pub result_spelling : ResultType → Token
@@ -201,7 +221,8 @@ parameters_spelling (Listed first rest) = parameter_spelling first ++ flat_map (
 
 -- C17 6.7.6.3
 unfoldable pub head_spelling : HeadTree → List Token
-head_spelling h = result_spelling h.result ∷ name h.name ∷ mark punctuators.OpenParen h.open_paren ∷ (parameters_spelling h.parameters ++ mark punctuators.CloseParen h.close_paren ∷ [])
+head_spelling h = result_spelling h.result ∷ name h.name ∷ mark punctuators.OpenParen h.open_paren
+    ∷ (parameters_spelling h.parameters ++ mark punctuators.CloseParen h.close_paren ∷ [])
 
 -- C17 6.9
 unfoldable pub item_spelling : ItemTree → List Token

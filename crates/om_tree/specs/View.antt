@@ -23,7 +23,8 @@ use Rattle.om_tree.specs.declared.tree.Statement.{Statement, fold-Statement}
 use Rattle.om_tree.specs.declared.tree.Statement.TheOpen.{Statement-F}
 use Rattle.om_tree.specs.declared.tree.Unit as units
 use Rattle.om_tree.specs.Tree as trees
-use Rattle.om_tree.specs.Tree.{ExpressionTree, InitializerTree, DeclaratorTree, DeclarationTree, ConditionTree, ForStartTree, ForHeadTree, StatementTree, BlockTree, ParametersTree, HeadTree, FunctionTree, ItemTree, UnitTree}
+use Rattle.om_tree.specs.Tree.{ExpressionTree, InitializerTree, DeclaratorTree, DeclarationTree, ConditionTree,
+    ForStartTree, ForHeadTree, StatementTree, BlockTree, ParametersTree, HeadTree, FunctionTree, ItemTree, UnitTree}
 
 -- one layer of an expression, whose parts are trees already
 abbrev pub expression_layer : Expression-F ExpressionTree → ExpressionTree
@@ -36,7 +37,8 @@ expression_layer (Expression-F.Call n left values right) = trees.Call n left (tr
 expression_layer (Expression-F.Prefix o at e) = trees.Prefix o at e.value
 expression_layer (Expression-F.Postfix e o at) = trees.Postfix e.value o at
 expression_layer (Expression-F.Binary a o at b) = trees.Binary a.value o at b.value
-expression_layer (Expression-F.Conditional c question a colon b) = trees.Conditional c.value question a.value colon b.value
+expression_layer (Expression-F.Conditional c question a colon b) = trees.Conditional c.value question a.value colon
+    b.value
 expression_layer (Expression-F.Assign a o at b) = trees.Assign a.value o at b.value
 
 -- an expression without boxes and capacities
@@ -61,7 +63,8 @@ view_further d = (d.0, view_declarator d.1)
 
 -- a declaration without boxes and capacities
 abbrev pub view_declaration : declarations.Declaration → DeclarationTree
-view_declaration d = record { int = d.int; first = view_declarator d.first; rest = map view_further d.rest.items; semicolon = d.semicolon }
+view_declaration d = record { int = d.int; first = view_declarator d.first; rest = map view_further d.rest.items;
+    semicolon = d.semicolon }
 
 -- an expression in parentheses, as a tree
 abbrev pub view_condition : Condition → ConditionTree
@@ -100,12 +103,14 @@ statement_layer (Statement-F.IfElse at c s other t) = trees.IfElse at (view_cond
 statement_layer (Statement-F.While at c s) = trees.While at (view_condition c.value) s.value
 statement_layer (Statement-F.Do at s again c semicolon) = trees.Do at s.value again (view_condition c.value) semicolon
 statement_layer (Statement-F.For h s) = trees.For (view_for_head h.value) s.value
-statement_layer (Statement-F.Return at value semicolon) = trees.Return at (option_map (λ e. view_expression e.value) value) semicolon
+statement_layer (Statement-F.Return at value semicolon) = trees.Return at (option_map (λ e. view_expression e.value)
+    value) semicolon
 statement_layer (Statement-F.Break at semicolon) = trees.Break at semicolon
 statement_layer (Statement-F.Continue at semicolon) = trees.Continue at semicolon
 statement_layer (Statement-F.Construct d s) = trees.Construct (view_directive d.value) s.value
 statement_layer (Statement-F.StandAlone d) = trees.StandAlone (view_directive d.value)
-statement_layer (Statement-F.Sections d left parts right) = trees.Sections (view_directive d.value) left (trees.statements parts.items) right
+statement_layer (Statement-F.Sections d left parts right) = trees.Sections (view_directive d.value) left
+    (trees.statements parts.items) right
 statement_layer (Statement-F.Section d s) = trees.Section (view_directive d.value) s.value
 
 -- a statement without boxes and capacities
@@ -114,7 +119,8 @@ view_statement = fold-Statement StatementTree statement_layer
 
 -- a block without boxes and capacities
 abbrev pub view_block : blocks.Block → BlockTree
-view_block b = record { open_brace = b.open_brace; items = map view_statement b.items.items; close_brace = b.close_brace }
+view_block b = record { open_brace = b.open_brace; items = map view_statement b.items.items; close_brace =
+    b.close_brace }
 
 -- parameters without capacities
 abbrev pub view_parameters : Parameters → ParametersTree
@@ -124,7 +130,8 @@ view_parameters (parameters.Listed first rest) = trees.Listed first rest.items
 
 -- a function's result, name and parameters, as a tree
 abbrev pub view_head : FunctionHead → HeadTree
-view_head h = record { result = h.result; name = h.name; open_paren = h.open_paren; parameters = view_parameters h.parameters; close_paren = h.close_paren }
+view_head h = record { result = h.result; name = h.name; open_paren = h.open_paren; parameters = view_parameters
+    h.parameters; close_paren = h.close_paren }
 
 -- the same of a function
 abbrev pub view_function : functions.Function → FunctionTree

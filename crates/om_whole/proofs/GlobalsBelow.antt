@@ -11,17 +11,22 @@ use Rattle.om_pragma.specs.declared.clause.DataSharing.TheVariants as lists
 use Rattle.om_pragma.specs.declared.name.Name as names
 use Rattle.om_pragma.specs.declared.tree.Directive.{Directive}
 use Rattle.om_tree.specs.declared.tree.Parameter.{Parameter}
-use Rattle.om_tree.specs.Tree.{ExpressionTree, DeclaratorTree, ForStartTree, Nothing, StartExpression, StartDeclaration, StatementTree, LocalDeclaration, Block, Empty, Expression, If, IfElse, While, Do, For, Return, Break, Continue, Construct, StandAlone, Sections, Section, HeadTree}
+use Rattle.om_tree.specs.Tree.{ExpressionTree, DeclaratorTree, ForStartTree, Nothing, StartExpression,
+    StartDeclaration, StatementTree, LocalDeclaration, Block, Empty, Expression, If, IfElse, While, Do, For, Return,
+    Break, Continue, Construct, StandAlone, Sections, Section, HeadTree}
 use Rattle.om_resolved.specs.declared.resolved.Variable.{Variable}
 use Rattle.om_resolved.specs.declared.resolved.Variable.TheVariants as variables
 use Rattle.om_rules.specs.declared.meaning.Meaning.{Meaning}
 use Rattle.om_rules.specs.declared.meaning.Meaning.TheVariants as meanings
 use Rattle.om_rules.specs.declared.region.Region.{Region}
 use Rattle.om_resolved.specs.declared.resolved.Shape.{Shape}
-use Rattle.om_rules.specs.DirectiveRules.{Listed, nothing_listed, names_in, copy_of, after_name, after_names, after_clause, after_item, listed_by, in_construct, traits_of}
+use Rattle.om_rules.specs.DirectiveRules.{Listed, nothing_listed, names_in, copy_of, after_name, after_names,
+    after_clause, after_item, listed_by, in_construct, traits_of}
 use Rattle.om_rules.specs.Loops.{Loop}
 use Rattle.om_rules.specs.Resolution.{variable_of, variable_named}
-use Rattle.om_rules.specs.Scopes.{Binding, Scope, Enclosing, Scopes, meaning_outside, meaning_of, is_declared, with_local, with_function, signature_of, within, plain, inside, after_local, after_locals, declarators_of, after_parameter_name, after_parameter, after_parameters, after_prototype, after_function}
+use Rattle.om_rules.specs.Scopes.{Binding, Scope, Enclosing, Scopes, meaning_outside, meaning_of, is_declared,
+    with_local, with_function, signature_of, within, plain, inside, after_local, after_locals, declarators_of,
+    after_parameter_name, after_parameter, after_parameters, after_prototype, after_function}
 use Rattle.om_rules.specs.Sharing.{is_parallel}
 use Rattle.om_rules.specs.StatementResolution.{bounds_scopes}
 use Rattle.om_rules.specs.StatementRules.{after_for_start, after_statement, in_loop, round_bounds, with_iteration}
@@ -65,43 +70,56 @@ outer_more m n [] le h = tt
 outer_more m n (e ∷ outer) le h = (scope_more m n e.scope le h.0, outer_more m n outer le h.1)
 
 pub more : (m n : ℕ) (scopes : Scopes) → m ≤ n → Below m scopes → Below n scopes
-more m n scopes le h = record { inner = scope_more m n scopes.inner le h.inner; outer = outer_more m n scopes.outer le h.outer }
+more m n scopes le h = record { inner = scope_more m n scopes.inner le h.inner; outer = outer_more m n scopes.outer
+    le h.outer }
 
 -- ---- what a name means
 
-lookup_below : (n : ℕ) (test : List ℕ → Bool) (scope : Scope) → ScopeBelow n scope → IfSome (lookup test scope) (MeaningBelow n)
+lookup_below : (n : ℕ) (test : List ℕ → Bool) (scope : Scope) → ScopeBelow n scope → IfSome (lookup test scope)
+    (MeaningBelow n)
 lookup_below n test [] h = tt
-lookup_below n test ((name, meaning) ∷ bs) h = if_either (λ o. IfSome o (MeaningBelow n)) (test name) (Some meaning) (lookup test bs) h.0 (lookup_below n test bs h.1)
+lookup_below n test ((name, meaning) ∷ bs) h = if_either (λ o. IfSome o (MeaningBelow n)) (test name) (Some meaning)
+    (lookup test bs) h.0 (lookup_below n test bs h.1)
 
-outside_below : (n : ℕ) (outer : List Enclosing) (name : List ℕ) → OuterBelow n outer → IfSome (meaning_outside outer name) (MeaningBelow n)
+outside_below : (n : ℕ) (outer : List Enclosing) (name : List ℕ) → OuterBelow n outer
+    → IfSome (meaning_outside outer name) (MeaningBelow n)
 outside_below n [] name h = tt
 outside_below n (e ∷ outer) name h =
-    if_first (MeaningBelow n) (lookup (bytes_eq name) e.scope) (meaning_outside outer name) (lookup_below n (bytes_eq name) e.scope h.0) (outside_below n outer name h.1)
+    if_first (MeaningBelow n) (lookup (bytes_eq name) e.scope) (meaning_outside outer name)
+        (lookup_below n (bytes_eq name) e.scope h.0) (outside_below n outer name h.1)
 
-meaning_below : (n : ℕ) (scopes : Scopes) (name : List ℕ) → Below n scopes → IfSome (meaning_of scopes name) (MeaningBelow n)
+meaning_below : (n : ℕ) (scopes : Scopes) (name : List ℕ) → Below n scopes → IfSome (meaning_of scopes name)
+    (MeaningBelow n)
 meaning_below n scopes name h =
-    if_first (MeaningBelow n) (lookup (bytes_eq name) scopes.inner) (meaning_outside scopes.outer name) (lookup_below n (bytes_eq name) scopes.inner h.inner) (outside_below n scopes.outer name h.outer)
+    if_first (MeaningBelow n) (lookup (bytes_eq name) scopes.inner) (meaning_outside scopes.outer name)
+        (lookup_below n (bytes_eq name) scopes.inner h.inner) (outside_below n scopes.outer name h.outer)
 
-variable_below : (n : ℕ) (meaning : Option Meaning) → IfSome meaning (MeaningBelow n) → IfSome (variable_of meaning) (IsVariable n)
+variable_below : (n : ℕ) (meaning : Option Meaning) → IfSome meaning (MeaningBelow n) → IfSome (variable_of meaning)
+    (IsVariable n)
 variable_below n None h = tt
 variable_below n (Some (meanings.Variable v shape)) h = h
 variable_below n (Some (meanings.Function signature)) h = tt
 variable_below n (Some meanings.Printf) h = tt
 
-pub named_below : (n : ℕ) (scopes : Scopes) (name : names.Name) → Below n scopes → IfSome (variable_named scopes name) (IsVariable n)
+pub named_below : (n : ℕ) (scopes : Scopes) (name : names.Name) → Below n scopes
+    → IfSome (variable_named scopes name) (IsVariable n)
 named_below n scopes name h = variable_below n (meaning_of scopes name.text) (meaning_below n scopes name.text h)
 
 -- ---- declarations
 
-scope_append : (n : ℕ) (scope bindings : Scope) → ScopeBelow n scope → ScopeBelow n bindings → ScopeBelow n (scope ++ bindings)
+scope_append : (n : ℕ) (scope bindings : Scope) → ScopeBelow n scope → ScopeBelow n bindings
+    → ScopeBelow n (scope ++ bindings)
 scope_append n [] bindings h hb = hb
 scope_append n (c ∷ cs) bindings h hb = (h.0, scope_append n cs bindings h.1 hb)
 
-pub scope_push : (n : ℕ) (scope : Scope) (b : Binding) → ScopeBelow n scope → MeaningBelow n b.1 → ScopeBelow n (scope ++ b ∷ [])
+pub scope_push : (n : ℕ) (scope : Scope) (b : Binding) → ScopeBelow n scope → MeaningBelow n b.1
+    → ScopeBelow n (scope ++ b ∷ [])
 scope_push n scope b h hb = scope_append n scope (b ∷ []) h (hb, tt)
 
-pub below_local : (n : ℕ) (scopes : Scopes) (name : names.Name) (shape : Shape) → Below n scopes → Below n (with_local scopes name shape)
-below_local n scopes name shape h = record { inner = scope_push n scopes.inner (name.text, meanings.Variable (variables.Local name.span.start) shape) h.inner tt; outer = h.outer }
+pub below_local : (n : ℕ) (scopes : Scopes) (name : names.Name) (shape : Shape) → Below n scopes
+    → Below n (with_local scopes name shape)
+below_local n scopes name shape h = record { inner = scope_push n scopes.inner
+    (name.text, meanings.Variable (variables.Local name.span.start) shape) h.inner tt; outer = h.outer }
 
 pub below_after_local : (n : ℕ) (scopes : Scopes) (d : DeclaratorTree) → Below n scopes → Below n (after_local scopes d)
 below_after_local n scopes d h = below_local n scopes d.name _ h
@@ -110,77 +128,99 @@ below_locals : (n : ℕ) (ds : List DeclaratorTree) (scopes : Scopes) → Below 
 below_locals n [] scopes h = h
 below_locals n (d ∷ ds) scopes h = below_locals n ds (after_local scopes d) (below_after_local n scopes d h)
 
-below_parameter : (n : ℕ) (scopes : Scopes) (name : Option names.Name) → Below n scopes → Below n (after_parameter_name scopes name)
+below_parameter : (n : ℕ) (scopes : Scopes) (name : Option names.Name) → Below n scopes
+    → Below n (after_parameter_name scopes name)
 below_parameter n scopes None h = h
 below_parameter n scopes (Some name) h = below_local n scopes name _ h
 
-pub below_parameters : (n : ℕ) (ps : List Parameter) (scopes : Scopes) → Below n scopes → Below n (after_parameters scopes ps)
+pub below_parameters : (n : ℕ) (ps : List Parameter) (scopes : Scopes) → Below n scopes
+    → Below n (after_parameters scopes ps)
 below_parameters n [] scopes h = h
-below_parameters n (p ∷ ps) scopes h = below_parameters n ps (after_parameter scopes p) (below_parameter n scopes p.name h)
+below_parameters n (p ∷ ps) scopes h = below_parameters n ps (after_parameter scopes p)
+    (below_parameter n scopes p.name h)
 
-pub below_prototype : (n : ℕ) (scopes : Scopes) (head : HeadTree) → Below n scopes → Below n (after_prototype scopes head)
+pub below_prototype : (n : ℕ) (scopes : Scopes) (head : HeadTree) → Below n scopes
+    → Below n (after_prototype scopes head)
 below_prototype n scopes head h =
-    if_either (Below n) (is_declared scopes head.name.text) scopes (with_function scopes head.name.text (signature_of head)) h
-    (record { inner = scope_push n scopes.inner (head.name.text, meanings.Function (signature_of head)) h.inner tt; outer = h.outer })
+    if_either (Below n) (is_declared scopes head.name.text) scopes (with_function scopes head.name.text
+        (signature_of head)) h
+    (record { inner = scope_push n scopes.inner (head.name.text, meanings.Function (signature_of head)) h.inner tt;
+        outer = h.outer })
 
 pub below_function : (n : ℕ) (scopes : Scopes) (head : HeadTree) → Below n scopes → Below n (after_function scopes head)
 below_function n scopes head h = let p = below_prototype n scopes head h in record { inner = p.inner; outer = p.outer }
 
 -- ---- constructs
 
-below_within : (n : ℕ) (inner : Scope) (region : Region) (scopes : Scopes) → ScopeBelow n inner → Below n scopes → Below n (within inner region scopes)
+below_within : (n : ℕ) (inner : Scope) (region : Region) (scopes : Scopes) → ScopeBelow n inner → Below n scopes
+    → Below n (within inner region scopes)
 below_within n inner region scopes own h = record { inner = own; outer = (h.inner, h.outer) }
 
 pub below_inside : (n : ℕ) (scopes : Scopes) → Below n scopes → Below n (inside scopes)
 below_inside n scopes h = below_within n [] plain scopes tt h
 
-copies_after_name : (n : ℕ) (sharing : DataSharing) (listed : Listed) (name : names.Name) → ScopeBelow n listed.copies → ScopeBelow n (after_name sharing listed name).copies
+copies_after_name : (n : ℕ) (sharing : DataSharing) (listed : Listed) (name : names.Name)
+    → ScopeBelow n listed.copies → ScopeBelow n (after_name sharing listed name).copies
 copies_after_name n lists.Shared listed name h = h
 copies_after_name n lists.Private listed name h = scope_push n listed.copies (copy_of name) h tt
 copies_after_name n lists.Firstprivate listed name h = scope_push n listed.copies (copy_of name) h tt
 
-copies_after_names : (n : ℕ) (sharing : DataSharing) (ns : List names.Name) (listed : Listed) → ScopeBelow n listed.copies → ScopeBelow n (after_names sharing listed ns).copies
+copies_after_names : (n : ℕ) (sharing : DataSharing) (ns : List names.Name) (listed : Listed)
+    → ScopeBelow n listed.copies → ScopeBelow n (after_names sharing listed ns).copies
 copies_after_names n sharing [] listed h = h
-copies_after_names n sharing (name ∷ ns) listed h = copies_after_names n sharing ns (after_name sharing listed name) (copies_after_name n sharing listed name h)
+copies_after_names n sharing (name ∷ ns) listed h = copies_after_names n sharing ns (after_name sharing listed name)
+    (copies_after_name n sharing listed name h)
 
-copies_after_clause : (n : ℕ) (listed : Listed) (clause : Clause ExpressionTree) → ScopeBelow n listed.copies → ScopeBelow n (after_clause listed clause).copies
+copies_after_clause : (n : ℕ) (listed : Listed) (clause : Clause ExpressionTree) → ScopeBelow n listed.copies
+    → ScopeBelow n (after_clause listed clause).copies
 unfolding after_clause
 copies_after_clause n listed (clauses.Value kind s v) h = h
 copies_after_clause n listed (clauses.Default s argument) h = h
-copies_after_clause n listed (clauses.Data sharing s list) h = copies_after_names n sharing (names_in list.first list.rest) listed h
-copies_after_clause n listed (clauses.Reduction s r) h = copies_after_names n lists.Firstprivate (names_in r.first r.rest) listed h
+copies_after_clause n listed (clauses.Data sharing s list) h = copies_after_names n sharing
+    (names_in list.first list.rest) listed h
+copies_after_clause n listed (clauses.Reduction s r) h = copies_after_names n lists.Firstprivate
+    (names_in r.first r.rest) listed h
 copies_after_clause n listed (clauses.Schedule s argument) h = h
 copies_after_clause n listed (clauses.Plain kind s) h = h
 
-copies_after_items : (n : ℕ) (items : List (ClauseItem ExpressionTree)) (listed : Listed) → ScopeBelow n listed.copies → ScopeBelow n (fold after_item listed items).copies
+copies_after_items : (n : ℕ) (items : List (ClauseItem ExpressionTree)) (listed : Listed)
+    → ScopeBelow n listed.copies → ScopeBelow n (fold after_item listed items).copies
 copies_after_items n [] listed h = h
-copies_after_items n (item ∷ items) listed h = copies_after_items n items (after_item listed item) (copies_after_clause n listed item.clause h)
+copies_after_items n (item ∷ items) listed h = copies_after_items n items (after_item listed item)
+    (copies_after_clause n listed item.clause h)
 
-pub below_construct : (n : ℕ) (d : Directive ExpressionTree) (scopes : Scopes) → Below n scopes → Below n (in_construct d scopes)
-below_construct n d scopes h = below_within n (listed_by d).copies _ scopes (copies_after_items n d.clauses nothing_listed tt) h
+pub below_construct : (n : ℕ) (d : Directive ExpressionTree) (scopes : Scopes) → Below n scopes
+    → Below n (in_construct d scopes)
+below_construct n d scopes h = below_within n (listed_by d).copies _ scopes
+    (copies_after_items n d.clauses nothing_listed tt) h
 
 -- ---- loops
 
-pub below_bounds : (n : ℕ) (d : Directive ExpressionTree) (scopes : Scopes) → Below n scopes → Below n (round_bounds d scopes)
-below_bounds n d scopes h = if_either (Below n) (is_parallel (traits_of d.name).region) (in_construct d scopes) scopes (below_construct n d scopes h) h
+pub below_bounds : (n : ℕ) (d : Directive ExpressionTree) (scopes : Scopes) → Below n scopes
+    → Below n (round_bounds d scopes)
+below_bounds n d scopes h = if_either (Below n) (is_parallel (traits_of d.name).region) (in_construct d scopes)
+    scopes (below_construct n d scopes h) h
 
 below_iteration : (n : ℕ) (scopes : Scopes) (found : Loop) → Below n scopes → Below n (with_iteration scopes found)
 below_iteration n scopes found h = below_local n (inside scopes) found.start.variable _ (below_inside n scopes h)
 
 pub below_found : (n : ℕ) (scopes : Scopes) (found : Loop) → Below n scopes → Below n (bounds_scopes scopes found)
-below_found n scopes found h = if_either (Below n) found.start.is_declared (with_iteration scopes found) scopes (below_iteration n scopes found h) h
+below_found n scopes found h = if_either (Below n) found.start.is_declared (with_iteration scopes found) scopes
+    (below_iteration n scopes found h) h
 
 pub below_in_loop : (n : ℕ) (scopes : Scopes) (found : Loop) → Below n scopes → Below n (in_loop scopes (Some found))
 below_in_loop n scopes found h = below_inside n (with_iteration scopes found) (below_iteration n scopes found h)
 
 -- ---- statements
 
-pub below_start : (n : ℕ) (scopes : Scopes) (start : ForStartTree) → Below n scopes → Below n (after_for_start scopes start)
+pub below_start : (n : ℕ) (scopes : Scopes) (start : ForStartTree) → Below n scopes
+    → Below n (after_for_start scopes start)
 below_start n scopes (Nothing semicolon) h = h
 below_start n scopes (StartExpression e semicolon) h = h
 below_start n scopes (StartDeclaration d) h = below_locals n (declarators_of d) scopes h
 
-pub below_statement : (n : ℕ) (scopes : Scopes) (s : StatementTree) → Below n scopes → Below n (after_statement scopes s)
+pub below_statement : (n : ℕ) (scopes : Scopes) (s : StatementTree) → Below n scopes
+    → Below n (after_statement scopes s)
 below_statement n scopes (LocalDeclaration d) h = below_locals n (declarators_of d) scopes h
 below_statement n scopes (Block left items right) h = h
 below_statement n scopes (Empty semicolon) h = h

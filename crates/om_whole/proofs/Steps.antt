@@ -6,17 +6,20 @@ use Rattle.std.proofs.lemmas.List.Elements.{All-nil, All-cons, All-append}
 use Rattle.om_rules.specs.Perhaps.{◌>>=◌, each, each_along, all_of}
 
 -- of the step behind one
-pub if_then : {A B : Type 0} (P : A → Type 0) (Q : B → Type 0) (o : Option A) (f : A → Option B) → IfSome o P → ((x : A) → P x → IfSome (f x) Q) → IfSome (o >>= f) Q
+pub if_then : {A B : Type 0} (P : A → Type 0) (Q : B → Type 0) (o : Option A) (f : A → Option B) → IfSome o P
+    → ((x : A) → P x → IfSome (f x) Q) → IfSome (o >>= f) Q
 if_then P Q None f h next = tt
 if_then P Q (Some x) f h next = next x h
 
 -- of what is made of it
-pub if_mapped : {A B : Type 0} (P : A → Type 0) (Q : B → Type 0) (o : Option A) (f : A → B) → IfSome o P → ((x : A) → P x → Q (f x)) → IfSome (option_map f o) Q
+pub if_mapped : {A B : Type 0} (P : A → Type 0) (Q : B → Type 0) (o : Option A) (f : A → B) → IfSome o P
+    → ((x : A) → P x → Q (f x)) → IfSome (option_map f o) Q
 if_mapped P Q None f h next = tt
 if_mapped P Q (Some x) f h next = next x h
 
 -- three at once
-pub if_three : {A : Type 0} (P Q R : A → Type 0) (o : Option A) → IfSome o P → IfSome o Q → IfSome o R → IfSome o (λ x. P x × Q x × R x)
+pub if_three : {A : Type 0} (P Q R : A → Type 0) (o : Option A) → IfSome o P → IfSome o Q → IfSome o R
+    → IfSome o (λ x. P x × Q x × R x)
 if_three P Q R None hp hq hr = tt
 if_three P Q R (Some x) hp hq hr = (hp, hq, hr)
 
@@ -40,17 +43,25 @@ if_given P None x h e = cc
 if_given P (Some y) x h e = let same : y ≡ x = cc in subst P same h
 
 -- of all of several
-pub if_each : {A B : Type 0} (P : B → Type 0) (f : A → Option B) → ((x : A) → IfSome (f x) P) → (xs : List A) → IfSome (each f xs) (All P)
+pub if_each : {A B : Type 0} (P : B → Type 0) (f : A → Option B) → ((x : A) → IfSome (f x) P) → (xs : List A)
+    → IfSome (each f xs) (All P)
 if_each P f one [] = All-nil P
-if_each P f one (x ∷ xs) = if_then P (All P) (f x) _ (one x) (λ y h. if_then (All P) (All P) (each f xs) _ (if_each P f one xs) (λ ys hs. All-cons P y ys h hs))
+if_each P f one (x ∷ xs) = if_then P (All P) (f x) _ (one x) (λ y h. if_then (All P) (All P) (each f xs) _
+    (if_each P f one xs) (λ ys hs. All-cons P y ys h hs))
 
-pub if_all_of : {A B : Type 0} (P : B → Type 0) (f : A → Option (List B)) → ((x : A) → IfSome (f x) (All P)) → (xs : List A) → IfSome (all_of f xs) (All P)
+pub if_all_of : {A B : Type 0} (P : B → Type 0) (f : A → Option (List B)) → ((x : A) → IfSome (f x) (All P))
+    → (xs : List A) → IfSome (all_of f xs) (All P)
 if_all_of P f one [] = All-nil P
-if_all_of P f one (x ∷ xs) = if_then (All P) (All P) (f x) _ (one x) (λ ys h. if_then (All P) (All P) (all_of f xs) _ (if_all_of P f one xs) (λ zs hs. All-append P ys zs h hs))
+if_all_of P f one (x ∷ xs) = if_then (All P) (All P) (f x) _ (one x) (λ ys h. if_then (All P) (All P) (all_of f xs)
+    _ (if_all_of P f one xs) (λ zs hs. All-append P ys zs h hs))
 
 -- of several in a row, where each keeps what is true of the state
-module _ {S X Y : Type 0} (Good : S → Type 0) (P : Y → Type 0) (after : S → X → S) (keeps : (state : S) (x : X) → Good state → Good (after state x)) where
-  pub if_each_along : (f : S → X → Option Y) → ((state : S) (x : X) → Good state → IfSome (f state x) P) → (xs : List X) (state : S) → Good state → IfSome (each_along f after state xs) (All P)
+module _ {S X Y : Type 0} (Good : S → Type 0) (P : Y → Type 0) (after : S → X → S) (keeps : (state : S) (x : X)
+    → Good state → Good (after state x)) where
+  pub if_each_along : (f : S → X → Option Y) → ((state : S) (x : X) → Good state → IfSome (f state x) P)
+      → (xs : List X) (state : S) → Good state → IfSome (each_along f after state xs) (All P)
   if_each_along f one [] state good = All-nil P
   if_each_along f one (x ∷ xs) state good =
-      if_then P (All P) (f state x) _ (one state x good) (λ y h. if_then (All P) (All P) (each_along f after (after state x) xs) _ (if_each_along f one xs (after state x) (keeps state x good)) (λ ys hs. All-cons P y ys h hs))
+      if_then P (All P) (f state x) _ (one state x good)
+          (λ y h. if_then (All P) (All P) (each_along f after (after state x) xs) _
+          (if_each_along f one xs (after state x) (keeps state x good)) (λ ys hs. All-cons P y ys h hs))

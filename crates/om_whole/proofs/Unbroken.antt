@@ -25,15 +25,18 @@ never_with b (breach ∷ breaches) e = by (goes_first breach b) e
     by false f = cc
 
 -- none further, and none among others
-pub not_placed : (broken : Bool) (code : FaultCode) (at : ℕ) (breaches : List SourceFault) → perhaps_with broken code at breaches ≡ [] → breaches ≡ []
+pub not_placed : (broken : Bool) (code : FaultCode) (at : ℕ) (breaches : List SourceFault) → perhaps_with broken
+    code at breaches ≡ [] → breaches ≡ []
 not_placed true code at breaches e = absurd (never_with (record { code = code; at = at }) breaches e)
 not_placed false code at breaches e = e
 
-pub never_placed : (code : FaultCode) (at : ℕ) (breaches : List SourceFault) → with_breach (record { code = code; at = at }) breaches ≡ [] → ⊥
+pub never_placed : (code : FaultCode) (at : ℕ) (breaches : List SourceFault)
+    → with_breach (record { code = code; at = at }) breaches ≡ [] → ⊥
 never_placed code at breaches e = never_with (record { code = code; at = at }) breaches e
 
 -- what one test decides of two
-pub by_test : {A B : Type 0} (test : Bool) (P : A → B → Type 0) (a b : A) (x y : B) → P a x → P b y → P (cond test a b) (cond test x y)
+pub by_test : {A B : Type 0} (test : Bool) (P : A → B → Type 0) (a b : A) (x y : B) → P a x → P b y
+    → P (cond test a b) (cond test x y)
 by_test true P a b x y h g = h
 by_test false P a b x y h g = g
 

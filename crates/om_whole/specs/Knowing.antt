@@ -18,20 +18,26 @@ pub record IsDefinition (name : List ℕ) (signature : Signature) (function : Re
   pub returns : function.returns ≡ signature.returns
 
 -- A place among the definitions of a source: `printf` is the first of them, and two functions of OpenMP come next.
-pub record IsCallee (functions : List ResolvedFunctionTree) (name : List ℕ) (signature : Signature) (place : ℕ) : Type 0 where
+pub record IsCallee (functions : List ResolvedFunctionTree) (name : List ℕ) (signature : Signature)
+    (place : ℕ) : Type 0 where
   pub behind_printf : 1 ≤ place
   pub own : 3 ≤ place → IsSomeAnd (slice_get functions (place - 3)) (IsDefinition name signature)
 
 -- what a name means is there, and is such
-abbrev pub IsThere : List GlobalVariable → List ResolvedFunctionTree → List Local → (definitions : List (List ℕ)) → (name : List ℕ) → Meaning → Type 0
+abbrev pub IsThere : List GlobalVariable → List ResolvedFunctionTree → List Local → (definitions : List (List ℕ))
+    → (name : List ℕ) → Meaning → Type 0
 IsThere globals functions locals definitions name (meanings.Variable v shape) = IsAmong globals locals shape v
-IsThere globals functions locals definitions name (meanings.Function signature) = IfSome (position (bytes_eq name) definitions) (IsCallee functions name signature)
+IsThere globals functions locals definitions name (meanings.Function signature) = IfSome
+    (position (bytes_eq name) definitions) (IsCallee functions name signature)
 IsThere globals functions locals definitions name meanings.Printf = Unit {0}
 
 -- so is whatever a name means in scopes
-pub record Known (globals : List GlobalVariable) (functions : List ResolvedFunctionTree) (locals : List Local) (scopes : Scopes) : Type 0 where
-  pub inner : (name : List ℕ) → IfSome (lookup (bytes_eq name) scopes.inner) (IsThere globals functions locals scopes.definitions name)
-  pub outer : (name : List ℕ) → IfSome (meaning_outside scopes.outer name) (IsThere globals functions locals scopes.definitions name)
+pub record Known (globals : List GlobalVariable) (functions : List ResolvedFunctionTree) (locals : List Local)
+    (scopes : Scopes) : Type 0 where
+  pub inner : (name : List ℕ) → IfSome (lookup (bytes_eq name) scopes.inner)
+      (IsThere globals functions locals scopes.definitions name)
+  pub outer : (name : List ℕ) → IfSome (meaning_outside scopes.outer name)
+      (IsThere globals functions locals scopes.definitions name)
 
 abbrev pub Knows : Around → Scopes → Type 0
 Knows around scopes = Known around.globals around.functions around.locals scopes

@@ -21,11 +21,13 @@ use Rattle.om_resolved.specs.declared.resolved.Shape.{Shape}
 use Rattle.om_rules.specs.UnitResolution.{globals_of, resolution_of}
 use Rattle.om_rules.specs.Scopes.{Scopes, definitions_of, file_scope, meaning_of, after_item}
 
--- A name that means a variable behind some items is the name of the global of that number among those that they declare.
+-- A name that means a variable behind some items is the name of the global of that number among those that
+-- they declare.
 abbrev pub NumbersNameGlobals : Type 0
 NumbersNameGlobals =
     (items : List ItemTree) (name : List ℕ) (number : ℕ) (shape : Shape)
-    → meaning_of (fold after_item (file_scope (definitions_of items)) items) name ≡ Some (meanings.Variable (variables.Global number) shape)
+    → meaning_of (fold after_item (file_scope (definitions_of items)) items) name
+        ≡ Some (meanings.Variable (variables.Global number) shape)
     → option_map (λ global. global.name) (slice_get (flat_map globals_of items) number) ≡ Some name
 
 -- A tree that breaks no rule has a resolution.
@@ -34,13 +36,15 @@ UnbrokenTreesResolve = (unit : UnitTree) → breaches_of unit ≡ [] → IsSome 
 
 -- It knows each global by the number of one, and has a `main`.
 abbrev pub UnbrokenTreesAreResolved : Type 0
-UnbrokenTreesAreResolved = (unit : UnitTree) (tree : ResolvedTree) → breaches_of unit ≡ [] → resolution_of unit ≡ Some tree → IsResolved tree
+UnbrokenTreesAreResolved = (unit : UnitTree) (tree : ResolvedTree) → breaches_of unit ≡ [] → resolution_of unit
+    ≡ Some tree → IsResolved tree
 
 -- An expression without a breach, in scopes that are known, resolves to one that is whole.
 abbrev pub UnbrokenExpressionsAreWhole : Type 0
 UnbrokenExpressionsAreWhole =
     (around : Around) (scopes : Scopes) (is_used : Bool) (e : ExpressionTree)
-    → Knows around scopes → expression_breaches scopes is_used e ≡ [] → IfSome (resolved_expression scopes e) (IsWhole around is_used)
+    → Knows around scopes → expression_breaches scopes is_used e ≡ [] → IfSome (resolved_expression scopes e)
+        (IsWhole around is_used)
 
 -- Well-formed statements without a breach, in scopes that are known, resolve to whole ones.
 abbrev pub UnbrokenStatementsAreWhole : Type 0
@@ -51,7 +55,8 @@ UnbrokenStatementsAreWhole =
 
 -- A well-formed source without a breach resolves to a whole tree.
 abbrev pub UnbrokenTreesAreWhole : Type 0
-UnbrokenTreesAreWhole = (unit : UnitTree) → IsUnit unit → breaches_of unit ≡ [] → IfSome (resolution_of unit) IsWholeTree
+UnbrokenTreesAreWhole = (unit : UnitTree) → IsUnit unit → breaches_of unit ≡ [] → IfSome (resolution_of unit)
+    IsWholeTree
 
 -- Each `atomic` that reads or writes resolves to one of an assignment, where the source has the forms of `atomic`.
 abbrev pub AtomicsAssign : Type 0

@@ -6,4 +6,5 @@ use Rattle.om_command.proofs.arguments.parts_of.Goals as goal
 pub returns : goal.returns
 returns c =
     map_from_collect _ c.collect.ensures.ran
-    (YieldsList-from_slice_split _ (λ byte. byte == 46) c.args.word.now c.split.ensures.rest c.split.ensures.done c.split.ensures.closure (λ x r q k. search (rules, tests)))
+    (YieldsList-from_slice_split _ (λ byte. byte == 46) c.args.word.now c.split.ensures.rest c.split.ensures.done
+        c.split.ensures.closure (λ x r q k. search (rules, tests)))

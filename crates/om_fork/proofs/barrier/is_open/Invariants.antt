@@ -5,4 +5,5 @@ use Rattle.om_fork.proofs.barrier.is_open.Given as goal
 
 -- the barrier is open where what is left of it is
 abbrev pub invariant-loop-number : goal.invariant-loop-number
-invariant-loop-number l = open_in (state_of l.store) l.team.name l.phase l.number (l.team.size - l.number) ≡ open_in (state_of l.store) l.team.name l.phase 0 l.team.size
+invariant-loop-number l = open_in (state_of l.store) l.team.name l.phase l.number (l.team.size - l.number)
+    ≡ open_in (state_of l.store) l.team.name l.phase 0 l.team.size

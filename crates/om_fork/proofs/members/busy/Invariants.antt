@@ -5,4 +5,5 @@ use Rattle.om_fork.proofs.members.busy.Given as goal
 
 -- what is left has the first busy worker
 abbrev pub invariant-loop-worker : goal.invariant-loop-worker
-invariant-loop-worker l = busy_in (state_of l.store) l.worker (l.size - l.worker) ≡ busy_in (state_of l.store) 1 (l.size - 1)
+invariant-loop-worker l = busy_in (state_of l.store) l.worker (l.size - l.worker) ≡ busy_in (state_of l.store) 1
+    (l.size - 1)

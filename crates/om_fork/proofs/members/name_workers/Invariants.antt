@@ -4,4 +4,5 @@ use Rattle.om_fork.proofs.members.name_workers.Given as goal
 
 -- the accesses so far and those of what is left are all
 abbrev pub invariant-loop-worker : goal.invariant-loop-worker
-invariant-loop-worker l = l.names ++ workers_from l.worker (l.size - l.worker) ≡ l.fn.names ++ workers_from 1 (l.size - 1)
+invariant-loop-worker l = l.names ++ workers_from l.worker (l.size - l.worker) ≡ l.fn.names ++ workers_from 1
+    (l.size - 1)

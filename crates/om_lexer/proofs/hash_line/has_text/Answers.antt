@@ -12,5 +12,6 @@ returns c =
       (λ yes.
           let starts = ap (λ s. starts_with nat_eq s text) (sym rest) ∙ sym c.starts_with.ensures.value ∙ yes in
           (starts_from source text c.args.from starts, refl, starts_inside source text c.args.from c.requires starts)),
-      (λ has. c.starts_with.ensures.value ∙ ap (λ s. starts_with nat_eq s text) rest ∙ starts_there source text c.args.from has.0),
+      (λ has. c.starts_with.ensures.value ∙ ap (λ s. starts_with nat_eq s text) rest ∙ starts_there source text
+          c.args.from has.0),
     )

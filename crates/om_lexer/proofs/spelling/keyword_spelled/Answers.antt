@@ -13,7 +13,8 @@ loop-keyword-init c = record { table = refl; passed = λ k below same. absurd (o
 pub loop-keyword-preserved : goal.loop-keyword-preserved
 unfolding all_keywords
 loop-keyword-preserved c =
-    let read : c.keyword_text.result.now ≡ keyword_text (keyword_at c.loop-keyword.keyword-index) = c.keyword_text.ensures in
+    let read : c.keyword_text.result.now ≡ keyword_text (keyword_at c.loop-keyword.keyword-index) =
+        c.keyword_text.ensures in
     record {
       table = refl;
       passed = below_more _ _ c.loop-keyword.invariant.passed (λ same.
@@ -23,4 +24,5 @@ loop-keyword-preserved c =
 pub returns-clause-none : goal.returns-clause-none
 returns-clause-none c = λ k same.
     let stands = keyword_stands k in
-    c.loop-keyword.invariant.passed stands.index (omega (arith, stands.inside)) (same ∙ ap keyword_text (sym stands.there))
+    c.loop-keyword.invariant.passed stands.index (omega (arith, stands.inside))
+        (same ∙ ap keyword_text (sym stands.there))

@@ -7,5 +7,6 @@ pub returns : goal.returns
 returns c =
     let gap = c.gap_end.ensures.gap in (
       (λ yes. record { end = c.gap_end.result; gap = gap; ends = c.ends_at.ensures.0 yes }),
-      (λ tail. c.ends_at.ensures.1 (subst (IsLineEnding c.args.source.now) (gap_one c.args.source.now c.args.from tail.end c.gap_end.result tail.gap gap) tail.ends)),
+      (λ tail. c.ends_at.ensures.1 (subst (IsLineEnding c.args.source.now) (gap_one c.args.source.now c.args.from
+          tail.end c.gap_end.result tail.gap gap) tail.ends)),
     )

@@ -12,9 +12,12 @@ loop-name-preserved c =
     let marks = c.marks_behind-outer.result in (
       c.loop-name.invariant.0,
       c.loop-name.invariant.1,
-      changed-next (with_listing c.args.inside c.args.all) c.args.listings.now now c.note.new.self c.as_slice-name-items.result.now c.loop-name.name-index c.name-item.result
+      changed-next (with_listing c.args.inside c.args.all) c.args.listings.now now c.note.new.self
+          c.as_slice-name-items.result.now c.loop-name.name-index c.name-item.result
           c.loop-name-test.true c.name-item.is c.loop-name.invariant.1 c.loop-name.invariant.2
           (noted-listing c.args.inside c.args.all marks now c.note.new.self c.name-item.result.items
-          (c.marks_behind-outer.ensures ∙ ap (λ found. marks_behind found c.args.all) (c.innermost.ensures ∙ ap (λ n. innermost_of (seen_in now n)) text))
-          (λ other. c.in_ok-note.ensures.noted other ∙ ap (λ n. if bytes_eq other n then seen_in now other ++ record { depth = c.args.inside; outer = marks } ∷ [] else seen_in now other) text)),
+          (c.marks_behind-outer.ensures ∙ ap (λ found. marks_behind found c.args.all) (c.innermost.ensures
+              ∙ ap (λ n. innermost_of (seen_in now n)) text))
+          (λ other. c.in_ok-note.ensures.noted other ∙ ap (λ n. if bytes_eq other n then seen_in now other
+              ++ record { depth = c.args.inside; outer = marks } ∷ [] else seen_in now other) text)),
     )

@@ -4,7 +4,8 @@ use Rattle.om_names.specs.Sightings.{Shows}
 use Rattle.om_names.proofs.sightings.forget_scope.Given as goal
 
 abbrev pub invariant-loop-name : goal.invariant-loop-name
-invariant-loop-name l = (outer : List Scope) → Shows l.fn.sightings (scope_of l.fn.names.entries ∷ outer) → Shows l.sightings (scope_of l.names.entries ∷ outer)
+invariant-loop-name l = (outer : List Scope) → Shows l.fn.sightings (scope_of l.fn.names.entries ∷ outer)
+    → Shows l.sightings (scope_of l.names.entries ∷ outer)
 
 abbrev pub decreases-loop-name : goal.decreases-loop-name
 decreases-loop-name l = length l.names.entries

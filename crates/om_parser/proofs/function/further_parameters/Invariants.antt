@@ -7,7 +7,8 @@ use Rattle.om_parser.proofs.Loops.{GoesOn}
 use Rattle.om_parser.proofs.function.further_parameters.Given as goal
 
 abbrev pub invariant-parameters : goal.invariant-parameters
-invariant-parameters l = GoesOn (take_mark CloseParen) further_parameter_at l.parameters.items l.rest (until (take_mark CloseParen) further_parameter_at (length l.tokens) l.tokens)
+invariant-parameters l = GoesOn (take_mark CloseParen) further_parameter_at l.parameters.items l.rest
+    (until (take_mark CloseParen) further_parameter_at (length l.tokens) l.tokens)
 
 abbrev pub decreases-parameters : goal.decreases-parameters
 decreases-parameters l = length l.rest

@@ -66,8 +66,10 @@ decreases-directive l = 8 * l.room.statements + 4
 -- what was read before, and what is still to be read, make the whole
 abbrev pub invariant-items-items : goal.invariant-items-items
 invariant-items-items l =
-    let item = item_at l.kind (parts accepted) (statement_at (parts accepted) l.room.checked l.room.statements l.room.blocks) in
-    GoesOn (take_mark CloseBrace) item (map view_statement l.items.items) l.rest (until (take_mark CloseBrace) item (length l.tokens) l.tokens)
+    let item = item_at l.kind (parts accepted) (statement_at (parts accepted) l.room.checked l.room.statements
+        l.room.blocks) in
+    GoesOn (take_mark CloseBrace) item (map view_statement l.items.items) l.rest (until (take_mark CloseBrace) item
+        (length l.tokens) l.tokens)
 
 abbrev pub decreases-items-items : goal.decreases-items-items
 decreases-items-items l = length l.rest

@@ -13,17 +13,28 @@ pub items-init : goal.items-init
 items-init c = rw c.new-items.ensures.items (until_begins take_end (item_at accepted) c.args.tokens.now)
 
 pub returns-in-Some : goal.returns-in-Some
-returns-in-Some c = until_ends take_end (item_at accepted) (map view_item c.items.items.items) c.items.rest.now (until take_end (item_at accepted) (length c.args.tokens.now) c.args.tokens.now) c.in-Some.end [] (sym c.in-Some.ensures) (end_shorter c.items.rest.now c.in-Some.end [] (sym c.in-Some.ensures)) c.items.invariant
+returns-in-Some c = until_ends take_end (item_at accepted) (map view_item c.items.items.items) c.items.rest.now
+    (until take_end (item_at accepted) (length c.args.tokens.now) c.args.tokens.now) c.in-Some.end []
+    (sym c.in-Some.ensures) (end_shorter c.items.rest.now c.in-Some.end [] (sym c.in-Some.ensures)) c.items.invariant
 
 pub returns-in_err-next : goal.returns-in_err-next
 returns-in_err-next c =
     let p = err_from_is_err_and c.from_residual.result c.from_residual.ensures.1 in
-    rw (p.1, p.2) (until_fails take_end (item_at accepted) (map view_item c.items.items.items) c.items.rest.now (until take_end (item_at accepted) (length c.args.tokens.now) c.args.tokens.now) c.in_err-next.field-0.0 (sym c.in_default.ensures) c.in_err-next.ensures c.items.invariant)
+    rw (p.1, p.2) (until_fails take_end (item_at accepted) (map view_item c.items.items.items) c.items.rest.now
+        (until take_end (item_at accepted) (length c.args.tokens.now) c.args.tokens.now) c.in_err-next.field-0.0
+        (sym c.in_default.ensures) c.in_err-next.ensures c.items.invariant)
 
 pub items-smaller : goal.items-smaller
-items-smaller c = item_shorter c.parts_are_sound.ensures c.globals.ensures.sound accepted (omega arith) c.items.rest.now (view_item c.in_ok-next.next) c.in_ok-next.after.now c.in_ok-next.ensures
+items-smaller c = item_shorter c.parts_are_sound.ensures c.globals.ensures.sound accepted (omega arith)
+    c.items.rest.now (view_item c.in_ok-next.next) c.in_ok-next.after.now c.in_ok-next.ensures
 
 pub items-preserved : goal.items-preserved
 items-preserved c =
-    let pushed : map view_item c.push.new.self.items ≡ map view_item c.items.items.items ++ view_item c.in_ok-next.next ∷ [] = rw c.in_ok-push.ensures.items (map_push _ c.items.items.items c.in_ok-next.next) in
-    rw pushed (until_goes_on take_end (item_at accepted) (map view_item c.items.items.items) c.items.rest.now (until take_end (item_at accepted) (length c.args.tokens.now) c.args.tokens.now) (view_item c.in_ok-next.next) c.in_ok-next.after.now (sym c.in_default.ensures) c.in_ok-next.ensures (item_shorter c.parts_are_sound.ensures c.globals.ensures.sound accepted (omega arith) c.items.rest.now (view_item c.in_ok-next.next) c.in_ok-next.after.now c.in_ok-next.ensures) c.items.invariant)
+    let pushed : map view_item c.push.new.self.items ≡ map view_item c.items.items.items
+        ++ view_item c.in_ok-next.next ∷ [] = rw c.in_ok-push.ensures.items
+        (map_push _ c.items.items.items c.in_ok-next.next) in
+    rw pushed (until_goes_on take_end (item_at accepted) (map view_item c.items.items.items) c.items.rest.now
+        (until take_end (item_at accepted) (length c.args.tokens.now) c.args.tokens.now)
+        (view_item c.in_ok-next.next) c.in_ok-next.after.now (sym c.in_default.ensures) c.in_ok-next.ensures
+        (item_shorter c.parts_are_sound.ensures c.globals.ensures.sound accepted (omega arith) c.items.rest.now
+        (view_item c.in_ok-next.next) c.in_ok-next.after.now c.in_ok-next.ensures) c.items.invariant)

@@ -7,7 +7,8 @@ use Rattle.om_parser.proofs.Loops.{GoesOn}
 use Rattle.om_parser.proofs.unit.items.Given as goal
 
 abbrev pub invariant-items : goal.invariant-items
-invariant-items l = GoesOn take_end (item_at accepted) (map view_item l.items.items) l.rest (until take_end (item_at accepted) (length l.tokens) l.tokens)
+invariant-items l = GoesOn take_end (item_at accepted) (map view_item l.items.items) l.rest
+    (until take_end (item_at accepted) (length l.tokens) l.tokens)
 
 abbrev pub decreases-items : goal.decreases-items
 decreases-items l = length l.rest

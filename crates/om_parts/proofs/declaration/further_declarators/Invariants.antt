@@ -9,7 +9,9 @@ use Rattle.om_parts.proofs.Loops.{GoesOn}
 use Rattle.om_parts.proofs.declaration.further_declarators.Given as goal
 
 abbrev pub invariant-declarators : goal.invariant-declarators
-invariant-declarators l = GoesOn (take_mark Semicolon) (further_at (initial_at accepted l.fn.initial)) (map view_further l.declarators.items) l.rest (until (take_mark Semicolon) (further_at (initial_at accepted l.fn.initial)) (length l.tokens) l.tokens)
+invariant-declarators l = GoesOn (take_mark Semicolon) (further_at (initial_at accepted l.fn.initial))
+    (map view_further l.declarators.items) l.rest
+    (until (take_mark Semicolon) (further_at (initial_at accepted l.fn.initial)) (length l.tokens) l.tokens)
 
 abbrev pub decreases-declarators : goal.decreases-declarators
 decreases-declarators l = length l.rest

@@ -1,6 +1,7 @@
 use Rattle.std.proofs.Common.{◌≡◌, ◌-◌, ◌+◌, ◌*◌, length, map, true, Ok}
 use Rattle.om_lexer.specs.declared.token.Punctuator.TheVariants.{CloseParen}
-use Rattle.om_parts.specs.ExpressionReading.{argument_at, arguments_at, binary_at, binary_more, chain_at, expression_at, operand_at}
+use Rattle.om_parts.specs.ExpressionReading.{argument_at, arguments_at, binary_at, binary_more, chain_at,
+    expression_at, operand_at}
 use Rattle.om_parts.specs.Reading.{take_mark}
 use Rattle.om_tree.specs.View.{view_argument, view_expression}
 use Rattle.om_parts.proofs.Chains.{GoesOn}
@@ -52,19 +53,26 @@ decreases-closed l = 40 * l.budget.turns + 2
 
 -- the operand and what goes on with it in the tighter levels are read
 abbrev pub invariant-binary-levels : goal.invariant-binary-levels
-invariant-binary-levels l = binary_at l.budget.beyond (operand_at l.budget.beyond l.budget.turns l.budget.room) l.tighter l.tokens ≡ Ok (view_expression l.left.value, l.rest)
+invariant-binary-levels l = binary_at l.budget.beyond (operand_at l.budget.beyond l.budget.turns l.budget.room)
+    l.tighter l.tokens ≡ Ok (view_expression l.left.value, l.rest)
 
 -- what is still to be read makes the whole
 abbrev pub invariant-operators-loop-operator : goal.invariant-operators-loop-operator
 invariant-operators-loop-operator l =
-    let more = binary_more l.budget.beyond (8 - l.tighter) (binary_at l.budget.beyond (operand_at l.budget.beyond l.budget.turns l.budget.room) l.tighter) in
-    GoesOn more (view_expression l.left.value) l.rest (chain_at more (length l.tokens) (view_expression l.fn.operand.value) l.tokens)
+    let more = binary_more l.budget.beyond (8 - l.tighter)
+        (binary_at l.budget.beyond (operand_at l.budget.beyond l.budget.turns l.budget.room) l.tighter) in
+    GoesOn more (view_expression l.left.value) l.rest
+        (chain_at more (length l.tokens) (view_expression l.fn.operand.value) l.tokens)
 
 abbrev pub decreases-operators-loop-operator : goal.decreases-operators-loop-operator
 decreases-operators-loop-operator l = length l.rest
 
 abbrev pub invariant-arguments-further : goal.invariant-arguments-further
-invariant-arguments-further l = loops.GoesOn (take_mark CloseParen) (argument_at l.budget.beyond (expression_at l.budget.beyond l.budget.turns true l.budget.room)) (map view_argument l.arguments.items) l.rest (arguments_at l.budget.beyond (expression_at l.budget.beyond l.budget.turns true l.budget.room) (view_expression l.fn.first.value) l.tokens)
+invariant-arguments-further l = loops.GoesOn (take_mark CloseParen)
+    (argument_at l.budget.beyond (expression_at l.budget.beyond l.budget.turns true l.budget.room))
+    (map view_argument l.arguments.items) l.rest
+    (arguments_at l.budget.beyond (expression_at l.budget.beyond l.budget.turns true l.budget.room)
+    (view_expression l.fn.first.value) l.tokens)
 
 abbrev pub decreases-arguments-further : goal.decreases-arguments-further
 decreases-arguments-further l = length l.rest

@@ -5,7 +5,8 @@ use Rattle.om_parts.proofs.Chains.{GoesOn}
 use Rattle.om_parts.proofs.expression.postfixes.Given as goal
 
 abbrev pub invariant-loop-operator : goal.invariant-loop-operator
-invariant-loop-operator l = GoesOn (postfix_more l.beyond) (view_expression l.left.value) l.rest (chain_at (postfix_more l.beyond) (length l.tokens) (view_expression l.fn.operand.value) l.tokens)
+invariant-loop-operator l = GoesOn (postfix_more l.beyond) (view_expression l.left.value) l.rest
+    (chain_at (postfix_more l.beyond) (length l.tokens) (view_expression l.fn.operand.value) l.tokens)
 
 abbrev pub decreases-loop-operator : goal.decreases-loop-operator
 decreases-loop-operator l = length l.rest

@@ -3,4 +3,5 @@ use Rattle.om_parts.proofs.LineViews.{refused_line}
 use Rattle.om_parts.proofs.line.line_of.Goals as goal
 
 pub returns-in-Err : goal.returns-in-Err
-returns-in-Err c = refused_line accepted c.args.run.now c.in-Err.fault c.sooner.result c.in-Err.ensures.reads c.sooner.ensures
+returns-in-Err c = refused_line accepted c.args.run.now c.in-Err.fault c.sooner.result c.in-Err.ensures.reads
+    c.sooner.ensures

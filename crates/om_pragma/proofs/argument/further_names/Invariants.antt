@@ -6,7 +6,8 @@ use Rattle.om_pragma.proofs.Rows.{GoesOn}
 use Rattle.om_pragma.proofs.argument.further_names.Given as goal
 
 abbrev pub invariant-names : goal.invariant-names
-invariant-names l = GoesOn place (take_kind (Punctuator CloseParen)) further_at l.names l.rest (until place (take_kind (Punctuator CloseParen)) further_at (suc (length l.tokens)) [] l.tokens)
+invariant-names l = GoesOn place (take_kind (Punctuator CloseParen)) further_at l.names l.rest
+    (until place (take_kind (Punctuator CloseParen)) further_at (suc (length l.tokens)) [] l.tokens)
 
 abbrev pub decreases-names : goal.decreases-names
 decreases-names l = length l.rest

@@ -5,7 +5,8 @@ use Rattle.om_pragma.proofs.Rows.{GoesOn}
 use Rattle.om_pragma.proofs.reading.clauses.Given as goal
 
 abbrev pub invariant-items : goal.invariant-items
-invariant-items l = GoesOn syntax_at take_end (item_at l.name) (map (map_item tokens_in) l.items) l.rest (clauses_at l.name l.tokens)
+invariant-items l = GoesOn syntax_at take_end (item_at l.name) (map (map_item tokens_in) l.items) l.rest
+    (clauses_at l.name l.tokens)
 
 abbrev pub decreases-items : goal.decreases-items
 decreases-items l = length l.rest

@@ -4,4 +4,5 @@ use Rattle.om_replies.proofs.list.push_entries.Given as goal
 
 -- the lines so far and those of what is left are all
 abbrev pub invariant-loop-entry : goal.invariant-loop-entry
-invariant-loop-entry l = l.text.items ++ joined entry_line (drop l.entry-index l.entries) ≡ l.initial.text.items ++ joined entry_line l.entries
+invariant-loop-entry l = l.text.items ++ joined entry_line (drop l.entry-index l.entries) ≡ l.initial.text.items
+    ++ joined entry_line l.entries

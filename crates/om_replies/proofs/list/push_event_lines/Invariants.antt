@@ -4,4 +4,5 @@ use Rattle.om_replies.proofs.list.push_event_lines.Given as goal
 
 -- the lines so far and those of what is left are all
 abbrev pub invariant-loop-event : goal.invariant-loop-event
-invariant-loop-event l = l.text.items ++ joined event_line (drop l.event-index l.events) ≡ l.initial.text.items ++ joined event_line l.events
+invariant-loop-event l = l.text.items ++ joined event_line (drop l.event-index l.events) ≡ l.initial.text.items
+    ++ joined event_line l.events

@@ -4,7 +4,9 @@ use Rattle.om_task.proofs.Plans.{plan_for}
 use Rattle.om_task.proofs.plan.plan.Goals as goal
 
 pub returns-in-Some : goal.returns-in-Some
-returns-in-Some c = plan_for c.args.program.now c.args.workers (state_of c.args.store.now) c.args.label.now c.in-Some.control.now c.control_plan.result c.in-Some.ensures c.control_plan.ensures
+returns-in-Some c = plan_for c.args.program.now c.args.workers (state_of c.args.store.now) c.args.label.now
+    c.in-Some.control.now c.control_plan.result c.in-Some.ensures c.control_plan.ensures
 
 pub returns-in-None : goal.returns-in-None
-returns-in-None c = plan_for c.args.program.now c.args.workers (state_of c.args.store.now) c.args.label.now Idle c.control_plan-in-None.result c.in-None.ensures c.control_plan-in-None.ensures
+returns-in-None c = plan_for c.args.program.now c.args.workers (state_of c.args.store.now) c.args.label.now Idle
+    c.control_plan-in-None.result c.in-None.ensures c.control_plan-in-None.ensures

@@ -4,4 +4,5 @@ use Rattle.om_cells.proofs.StoreLemmas.{same_sum}
 use Rattle.om_cells.proofs.store.Store.subtract.Goals as goal
 
 pub returns-in-None-clause-state : goal.returns-in-None-clause-state
-returns-in-None-clause-state c = same_sum c.args.object.now (neg_ℤ c.args.number) (state_of c.args.self.now) (sym c.kept_count.ensures ∙ c.in-None.is)
+returns-in-None-clause-state c = same_sum c.args.object.now (neg_ℤ c.args.number) (state_of c.args.self.now)
+    (sym c.kept_count.ensures ∙ c.in-None.is)

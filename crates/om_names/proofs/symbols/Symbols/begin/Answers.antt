@@ -13,6 +13,9 @@ invariant_of-self-2 c =
     let tables = c.enter_scope.ensures.outer ∙ ap (λ ts. ts ++ fields.inner ∷ []) c.in_ok-reserve.ensures.items in (
       c.self.invariant.0,
       subst (AreNested c.enter.new.self) (c.len.ensures ∙ c.enter_scope.new.outer.ok.0) c.enter.ensures.nested,
-      subst (λ es. Shows fields.sightings (scope_of es ∷ scopes_of c.enter_scope.new.outer.items)) (sym c.enter_scope.ensures.entered)
-          (shows-empty fields.sightings (scopes_of c.enter_scope.new.outer.items) (subst (Shows fields.sightings) (sym (ap (λ ts. scopes_of ts) tables ∙ scopes-push outer fields.inner)) c.self.invariant.2)),
+      subst (λ es. Shows fields.sightings (scope_of es ∷ scopes_of c.enter_scope.new.outer.items))
+          (sym c.enter_scope.ensures.entered)
+          (shows-empty fields.sightings (scopes_of c.enter_scope.new.outer.items)
+              (subst (Shows fields.sightings)
+              (sym (ap (λ ts. scopes_of ts) tables ∙ scopes-push outer fields.inner)) c.self.invariant.2)),
     )
