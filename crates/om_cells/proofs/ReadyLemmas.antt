@@ -1,6 +1,6 @@
 -- The names of the ready tasks among kept values: all of them, ascending.
-use Rattle.std.proofs.Common.{◌≡◌, refl, sym, ◌∙◌, ap, subst, Bool, true, false, cond, None, Some, List, [], ◌∷◌,
-    ◌++◌, ℕ, ⊎_elim, arith}
+use Rattle.std.proofs.Common.{◌≡◌, refl, sym, ◌∙◌, ap, subst, Bool, true, false, cond, None, Some, List, [], ◌∷◌, ◌++◌}
+use Rattle.std.proofs.Common.{ℕ, ⊎_elim, arith}
 use Rattle.std.specs.Prelude.{All, Contains, option_to_list, unwrap_or, map}
 use Rattle.std.specs.List.{AllByRecursion}
 use Rattle.std.specs.List.Sorted.{IsStrictlySortedBy}
@@ -9,8 +9,8 @@ use Rattle.std.specs.BTreeMap.{is_at}
 use Rattle.std.specs.Ordering.{nat_cmp}
 use Rattle.std.specs.Cmp.Lexicographic.{slice_cmp}
 use Rattle.std.specs.declared.cmp.Ordering.TheVariants.{Less}
-use Rattle.std.proofs.lemmas.List.Elements.{All-head, All-tail, Contains-append_left, Contains-append_right,
-    Contains-append_cases, Contains-push, Contains-push_cases}
+use Rattle.std.proofs.lemmas.List.Elements.{All-head, All-tail, Contains-append_left, Contains-append_right}
+use Rattle.std.proofs.lemmas.List.Elements.{Contains-append_cases, Contains-push, Contains-push_cases}
 use Rattle.om_foot.specs.declared.object.Obj.{Obj}
 use Rattle.om_foot.specs.declared.object.Obj.TheVariants as obj
 use Rattle.om_foot.specs.contracts.object.ObjOrd.TheImpl.{cmp-value}
@@ -122,7 +122,7 @@ held_found all q v n found is ready =
     let at : lookup (is_at (cmp-value.it (obj.Task n))) all ≡ Some v =
     subst (λ x. lookup (is_at (cmp-value.it x)) all ≡ Some v) is found in
     ap (λ o. is_ready (task_in (unwrap_or o (default_of (obj.Task n))))) (sym (lookup-is_at (obj.Task n) all) ∙ at)
-        ∙ ready
+    ∙ ready
 
 each_ready : (all es : Entries) (n : List ℕ)
     → All (λ (e : Obj × Val). lookup (is_at (cmp-value.it e.0)) all ≡ Some e.1) es → Contains (names_ready es) n
@@ -131,7 +131,7 @@ each_ready all [] n found h = none_named n _ h
 each_ready all (e ∷ es) n found h =
     ⊎_elim (λ first. let x = named e.0 e.1 n first in
     held_found all e.0 e.1 n (All-head (λ (y : Obj × Val). lookup (is_at (cmp-value.it y.0)) all ≡ Some y.1) e es
-        found) x.0 x.1)
+    found) x.0 x.1)
     (λ rest. each_ready all es n
     (All-tail (λ (y : Obj × Val). lookup (is_at (cmp-value.it y.0)) all ≡ Some y.1) e es found) rest)
     (Contains-append_cases (option_to_list (name_if_ready e.0 e.1)) (names_ready es) n h)
@@ -144,7 +144,7 @@ first_there n false h = cc
 
 either_there : (n : List ℕ) (q : Obj) (v : Val) (es : Entries) (b : Bool) → obj_eq (obj.Task n) q ≡ b
     → is_ready (task_in (unwrap_or (cond b (Some v) (lookup (obj_eq (obj.Task n)) es)) (default_of (obj.Task n))))
-        ≡ true
+    ≡ true
     → (IsHeldReady es n → Contains (names_ready es) n)
     → Contains (option_to_list (name_if_ready q v) ++ names_ready es) n
 either_there n q v es true same ready rest =

@@ -11,22 +11,30 @@ use Rattle.om_cells.specs.declared.control.Control.TheVariants.{Idle, Running, F
 use Rattle.om_cells.specs.declared.edit.Edit.{Edit}
 use Rattle.om_cells.specs.declared.edit.Outlook.{Outlook}
 use Rattle.om_cells.specs.declared.edit.Outlook.TheVariants.{Runs, Returns, Fails, Ends}
-use Rattle.om_cells.specs.declared.edit.Edit.TheVariants.{Go, BeginFrame, EndFrame, BeginContext, EndContext, Open,
-    Close, Replace, CountBirth, CountRegion, CountPhase, Fail, End}
+use Rattle.om_cells.specs.declared.edit.Edit.TheVariants.{Go, BeginFrame, EndFrame, BeginContext, EndContext, Open}
+use Rattle.om_cells.specs.declared.edit.Edit.TheVariants.{Close, Replace, CountBirth, CountRegion, CountPhase, Fail}
+use Rattle.om_cells.specs.declared.edit.Edit.TheVariants.{End}
 
 -- a frame at a place, with so many operands taken and then one pushed
 abbrev pub frame_at : ℕ → ℕ → Option Operand → Frame → Frame
-frame_at to takes pushed frame = record frame { next = to; operands = option_to_list pushed
-    ++ drop takes frame.operands }
+frame_at to takes pushed frame = record frame {
+  next = to;
+  operands = option_to_list pushed
+      ++ drop takes frame.operands;
+}
 
 abbrev pub context_at : ℕ → ℕ → Option Operand → Context → Context
 context_at to takes pushed context = record context { frame = frame_at to takes pushed context.frame }
 
 -- a context that has begun a frame of this body, for which the one before waits
 abbrev pub frame_begun : ℕ → List Home → Context → Context
-frame_begun body homes context = record context { frames = context.frames + 1; frame = record
-    { body = body; next = 0; ordinal = context.frames; operands = []; homes = homes }; callers = context.frame
-    ∷ context.callers }
+frame_begun body homes context = record context {
+  frames = context.frames + 1;
+  frame = record
+      { body = body; next = 0; ordinal = context.frames; operands = []; homes = homes };
+  callers = context.frame
+      ∷ context.callers;
+}
 
 -- a context whose running frame has ended, with a value for the one that waits for it
 abbrev pub value_given : Operand → List Frame → Context → Context

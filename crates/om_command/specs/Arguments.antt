@@ -1,6 +1,7 @@
 -- What words behind a command's own may be.
-use Rattle.std.specs.Prelude.{ℕ, ◌+◌, ◌*◌, ◌-◌, Bool, ◌&&◌, ◌==◌, nat_lt, nat_le, List, [], ◌∷◌, ◌++◌,
-    if◌then◌else◌, length, take, drop, Option, None, Some, option_map, option_and_then, position, slice_index}
+use Rattle.std.specs.Prelude.{ℕ, ◌+◌, ◌*◌, ◌-◌, Bool, ◌&&◌, ◌==◌, nat_lt, nat_le, List, [], ◌∷◌, ◌++◌, if◌then◌else◌}
+use Rattle.std.specs.Prelude.{length, take, drop, Option, None, Some, option_map, option_and_then, position}
+use Rattle.std.specs.Prelude.{slice_index}
 use Rattle.std.specs.List.{slice_split}
 use Rattle.om_foot.specs.Names.{name_of}
 use Rattle.om_command.specs.declared.command.Variable.{Variable}

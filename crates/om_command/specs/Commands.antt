@@ -7,8 +7,8 @@ use Rattle.om_command.specs.declared.command.Request.{Request}
 use Rattle.om_command.specs.declared.command.Request.TheVariants as request
 use Rattle.om_command.specs.declared.verb.Verb.{Verb}
 use Rattle.om_command.specs.declared.verb.Verb.TheVariants as verb
-use Rattle.om_command.specs.Arguments.{one_worker, one_number, one_count, one_variable, behind_worker,
-    worker_and_task, variable_of}
+use Rattle.om_command.specs.Arguments.{one_worker, one_number, one_count, one_variable, behind_worker, worker_and_task}
+use Rattle.om_command.specs.Arguments.{variable_of}
 use Rattle.om_command.specs.Verbs.{verb_of}
 use Rattle.om_command.specs.Words.{words_of}
 
@@ -25,7 +25,7 @@ start_of workers words = option_map (λ (pair : ℕ × List ℕ). command.Start 
 abbrev pub print_of : ℕ → List (List ℕ) → Option Command
 print_of workers (first ∷ (second ∷ [])) =
     behind_worker (λ worker word. option_map (λ variable. command.PrintLocal worker variable) (variable_of word))
-        workers (first ∷ (second ∷ []))
+    workers (first ∷ (second ∷ []))
 print_of workers words = option_map (λ variable. command.Print variable) (one_variable words)
 
 -- what a verb asks for with the words behind it, where they are what it takes

@@ -5,8 +5,8 @@ use Rattle.om_events.specs.declared.event.Record.{Record}
 use Rattle.om_events.specs.declared.event.Record.TheVariants as event
 use Rattle.om_events.specs.declared.kind.Endpoint.{Endpoint}
 use Rattle.om_events.specs.declared.kind.TaskFlag.TheVariants as flag
-use Rattle.om_events.specs.Numbers.{endpoint_number, thread_number, status_number, work_number, sync_number,
-    flag_number}
+use Rattle.om_events.specs.Numbers.{endpoint_number, thread_number, status_number, work_number, sync_number}
+use Rattle.om_events.specs.Numbers.{flag_number}
 
 -- words, each behind a space
 abbrev pub spaced : List (List ℕ) → List ℕ
@@ -37,7 +37,7 @@ record_text (event.TaskSchedule prior status next) =
     codes "6 task_schedule" ++ spaced (name_text prior ∷ decimal (status_number status) ∷ name_text next ∷ [])
 record_text (event.ImplicitTask endpoint team task size number kind) =
     codes "7 implicit_task"
-        ++ spaced (ends endpoint team task (decimal size ∷ decimal number ∷ decimal (flag_number kind) ∷ []))
+    ++ spaced (ends endpoint team task (decimal size ∷ decimal number ∷ decimal (flag_number kind) ∷ []))
 record_text (event.MutexReleased lock) = codes "17 mutex_released 5" ++ spaced (lock_text lock ∷ [])
 record_text (event.Work work endpoint team task count) =
     codes "20 work" ++ spaced (decimal (work_number work) ∷ ends endpoint team task (decimal count ∷ []))

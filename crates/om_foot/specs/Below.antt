@@ -1,6 +1,6 @@
 -- What `is_below` decides: matter of proofs, for whoever asks for descendants.
-use Rattle.std.proofs.Common.{◌≡◌, ℕ, suc, ◌<◌, List, ◌∷◌, ◌++◌, Bool, true, false, ◌&&◌, length, take, drop,
-    get_or, refl, sym, ◌∙◌, ap, arith, ◌↔◌, IsTrue, nat_lt, nat_eq, length-append, take-append-drop}
+use Rattle.std.proofs.Common.{◌≡◌, ℕ, suc, ◌<◌, List, ◌∷◌, ◌++◌, Bool, true, false, ◌&&◌, length, take, drop, get_or}
+use Rattle.std.proofs.Common.{refl, sym, ◌∙◌, ap, arith, ◌↔◌, IsTrue, nat_lt, nat_eq, length-append, take-append-drop}
 use Rattle.std.specs.Bool.{Decides}
 use Rattle.std.proofs.lemmas.Bool.Decides.{Decides-eqb, Decides-ltb}
 use Rattle.std.proofs.lemmas.Slice.Eq.{slice_eq-Decides}

@@ -1,6 +1,6 @@
 -- Lists and tests that count down: the first one, and what is left.
-use Rattle.std.proofs.Common.{◌≡◌, refl, sym, ◌∙◌, ap, ℕ, ℤ, pos, zero, suc, ◌+◌, ◌-◌, ◌<◌, arith, List, [], ◌∷◌,
-    ◌++◌, false, if◌then◌else◌, Some, replicate, append_assoc, length, length-append, ◌≤◌}
+use Rattle.std.proofs.Common.{◌≡◌, refl, sym, ◌∙◌, ap, ℕ, ℤ, pos, zero, suc, ◌+◌, ◌-◌, ◌<◌, arith, List, [], ◌∷◌, ◌++◌}
+use Rattle.std.proofs.Common.{false, if◌then◌else◌, Some, replicate, append_assoc, length, length-append, ◌≤◌}
 use Rattle.std.specs.Prelude.{nat_lt, unwrap_or}
 use Rattle.std.proofs.lemmas.Bool.Decides.{nat_tests}
 use Rattle.om_foot.specs.declared.object.Obj.TheVariants as obj

@@ -1,6 +1,6 @@
 -- The rows of parallel regions and barriers.
-use Rattle.std.specs.Prelude.{ℕ, zero, suc, ◌+◌, ◌-◌, ℤ, pos, negsuc, Bool, true, false, nat_lt, if◌then◌else◌,
-    Option, None, Some, List, [], ◌∷◌, ◌++◌, length, replicate}
+use Rattle.std.specs.Prelude.{ℕ, zero, suc, ◌+◌, ◌-◌, ℤ, pos, negsuc, Bool, true, false, nat_lt, if◌then◌else◌, Option}
+use Rattle.std.specs.Prelude.{None, Some, List, [], ◌∷◌, ◌++◌, length, replicate}
 use Rattle.om_foot.specs.declared.footprint.Access.{Access}
 use Rattle.om_foot.specs.declared.object.Obj.TheVariants as obj
 use Rattle.om_code.specs.declared.frame.Fault.TheVariants as fault
@@ -31,8 +31,8 @@ use Rattle.om_row.specs.declared.row.Row.TheVariants.{Goes, Faults, Blocked, Lac
 use Rattle.om_row.specs.Rows.{Asked, decided, goes}
 use Rattle.om_row.specs.Objects.{write, events, event, homes_in, own_cells, deaths, is_misplaced}
 use Rattle.om_fork.specs.Barriers.{barrier, is_open}
-use Rattle.om_fork.specs.Teams.{first_frame, member, member_cells, member_controls, member_puts, workers_from,
-    first_busy, size_of, level_of}
+use Rattle.om_fork.specs.Teams.{first_frame, member, member_cells, member_controls, member_puts, workers_from}
+use Rattle.om_fork.specs.Teams.{first_busy, size_of, level_of}
 
 -- what is put where a team is made: the controls of its other members, the firstprivate values, and the begin
 -- of the region
@@ -55,8 +55,13 @@ team_row worker launch body c team ns = record {
 }
 
 abbrev pub team_of : ℕ → Context → Option ℕ → Team
-team_of workers c asked = let size = size_of workers c.team.level asked in record { name = c.task ++ (c.births + 1)
-    ∷ []; number = 0; size = size; level = level_of size c.team.level }
+team_of workers c asked = let size = size_of workers c.team.level asked in record {
+  name = c.task ++ (c.births + 1)
+      ∷ [];
+  number = 0;
+  size = size;
+  level = level_of size c.team.level;
+}
 
 -- where the names of the team and of its members would have more than 64 numbers, that is the fault
 abbrev pub named_row : ℕ → ℕ → Launch → Body → Context → Option ℕ → List ℤ → Asked
@@ -79,8 +84,11 @@ fork_row worker workers launch body c true size (Some ns) = sized_row worker wor
 
 -- OMPT's callback for implicit tasks: a member begins
 abbrev pub begin_row : ℕ → ℕ → Context → Asked
-begin_row worker to c = record { names = events worker ∷ []; row = λ _. goes to 0 None
-    (event (event_record.ImplicitTask endpoint.Begin c.team.name c.task c.team.size c.team.number flag.Implicit) ∷ []) }
+begin_row worker to c = record {
+  names = events worker ∷ [];
+  row = λ _. goes to 0 None
+      (event (event_record.ImplicitTask endpoint.Begin c.team.name c.task c.team.size c.team.number flag.Implicit) ∷ []);
+}
 
 -- the kind of synchronization that a barrier is
 abbrev pub sync_of : barriers.Barrier → syncs.Sync
@@ -124,8 +132,11 @@ departed to b c true = Goes (Go to 0 None ∷ CountPhase ∷ []) (kept c.team.si
 
 -- it goes on once all members have reached it and the phase's tasks are done
 abbrev pub depart_row : ℕ → ℕ → barriers.Barrier → Context → Asked
-depart_row worker to b c = record { names = barrier c.team c.phase ++ events worker ∷ []; row = λ values. departed
-    to b c (is_open c.phase c.team.size values) }
+depart_row worker to b c = record {
+  names = barrier c.team c.phase ++ events worker ∷ [];
+  row = λ values. departed
+      to b c (is_open c.phase c.team.size values);
+}
 
 -- number 0 records the end of the region, for the task that made it
 abbrev pub region_end : List ℕ → ℕ → List Context → List Record
@@ -145,8 +156,11 @@ left c below own true = Goes (EndContext ∷ []) (kept c.team.size
     ++ (deaths own ++ Append (Events (left_records c below)) ∷ []))
 
 abbrev pub left_row : ℕ → Context → List Context → List Access → Asked
-left_row worker c below own = record { names = barrier c.team c.phase ++ (own ++ events worker ∷ []); row =
-    λ values. left c below own (is_open c.phase c.team.size values) }
+left_row worker c below own = record {
+  names = barrier c.team c.phase ++ (own ++ events worker ∷ []);
+  row =
+      λ values. left c below own (is_open c.phase c.team.size values);
+}
 
 -- the end of a member's task: number 0 goes on with the context that made the team, the others are idle
 abbrev pub leave_row : ℕ → Context → List Context → List Slot → Kind → ℕ → Asked

@@ -22,8 +22,20 @@ first_frame body homes = record { body = body; next = 0; ordinal = 0; operands =
 
 -- a member of a team, at the start of its region's body
 abbrev pub member : Team → Frame → Context
-member team frame = record { task = team.name ++ team.number ∷ []; kind = kind.Implicit; team = team; phase =
-    0; births = 0; regions = 0; frames = 1; group = None; constructs = []; frame = frame; callers = [] }
+member team frame = record {
+  task = team.name ++ team.number ∷ [];
+  kind = kind.Implicit;
+  team = team;
+  phase =
+      0;
+  births = 0;
+  regions = 0;
+  frames = 1;
+  group = None;
+  constructs = [];
+  frame = frame;
+  callers = [];
+}
 
 -- the controls of workers, from this one on
 abbrev pub workers_from : ℕ → ℕ → List Access
@@ -47,8 +59,11 @@ busy_in s worker (suc count) = if is_idle (control_in (s (obj.Control worker))) 
 abbrev pub member_controls : Team → Frame → ℕ → ℕ → List Update
 member_controls team frame number zero = []
 member_controls team frame number (suc count) =
-    Put (value.Control (control.Running (record { top = member (record team { number = number }) frame; below =
-    [] }))) ∷ member_controls team frame (number + 1) count
+    Put (value.Control (control.Running (record {
+      top = member (record team { number = number }) frame;
+      below =
+          [];
+    }))) ∷ member_controls team frame (number + 1) count
 
 -- the cells of the members' firstprivate copies, and the values put there
 abbrev pub member_cells : List ℕ → List ℕ → ℕ → ℕ → List Access

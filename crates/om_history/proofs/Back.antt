@@ -1,6 +1,6 @@
 -- Taking updates back.
-use Rattle.std.proofs.Common.{◌≡◌, refl, sym, ◌∙◌, ap, Bool, true, false, cond, List, [], ◌∷◌, ℤ, pos, ◌+ℤ◌, neg_ℤ,
-    arith}
+use Rattle.std.proofs.Common.{◌≡◌, refl, sym, ◌∙◌, ap, Bool, true, false, cond, List, [], ◌∷◌, ℤ, pos, ◌+ℤ◌, neg_ℤ}
+use Rattle.std.proofs.Common.{arith}
 use Rattle.std.proofs.Math.Path.{fun_ext}
 use Rattle.std.proofs.lemmas.Int.{ints}
 use Rattle.std.proofs.lemmas.List.{take_all, take_at}
@@ -18,8 +18,8 @@ use Rattle.om_cells.specs.declared.step.Tail.TheVariants as tail
 use Rattle.om_cells.specs.declared.step.Update.{Update}
 use Rattle.om_cells.specs.declared.step.Update.TheVariants as update
 use Rattle.om_cells.specs.Values.{value_plus, value_with, value_cut, items_of}
-use Rattle.om_cells.specs.State.{State, value_after, undo_of, value_before, state_after, state_before, updated,
-    undo_record, taken_back}
+use Rattle.om_cells.specs.State.{State, value_after, undo_of, value_before, state_after, state_before, updated}
+use Rattle.om_cells.specs.State.{undo_record, taken_back}
 use Rattle.om_history.specs.Laws.{writes, adds, is_written, sum_added}
 
 value_plus-back : (d : ℤ) (v : Val) → value_plus (neg_ℤ d) (value_plus d v) ≡ v

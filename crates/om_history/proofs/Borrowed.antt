@@ -1,6 +1,6 @@
 -- Transitions of borrowed records, and the cone found along a list of records.
-use Rattle.std.proofs.Common.{◌≡◌, refl, sym, ◌∙◌, ap, true, false, cond, List, [], ◌∷◌, ◌++◌, Bor, ℕ, ◌+◌, ◌<◌,
-    suc, length, drop, get_or, append_assoc, add-one, drop-cons}
+use Rattle.std.proofs.Common.{◌≡◌, refl, sym, ◌∙◌, ap, true, false, cond, List, [], ◌∷◌, ◌++◌, Bor, ℕ, ◌+◌, ◌<◌, suc}
+use Rattle.std.proofs.Common.{length, drop, get_or, append_assoc, add-one, drop-cons}
 use Rattle.std.specs.Prelude.{map, reverse}
 use Rattle.std.proofs.lemmas.List.{map-append, reverse-append}
 use Rattle.om_history.specs.declared.records.UndoRecord.{UndoRecord}

@@ -1,6 +1,6 @@
 -- How far counts can get from 0.
-use Rattle.std.proofs.Common.{◌≡◌, refl, sym, ◌∙◌, ap, subst, Bool, true, false, cond, List, [], ◌∷◌, ℕ, suc, Some,
-    ◌+◌, ◌≤◌, ◌^◌, length, ℤ, pos, neg_ℤ, arith, zero-add}
+use Rattle.std.proofs.Common.{◌≡◌, refl, sym, ◌∙◌, ap, subst, Bool, true, false, cond, List, [], ◌∷◌, ℕ, suc, Some, ◌+◌}
+use Rattle.std.proofs.Common.{◌≤◌, ◌^◌, length, ℤ, pos, neg_ℤ, arith, zero-add}
 use Rattle.std.proofs.lemmas.Int.{ints}
 use Rattle.om_foot.specs.declared.object.Obj.{Obj}
 use Rattle.om_foot.specs.declared.footprint.Mode.{Mode}
@@ -17,14 +17,14 @@ use Rattle.om_cells.specs.declared.step.Update.TheVariants as update
 use Rattle.om_cells.specs.declared.step.Label.{Label}
 use Rattle.om_cells.specs.declared.step.Outcome.TheVariants.{Updates}
 use Rattle.om_cells.specs.Values.{value_plus, value_with, value_cut, SumFits}
-use Rattle.om_cells.specs.State.{State, value_after, undo_of, value_before, state_after, updated, undo_record,
-    taken_back, values_read}
+use Rattle.om_cells.specs.State.{State, value_after, undo_of, value_before, state_after, updated, undo_record}
+use Rattle.om_cells.specs.State.{taken_back, values_read}
 use Rattle.om_cells.specs.Rules.{Rules, control_access, step_at, next_state}
 use Rattle.om_history.specs.Runs.{label_of}
 use Rattle.om_history.specs.declared.records.UndoRecord.{UndoRecord}
 use Rattle.om_history.specs.Records.{ReplaysTo}
-use Rattle.om_history.specs.Bounds.{IsSmall, AreSmall, is_addition, adds_to, IsSteadyAt, AreSteady, IsSteady,
-    FitsAt, FitsAll, FitsAtBack, FitsBack}
+use Rattle.om_history.specs.Bounds.{IsSmall, AreSmall, is_addition, adds_to, IsSteadyAt, AreSteady, IsSteady, FitsAt}
+use Rattle.om_history.specs.Bounds.{FitsAll, FitsAtBack, FitsBack}
 use Rattle.om_history.proofs.Exchange.{Made, made}
 
 pub IsSmall-more : (m n : ℕ) (v : Val) → m ≤ n → IsSmall m v → IsSmall n v

@@ -1,6 +1,6 @@
 -- Exactly where an undo is done, is refused, and has nothing to take out.
-use Rattle.std.proofs.Common.{◌≡◌, ◌≢◌, refl, sym, ◌∙◌, ap, subst, None, Some, Option, List, [], ◌∷◌, ◌++◌, ℕ, ◌⊎◌,
-    inl, inr, ⊎_elim, arith}
+use Rattle.std.proofs.Common.{◌≡◌, ◌≢◌, refl, sym, ◌∙◌, ap, subst, None, Some, Option, List, [], ◌∷◌, ◌++◌, ℕ, ◌⊎◌, inl}
+use Rattle.std.proofs.Common.{inr, ⊎_elim, arith}
 use Rattle.std.specs.Prelude.{All}
 use Rattle.std.proofs.lemmas.List.{map-append}
 use Rattle.std.proofs.lemmas.List.Elements.{All-cons, All-head, All-tail}
@@ -20,8 +20,8 @@ use Rattle.om_history.specs.declared.records.UndoRecord.{UndoRecord}
 use Rattle.om_history.specs.Records.{entries_of, transition_of, transitions_of, ReplaysTo, first_kept_conflict}
 use Rattle.om_history.proofs.Logs.{NoneConflicts}
 use Rattle.om_history.proofs.Places.{NoneOwn, last_place-none_own}
-use Rattle.om_history.proofs.Undos.{history_of, none_answers, split_between, reply_at-split, last_place-records,
-    LastOf, find_last}
+use Rattle.om_history.proofs.Undos.{history_of, none_answers, split_between, reply_at-split, last_place-records, LastOf}
+use Rattle.om_history.proofs.Undos.{find_last}
 use Rattle.om_history.proofs.Remaining.{run-has, kept-is}
 use Rattle.om_history.proofs.RunLaws.{run-transitions}
 
@@ -152,7 +152,7 @@ reply_refused r ks made w now serial worker q h x =
     x.last.place in
     let then : PlacedAt at.rest x.between x.k x.rest = placed at.rest x.between x.k x.rest at.later_is in
     let others : NoneOwn w (entries_of at.rest) = from_none w at.rest (subst (HasNone w) (sym at.later_is)
-        x.last.last) in
+    x.last.last) in
     let free : NoneConflicts at.here.footprint then.earlier =
     from_free at.here.footprint then.earlier
     (subst (λ (e : Transition). All (IsApartFrom e.footprint) (transitions_of then.earlier)) (sym at.here_is)

@@ -1,6 +1,6 @@
 -- A step with which no later one conflicts can be taken out.
-use Rattle.std.proofs.Common.{◌≡◌, refl, sym, ◌∙◌, ap, subst, Bool, true, false, cond, Option, None, Some, List, [],
-    ◌∷◌, ◌++◌}
+use Rattle.std.proofs.Common.{◌≡◌, refl, sym, ◌∙◌, ap, subst, Bool, true, false, cond, Option, None, Some, List, []}
+use Rattle.std.proofs.Common.{◌∷◌, ◌++◌}
 use Rattle.om_foot.specs.declared.object.Obj.{Obj}
 use Rattle.om_foot.specs.declared.footprint.Mode.{Mode}
 use Rattle.om_foot.specs.declared.footprint.Mode.TheVariants as mode
@@ -15,8 +15,8 @@ use Rattle.om_cells.specs.declared.step.Label.{Label}
 use Rattle.om_cells.specs.declared.step.Step.{Step}
 use Rattle.om_cells.specs.State.{State, updated, undo_record, taken_back}
 use Rattle.om_cells.specs.Rules.{Rules, step_at, next_state, and_then, replay_from, replay}
-use Rattle.om_history.specs.Laws.{IfRead, AgreeAt, steps_then, steps_from, ApartFromAll, writes, is_written,
-    updates_of, TakenOut}
+use Rattle.om_history.specs.Laws.{IfRead, AgreeAt, steps_then, steps_from, ApartFromAll, writes, is_written, updates_of}
+use Rattle.om_history.specs.Laws.{TakenOut}
 use Rattle.om_history.proofs.Frame.{IfRead-trans, updated-agree, undo_record-agree}
 use Rattle.om_history.proofs.Back.{taken_back-updated, taken_back-at}
 use Rattle.om_history.proofs.Exchange.{Made, made, Swapped, swapped}

@@ -1,6 +1,6 @@
 -- A roll of a past.
-use Rattle.std.proofs.Common.{◌≡◌, ◌≢◌, refl, sym, ◌∙◌, ap, subst, Bool, true, false, cond, List, [], ◌∷◌, ℕ, suc,
-    ◌+◌, ◌<◌, ◌==◌, length, drop, get_or, arith, add-one, drop-cons, eq-eqb}
+use Rattle.std.proofs.Common.{◌≡◌, ◌≢◌, refl, sym, ◌∙◌, ap, subst, Bool, true, false, cond, List, [], ◌∷◌, ℕ, suc, ◌+◌}
+use Rattle.std.proofs.Common.{◌<◌, ◌==◌, length, drop, get_or, arith, add-one, drop-cons, eq-eqb}
 use Rattle.std.specs.Prelude.{map, reverse, Contains, ◌↔◌}
 use Rattle.std.proofs.lemmas.Bool.{ne_eqb, true≢false}
 use Rattle.std.proofs.lemmas.Bool.Decides.{Decides-eqb}

@@ -1,6 +1,6 @@
 -- A roll is the list of undos of its members' workers, latest first.
-use Rattle.std.proofs.Common.{◌≡◌, refl, sym, ◌∙◌, ap, subst, Bool, true, false, cond, Option, None, Some, List, [],
-    ◌∷◌, ◌++◌, ℕ, ◌==◌, append_assoc, arith}
+use Rattle.std.proofs.Common.{◌≡◌, refl, sym, ◌∙◌, ap, subst, Bool, true, false, cond, Option, None, Some, List, []}
+use Rattle.std.proofs.Common.{◌∷◌, ◌++◌, ℕ, ◌==◌, append_assoc, arith}
 use Rattle.std.specs.Prelude.{map, reverse, is_some}
 use Rattle.std.proofs.lemmas.List.{map-append, reverse-append}
 use Rattle.om_foot.specs.declared.object.Obj.{Obj}
@@ -10,8 +10,8 @@ use Rattle.om_cells.specs.State.{State}
 use Rattle.om_cells.specs.Rules.{Rules, next_state}
 use Rattle.om_history.specs.Laws.{Apart, steps_then, steps_from}
 use Rattle.om_history.specs.Runs.{History, label_of, after_undo}
-use Rattle.om_history.specs.Cones.{Transition, with_footprints, transitions, meets_one, is_member, cone_after,
-    rest_after, cone, taken_of, taken_by_roll, after_roll}
+use Rattle.om_history.specs.Cones.{Transition, with_footprints, transitions, meets_one, is_member, cone_after}
+use Rattle.om_history.specs.Cones.{rest_after, cone, taken_of, taken_by_roll, after_roll}
 use Rattle.om_history.specs.Commands.{UndosTo, Rise}
 use Rattle.om_history.specs.declared.reply.Taken.{Taken}
 use Rattle.om_history.specs.declared.records.UndoRecord.{UndoRecord}

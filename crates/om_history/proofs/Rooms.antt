@@ -1,6 +1,6 @@
 -- Updates made and taken back along a list.
-use Rattle.std.proofs.Common.{◌≡◌, refl, sym, ◌∙◌, ap, subst, List, [], ◌∷◌, ◌++◌, ℕ, zero, suc, ◌-◌, ◌≤◌, ◌<◌,
-    length, take, drop, get_or, set, arith, length-drop, add-one, cond, pos, ◌+ℤ◌, ◌+◌}
+use Rattle.std.proofs.Common.{◌≡◌, refl, sym, ◌∙◌, ap, subst, List, [], ◌∷◌, ◌++◌, ℕ, zero, suc, ◌-◌, ◌≤◌, ◌<◌, length}
+use Rattle.std.proofs.Common.{take, drop, get_or, set, arith, length-drop, add-one, cond, pos, ◌+ℤ◌, ◌+◌}
 use Rattle.std.specs.Prelude.{min}
 use Rattle.std.proofs.lemmas.List.{take-append-drop, take-set, get_or-set_same}
 use Rattle.std.proofs.lemmas.Int.{ints}
@@ -15,8 +15,8 @@ use Rattle.om_cells.specs.declared.value.Val.{Val}
 use Rattle.om_cells.specs.declared.value.Val.TheVariants.{Count}
 use Rattle.om_cells.specs.declared.step.Update.{Update}
 use Rattle.om_cells.specs.declared.step.Update.TheVariants as update
-use Rattle.om_cells.specs.State.{State, value_after, undo_of, state_after, state_before, updated, undo_record,
-    taken_back}
+use Rattle.om_cells.specs.State.{State, value_after, undo_of, state_after, state_before, updated, undo_record}
+use Rattle.om_cells.specs.State.{taken_back}
 use Rattle.om_history.specs.Bounds.{FitsAt, FitsAll, FitsAtBack, FitsBack}
 use Rattle.om_history.proofs.Back.{state_before-state_after}
 

@@ -11,10 +11,10 @@ use Rattle.om_cells.specs.Rules.{Rules}
 use Rattle.om_history.specs.Laws.{Apart}
 use Rattle.om_history.specs.Runs.{History, no_history, state_of_entries}
 use Rattle.om_history.specs.Bounds.{AreSmall, SmallCounts}
-use Rattle.om_history.specs.Cones.{Transition, transitions, InCone, itself, follows, rest_after, cone,
-    taken_by_roll, after_roll}
-use Rattle.om_history.specs.Commands.{Command, ToUndo, after_command, run, IsRun, Rise, SerialsRise,
-    SerialsIdentify, RollIsCone, UndosTo, RollIsUndos, IsGone, RollTakesCone, Least}
+use Rattle.om_history.specs.Cones.{Transition, transitions, InCone, itself, follows, rest_after, cone, taken_by_roll}
+use Rattle.om_history.specs.Cones.{after_roll}
+use Rattle.om_history.specs.Commands.{Command, ToUndo, after_command, run, IsRun, Rise, SerialsRise, SerialsIdentify}
+use Rattle.om_history.specs.Commands.{RollIsCone, UndosTo, RollIsUndos, IsGone, RollTakesCone, Least}
 use Rattle.om_history.specs.declared.records.UndoRecord.{UndoRecord}
 use Rattle.om_history.specs.Records.{entries_of, transition_of, transitions_of, ReplaysTo}
 use Rattle.om_history.proofs.Bounds.{now-small}

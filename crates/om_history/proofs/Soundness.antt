@@ -1,6 +1,6 @@
 -- A past under rules: the step that is next to it, and an entry that is taken out of it.
-use Rattle.std.proofs.Common.{◌≡◌, refl, sym, ◌∙◌, ap, subst, true, false, None, Some, List, [], ◌∷◌, ◌++◌, ℕ, suc,
-    ◌+◌, ◌<◌, ◌≤◌, ◌^◌, length, take, drop, add-one, arith, length-append}
+use Rattle.std.proofs.Common.{◌≡◌, refl, sym, ◌∙◌, ap, subst, true, false, None, Some, List, [], ◌∷◌, ◌++◌, ℕ, suc, ◌+◌}
+use Rattle.std.proofs.Common.{◌<◌, ◌≤◌, ◌^◌, length, take, drop, add-one, arith, length-append}
 use Rattle.std.specs.Prelude.{slice_get, All, IfSome, remove}
 use Rattle.std.proofs.lemmas.List.{length-take, map-append}
 use Rattle.std.proofs.lemmas.List.Elements.{All-weaker, All-push, All-append, All-take, All-drop}
@@ -17,23 +17,24 @@ use Rattle.om_cells.specs.State.{State, updated, undo_record, taken_back}
 use Rattle.om_cells.specs.Stores.{state_of, is_kept}
 use Rattle.om_cells.specs.Rules.{Rules, step_at, state_after_outcome, next_state}
 use Rattle.om_history.specs.Laws.{updates_of}
-use Rattle.om_history.specs.Runs.{History, label_of, state_of_entries, entry_for, reply_for, history_with,
-    reply_to_step, after_step, last_place, reply_at, reply_to_undo, history_without, after_undo}
+use Rattle.om_history.specs.Runs.{History, label_of, state_of_entries, entry_for, reply_for, history_with}
+use Rattle.om_history.specs.Runs.{reply_to_step, after_step, last_place, reply_at, reply_to_undo, history_without}
+use Rattle.om_history.specs.Runs.{after_undo}
 use Rattle.om_history.specs.declared.reply.UndoReply.{UndoReply}
 use Rattle.om_history.specs.declared.reply.UndoReply.TheVariants.{Undone}
 use Rattle.om_history.specs.declared.records.UndoRecord.{UndoRecord}
-use Rattle.om_history.specs.Records.{entries_of, IsRight, HasRoom, first_kept_conflict, reply_before, kept_reply,
-    is_done}
+use Rattle.om_history.specs.Records.{entries_of, IsRight, HasRoom, first_kept_conflict, reply_before, kept_reply}
+use Rattle.om_history.specs.Records.{is_done}
 use Rattle.om_history.specs.Commands.{IsRun, ToStep, ToUndo}
 use Rattle.om_history.specs.Bounds.{AreSteady, AreSmall, FitsAll, FitsBack}
 use Rattle.om_history.specs.Pasts.{Past, entries_in, IsPast, past_of, IsKept}
 use Rattle.om_history.proofs.Exchange.{Made, made}
-use Rattle.om_history.proofs.Bounds.{AreSteady-more, steady_step, steady_record, FitsAll-small, FitsBack-small,
-    now-small}
+use Rattle.om_history.proofs.Bounds.{AreSteady-more, steady_step, steady_record, FitsAll-small, FitsBack-small}
+use Rattle.om_history.proofs.Bounds.{now-small}
 use Rattle.om_history.proofs.Logs.{ReplaysTo-now, ReplaysTo-push, NoneConflicts, Split, split, ReplaysTo-removed}
 use Rattle.om_history.proofs.Places.{HasLast, place_at, IsLastOf, last_place-at}
-use Rattle.om_history.proofs.Undos.{history_of, none_conflicts, history_without-done, history_without-refused,
-    reply_at-split}
+use Rattle.om_history.proofs.Undos.{history_of, none_conflicts, history_without-done, history_without-refused}
+use Rattle.om_history.proofs.Undos.{reply_at-split}
 use Rattle.om_history.proofs.RunLaws.{IsRun-more}
 
 -- the state of a past is the replay of its entries

@@ -1,13 +1,14 @@
 -- A step and then its undo.
-use Rattle.std.proofs.Common.{◌≡◌, refl, ◌∙◌, ap, None, Some, List, [], ◌∷◌, ◌++◌, ℕ, ◌+◌, eq-eqb, append-nil, ◌==◌,
-    Option}
+use Rattle.std.proofs.Common.{◌≡◌, refl, ◌∙◌, ap, None, Some, List, [], ◌∷◌, ◌++◌, ℕ, ◌+◌, eq-eqb, append-nil, ◌==◌}
+use Rattle.std.proofs.Common.{Option}
 use Rattle.om_cells.specs.declared.step.Outcome.{Outcome}
 use Rattle.om_cells.specs.declared.step.Label.{Label}
 use Rattle.om_cells.specs.declared.step.Step.{Step}
 use Rattle.om_cells.specs.declared.step.Entry.{Entry}
 use Rattle.om_cells.specs.Rules.{Rules, step_at}
-use Rattle.om_history.specs.Runs.{History, state_of_entries, entry_for, reply_for, history_with, reply_to_step,
-    last_or_first, last_place, reply_at, reply_to_undo, history_without, after_undo, Undoes}
+use Rattle.om_history.specs.Runs.{History, state_of_entries, entry_for, reply_for, history_with, reply_to_step}
+use Rattle.om_history.specs.Runs.{last_or_first, last_place, reply_at, reply_to_undo, history_without, after_undo}
+use Rattle.om_history.specs.Runs.{Undoes}
 use Rattle.om_code.specs.declared.frame.Fault.{Fault}
 use Rattle.om_history.specs.declared.reply.UndoReply.TheVariants.{Undone}
 use Rattle.om_cells.specs.declared.step.Outcome.TheVariants as outcome
@@ -36,7 +37,7 @@ by_outcome : (r : Rules) (h : History) (l : Label) (d : Step) (o : Outcome) (ser
     → reply_for (h.made + 1) d.line o ≡ step_reply.Done serial line fault
     → (reply_to_undo r (history_with h (entry_for h.made l d) o) l.worker ≡ Undone serial line)
     × (after_undo r (history_with h (entry_for h.made l d) o) l.worker
-        ≡ record { entries = h.entries; made = h.made + 1 })
+    ≡ record { entries = h.entries; made = h.made + 1 })
 by_outcome r h l d (outcome.Updates us) serial line fault e =
     let s : h.made + 1 ≡ serial = cc in
     let n : d.line ≡ line = cc in (

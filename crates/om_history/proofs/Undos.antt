@@ -1,6 +1,6 @@
 -- An undo, by the undo records: what it takes out, and that it is refused elsewhere.
-use Rattle.std.proofs.Common.{◌≡◌, ◌≢◌, refl, sym, ◌∙◌, ap, subst, Bool, true, false, Option, None, Some, List, [],
-    ◌∷◌, ◌++◌, ℕ, ◌==◌, ◌⊎◌, inl, inr, eq-eqb}
+use Rattle.std.proofs.Common.{◌≡◌, ◌≢◌, refl, sym, ◌∙◌, ap, subst, Bool, true, false, Option, None, Some, List, [], ◌∷◌}
+use Rattle.std.proofs.Common.{◌++◌, ℕ, ◌==◌, ◌⊎◌, inl, inr, eq-eqb}
 use Rattle.std.specs.Prelude.{unwrap_or}
 use Rattle.std.proofs.lemmas.Bool.{true≢false, cases_eq}
 use Rattle.std.proofs.lemmas.List.{map-append}
@@ -14,8 +14,8 @@ use Rattle.om_cells.specs.declared.step.Entry.{Entry}
 use Rattle.om_cells.specs.State.{State, taken_back}
 use Rattle.om_cells.specs.Rules.{Rules, control_access, step_at}
 use Rattle.om_history.specs.Laws.{Apart}
-use Rattle.om_history.specs.Runs.{History, label_of, Place, last_or_first, last_place, state_after_step,
-    conflict_or, first_conflict, reply_at, reply_to_undo, history_without, after_undo}
+use Rattle.om_history.specs.Runs.{History, label_of, Place, last_or_first, last_place, state_after_step, conflict_or}
+use Rattle.om_history.specs.Runs.{first_conflict, reply_at, reply_to_undo, history_without, after_undo}
 use Rattle.om_history.specs.declared.reply.UndoReply.{UndoReply}
 use Rattle.om_history.specs.declared.reply.UndoReply.TheVariants.{Undone, Conflict, Nothing}
 use Rattle.om_history.specs.declared.records.UndoRecord.{UndoRecord}

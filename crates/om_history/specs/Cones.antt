@@ -1,6 +1,6 @@
 -- The cone of an entry, and what a roll replies and leaves.
-use Rattle.std.specs.Prelude.{◌≡◌, ◌==◌, Bool, true, false, cond, is_some, List, [], ◌∷◌, ◌++◌, map, reverse, ℕ,
-    ◌<◌, Contains}
+use Rattle.std.specs.Prelude.{◌≡◌, ◌==◌, Bool, true, false, cond, is_some, List, [], ◌∷◌, ◌++◌, map, reverse, ℕ, ◌<◌}
+use Rattle.std.specs.Prelude.{Contains}
 use Rattle.om_foot.specs.declared.footprint.Access.{Access}
 use Rattle.om_foot.specs.Footprint.{conflict_of}
 use Rattle.om_cells.specs.declared.step.Step.{Step}

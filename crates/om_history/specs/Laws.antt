@@ -1,7 +1,7 @@
 -- What is true of steps under any rules: they depend on their footprints, and commute and can be taken out where
 -- these don't conflict.
-use Rattle.std.specs.Prelude.{◌≡◌, Bool, true, false, cond, ℤ, pos, ◌+ℤ◌, neg_ℤ, Option, None, Some, List, [], ◌∷◌,
-    ◌++◌}
+use Rattle.std.specs.Prelude.{◌≡◌, Bool, true, false, cond, ℤ, pos, ◌+ℤ◌, neg_ℤ, Option, None, Some, List, [], ◌∷◌}
+use Rattle.std.specs.Prelude.{◌++◌}
 use Rattle.om_foot.specs.declared.object.Obj.{Obj}
 use Rattle.om_foot.specs.declared.footprint.Mode.{Mode}
 use Rattle.om_foot.specs.declared.footprint.Mode.TheVariants as mode

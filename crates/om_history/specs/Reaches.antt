@@ -1,6 +1,6 @@
 -- Between which keys the objects of a footprint lie: matter of the proof that an undo skips none that conflicts.
-use Rattle.std.specs.Prelude.{Bool, Option, Some, None, ◌&&◌, ◌||◌, nat_lt, ℕ, ◌+◌, ◌*◌, ◌%◌, ◌-◌, ◌≤◌, List, All,
-    length, slice_get, unwrap_or}
+use Rattle.std.specs.Prelude.{Bool, Option, Some, None, ◌&&◌, ◌||◌, nat_lt, ℕ, ◌+◌, ◌*◌, ◌%◌, ◌-◌, ◌≤◌, List, All}
+use Rattle.std.specs.Prelude.{length, slice_get, unwrap_or}
 use Rattle.std.specs.Global.{Box}
 use Rattle.om_foot.specs.declared.object.Obj.{Obj}
 use Rattle.om_foot.specs.declared.object.Obj.TheVariants as obj

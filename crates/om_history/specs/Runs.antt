@@ -1,6 +1,6 @@
 -- Histories, and what steps and undos reply and leave: the definition of a run.
-use Rattle.std.specs.Prelude.{◌≡◌, ◌==◌, Bool, true, false, Option, None, Some, List, [], ◌∷◌, ◌++◌, map, ℕ, ◌+◌,
-    unwrap_or}
+use Rattle.std.specs.Prelude.{◌≡◌, ◌==◌, Bool, true, false, Option, None, Some, List, [], ◌∷◌, ◌++◌, map, ℕ, ◌+◌}
+use Rattle.std.specs.Prelude.{unwrap_or}
 use Rattle.om_foot.specs.declared.object.Obj.{Obj}
 use Rattle.om_foot.specs.declared.footprint.Access.{Access}
 use Rattle.om_foot.specs.Footprint.{conflict_of}

@@ -1,9 +1,9 @@
 -- With which bytes tokens begin.
-use Rattle.std.proofs.Common.{◌≡◌, ℕ, ◌-◌, ◌<◌, ◌⊎◌, min, Bool, true, false, not, ◌||◌, ◌==◌, ltb, List, length,
-    take, drop, get_or, arith, refl, ap, subst, ◌∙◌, ⊎_elim, inl, inr, add-zero, length-take, get_or-take,
-    get_or-drop, slice_index, slice_range}
-use Rattle.std.proofs.lemmas.Bool.{both_ways, or_cases, or_left, eqb-true, ltb-true, not-true, not_from_true,
-    false_from_ne_true}
+use Rattle.std.proofs.Common.{◌≡◌, ℕ, ◌-◌, ◌<◌, ◌⊎◌, min, Bool, true, false, not, ◌||◌, ◌==◌, ltb, List, length, take}
+use Rattle.std.proofs.Common.{drop, get_or, arith, refl, ap, subst, ◌∙◌, ⊎_elim, inl, inr, add-zero, length-take}
+use Rattle.std.proofs.Common.{get_or-take, get_or-drop, slice_index, slice_range}
+use Rattle.std.proofs.lemmas.Bool.{both_ways, or_cases, or_left, eqb-true, ltb-true, not-true, not_from_true}
+use Rattle.std.proofs.lemmas.Bool.{false_from_ne_true}
 use Rattle.std.specs.Char.{is_ascii_digit}
 use Rattle.om_lexer.specs.declared.token.Keyword.{Keyword}
 use Rattle.om_lexer.specs.declared.token.Punctuator.{Punctuator}
@@ -79,10 +79,10 @@ pub first_of_slice : (source : List ℕ) (from to : ℕ) → 0 < length (slice_r
     → slice_index (slice_range source from to) 0 ≡ slice_index source from
 first_of_slice source from to some =
     let long : length (take (to - from) (drop from source)) ≡ min (to - from) (length (drop from source)) =
-        length-take (to - from) (drop from source) in
+    length-take (to - from) (drop from source) in
     let positive : 0 < to - from = omega (arith, long, some) in
     get_or-take (to - from) (drop from source) 0 0 positive ∙ get_or-drop from source 0 0
-        ∙ ap (λ k. get_or source k 0) (add-zero from)
+    ∙ ap (λ k. get_or source k 0) (add-zero from)
 
 -- what could be a token has a byte, and its first byte is apart
 pub could_be_some : (text : List ℕ) → CouldBeToken text → 0 < length text

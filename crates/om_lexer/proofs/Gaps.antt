@@ -1,11 +1,11 @@
 -- White space: one piece of it at most begins at a byte, and one gap.
-use Rattle.std.proofs.Common.{◌≡◌, ℕ, ◌+◌, ◌<◌, ◌≤◌, true, false, List, [], ◌∷◌, ◌++◌, Option, None, Some, IfNone,
-    length, arith, refl, sym, ap, subst, ◌∙◌, ⊎_elim, inl, inr, slice_index}
+use Rattle.std.proofs.Common.{◌≡◌, ℕ, ◌+◌, ◌<◌, ◌≤◌, true, false, List, [], ◌∷◌, ◌++◌, Option, None, Some, IfNone}
+use Rattle.std.proofs.Common.{length, arith, refl, sym, ap, subst, ◌∙◌, ⊎_elim, inl, inr, slice_index}
 use Rattle.std.proofs.lemmas.List.{get_or_past}
 use Rattle.std.proofs.lemmas.Bool.{cases_lt, cases_order}
 use Rattle.om_lexer.specs.Characters.{is_blank}
-use Rattle.om_lexer.specs.WhiteSpace.{IsLineEnd, IsSpace, IsBlockComment, IsLineComment, IsComment, BeginsComment,
-    IsWhiteSpace, Spaces, IsGap}
+use Rattle.om_lexer.specs.WhiteSpace.{IsLineEnd, IsSpace, IsBlockComment, IsLineComment, IsComment, BeginsComment}
+use Rattle.om_lexer.specs.WhiteSpace.{IsWhiteSpace, Spaces, IsGap}
 use Rattle.om_lexer.proofs.Beginnings.{no_blank_at}
 
 -- a byte other than 0 is one of the source
@@ -30,9 +30,9 @@ module _ (source : List ℕ) (from : ℕ) where
   backslash_white backslash no_line_end to white =
       ⊎_elim
       (λ space. ⊎_elim (λ blank. no_blank_at _ 92 backslash refl blank.0) (λ continued. no_line_end to continued.1)
-          space)
+      space)
       (λ comment. ⊎_elim (λ block. omega (arith, backslash, block.slash))
-          (λ line. omega (arith, backslash, line.slashes.0)) comment)
+      (λ line. omega (arith, backslash, line.slashes.0)) comment)
       white
 
   -- with a slash only a comment makes white space
@@ -42,7 +42,7 @@ module _ (source : List ℕ) (from : ℕ) where
   slash_white slash no_comment to white =
       ⊎_elim
       (λ space. ⊎_elim (λ blank. no_blank_at _ 47 slash refl blank.0)
-          (λ continued. omega (arith, slash, continued.0)) space)
+      (λ continued. omega (arith, slash, continued.0)) space)
       (no_comment to)
       white
 
@@ -63,7 +63,7 @@ module _ (source : List ℕ) (from : ℕ) where
   no_white n same no_blank no_backslash no_slash to white =
       ⊎_elim
       (λ space. ⊎_elim (λ blank. no_blank_at _ n same no_blank blank.0)
-          (λ continued. no_backslash (sym same ∙ continued.0)) space)
+      (λ continued. no_backslash (sym same ∙ continued.0)) space)
       (λ comment. no_slash (sym same ∙ comment_slash to comment))
       white
 
@@ -87,7 +87,7 @@ module _ (source : List ℕ) (from : ℕ) where
       ⊎_elim
       (λ same. x.end ∙ ap (λ n. n + 2) same ∙ sym y.end)
       (⊎_elim (λ below. absurd (y.first x.last x.behind below x.last_star x.last_slash))
-          (λ above. absurd (x.first y.last y.behind above y.last_star y.last_slash)))
+      (λ above. absurd (x.first y.last y.behind above y.last_star y.last_slash)))
       (cases_order x.last y.last)
 
   line_one : (a b : ℕ) → IsLineComment source from a → IsLineComment source from b → a ≡ b
@@ -95,7 +95,7 @@ module _ (source : List ℕ) (from : ℕ) where
       ⊎_elim
       (λ same. same)
       (⊎_elim (λ below. absurd (y.one_line a (omega (arith, x.behind)) below (x.ends (omega (arith, y.inside)))))
-          (λ above. absurd (x.one_line b (omega (arith, y.behind)) above (y.ends (omega (arith, x.inside))))))
+      (λ above. absurd (x.one_line b (omega (arith, y.behind)) above (y.ends (omega (arith, x.inside))))))
       (cases_order a b)
 
   comment_one : (a b : ℕ) → IsComment source from a → IsComment source from b → a ≡ b
@@ -121,7 +121,7 @@ module _ (source : List ℕ) (from : ℕ) where
   white_moves to white =
       ⊎_elim
       (λ space. ⊎_elim (λ blank. omega (arith, blank.1)) (λ continued. ⊎_elim (λ e. omega (arith, e.1))
-          (λ e. omega (arith, e.2)) continued.1) space)
+      (λ e. omega (arith, e.2)) continued.1) space)
       (λ comment. ⊎_elim (λ block. omega (arith, block.behind, block.end)) (λ line. omega (arith, line.behind)) comment)
       white
 
@@ -135,7 +135,7 @@ module _ (source : List ℕ) (from : ℕ) where
       continued.1)
       space)
       (λ comment. ⊎_elim (λ block. let there = byte_inside source (block.last + 1)
-          (omega (arith, block.last_slash)) in omega (arith, there, block.end)) (λ line. line.inside) comment)
+      (omega (arith, block.last_slash)) in omega (arith, there, block.end)) (λ line. line.inside) comment)
       white
 
 pub spaces_more : (source : List ℕ) (from mid to : ℕ) (ends : List ℕ) → Spaces source from ends mid
@@ -163,8 +163,12 @@ gap_same source f g a b same x y = gap_one source g a b (subst (λ n. IsGap sour
 
 spaces_rise : (source : List ℕ) (from to : ℕ) (ends : List ℕ) → Spaces source from ends to → from ≤ to
 spaces_rise source from to [] x = omega (arith, x)
-spaces_rise source from to (end ∷ ends) x = omega (arith, white_moves source from end x.0, spaces_rise source end to
-    ends x.1)
+spaces_rise source from to (end ∷ ends) x = omega (
+  arith,
+  white_moves source from end x.0,
+  spaces_rise source end to
+      ends x.1,
+)
 
 pub gap_rises : (source : List ℕ) (from to : ℕ) → IsGap source from to → from ≤ to
 gap_rises source from to gap = spaces_rise source from to gap.ends gap.spaces

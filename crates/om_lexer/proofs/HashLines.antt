@@ -1,6 +1,6 @@
 -- `#` lines: one at most begins at a byte, as one piece.
-use Rattle.std.proofs.Common.{◌≡◌, ℕ, ◌+◌, ◌<◌, ◌≤◌, true, List, None, Some, length, codes, get_or, arith, refl,
-    sym, ap, subst, ◌∙◌, ⊎_elim, slice_index, slice_range}
+use Rattle.std.proofs.Common.{◌≡◌, ℕ, ◌+◌, ◌<◌, ◌≤◌, true, List, None, Some, length, codes, get_or, arith, refl, sym}
+use Rattle.std.proofs.Common.{ap, subst, ◌∙◌, ⊎_elim, slice_index, slice_range}
 use Rattle.std.proofs.lemmas.Bool.{both_ways, cases_lt, ltb-true}
 use Rattle.om_lexer.specs.declared.piece.HashLine.{HashLine}
 use Rattle.om_lexer.specs.declared.piece.HashLine.TheVariants as lines
@@ -9,8 +9,9 @@ use Rattle.om_lexer.specs.Constants.{value_in}
 use Rattle.om_lexer.specs.WhiteSpace.{IsGap}
 use Rattle.om_lexer.specs.Tokens.{IsRun}
 use Rattle.om_lexer.specs.Macros.{MacroList, number_of_macro, IsOther}
-use Rattle.om_lexer.specs.HashLines.{IsWordAt, IsHashWord, EndsLine, HasText, IsHeader, IsInclude, IsMacroName,
-    IsDecimal, IsDefinition, IsDefine, IsDirective, IsOtherPragma, IsHashLine, IsBadHashLine, IsMacroTooMany}
+use Rattle.om_lexer.specs.HashLines.{IsWordAt, IsHashWord, EndsLine, HasText, IsHeader, IsInclude, IsMacroName}
+use Rattle.om_lexer.specs.HashLines.{IsDecimal, IsDefinition, IsDefine, IsDirective, IsOtherPragma, IsHashLine}
+use Rattle.om_lexer.specs.HashLines.{IsBadHashLine, IsMacroTooMany}
 use Rattle.om_lexer.proofs.Gaps.{gap_one, gap_same, gap_rises}
 use Rattle.om_lexer.proofs.Beginnings.{first_of_slice}
 use Rattle.om_lexer.proofs.Longest.{longest_one, length_slice, at_slice, run_is_word, run_is_longest}
@@ -23,8 +24,11 @@ pub run_is_there : (source : List ℕ) (from to : ℕ) → IsRun source from to 
 run_is_there source from to run some =
     let long = length_slice source from to in
     let order : from < to = omega (arith, long, some) in
-    record { longest = run_is_longest source from to order run; word = run_is_word source from to order run;
-        text_is = refl }
+    record {
+      longest = run_is_longest source from to order run;
+      word = run_is_word source from to order run;
+      text_is = refl;
+    }
 
 pub word_one : (source : List ℕ) (from t u : ℕ) (a b : List ℕ) → IsWordAt source from t a → IsWordAt source from u b
     → (t ≡ u) × (a ≡ b)
@@ -41,9 +45,11 @@ word_byte_there : (source : List ℕ) (from to : ℕ) (text : List ℕ) → IsWo
 word_byte_there source from to text w =
     let lengths = ap length w.text_is in
     let long = length_slice source from to in
-    let first = first_of_slice source from to (omega (arith, lengths, w.word.some)) in
-    (omega (arith, lengths, long, w.word.some), ap is_word_byte (sym (ap (λ t. slice_index t 0) w.text_is ∙ first))
-        ∙ w.word.word_bytes 0 0 w.word.some)
+    let first = first_of_slice source from to (omega (arith, lengths, w.word.some)) in (
+      omega (arith, lengths, long, w.word.some),
+      ap is_word_byte (sym (ap (λ t. slice_index t 0) w.text_is ∙ first))
+          ∙ w.word.word_bytes 0 0 w.word.some,
+    )
 
 -- a word that begins where a run does is that run
 pub word_is_run : (source : List ℕ) (f from t to : ℕ) (text : List ℕ) → f ≡ from → IsRun source from to
@@ -55,7 +61,7 @@ word_is_run source f from t to text same run w' =
     ⊎_elim (λ below. below) (λ above.
     let empty : to ≡ from = omega (arith, above, run.behind) in
     absurd (both_ways _ (run.ends (omega (arith, empty, there.0))) (ap (λ k. is_word_byte (slice_index source k))
-        empty ∙ there.1)))
+    empty ∙ there.1)))
     (cases_lt from to) in
     let end = longest_one source from t to w.longest (run_is_longest source from to order run) in
     (end, w.text_is ∙ ap (slice_range source from) end)
@@ -231,7 +237,7 @@ include_bound source from to x =
     let head = hash_word_bound source from x.word x.word_end (codes "include") x.begins in
     let rises = gap_rises source x.word_end x.header x.gap in
     ⊎_elim (λ s. (omega (arith, head.0, head.1, rises, s.1), s.2))
-        (λ o. (omega (arith, head.0, head.1, rises, o.1), o.2)) x.is_header
+    (λ o. (omega (arith, head.0, head.1, rises, o.1), o.2)) x.is_header
 
 define_bound : (source : List ℕ) (from to v : ℕ) (name : List ℕ) → IsDefine source from to name v → (from < to)
     × (to ≤ length source)
@@ -270,7 +276,7 @@ line_bound source macros from to lines.Ignored x =
 pub other_word : (source : List ℕ) (macros : MacroList) (from word to : ℕ) → IsGap source (from + 1) word
     → IsRun source word to
     → (slice_range source word to ≡ codes "include" → ⊥) → (slice_range source word to ≡ codes "define" → ⊥)
-        → (slice_range source word to ≡ codes "pragma" → ⊥) → IsBadHashLine source macros from
+    → (slice_range source word to ≡ codes "pragma" → ⊥) → IsBadHashLine source macros from
 other_word source macros from word to gap run no_include no_define no_pragma = record {
   no_include = λ end x. no_include (hash_word_read source from word to x.word x.word_end _ gap run x.begins);
   no_pragma = λ w t h. no_pragma (hash_word_read source from word to w t _ gap run h);
@@ -301,7 +307,7 @@ no_tail source header to is_header no_end other is_other tail = no_end
 pub bad_define : (source : List ℕ) (macros : MacroList) (from word end : ℕ) → IsHashWord source from word end
     (codes "define")
     → ((to : ℕ) (name : List ℕ) (value : ℕ) → IsDefinition source end to name value → IsOther macros name value)
-        → IsBadHashLine source macros from
+    → IsBadHashLine source macros from
 bad_define source macros from word end begins others = record {
   no_include = λ to x. hash_word_differs source from _ _ _ _ _ _ include_define x.begins begins;
   no_pragma = λ w t h. hash_word_differs source from _ _ _ _ _ _ define_pragma begins h;
@@ -321,37 +327,41 @@ other_number source macros end to v name is_definition is_other other m w also =
 pub definition_there : (source : List ℕ) (from name name_end number number_end : ℕ) → IsGap source from name
     → IsRun source name name_end → IsGap source name_end number → IsRun source number number_end
     → IsMacroName (slice_range source name name_end) → IsDecimal (slice_range source number number_end)
-        → EndsLine source number_end
+    → EndsLine source number_end
     → IsDefinition source from number (slice_range source name name_end)
-        (value_in 10 (slice_range source number number_end))
+    (value_in 10 (slice_range source number number_end))
 definition_there source from name name_end number number_end gap run further_gap number_run is_name is_decimal
     tail = record {
-  name_from = name;
-  name_end = name_end;
-  gap = gap;
-  word = run_is_there source name name_end run is_name.0;
-  is_name = is_name;
-  further_gap = further_gap;
-  number = slice_range source number number_end;
-  number_end = number_end;
-  number_word = run_is_there source number number_end number_run is_decimal.0;
-  is_decimal = is_decimal;
-  value_is = refl;
-  tail = tail;
-}
+      name_from = name;
+      name_end = name_end;
+      gap = gap;
+      word = run_is_there source name name_end run is_name.0;
+      is_name = is_name;
+      further_gap = further_gap;
+      number = slice_range source number number_end;
+      number_end = number_end;
+      number_word = run_is_there source number number_end number_run is_decimal.0;
+      is_decimal = is_decimal;
+      value_is = refl;
+      tail = tail;
+    }
 
 pub no_definition : (source : List ℕ) (from name name_end number number_end : ℕ) → IsGap source from name
     → IsRun source name name_end → IsGap source name_end number → IsRun source number number_end
     → (IsMacroName (slice_range source name name_end) × IsDecimal (slice_range source number number_end)
-        × EndsLine source number_end → ⊥)
+    × EndsLine source number_end → ⊥)
     → (to : ℕ) (text : List ℕ) (value : ℕ) → IsDefinition source from to text value → ⊥
 no_definition source from name name_end number number_end gap run further_gap number_run no_parts to text value d =
     let name_place = gap_one source from d.name_from name d.gap gap in
     let word = word_is_run source d.name_from name d.name_end name_end text name_place run d.word in
     let place = gap_same source d.name_end name_end to number word.0 d.further_gap further_gap in
     let digits = word_is_run source to number d.number_end number_end d.number place number_run d.number_word in
-    no_parts (subst IsMacroName word.1 d.is_name, subst IsDecimal digits.1 d.is_decimal, subst (EndsLine source)
-        digits.0 d.tail)
+    no_parts (
+      subst IsMacroName word.1 d.is_name,
+      subst IsDecimal digits.1 d.is_decimal,
+      subst (EndsLine source)
+          digits.0 d.tail,
+    )
 
 -- a pragma without `omp`
 pub other_pragma : (source : List ℕ) (from word end omp omp_end : ℕ) → IsHashWord source from word end

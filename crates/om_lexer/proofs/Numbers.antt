@@ -1,6 +1,6 @@
 -- The number that digits stand for only grows with more digits.
-use Rattle.std.proofs.Common.{◌≡◌, ℕ, ◌+◌, ◌*◌, ◌<◌, ◌≤◌, List, [], ◌∷◌, ◌++◌, length, get_or, take, drop, fold,
-    arith, ap, take-append-drop}
+use Rattle.std.proofs.Common.{◌≡◌, ℕ, ◌+◌, ◌*◌, ◌<◌, ◌≤◌, List, [], ◌∷◌, ◌++◌, length, get_or, take, drop, fold, arith}
+use Rattle.std.proofs.Common.{ap, take-append-drop}
 use Rattle.std.proofs.lemmas.List.Sums.{fold_more, fold-append}
 use Rattle.std.proofs.Math.Nat.{mul-le-mul_left}
 use Rattle.std.specs.Char.{digit_value}
@@ -24,7 +24,7 @@ grows base value (digit ∷ digits) some =
 pub value_front : (base : ℕ) (digits : List ℕ) (n : ℕ) → 1 ≤ base → value_in base (take n digits) ≤ value_in base digits
 value_front base digits n some =
     let whole : value_in base (take n digits ++ drop n digits) ≡ value_in base digits = ap (value_in base)
-        (take-append-drop n digits) in
+    (take-append-drop n digits) in
     let parts = fold-append (step base) 0 (take n digits) (drop n digits) in
     let grown = grows base (value_in base (take n digits)) (drop n digits) some in
     omega (arith, whole, parts, grown)

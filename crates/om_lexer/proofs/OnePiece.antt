@@ -1,6 +1,6 @@
 -- A text spells one token at most, and one piece at most stands at a byte.
-use Rattle.std.proofs.Common.{◌≡◌, ℕ, ◌<◌, true, false, List, Some, arith, refl, sym, ap, subst, ◌∙◌, ⊎_elim,
-    slice_index, slice_range}
+use Rattle.std.proofs.Common.{◌≡◌, ℕ, ◌<◌, true, false, List, Some, arith, refl, sym, ap, subst, ◌∙◌, ⊎_elim}
+use Rattle.std.proofs.Common.{slice_index, slice_range}
 use Rattle.std.proofs.lemmas.Bool.{both_ways, or_left}
 use Rattle.std.specs.List.{find}
 use Rattle.std.specs.Str.{bytes_eq}
@@ -84,7 +84,7 @@ keyword_found keywords.ThreadLocal = refl
 keyword_one : (k l : Keyword) → keyword_text k ≡ keyword_text l → k ≡ l
 keyword_one k l same =
     let found : Some k ≡ Some l = sym (keyword_found k) ∙ ap (λ text. find (λ j. bytes_eq (keyword_text j) text)
-        all_keywords) same ∙ keyword_found l in
+    all_keywords) same ∙ keyword_found l in
     cc
 
 punctuator_found : (p : Punctuator) → find (λ q. bytes_eq (punctuator_text q) (punctuator_text p)) all_punctuators
@@ -126,7 +126,7 @@ punctuator_found punctuators.OrOr = refl
 punctuator_one : (p q : Punctuator) → punctuator_text p ≡ punctuator_text q → p ≡ q
 punctuator_one p q same =
     let found : Some p ≡ Some q = sym (punctuator_found p)
-        ∙ ap (λ text. find (λ r. bytes_eq (punctuator_text r) text) all_punctuators) same ∙ punctuator_found q in
+    ∙ ap (λ text. find (λ r. bytes_eq (punctuator_text r) text) all_punctuators) same ∙ punctuator_found q in
     cc
 
 digit_word : (b : ℕ) → is_ascii_digit b ≡ true → is_word_byte b ≡ true
@@ -196,8 +196,12 @@ spells_one text (kinds.Punctuator p) kinds.End s t = absurd t
 large_spells_nothing : (text : List ℕ) (value : ℕ) (k : TokenKind) → IsConstant text value → 2147483647 < value
     → Spells text k → ⊥
 large_spells_nothing text value (kinds.Name n) constant large s = name_constant text value s.1 constant
-large_spells_nothing text value (kinds.Constant w) constant large s = omega (arith, constant.value_is, s.0.value_is,
-    s.1)
+large_spells_nothing text value (kinds.Constant w) constant large s = omega (
+  arith,
+  constant.value_is,
+  s.0.value_is,
+  s.1,
+)
 large_spells_nothing text value (kinds.Keyword k) constant large s = keyword_constant text k value s constant
 large_spells_nothing text value (kinds.Punctuator p) constant large s = constant_punctuator text value p constant s
 large_spells_nothing text value (kinds.Text characters) constant large s = s
@@ -221,7 +225,7 @@ module _ (source : List ℕ) (from : ℕ) where
       ⊎_elim
       (λ e. ⊎_elim (spelled_one a b k l e) (λ t. absurd ((spelled_apart a k e).no_quote t.2.0)) y)
       (λ t. ⊎_elim (λ e. absurd ((spelled_apart b l e).no_quote t.2.0)) (λ u. let same = text_one source from t.0
-          u.0 a b t.2 u.2 in (same.1, t.1 ∙ ap kinds.Text same.0 ∙ sym u.1)) y)
+      u.0 a b t.2 u.2 in (same.1, t.1 ∙ ap kinds.Text same.0 ∙ sym u.1)) y)
       x
 
   -- no token begins where this byte stands
@@ -317,7 +321,7 @@ module _ (source : List ℕ) (from : ℕ) where
         (λ e.
         let same = longest_one source from large.to to large.longest e.longest in
         large_spells_nothing (slice_range source from to) large.value kind
-            (subst (λ n. IsConstant (slice_range source from n) large.value) same large.spelled) large.large e.spelled)
+        (subst (λ n. IsConstant (slice_range source from n) large.value) same large.spelled) large.large e.spelled)
         (λ t. (token_apart source from large.to large.longest.could_be).no_quote t.2.0)
         s.1
     large_stands heard large to (pieces.HashLine line) s =

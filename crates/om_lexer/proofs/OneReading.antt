@@ -1,6 +1,6 @@
 -- A source has one list of tokens or one fault, and not both.
-use Rattle.std.proofs.Common.{◌≡◌, ℕ, ◌<◌, ◌≤◌, ◌⊎◌, false, List, [], ◌∷◌, ◌++◌, length, arith, refl, sym, ap,
-    subst, ◌∙◌, ⊎_elim, inl, inr, append-nil, slice_index}
+use Rattle.std.proofs.Common.{◌≡◌, ℕ, ◌<◌, ◌≤◌, ◌⊎◌, false, List, [], ◌∷◌, ◌++◌, length, arith, refl, sym, ap, subst}
+use Rattle.std.proofs.Common.{◌∙◌, ⊎_elim, inl, inr, append-nil, slice_index}
 use Rattle.std.proofs.lemmas.List.{get_or_past}
 use Rattle.om_lexer.specs.declared.token.Token.{Token}
 use Rattle.om_lexer.specs.declared.fault.FaultCode.{FaultCode}
@@ -11,10 +11,10 @@ use Rattle.om_lexer.specs.declared.piece.PieceKind.TheVariants as pieces
 use Rattle.om_lexer.specs.Characters.{is_blank}
 use Rattle.om_lexer.specs.Tokens.{IsTooLarge}
 use Rattle.om_lexer.specs.HashLines.{IsBadHashLine, IsMacroTooMany}
-use Rattle.om_lexer.specs.Pieces.{Context, is_ignored, IsPiece, Stands, Decomposes, context_behind,
-    context_behind_all, at_first}
-use Rattle.om_lexer.specs.Sources.{source_limit, IsTokens, IsBadToken, BeginsHashLine, IsWrong, GoesWrong,
-    IsTooLong, IsFault, all_tokens}
+use Rattle.om_lexer.specs.Pieces.{Context, is_ignored, IsPiece, Stands, Decomposes, context_behind, context_behind_all}
+use Rattle.om_lexer.specs.Pieces.{at_first}
+use Rattle.om_lexer.specs.Sources.{source_limit, IsTokens, IsBadToken, BeginsHashLine, IsWrong, GoesWrong, IsTooLong}
+use Rattle.om_lexer.specs.Sources.{IsFault, all_tokens}
 use Rattle.om_lexer.proofs.Beginnings.{could_be_some}
 use Rattle.om_lexer.proofs.Gaps.{byte_inside, no_white}
 use Rattle.om_lexer.proofs.Longest.{length_slice}
@@ -41,8 +41,11 @@ no_stands_past source context from to (pieces.Token kind) past s =
     omega (arith, some, long, past))
     (λ t. omega (arith, past_end source from past, t.2.0))
     s.1
-no_stands_past source context from to (pieces.HashLine line) past s = omega (arith, past_end source from past,
-    line_hash source context.macros from to line s.1)
+no_stands_past source context from to (pieces.HashLine line) past s = omega (
+  arith,
+  past_end source from past,
+  line_hash source context.macros from to line s.1,
+)
 no_stands_past source context from to pieces.Passed past s = omega (arith, s.1.inside, past)
 
 no_piece_past : (source : List ℕ) (context : Context) (from : ℕ) (p : Piece) → length source ≤ from
@@ -151,18 +154,21 @@ compare source context from (p ∷ ps) [] a b x y =
 compare source context from (p ∷ ps) (q ∷ qs) a b x y =
     let same = piece_one source context from p q x.0 y.0 in
     let there : Decomposes source (context_behind source context p) p.end qs b = subst
-        (λ r. Decomposes source (context_behind source context r) r.end qs b) (sym same) y.1 in
+    (λ r. Decomposes source (context_behind source context r) r.end qs b) (sym same) y.1 in
     ⊎_elim
     (λ goes. inl (goes_on_cons source context p q ps a qs b (sym same) goes))
     (λ goes. inr (goes_on_cons source context q p qs b ps a same
-        (subst (λ r. GoesOn source (context_behind source context r) qs b ps a) same goes)))
+    (subst (λ r. GoesOn source (context_behind source context r) qs b ps a) same goes)))
     (compare source (context_behind source context p) p.end ps qs a b x.1 there)
 
 decomposes_rises : (source : List ℕ) (context : Context) (from to : ℕ) (ps : List Piece) → Decomposes source context
     from ps to → from ≤ to
 decomposes_rises source context from to [] x = omega (arith, x)
-decomposes_rises source context from to (p ∷ ps) x = omega (arith, piece_moves source context from p x.0,
-    decomposes_rises source (context_behind source context p) p.end to ps x.1)
+decomposes_rises source context from to (p ∷ ps) x = omega (
+  arith,
+  piece_moves source context from p x.0,
+  decomposes_rises source (context_behind source context p) p.end to ps x.1,
+)
 
 -- no piece stands behind a reading
 Stops : List ℕ → List Piece → ℕ → Type 0
@@ -202,16 +208,16 @@ pub one_token_list : (source : List ℕ) (ts us : List Token) → IsTokens sourc
 unfolding Stops
 one_token_list source ts us x y =
     let ends : (ps : List Piece) (p : Piece) → IsPiece source (context_behind_all source at_first ps)
-        (length source) p → ⊥ = λ ps p. no_piece_past source (context_behind_all source at_first ps) (length source)
-        p (omega arith) in
+    (length source) p → ⊥ = λ ps p. no_piece_past source (context_behind_all source at_first ps) (length source)
+    p (omega arith) in
     let same = stops_at_one source x.pieces y.pieces (length source) (length source) x.whole y.whole (ends x.pieces)
-        (ends y.pieces) in
+    (ends y.pieces) in
     x.tokens_are ∙ ap (all_tokens source) same.0 ∙ sym y.tokens_are
 
 -- the two kinds of fault
 fault_cases : (source : List ℕ) (code : FaultCode) (at : ℕ) → IsFault source code at
     → ((code ≡ codes.SourceTooLong) × (at ≡ source_limit) × IsTooLong source)
-        ⊎ ((at < source_limit) × GoesWrong source code at)
+    ⊎ ((at < source_limit) × GoesWrong source code at)
 fault_cases source codes.SourceTooLong at fault = inl (refl, fault.0, fault.1)
 fault_cases source codes.Memory at fault = inr fault
 fault_cases source codes.BadToken at fault = inr fault
@@ -243,24 +249,28 @@ tokens_no_fault source ts code at tokens fault =
     (λ long. omega (arith, tokens.within, long.2.above))
     (λ wrong.
     let past = stops_last source wrong.1.pieces tokens.pieces at (length source) wrong.1.before tokens.whole
-        (stops_wrong source code at wrong.1) in
+    (stops_wrong source code at wrong.1) in
     omega (arith, past, wrong_inside source (context_behind_all source at_first wrong.1.pieces) at code wrong.1.wrong))
     (fault_cases source code at fault)
 
 wrong_not_long : (source : List ℕ) (code : FaultCode) (at : ℕ) → at < source_limit → GoesWrong source code at
     → IsTooLong source → ⊥
 wrong_not_long source code at below wrong long =
-    omega (arith, long.past, stops_last source wrong.pieces long.pieces at long.reached wrong.before long.before
-        (stops_wrong source code at wrong))
+    omega (
+      arith,
+      long.past,
+      stops_last source wrong.pieces long.pieces at long.reached wrong.before long.before
+          (stops_wrong source code at wrong),
+    )
 
 wrong_place_one : (source : List ℕ) (c d : FaultCode) (a b : ℕ) → GoesWrong source c a → GoesWrong source d b
     → (c ≡ d) × (a ≡ b)
 wrong_place_one source c d a b x y =
     let same = stops_at_one source x.pieces y.pieces a b x.before y.before (stops_wrong source c a x)
-        (stops_wrong source d b y) in
+    (stops_wrong source d b y) in
     let there : IsWrong source (context_behind_all source at_first x.pieces) a d =
     subst (λ ps. IsWrong source (context_behind_all source at_first ps) a d) (sym same.0)
-        (subst (λ n. IsWrong source (context_behind_all source at_first y.pieces) n d) (sym same.1) y.wrong) in
+    (subst (λ n. IsWrong source (context_behind_all source at_first y.pieces) n d) (sym same.1) y.wrong) in
     (wrong_one source (context_behind_all source at_first x.pieces) a c d x.wrong there, same.1)
 
 pub one_fault : (source : List ℕ) (c d : FaultCode) (a b : ℕ) → IsFault source c a → IsFault source d b → (c ≡ d)
@@ -268,7 +278,7 @@ pub one_fault : (source : List ℕ) (c d : FaultCode) (a b : ℕ) → IsFault so
 one_fault source c d a b x y =
     ⊎_elim
     (λ long. ⊎_elim (λ also. (long.0 ∙ sym also.0, long.1 ∙ sym also.1))
-        (λ wrong. absurd (wrong_not_long source d b wrong.0 wrong.1 long.2)) (fault_cases source d b y))
+    (λ wrong. absurd (wrong_not_long source d b wrong.0 wrong.1 long.2)) (fault_cases source d b y))
     (λ wrong. ⊎_elim (λ long. absurd (wrong_not_long source c a wrong.0 wrong.1 long.2))
-        (λ also. wrong_place_one source c d a b wrong.1 also.1) (fault_cases source d b y))
+    (λ also. wrong_place_one source c d a b wrong.1 also.1) (fault_cases source d b y))
     (fault_cases source c a x)

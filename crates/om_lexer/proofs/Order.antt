@@ -1,6 +1,7 @@
 -- The tokens of a source stand in order, and its directives are whole.
-use Rattle.std.proofs.Common.{◌≡◌, ◌≢◌, ℕ, ◌+◌, ◌<◌, ◌≤◌, ◌⊎◌, Bool, true, false, List, [], ◌∷◌, ◌++◌, Option, None,
-    Some, length, arith, refl, sym, ap, subst, ◌∙◌, inl, inr, append_assoc, slice_range, codes}
+use Rattle.std.proofs.Common.{◌≡◌, ◌≢◌, ℕ, ◌+◌, ◌<◌, ◌≤◌, ◌⊎◌, Bool, true, false, List, [], ◌∷◌, ◌++◌, Option, None}
+use Rattle.std.proofs.Common.{Some, length, arith, refl, sym, ap, subst, ◌∙◌, inl, inr, append_assoc, slice_range}
+use Rattle.std.proofs.Common.{codes}
 use Rattle.om_lexer.specs.declared.token.Span.{Span}
 use Rattle.om_lexer.specs.declared.token.Token.{Token}
 use Rattle.om_lexer.specs.declared.token.TokenKind.{TokenKind}
@@ -16,8 +17,8 @@ use Rattle.om_lexer.specs.Folding.{directive_end, tokens_in, tokens_of, directiv
 use Rattle.om_lexer.specs.HashLines.{IsDirective}
 use Rattle.om_lexer.specs.Macros.{MacroList, number_of_macro, constant_or, replaced}
 use Rattle.om_lexer.specs.Order.{StandsAs, HasWidth, IsInPlace, AreInOrder, GoesOn, AreWhole, StandsBefore, IsDefinable}
-use Rattle.om_lexer.specs.Pieces.{Context, context_of, context_behind, context_behind_all, Stands, Decomposes,
-    span_of, state_behind, at_first}
+use Rattle.om_lexer.specs.Pieces.{Context, context_of, context_behind, context_behind_all, Stands, Decomposes, span_of}
+use Rattle.om_lexer.specs.Pieces.{state_behind, at_first}
 use Rattle.om_lexer.specs.Sources.{IsTokens, end_token}
 use Rattle.om_lexer.specs.Spellings.{keyword_text}
 use Rattle.om_lexer.specs.Tokens.{IsToken, Spells}
@@ -84,9 +85,10 @@ plain_first : (source : List ℕ) (inside : Bool) (at from to : ℕ) (k : TokenK
     → from < to → Plain source from to k
     → Follow source inside to ts → Follow source inside at (record { kind = k; span = span_of source from to } ∷ ts)
 unfolding Follow AreInOrder AreWhole Plain
-plain_first source inside at from to k ts low wide plain rest =
-    ((low, record { stands = plain.1; width = plain_width k from to plain.0 wide; line = refl }, rest.0),
-        plain_goes inside k (ts ≡ []) (λ b. AreWhole b ts) plain.0 rest.1)
+plain_first source inside at from to k ts low wide plain rest = (
+  (low, record { stands = plain.1; width = plain_width k from to plain.0 wide; line = refl }, rest.0),
+  plain_goes inside k (ts ≡ []) (λ b. AreWhole b ts) plain.0 rest.1,
+)
 
 -- the end of a directive and the tokens behind it
 end_first : (source : List ℕ) (at end : ℕ) (last : Span) (ts : List Token) → last ≡ span_of source end end → at ≤ end
@@ -110,15 +112,15 @@ begin_first source at from pragma omp to ts low x rest =
     let places = directive_words source from pragma omp to x in
     let head = hash_word_bound source from pragma x.pragma_end (codes "pragma") x.begins in
     let pragma_is : codes "pragma" ≡ slice_range source pragma (pragma + 6) = x.begins.is_word.text_is
-        ∙ ap (slice_range source pragma) head.1 in
+    ∙ ap (slice_range source pragma) head.1 in
     let omp_is : codes "omp" ≡ slice_range source omp (omp + 3) = x.is_omp.text_is ∙ ap (slice_range source omp)
-        places.2 in
+    places.2 in
     let behind : Follow source true (omp + 3) ts = subst (λ n. Follow source true n ts) places.2 rest in
     let omp_first = plain_first source true (pragma + 6) omp (omp + 3) (kinds.Name (codes "omp")) ts places.1
-        (omega arith) (refl, omp_is) behind in
+    (omega arith) (refl, omp_is) behind in
     let omp_token : Token = record { kind = kinds.Name (codes "omp"); span = span_of source omp (omp + 3) } in
     let words = plain_first source true (from + 1) pragma (pragma + 6) (kinds.Name (codes "pragma"))
-        (omp_token ∷ ts) (omega (arith, places.0)) (omega arith) (refl, pragma_is) omp_first in
+    (omp_token ∷ ts) (omega (arith, places.0)) (omega arith) (refl, pragma_is) omp_first in
     ((low, record { stands = (x.begins.hash, refl); width = omega arith; line = refl }, words.0), (refl, words.1))
 
 -- ---- pieces
@@ -134,8 +136,12 @@ IsOpen source _ at from = at ≤ from
 
 open_later : (source : List ℕ) (state : LineState) (at from to : ℕ) → from ≤ to → IsOpen source state at from
     → IsOpen source state at to
-open_later source (states.Directive last) at from to later is_open = (is_open.0, is_open.1, is_open.2,
-    omega (arith, is_open.3))
+open_later source (states.Directive last) at from to later is_open = (
+  is_open.0,
+  is_open.1,
+  is_open.2,
+  omega (arith, is_open.3),
+)
 open_later source states.Fresh at from to later is_open = omega (arith, is_open)
 open_later source states.Taken at from to later is_open = omega (arith, is_open)
 open_later source (states.Defining name) at from to later is_open = omega (arith, is_open)
@@ -210,8 +216,8 @@ ends_follow source states.Ignored at is_open = end_last source at is_open
 pieces_follow : (source : List ℕ) (context : Context) (from at : ℕ) (ps : List Piece) → Decomposes source context
     from ps (length source) → IsOpen source context.state at from
     → Follow source (in_directive context.state) at
-        ((tokens_of source context from ps ++ directive_end (context_behind_all source context ps).state)
-        ++ end_token source ∷ [])
+    ((tokens_of source context from ps ++ directive_end (context_behind_all source context ps).state)
+    ++ end_token source ∷ [])
 unfolding Stays Rest
 pieces_follow source context from at [] whole is_open = ends_follow source context.state at
     (subst (λ n. IsOpen source context.state at n) whole is_open)
@@ -220,11 +226,11 @@ pieces_follow source context from at (p ∷ ps) whole is_open =
     let tokens = tokens_of source next p.end ps in
     let ends = directive_end (context_behind_all source next ps).state in
     let there = piece_follows source context.macros at from p.end ((tokens ++ ends) ++ end_token source ∷ [])
-        (piece_moves source context from p whole.0) context.state p.kind is_open whole.0.stands
+    (piece_moves source context from p whole.0) context.state p.kind is_open whole.0.stands
     (λ later is_later. pieces_follow source next p.end later ps whole.1 is_later) in
     let regroup = ap (λ (ts : List Token). ts ++ end_token source ∷ [])
-        (append_assoc (tokens_in source context from p.end p.kind) tokens ends)
-        ∙ append_assoc (tokens_in source context from p.end p.kind) (tokens ++ ends) (end_token source ∷ []) in
+    (append_assoc (tokens_in source context from p.end p.kind) tokens ends)
+    ∙ append_assoc (tokens_in source context from p.end p.kind) (tokens ++ ends) (end_token source ∷ []) in
     subst (λ (ts : List Token). Follow source (in_directive context.state) at ts) (sym regroup) there
 
 -- ---- the laws
@@ -289,9 +295,9 @@ unfolding AreWhole
 end_is_last inside [] t back x is = goes_last inside t.kind (back ≡ []) (λ now. AreWhole now back) is x
 end_is_last inside (s ∷ front) t back x is = elim (goes_on inside s.kind (front ++ t ∷ back ≡ [])
     (λ now. AreWhole now (front ++ t ∷ back)) x) [
-  | inl none ↦ absurd (more_left front t back none.1)
-  | inr more ↦ end_is_last more.0 front t back more.1 is
-]
+      | inl none ↦ absurd (more_left front t back none.1)
+      | inr more ↦ end_is_last more.0 front t back more.1 is
+    ]
 
 pub ends_last : (source : List ℕ) (front : List Token) (t : Token) (back : List Token) → IsTokens source
     (front ++ t ∷ back) → t.kind ≡ kinds.End → back ≡ []
@@ -301,15 +307,15 @@ pub apart : (source : List ℕ) (ts : List Token) (t u : Token) → IsTokens sou
     → t.span.end ≤ u.span.start
 apart source ts t u x before =
     let first = behind source 0 before.front t (before.between ++ u ∷ before.back)
-        (subst (AreInOrder source 0) before.parts (in_order source ts x)) in
+    (subst (AreInOrder source 0) before.parts (in_order source ts x)) in
     (behind source t.span.end before.between u before.back first.2).0
 
 pub starts_rise : (source : List ℕ) (ts : List Token) (t u : Token) → IsTokens source ts → StandsBefore ts t u
     → t.kind ≢ kinds.DirectiveEnd → t.span.start < u.span.start
 starts_rise source ts t u x before no_end =
     let first = behind source 0 before.front t (before.between ++ u ∷ before.back)
-        (subst (AreInOrder source 0) before.parts (in_order source ts x)) in
+    (subst (AreInOrder source 0) before.parts (in_order source ts x)) in
     let no_last : t.kind ≢ kinds.End = λ is. more_left before.between u before.back
-        (ends_last source before.front t (before.between ++ u ∷ before.back) (subst (IsTokens source) before.parts
-        x) is) in
+    (ends_last source before.front t (before.between ++ u ∷ before.back) (subst (IsTokens source) before.parts
+    x) is) in
     omega (arith, width_rises t.kind t.span.start t.span.end no_end no_last first.1.width, apart source ts t u x before)

@@ -1,7 +1,7 @@
 -- How far a source has been read.
-use Rattle.std.proofs.Common.{◌≡◌, ◌==◌, ℕ, ◌+◌, ◌-◌, ◌<◌, ◌≤◌, cond, List, [], ◌∷◌, ◌++◌, length, take, drop,
-    count_by, arith, refl, sym, ap, subst, ◌∙◌, ⊎_elim, inl, inr, append-nil, append_assoc, take-append-drop,
-    slice_range}
+use Rattle.std.proofs.Common.{◌≡◌, ◌==◌, ℕ, ◌+◌, ◌-◌, ◌<◌, ◌≤◌, cond, List, [], ◌∷◌, ◌++◌, length, take, drop, count_by}
+use Rattle.std.proofs.Common.{arith, refl, sym, ap, subst, ◌∙◌, ⊎_elim, inl, inr, append-nil, append_assoc}
+use Rattle.std.proofs.Common.{take-append-drop, slice_range}
 use Rattle.std.proofs.lemmas.List.{take-take, drop-take}
 use Rattle.std.proofs.lemmas.List.Sums.{sum_by-append, count_by-le-length}
 use Rattle.std.proofs.lemmas.Bool.{cases_lt}
@@ -21,11 +21,11 @@ use Rattle.om_lexer.specs.declared.state.LineState.TheVariants as states
 use Rattle.om_lexer.specs.Tokens.{IsToken}
 use Rattle.om_lexer.specs.Macros.{MacroList}
 use Rattle.om_lexer.specs.HashLines.{IsHashLine}
-use Rattle.om_lexer.specs.Pieces.{Context, context_of, IsPiece, Stands, Decomposes, span_of, line_at, state_behind,
-    macros_behind, context_behind, context_behind_all, at_first}
+use Rattle.om_lexer.specs.Pieces.{Context, context_of, IsPiece, Stands, Decomposes, span_of, line_at, state_behind}
+use Rattle.om_lexer.specs.Pieces.{macros_behind, context_behind, context_behind_all, at_first}
 use Rattle.om_lexer.specs.Folding.{directive_end, tokens_in, tokens_of, HasWords, HasWordsInside}
-use Rattle.om_lexer.specs.Sources.{source_limit, IsTokens, IsWrong, IsWrongAt, GoesWrong, IsFault, IsRefusal,
-    IsTooLong, end_token}
+use Rattle.om_lexer.specs.Sources.{source_limit, IsTokens, IsWrong, IsWrongAt, GoesWrong, IsFault, IsRefusal, IsTooLong}
+use Rattle.om_lexer.specs.Sources.{end_token}
 use Rattle.om_lexer.proofs.Beginnings.{could_be_some}
 use Rattle.om_lexer.proofs.Gaps.{white_moves, white_inside}
 use Rattle.om_lexer.proofs.Quotes.{text_bound}
@@ -47,8 +47,11 @@ token_bound source from to kind token =
 stands_bound : (source : List ℕ) (context : Context) (from to : ℕ) (kind : PieceKind) → from < length source
     → Stands source context from to kind → (from < to) × (to ≤ length source)
 stands_bound source context from to pieces.LineFeed inside s = (omega (arith, s.1), omega (arith, s.1))
-stands_bound source context from to pieces.Space inside s = (white_moves source from to s, white_inside source from
-    to inside s)
+stands_bound source context from to pieces.Space inside s = (
+  white_moves source from to s,
+  white_inside source from
+      to inside s,
+)
 stands_bound source context from to (pieces.Token kind) inside s = token_bound source from to kind s.1
 stands_bound source context from to (pieces.HashLine line) inside s = line_bound source context.macros from to line s.1
 stands_bound source context from to pieces.Passed inside s = (omega (arith, s.1.end), omega (arith, s.1.end))
@@ -93,22 +96,25 @@ piece_words source context from piece p = stands_words source context from piece
 pub decomposes_more : (source : List ℕ) (context : Context) (from at : ℕ) (ps : List Piece) (p : Piece)
     → Decomposes source context from ps at → IsPiece source (context_behind_all source context ps) at p
     → Decomposes source context from (ps ++ p ∷ []) p.end
-decomposes_more source context from at [] p before is_piece = (subst (λ n. IsPiece source context n p) (sym before)
-    is_piece, refl)
+decomposes_more source context from at [] p before is_piece = (
+  subst (λ n. IsPiece source context n p) (sym before)
+      is_piece,
+  refl,
+)
 decomposes_more source context from at (q ∷ ps) p before is_piece =
     (before.0, decomposes_more source (context_behind source context q) q.end at ps p before.1 is_piece)
 
 tokens_more : (source : List ℕ) (context : Context) (from at : ℕ) (ps : List Piece) (p : Piece) → Decomposes source
     context from ps at
     → tokens_of source context from (ps ++ p ∷ []) ≡ tokens_of source context from ps ++ tokens_in source
-        (context_behind_all source context ps) at p.end p.kind
+    (context_behind_all source context ps) at p.end p.kind
 tokens_more source context from at [] p before = append-nil _ ∙ ap (λ n. tokens_in source context n p.end p.kind) before
 tokens_more source context from at (q ∷ ps) p before =
     ap (λ ts. tokens_in source context from q.end q.kind ++ ts)
-        (tokens_more source (context_behind source context q) q.end at ps p before.1)
+    (tokens_more source (context_behind source context q) q.end at ps p before.1)
     ∙ sym (append_assoc (tokens_in source context from q.end q.kind)
-        (tokens_of source (context_behind source context q) q.end ps)
-        (tokens_in source (context_behind_all source (context_behind source context q) ps) at p.end p.kind))
+    (tokens_of source (context_behind source context q) q.end ps)
+    (tokens_in source (context_behind_all source (context_behind source context q) ps) at p.end p.kind))
 
 context_more : (source : List ℕ) (context : Context) (ps : List Piece) (p : Piece) → context_behind_all source
     context (ps ++ p ∷ []) ≡ context_behind source (context_behind_all source context ps) p
@@ -184,7 +190,7 @@ pub all_read : (source : List ℕ) (tokens tokens' : List Token) (line : ℕ) (s
     → length source ≤ source_limit → IsReadTo source tokens (length source) line state macros
     → tokens' ≡ tokens ++ directive_end state
     → IsTokens source (tokens'
-        ++ record { kind = kinds.End; span = record { start = length source; end = length source; line = line } } ∷ [])
+    ++ record { kind = kinds.End; span = record { start = length source; end = length source; line = line } } ∷ [])
 all_read source tokens tokens' line state macros within read ended = record {
   within = within;
   pieces = read.pieces;
@@ -193,7 +199,7 @@ all_read source tokens tokens' line state macros within read ended = record {
       ++ record { kind = kinds.End; span = record { start = length source; end = length source; line = n } } ∷ [])
       read.line_is
       ∙ ap (λ ts. ts ++ end_token source ∷ []) (ended ∙ ap (λ ts. ts ++ directive_end state) read.tokens_are
-          ∙ ap (λ c. tokens_of source at_first 0 read.pieces ++ directive_end c.state) read.context_is);
+      ∙ ap (λ c. tokens_of source at_first 0 read.pieces ++ directive_end c.state) read.context_is);
 }
 
 -- past the limit

@@ -1,6 +1,6 @@
 -- Text literals: their characters are read one way.
-use Rattle.std.proofs.Common.{◌≡◌, ℕ, ◌+◌, ◌<◌, ◌≤◌, List, [], ◌∷◌, ◌++◌, None, Some, length, arith, refl, sym, ap,
-    subst, ◌∙◌, ⊎_elim, append-nil, append_assoc, slice_index}
+use Rattle.std.proofs.Common.{◌≡◌, ℕ, ◌+◌, ◌<◌, ◌≤◌, List, [], ◌∷◌, ◌++◌, None, Some, length, arith, refl, sym, ap}
+use Rattle.std.proofs.Common.{subst, ◌∙◌, ⊎_elim, append-nil, append_assoc, slice_index}
 use Rattle.std.proofs.lemmas.Bool.{cases_lt}
 use Rattle.om_lexer.specs.Texts.{escaped, IsCharacter, Characters, IsText}
 use Rattle.om_lexer.proofs.Gaps.{byte_inside}
@@ -10,7 +10,7 @@ pub escaped_letter : (letter c : ℕ) → escaped letter ≡ Some c → 0 < lett
 unfolding escaped
 escaped_letter letter c found =
     ⊎_elim (λ positive. positive) (λ none. let zero : letter ≡ 0 = omega (arith, none) in absurd
-        (let both : None ≡ Some c = sym (ap escaped zero) ∙ found in cc)) (cases_lt 0 letter)
+    (let both : None ≡ Some c = sym (ap escaped zero) ∙ found in cc)) (cases_lt 0 letter)
 
 module _ (source : List ℕ) (from : ℕ) where
   pub quote_no_character : (c to : ℕ) → slice_index source from ≡ 34 → IsCharacter source from c to → ⊥
@@ -22,7 +22,7 @@ module _ (source : List ℕ) (from : ℕ) where
       ⊎_elim
       (λ e. ⊎_elim (λ f. (sym e.1 ∙ f.1, e.3 ∙ sym f.3)) (λ f. absurd (e.2.2 (sym e.1 ∙ f.0))) y)
       (λ e. ⊎_elim (λ f. absurd (f.2.2 (sym f.1 ∙ e.0))) (λ f. let found : Some c ≡ Some d = sym e.1
-          ∙ f.1 in (cc, e.2 ∙ sym f.2)) y)
+      ∙ f.1 in (cc, e.2 ∙ sym f.2)) y)
       x
 
   character_moves : (c to : ℕ) → IsCharacter source from c to → from < to

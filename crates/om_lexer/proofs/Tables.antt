@@ -1,6 +1,6 @@
 -- The tables of keywords and punctuators have each of them.
-use Rattle.std.proofs.Common.{◌≡◌, ℕ, ◌<◌, ◌≤◌, Bool, true, cond, ltb, eqb, List, [], ◌∷◌, length, get_or, arith,
-    lit<, refl, sym, ap, ◌∙◌}
+use Rattle.std.proofs.Common.{◌≡◌, ℕ, ◌<◌, ◌≤◌, Bool, true, cond, ltb, eqb, List, [], ◌∷◌, length, get_or, arith, lit<}
+use Rattle.std.proofs.Common.{refl, sym, ap, ◌∙◌}
 use Rattle.std.proofs.lemmas.Bool.{agree_below, agree_below_at, eqb-true}
 use Rattle.std.proofs.lemmas.Bool.Decides.{nat_tests}
 use Rattle.om_lexer.specs.declared.token.Keyword.{Keyword}
@@ -220,11 +220,11 @@ pub keywords_pass : (test : Keyword → Bool) → agree_below (λ n. test (keywo
 keywords_pass test checked k =
     let stands = keyword_stands k in
     ap test (sym stands.there) ∙ agree_below_at (λ n. test (keyword_at n)) (λ n. true) 44 stands.index checked
-        stands.inside
+    stands.inside
 
 pub punctuators_pass : (test : Punctuator → Bool) → agree_below (λ n. test (punctuator_at n)) (λ n. true) 32 ≡ true
     → (p : Punctuator) → test p ≡ true
 punctuators_pass test checked p =
     let stands = punctuator_stands p in
     ap test (sym stands.there) ∙ agree_below_at (λ n. test (punctuator_at n)) (λ n. true) 32 stands.index checked
-        stands.inside
+    stands.inside

@@ -1,6 +1,6 @@
 -- What a word spells.
-use Rattle.std.proofs.Common.{◌≡◌, ℕ, ◌<◌, true, false, cond, eqb, List, [], ◌∷◌, length, drop, nat_eq, codes,
-    arith, refl, sym, ap, subst, ◌∙◌, ⊎_elim, slice_index}
+use Rattle.std.proofs.Common.{◌≡◌, ℕ, ◌<◌, true, false, cond, eqb, List, [], ◌∷◌, length, drop, nat_eq, codes, arith}
+use Rattle.std.proofs.Common.{refl, sym, ap, subst, ◌∙◌, ⊎_elim, slice_index}
 use Rattle.std.proofs.lemmas.Bool.{both_ways, cases_Bool, and_parts, eqb-true, cond-false}
 use Rattle.std.proofs.lemmas.Bool.Decides.{nat_tests}
 use Rattle.std.specs.List.{starts_with}
@@ -38,10 +38,10 @@ constant_first text value constant =
     (λ no_octal.
     let digits : digits_of text ≡ text = cond-false hexadecimal (drop 2 text) text no_hexadecimal in
     let base : base_of text ≡ 10 = cond-false hexadecimal 16 (cond octal 8 10) no_hexadecimal ∙ cond-false octal 8
-        10 no_octal in
+    10 no_octal in
     let small = constant.digits 0 0 constant.has_digits in
     decimal_digit (slice_index text 0) (subst (λ n. digit_value (slice_index text 0) < n) base
-        (subst (λ t. digit_value (slice_index t 0) < base_of text) digits small)))
+    (subst (λ t. digit_value (slice_index t 0) < base_of text) digits small)))
     (cases_Bool octal))
     (cases_Bool hexadecimal)
 

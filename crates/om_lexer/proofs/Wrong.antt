@@ -1,6 +1,6 @@
 -- Where no token stands, and where nothing begins.
-use Rattle.std.proofs.Common.{◌≡◌, ℕ, ◌+◌, ◌<◌, ◌≤◌, ◌⊎◌, true, false, List, length, arith, ap, subst, ◌∙◌, ⊎_elim,
-    inl, inr, slice_index, slice_range, nat_eq, drop}
+use Rattle.std.proofs.Common.{◌≡◌, ℕ, ◌+◌, ◌<◌, ◌≤◌, ◌⊎◌, true, false, List, length, arith, ap, subst, ◌∙◌, ⊎_elim, inl}
+use Rattle.std.proofs.Common.{inr, slice_index, slice_range, nat_eq, drop}
 use Rattle.std.proofs.lemmas.Bool.{both_ways}
 use Rattle.std.specs.List.{starts_with}
 use Rattle.om_lexer.specs.declared.fault.FaultCode.{FaultCode}
@@ -18,8 +18,8 @@ use Rattle.om_lexer.specs.Tokens.{IsLongest, IsWrongText, IsNoToken}
 use Rattle.om_lexer.specs.HashLines.{IsWrongHashLine}
 use Rattle.om_lexer.specs.Pieces.{Context, is_ignored, Stands}
 use Rattle.om_lexer.specs.Sources.{IsBadToken, IsWrong, IsWrongAt, BeginsHashLine}
-use Rattle.om_lexer.proofs.Beginnings.{token_apart, word_apart, could_be_some, first_of_slice,
-    punctuator_from_first, punctuator_long}
+use Rattle.om_lexer.proofs.Beginnings.{token_apart, word_apart, could_be_some, first_of_slice, punctuator_from_first}
+use Rattle.om_lexer.proofs.Beginnings.{punctuator_long}
 use Rattle.om_lexer.proofs.Longest.{longest_one, starts_to}
 use Rattle.om_lexer.proofs.HashLines.{line_hash}
 
@@ -31,7 +31,7 @@ bad_word : (source : List ℕ) (at to : ℕ) → is_word_byte (slice_index sourc
 bad_word source at to word longest wrong =
     let there : (other : ℕ) → IsLongest source at other → IsWrongText (slice_range source at other) codes.BadToken =
     λ other also. subst (λ n. IsWrongText (slice_range source at n) codes.BadToken)
-        (longest_one source at to other longest also) wrong in (
+    (longest_one source at to other longest also) wrong in (
       (λ other kind token. ⊎_elim (λ e. (there other e.longest).0 kind e.spelled) (λ t. (word_apart _ word).no_quote
           t.2.0) token),
       (λ large. (there large.to large.longest).1 large.value large.spelled),
@@ -40,8 +40,14 @@ bad_word source at to word longest wrong =
 wrong_code : (source : List ℕ) (at to : ℕ) → is_word_byte (slice_index source at) ≡ true → IsLongest source at to
     → (code : FaultCode) → IsWrongText (slice_range source at to) code → IsNoToken source at code
 wrong_code source at to word longest codes.BadToken wrong = bad_word source at to word longest wrong
-wrong_code source at to word longest codes.ConstantTooLarge wrong = record { to = to; value = wrong.0; longest =
-    longest; spelled = wrong.1; large = wrong.2 }
+wrong_code source at to word longest codes.ConstantTooLarge wrong = record {
+  to = to;
+  value = wrong.0;
+  longest =
+      longest;
+  spelled = wrong.1;
+  large = wrong.2;
+}
 wrong_code source at to word longest codes.Memory wrong = absurd wrong
 wrong_code source at to word longest codes.SourceTooLong wrong = absurd wrong
 wrong_code source at to word longest codes.Syntax wrong = absurd wrong
@@ -62,10 +68,13 @@ wrong_code source at to word longest codes.TooDeep wrong = absurd wrong
 pub wrong_word : (source : List ℕ) (at to : ℕ) → is_word_byte (slice_index source at) ≡ true → IsLongest source at
     to → (fault : SourceFault)
     → (fault ≡ no_memory) ⊎ ((fault.at ≡ at) × IsWrongText (slice_range source at to) fault.code)
-        → (fault ≡ no_memory) ⊎ ((fault.at ≡ at) × IsNoToken source at fault.code)
+    → (fault ≡ no_memory) ⊎ ((fault.at ≡ at) × IsNoToken source at fault.code)
 wrong_word source at to word longest fault (inl memory) = inl memory
-wrong_word source at to word longest fault (inr wrong) = inr (wrong.0, wrong_code source at to word longest
-    fault.code wrong.1)
+wrong_word source at to word longest fault (inr wrong) = inr (
+  wrong.0,
+  wrong_code source at to word longest
+      fault.code wrong.1,
+)
 
 -- where no word, no text and no punctuator begins
 pub stray_byte : (source : List ℕ) (at : ℕ) → is_word_byte (slice_index source at) ≡ false
@@ -77,7 +86,7 @@ stray_byte source at no_word no_quote no_punctuator =
     let first = first_of_slice source at to (could_be_some _ longest.could_be) in
     let q = punctuator_from_first _ longest.could_be (ap is_word_byte first ∙ no_word) in
     both_ways _ (no_punctuator q.0) (starts_to source (punctuator_text q.0) at to longest.inside q.1
-        (punctuator_long q.0)).0 in (
+    (punctuator_long q.0)).0 in (
       (λ to kind token. ⊎_elim (λ e. none to e.longest) (λ t. no_quote t.2.0) token),
       (λ large. none large.to large.longest),
     )
@@ -87,7 +96,7 @@ pub bad_text : (source : List ℕ) (at : ℕ) → slice_index source at ≡ 34
     → ((all : List ℕ) (to : ℕ) → Characters source (at + 1) all to → ⊥) → IsNoToken source at codes.BadToken
 bad_text source at quote no_text =
     let none : (to : ℕ) → IsLongest source at to → ⊥ = λ to longest.
-        (token_apart source at to longest.could_be).no_quote quote in (
+    (token_apart source at to longest.could_be).no_quote quote in (
       (λ to kind token. ⊎_elim (λ e. none to e.longest) (λ t. no_text t.0 to t.2.1) token),
       (λ large. none large.to large.longest),
     )
@@ -135,7 +144,7 @@ module _ (source : List ℕ) (context : Context) (at : ℕ) where
   pub no_token_at : at < length source → (slice_index source at ≡ 10 → ⊥) → ((to : ℕ) → IsWhiteSpace source at to
       → ⊥) → is_ignored context.state ≡ false → (BeginsHashLine source context at → ⊥)
       → (fault : SourceFault) → (fault ≡ no_memory) ⊎ ((fault.at ≡ at) × IsNoToken source at fault.code)
-          → IsWrongAt source context at fault
+      → IsWrongAt source context at fault
   no_token_at inside no_line_feed no_white heard no_hash_line fault (inl memory) = inl memory
   no_token_at inside no_line_feed no_white heard no_hash_line fault (inr none) =
       inr (none.0, no_token_code inside no_line_feed no_white heard no_hash_line fault.code none.1)
@@ -173,8 +182,12 @@ module _ (source : List ℕ) (context : Context) (at : ℕ) where
   endless_stands begins no_white to pieces.Space s = no_white to s
   endless_stands begins no_white to (pieces.Token kind) s = ⊎_elim (λ e. e.longest.no_comment begins)
       (λ t. omega (arith, begins.0, t.2.0)) s.1
-  endless_stands begins no_white to (pieces.HashLine line) s = omega (arith, begins.0, line_hash source
-      context.macros at to line s.1)
+  endless_stands begins no_white to (pieces.HashLine line) s = omega (
+    arith,
+    begins.0,
+    line_hash source
+        context.macros at to line s.1,
+  )
   endless_stands begins no_white to pieces.Passed s = s.1.no_comment begins
 
   pub endless_comment : at < length source → BeginsComment source at → ((to : ℕ) → IsWhiteSpace source at to → ⊥)

@@ -59,7 +59,7 @@ abbrev pub tokens_of : List ℕ → Context → ℕ → List Piece → List Toke
 tokens_of source context from [] = []
 tokens_of source context from (piece ∷ rest) =
     tokens_in source context from piece.end piece.kind ++ tokens_of source (context_behind source context piece)
-        piece.end rest
+    piece.end rest
 
 -- the words of a directive stand between the ends of its beginning
 abbrev pub HasWords : HashLine → ℕ → ℕ → Type 0

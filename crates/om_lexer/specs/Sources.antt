@@ -9,8 +9,8 @@ use Rattle.om_lexer.specs.declared.fault.SourceFault.{SourceFault}
 use Rattle.om_lexer.specs.Faults.{no_memory}
 use Rattle.om_lexer.specs.Tokens.{IsTooLarge}
 use Rattle.om_lexer.specs.HashLines.{IsWrongHashLine}
-use Rattle.om_lexer.specs.Pieces.{Context, at_first, is_fresh, is_ignored, IsPiece, Decomposes, context_behind_all,
-    span_of}
+use Rattle.om_lexer.specs.Pieces.{Context, at_first, is_fresh, is_ignored, IsPiece, Decomposes, context_behind_all}
+use Rattle.om_lexer.specs.Pieces.{span_of}
 use Rattle.om_lexer.specs.Folding.{tokens_of, directive_end}
 
 -- the bytes that a source may have
@@ -25,7 +25,7 @@ end_token source = record { kind = kinds.End; span = span_of source (length sour
 abbrev pub all_tokens : List ℕ → List Piece → List Token
 all_tokens source pieces =
     (tokens_of source at_first 0 pieces ++ directive_end (context_behind_all source at_first pieces).state)
-        ++ end_token source ∷ []
+    ++ end_token source ∷ []
 
 -- the source is within the limit, and these are its tokens
 pub record IsTokens (source : List ℕ) (tokens : List Token) : Type 0 where

@@ -1,6 +1,6 @@
 -- Text literals (C17 6.4.5), with the escapes \n, \t, \\ and \".
-use Rattle.std.specs.Prelude.{◌≡◌, ℕ, ◌+◌, ◌<◌, ◌⊎◌, ◌==◌, List, [], ◌∷◌, Option, None, Some, length, slice_index,
-    if◌then◌else◌}
+use Rattle.std.specs.Prelude.{◌≡◌, ℕ, ◌+◌, ◌<◌, ◌⊎◌, ◌==◌, List, [], ◌∷◌, Option, None, Some, length, slice_index}
+use Rattle.std.specs.Prelude.{if◌then◌else◌}
 
 -- an ASCII character that stands for itself: no quote, backslash or line feed
 abbrev pub IsPlain : ℕ → Type 0

@@ -16,12 +16,12 @@ use Rattle.om_code.specs.declared.raw.Slot.{Slot}
 use Rattle.om_code.specs.declared.serial.Touch.TheVariants.{Reads, Writes}
 use Rattle.om_code.specs.Arithmetic.{operate, operate_on_one}
 use Rattle.om_code.specs.Frames as frames
-use Rattle.om_code.specs.Frames.{FrameTurn, Faulted, act, acted, turned, decided, gives, loaded, stored, kept,
-    reads, writes, cells_in, index_in}
+use Rattle.om_code.specs.Frames.{FrameTurn, Faulted, act, acted, turned, decided, gives, loaded, stored, kept, reads}
+use Rattle.om_code.specs.Frames.{writes, cells_in, index_in}
 use Rattle.om_meaning.specs.Meaning.{load_element, store_element}
 use Rattle.om_meaning.specs.Running.{frame, with_int}
-use Rattle.om_meaning.specs.Worlds.{World, Outcome, Got, Faulty, with_held, result, load, store, found, put_into,
-    at_index, clear}
+use Rattle.om_meaning.specs.Worlds.{World, Outcome, Got, Faulty, with_held, result, load, store, found, put_into}
+use Rattle.om_meaning.specs.Worlds.{at_index, clear}
 
 -- a turn that pushes a value, or faults
 abbrev pub Pushed : FrameTurn → ℕ → List Operand → Outcome → Type 0
@@ -166,7 +166,7 @@ module _ (raw : Raw) (slots : List Slot) where
 
   pub store_element_keeps : (at : Place) (p : ℕ) (n v : ℤ) (s : List Operand) (w : World)
       → Pushed (turn_on (i.StoreElement at true) p (with_int v (with_int n s)) w) (p + 1) s
-          (store_element at (cells_in raw slots at) n v w)
+      (store_element at (cells_in raw slots at) n v w)
   store_element_keeps at p n v s w = at_place (index_in (cells_in raw slots at) n)
     where
       at_place : (o : Option ℕ) → Pushed (acted raw (frame p (with_int v (with_int n s)) w)
@@ -178,7 +178,7 @@ module _ (raw : Raw) (slots : List Slot) where
 
   pub store_element_drops : (at : Place) (p : ℕ) (n v : ℤ) (s : List Operand) (w : World)
       → Dropped (turn_on (i.StoreElement at false) p (with_int v (with_int n s)) w) (p + 1) s
-          (store_element at (cells_in raw slots at) n v w)
+      (store_element at (cells_in raw slots at) n v w)
   store_element_drops at p n v s w = at_place (index_in (cells_in raw slots at) n)
     where
       at_place : (o : Option ℕ) → Dropped (acted raw (frame p (with_int v (with_int n s)) w)

@@ -1,6 +1,6 @@
 -- A run and a meaning agree in both directions.
-use Rattle.std.proofs.Common.{◌≡◌, ℕ, zero, suc, ◌<◌, ◌≤◌, ℤ, Bool, true, false, List, [], ◌∷◌, Option, Some, None,
-    refl, sym, ◌∙◌, subst, ⊎_elim, arith}
+use Rattle.std.proofs.Common.{◌≡◌, ℕ, zero, suc, ◌<◌, ◌≤◌, ℤ, Bool, true, false, List, [], ◌∷◌, Option, Some, None}
+use Rattle.std.proofs.Common.{refl, sym, ◌∙◌, subst, ⊎_elim, arith}
 use Rattle.std.specs.Prelude.{All, IsSomeAnd, slice_get}
 use Rattle.std.specs.List.{flat_map}
 use Rattle.std.proofs.lemmas.Bool.{cases_lt}
@@ -72,8 +72,13 @@ module _ (raw : Raw) (body : Body) where
 
     comes_end : (c d : Frame) (end : Frame → FrameTurn) (w : World) → Comes raw body c d → Ends raw body d end w
         → Ends raw body c end w
-    comes_end c d end w l h = let a = l.by h.turns in record { turns = a.0; last = h.last; over = a.2
-        ∙ h.over; world = h.world }
+    comes_end c d end w l h = let a = l.by h.turns in record {
+      turns = a.0;
+      last = h.last;
+      over = a.2
+          ∙ h.over;
+      world = h.world;
+    }
 
     follows_from : (n m : ℕ) (c : Frame) (r : Flow)
         → ((u : World) → Ends raw body (frame m [] u) (ended is_main None) u) → Does raw body is_main n c m nowhere [] r
@@ -136,7 +141,7 @@ module _ (raw : Raw) (body : Body) where
 function_formats : (formats : List (List ℕ)) (fs : List ResolvedFunctionTree) (k : ℕ) (f : ResolvedFunctionTree)
     → slice_get fs k ≡ Some f
     → All (Found formats) (flat_map (function_mentioned format_mention) fs) → All (Found formats)
-        (function_mentioned format_mention f)
+    (function_mentioned format_mention f)
 function_formats formats [] k f e h = absurd cc
 function_formats formats (g ∷ fs) zero f e h =
     let same : g ≡ f = cc e in
@@ -144,19 +149,19 @@ function_formats formats (g ∷ fs) zero f e h =
     (front formats (function_mentioned format_mention g) (flat_map (function_mentioned format_mention) fs) h)
 function_formats formats (g ∷ fs) (suc k) f e h =
     function_formats formats fs k f e (back formats (function_mentioned format_mention g)
-        (flat_map (function_mentioned format_mention) fs) h)
+    (flat_map (function_mentioned format_mention) fs) h)
 
 body_behaves : (tree : ResolvedTree) (raw : Raw) (f : ResolvedFunctionTree) (n : Numbers) (body : Body)
     → IsCodeOf tree raw
     → IsBodyOf tree raw (record { function = f; tree = FunctionBody; outer = []; numbers = n }) body
-        → AreSpoken (formats_of tree) f.body
+    → AreSpoken (formats_of tree) f.body
     → Behaves raw body (is_main_function f) (source (layout_of raw body (function_variables f)) f.body)
 body_behaves tree raw f n body code is serial =
     let at : Site = site_of tree raw (record { function = f; tree = FunctionBody; outer = []; numbers = n }) body in
     let row = is.code in
     behaves raw body (is_main_function f) (source (layout_of raw body (function_variables f)) f.body)
     (λ k w. follows_from raw body (is_main_function f) k row.0 (frame 0 [] w)
-        (meanings (layout_of raw body (function_variables f)) f.body k w)
+    (meanings (layout_of raw body (function_variables f)) f.body k w)
     (λ u. closes raw body (is_main_function f) row.0 f.closing_line u row.2.0)
     (statements.statements_run raw body at refl code.texts f.body n k nowhere 0 row.0 [] w serial row.1))
 
@@ -164,14 +169,14 @@ body_behaves tree raw f n body code is serial =
 pub serial_meaning : FunctionBodies → FormatsAreNumbered → SerialMeaning
 serial_meaning bodies formats tree raw code k f e serial =
     let found = bodies tree raw code k f e in there (slice_get raw.bodies (called_body tree.functions k)) found.0
-        found.1
+    found.1
   where
     there : (o : Option Body) (n : Numbers)
         → IsSomeAnd o (IsBodyOf tree raw (record { function = f; tree = FunctionBody; outer = []; numbers = n }))
         → IsSomeAnd o (λ body. Behaves raw body (is_main_function f)
-            (source (layout_of raw body (function_variables f)) f.body))
+        (source (layout_of raw body (function_variables f)) f.body))
     there None n is = absurd is
     there (Some body) n is =
         body_behaves tree raw f n body code is
         (all_spoken (formats_of tree) f.body serial (function_formats (formats_of tree) tree.functions k f e
-            (formats tree)))
+        (formats tree)))

@@ -6,21 +6,24 @@ use Rattle.om_code.specs.declared.frame.Cell.TheVariants as cell
 use Rattle.om_code.specs.declared.instruction.Place.TheVariants as place
 use Rattle.om_resolved.specs.declared.resolved.LocalVariable.{LocalVariable}
 use Rattle.om_resolved.specs.declared.resolved.Variable.TheVariants.{Local}
-use Rattle.om_resolved.specs.ResolvedTree.{ResolvedExpressionTree, Constant, Variable, Element, Call, ThreadNumber,
-    TeamSize, Print, Unary, Binary, Conditional, Assign, AssignElement, Postfix, PostfixElement, ValuesTree,
-    NoValues, Value, ResolvedDeclaratorTree, ResolvedStartTree, StartNothing, StartExpression, StartDeclaration,
-    ResolvedStatementTree, Declaration, Block, Empty, Expression, If, IfElse, While, Do, For, Return, Break,
-    Continue, Parallel, Task, Loop, Sections, Construct, Update, StandAlone, ResolvedStatementsTree, NoStatements,
-    Statement}
+use Rattle.om_resolved.specs.ResolvedTree.{ResolvedExpressionTree, Constant, Variable, Element, Call, ThreadNumber}
+use Rattle.om_resolved.specs.ResolvedTree.{TeamSize, Print, Unary, Binary, Conditional, Assign, AssignElement, Postfix}
+use Rattle.om_resolved.specs.ResolvedTree.{PostfixElement, ValuesTree, NoValues, Value, ResolvedDeclaratorTree}
+use Rattle.om_resolved.specs.ResolvedTree.{ResolvedStartTree, StartNothing, StartExpression, StartDeclaration}
+use Rattle.om_resolved.specs.ResolvedTree.{ResolvedStatementTree, Declaration, Block, Empty, Expression, If, IfElse}
+use Rattle.om_resolved.specs.ResolvedTree.{While, Do, For, Return, Break, Continue, Parallel, Task, Loop, Sections}
+use Rattle.om_resolved.specs.ResolvedTree.{Construct, Update, StandAlone, ResolvedStatementsTree, NoStatements}
+use Rattle.om_resolved.specs.ResolvedTree.{Statement}
 use Rattle.om_rows.specs.Operators.{step_of}
-use Rattle.om_meaning.specs.Ints.{IsInt, HoldsInt, HoldsInts, LeavesInts, HasInts, AllHaveInts, EffectHasInts,
-    DeclaratorHasInts, StartHasInts, StatementHasInts, StatementsHaveInts, FlowLeavesInts}
+use Rattle.om_meaning.specs.Ints.{IsInt, HoldsInt, HoldsInts, LeavesInts, HasInts, AllHaveInts, EffectHasInts}
+use Rattle.om_meaning.specs.Ints.{DeclaratorHasInts, StartHasInts, StatementHasInts, StatementsHaveInts, FlowLeavesInts}
 use Rattle.om_meaning.specs.Laws.{IntsStayBehind}
-use Rattle.om_meaning.specs.Meaning.{is_zero, one, value_of, values_of, effect_of, printed, Flow, Onward, Broke,
-    Continued, Returned, Failed, OutOfTurns, flow_value, then_do, after_turn, turns, turns_first, tested,
-    tested_if_any, effect_flow, effect_if_any, slot_number, declared, all_declared, begun, returned, meaning, meanings}
-use Rattle.om_meaning.specs.Worlds.{World, Layout, Outcome, Got, Faulty, Values, GotAll, FaultyAt, after_value,
-    with_first, store, clear, print}
+use Rattle.om_meaning.specs.Meaning.{is_zero, one, value_of, values_of, effect_of, printed, Flow, Onward, Broke}
+use Rattle.om_meaning.specs.Meaning.{Continued, Returned, Failed, OutOfTurns, flow_value, then_do, after_turn, turns}
+use Rattle.om_meaning.specs.Meaning.{turns_first, tested, tested_if_any, effect_flow, effect_if_any, slot_number}
+use Rattle.om_meaning.specs.Meaning.{declared, all_declared, begun, returned, meaning, meanings}
+use Rattle.om_meaning.specs.Worlds.{World, Layout, Outcome, Got, Faulty, Values, GotAll, FaultyAt, after_value}
+use Rattle.om_meaning.specs.Worlds.{with_first, store, clear, print}
 use Rattle.om_meaning.proofs.Ints.{Stays, value_ints, store_ints, assigned_ints, element_assigned_ints, one_ints}
 
 -- from a world of ints it leaves ints
@@ -68,7 +71,7 @@ turns_ints (suc n) test body between_turns ht hb hn w h =
     ht (λ u. after_turn (body u) (λ t. then_do (between_turns t) (turns n test body between_turns)))
     (λ u h. after_ints (body u) (λ t. then_do (between_turns t) (turns n test body between_turns)) (hb u h)
     (λ t h. then_ints (between_turns t) (turns n test body between_turns) (hn t h)
-        (turns_ints n test body between_turns ht hb hn)))
+    (turns_ints n test body between_turns ht hb hn)))
     w h
 
 first_ints : (n : ℕ) (body : World → Flow) (test : World → (World → Flow) → Flow) → Keeps body → Tests test
@@ -76,7 +79,7 @@ first_ints : (n : ℕ) (body : World → Flow) (test : World → (World → Flow
 first_ints zero body test hb ht w h = tt
 first_ints (suc n) body test hb ht w h =
     after_ints (body w) (λ u. test u (turns_first n body test)) (hb w h)
-        (ht (turns_first n body test) (first_ints n body test hb ht))
+    (ht (turns_first n body test) (first_ints n body test hb ht))
 
 -- ---- printing and expressions whose value nothing uses
 
@@ -112,7 +115,7 @@ module _ (at : Layout) where
   effect_ints (Postfix x o) g w h = assigned_ints (at.place x) (Some (step_of o)) one one_ints w h
   effect_ints (PostfixElement a j o) g w h =
       element_assigned_ints (at.place a) (at.cells (at.place a)) (λ u. value_of at j u) (Some (step_of o)) one
-          (value_ints at j g) one_ints w h
+      (value_ints at j g) one_ints w h
   effect_ints (Print format es) g w h = printed_ints format (values_of at es w) (values_ints es g w h)
   effect_ints (Constant c) g w h = value_ints at (Constant c) g w h
   effect_ints (Variable x) g w h = value_ints at (Variable x) g w h
@@ -152,15 +155,15 @@ module _ (at : Layout) where
   declared_keeps x None g w h = clear_ints (slot_number (at.place (Local x.at))) w h
   declared_keeps x (Some e) g w h =
       flow_of (value_of at e w) (λ v u. flow_value (store (at.place (Local x.at)) 0 v u) (λ z t. Onward t))
-          (value_ints at e g w h)
+      (value_ints at e g w h)
       (λ v u int h. flow_of (store (at.place (Local x.at)) 0 v u) (λ z t. Onward t)
-          (store_ints (at.place (Local x.at)) 0 v u int h) (λ z t int h. h))
+      (store_ints (at.place (Local x.at)) 0 v u int h) (λ z t int h. h))
 
   declarators_keep : (ds : List ResolvedDeclaratorTree) → All DeclaratorHasInts ds → Keeps (all_declared at ds)
   declarators_keep [] g w h = h
   declarators_keep (d ∷ ds) g w h =
       then_ints (declared at d.variable d.initial w) (all_declared at ds) (declared_keeps d.variable d.initial
-          (All-head DeclaratorHasInts d ds g) w h)
+      (All-head DeclaratorHasInts d ds g) w h)
       (declarators_keep ds (All-tail DeclaratorHasInts d ds g))
 
   start_keeps : (start : ResolvedStartTree) → StartHasInts start → Keeps (begun at start)
@@ -184,20 +187,20 @@ module _ (at : Layout) where
         (λ v u int h. chosen_flow (is_zero v) (Onward u) (meaning at s n u) h (statement_keeps s n g.1 u h))
     statement_keeps (IfElse first c s t) n g w h =
         flow_of (value_of at c w) (λ v u. if is_zero v then meaning at t n u else meaning at s n u)
-            (value_ints at c g.0 w h)
+        (value_ints at c g.0 w h)
         (λ v u int h. chosen_flow (is_zero v) (meaning at t n u) (meaning at s n u) (statement_keeps t n g.2 u h)
-            (statement_keeps s n g.1 u h))
+        (statement_keeps s n g.1 u h))
     statement_keeps (While first c s) n g w h =
         turns_ints n (tested (λ u. value_of at c u)) (λ u. meaning at s n u) Onward
-            (tested_ints (λ u. value_of at c u) (value_ints at c g.0)) (statement_keeps s n g.1) (λ u h. h) w h
+        (tested_ints (λ u. value_of at c u) (value_ints at c g.0)) (statement_keeps s n g.1) (λ u h. h) w h
     statement_keeps (Do first s c) n g w h =
         first_ints n (λ u. meaning at s n u) (tested (λ u. value_of at c u)) (statement_keeps s n g.0)
-            (tested_ints (λ u. value_of at c u) (value_ints at c g.1)) w h
+        (tested_ints (λ u. value_of at c u) (value_ints at c g.1)) w h
     statement_keeps (For first start c step s) n g w h =
         then_ints (begun at start w) (turns n (tested_if_any at c) (λ u. meaning at s n u) (effect_if_any at step))
-            (start_keeps start g.0 w h)
+        (start_keeps start g.0 w h)
         (turns_ints n (tested_if_any at c) (λ u. meaning at s n u) (effect_if_any at step) (test_keeps c g.1)
-            (statement_keeps s n g.3) (step_keeps step g.2))
+        (statement_keeps s n g.3) (step_keeps step g.2))
     statement_keeps (Return first e) n g w h = returned_keeps e g w h
     statement_keeps (Break first) n g w h = h
     statement_keeps (Continue first) n g w h = h

@@ -1,6 +1,6 @@
 -- Runs of statements, put together from those of their parts.
-use Rattle.std.proofs.Common.{◌≡◌, ℕ, zero, suc, ◌+◌, ◌≤◌, ℤ, Bool, true, false, List, Option, Some, None, refl,
-    sym, ◌∙◌, subst, arith}
+use Rattle.std.proofs.Common.{◌≡◌, ℕ, zero, suc, ◌+◌, ◌≤◌, ℤ, Bool, true, false, List, Option, Some, None, refl, sym}
+use Rattle.std.proofs.Common.{◌∙◌, subst, arith}
 use Rattle.std.specs.Prelude.{if◌then◌else◌}
 use Rattle.om_code.specs.declared.frame.Operand.{Operand}
 use Rattle.om_code.specs.declared.instruction.Instr.TheVariants as i
@@ -9,8 +9,8 @@ use Rattle.om_code.specs.declared.raw.Raw.{Raw}
 use Rattle.om_code.specs.Frames.{Frame, FrameTurn}
 use Rattle.om_rows.specs.Statements.{Jumps, in_loop}
 use Rattle.om_meaning.specs.Meaning as flows
-use Rattle.om_meaning.specs.Meaning.{is_zero, Flow, Broke, Continued, Failed, OutOfTurns, flow_value, then_do,
-    after_turn, turns, turns_first, tested}
+use Rattle.om_meaning.specs.Meaning.{is_zero, Flow, Broke, Continued, Failed, OutOfTurns, flow_value, then_do}
+use Rattle.om_meaning.specs.Meaning.{after_turn, turns, turns_first, tested}
 use Rattle.om_meaning.specs.Running.{frame, with_int, Leads, Comes, Ends, Gives, Drops, JumpsTo, Does}
 use Rattle.om_meaning.specs.Worlds.{World, Outcome, Got, Faulty}
 use Rattle.om_meaning.proofs.Stepping as steps
@@ -20,8 +20,14 @@ module _ (raw : Raw) (body : Body) (is_main : Bool) where
   Run n c q jumps s r = Does raw body is_main n c q jumps s r
 
   pub comes_on : (c d f : Frame) → Comes raw body c d → Comes raw body d f → Comes raw body c f
-  comes_on c d f l m = record { by = λ k. let b = m.by k in let a = l.by b.0 in (a.0, omega (arith, a.1, b.1), a.2
-      ∙ b.2) }
+  comes_on c d f l m = record {
+    by = λ k. let b = m.by k in let a = l.by b.0 in (
+      a.0,
+      omega (arith, a.1, b.1),
+      a.2
+          ∙ b.2,
+    );
+  }
 
   pub comes : (c d : Frame) → Leads raw body c d → Comes raw body c d
   comes c d l = record { by = λ k. let a = l.by k in (a.0, omega (arith, a.1), a.2) }
@@ -34,8 +40,13 @@ module _ (raw : Raw) (body : Body) (is_main : Bool) where
 
   comes_end : (c d : Frame) (end : Frame → FrameTurn) (w : World) → Comes raw body c d → Ends raw body d end w
       → Ends raw body c end w
-  comes_end c d end w l h = let a = l.by h.turns in record { turns = a.0; last = h.last; over = a.2
-      ∙ h.over; world = h.world }
+  comes_end c d end w l h = let a = l.by h.turns in record {
+    turns = a.0;
+    last = h.last;
+    over = a.2
+        ∙ h.over;
+    world = h.world;
+  }
 
   comes_jump : (c d : Frame) (to : Option ℕ) (s : List Operand) (w : World) → Comes raw body c d → JumpsTo raw body
       d to s w → JumpsTo raw body c to s w
@@ -87,7 +98,7 @@ module _ (raw : Raw) (body : Body) (is_main : Bool) where
   pub after_body : (m n : ℕ) (c : Frame) (b over next : ℕ) (jumps : Jumps) (s : List Operand) (r : Flow)
       (f : World → Flow) → m ≤ n
       → Run n c b (in_loop over next) s r → ((u : World) → Run m (frame b s u) over jumps s (f u))
-          → ((u : World) → Run m (frame next s u) over jumps s (f u))
+      → ((u : World) → Run m (frame next s u) over jumps s (f u))
       → Run m c over jumps s (after_turn r f)
   after_body m n c b over next jumps s (flows.Onward w) f le g h j = comes_run m c _ over jumps s (f w) g (h w)
   after_body m n c b over next jumps s (Broke w) f le g h j = g
@@ -107,7 +118,7 @@ module _ (raw : Raw) (body : Body) (is_main : Bool) where
   -- behind a test: on at `a` for 0, else at the next place
   pub test_at : (b : Bool) (n : ℕ) (c : Frame) (m a q : ℕ) (jumps : Jumps) (s : List Operand) (w : World) (rz ro : Flow)
       → Leads raw body c (frame (if b then a else m + 1) s w) → Run n (frame a s w) q jumps s rz
-          → Run n (frame (m + 1) s w) q jumps s ro
+      → Run n (frame (m + 1) s w) q jumps s ro
       → Run n c q jumps s (if b then rz else ro)
   test_at true n c m a q jumps s w rz ro go hz ho = comes_run n c _ q jumps s rz (comes c _ go) hz
   test_at false n c m a q jumps s w rz ro go hz ho = comes_run n c _ q jumps s ro (comes c _ go) ho
@@ -115,7 +126,7 @@ module _ (raw : Raw) (body : Body) (is_main : Bool) where
   -- the same, where the test is counted
   pub turn_at : (b : Bool) (n : ℕ) (c : Frame) (m a q : ℕ) (jumps : Jumps) (s : List Operand) (w : World) (ro : Flow)
       → Leads raw body c (frame (if b then a else m + 1) s w) → Comes raw body (frame a s w) (frame q s w)
-          → Run n (frame (m + 1) s w) q jumps s ro
+      → Run n (frame (m + 1) s w) q jumps s ro
       → Run (suc n) c q jumps s (if b then flows.Onward w else ro)
   turn_at true n c m a q jumps s w ro go hz ho = comes_on c _ _ (comes c _ go) hz
   turn_at false n c m a q jumps s w ro go hz ho = leads_run n c _ q jumps s ro go ho
@@ -144,7 +155,7 @@ module _ (raw : Raw) (body : Body) (is_main : Bool) where
   abbrev pub Tests : ℕ → ℕ → ℕ → Jumps → List Operand → (World → (World → Flow) → Flow) → Type 0
   Tests start pt over jumps s test =
       (n : ℕ) (w : World) (f : World → Flow) → ((u : World) → Run n (frame pt s u) over jumps s (f u))
-          → Run n (frame start s w) over jumps s (test w f)
+      → Run n (frame start s w) over jumps s (test w f)
 
   -- fewer instructions are asked for
   pub fewer : (m n : ℕ) (c : Frame) (q : ℕ) (jumps : Jumps) (s : List Operand) (r : Flow) → m ≤ n → Run n c q jumps
@@ -160,14 +171,14 @@ module _ (raw : Raw) (body : Body) (is_main : Bool) where
   pub loop_run : (n start over : ℕ) (jumps : Jumps) (s : List Operand) (test : World → (World → Flow) → Flow)
       (body_of between_turns : World → Flow)
       → ((m : ℕ) (f : World → Flow) → suc m ≤ n → ((u : World) → Run m (frame start s u) over jumps s (f u))
-          → (w : World)
+      → (w : World)
       → Run (suc m) (frame start s w) over jumps s
-          (test w (λ u. after_turn (body_of u) (λ t. then_do (between_turns t) f))))
+      (test w (λ u. after_turn (body_of u) (λ t. then_do (between_turns t) f))))
       → (m : ℕ) → m ≤ n → (w : World) → Run m (frame start s w) over jumps s (turns m test body_of between_turns w)
   loop_run n start over jumps s test body_of between_turns turn zero le w = (0, _, omega arith, refl)
   loop_run n start over jumps s test body_of between_turns turn (suc m) le w =
       turn m (turns m test body_of between_turns) le (loop_run n start over jumps s test body_of between_turns turn
-          m (omega (arith, le))) w
+      m (omega (arith, le))) w
 
   -- a loop with its body first
   pub first_run : (n start pb next over : ℕ) (jumps : Jumps) (s : List Operand) (test : World → (World → Flow)
@@ -175,12 +186,12 @@ module _ (raw : Raw) (body : Body) (is_main : Bool) where
       → ((w : World) → Run n (frame start s w) pb (in_loop over next) s (body_of w))
       → next ≡ pb
       → ((m : ℕ) (w : World) (f : World → Flow) → ((u : World) → Run m (frame start s u) over jumps s (f u))
-          → Run (suc m) (frame next s w) over jumps s (test w f))
+      → Run (suc m) (frame next s w) over jumps s (test w f))
       → (m : ℕ) → m ≤ n → (w : World) → Run m (frame start s w) over jumps s (turns_first m body_of test w)
   first_run n start pb next over jumps s test body_of hb hn ht zero le w = (0, _, omega arith, refl)
   first_run n start pb next over jumps s test body_of hb hn ht (suc m) le w =
       let again = first_run n start pb next over jumps s test body_of hb hn ht m (omega (arith, le)) in
       after_body (suc m) n _ pb over next jumps s (body_of w) (λ u. test u (turns_first m body_of test)) le (hb w)
       (λ u. run_from (suc m) pb next over jumps s u (test u (turns_first m body_of test)) (sym hn)
-          (ht m u (turns_first m body_of test) again))
+      (ht m u (turns_first m body_of test) again))
       (λ u. ht m u (turns_first m body_of test) again)

@@ -1,8 +1,8 @@
 -- Each value is an int, and what is stored is one.
-use Rattle.std.proofs.Common.{◌≡◌, ℕ, zero, suc, ◌<◌, ◌≤◌, ◌^◌, ℤ, pos, negsuc, Bool, true, false, Option, Some,
-    None, refl, arith}
-use Rattle.std.specs.Prelude.{Result, Ok, Err, nat_eq, not, int_div, int_rem, unsigned_abs, ◌+ℤ◌, ◌-ℤ◌, ◌*ℤ◌, neg_ℤ,
-    ◌&&◌, if◌then◌else◌}
+use Rattle.std.proofs.Common.{◌≡◌, ℕ, zero, suc, ◌<◌, ◌≤◌, ◌^◌, ℤ, pos, negsuc, Bool, true, false, Option, Some, None}
+use Rattle.std.proofs.Common.{refl, arith}
+use Rattle.std.specs.Prelude.{Result, Ok, Err, nat_eq, not, int_div, int_rem, unsigned_abs, ◌+ℤ◌, ◌-ℤ◌, ◌*ℤ◌, neg_ℤ}
+use Rattle.std.specs.Prelude.{◌&&◌, if◌then◌else◌}
 use Rattle.std.specs.Ordering.{int_eq}
 use Rattle.std.proofs.lemmas.Bool.{ltb-true, lt-ltb}
 use Rattle.std.proofs.lemmas.Int.{rem_below}
@@ -19,15 +19,16 @@ use Rattle.om_code.specs.Arithmetic.{is_int, in_range, divided, remaining, truth
 use Rattle.om_code.specs.Frames.{index_in}
 use Rattle.om_resolved.specs.declared.resolved.UnaryOperator.{UnaryOperator}
 use Rattle.om_resolved.specs.declared.resolved.UnaryOperator.TheVariants as unaries
-use Rattle.om_resolved.specs.ResolvedTree.{ResolvedExpressionTree, Constant, Variable, Element, Call, ThreadNumber,
-    TeamSize, Print, Unary, Binary, Conditional, Assign, AssignElement, Postfix, PostfixElement}
+use Rattle.om_resolved.specs.ResolvedTree.{ResolvedExpressionTree, Constant, Variable, Element, Call, ThreadNumber}
+use Rattle.om_resolved.specs.ResolvedTree.{TeamSize, Print, Unary, Binary, Conditional, Assign, AssignElement, Postfix}
+use Rattle.om_resolved.specs.ResolvedTree.{PostfixElement}
 use Rattle.om_rows.specs.Operators.{BinaryForm, Both, Either, Plain, form_of, compound_of, step_of, undo_of}
 use Rattle.om_meaning.specs.Ints.{IsInt, HoldsInt, HoldsInts, LeavesInts, HasInts}
 use Rattle.om_meaning.specs.Laws.{IntsStay}
-use Rattle.om_meaning.specs.Meaning.{is_zero, unary_value, binary_value, assigned, load_element, store_element,
-    element_assigned, undone, one, value_of}
-use Rattle.om_meaning.specs.Worlds.{World, Layout, Outcome, Got, Faulty, with_value, result, held, with_held, found,
-    put_into, load, store, at_index}
+use Rattle.om_meaning.specs.Meaning.{is_zero, unary_value, binary_value, assigned, load_element, store_element}
+use Rattle.om_meaning.specs.Meaning.{element_assigned, undone, one, value_of}
+use Rattle.om_meaning.specs.Worlds.{World, Layout, Outcome, Got, Faulty, with_value, result, held, with_held, found}
+use Rattle.om_meaning.specs.Worlds.{put_into, load, store, at_index}
 
 -- ---- operators
 
@@ -169,13 +170,13 @@ binary_ints : (form : BinaryForm) (a : Outcome) (b : World → Outcome) → Leav
     → LeavesInts (binary_value form a b)
 binary_ints Both a b ha hb =
     with_ints_of a _ ha (λ x u int h. chosen_ints (is_zero x) _ _ (refl, h)
-        (with_ints_of (b u) _ (hb u h) (λ y t int h. (truth_int (not (is_zero y)), h))))
+    (with_ints_of (b u) _ (hb u h) (λ y t int h. (truth_int (not (is_zero y)), h))))
 binary_ints Either a b ha hb =
     with_ints_of a _ ha (λ x u int h. chosen_ints (is_zero x) _ _
-        (with_ints_of (b u) _ (hb u h) (λ y t int h. (truth_int (not (is_zero y)), h))) (refl, h))
+    (with_ints_of (b u) _ (hb u h) (λ y t int h. (truth_int (not (is_zero y)), h))) (refl, h))
 binary_ints (Plain o) a b ha hb =
     with_ints_of a _ ha (λ x u int h. with_ints_of (b u) _ (hb u h) (λ y t int h. result_ints (operate o x y) t
-        (operate_int o x y int) h))
+    (operate_int o x y int) h))
 
 pub assigned_ints : (at : Place) (o : Option machine.BinaryOperator) (e : World → Outcome) → Stays e
     → Stays (λ w. assigned at o e w)
@@ -183,19 +184,19 @@ assigned_ints at None e he w h = with_ints_of (e w) _ (he w h) (λ v u int h. st
 assigned_ints at (Some o) e he w h =
     with_ints_of (load at 0 w) _ (load_ints at 0 w h) (λ x u int h. with_ints_of (e u) _ (he u h) (λ y t int h.
     with_ints_of (result (operate o x y) t) _ (result_ints (operate o x y) t (operate_int o x y int) h)
-        (λ z s int h. store_ints at 0 z s int h)))
+    (λ z s int h. store_ints at 0 z s int h)))
 
 pub element_assigned_ints : (at : Place) (cells : ℕ) (j : World → Outcome) (o : Option machine.BinaryOperator)
     (e : World → Outcome) → Stays j → Stays e
     → Stays (λ w. element_assigned at cells j o e w)
 element_assigned_ints at cells j None e hj he w h =
     with_ints_of (j w) _ (hj w h) (λ n u int h. with_ints_of (e u) _ (he u h) (λ v t int h. store_element_ints at
-        cells n v t int h))
+    cells n v t int h))
 element_assigned_ints at cells j (Some o) e hj he w h =
     with_ints_of (j w) _ (hj w h) (λ n u int h. with_ints_of (load_element at cells n u) _
-        (load_element_ints at cells n u h) (λ x t int h.
+    (load_element_ints at cells n u h) (λ x t int h.
     with_ints_of (e t) _ (he t h) (λ y s int h. with_ints_of (result (operate o x y) s) _
-        (result_ints (operate o x y) s (operate_int o x y int) h)
+    (result_ints (operate o x y) s (operate_int o x y int) h)
     (λ z r int h. store_element_ints at cells n z r int h))))
 
 pub one_ints : Stays one
@@ -221,17 +222,17 @@ value_ints at (Binary a o b) g w h = binary_ints (form_of o) (value_of at a w) (
 value_ints at (Conditional c a b) g w h =
     with_ints_of (value_of at c w) _ (value_ints at c g.0 w h)
     (λ v u int h. chosen_ints (is_zero v) (value_of at b u) (value_of at a u) (value_ints at b g.2 u h)
-        (value_ints at a g.1 u h))
+    (value_ints at a g.1 u h))
 value_ints at (Assign x o e) g w h = assigned_ints (at.place x) (compound_of o) (λ u. value_of at e u)
     (value_ints at e g) w h
 value_ints at (AssignElement a j o e) g w h =
     element_assigned_ints (at.place a) (at.cells (at.place a)) (λ u. value_of at j u) (compound_of o)
-        (λ u. value_of at e u) (value_ints at j g.0) (value_ints at e g.1) w h
+    (λ u. value_of at e u) (value_ints at j g.0) (value_ints at e g.1) w h
 value_ints at (Postfix x o) g w h = undone_ints (undo_of o) _ (assigned_ints (at.place x) (Some (step_of o)) one
     one_ints w h)
 value_ints at (PostfixElement a j o) g w h =
     undone_ints (undo_of o) _ (element_assigned_ints (at.place a) (at.cells (at.place a)) (λ u. value_of at j u)
-        (Some (step_of o)) one (value_ints at j g) one_ints w h)
+    (Some (step_of o)) one (value_ints at j g) one_ints w h)
 
 pub ints_stay : IntsStay
 ints_stay at e w g h = value_ints at e g w h

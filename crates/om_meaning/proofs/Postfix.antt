@@ -15,8 +15,8 @@ use Rattle.om_rows.specs.Operators.{step_of, undo_of}
 use Rattle.om_meaning.specs.Ints.{HoldsInt, HoldsInts, LeavesInts}
 use Rattle.om_meaning.specs.Laws.{PostfixGivesOld, ElementGivesOld}
 use Rattle.om_meaning.specs.Meaning.{undone, load_element, store_element, one, value_of}
-use Rattle.om_meaning.specs.Worlds.{World, Outcome, Got, Faulty, with_value, result, held, with_held, found,
-    put_into, load, store, at_index}
+use Rattle.om_meaning.specs.Worlds.{World, Outcome, Got, Faulty, with_value, result, held, with_held, found, put_into}
+use Rattle.om_meaning.specs.Worlds.{load, store, at_index}
 use Rattle.om_meaning.proofs.Ints.{value_ints}
 
 ok_of : (b : Bool) (x z : ℤ) → (if b then Ok x else Err fault.Overflow) ≡ Ok z → x ≡ z
@@ -46,7 +46,7 @@ summed : (o : PostfixOperator) (at : Place) (k : ℕ) (old : ℤ) (w : World) (r
     ≡ cell.Int old → is_int old ≡ true
     → operate (step_of o) old (pos 1) ≡ r
     → undone (undo_of o) (with_value (result r w) (λ z u. store at k z u))
-        ≡ with_value (with_value (result r w) (λ z u. store at k z u)) (λ z u. Got old u)
+    ≡ with_value (with_value (result r w) (λ z u. store at k z u)) (λ z u. Got old u)
 unfolding store
 summed o at k old w (Err f) there int e = refl
 summed o at k old w (Ok z) there int e =
@@ -58,44 +58,44 @@ summed o at k old w (Ok z) there int e =
 loaded : (o : PostfixOperator) (at : Place) (k : ℕ) (old : ℤ) (w : World) → held w at k ≡ cell.Int old → is_int old
     ≡ true
     → undone (undo_of o) (with_value (load at k w)
-        (λ x u. with_value (one u) (λ y t. with_value (result (operate (step_of o) x y) t) (λ z s. store at k z s))))
+    (λ x u. with_value (one u) (λ y t. with_value (result (operate (step_of o) x y) t) (λ z s. store at k z s))))
     ≡ with_value (with_value (load at k w)
-        (λ x u. with_value (one u) (λ y t. with_value (result (operate (step_of o) x y) t)
-        (λ z s. store at k z s)))) (λ z u. Got old u)
+    (λ x u. with_value (one u) (λ y t. with_value (result (operate (step_of o) x y) t)
+    (λ z s. store at k z s)))) (λ z u. Got old u)
 unfolding load
 loaded o at k old w there int =
     ap (λ c. undone (undo_of o)
-        (with_value (found c w) (λ x u. with_value (one u) (λ y t. with_value (result (operate (step_of o) x y) t)
-        (λ z s. store at k z s))))) there
+    (with_value (found c w) (λ x u. with_value (one u) (λ y t. with_value (result (operate (step_of o) x y) t)
+    (λ z s. store at k z s))))) there
     ∙ summed o at k old w (operate (step_of o) old (pos 1)) there int refl
     ∙ ap (λ c. with_value
-        (with_value (found c w) (λ x u. with_value (one u) (λ y t. with_value (result (operate (step_of o) x y) t)
-        (λ z s. store at k z s)))) (λ z u. Got old u))
+    (with_value (found c w) (λ x u. with_value (one u) (λ y t. with_value (result (operate (step_of o) x y) t)
+    (λ z s. store at k z s)))) (λ z u. Got old u))
     (sym there)
 
 -- the load, the sum and the store
 abbrev steps_on : PostfixOperator → Place → ℕ → World → Outcome
 steps_on o at k w =
     with_value (load at k w) (λ x u. with_value (one u) (λ y t. with_value (result (operate (step_of o) x y) t)
-        (λ z s. store at k z s)))
+    (λ z s. store at k z s)))
 
 -- whatever the cell holds
 cell_old : (o : PostfixOperator) (at : Place) (k : ℕ) (w : World) (c : Cell) → held w at k ≡ c → HoldsInt c
     → undone (undo_of o) (steps_on o at k w) ≡ with_value (load at k w) (λ old u. with_value (steps_on o at k w)
-        (λ z t. Got old t))
+    (λ z t. Got old t))
 unfolding load
 cell_old o at k w (cell.Int old) there int =
     loaded o at k old w there int
-        ∙ ap (λ c. with_value (found c w) (λ y u. with_value (steps_on o at k w) (λ z t. Got y t))) (sym there)
+    ∙ ap (λ c. with_value (found c w) (λ y u. with_value (steps_on o at k w) (λ z t. Got y t))) (sym there)
 cell_old o at k w cell.Unset there int =
     ap (λ c. undone (undo_of o)
-        (with_value (found c w) (λ x u. with_value (one u) (λ y t. with_value (result (operate (step_of o) x y) t)
-        (λ z s. store at k z s))))) there
+    (with_value (found c w) (λ x u. with_value (one u) (λ y t. with_value (result (operate (step_of o) x y) t)
+    (λ z s. store at k z s))))) there
     ∙ ap (λ c. with_value (found c w) (λ y u. with_value (steps_on o at k w) (λ z t. Got y t))) (sym there)
 cell_old o at k w cell.Dead there int =
     ap (λ c. undone (undo_of o)
-        (with_value (found c w) (λ x u. with_value (one u) (λ y t. with_value (result (operate (step_of o) x y) t)
-        (λ z s. store at k z s))))) there
+    (with_value (found c w) (λ x u. with_value (one u) (λ y t. with_value (result (operate (step_of o) x y) t)
+    (λ z s. store at k z s))))) there
     ∙ ap (λ c. with_value (found c w) (λ y u. with_value (steps_on o at k w) (λ z t. Got y t))) (sym there)
 
 pub postfix_gives_old : PostfixGivesOld
@@ -105,25 +105,25 @@ postfix_gives_old at x o w h = cell_old o (at.place x) 0 w (held w (at.place x) 
 abbrev by_index : PostfixOperator → Place → World → Option ℕ → Outcome
 by_index o at w i =
     with_value (at_index i w (λ m. load at m w))
-        (λ x t. with_value (one t) (λ y s. with_value (result (operate (step_of o) x y) s)
+    (λ x t. with_value (one t) (λ y s. with_value (result (operate (step_of o) x y) s)
     (λ z r. at_index i r (λ m. store at m z r))))
 
 index_old : (o : PostfixOperator) (at : Place) (w : World) (i : Option ℕ) → HoldsInts w
     → undone (undo_of o) (by_index o at w i) ≡ with_value (at_index i w (λ m. load at m w))
-        (λ old u. with_value (by_index o at w i) (λ z t. Got old t))
+    (λ old u. with_value (by_index o at w i) (λ z t. Got old t))
 index_old o at w None h = refl
 index_old o at w (Some k) h = cell_old o at k w (held w at k) refl (h at k)
 
 abbrev stepped : PostfixOperator → Place → ℕ → ℤ → World → Outcome
 stepped o at cells n u =
     with_value (load_element at cells n u)
-        (λ x t. with_value (one t) (λ y s. with_value (result (operate (step_of o) x y) s)
-        (λ z r. store_element at cells n z r)))
+    (λ x t. with_value (one t) (λ y s. with_value (result (operate (step_of o) x y) s)
+    (λ z r. store_element at cells n z r)))
 
 outcome_old : (o : PostfixOperator) (at : Place) (cells : ℕ) (r : Outcome) → LeavesInts r
     → undone (undo_of o) (with_value r (λ n u. stepped o at cells n u))
     ≡ with_value r (λ n u. with_value (load_element at cells n u)
-        (λ old s. with_value (with_value r (λ n u. stepped o at cells n u)) (λ z t. Got old t)))
+    (λ old s. with_value (with_value r (λ n u. stepped o at cells n u)) (λ z t. Got old t)))
 outcome_old o at cells (Got n u) h = index_old o at u (index_in cells n) h.1
 outcome_old o at cells (Faulty x u) h = refl
 

@@ -1,6 +1,6 @@
 -- PRINT writes what `printf` means.
-use Rattle.std.proofs.Common.{◌≡◌, ℕ, suc, ◌+◌, ℤ, Bool, true, false, List, [], ◌∷◌, ◌++◌, length, Option, Some,
-    None, refl, sym, ap, ◌∙◌, subst, arith}
+use Rattle.std.proofs.Common.{◌≡◌, ℕ, suc, ◌+◌, ℤ, Bool, true, false, List, [], ◌∷◌, ◌++◌, length, Option, Some, None}
+use Rattle.std.proofs.Common.{refl, sym, ap, ◌∙◌, subst, arith}
 use Rattle.std.specs.Prelude.{slice_get, map, option_map, unwrap_or, reverse, take, drop, nat_le, ◌||◌, if◌then◌else◌}
 use Rattle.std.specs.List.{AllZip, list_any}
 use Rattle.std.specs.Str.{bytes_eq}
@@ -46,16 +46,16 @@ text_bytes format text values is = cut (pieces_of format) is
 text_at : (formats : List (List ℕ)) (all : List (List texts.Piece)) (format : List ℕ) → AllZip IsTextOf formats all
     → list_any (bytes_eq format) formats ≡ true
     → (text : List texts.Piece) × (slice_get all (number_in (bytes_eq format) formats) ≡ Some text)
-        × IsTextOf format text
+    × IsTextOf format text
 text_at [] all format zip e = absurd cc
 text_at (f ∷ fs) [] format zip e = absurd zip
 text_at (f ∷ fs) (t ∷ ts) format zip e = first (bytes_eq format f) refl e (text_at fs ts format zip.1)
   where
     first : (b : Bool) → bytes_eq format f ≡ b → (b || list_any (bytes_eq format) fs) ≡ true
         → (list_any (bytes_eq format) fs ≡ true → (text : List texts.Piece)
-            × (slice_get ts (number_in (bytes_eq format) fs) ≡ Some text) × IsTextOf format text)
+        × (slice_get ts (number_in (bytes_eq format) fs) ≡ Some text) × IsTextOf format text)
         → (text : List texts.Piece) × (slice_get (t ∷ ts) (if b then 0 else number_in (bytes_eq format) fs + 1)
-            ≡ Some text) × IsTextOf format text
+        ≡ Some text) × IsTextOf format text
     first true same e rest = (t, refl, subst (λ z. IsTextOf z t) (sym ((bytes_eq-Decides format f).0 same)) zip.0)
     first false same e rest =
         let found = rest e in
@@ -109,38 +109,44 @@ pub ints_there : (values : List ℤ) (s : List Operand) → ints_on (length valu
 unfolding below
 ints_there values s =
     let enough : nat_le (length values) (length (with_ints values s)) ≡ true = le-leb (length values)
-        (length (with_ints values s)) (omega (arith, stack_long values s)) in
+    (length (with_ints values s)) (omega (arith, stack_long values s)) in
     let front : take (length values) (with_ints values s) ≡ below values =
     ap (λ z. take (length values) z) (stacked values s) ∙ ap (λ n. take n (below values ++ s))
-        (sym (below_long values)) ∙ take-append_seam (below values) s in
+    (sym (below_long values)) ∙ take-append_seam (below values) s in
     ap (λ b. if b then ints (reverse (take (length values) (with_ints values s))) else None) enough
     ∙ ap (λ z. ints (reverse z)) front ∙ ap ints (reverse-reverse (map as_int values)) ∙ ints_all values
 
 pub rest_there : (values : List ℤ) (s : List Operand) → drop (length values) (with_ints values s) ≡ s
 rest_there values s =
     ap (λ z. drop (length values) z) (stacked values s) ∙ ap (λ n. drop n (below values ++ s))
-        (sym (below_long values)) ∙ drop-append_seam (below values) s
+    (sym (below_long values)) ∙ drop-append_seam (below values) s
 
 -- ---- the turn of PRINT
 
 -- the frame behind PRINT
 abbrev written_out : ℕ → World → List ℕ → List Operand → FrameTurn
-written_out p w bytes rest = frames.Onward (record { place = p + 1; operands = rest; slots = w.slots; globals =
-    w.globals; output = w.output ++ bytes })
+written_out p w bytes rest = frames.Onward (record {
+  place = p + 1;
+  operands = rest;
+  slots = w.slots;
+  globals =
+      w.globals;
+  output = w.output ++ bytes;
+})
 
 pub prints : (raw : Raw) (slots : List Slot) (formats : List (List ℕ)) (format : List ℕ) (values : List ℤ)
     (count p : ℕ) (s : List Operand) (w : World)
     → AllZip IsTextOf formats raw.texts → list_any (bytes_eq format) formats ≡ true → length values ≡ count
     → turn_on raw slots (i.Print (number_in (bytes_eq format) formats) count) p (with_ints values s) w
-        ≡ frames.Onward (frame (p + 1) s (print format values w))
+    ≡ frames.Onward (frame (p + 1) s (print format values w))
 prints raw slots formats format values count p s w zip there long =
     subst (λ n. turn_on raw slots (i.Print (number_in (bytes_eq format) formats) n) p (with_ints values s) w
-        ≡ frames.Onward (frame (p + 1) s (print format values w))) long
+    ≡ frames.Onward (frame (p + 1) s (print format values w))) long
     (ap (λ z. acted raw (frame p (with_ints values s) w) (frames.print (number_in (bytes_eq format) formats)
-        (length values) z)) (ints_there values s)
+    (length values) z)) (ints_there values s)
     ∙ ap (λ z. written_out p w (printed (unwrap_or (slice_get raw.texts (number_in (bytes_eq format) formats)) [])
-        (unwrap_or z [])) (drop (length values) (with_ints values s)))
+    (unwrap_or z [])) (drop (length values) (with_ints values s)))
     (ints_there values s)
     ∙ ap (λ z. written_out p w z (drop (length values) (with_ints values s))) (bytes_of formats raw.texts format
-        values zip there)
+    values zip there)
     ∙ ap (λ z. written_out p w (text_of format values) z) (rest_there values s))

@@ -4,15 +4,17 @@ use Rattle.std.specs.Prelude.{All, IfSome}
 use Rattle.std.specs.List.{list_any}
 use Rattle.std.specs.Str.{bytes_eq}
 use Rattle.std.proofs.lemmas.List.Elements.{All-nil, All-cons, All-head, All-tail}
-use Rattle.om_resolved.specs.ResolvedTree.{ResolvedExpressionTree, Constant, Variable, Element, Call, ThreadNumber,
-    TeamSize, Unary, Binary, Conditional, Assign, AssignElement, Postfix, PostfixElement, Print, ResolvedStartTree,
-    StartNothing, StartExpression, StartDeclaration, ResolvedStatementTree, Declaration, Block, Empty, Expression,
-    If, IfElse, While, Do, For, Return, Break, Continue, Parallel, Task, Loop, Sections, Construct, Update,
-    StandAlone, ResolvedStatementsTree, NoStatements, Statement}
-use Rattle.om_rows.specs.Mentions.{expression_formats, values_formats, format_mention, perhaps_mentioned,
-    start_mentioned, mentioned, all_mentioned}
-use Rattle.om_meaning.specs.Serial.{IsSerial, AreSerial, IsSerialEffect, IsSerialStart, IsSerialStatement,
-    AreSerialStatements}
+use Rattle.om_resolved.specs.ResolvedTree.{ResolvedExpressionTree, Constant, Variable, Element, Call, ThreadNumber}
+use Rattle.om_resolved.specs.ResolvedTree.{TeamSize, Unary, Binary, Conditional, Assign, AssignElement, Postfix}
+use Rattle.om_resolved.specs.ResolvedTree.{PostfixElement, Print, ResolvedStartTree, StartNothing, StartExpression}
+use Rattle.om_resolved.specs.ResolvedTree.{StartDeclaration, ResolvedStatementTree, Declaration, Block, Empty}
+use Rattle.om_resolved.specs.ResolvedTree.{Expression, If, IfElse, While, Do, For, Return, Break, Continue, Parallel}
+use Rattle.om_resolved.specs.ResolvedTree.{Task, Loop, Sections, Construct, Update, StandAlone, ResolvedStatementsTree}
+use Rattle.om_resolved.specs.ResolvedTree.{NoStatements, Statement}
+use Rattle.om_rows.specs.Mentions.{expression_formats, values_formats, format_mention, perhaps_mentioned}
+use Rattle.om_rows.specs.Mentions.{start_mentioned, mentioned, all_mentioned}
+use Rattle.om_meaning.specs.Serial.{IsSerial, AreSerial, IsSerialEffect, IsSerialStart, IsSerialStatement}
+use Rattle.om_meaning.specs.Serial.{AreSerialStatements}
 
 -- an expression whose value nothing uses
 abbrev pub IsSpokenEffect : List (List ℕ) → ResolvedExpressionTree → Type 0
@@ -37,7 +39,7 @@ abbrev mutual
   IsSpokenStatement formats (Do first s c) = IsSpokenStatement formats s × IsSerial c
   IsSpokenStatement formats (For first start c step s) =
       IsSpokenStart formats start × IfSome c IsSerial × IfSome step (IsSpokenEffect formats) × IsSpokenStatement
-          formats s
+      formats s
   IsSpokenStatement formats (Return first e) = IfSome e IsSerial
   IsSpokenStatement formats (Break first) = Unit {0}
   IsSpokenStatement formats (Continue first) = Unit {0}
@@ -102,19 +104,22 @@ module _ (formats : List (List ℕ)) where
     spoken (Expression first e) g h = effect_spoken e g h
     spoken (If first c s) g h = (g.0, spoken s g.1 (back (expression_formats c) (mentioned format_mention s) h))
     spoken (IfElse first c s t) g h =
-        let r = back (expression_formats c) (mentioned format_mention s ++ mentioned format_mention t) h in
-        (g.0, spoken s g.1 (front (mentioned format_mention s) (mentioned format_mention t) r), spoken t g.2
-            (back (mentioned format_mention s) (mentioned format_mention t) r))
+        let r = back (expression_formats c) (mentioned format_mention s ++ mentioned format_mention t) h in (
+          g.0,
+          spoken s g.1 (front (mentioned format_mention s) (mentioned format_mention t) r),
+          spoken t g.2
+              (back (mentioned format_mention s) (mentioned format_mention t) r),
+        )
     spoken (While first c s) g h = (g.0, spoken s g.1 (back (expression_formats c) (mentioned format_mention s) h))
     spoken (Do first s c) g h = (spoken s g.0 (front (mentioned format_mention s) (expression_formats c) h), g.1)
     spoken (For first start c step s) g h =
         let a = back (start_mentioned format_mention start) (perhaps_mentioned format_mention c
-            ++ (perhaps_mentioned format_mention step ++ mentioned format_mention s)) h in
+        ++ (perhaps_mentioned format_mention step ++ mentioned format_mention s)) h in
         let b = back (perhaps_mentioned format_mention c) (perhaps_mentioned format_mention step
-            ++ mentioned format_mention s) a in (
+        ++ mentioned format_mention s) a in (
           start_spoken start g.0
               (front (start_mentioned format_mention start) (perhaps_mentioned format_mention c
-                  ++ (perhaps_mentioned format_mention step ++ mentioned format_mention s)) h),
+              ++ (perhaps_mentioned format_mention step ++ mentioned format_mention s)) h),
           g.1,
           step_spoken step g.2 (front (perhaps_mentioned format_mention step) (mentioned format_mention s) b),
           spoken s g.3 (back (perhaps_mentioned format_mention step) (mentioned format_mention s) b),

@@ -39,7 +39,7 @@ module _ (raw : Raw) (body : Body) where
   -- an instruction that ends the run
   pub stop : (p l : ℕ) (x : Instr) (s : List Operand) (w u : World) (end : Frame → FrameTurn) (last : Frame) → Has p l x
       → turn_on raw body.slots x p s w ≡ end last → on_from (end last) (run raw body 0) ≡ end last → world_of last
-          ≡ u → Ends raw body (frame p s w) end u
+      ≡ u → Ends raw body (frame p s w) end u
   stop p l x s w u end last has e over world = record {
     turns = 1;
     last = last;
@@ -50,13 +50,24 @@ module _ (raw : Raw) (body : Body) where
   -- ---- one behind the other
 
   pub leads_on : (c d f : Frame) → Leads raw body c d → Leads raw body d f → Leads raw body c f
-  leads_on c d f l m = record { by = λ k. let b = m.by k in let a = l.by b.0 in (a.0, omega (arith, a.1, b.1), a.2
-      ∙ b.2) }
+  leads_on c d f l m = record {
+    by = λ k. let b = m.by k in let a = l.by b.0 in (
+      a.0,
+      omega (arith, a.1, b.1),
+      a.2
+          ∙ b.2,
+    );
+  }
 
   pub leads_end : (c d : Frame) (end : Frame → FrameTurn) (w : World) → Leads raw body c d → Ends raw body d end w
       → Ends raw body c end w
-  leads_end c d end w l h = let a = l.by h.turns in record { turns = a.0; last = h.last; over = a.2
-      ∙ h.over; world = h.world }
+  leads_end c d end w l h = let a = l.by h.turns in record {
+    turns = a.0;
+    last = h.last;
+    over = a.2
+        ∙ h.over;
+    world = h.world;
+  }
 
   pub leads_gives : (c d : Frame) (q : ℕ) (s : List Operand) (r : Outcome) → Leads raw body c d → Gives raw body d q
       s r → Gives raw body c q s r
@@ -71,20 +82,20 @@ module _ (raw : Raw) (body : Body) where
   pub gives_then : (c : Frame) (m q : ℕ) (s t : List Operand) (r : Outcome) (f : ℤ → World → Outcome)
       → Gives raw body c m s r
       → ((v : ℤ) (u : World) → Gives raw body (frame m (with_int v s) u) q t (f v u)) → Gives raw body c q t
-          (with_value r f)
+      (with_value r f)
   gives_then c m q s t (Got v w) f g h = leads_gives c _ q t (f v w) g (h v w)
   gives_then c m q s t (Faulty x w) f g h = g
 
   pub drops_then : (c : Frame) (m q : ℕ) (s t : List Operand) (r : Outcome) (f : ℤ → World → Outcome)
       → Gives raw body c m s r
       → ((v : ℤ) (u : World) → Drops raw body (frame m (with_int v s) u) q t (f v u)) → Drops raw body c q t
-          (with_value r f)
+      (with_value r f)
   drops_then c m q s t (Got v w) f g h = leads_drops c _ q t (f v w) g (h v w)
   drops_then c m q s t (Faulty x w) f g h = g
 
   faulted : (p l : ℕ) (x : Instr) (s : List Operand) (w u : World) (f : Fault) → Has p l x
       → (q : ℕ) × (r : List Operand) × (turn_on raw body.slots x p s w ≡ Faulted f (frame q r u))
-          → Ends raw body (frame p s w) (Faulted f) u
+      → Ends raw body (frame p s w) (Faulted f) u
   faulted p l x s w u f has e = stop p l x s w u (Faulted f) (frame e.0 e.1 u) has e.2 refl refl
 
   -- an instruction that pushes a value, or faults
@@ -121,7 +132,7 @@ module _ (raw : Raw) (body : Body) where
 
   jumped : (b : Bool) (p a : ℕ) (v : ℤ) (s : List Operand) (w : World)
       → acted raw (frame p (with_int v s) w) (frames.decided (frames.jump_if b a))
-          ≡ frames.Onward (frame (if b then a else p + 1) s w)
+      ≡ frames.Onward (frame (if b then a else p + 1) s w)
   jumped true p a v s w = refl
   jumped false p a v s w = refl
 

@@ -4,10 +4,12 @@ use Rattle.om_code.specs.declared.frame.Cell.{Cell}
 use Rattle.om_code.specs.declared.frame.Cell.TheVariants as cell
 use Rattle.om_code.specs.declared.instruction.Place.{Place}
 use Rattle.om_code.specs.Arithmetic.{is_int}
-use Rattle.om_resolved.specs.ResolvedTree.{ResolvedExpressionTree, Constant, Element, Unary, Binary, Conditional,
-    Assign, AssignElement, PostfixElement, Print, ValuesTree, NoValues, Value, ResolvedDeclaratorTree,
-    ResolvedStartTree, StartNothing, StartExpression, StartDeclaration, ResolvedStatementTree, Declaration, Block,
-    Expression, If, IfElse, While, Do, For, Return, ResolvedStatementsTree, NoStatements, Statement}
+use Rattle.om_resolved.specs.ResolvedTree.{ResolvedExpressionTree, Constant, Element, Unary, Binary, Conditional}
+use Rattle.om_resolved.specs.ResolvedTree.{Assign, AssignElement, PostfixElement, Print, ValuesTree, NoValues, Value}
+use Rattle.om_resolved.specs.ResolvedTree.{ResolvedDeclaratorTree, ResolvedStartTree, StartNothing, StartExpression}
+use Rattle.om_resolved.specs.ResolvedTree.{StartDeclaration, ResolvedStatementTree, Declaration, Block, Expression, If}
+use Rattle.om_resolved.specs.ResolvedTree.{IfElse, While, Do, For, Return, ResolvedStatementsTree, NoStatements}
+use Rattle.om_resolved.specs.ResolvedTree.{Statement}
 use Rattle.om_meaning.specs.Meaning.{Flow, Onward, Broke, Continued, Returned, Failed, OutOfTurns}
 use Rattle.om_meaning.specs.Worlds.{World, Outcome, Got, Faulty, held}
 

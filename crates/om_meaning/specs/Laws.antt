@@ -10,8 +10,8 @@ use Rattle.om_code.specs.Frames as frames
 use Rattle.om_code.specs.Frames.{Frame, FrameTurn, Faulted, Stuck, cells_in, index_in}
 use Rattle.om_tree.specs.declared.tree.PostfixOperator.{PostfixOperator}
 use Rattle.om_resolved.specs.declared.resolved.Variable.{Variable}
-use Rattle.om_resolved.specs.ResolvedTree.{ResolvedExpressionTree, Postfix, PostfixElement, ResolvedStatementTree,
-    ResolvedStatementsTree, ResolvedFunctionTree, ResolvedTree}
+use Rattle.om_resolved.specs.ResolvedTree.{ResolvedExpressionTree, Postfix, PostfixElement, ResolvedStatementTree}
+use Rattle.om_resolved.specs.ResolvedTree.{ResolvedStatementsTree, ResolvedFunctionTree, ResolvedTree}
 use Rattle.om_resolved.specs.Uses.{is_main_function}
 use Rattle.om_rows.specs.Bodies.{Numbers, called_body, function_variables}
 use Rattle.om_rows.specs.Code.{IsCodeOf}
@@ -22,8 +22,8 @@ use Rattle.om_rows.specs.Slots.{place_of}
 use Rattle.om_rows.specs.Statements.{Jumps, statement}
 use Rattle.om_meaning.specs.Ints.{HasInts, HoldsInts, LeavesInts, StatementHasInts, FlowLeavesInts}
 use Rattle.om_meaning.specs.Meaning as flows
-use Rattle.om_meaning.specs.Meaning.{Flow, Failed, OutOfTurns, then_do, value_of, effect_of, load_element, meaning,
-    meanings}
+use Rattle.om_meaning.specs.Meaning.{Flow, Failed, OutOfTurns, then_do, value_of, effect_of, load_element, meaning}
+use Rattle.om_meaning.specs.Meaning.{meanings}
 use Rattle.om_meaning.specs.Running.{frame, world_of, run, ended, Ends, Gives, Does}
 use Rattle.om_meaning.specs.Serial.{IsSerial, IsSerialStatement, AreSerialStatements}
 use Rattle.om_meaning.specs.Worlds.{World, Layout, Got, with_value, load}

@@ -18,14 +18,15 @@ use Rattle.om_resolved.specs.declared.resolved.UnaryOperator.{UnaryOperator}
 use Rattle.om_resolved.specs.declared.resolved.UnaryOperator.TheVariants as unaries
 use Rattle.om_resolved.specs.declared.resolved.Variable.TheVariants.{Local}
 use Rattle.om_resolved.specs.ResolvedTree as trees
-use Rattle.om_resolved.specs.ResolvedTree.{ResolvedExpressionTree, Constant, Element, Print, Unary, Binary,
-    Conditional, Assign, AssignElement, Postfix, PostfixElement, ValuesTree, NoValues, ResolvedDeclaratorTree,
-    ResolvedStartTree, StartNothing, StartExpression, StartDeclaration, ResolvedStatementTree, Declaration, Block,
-    Empty, Expression, If, IfElse, While, Do, For, Return, Break, Continue, ResolvedStatementsTree, NoStatements,
-    Statement}
+use Rattle.om_resolved.specs.ResolvedTree.{ResolvedExpressionTree, Constant, Element, Print, Unary, Binary, Conditional}
+use Rattle.om_resolved.specs.ResolvedTree.{Assign, AssignElement, Postfix, PostfixElement, ValuesTree, NoValues}
+use Rattle.om_resolved.specs.ResolvedTree.{ResolvedDeclaratorTree, ResolvedStartTree, StartNothing, StartExpression}
+use Rattle.om_resolved.specs.ResolvedTree.{StartDeclaration, ResolvedStatementTree, Declaration, Block, Empty}
+use Rattle.om_resolved.specs.ResolvedTree.{Expression, If, IfElse, While, Do, For, Return, Break, Continue}
+use Rattle.om_resolved.specs.ResolvedTree.{ResolvedStatementsTree, NoStatements, Statement}
 use Rattle.om_rows.specs.Operators.{BinaryForm, Both, Either, Plain, form_of, compound_of, step_of, undo_of}
-use Rattle.om_meaning.specs.Worlds.{World, Layout, Outcome, Got, Faulty, with_value, result, Values, GotAll,
-    FaultyAt, after_value, with_first, load, store, at_index, clear, print}
+use Rattle.om_meaning.specs.Worlds.{World, Layout, Outcome, Got, Faulty, with_value, result, Values, GotAll, FaultyAt}
+use Rattle.om_meaning.specs.Worlds.{after_value, with_first, load, store, at_index, clear, print}
 
 abbrev pub is_zero : ℤ → Bool
 is_zero v = int_eq v (pos 0)

@@ -1,10 +1,11 @@
 -- What has a meaning here: expressions and statements without calls and directives.
 use Rattle.std.specs.Prelude.{All, IfSome}
-use Rattle.om_resolved.specs.ResolvedTree.{ResolvedExpressionTree, Constant, Variable, Element, Unary, Binary,
-    Conditional, Assign, AssignElement, Postfix, PostfixElement, Print, ValuesTree, NoValues, Value,
-    ResolvedStartTree, StartNothing, StartExpression, StartDeclaration, ResolvedStatementTree, Declaration, Block,
-    Empty, Expression, If, IfElse, While, Do, For, Return, Break, Continue, ResolvedStatementsTree, NoStatements,
-    Statement}
+use Rattle.om_resolved.specs.ResolvedTree.{ResolvedExpressionTree, Constant, Variable, Element, Unary, Binary}
+use Rattle.om_resolved.specs.ResolvedTree.{Conditional, Assign, AssignElement, Postfix, PostfixElement, Print}
+use Rattle.om_resolved.specs.ResolvedTree.{ValuesTree, NoValues, Value, ResolvedStartTree, StartNothing}
+use Rattle.om_resolved.specs.ResolvedTree.{StartExpression, StartDeclaration, ResolvedStatementTree, Declaration, Block}
+use Rattle.om_resolved.specs.ResolvedTree.{Empty, Expression, If, IfElse, While, Do, For, Return, Break, Continue}
+use Rattle.om_resolved.specs.ResolvedTree.{ResolvedStatementsTree, NoStatements, Statement}
 
 abbrev mutual
   pub IsSerial : ResolvedExpressionTree → Type 0

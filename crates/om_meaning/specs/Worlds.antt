@@ -1,6 +1,6 @@
 -- What a body works on, and what an expression makes of it: its value or a fault.
-use Rattle.std.specs.Prelude.{ℕ, ℤ, Option, None, Some, Result, Ok, Err, List, [], ◌∷◌, ◌++◌, option_map, unwrap_or,
-    nat_eq, if◌then◌else◌}
+use Rattle.std.specs.Prelude.{ℕ, ℤ, Option, None, Some, Result, Ok, Err, List, [], ◌∷◌, ◌++◌, option_map, unwrap_or}
+use Rattle.std.specs.Prelude.{nat_eq, if◌then◌else◌}
 use Rattle.std.specs.Fmt.{signed_decimal}
 use Rattle.om_code.specs.declared.frame.Cell.{Cell}
 use Rattle.om_code.specs.declared.frame.Cell.TheVariants as cell

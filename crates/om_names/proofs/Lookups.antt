@@ -1,7 +1,8 @@
 -- Looking a name up in all scopes at once is looking it up in one after the other.
 use Rattle.std.specs.Prelude.{nat_eq, nat_lt}
-use Rattle.std.proofs.Common.{◌≡◌, ℕ, ◌<◌, ◌≤◌, suc, Bool, true, false, not, ◌&&◌, ◌||◌, List, [], ◌∷◌, ◌++◌,
-    Option, None, Some, is_some, map, reverse, if◌then◌else◌, length, Vec, refl, sym, ap, subst, ◌∙◌, true≢false, arith}
+use Rattle.std.proofs.Common.{◌≡◌, ℕ, ◌<◌, ◌≤◌, suc, Bool, true, false, not, ◌&&◌, ◌||◌, List, [], ◌∷◌, ◌++◌, Option}
+use Rattle.std.proofs.Common.{None, Some, is_some, map, reverse, if◌then◌else◌, length, Vec, refl, sym, ap, subst, ◌∙◌}
+use Rattle.std.proofs.Common.{true≢false, arith}
 use Rattle.std.proofs.lemmas.List.{length-map, length-reverse, reverse-append}
 use Rattle.std.specs.HashMap.{HashMap}
 use Rattle.std.specs.declared.alloc.Global.{Global}
@@ -13,11 +14,11 @@ use Rattle.om_names.specs.declared.nesting.Construct.{Construct}
 use Rattle.om_names.specs.declared.nesting.Holder.{Holder}
 use Rattle.om_names.specs.declared.nesting.Holder.TheVariants.{Own, Team, Task}
 use Rattle.om_rules.specs.declared.meaning.Meaning.{Meaning}
-use Rattle.om_names.specs.Nesting.{AreNested, enclosing_of, holder_in, holder_since, holder_within, is_copy,
-    outer_first, outside_of, region_in, unlisted_since}
+use Rattle.om_names.specs.Nesting.{AreNested, enclosing_of, holder_in, holder_since, holder_within, is_copy}
+use Rattle.om_names.specs.Nesting.{outer_first, outside_of, region_in, unlisted_since}
 use Rattle.om_rules.specs.Scopes.{Scope, meaning_outside, plain, scope_of}
-use Rattle.om_rules.specs.Sharing.{copied_outside, declares, is_own, is_parallel, is_task_without, lacks_clause,
-    unlisted_outside}
+use Rattle.om_rules.specs.Sharing.{copied_outside, declares, is_own, is_parallel, is_task_without, lacks_clause}
+use Rattle.om_rules.specs.Sharing.{unlisted_outside}
 use Rattle.om_names.specs.Sightings.{depth_of, meaning_of_sighting, scopes_of, sightings, with_sighting}
 use Rattle.om_names.specs.Stacks.{innermost_of}
 use Rattle.om_names.proofs.Stacked.{innermost-last}
@@ -55,7 +56,7 @@ none-inside (construct ∷ outer) depth nested = by (nat_eq construct.depth dept
 meaning-with : (outer : List Scope) (constructs : List Construct) (name : List ℕ) (found : Option Meaning)
     → meaning_outside (enclosing_of outer constructs) name ≡ meaning_of_sighting (innermost_of (sightings outer name))
     → option_or found (meaning_outside (enclosing_of outer constructs) name) ≡ meaning_of_sighting
-        (innermost_of (with_sighting (length outer) (sightings outer name) found))
+    (innermost_of (with_sighting (length outer) (sightings outer name) found))
 meaning-with outer constructs name None rest = rest
 meaning-with outer constructs name (Some meaning) rest =
     sym (ap meaning_of_sighting (innermost-last (sightings outer name)
@@ -66,11 +67,11 @@ meaning-innermost : (scopes : List Scope) (constructs : List Construct) (name : 
 meaning-innermost [] constructs name = refl
 meaning-innermost (scope ∷ outer) constructs name =
     meaning-with outer (outside_of constructs (length outer)) name (lookup (bytes_eq name) scope)
-        (meaning-innermost outer (outside_of constructs (length outer)) name)
+    (meaning-innermost outer (outside_of constructs (length outer)) name)
 
 pub meaning-here : (inner : Scope) (outer : List Scope) (constructs : List Construct) (name : List ℕ)
     → option_or (lookup (bytes_eq name) inner) (meaning_outside (enclosing_of outer constructs) name)
-        ≡ meaning_of_sighting (innermost_of (sightings (inner ∷ outer) name))
+    ≡ meaning_of_sighting (innermost_of (sightings (inner ∷ outer) name))
 meaning-here inner outer constructs name = meaning-with outer constructs name (lookup (bytes_eq name) inner)
     (meaning-innermost outer constructs name)
 
@@ -98,28 +99,28 @@ unlisted-here (construct ∷ outer) depth name nested = ap (λ b. if b then fals
 unlisted-step : (constructs : List Construct) (here depth : ℕ) (name : List ℕ) → AreNested constructs (suc here)
     → depth ≤ here
     → unlisted_since constructs depth name ≡ (lacks_clause (region_in constructs here) name || unlisted_since
-        (outside_of constructs here) depth name)
+    (outside_of constructs here) depth name)
 unlisted-step [] here depth name nested le = refl
 unlisted-step (construct ∷ outer) here depth name nested le = by (nat_eq construct.depth here) refl
   where
     by : (b : Bool) → nat_eq construct.depth here ≡ b
         → unlisted_since (construct ∷ outer) depth name ≡ (lacks_clause (if b then construct.region else plain) name
-            || unlisted_since (if b then outer else construct ∷ outer) depth name)
+        || unlisted_since (if b then outer else construct ∷ outer) depth name)
     by true e =
         let same = eqb-true construct.depth here e in
         let deep : depth ≤ construct.depth = omega (arith, same, le) in
         ap (λ b. if b then false else lacks_clause construct.region name || unlisted_since outer depth name)
-            (le-ltb construct.depth depth deep)
+        (le-ltb construct.depth depth deep)
     by false e = refl
 
 unlisted-innermost : (scopes : List Scope) (constructs : List Construct) (name : List ℕ) → AreNested constructs
     (length scopes)
     → unlisted_outside (enclosing_of scopes constructs) name ≡ unlisted_since constructs
-        (depth_of (innermost_of (sightings scopes name))) name
+    (depth_of (innermost_of (sightings scopes name))) name
 unlisted-innermost [] constructs name nested = sym (unlisted-here constructs 0 name nested)
 unlisted-innermost (scope ∷ outer) constructs name nested =
     by (lookup (bytes_eq name) scope) (unlisted-innermost outer (outside_of constructs (length outer)) name
-        (nested-outside constructs (length outer) nested))
+    (nested-outside constructs (length outer) nested))
   where
     or_nothing : (b : Bool) → (b || false) ≡ b
     or_nothing true = refl
@@ -129,21 +130,21 @@ unlisted-innermost (scope ∷ outer) constructs name nested =
         name ≡ unlisted_since (outside_of constructs (length outer))
         (depth_of (innermost_of (sightings outer name))) name
         → (lacks_clause (region_in constructs (length outer)) name
-            || (not (is_some found) && unlisted_outside (enclosing_of outer (outside_of constructs (length outer)))
-            name))
+        || (not (is_some found) && unlisted_outside (enclosing_of outer (outside_of constructs (length outer)))
+        name))
         ≡ unlisted_since constructs
-            (depth_of (innermost_of (with_sighting (length outer) (sightings outer name) found))) name
+        (depth_of (innermost_of (with_sighting (length outer) (sightings outer name) found))) name
     by None rest =
         ap (λ u. lacks_clause (region_in constructs (length outer)) name || u) rest
         ∙ sym (unlisted-step constructs (length outer) (depth_of (innermost_of (sightings outer name))) name nested
-            (depth-innermost outer name))
+        (depth-innermost outer name))
     by (Some meaning) rest =
         sym (ap (λ found. unlisted_since constructs (depth_of found) name) (innermost-last (sightings outer name)
-            (record { depth = length outer; meaning = meaning }))
+        (record { depth = length outer; meaning = meaning }))
         ∙ unlisted-step constructs (length outer) (length outer) name nested (omega arith)
         ∙ ap (λ u. lacks_clause (region_in constructs (length outer)) name || u)
-            (unlisted-here (outside_of constructs (length outer)) (length outer) name
-            (nested-outside constructs (length outer) nested)))
+        (unlisted-here (outside_of constructs (length outer)) (length outer) name
+        (nested-outside constructs (length outer) nested)))
 
 -- ---- whose a variable is
 
@@ -153,7 +154,7 @@ holder-past [] here depth name le nested = refl
 holder-past (construct ∷ outer) here depth name le nested =
     let lt : construct.depth < depth = omega (arith, nested.0, le) in
     ap (λ b. if b then Own else outer_first (holder_since outer depth name) (holder_in construct.region name))
-        (lt-ltb construct.depth depth lt)
+    (lt-ltb construct.depth depth lt)
 
 holder-here : (constructs : List Construct) (depth : ℕ) (name : List ℕ) → AreNested constructs depth
     → holder_since constructs depth name ≡ Own
@@ -167,19 +168,19 @@ outer_first-own Task = refl
 holder-step : (constructs : List Construct) (here depth : ℕ) (name : List ℕ) → AreNested constructs (suc here)
     → depth ≤ here
     → holder_since constructs depth name ≡ outer_first (holder_since (outside_of constructs here) depth name)
-        (holder_in (region_in constructs here) name)
+    (holder_in (region_in constructs here) name)
 holder-step [] here depth name nested le = refl
 holder-step (construct ∷ outer) here depth name nested le = by (nat_eq construct.depth here) refl
   where
     by : (b : Bool) → nat_eq construct.depth here ≡ b
         → holder_since (construct ∷ outer) depth name
-            ≡ outer_first (holder_since (if b then outer else construct ∷ outer) depth name)
-            (holder_in (if b then construct.region else plain) name)
+        ≡ outer_first (holder_since (if b then outer else construct ∷ outer) depth name)
+        (holder_in (if b then construct.region else plain) name)
     by true e =
         let same = eqb-true construct.depth here e in
         let deep : depth ≤ construct.depth = omega (arith, same, le) in
         ap (λ b. if b then Own else outer_first (holder_since outer depth name) (holder_in construct.region name))
-            (le-ltb construct.depth depth deep)
+        (le-ltb construct.depth depth deep)
     by false e = outer_first-own (holder_since (construct ∷ outer) depth name)
 
 outer_first-nested : (outer inner innermost : Holder) → outer_first outer (outer_first inner innermost)
@@ -191,7 +192,7 @@ outer_first-nested Task inner innermost = refl
 within-push : (outer : List Construct) (construct : Construct) (depth : ℕ) (name : List ℕ)
     → holder_within (outer ++ construct ∷ []) depth name
     ≡ outer_first (holder_within outer depth name) (if nat_lt construct.depth depth then Own else holder_in
-        construct.region name)
+    construct.region name)
 within-push [] construct depth name = by (nat_lt construct.depth depth)
   where
     by : (b : Bool) → (if b then Own else outer_first (holder_in construct.region name) Own)
@@ -203,17 +204,17 @@ within-push (first ∷ outer) construct depth name = by (nat_lt first.depth dept
   where
     by : (b : Bool)
         → holder_within (outer ++ construct ∷ []) depth name ≡ outer_first (holder_within outer depth name)
-            (if nat_lt construct.depth depth then Own else holder_in construct.region name)
+        (if nat_lt construct.depth depth then Own else holder_in construct.region name)
         → (if b then holder_within (outer ++ construct ∷ []) depth name else outer_first
-            (holder_in first.region name) (holder_within (outer ++ construct ∷ []) depth name))
+        (holder_in first.region name) (holder_within (outer ++ construct ∷ []) depth name))
         ≡ outer_first (if b then holder_within outer depth name else outer_first (holder_in first.region name)
-            (holder_within outer depth name)) (if nat_lt construct.depth depth then Own else holder_in
-            construct.region name)
+        (holder_within outer depth name)) (if nat_lt construct.depth depth then Own else holder_in
+        construct.region name)
     by true rest = rest
     by false rest =
         ap (outer_first (holder_in first.region name)) rest
         ∙ outer_first-nested (holder_in first.region name) (holder_within outer depth name)
-            (if nat_lt construct.depth depth then Own else holder_in construct.region name)
+        (if nat_lt construct.depth depth then Own else holder_in construct.region name)
 
 -- inwards as outwards
 pub holder-inwards : (constructs : List Construct) (here depth : ℕ) (name : List ℕ) → AreNested constructs here
@@ -223,16 +224,16 @@ holder-inwards (construct ∷ outer) here depth name nested =
     ap (λ cs. holder_within cs depth name) (reverse-append (construct ∷ []) outer)
     ∙ within-push (reverse outer) construct depth name
     ∙ ap (λ holder. outer_first holder (if nat_lt construct.depth depth then Own else holder_in construct.region
-        name)) (holder-inwards outer construct.depth depth name nested.1)
+    name)) (holder-inwards outer construct.depth depth name nested.1)
     ∙ by (nat_lt construct.depth depth) refl
   where
     by : (b : Bool) → nat_lt construct.depth depth ≡ b
         → outer_first (holder_since outer depth name) (if b then Own else holder_in construct.region name)
-            ≡ (if b then Own else outer_first (holder_since outer depth name) (holder_in construct.region name))
+        ≡ (if b then Own else outer_first (holder_since outer depth name) (holder_in construct.region name))
     by true e =
         let lt = ltb-true construct.depth depth e in
         ap (λ holder. outer_first holder Own) (holder-past outer construct.depth depth name (omega (arith, lt))
-            nested.1)
+        nested.1)
     by false e = refl
 
 -- no `parallel` among the constructs since a depth
@@ -249,18 +250,18 @@ alone-here (construct ∷ outer) depth nested = ap (λ b. if b then true else no
 
 alone-step : (constructs : List Construct) (here depth : ℕ) → AreNested constructs (suc here) → depth ≤ here
     → alone_since constructs depth ≡ (not (is_parallel (region_in constructs here).kind)
-        && alone_since (outside_of constructs here) depth)
+    && alone_since (outside_of constructs here) depth)
 alone-step [] here depth nested le = refl
 alone-step (construct ∷ outer) here depth nested le = by (nat_eq construct.depth here) refl
   where
     by : (b : Bool) → nat_eq construct.depth here ≡ b
         → alone_since (construct ∷ outer) depth ≡ (not (is_parallel (if b then construct.region else plain).kind)
-            && alone_since (if b then outer else construct ∷ outer) depth)
+        && alone_since (if b then outer else construct ∷ outer) depth)
     by true e =
         let same = eqb-true construct.depth here e in
         let deep : depth ≤ construct.depth = omega (arith, same, le) in
         ap (λ b. if b then true else not (is_parallel construct.region.kind) && alone_since outer depth)
-            (le-ltb construct.depth depth deep)
+        (le-ltb construct.depth depth deep)
     by false e = refl
 
 length-enclosing : (scopes : List Scope) (constructs : List Construct) → length (enclosing_of scopes constructs)
@@ -281,14 +282,14 @@ own-innermost : (scopes : List Scope) (constructs : List Construct) (name : List
     (length scopes)
     → is_own (enclosing_of scopes constructs) name
     ≡ (nat_lt 0 (depth_of (innermost_of (sightings scopes name))) && alone_since constructs
-        (depth_of (innermost_of (sightings scopes name))))
+    (depth_of (innermost_of (sightings scopes name))))
 own-innermost [] constructs name nested = refl
 own-innermost (scope ∷ outer) constructs name nested =
     ap (λ n. nat_lt 0 n && not (is_parallel (region_in constructs (length outer)).kind)
-        && (declares scope name || is_own (enclosing_of outer (outside_of constructs (length outer))) name))
-        (length-enclosing outer (outside_of constructs (length outer)))
+    && (declares scope name || is_own (enclosing_of outer (outside_of constructs (length outer))) name))
+    (length-enclosing outer (outside_of constructs (length outer)))
     ∙ by (lookup (bytes_eq name) scope) (own-innermost outer (outside_of constructs (length outer)) name
-        (nested-outside constructs (length outer) nested))
+    (nested-outside constructs (length outer) nested))
   where
     declared : (z p : Bool) → ((z && p) && true) ≡ (z && (p && true))
     declared true true = refl
@@ -306,27 +307,30 @@ own-innermost (scope ∷ outer) constructs name nested =
     by : (found : Option Meaning)
         → is_own (enclosing_of outer (outside_of constructs (length outer))) name
         ≡ (nat_lt 0 (depth_of (innermost_of (sightings outer name)))
-            && alone_since (outside_of constructs (length outer)) (depth_of (innermost_of (sightings outer name))))
+        && alone_since (outside_of constructs (length outer)) (depth_of (innermost_of (sightings outer name))))
         → (nat_lt 0 (length outer) && not (is_parallel (region_in constructs (length outer)).kind)
-            && (is_some found || is_own (enclosing_of outer (outside_of constructs (length outer))) name))
+        && (is_some found || is_own (enclosing_of outer (outside_of constructs (length outer))) name))
         ≡ (nat_lt 0 (depth_with outer name found) && alone_since constructs (depth_with outer name found))
     by None rest =
         ap (λ own. nat_lt 0 (length outer) && not (is_parallel (region_in constructs (length outer)).kind) && own) rest
         ∙ further (nat_lt 0 (length outer)) (nat_lt 0 (depth_of (innermost_of (sightings outer name))))
-            (not (is_parallel (region_in constructs (length outer)).kind))
-            (alone_since (outside_of constructs (length outer)) (depth_of (innermost_of (sightings outer name))))
-        (λ e. lt-ltb 0 (length outer) (omega (arith, ltb-true 0 (depth_of (innermost_of (sightings outer name))) e,
-            depth-innermost outer name)))
+        (not (is_parallel (region_in constructs (length outer)).kind))
+        (alone_since (outside_of constructs (length outer)) (depth_of (innermost_of (sightings outer name))))
+        (λ e. lt-ltb 0 (length outer) (omega (
+          arith,
+          ltb-true 0 (depth_of (innermost_of (sightings outer name))) e,
+          depth-innermost outer name,
+        )))
         ∙ ap (λ alone. nat_lt 0 (depth_of (innermost_of (sightings outer name))) && alone)
-            (sym (alone-step constructs (length outer) (depth_of (innermost_of (sightings outer name))) nested
-            (depth-innermost outer name)))
+        (sym (alone-step constructs (length outer) (depth_of (innermost_of (sightings outer name))) nested
+        (depth-innermost outer name)))
     by (Some meaning) rest =
         declared (nat_lt 0 (length outer)) (not (is_parallel (region_in constructs (length outer)).kind))
         ∙ ap (λ alone. nat_lt 0 (length outer) && (not (is_parallel (region_in constructs (length outer)).kind)
-            && alone)) (sym (alone-here (outside_of constructs (length outer)) (length outer)
-            (nested-outside constructs (length outer) nested)))
+        && alone)) (sym (alone-here (outside_of constructs (length outer)) (length outer)
+        (nested-outside constructs (length outer) nested)))
         ∙ ap (λ alone. nat_lt 0 (length outer) && alone)
-            (sym (alone-step constructs (length outer) (length outer) nested (omega arith)))
+        (sym (alone-step constructs (length outer) (length outer) nested (omega arith)))
         ∙ ap (λ depth. nat_lt 0 depth && alone_since constructs depth) (sym (depth-own outer name meaning))
 
 -- whether a `parallel` stands between says as much as whose the variable is, until a `task` copies it
@@ -344,7 +348,7 @@ fits (construct ∷ outer) depth name = by (nat_lt construct.depth depth) (holde
   where
     by : (b : Bool) (holder : Holder) (alone : Bool) → Fits holder alone → (p t : Bool)
         → Fits (if b then Own else outer_first holder (if p then Team else if t then Task else Own))
-            (if b then true else not p && alone)
+        (if b then true else not p && alone)
     by true holder alone fit p t = refl
     by false Own alone fit true t = refl
     by false Own alone fit false true = tt
@@ -357,14 +361,14 @@ copied-innermost : (scopes : List Scope) (constructs : List Construct) (name : L
     (length scopes)
     → copied_outside (enclosing_of scopes constructs) name
     ≡ (nat_lt 0 (depth_of (innermost_of (sightings scopes name)))
-        && is_copy (holder_since constructs (depth_of (innermost_of (sightings scopes name))) name))
+    && is_copy (holder_since constructs (depth_of (innermost_of (sightings scopes name))) name))
 copied-innermost [] constructs name nested = refl
 copied-innermost (scope ∷ outer) constructs name nested =
     ap (λ own. (is_task_without (region_in constructs (length outer)) name && own)
-        || (not (declares scope name) && copied_outside (enclosing_of outer (outside_of constructs (length outer)))
-        name)) (own-innermost (scope ∷ outer) constructs name nested)
+    || (not (declares scope name) && copied_outside (enclosing_of outer (outside_of constructs (length outer)))
+    name)) (own-innermost (scope ∷ outer) constructs name nested)
     ∙ by (lookup (bytes_eq name) scope) (copied-innermost outer (outside_of constructs (length outer)) name
-        (nested-outside constructs (length outer) nested))
+    (nested-outside constructs (length outer) nested))
   where
     declared : (z p t : Bool) → ((t && (z && (not p && true))) || false)
         ≡ (z && is_copy (if p then Team else if t then Task else Own))
@@ -378,7 +382,7 @@ copied-innermost (scope ∷ outer) constructs name nested =
 
     further : (z p t alone : Bool) (holder : Holder) → Fits holder alone
         → ((t && (z && (not p && alone))) || (z && is_copy holder))
-            ≡ (z && is_copy (outer_first holder (if p then Team else if t then Task else Own)))
+        ≡ (z && is_copy (outer_first holder (if p then Team else if t then Task else Own)))
     further false p true alone holder fit = refl
     further false p false alone holder fit = refl
     further true true true alone Own fit = refl
@@ -400,54 +404,54 @@ copied-innermost (scope ∷ outer) constructs name nested =
     by : (found : Option Meaning)
         → copied_outside (enclosing_of outer (outside_of constructs (length outer))) name
         ≡ (nat_lt 0 (depth_of (innermost_of (sightings outer name)))
-            && is_copy (holder_since (outside_of constructs (length outer))
-            (depth_of (innermost_of (sightings outer name))) name))
+        && is_copy (holder_since (outside_of constructs (length outer))
+        (depth_of (innermost_of (sightings outer name))) name))
         → ((is_task_without (region_in constructs (length outer)) name && (nat_lt 0 (depth_with outer name found)
-            && alone_since constructs (depth_with outer name found)))
+        && alone_since constructs (depth_with outer name found)))
         || (not (is_some found) && copied_outside (enclosing_of outer (outside_of constructs (length outer))) name))
         ≡ (nat_lt 0 (depth_with outer name found) && is_copy (holder_since constructs (depth_with outer name found)
-            name))
+        name))
     by None rest =
         ap (λ copied. (is_task_without (region_in constructs (length outer)) name
-            && (nat_lt 0 (depth_with outer name None) && alone_since constructs (depth_with outer name None)))
-            || copied) rest
+        && (nat_lt 0 (depth_with outer name None) && alone_since constructs (depth_with outer name None)))
+        || copied) rest
         ∙ ap (λ alone. (is_task_without (region_in constructs (length outer)) name
-            && (nat_lt 0 (depth_with outer name None) && alone)) || (nat_lt 0 (depth_with outer name None)
-            && is_copy (holder_since (outside_of constructs (length outer)) (depth_with outer name None) name)))
-            (alone-step constructs (length outer) (depth_with outer name None) nested (depth-innermost outer name))
+        && (nat_lt 0 (depth_with outer name None) && alone)) || (nat_lt 0 (depth_with outer name None)
+        && is_copy (holder_since (outside_of constructs (length outer)) (depth_with outer name None) name)))
+        (alone-step constructs (length outer) (depth_with outer name None) nested (depth-innermost outer name))
         ∙ further (nat_lt 0 (depth_with outer name None)) (is_parallel (region_in constructs (length outer)).kind)
-            (is_task_without (region_in constructs (length outer)) name)
-            (alone_since (outside_of constructs (length outer)) (depth_with outer name None))
-            (holder_since (outside_of constructs (length outer)) (depth_with outer name None) name)
-            (fits (outside_of constructs (length outer)) (depth_with outer name None) name)
+        (is_task_without (region_in constructs (length outer)) name)
+        (alone_since (outside_of constructs (length outer)) (depth_with outer name None))
+        (holder_since (outside_of constructs (length outer)) (depth_with outer name None) name)
+        (fits (outside_of constructs (length outer)) (depth_with outer name None) name)
         ∙ ap (λ holder. nat_lt 0 (depth_with outer name None) && is_copy holder)
-            (sym (holder-step constructs (length outer) (depth_with outer name None) name nested
-            (depth-innermost outer name)))
+        (sym (holder-step constructs (length outer) (depth_with outer name None) name nested
+        (depth-innermost outer name)))
     by (Some meaning) rest =
         ap (λ depth. (is_task_without (region_in constructs (length outer)) name
-            && (nat_lt 0 depth && alone_since constructs depth)) || false) (depth-own outer name meaning)
+        && (nat_lt 0 depth && alone_since constructs depth)) || false) (depth-own outer name meaning)
         ∙ ap (λ alone. (is_task_without (region_in constructs (length outer)) name
-            && (nat_lt 0 (length outer) && alone)) || false) (alone-step constructs (length outer) (length outer)
-            nested (omega arith) ∙ ap (λ alone. not (is_parallel (region_in constructs (length outer)).kind)
-            && alone) (alone-here (outside_of constructs (length outer)) (length outer)
-            (nested-outside constructs (length outer) nested)))
+        && (nat_lt 0 (length outer) && alone)) || false) (alone-step constructs (length outer) (length outer)
+        nested (omega arith) ∙ ap (λ alone. not (is_parallel (region_in constructs (length outer)).kind)
+        && alone) (alone-here (outside_of constructs (length outer)) (length outer)
+        (nested-outside constructs (length outer) nested)))
         ∙ declared (nat_lt 0 (length outer)) (is_parallel (region_in constructs (length outer)).kind)
-            (is_task_without (region_in constructs (length outer)) name)
+        (is_task_without (region_in constructs (length outer)) name)
         ∙ ap (λ holder. nat_lt 0 (length outer)
-            && is_copy (outer_first holder (holder_in (region_in constructs (length outer)) name)))
-            (sym (holder-here (outside_of constructs (length outer)) (length outer) name
-            (nested-outside constructs (length outer) nested)))
+        && is_copy (outer_first holder (holder_in (region_in constructs (length outer)) name)))
+        (sym (holder-here (outside_of constructs (length outer)) (length outer) name
+        (nested-outside constructs (length outer) nested)))
         ∙ ap (λ holder. nat_lt 0 (length outer) && is_copy holder)
-            (sym (holder-step constructs (length outer) (length outer) name nested (omega arith)))
+        (sym (holder-step constructs (length outer) (length outer) name nested (omega arith)))
         ∙ ap (λ depth. nat_lt 0 depth && is_copy (holder_since constructs depth name))
-            (sym (depth-own outer name meaning))
+        (sym (depth-own outer name meaning))
 
 -- ---- at a place
 
 pub unlisted-at : (inner : Scope) (outer : List Scope) (constructs : List Construct) (name : List ℕ)
     → AreNested constructs (length outer)
     → (not (declares inner name) && unlisted_outside (enclosing_of outer constructs) name)
-        ≡ unlisted_since constructs (depth_of (innermost_of (sightings (inner ∷ outer) name))) name
+    ≡ unlisted_since constructs (depth_of (innermost_of (sightings (inner ∷ outer) name))) name
 unlisted-at inner outer constructs name nested = by (lookup (bytes_eq name) inner)
   where
     by : (found : Option Meaning) → (not (is_some found) && unlisted_outside (enclosing_of outer constructs) name)
@@ -460,7 +464,7 @@ pub copied-at : (inner : Scope) (outer : List Scope) (constructs : List Construc
     → AreNested constructs (length outer)
     → (not (declares inner name) && copied_outside (enclosing_of outer constructs) name)
     ≡ (nat_lt 0 (depth_of (innermost_of (sightings (inner ∷ outer) name)))
-        && is_copy (holder_since constructs (depth_of (innermost_of (sightings (inner ∷ outer) name))) name))
+    && is_copy (holder_since constructs (depth_of (innermost_of (sightings (inner ∷ outer) name))) name))
 copied-at inner outer constructs name nested = by (lookup (bytes_eq name) inner)
   where
     never : (z : Bool) → (z && false) ≡ false

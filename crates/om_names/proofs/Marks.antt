@@ -1,8 +1,8 @@
 -- The innermost construct that does not list a name, found by the listings of the name and by the innermost of all.
 use Rattle.std.specs.Prelude.{nat_lt}
-use Rattle.std.proofs.Common.{◌≡◌, ℕ, ◌+◌, ◌<◌, ◌≤◌, suc, length, take, drop, get_or, Bool, true, false, not, ◌&&◌,
-    ◌||◌, List, [], ◌∷◌, ◌++◌, Option, None, Some, map, if◌then◌else◌, Vec, refl, sym, ap, subst, ◌∙◌, true≢false,
-    arith}
+use Rattle.std.proofs.Common.{◌≡◌, ℕ, ◌+◌, ◌<◌, ◌≤◌, suc, length, take, drop, get_or, Bool, true, false, not, ◌&&◌}
+use Rattle.std.proofs.Common.{◌||◌, List, [], ◌∷◌, ◌++◌, Option, None, Some, map, if◌then◌else◌, Vec, refl, sym, ap}
+use Rattle.std.proofs.Common.{subst, ◌∙◌, true≢false, arith}
 use Rattle.std.specs.declared.alloc.Global.{Global}
 use Rattle.std.proofs.lemmas.Bool.{lt-ltb, le-ltb, ltb-true, ltb-false}
 use Rattle.std.specs.List.{AllByRecursion, IsDistinct, list_any}
@@ -18,9 +18,9 @@ use Rattle.om_names.specs.declared.nesting.Holder.TheVariants.{Own, Team, Task}
 use Rattle.om_rules.specs.declared.region.Region.{Region}
 use Rattle.om_rules.specs.Scopes.{same_name}
 use Rattle.om_rules.specs.Sharing.{is_parallel, is_task_without, lacks_clause}
-use Rattle.om_names.specs.Nesting.{AreNested, ChangedFor, Lists, asks, copies, deeper, end_of, entered,
-    holder_since, innermost, innermost_without, is_copy, listing, listings, lists, marks_behind, marks_of,
-    marks_without, outer_first, unlisted_since, with_listing}
+use Rattle.om_names.specs.Nesting.{AreNested, ChangedFor, Lists, asks, copies, deeper, end_of, entered, holder_since}
+use Rattle.om_names.specs.Nesting.{innermost, innermost_without, is_copy, listing, listings, lists, marks_behind}
+use Rattle.om_names.specs.Nesting.{marks_of, marks_without, outer_first, unlisted_since, with_listing}
 use Rattle.om_names.specs.Stacks.{innermost_of, seen_in, without_innermost}
 use Rattle.om_names.proofs.Stacked.{innermost-last, name_itself, same_names, without-last}
 
@@ -53,7 +53,7 @@ listed-below (construct ∷ outer) depth name found nested e = by (lists constru
         → (innermost_of (listings outer name) ≡ Some found → found.depth ≤ construct.depth) → found.depth ≤ depth
     by true is rest =
         let same : listing (suc construct.depth) outer name ≡ found = some-same
-            (sym (innermost-last (listings outer name) (listing (suc construct.depth) outer name)) ∙ is) in
+        (sym (innermost-last (listings outer name) (listing (suc construct.depth) outer name)) ∙ is) in
         subst (λ l. l.depth ≤ depth) same (omega (arith, nested.0))
     by false is rest = omega (arith, nested.0, rest is)
 
@@ -64,14 +64,14 @@ found_behind outer (Some found) any = deeper found.depth any (outer found)
 
 without-innermost : (is_such : Region → Bool) (mark : Listing → ℕ)
     → ((inside : ℕ) (outer : List Construct) (name : List ℕ) → mark (listing inside outer name) ≡ innermost_without
-        is_such outer name)
+    is_such outer name)
     → (constructs : List Construct) (depth : ℕ) (name : List ℕ) → AreNested constructs depth
     → found_behind mark (innermost_of (listings constructs name)) (innermost is_such constructs) ≡ innermost_without
-        is_such constructs name
+    is_such constructs name
 without-innermost is_such mark marked [] depth name nested = refl
 without-innermost is_such mark marked (construct ∷ outer) depth name nested =
     by (lists construct.region name) (is_such construct.region) (without-innermost is_such mark marked outer
-        construct.depth name nested.1)
+    construct.depth name nested.1)
   where
     behind : (found : Option Listing) → ((l : Listing) → found ≡ Some l → l.depth ≤ construct.depth)
         → found_behind mark found (suc construct.depth) ≡ suc construct.depth
@@ -82,20 +82,20 @@ without-innermost is_such mark marked (construct ∷ outer) depth name nested =
     by : (listed such : Bool) → found_behind mark (innermost_of (listings outer name)) (innermost is_such outer)
         ≡ innermost_without is_such outer name
         → found_behind mark (innermost_of (if listed then listings outer name ++ listing (suc construct.depth) outer
-            name ∷ [] else listings outer name)) (if such then suc construct.depth else innermost is_such outer)
+        name ∷ [] else listings outer name)) (if such then suc construct.depth else innermost is_such outer)
         ≡ (if such && not listed then suc construct.depth else innermost_without is_such outer name)
     by true true rest =
         ap (λ found. found_behind mark found (suc construct.depth)) (innermost-last (listings outer name)
-            (listing (suc construct.depth) outer name))
+        (listing (suc construct.depth) outer name))
         ∙ ap (λ b. if b then suc construct.depth else mark (listing (suc construct.depth) outer name))
-            (le-ltb (suc construct.depth) (suc construct.depth) (omega arith))
+        (le-ltb (suc construct.depth) (suc construct.depth) (omega arith))
         ∙ marked (suc construct.depth) outer name
     by true false rest =
         ap (λ found. found_behind mark found (innermost is_such outer)) (innermost-last (listings outer name)
-            (listing (suc construct.depth) outer name))
+        (listing (suc construct.depth) outer name))
         ∙ ap (λ b. if b then innermost is_such outer else mark (listing (suc construct.depth) outer name))
         (le-ltb (suc construct.depth) (innermost is_such outer) (let le = innermost-below is_such outer
-            construct.depth nested.1 in omega (arith, le)))
+        construct.depth nested.1 in omega (arith, le)))
         ∙ marked (suc construct.depth) outer name
     by false true rest = behind (innermost_of (listings outer name)) (λ l is. listed-below outer construct.depth
         name l nested.1 is)
@@ -106,15 +106,21 @@ pub marks-without : (constructs : List Construct) (depth : ℕ) (name : List ℕ
     → marks_behind (innermost_of (listings constructs name)) (marks_of constructs) ≡ marks_without constructs name
 marks-without constructs depth name nested =
     by (innermost_of (listings constructs name))
-    ∙ ap (λ asking. record { asking = asking; copying = found_behind (λ l. l.outer.copying)
-        (innermost_of (listings constructs name)) (innermost copies constructs) })
+    ∙ ap (λ asking. record {
+      asking = asking;
+      copying = found_behind (λ l. l.outer.copying)
+          (innermost_of (listings constructs name)) (innermost copies constructs);
+    })
     (without-innermost asks (λ l. l.outer.asking) (λ inside outer name. refl) constructs depth name nested)
     ∙ ap (λ copying. record { asking = innermost_without asks constructs name; copying = copying })
     (without-innermost copies (λ l. l.outer.copying) (λ inside outer name. refl) constructs depth name nested)
   where
     by : (found : Option Listing) → marks_behind found (marks_of constructs)
-        ≡ record { asking = found_behind (λ l. l.outer.asking) found (innermost asks constructs); copying =
-            found_behind (λ l. l.outer.copying) found (innermost copies constructs) }
+        ≡ record {
+          asking = found_behind (λ l. l.outer.asking) found (innermost asks constructs);
+          copying =
+              found_behind (λ l. l.outer.copying) found (innermost copies constructs);
+        }
     by None = refl
     by (Some found) = refl
 
@@ -137,13 +143,13 @@ pub unlisted-mark : (constructs : List Construct) (end depth : ℕ) (name : List
 unlisted-mark [] end depth name nested = le-ltb depth 0 (omega arith)
 unlisted-mark (construct ∷ outer) end depth name nested =
     by (nat_lt construct.depth depth) refl (lacks_clause construct.region name) (unlisted-mark outer construct.depth
-        depth name nested.1) (without-below asks outer construct.depth name nested.1)
+    depth name nested.1) (without-below asks outer construct.depth name nested.1)
   where
     by : (past : Bool) → nat_lt construct.depth depth ≡ past → (lacks : Bool)
         → nat_lt depth (innermost_without asks outer name) ≡ unlisted_since outer depth name → innermost_without
         asks outer name ≤ construct.depth
         → nat_lt depth (if lacks then suc construct.depth else innermost_without asks outer name)
-            ≡ (if past then false else lacks || unlisted_since outer depth name)
+        ≡ (if past then false else lacks || unlisted_since outer depth name)
     by true e true rest below = le-ltb depth (suc construct.depth) (let lt = ltb-true construct.depth depth e in
         omega (arith, lt))
     by true e false rest below = le-ltb depth (innermost_without asks outer name) (let lt = ltb-true construct.depth
@@ -158,14 +164,14 @@ pub copied-mark : (constructs : List Construct) (depth : ℕ) (name : List ℕ) 
 copied-mark [] depth name le = refl
 copied-mark (construct ∷ outer) depth name le =
     by (nat_lt construct.depth depth) refl (is_task_without construct.region name) le
-        (is_parallel construct.region.kind) (holder_since outer depth name) (copied-mark outer depth name)
+    (is_parallel construct.region.kind) (holder_since outer depth name) (copied-mark outer depth name)
   where
     by : (past : Bool) → nat_lt construct.depth depth ≡ past → (without : Bool)
         → (if without then suc construct.depth else innermost_without copies outer name) ≤ depth → (parallel : Bool)
         (holder : Holder)
         → (innermost_without copies outer name ≤ depth → is_copy holder ≡ false)
         → is_copy (if past then Own else outer_first holder (if parallel then Team else if without then Task else
-            Own)) ≡ false
+        Own)) ≡ false
     by true e without below parallel holder rest = refl
     by false e true below parallel holder rest = absurd (let le = ltb-false construct.depth depth e in omega
         (arith, le, below))
@@ -189,7 +195,7 @@ new-name [] rest name distinct = refl
 new-name (other ∷ front) rest name distinct =
     by (bytes_eq name.items other.items) refl
     (last_apart (λ n. same_name other n ≡ false) front rest name
-        (IsDistinct-head same_name other (front ++ name ∷ rest) distinct))
+    (IsDistinct-head same_name other (front ++ name ∷ rest) distinct))
     (new-name front rest name (IsDistinct-tail same_name other (front ++ name ∷ rest) distinct))
   where
     by : (b : Bool) → bytes_eq name.items other.items ≡ b → bytes_eq other.items name.items ≡ false
@@ -202,7 +208,7 @@ new-name (other ∷ front) rest name distinct =
 
 any-push : (test : List ℕ → Bool) (names : List (Vec ℕ Global)) (name : Vec ℕ Global)
     → list_any test (map (λ n. n.items) (names ++ name ∷ [])) ≡ (list_any test (map (λ n. n.items) names)
-        || test name.items)
+    || test name.items)
 any-push test [] name = by (test name.items)
   where
     by : (b : Bool) → (b || false) ≡ b
@@ -213,7 +219,7 @@ any-push test (other ∷ names) name = by (test other.items) (any-push test name
     by : (b : Bool) → list_any test (map (λ n. n.items) (names ++ name ∷ []))
         ≡ (list_any test (map (λ n. n.items) names) || test name.items)
         → (b || list_any test (map (λ n. n.items) (names ++ name ∷ [])))
-            ≡ ((b || list_any test (map (λ n. n.items) names)) || test name.items)
+        ≡ ((b || list_any test (map (λ n. n.items) names)) || test name.items)
     by true rest = refl
     by false rest = rest
 
@@ -222,23 +228,23 @@ pub changed-more : (change : List Listing → List Listing) (before now next : L
     (taken rest : List (Vec ℕ Global)) (name : Vec ℕ Global)
     → IsDistinct same_name (taken ++ name ∷ rest) → ChangedFor change before now (map (λ n. n.items) taken)
     → ((other : List ℕ) → seen_in next other ≡ (if bytes_eq other name.items then change (seen_in now other) else
-        seen_in now other))
+    seen_in now other))
     → ChangedFor change before next (map (λ n. n.items) (taken ++ name ∷ []))
 changed-more change before now next taken rest name distinct changed more other =
     more other
     ∙ ap (λ seen. if bytes_eq other name.items then change seen else seen) (changed other)
     ∙ by (bytes_eq other name.items) (list_any (bytes_eq other) (map (λ n. n.items) taken)) refl refl
     ∙ ap (λ b. if b then change (seen_in before other) else seen_in before other)
-        (sym (any-push (bytes_eq other) taken name))
+    (sym (any-push (bytes_eq other) taken name))
   where
     by : (here among : Bool) → bytes_eq other name.items ≡ here → list_any (bytes_eq other)
         (map (λ n. n.items) taken) ≡ among
         → (if here then change (if among then change (seen_in before other) else seen_in before other) else
-            (if among then change (seen_in before other) else seen_in before other))
+        (if among then change (seen_in before other) else seen_in before other))
         ≡ (if among || here then change (seen_in before other) else seen_in before other)
     by true true e h =
         absurd (true≢false (sym (ap (λ n. list_any (bytes_eq n) (map (λ n. n.items) taken))
-            (sym (same_names other name.items e)) ∙ h) ∙ new-name taken rest name distinct))
+        (sym (same_names other name.items e)) ∙ h) ∙ new-name taken rest name distinct))
     by true false e h = refl
     by false true e h = refl
     by false false e h = refl
@@ -247,30 +253,30 @@ changed-more change before now next taken rest name distinct changed more other 
 pub changed-next : (change : List Listing → List Listing) (before now next : List (List ℕ × List Listing))
     (names : List (Vec ℕ Global)) (index : ℕ) (name : Vec ℕ Global)
     → index < length names → name ≡ get_or names index name → IsDistinct same_name names → ChangedFor change before
-        now (map (λ n. n.items) (take index names))
+    now (map (λ n. n.items) (take index names))
     → ((other : List ℕ) → seen_in next other ≡ (if bytes_eq other name.items then change (seen_in now other) else
-        seen_in now other))
+    seen_in now other))
     → ChangedFor change before next (map (λ n. n.items) (take (index + 1) names))
 changed-next change before now next names index name within is distinct changed more =
     let split : names ≡ take index names ++ name ∷ drop (suc index) names = split_at names index name within
-        ∙ ap (λ n. take index names ++ n ∷ drop (suc index) names) (sym is) in
+    ∙ ap (λ n. take index names ++ n ∷ drop (suc index) names) (sym is) in
     subst (λ ns. ChangedFor change before next (map (λ n. n.items) ns))
-        (sym (take_more names index name within ∙ ap (λ n. take index names ++ n ∷ []) (sym is)))
+    (sym (take_more names index name within ∙ ap (λ n. take index names ++ n ∷ []) (sym is)))
     (changed-more change before now next (take index names) (drop (suc index) names) name
-        (subst (IsDistinct same_name) split distinct) changed more)
+    (subst (IsDistinct same_name) split distinct) changed more)
 
 -- a listing that is noted by what stands round its construct
 pub noted-listing : (inside : ℕ) (all marks : Marks) (now next : List (List ℕ × List Listing)) (name : List ℕ)
     → marks ≡ marks_behind (innermost_of (seen_in now name)) all
     → ((other : List ℕ) → seen_in next other ≡ (if bytes_eq other name then seen_in now other
-        ++ record { depth = inside; outer = marks } ∷ [] else seen_in now other))
+    ++ record { depth = inside; outer = marks } ∷ [] else seen_in now other))
     → (other : List ℕ) → seen_in next other ≡ (if bytes_eq other name then with_listing inside all
-        (seen_in now other) else seen_in now other)
+    (seen_in now other) else seen_in now other)
 noted-listing inside all marks now next name is noted other = noted other ∙ by (bytes_eq other name) refl
   where
     by : (b : Bool) → bytes_eq other name ≡ b
         → (if b then seen_in now other ++ record { depth = inside; outer = marks } ∷ [] else seen_in now other)
-            ≡ (if b then with_listing inside all (seen_in now other) else seen_in now other)
+        ≡ (if b then with_listing inside all (seen_in now other) else seen_in now other)
     by true e = ap (λ marks. seen_in now other ++ record { depth = inside; outer = marks } ∷ [])
         (is ∙ ap (λ n. marks_behind (innermost_of (seen_in now n)) all) (sym (same_names other name e)))
     by false e = refl
@@ -285,12 +291,12 @@ nested-end (construct ∷ outer) depth nested = (omega arith, nested.1)
 pub lists-entered : (table now : List (List ℕ × List Listing)) (outer : List Construct) (depth : ℕ)
     (region : Region) → AreNested outer depth → Lists table outer
     → ChangedFor (with_listing (suc depth) (marks_of outer)) table now region.shared
-        → Lists now (entered depth region outer)
+    → Lists now (entered depth region outer)
 lists-entered table now outer depth region nested shown changed name =
     changed name
     ∙ ap (λ seen. if lists region name then with_listing (suc depth) (marks_of outer) seen else seen) (shown name)
     ∙ ap (λ marks. if lists region name then listings outer name ++ record { depth = suc depth; outer = marks }
-        ∷ [] else listings outer name) (marks-without outer depth name nested)
+    ∷ [] else listings outer name) (marks-without outer depth name nested)
 
 pub lists-left : (table now : List (List ℕ × List Listing)) (construct : Construct) (outer : List Construct)
     → Lists table (construct ∷ outer)

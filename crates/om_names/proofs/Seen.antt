@@ -1,6 +1,6 @@
 -- The declarations of names, as scopes get further ones and end.
-use Rattle.std.proofs.Common.{◌≡◌, ℕ, Bool, true, false, cond, List, [], ◌∷◌, ◌++◌, Option, None, Some, is_some,
-    if◌then◌else◌, length, refl, sym, ap, ◌∙◌, true≢false, Vec}
+use Rattle.std.proofs.Common.{◌≡◌, ℕ, Bool, true, false, cond, List, [], ◌∷◌, ◌++◌, Option, None, Some, is_some}
+use Rattle.std.proofs.Common.{if◌then◌else◌, length, refl, sym, ap, ◌∙◌, true≢false, Vec}
 use Rattle.std.specs.declared.alloc.Global.{Global}
 use Rattle.std.specs.List.{AllByRecursion, IsDistinct}
 use Rattle.std.specs.Map.{keys_of, lookup}
@@ -18,15 +18,15 @@ use Rattle.om_names.proofs.Stacked.{name_itself, same_names, without-last}
 
 lookup-push : (scope : Scope) (name : List ℕ) (meaning : Meaning) (other : List ℕ)
     → lookup (bytes_eq other) (scope ++ (name, meaning) ∷ []) ≡ option_or (lookup (bytes_eq other) scope)
-        (cond (bytes_eq other name) (Some meaning) None)
+    (cond (bytes_eq other name) (Some meaning) None)
 lookup-push [] name meaning other = refl
 lookup-push (binding ∷ scope) name meaning other = by (bytes_eq other binding.0) (lookup-push scope name meaning other)
   where
     by : (b : Bool) → lookup (bytes_eq other) (scope ++ (name, meaning) ∷ [])
         ≡ option_or (lookup (bytes_eq other) scope) (cond (bytes_eq other name) (Some meaning) None)
         → cond b (Some binding.1) (lookup (bytes_eq other) (scope ++ (name, meaning) ∷ []))
-            ≡ option_or (cond b (Some binding.1) (lookup (bytes_eq other) scope))
-            (cond (bytes_eq other name) (Some meaning) None)
+        ≡ option_or (cond b (Some binding.1) (lookup (bytes_eq other) scope))
+        (cond (bytes_eq other name) (Some meaning) None)
     by true rest = refl
     by false rest = rest
 
@@ -35,10 +35,10 @@ pub sightings-push : (scope : Scope) (outer : List Scope) (name : List ℕ) (mea
     → lookup (bytes_eq name) scope ≡ None → (other : List ℕ)
     → sightings ((scope ++ (name, meaning) ∷ []) ∷ outer) other
     ≡ (if bytes_eq other name then sightings (scope ∷ outer) other
-        ++ record { depth = length outer; meaning = meaning } ∷ [] else sightings (scope ∷ outer) other)
+    ++ record { depth = length outer; meaning = meaning } ∷ [] else sightings (scope ∷ outer) other)
 sightings-push scope outer name meaning new other =
     ap (with_sighting (length outer) (sightings outer other)) (lookup-push scope name meaning other)
-        ∙ by (bytes_eq other name) refl
+    ∙ by (bytes_eq other name) refl
   where
     to_none : (found : Option Meaning) → option_or found None ≡ found
     to_none None = refl
@@ -46,13 +46,13 @@ sightings-push scope outer name meaning new other =
 
     by : (b : Bool) → bytes_eq other name ≡ b
         → with_sighting (length outer) (sightings outer other) (option_or (lookup (bytes_eq other) scope)
-            (cond b (Some meaning) None))
+        (cond b (Some meaning) None))
         ≡ (if b then with_sighting (length outer) (sightings outer other) (lookup (bytes_eq other) scope)
-            ++ record { depth = length outer; meaning = meaning } ∷ [] else with_sighting (length outer)
-            (sightings outer other) (lookup (bytes_eq other) scope))
+        ++ record { depth = length outer; meaning = meaning } ∷ [] else with_sighting (length outer)
+        (sightings outer other) (lookup (bytes_eq other) scope))
     by true e =
         let none : lookup (bytes_eq other) scope ≡ None = ap (λ n. lookup (bytes_eq n) scope)
-            (same_names other name e) ∙ new in
+        (same_names other name e) ∙ new in
         rw none refl
     by false e = ap (with_sighting (length outer) (sightings outer other)) (to_none (lookup (bytes_eq other) scope))
 
@@ -60,26 +60,26 @@ sightings-push scope outer name meaning new other =
 pub shows-push : (table now : List (List ℕ × List Sighting)) (scope : Scope) (outer : List Scope) (name : List ℕ)
     (meaning : Meaning) (depth : ℕ) → lookup (bytes_eq name) scope ≡ None → depth ≡ length outer
     → ((other : List ℕ) → seen_in now other ≡ (if bytes_eq other name then seen_in table other
-        ++ record { depth = depth; meaning = meaning } ∷ [] else seen_in table other))
+    ++ record { depth = depth; meaning = meaning } ∷ [] else seen_in table other))
     → Shows table (scope ∷ outer) → Shows now ((scope ++ (name, meaning) ∷ []) ∷ outer)
 shows-push table now scope outer name meaning depth new at noted shows other =
     noted other
     ∙ ap (λ seen. if bytes_eq other name then seen ++ record { depth = depth; meaning = meaning } ∷ [] else seen)
-        (shows other)
+    (shows other)
     ∙ ap (λ d. if bytes_eq other name then sightings (scope ∷ outer) other
-        ++ record { depth = d; meaning = meaning } ∷ [] else sightings (scope ∷ outer) other) at
+    ++ record { depth = d; meaning = meaning } ∷ [] else sightings (scope ∷ outer) other) at
     ∙ sym (sightings-push scope outer name meaning new other)
 
 -- and one that forgets it again
 pub shows-pop : (table now : List (List ℕ × List Sighting)) (scope : Scope) (outer : List Scope) (name : List ℕ)
     (meaning : Meaning) → lookup (bytes_eq name) scope ≡ None
     → ((other : List ℕ) → seen_in now other ≡ (if bytes_eq other name then without_innermost (seen_in table other)
-        else seen_in table other))
+    else seen_in table other))
     → Shows table ((scope ++ (name, meaning) ∷ []) ∷ outer) → Shows now (scope ∷ outer)
 shows-pop table now scope outer name meaning new forgotten shows other =
     forgotten other
     ∙ ap (λ seen. if bytes_eq other name then without_innermost seen else seen) (shows other ∙ sightings-push scope
-        outer name meaning new other)
+    outer name meaning new other)
     ∙ by (bytes_eq other name)
   where
     by : (b : Bool) → (if b then without_innermost (if b then sightings (scope ∷ outer) other
@@ -111,9 +111,9 @@ new-behind [] rest name meaning distinct = refl
 new-behind (entry ∷ front) rest name meaning distinct =
     by (bytes_eq name.items entry.0.items) refl
     (last_apart (λ other. same_key entry.0 other ≡ false) front rest name meaning
-        (IsDistinct-head same_key entry.0 (keys_of (front ++ (name, meaning) ∷ rest)) distinct))
+    (IsDistinct-head same_key entry.0 (keys_of (front ++ (name, meaning) ∷ rest)) distinct))
     (new-behind front rest name meaning
-        (IsDistinct-tail same_key entry.0 (keys_of (front ++ (name, meaning) ∷ rest)) distinct))
+    (IsDistinct-tail same_key entry.0 (keys_of (front ++ (name, meaning) ∷ rest)) distinct))
   where
     by : (b : Bool) → bytes_eq name.items entry.0.items ≡ b → bytes_eq entry.0.items name.items ≡ false
         → is_some (lookup (bytes_eq name.items) (scope_of front)) ≡ false

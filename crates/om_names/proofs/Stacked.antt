@@ -1,6 +1,7 @@
 -- Items that are noted for names: what is seen as further ones are noted, and forgotten again.
-use Rattle.std.proofs.Common.{◌≡◌, ℕ, ◌-◌, ◌<◌, Bool, true, false, cond, List, [], ◌∷◌, ◌++◌, Option, None, Some,
-    is_some, take, if◌then◌else◌, length, refl, sym, ap, subst, ◌∙◌, true≢false, Vec, arith, length-append}
+use Rattle.std.proofs.Common.{◌≡◌, ℕ, ◌-◌, ◌<◌, Bool, true, false, cond, List, [], ◌∷◌, ◌++◌, Option, None, Some}
+use Rattle.std.proofs.Common.{is_some, take, if◌then◌else◌, length, refl, sym, ap, subst, ◌∙◌, true≢false, Vec, arith}
+use Rattle.std.proofs.Common.{length-append}
 use Rattle.std.proofs.Math.Seq.{take-append_seam}
 use Rattle.std.proofs.lemmas.Slice.Eq.{bytes_eq-Decides}
 use Rattle.std.specs.declared.alloc.Global.{Global}
@@ -52,7 +53,7 @@ seen-lookup (entry ∷ entries) name = by (bytes_eq name entry.0.items) (seen-lo
   where
     by : (b : Bool) → seen_in (table_of entries) name ≡ items_of (lookup (names_key name) entries)
         → (if b then entry.1.items else seen_in (table_of entries) name)
-            ≡ items_of (cond b (Some entry.1) (lookup (names_key name) entries))
+        ≡ items_of (cond b (Some entry.1) (lookup (names_key name) entries))
     by true rest = refl
     by false rest = rest
 
@@ -92,7 +93,7 @@ popped old new (Some last) is some = ap without_innermost is ∙ without-last ne
 pub seen-set : {A : Type 0} (entries : List (Vec ℕ Global × Vec A Global)) (name : List ℕ) (seen : Vec A Global)
     (other : List ℕ) → is_some (lookup (names_key name) entries) ≡ true
     → seen_in (table_of (set_value (names_key name) entries seen)) other
-        ≡ (if bytes_eq other name then seen.items else seen_in (table_of entries) other)
+    ≡ (if bytes_eq other name then seen.items else seen_in (table_of entries) other)
 seen-set [] name seen other there = absurd (true≢false (sym there))
 seen-set (entry ∷ entries) name seen other there = by (bytes_eq name entry.0.items) refl
     (seen-set entries name seen other)
@@ -107,7 +108,7 @@ seen-set (entry ∷ entries) name seen other there = by (bytes_eq name entry.0.i
     further : (b c : Bool) → bytes_eq other entry.0.items ≡ b → bytes_eq other name ≡ c
         → bytes_eq name entry.0.items ≡ false
         → (if b then entry.1.items else (if c then seen.items else seen_in (table_of entries) other))
-            ≡ (if c then seen.items else (if b then entry.1.items else seen_in (table_of entries) other))
+        ≡ (if c then seen.items else (if b then entry.1.items else seen_in (table_of entries) other))
     further true true e h n = absurd (true≢false (sym (same_both other name entry.0.items h e) ∙ n))
     further true false e h n = refl
     further false true e h n = refl
@@ -115,14 +116,14 @@ seen-set (entry ∷ entries) name seen other there = by (bytes_eq name entry.0.i
 
     by : (b : Bool) → bytes_eq name entry.0.items ≡ b
         → (is_some (lookup (names_key name) entries) ≡ true
-            → seen_in (table_of (set_value (names_key name) entries seen)) other
-            ≡ (if bytes_eq other name then seen.items else seen_in (table_of entries) other))
+        → seen_in (table_of (set_value (names_key name) entries seen)) other
+        ≡ (if bytes_eq other name then seen.items else seen_in (table_of entries) other))
         → seen_in (table_of (set_value (names_key name) (entry ∷ entries) seen)) other
-            ≡ (if bytes_eq other name then seen.items else seen_in (table_of (entry ∷ entries)) other)
+        ≡ (if bytes_eq other name then seen.items else seen_in (table_of (entry ∷ entries)) other)
     by true e rest =
         rw e
         (first (bytes_eq other entry.0.items) (bytes_eq other name)
-            (ap (bytes_eq other) (sym (same_names name entry.0.items e))))
+        (ap (bytes_eq other) (sym (same_names name entry.0.items e))))
     by false e rest =
         rw e
         (ap (λ behind. if bytes_eq other entry.0.items then entry.1.items else behind)
@@ -133,7 +134,7 @@ seen-set (entry ∷ entries) name seen other there = by (bytes_eq name entry.0.i
 pub seen-add : {A : Type 0} (entries : List (Vec ℕ Global × Vec A Global)) (key : Vec ℕ Global)
     (seen : Vec A Global) (other : List ℕ) → lookup (names_key key.items) entries ≡ None
     → seen_in (table_of (entries ++ (key, seen) ∷ [])) other ≡ (if bytes_eq other key.items then seen.items else
-        seen_in (table_of entries) other)
+    seen_in (table_of entries) other)
 seen-add [] key seen other new = refl
 seen-add (entry ∷ entries) key seen other new = by (bytes_eq key.items entry.0.items) refl
     (seen-add entries key seen other)
@@ -141,7 +142,7 @@ seen-add (entry ∷ entries) key seen other new = by (bytes_eq key.items entry.0
     further : (b c : Bool) → bytes_eq other entry.0.items ≡ b → bytes_eq other key.items ≡ c → bytes_eq key.items
         entry.0.items ≡ false
         → (if b then entry.1.items else (if c then seen.items else seen_in (table_of entries) other))
-            ≡ (if c then seen.items else (if b then entry.1.items else seen_in (table_of entries) other))
+        ≡ (if c then seen.items else (if b then entry.1.items else seen_in (table_of entries) other))
     further true true e h n = absurd (true≢false (sym (same_both other key.items entry.0.items h e) ∙ n))
     further true false e h n = refl
     further false true e h n = refl
@@ -149,9 +150,9 @@ seen-add (entry ∷ entries) key seen other new = by (bytes_eq key.items entry.0
 
     by : (b : Bool) → bytes_eq key.items entry.0.items ≡ b
         → (lookup (names_key key.items) entries ≡ None → seen_in (table_of (entries ++ (key, seen) ∷ [])) other
-            ≡ (if bytes_eq other key.items then seen.items else seen_in (table_of entries) other))
+        ≡ (if bytes_eq other key.items then seen.items else seen_in (table_of entries) other))
         → seen_in (table_of ((entry ∷ entries) ++ (key, seen) ∷ [])) other
-            ≡ (if bytes_eq other key.items then seen.items else seen_in (table_of (entry ∷ entries)) other)
+        ≡ (if bytes_eq other key.items then seen.items else seen_in (table_of (entry ∷ entries)) other)
     by true e rest = absurd
         (true≢false (ap is_some (sym (ap (λ b. cond b (Some entry.1) (lookup (names_key key.items) entries)) e) ∙ new)))
     by false e rest =
@@ -164,7 +165,7 @@ pub seen-write : {A : Type 0} (change : List A → List A) (entries : List (Vec 
     (name : List ℕ) (seen now : Vec A Global) (other : List ℕ) → lookup (names_key name) entries ≡ Some seen
     → now.items ≡ change seen.items
     → seen_in (table_of (set_value (names_key name) entries now)) other
-        ≡ (if bytes_eq other name then change (seen_in (table_of entries) other) else seen_in (table_of entries) other)
+    ≡ (if bytes_eq other name then change (seen_in (table_of entries) other) else seen_in (table_of entries) other)
 seen-write change entries name seen now other found changed = seen-set entries name now other (ap is_some found)
     ∙ by (bytes_eq other name) refl
   where
@@ -190,8 +191,8 @@ seen-kept entries name seen now other found kept = seen-write (λ items. items) 
 pub seen-absent : {A : Type 0} (entries : List (Vec ℕ Global × Vec A Global)) (name other : List ℕ)
     → lookup (names_key name) entries ≡ None
     → seen_in (table_of entries) other
-        ≡ (if bytes_eq other name then without_innermost (seen_in (table_of entries) other) else seen_in
-        (table_of entries) other)
+    ≡ (if bytes_eq other name then without_innermost (seen_in (table_of entries) other) else seen_in
+    (table_of entries) other)
 seen-absent entries name other none = by (bytes_eq other name) refl
   where
     by : (b : Bool) → bytes_eq other name ≡ b → seen_in (table_of entries) other
@@ -205,8 +206,8 @@ pub seen-first : {A : Type 0} (entries : List (Vec ℕ Global × Vec A Global)) 
     (seen : Vec A Global) (item : A) (other : List ℕ) → key.items ≡ name → lookup (names_key name) entries ≡ None
     → seen.items ≡ item ∷ []
     → seen_in (table_of (entries ++ (key, seen) ∷ [])) other
-        ≡ (if bytes_eq other name then seen_in (table_of entries) other ++ item ∷ [] else seen_in (table_of entries)
-        other)
+    ≡ (if bytes_eq other name then seen_in (table_of entries) other ++ item ∷ [] else seen_in (table_of entries)
+    other)
 seen-first entries key name seen item other same none first =
     seen-add entries key seen other (ap (λ n. lookup (names_key n) entries) same ∙ none)
     ∙ ap (λ n. if bytes_eq other n then seen.items else seen_in (table_of entries) other) same

@@ -1,6 +1,6 @@
 -- Look-ups in a table of names, as its scope shows it.
-use Rattle.std.proofs.Common.{◌≡◌, ℕ, Bool, false, cond, List, [], ◌∷◌, ◌++◌, Option, None, Some, is_some, refl, ap,
-    Vec}
+use Rattle.std.proofs.Common.{◌≡◌, ℕ, Bool, false, cond, List, [], ◌∷◌, ◌++◌, Option, None, Some, is_some, refl, ap}
+use Rattle.std.proofs.Common.{Vec}
 use Rattle.std.specs.declared.alloc.Global.{Global}
 use Rattle.std.specs.Map.{lookup}
 use Rattle.om_rules.specs.declared.meaning.Meaning.{Meaning}

@@ -1,6 +1,6 @@
 -- The constructs among the scopes round a place. In each list the first is the innermost.
-use Rattle.std.specs.Prelude.{◌≡◌, ℕ, suc, ◌<◌, List, [], ◌∷◌, ◌++◌, Option, None, Some, Bool, true, false, not,
-    ◌&&◌, ◌||◌, if◌then◌else◌, is_some, length, nat_eq, nat_lt}
+use Rattle.std.specs.Prelude.{◌≡◌, ℕ, suc, ◌<◌, List, [], ◌∷◌, ◌++◌, Option, None, Some, Bool, true, false, not, ◌&&◌}
+use Rattle.std.specs.Prelude.{◌||◌, if◌then◌else◌, is_some, length, nat_eq, nat_lt}
 use Rattle.std.specs.List.{list_any}
 use Rattle.std.specs.Str.{bytes_eq}
 use Rattle.om_names.specs.declared.nesting.Construct.{Construct}
@@ -38,7 +38,7 @@ abbrev pub enclosing_of : List Scope → List Construct → List Enclosing
 enclosing_of [] constructs = []
 enclosing_of (scope ∷ outer) constructs =
     record { scope = scope; region = region_in constructs (length outer) } ∷ enclosing_of outer
-        (outside_of constructs (length outer))
+    (outside_of constructs (length outer))
 
 -- ---- the innermost construct of a kind
 
@@ -64,14 +64,17 @@ abbrev pub innermost_without : (Region → Bool) → List Construct → List ℕ
 innermost_without is_such [] name = 0
 innermost_without is_such (construct ∷ outer) name =
     if is_such construct.region && not (lists construct.region name) then suc construct.depth else innermost_without
-        is_such outer name
+    is_such outer name
 
 abbrev pub marks_of : List Construct → Marks
 marks_of constructs = record { asking = innermost asks constructs; copying = innermost copies constructs }
 
 abbrev pub marks_without : List Construct → List ℕ → Marks
-marks_without constructs name = record { asking = innermost_without asks constructs name; copying =
-    innermost_without copies constructs name }
+marks_without constructs name = record {
+  asking = innermost_without asks constructs name;
+  copying =
+      innermost_without copies constructs name;
+}
 
 -- those in a construct, round whose inner scope so many stand
 abbrev pub marks_in : Region → ℕ → Marks → Marks
@@ -87,8 +90,12 @@ AreMarked (construct ∷ outer) = (construct.marks ≡ marks_of (construct ∷ o
 
 -- the constructs, once one is entered in the scope of this depth
 abbrev pub entered : ℕ → Region → List Construct → List Construct
-entered depth region outer = record { depth = depth; region = region; marks = marks_in region (suc depth)
-    (marks_of outer) } ∷ outer
+entered depth region outer = record {
+  depth = depth;
+  region = region;
+  marks = marks_in region (suc depth)
+      (marks_of outer);
+} ∷ outer
 
 -- ---- the constructs that list a name
 
@@ -101,7 +108,7 @@ abbrev pub listings : List Construct → List ℕ → List Listing
 listings [] name = []
 listings (construct ∷ outer) name =
     if lists construct.region name then listings outer name ++ listing (suc construct.depth) outer name
-        ∷ [] else listings outer name
+    ∷ [] else listings outer name
 
 -- a table has the listings of each name
 abbrev pub Lists : List (List ℕ × List Listing) → List Construct → Type 0
@@ -128,7 +135,7 @@ abbrev pub ChangedFor : (List Listing → List Listing) → (before now : List (
     → Type 0
 ChangedFor change before now names =
     (other : List ℕ) → seen_in now other ≡ (if list_any (bytes_eq other) names then change (seen_in before other)
-        else seen_in before other)
+    else seen_in before other)
 
 -- ---- what constructs make of a name
 
@@ -142,7 +149,7 @@ abbrev pub unlisted_since : List Construct → ℕ → List ℕ → Bool
 unlisted_since [] depth name = false
 unlisted_since (construct ∷ outer) depth name =
     if nat_lt construct.depth depth then false else lacks_clause construct.region name || unlisted_since outer depth
-        name
+    name
 
 -- what a construct makes of the variable of a function round it
 abbrev pub holder_in : Region → List ℕ → Holder
@@ -159,14 +166,14 @@ abbrev pub holder_since : List Construct → ℕ → List ℕ → Holder
 holder_since [] depth name = Own
 holder_since (construct ∷ outer) depth name =
     if nat_lt construct.depth depth then Own else outer_first (holder_since outer depth name)
-        (holder_in construct.region name)
+    (holder_in construct.region name)
 
 -- the same, where the first is the outermost
 abbrev pub holder_within : List Construct → ℕ → List ℕ → Holder
 holder_within [] depth name = Own
 holder_within (construct ∷ inner) depth name =
     if nat_lt construct.depth depth then holder_within inner depth name else outer_first
-        (holder_in construct.region name) (holder_within inner depth name)
+    (holder_in construct.region name) (holder_within inner depth name)
 
 abbrev pub is_copy : Holder → Bool
 is_copy Own = false

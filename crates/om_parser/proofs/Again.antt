@@ -9,8 +9,8 @@ use Rattle.om_lexer.specs.declared.token.Punctuator.{Punctuator}
 use Rattle.om_lexer.specs.declared.token.Span.{Span}
 use Rattle.om_lexer.specs.declared.token.Token.{Token}
 use Rattle.om_pragma.specs.declared.name.Name as names
-use Rattle.om_parts.specs.Reading.{◌>>=◌, Outcome, too_deep, take, same_mark, same_word, take_mark, take_word,
-    take_name, mark_at, word_at, name_at}
+use Rattle.om_parts.specs.Reading.{◌>>=◌, Outcome, too_deep, take, same_mark, same_word, take_mark, take_word}
+use Rattle.om_parts.specs.Reading.{take_name, mark_at, word_at, name_at}
 use Rattle.om_tree.specs.Spelling.{mark, word, name}
 use Rattle.om_parser.proofs.Outcomes.{ok, some}
 use Rattle.om_parts.specs.Laws.{Stopping, IsAnswer}

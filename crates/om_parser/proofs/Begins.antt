@@ -14,8 +14,8 @@ use Rattle.om_tree.specs.declared.tree.PrefixOperator.{PrefixOperator}
 use Rattle.om_tree.specs.declared.tree.PrefixOperator.TheVariants as prefixes
 use Rattle.om_tree.specs.Formed.{IsExpression}
 use Rattle.om_tree.specs.Spelling.{token, mark, name, number, prefix_mark, expression_spelling}
-use Rattle.om_tree.specs.Tree.{ExpressionTree, Name, Constant, Paren, Index, Call, Prefix, Postfix, Binary,
-    Conditional, Assign}
+use Rattle.om_tree.specs.Tree.{ExpressionTree, Name, Constant, Paren, Index, Call, Prefix, Postfix, Binary, Conditional}
+use Rattle.om_tree.specs.Tree.{Assign}
 
 -- a token that begins an expression stands first
 pub record StartsExpression (ts : List Token) : Type 0 where
@@ -37,12 +37,22 @@ pub expression_starts : (e : ExpressionTree) (rest : List Token) → IsExpressio
 unfolding expression_spelling IsExpression
 expression_starts (Name n) rest f = record { first = name n; behind = rest; is = refl; start = refl }
 expression_starts (Constant n) rest f = record { first = number n; behind = rest; is = refl; start = refl }
-expression_starts (Paren left e right) rest f = record { first = mark punctuators.OpenParen left; behind = _; is =
-    refl; start = refl }
+expression_starts (Paren left e right) rest f = record {
+  first = mark punctuators.OpenParen left;
+  behind = _;
+  is =
+      refl;
+  start = refl;
+}
 expression_starts (Index n left e right) rest f = record { first = name n; behind = _; is = refl; start = refl }
 expression_starts (Call n left values right) rest f = record { first = name n; behind = _; is = refl; start = refl }
-expression_starts (Prefix o at e) rest f = record { first = mark (prefix_mark o) at; behind = _; is = refl; start =
-    prefix_starts o }
+expression_starts (Prefix o at e) rest f = record {
+  first = mark (prefix_mark o) at;
+  behind = _;
+  is = refl;
+  start =
+      prefix_starts o;
+}
 expression_starts (Postfix e o at) rest f = rw append_assoc (expression_starts e _ f.0)
 expression_starts (Binary a o at b) rest f = rw append_assoc (expression_starts a _ f.0)
 expression_starts (Conditional c question a colon b) rest f = rw append_assoc (expression_starts c _ f.0)
@@ -64,8 +74,13 @@ zero_at s = Constant (record { value = 0; span = s })
 -- an operator before a constant
 prefixed : (o : PrefixOperator) (s : Span) → Begins (mark (prefix_mark o) s)
 unfolding IsExpression expression_spelling zero_at
-prefixed o s = record { tree = Prefix o s (zero_at s); formed = (tt, omega arith); behind = expression_spelling
-    (zero_at s); spelled = refl }
+prefixed o s = record {
+  tree = Prefix o s (zero_at s);
+  formed = (tt, omega arith);
+  behind = expression_spelling
+      (zero_at s);
+  spelled = refl;
+}
 
 begins_mark : (p : Punctuator) (s : Span) → start_of (kinds.Punctuator p) ≡ starts.Expression → Begins (mark p s)
 unfolding IsExpression expression_spelling zero_at
@@ -84,10 +99,20 @@ begins_word _ s e = absurd cc
 
 pub begins_with : (k : TokenKind) (s : Span) → start_of k ≡ starts.Expression → Begins (token k s)
 unfolding IsExpression expression_spelling
-begins_with (kinds.Name text) s e = record { tree = Name (record { text = text; span = s }); formed = tt; behind =
-    []; spelled = refl }
-begins_with (kinds.Constant value) s e = record { tree = Constant (record { value = value; span = s }); formed =
-    tt; behind = []; spelled = refl }
+begins_with (kinds.Name text) s e = record {
+  tree = Name (record { text = text; span = s });
+  formed = tt;
+  behind =
+      [];
+  spelled = refl;
+}
+begins_with (kinds.Constant value) s e = record {
+  tree = Constant (record { value = value; span = s });
+  formed =
+      tt;
+  behind = [];
+  spelled = refl;
+}
 begins_with (kinds.Punctuator p) s e = begins_mark p s e
 begins_with (kinds.Keyword k) s e = begins_word k s e
 begins_with _ s e = absurd cc

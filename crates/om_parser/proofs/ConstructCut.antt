@@ -1,6 +1,6 @@
 -- Where a directive or the statement behind it is refused by another code than that of syntax.
-use Rattle.std.proofs.Common.{◌≡◌, ℕ, suc, List, [], ◌∷◌, ◌++◌, Bool, true, false, not, ◌||◌, cond, Err, refl, sym,
-    ap, ◌∙◌, inl, inr}
+use Rattle.std.proofs.Common.{◌≡◌, ℕ, suc, List, [], ◌∷◌, ◌++◌, Bool, true, false, not, ◌||◌, cond, Err, refl, sym, ap}
+use Rattle.std.proofs.Common.{◌∙◌, inl, inr}
 use Rattle.std.specs.Prelude.{codes}
 use Rattle.std.proofs.lemmas.List.{append-nil}
 use Rattle.om_lexer.specs.declared.fault.SourceFault.{SourceFault}
@@ -21,14 +21,15 @@ use Rattle.om_parser.specs.declared.construct.LineStart.{LineStart}
 use Rattle.om_parser.specs.declared.construct.LineStart.TheVariants as lines
 use Rattle.om_tree.specs.AtomicForms.{has_atomic_form}
 use Rattle.om_parts.specs.PartReading.{LineReader}
-use Rattle.om_parser.specs.ConstructReading.{PartsReader, line_start, from_word, misplaced, unknown_line,
-    stand_alone_at, item_of, part_item_at, section_at, bad_atomic, atomic_of, atomic_after, constructed_after,
-    sections_after, construct_after, construct_at, line_of}
+use Rattle.om_parser.specs.ConstructReading.{PartsReader, line_start, from_word, misplaced, unknown_line}
+use Rattle.om_parser.specs.ConstructReading.{stand_alone_at, item_of, part_item_at, section_at, bad_atomic, atomic_of}
+use Rattle.om_parser.specs.ConstructReading.{atomic_after, constructed_after, sections_after, construct_after}
+use Rattle.om_parser.specs.ConstructReading.{construct_at, line_of}
 use Rattle.om_parser.specs.Faults.{IsStopped}
 use Rattle.om_tree.specs.Formed.{IsLine, IsConstruct, IsStatement, IsBody, IsSectionItem, AreSome, AreSectionItems}
 use Rattle.om_tree.specs.Limits.{Limits}
-use Rattle.om_tree.specs.Places.{Place, Behind, Either, AtDepth, AtBrace, IsOverInside, IsOverInItems,
-    IsOverInStatement}
+use Rattle.om_tree.specs.Places.{Place, Behind, Either, AtDepth, AtBrace, IsOverInside, IsOverInItems}
+use Rattle.om_tree.specs.Places.{IsOverInStatement}
 use Rattle.om_parts.specs.Reading.{Reader}
 use Rattle.om_tree.specs.Spelling.{token, mark, expression_spelling, statement_spelling}
 use Rattle.om_tree.specs.Tree.{ExpressionTree, StatementTree, StatementsTree, Empty, Construct, Sections, Section}
@@ -141,7 +142,7 @@ line_begins (t ∷ ts) some = go t.kind some
 line_stopped : (IsFormed : StatementTree → Type 0) (over : StatementTree → Place)
     → ((at : Span) → IsFormed (any_construct at)) → (l : Limits) (r : LineReader) → IsLineCut l r
     → (ts : List Token) (f : SourceFault) → (line_start ts ≡ lines.Nothing → ⊥) → r ts ≡ Err f → Stops f
-        → IsStopped statement_spelling IsFormed over l ts f
+    → IsStopped statement_spelling IsFormed over l ts f
 line_stopped IsFormed over formed l r cut ts f some h stops =
     let b = line_begins ts some in
     let c = cut b.0 b.1 f (ap r (sym b.2) ∙ h) stops in
@@ -208,9 +209,16 @@ module _ (l : Limits) (line : LineReader) (sound : IsSound (directive_spelling e
           let r = sound ts d reads in
           let front : List Token = directive_spelling expression_spelling d.0 in
           within_larger statement_spelling (λ s. IsStatement s × IsSectionItem s) (IsOverInStatement l depth nested)
-              front [] (Section d.0) ts d.1 f
-          (λ s is_part. ((r.formed.formed, section_name d.0.name (started ts d lines.Section reads is), is_part.0,
-              body_is_part s is_part.1), tt))
+          front [] (Section d.0) ts d.1 f
+          (λ s is_part. (
+            (
+              r.formed.formed,
+              section_name d.0.name (started ts d lines.Section reads is),
+              is_part.0,
+              body_is_part s is_part.1,
+            ),
+            tt,
+          ))
           (λ s. ap (λ (w : List Token). front ++ w) (sym (append-nil (statement_spelling s))))
           (λ s before t over. inr (before, refl, over))
           r.parts (part_item_cut depth nested statement inner d.1 f fails stops)
@@ -236,33 +244,33 @@ module _ (l : Limits) (line : LineReader) (sound : IsSound (directive_spelling e
       → IsStatementSound l false room blocks_left (statement false) → IsStatementCut l (suc depth) nested
       (statement false)
       → (d : Directive ExpressionTree) → IsLine d → IsConstruct d.name → is_atomic d.name ≡ true
-          → (us ts : List Token) (f : SourceFault) → ts ≡ directive_spelling expression_spelling d ++ us
-          → atomic_after checked statement d us ≡ Err f → Stops f → IsInsideStopped l depth nested ts f
+      → (us ts : List Token) (f : SourceFault) → ts ≡ directive_spelling expression_spelling d ++ us
+      → atomic_after checked statement d us ≡ Err f → Stops f → IsInsideStopped l depth nested ts f
   unfolding atomic_after atomic_of statement_spelling
   atomic_cut depth nested checked room blocks_left statement good inner d formed name atomic us ts f is h stops =
       elim (bind_err (statement false us) _ f h) [
-    | inl fails ↦ around depth nested d formed name us ts f is (inner us f fails stops)
-    | inr (s, reads, g) ↦
-        let body = good us s reads in
-        let refused = no_form checked (has_atomic_form (atomic_kind d) s.0) (Construct d s.0, s.1) (bad_atomic d) f g in
-        inr (inr (
-          sym (ap (λ (e : SourceFault). e.code) refused.1),
-          record {
-            before = [];
-            directive = d;
-            statement = s.0;
-            after = s.1;
-            stands = after_front ts (directive_spelling expression_spelling d) us (statement_spelling s.0) s.1 is
-                body.parts;
-            line = formed;
-            atomic = atomic;
-            formed = body.good.good.formed;
-            body = body.good.body;
-            no_form = refused.0;
-            at_place = ap (λ (e : SourceFault). e.at) refused.1;
-          },
-        ))
-  ]
+        | inl fails ↦ around depth nested d formed name us ts f is (inner us f fails stops)
+        | inr (s, reads, g) ↦
+            let body = good us s reads in
+            let refused = no_form checked (has_atomic_form (atomic_kind d) s.0) (Construct d s.0, s.1) (bad_atomic d) f g in
+            inr (inr (
+              sym (ap (λ (e : SourceFault). e.code) refused.1),
+              record {
+                before = [];
+                directive = d;
+                statement = s.0;
+                after = s.1;
+                stands = after_front ts (directive_spelling expression_spelling d) us (statement_spelling s.0) s.1 is
+                    body.parts;
+                line = formed;
+                atomic = atomic;
+                formed = body.good.good.formed;
+                body = body.good.body;
+                no_form = refused.0;
+                at_place = ap (λ (e : SourceFault). e.at) refused.1;
+              },
+            ))
+      ]
 
   sections_cut : (depth nested : ℕ) (parts : PartsReader) → AreBracesCut l depth nested parts
       → (d : Directive ExpressionTree) → IsLine d → is_sections d.name ≡ true → (us ts : List Token)
@@ -274,7 +282,7 @@ module _ (l : Limits) (line : LineReader) (sound : IsSound (directive_spelling e
     | inl fails ↦
         let front : List Token = directive_spelling expression_spelling d in
         within_larger statement_spelling IsPart (IsOverInside l depth nested) front [] (λ x. Sections d x.0 x.1 x.2)
-            ts us f
+        ts us f
         (λ x are. ((formed, name, are.0, are.1), tt))
         (λ x. ap (λ (w : List Token). front ++ w) (sym (append-nil (braces_spelling x))))
         (λ x before t over. (before, refl, over))
@@ -286,10 +294,10 @@ module _ (l : Limits) (line : LineReader) (sound : IsSound (directive_spelling e
       → ((c : Bool) → IsStatementCut l (suc depth) nested (statement c)) → (parts : PartsReader)
       → AreBracesCut l depth nested parts
       → (d : Directive ExpressionTree) → IsLine d → (is_stand_alone d.name ≡ false) × (is_section d.name ≡ false)
-          → (us ts : List Token) (f : SourceFault) → ts ≡ directive_spelling expression_spelling d ++ us
+      → (us ts : List Token) (f : SourceFault) → ts ≡ directive_spelling expression_spelling d ++ us
       → (sections atomic : Bool) → is_sections d.name ≡ sections → is_atomic d.name ≡ atomic
-          → cond sections (sections_after parts d us) (cond atomic (atomic_after checked statement d us)
-          (constructed_after (statement checked) d us)) ≡ Err f → Stops f → IsInsideStopped l depth nested ts f
+      → cond sections (sections_after parts d us) (cond atomic (atomic_after checked statement d us)
+      (constructed_after (statement checked) d us)) ≡ Err f → Stops f → IsInsideStopped l depth nested ts f
   unfolding constructed_after
   after_cut depth nested checked room blocks_left statement good inner parts braces d formed name us ts f is true
       atomic has_sections has_atomic h stops = sections_cut depth nested parts braces d formed has_sections us ts f
@@ -299,28 +307,28 @@ module _ (l : Limits) (line : LineReader) (sound : IsSound (directive_spelling e
       (inner false) d formed (name.0, name.1, has_sections) has_atomic us ts f is h stops
   after_cut depth nested checked room blocks_left statement good inner parts braces d formed name us ts f is false
       false has_sections has_atomic h stops = elim (bind_err (statement checked us) _ f h) [
-    | inl fails ↦ around depth nested d formed (name.0, name.1, has_sections) us ts f is
-        (inner checked us f fails stops)
-    | inr (s, reads, no_err) ↦ absurd cc
-  ]
+        | inl fails ↦ around depth nested d formed (name.0, name.1, has_sections) us ts f is
+            (inner checked us f fails stops)
+        | inr (s, reads, no_err) ↦ absurd cc
+      ]
 
   construct_cut : (depth nested : ℕ) (checked : Bool) (room blocks_left : ℕ) (statement : Bool
       → Reader StatementTree) → ((c : Bool) → IsStatementSound l c room blocks_left (statement c))
       → ((c : Bool) → IsStatementCut l (suc depth) nested (statement c)) → (parts : PartsReader)
       → AreBracesCut l depth nested parts
       → (ts : List Token) (f : SourceFault) → line_start ts ≡ lines.Construct → construct_at line checked statement
-          parts ts ≡ Err f → Stops f → IsInsideStopped l depth nested ts f
+      parts ts ≡ Err f → Stops f → IsInsideStopped l depth nested ts f
   unfolding construct_at construct_after
   construct_cut depth nested checked room blocks_left statement good inner parts braces ts f is h stops =
       elim (bind_err (line ts) _ f h) [
-    | inl fails ↦ line_stopped IsPart (IsOverInside l depth nested) any_construct_part l line cut ts f
-        (λ none. absurd cc) fails stops
-    | inr (d, reads, g) ↦
-        let r = sound ts d reads in
-        after_cut depth nested checked room blocks_left statement good inner parts braces d.0 r.formed.formed
+        | inl fails ↦ line_stopped IsPart (IsOverInside l depth nested) any_construct_part l line cut ts f
+            (λ none. absurd cc) fails stops
+        | inr (d, reads, g) ↦
+            let r = sound ts d reads in
+            after_cut depth nested checked room blocks_left statement good inner parts braces d.0 r.formed.formed
             (construct_name d.0.name (started ts d lines.Construct reads is)) d.1 ts f r.parts
             (is_sections d.0.name) (is_atomic d.0.name) refl refl g stops
-  ]
+      ]
 
   -- a line where a statement must stand
   pub line_of_cut : (depth nested : ℕ) (checked : Bool) (room blocks_left : ℕ) (statement : Bool
@@ -328,16 +336,16 @@ module _ (l : Limits) (line : LineReader) (sound : IsSound (directive_spelling e
       → ((c : Bool) → IsStatementCut l (suc depth) nested (statement c)) → (parts : PartsReader)
       → AreBracesCut l depth nested parts
       → (start : LineStart) (ts : List Token) (f : SourceFault) → line_start ts ≡ start → line_of line checked
-          statement parts start ts ≡ Err f → Stops f → IsInsideStopped l depth nested ts f
+      statement parts start ts ≡ Err f → Stops f → IsInsideStopped l depth nested ts f
   unfolding line_of unknown_line misplaced
   line_of_cut depth nested checked room blocks_left statement good inner parts braces lines.Construct ts f is h
       stops = construct_cut depth nested checked room blocks_left statement good inner parts braces ts f is h stops
   line_of_cut depth nested checked room blocks_left statement good inner parts braces lines.Unknown ts f is h
       stops = elim (bind_err (line ts) _ f h) [
-    | inl fails ↦ line_stopped IsPart (IsOverInside l depth nested) any_construct_part l line cut ts f
-        (λ none. absurd cc) fails stops
-    | inr (d, reads, g) ↦ absurd (syntax_plain (from_word ts) f g stops)
-  ]
+        | inl fails ↦ line_stopped IsPart (IsOverInside l depth nested) any_construct_part l line cut ts f
+            (λ none. absurd cc) fails stops
+        | inr (d, reads, g) ↦ absurd (syntax_plain (from_word ts) f g stops)
+      ]
   line_of_cut depth nested checked room blocks_left statement good inner parts braces lines.StandAlone ts f is h
       stops = absurd (syntax_plain (from_word ts) f h stops)
   line_of_cut depth nested checked room blocks_left statement good inner parts braces lines.Section ts f is h

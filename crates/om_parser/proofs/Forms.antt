@@ -5,9 +5,9 @@ use Rattle.om_pragma.specs.Questions.{is_atomic, atomic_kind}
 use Rattle.om_tree.specs.AtomicForms.{has_atomic_form}
 use Rattle.om_tree.specs.Limits.{Limits}
 use Rattle.om_tree.specs.Sizes.{Where, HasForms, HaveForms, IsItemWithin, HasItemForms}
-use Rattle.om_tree.specs.Tree.{StatementTree, StatementsTree, LocalDeclaration, Block, Empty, Expression, If,
-    IfElse, While, Do, For, Return, Break, Continue, Construct, StandAlone, Sections, Section, NoStatements,
-    Statement, ItemTree}
+use Rattle.om_tree.specs.Tree.{StatementTree, StatementsTree, LocalDeclaration, Block, Empty, Expression, If, IfElse}
+use Rattle.om_tree.specs.Tree.{While, Do, For, Return, Break, Continue, Construct, StandAlone, Sections, Section}
+use Rattle.om_tree.specs.Tree.{NoStatements, Statement, ItemTree}
 
 -- the one of two that is asked, where both hold
 where_both : (b : Bool) (First Second : Type 0) → First → Second → Where b First Second

@@ -42,14 +42,18 @@ name_if_any None rest ends = rw (no_name rest ends) refl
 parameter_again : (p : Parameter) (rest : List Token) → EndsParameter rest → parameter_at (parameter_spelling p
     ++ rest) ≡ ok (p, rest)
 unfolding parameter_at
-parameter_again p rest ends = rw (word_again keywords.Int p.int (perhaps (λ n. name n ∷ []) p.name ++ rest),
-    name_if_any p.name rest ends) refl
+parameter_again p rest ends = rw (
+  word_again keywords.Int p.int (perhaps (λ n. name n ∷ []) p.name ++ rest),
+  name_if_any p.name rest ends,
+) refl
 
 further_parameter_again : (p : Span × Parameter) (rest : List Token) → EndsParameter rest → further_parameter_at
     (behind_comma parameter_spelling p ++ rest) ≡ ok (p, rest)
 unfolding further_parameter_at
-further_parameter_again p rest ends = rw (mark_again punctuators.Comma p.0 (parameter_spelling p.1 ++ rest),
-    parameter_again p.1 rest ends) refl
+further_parameter_again p rest ends = rw (
+  mark_again punctuators.Comma p.0 (parameter_spelling p.1 ++ rest),
+  parameter_again p.1 rest ends,
+) refl
 
 all_further_again : AreAgain (behind_comma parameter_spelling) IsAny IsAny EndsParameter
     (take_mark punctuators.CloseParen) further_parameter_at
@@ -79,9 +83,9 @@ unfolding listed_at
 listed_again p ps s rest =
     let others : List Token = flat_map (behind_comma parameter_spelling) ps ++ mark punctuators.CloseParen s ∷ rest in
     let read = surely (until (take_mark punctuators.CloseParen) further_parameter_at (length others) others)
-        (ps, s, rest) (all_any ps) (until_again (behind_comma parameter_spelling) IsAny IsAny EndsParameter
-        (take_mark punctuators.CloseParen) further_parameter_at all_further_again (mark punctuators.CloseParen s) s
-        rest (take_mark_again punctuators.CloseParen s rest) (EndsByParen s rest) ps (all_any ps)) in
+    (ps, s, rest) (all_any ps) (until_again (behind_comma parameter_spelling) IsAny IsAny EndsParameter
+    (take_mark punctuators.CloseParen) further_parameter_at all_further_again (mark punctuators.CloseParen s) s
+    rest (take_mark_again punctuators.CloseParen s rest) (EndsByParen s rest) ps (all_any ps)) in
     rw (parameter_again p others (ends_first ps s rest), read) refl
 
 word_is_no_mark : (s : Span) (ts : List Token) → take_mark punctuators.CloseParen (word keywords.Int s ∷ ts) ≡ None
@@ -100,8 +104,12 @@ parameters_again : (p : ParametersTree) (s : Span) (rest : List Token) → param
     ++ mark punctuators.CloseParen s ∷ rest) ≡ ok ((p, s), rest)
 unfolding parameters_at parameters_spelling
 parameters_again NoParameters s rest = rw (take_mark_again punctuators.CloseParen s rest) refl
-parameters_again (Void at) s rest = rw (void_is_no_mark at (mark punctuators.CloseParen s ∷ rest), take_word_again
-    keywords.Void at (mark punctuators.CloseParen s ∷ rest), mark_again punctuators.CloseParen s rest) refl
+parameters_again (Void at) s rest = rw (
+  void_is_no_mark at (mark punctuators.CloseParen s ∷ rest),
+  take_word_again
+      keywords.Void at (mark punctuators.CloseParen s ∷ rest),
+  mark_again punctuators.CloseParen s rest,
+) refl
 parameters_again (Listed p ps) s rest =
     let others : List Token = flat_map (behind_comma parameter_spelling) ps ++ mark punctuators.CloseParen s ∷ rest in
     let back : List Token = perhaps (λ n. name n ∷ []) p.name ++ others in

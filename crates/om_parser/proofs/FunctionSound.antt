@@ -1,6 +1,6 @@
 -- The head of a function that is read is spelled as the tokens were.
-use Rattle.std.proofs.Common.{◌≡◌, ◌<◌, List, [], ◌∷◌, ◌++◌, length, Option, Some, None, refl, ap, subst, ◌∙◌,
-    arith, append_assoc, length-append, true, inl, inr}
+use Rattle.std.proofs.Common.{◌≡◌, ◌<◌, List, [], ◌∷◌, ◌++◌, length, Option, Some, None, refl, ap, subst, ◌∙◌, arith}
+use Rattle.std.proofs.Common.{append_assoc, length-append, true, inl, inr}
 use Rattle.std.specs.List.{flat_map}
 use Rattle.std.specs.Prelude.{is_some}
 use Rattle.std.proofs.lemmas.Bool.{and_parts, and_from}
@@ -12,13 +12,13 @@ use Rattle.om_lexer.specs.declared.token.Token.{Token}
 use Rattle.om_pragma.specs.declared.name.Name as names
 use Rattle.om_tree.specs.declared.tree.Parameter.{Parameter}
 use Rattle.om_tree.specs.declared.tree.ResultType.{ResultType}
-use Rattle.om_parser.specs.FunctionReading.{parameter_at, further_parameter_at, listed_at, parameters_at,
-    head_after, are_named}
+use Rattle.om_parser.specs.FunctionReading.{parameter_at, further_parameter_at, listed_at, parameters_at, head_after}
+use Rattle.om_parser.specs.FunctionReading.{are_named}
 use Rattle.om_tree.specs.Formed.{AreNamed}
 use Rattle.om_parts.specs.Reading.{take_mark, take_word, take_name, mark_at, word_at}
 use Rattle.om_parts.specs.Repetition.{optional, until}
-use Rattle.om_tree.specs.Spelling.{mark, word, name, perhaps, behind_comma, result_spelling, parameter_spelling,
-    parameters_spelling, head_spelling}
+use Rattle.om_tree.specs.Spelling.{mark, word, name, perhaps, behind_comma, result_spelling, parameter_spelling}
+use Rattle.om_tree.specs.Spelling.{parameters_spelling, head_spelling}
 use Rattle.om_tree.specs.Tree.{ParametersTree, NoParameters, Void, Listed, HeadTree}
 use Rattle.om_parser.proofs.Outcomes.{ok, ok_is, some, bind_ok, choose_cases, after_front, after_token}
 use Rattle.om_parser.proofs.Taken.{take_mark_is, take_word_is, take_name_is, mark_at_is, word_at_is}
@@ -78,8 +78,8 @@ listed_sound ts x h =
     let m = bind_ok (until (take_mark punctuators.CloseParen) further_parameter_at (length p.0.1) p.0.1) _ x p.2 in
     let first = parameter_sound ts p.0 p.1 in
     let r = until_sound (behind_comma parameter_spelling) IsAny (mark punctuators.CloseParen)
-        (take_mark punctuators.CloseParen) further_parameter_at (take_mark_is punctuators.CloseParen)
-        further_parameter_sound (length p.0.1) p.0.1 m.0 m.1 in
+    (take_mark punctuators.CloseParen) further_parameter_at (take_mark_is punctuators.CloseParen)
+    further_parameter_sound (length p.0.1) p.0.1 m.0 m.1 in
     subst (IsRead closed IsAny ts) (ok_is _ x m.2) (record {
       parts = after_front ts (parameter_spelling p.0.0) p.0.1 (flat_map (behind_comma parameter_spelling) m.0.0
           ++ mark punctuators.CloseParen m.0.1 ∷ []) m.0.2 first.parts r.parts ∙ simp append_assoc;
@@ -95,8 +95,11 @@ parameters_sound ts x h = elim (choose_cases (take_mark punctuators.CloseParen t
     | inl v ↦
         let r = bind_ok (mark_at punctuators.CloseParen v.0.1) _ x v.2 in
         subst (IsRead closed IsAny ts) (ok_is _ x r.2)
-            (record { parts = take_word_is keywords.Void ts v.0.0 v.0.1 v.1 ∙ ap (λ w. word keywords.Void v.0.0 ∷ w)
-            (mark_at_is punctuators.CloseParen v.0.1 r.0 r.1); formed = tt })
+        (record {
+          parts = take_word_is keywords.Void ts v.0.0 v.0.1 v.1 ∙ ap (λ w. word keywords.Void v.0.0 ∷ w)
+              (mark_at_is punctuators.CloseParen v.0.1 r.0 r.1);
+          formed = tt;
+        })
     | inr k ↦ listed_sound ts x k.1
   ]
 ]
@@ -109,7 +112,7 @@ head_sound result n left ts x h =
     let p = bind_ok (parameters_at ts) _ x h in
     let r = parameters_sound ts p.0 p.1 in
     subst (λ y. result_spelling result ∷ name n ∷ mark punctuators.OpenParen left ∷ ts ≡ head_spelling y.0 ++ y.1)
-        (ok_is _ x p.2) (ap (λ w. result_spelling result ∷ name n ∷ mark punctuators.OpenParen left ∷ w) r.parts)
+    (ok_is _ x p.2) (ap (λ w. result_spelling result ∷ name n ∷ mark punctuators.OpenParen left ∷ w) r.parts)
 
 -- ---- names of parameters
 
@@ -117,8 +120,11 @@ pub named_is : (p : ParametersTree) → are_named p ≡ true → AreNamed p
 unfolding are_named
 named_is NoParameters h = tt
 named_is (Void at) h = tt
-named_is (Listed p ps) h = ((and_parts (is_some p.name) _ h).0, AllPass-from_list_all (λ x. is_some x.1.name) ps
-    (and_parts (is_some p.name) _ h).1)
+named_is (Listed p ps) h = (
+  (and_parts (is_some p.name) _ h).0,
+  AllPass-from_list_all (λ x. is_some x.1.name) ps
+      (and_parts (is_some p.name) _ h).1,
+)
 
 pub is_named : (p : ParametersTree) → AreNamed p → are_named p ≡ true
 unfolding are_named

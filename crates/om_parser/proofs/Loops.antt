@@ -1,6 +1,6 @@
 -- Reading items one after the other, as a loop does.
-use Rattle.std.proofs.Common.{◌≡◌, ℕ, zero, suc, ◌<◌, ◌≤◌, List, [], ◌∷◌, ◌++◌, length, Option, None, Ok, Err, refl,
-    sym, ap, ◌∙◌, append_assoc, arith, ◌⊎◌, inl, inr}
+use Rattle.std.proofs.Common.{◌≡◌, ℕ, zero, suc, ◌<◌, ◌≤◌, List, [], ◌∷◌, ◌++◌, length, Option, None, Ok, Err, refl}
+use Rattle.std.proofs.Common.{sym, ap, ◌∙◌, append_assoc, arith, ◌⊎◌, inl, inr}
 use Rattle.std.proofs.lemmas.List.{append-nil}
 use Rattle.om_lexer.specs.Faults.{no_memory}
 use Rattle.om_lexer.specs.declared.fault.SourceFault.{SourceFault}
@@ -54,5 +54,9 @@ module _ {A : Type 0} (ender : Ender) (item : Reader A) (front : List A) (ts : L
       → GoesOn ender item front ts total → GoesOn ender item (front ++ a ∷ []) us total
   unfolding until
   until_goes_on a us none reads lt (zero, le, e) = absurd (omega arith)
-  until_goes_on a us none reads lt (suc n, le, e) = (n, omega arith, sym (regroup front a (until ender item n us))
-      ∙ (rw (none, reads) at e))
+  until_goes_on a us none reads lt (suc n, le, e) = (
+    n,
+    omega arith,
+    sym (regroup front a (until ender item n us))
+        ∙ (rw (none, reads) at e),
+  )

@@ -14,8 +14,13 @@ use Rattle.om_parser.proofs.UnitComplete.{unit_again}
 
 -- limits that both keep, where no `atomic` is checked
 abbrev both : Limits → Limits → Limits
-both l m = record { nested = l.nested + m.nested; tokens = l.tokens + m.tokens; blocks = l.blocks + m.blocks;
-    statements = l.statements + m.statements; checked = false }
+both l m = record {
+  nested = l.nested + m.nested;
+  tokens = l.tokens + m.tokens;
+  blocks = l.blocks + m.blocks;
+  statements = l.statements + m.statements;
+  checked = false;
+}
 
 -- limits that an item keeps
 abbrev limits_of : ItemTree → Limits
@@ -23,8 +28,14 @@ limits_of (Declaration d) = record { nested = 0; tokens = 0; blocks = 0; stateme
 limits_of (Prototype h semicolon) = record { nested = 0; tokens = 0; blocks = 0; statements = 0; checked = false }
 limits_of (Function f) =
     let items = statements f.body.items in
-    record { nested = brackets_of items; tokens = longest_of items; blocks = blocks_of items + 1; statements =
-        height_of items; checked = false }
+    record {
+      nested = brackets_of items;
+      tokens = longest_of items;
+      blocks = blocks_of items + 1;
+      statements =
+          height_of items;
+      checked = false;
+    }
 
 -- limits that these items keep, with room for a parenthesis
 abbrev large : List ItemTree → Limits
@@ -56,24 +67,43 @@ wider : (l m : Limits) → IsWider l m → (items : List ItemTree) → All (IsKe
 wider l m w items g = All-weaker (IsKeptItem l) (IsKeptItem m) (λ i h. item_wider l m w i h) items g
 
 first_wider : (l m : Limits) → IsWider l (both l m)
-first_wider l m = record { nested = omega arith; tokens = omega arith; blocks = omega arith; statements = omega
-    arith; checked = refl }
+first_wider l m = record {
+  nested = omega arith;
+  tokens = omega arith;
+  blocks = omega arith;
+  statements = omega
+      arith;
+  checked = refl;
+}
 
 second_wider : (l m : Limits) → IsWider m (both l m)
-second_wider l m = record { nested = omega arith; tokens = omega arith; blocks = omega arith; statements = omega
-    arith; checked = refl }
+second_wider l m = record {
+  nested = omega arith;
+  tokens = omega arith;
+  blocks = omega arith;
+  statements = omega
+      arith;
+  checked = refl;
+}
 
 own_limits : (i : ItemTree) → IsKeptItem (limits_of i) i
 own_limits (Declaration d) = (tt, tt)
 own_limits (Prototype h semicolon) = (tt, tt)
-own_limits (Function f) = (record { high = omega arith; deep = omega arith; nested = omega arith; long = omega arith
-    }, no_forms_of (statements f.body.items))
+own_limits (Function f) = (
+  record {
+    high = omega arith;
+    deep = omega arith;
+    nested = omega arith;
+    long = omega arith;
+  },
+  no_forms_of (statements f.body.items),
+)
 
 large_enough : (items : List ItemTree) → All (IsKeptItem (large items)) items
 large_enough [] = All-nil (IsKeptItem (large []))
 large_enough (i ∷ items) =
     All-cons (IsKeptItem (large (i ∷ items))) i items (item_wider (limits_of i) (large (i ∷ items))
-        (first_wider (limits_of i) (large items)) i (own_limits i))
+    (first_wider (limits_of i) (large items)) i (own_limits i))
     (wider (large items) (large (i ∷ items)) (second_wider (limits_of i) (large items)) items (large_enough items))
 
 some_nested : (items : List ItemTree) → 1 ≤ (large items).nested

@@ -1,6 +1,6 @@
 -- Outcomes of reading, step by step.
-use Rattle.std.proofs.Common.{◌≡◌, List, ◌∷◌, ◌++◌, Option, Some, None, Ok, Err, refl, ap, ◌∙◌, sym, cond, Bool,
-    true, false, ◌⊎◌, inl, inr, append_assoc}
+use Rattle.std.proofs.Common.{◌≡◌, List, ◌∷◌, ◌++◌, Option, Some, None, Ok, Err, refl, ap, ◌∙◌, sym, cond, Bool, true}
+use Rattle.std.proofs.Common.{false, ◌⊎◌, inl, inr, append_assoc}
 use Rattle.om_lexer.specs.declared.fault.SourceFault.{SourceFault}
 use Rattle.om_lexer.specs.declared.token.Token.{Token}
 use Rattle.om_parts.specs.Reading.{◌>>=◌, Outcome, choose, known}

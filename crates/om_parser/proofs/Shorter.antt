@@ -9,12 +9,12 @@ use Rattle.om_parser.specs.declared.statement.Inside.{Inside}
 use Rattle.om_tree.specs.Formed.{IsStatement}
 use Rattle.om_tree.specs.Limits.{Limits}
 use Rattle.om_parts.specs.Reading.{take_mark}
-use Rattle.om_tree.specs.Spelling.{mark, expression_spelling, for_head_spelling, declaration_spelling,
-    statement_spelling, statements_spelling}
+use Rattle.om_tree.specs.Spelling.{mark, expression_spelling, for_head_spelling, declaration_spelling}
+use Rattle.om_tree.specs.Spelling.{statement_spelling, statements_spelling}
 use Rattle.om_parts.specs.PartReading.{Parts}
 use Rattle.om_parser.specs.StatementReading.{item_at, statement_at}
-use Rattle.om_tree.specs.Tree.{ExpressionTree, StatementTree, LocalDeclaration, Block, Empty, Expression, If,
-    IfElse, While, Do, For, Return, Break, Continue, Construct, StandAlone, Sections, Section}
+use Rattle.om_tree.specs.Tree.{ExpressionTree, StatementTree, LocalDeclaration, Block, Empty, Expression, If, IfElse}
+use Rattle.om_tree.specs.Tree.{While, Do, For, Return, Break, Continue, Construct, StandAlone, Sections, Section}
 use Rattle.om_parser.proofs.Outcomes.{ok, some}
 use Rattle.om_parser.proofs.Taken.{take_mark_is}
 use Rattle.om_parts.specs.Laws.{ArePartsSound}
@@ -32,8 +32,11 @@ line_some d ts = omega arith
 pub statement_some : (s : StatementTree) → IsStatement s → 0 < length (statement_spelling s)
 unfolding statement_spelling for_head_spelling declaration_spelling directive_spelling opening_spelling IsStatement
 statement_some (LocalDeclaration d) f = omega arith
-statement_some (Expression e semicolon) f = omega (arith, length-append (expression_spelling e)
-    (mark punctuators.Semicolon semicolon ∷ []))
+statement_some (Expression e semicolon) f = omega (
+  arith,
+  length-append (expression_spelling e)
+      (mark punctuators.Semicolon semicolon ∷ []),
+)
 statement_some (Block left items right) f = omega arith
 statement_some (Empty semicolon) f = omega arith
 statement_some (If at c s) f = omega arith
@@ -54,5 +57,9 @@ pub item_shorter : (i : Inside) (p : Parts) (l : Limits) → 1 ≤ l.nested → 
     (room blocks_left : ℕ) (ts : List Token) (s : StatementTree) (us : List Token)
     → item_at i p (statement_at p checked room blocks_left) ts ≡ ok (s, us) → length us < length ts
 item_shorter i p l one sound checked room blocks_left ts s us e = let r = item_sound p l one sound i checked room
-    blocks_left ts (s, us) e in omega (arith, ap length r.parts, length-append (statement_spelling s) us,
-    statement_some s r.formed.formed)
+    blocks_left ts (s, us) e in omega (
+      arith,
+      ap length r.parts,
+      length-append (statement_spelling s) us,
+      statement_some s r.formed.formed,
+    )

@@ -1,6 +1,6 @@
 -- What statements are made of, as it is read.
-use Rattle.std.proofs.Common.{◌≡◌, ℕ, ◌+◌, ◌≤◌, List, [], ◌∷◌, ◌++◌, Option, None, Err, Bool, true, false, refl,
-    sym, ap, ◌∙◌, arith, inl, inr, ◌⊎◌, cond, All}
+use Rattle.std.proofs.Common.{◌≡◌, ℕ, ◌+◌, ◌≤◌, List, [], ◌∷◌, ◌++◌, Option, None, Err, Bool, true, false, refl, sym}
+use Rattle.std.proofs.Common.{ap, ◌∙◌, arith, inl, inr, ◌⊎◌, cond, All}
 use Rattle.std.specs.List.{flat_map}
 use Rattle.std.proofs.lemmas.List.Elements.{All-head, All-tail}
 use Rattle.om_lexer.specs.declared.fault.SourceFault.{SourceFault}
@@ -23,16 +23,16 @@ use Rattle.om_parser.specs.declared.start.Start.{Start}
 use Rattle.om_parser.specs.declared.start.Start.TheVariants as starts
 use Rattle.om_parser.specs.ConstructReading.{line_start, PartsReader}
 use Rattle.om_parts.specs.Reading.{Outcome, Reader, take_word}
-use Rattle.om_tree.specs.Spelling.{token, mark, word, perhaps, expression_spelling, condition_spelling,
-    for_head_spelling, statement_spelling, statements_spelling}
-use Rattle.om_tree.specs.Formed.{IsOptional, IsForStart, ends_open, IsBody, IsBlockItem, IsSectionItem, IsPartItem,
-    AreSome, IsStatement, AreStatements, AreSectionItems}
+use Rattle.om_tree.specs.Spelling.{token, mark, word, perhaps, expression_spelling, condition_spelling}
+use Rattle.om_tree.specs.Spelling.{for_head_spelling, statement_spelling, statements_spelling}
+use Rattle.om_tree.specs.Formed.{IsOptional, IsForStart, ends_open, IsBody, IsBlockItem, IsSectionItem, IsPartItem}
+use Rattle.om_tree.specs.Formed.{AreSome, IsStatement, AreStatements, AreSectionItems}
 use Rattle.om_tree.specs.Limits.{Limits}
-use Rattle.om_tree.specs.Sizes.{longest_of, brackets_of, blocks_of, height_of, HasForms, HaveForms, HasRoom,
-    HaveRoom, HasBlockRoom, optional_extent, optional_nesting, for_start_extent, for_start_nesting}
+use Rattle.om_tree.specs.Sizes.{longest_of, brackets_of, blocks_of, height_of, HasForms, HaveForms, HasRoom, HaveRoom}
+use Rattle.om_tree.specs.Sizes.{HasBlockRoom, optional_extent, optional_nesting, for_start_extent, for_start_nesting}
 use Rattle.om_parser.specs.StatementReading.{start_of, OpeningTree, OpensIf, OpensWhile, OpensFor}
-use Rattle.om_tree.specs.Tree.{ExpressionTree, ForStartTree, ForHeadTree, StatementTree, StatementsTree,
-    LocalDeclaration, Section, statements, BlockTree}
+use Rattle.om_tree.specs.Tree.{ExpressionTree, ForStartTree, ForHeadTree, StatementTree, StatementsTree}
+use Rattle.om_tree.specs.Tree.{LocalDeclaration, Section, statements, BlockTree}
 use Rattle.om_parts.specs.Laws.{IsSound, IsWhole}
 use Rattle.om_parser.proofs.Outcomes.{ok}
 use Rattle.om_parser.proofs.LineStarts.{line_start_is, start_of_directive}
@@ -129,10 +129,10 @@ AreInside insides.Sections items = AreSectionItems items
 
 -- the same of one that may stand in such braces
 pub record IsGoodItem (i : Inside) (l : Limits) (checked : Bool) (room blocks_left : ℕ) (s : StatementTree) : Type 0
-    where
-  pub formed : IsStatement s
-  pub room_for : HasRoom l checked room blocks_left s
-  pub inside : StandsInside i s
+  where
+    pub formed : IsStatement s
+    pub room_for : HasRoom l checked room blocks_left s
+    pub inside : StandsInside i s
 
 -- the same of one that may stand behind `section`
 pub record IsGoodPart (l : Limits) (checked : Bool) (room blocks_left : ℕ) (s : StatementTree) : Type 0 where
@@ -159,12 +159,15 @@ one_more_inside insides.Sections s rest formed inside others = (formed, inside, 
 pub are_good : (i : Inside) (l : Limits) (checked : Bool) (room blocks_left : ℕ) (items : List StatementTree)
     → All (IsGoodItem i l checked room blocks_left) items → AreGood i l checked room blocks_left items
 unfolding HasForms
-are_good i l checked room blocks_left [] h = record { formed = none_inside i; room_for = record
-    { high = omega arith; deep = omega arith; nested = omega arith; long = omega arith; forms = tt } }
+are_good i l checked room blocks_left [] h = record {
+  formed = none_inside i;
+  room_for = record
+      { high = omega arith; deep = omega arith; nested = omega arith; long = omega arith; forms = tt };
+}
 are_good i l checked room blocks_left (s ∷ rest) h =
     let first = All-head (IsGoodItem i l checked room blocks_left) s rest h in
     let others = are_good i l checked room blocks_left rest (All-tail (IsGoodItem i l checked room blocks_left) s
-        rest h) in
+    rest h) in
     record {
       formed = one_more_inside i s rest first.formed first.inside others.formed;
       room_for = record {

@@ -1,6 +1,6 @@
 -- A statement that is read is well-formed, within the limits, and spelled as the tokens were.
-use Rattle.std.proofs.Common.{◌≡◌, ℕ, zero, suc, ◌≤◌, List, [], ◌∷◌, ◌++◌, Bool, true, false, refl, sym, ap, subst,
-    ◌∙◌, arith, inl, inr, not, ◌||◌}
+use Rattle.std.proofs.Common.{◌≡◌, ℕ, zero, suc, ◌≤◌, List, [], ◌∷◌, ◌++◌, Bool, true, false, refl, sym, ap, subst, ◌∙◌}
+use Rattle.std.proofs.Common.{arith, inl, inr, not, ◌||◌}
 use Rattle.std.specs.List.{flat_map}
 use Rattle.om_lexer.specs.declared.token.Keyword.TheVariants as keywords
 use Rattle.om_lexer.specs.declared.token.Punctuator.TheVariants as punctuators
@@ -17,26 +17,28 @@ use Rattle.om_parser.specs.declared.statement.Inside.TheVariants as insides
 use Rattle.om_parser.specs.declared.start.Start.{Start}
 use Rattle.om_parser.specs.declared.start.Start.TheVariants as starts
 use Rattle.om_tree.specs.AtomicForms.{has_atomic_form}
-use Rattle.om_parser.specs.ConstructReading.{line_start, misplaced, unknown_line, bad_atomic, atomic_of,
-    atomic_after, constructed_after, PartsReader, sections_after, construct_after, construct_at, line_of}
+use Rattle.om_parser.specs.ConstructReading.{line_start, misplaced, unknown_line, bad_atomic, atomic_of, atomic_after}
+use Rattle.om_parser.specs.ConstructReading.{constructed_after, PartsReader, sections_after, construct_after}
+use Rattle.om_parser.specs.ConstructReading.{construct_at, line_of}
 use Rattle.om_parts.specs.Reading.{Reader, mark_at}
 use Rattle.om_tree.specs.Spelling.{token, mark, word, expression_spelling, statement_spelling, block_spelling}
 use Rattle.om_tree.specs.Formed.{IsBody, IsConstruct, IsStatement}
 use Rattle.om_tree.specs.Limits.{Limits}
 use Rattle.om_tree.specs.Sizes.{longest, brackets, blocks, height, Where, HasForms}
 use Rattle.om_parts.specs.PartReading.{Parts}
-use Rattle.om_parser.specs.StatementReading.{start_of, optional_before, return_after, jump_after,
-    expression_statement_at, block_item_at, item_at, block_items_after, block_after, simple_of, statement_of,
-    no_room, statement_at, parts_at, block_with}
+use Rattle.om_parser.specs.StatementReading.{start_of, optional_before, return_after, jump_after}
+use Rattle.om_parser.specs.StatementReading.{expression_statement_at, block_item_at, item_at, block_items_after}
+use Rattle.om_parser.specs.StatementReading.{block_after, simple_of, statement_of, no_room, statement_at, parts_at}
+use Rattle.om_parser.specs.StatementReading.{block_with}
 use Rattle.om_tree.specs.Tree.{ExpressionTree, StatementTree, Empty, Expression, Return, Break, Continue, Construct}
 use Rattle.om_parts.specs.Laws.{IsWholeLine, IsRead, IsSound, ArePartsSound}
 use Rattle.om_parser.proofs.Outcomes.{ok, ok_is, bind_ok, after_front, after_token}
 use Rattle.om_parser.proofs.Taken.{mark_at_is}
-use Rattle.om_parser.proofs.StatementParts.{IsOf, is_of_start, IsGoodBody, IsGoodItem, statements_flat,
-    IsStatementRead, IsStatementSound, braces_spelling, AreGoodBraces, AreBracesSound, IsGoodBlock, construct_named,
-    either_way, only_where}
-use Rattle.om_parser.proofs.ItemSound.{optional_sound, AreSound, headed_sound, do_sound, block_item_sound_with,
-    item_sound_with, block_items_sound, braces_sound_with}
+use Rattle.om_parser.proofs.StatementParts.{IsOf, is_of_start, IsGoodBody, IsGoodItem, statements_flat, IsStatementRead}
+use Rattle.om_parser.proofs.StatementParts.{IsStatementSound, braces_spelling, AreGoodBraces, AreBracesSound}
+use Rattle.om_parser.proofs.StatementParts.{IsGoodBlock, construct_named, either_way, only_where}
+use Rattle.om_parser.proofs.ItemSound.{optional_sound, AreSound, headed_sound, do_sound, block_item_sound_with}
+use Rattle.om_parser.proofs.ItemSound.{item_sound_with, block_items_sound, braces_sound_with}
 
 module _ (p : Parts) (l : Limits) (one : 1 ≤ l.nested) (sound : ArePartsSound p l) where
   -- ---- constructs
@@ -103,9 +105,9 @@ module _ (p : Parts) (l : Limits) (one : 1 ≤ l.nested) (sound : ArePartsSound 
       let s = bind_ok (statement us) _ x h in
       let r = inner us s.0 s.1 in
       subst (IsStatementRead l checked (suc room) blocks_left ts) (ok_is _ x s.2)
-          (construct_read checked checked room blocks_left d line name ts us parts s.0 r
-          (subst (λ b. Where b ((not checked || has_atomic_form (atomic_kind d) s.0.0) ≡ true)
-          (HasForms checked s.0.0)) (sym other) r.good.good.room_for.forms))
+      (construct_read checked checked room blocks_left d line name ts us parts s.0 r
+      (subst (λ b. Where b ((not checked || has_atomic_form (atomic_kind d) s.0.0) ≡ true)
+      (HasForms checked s.0.0)) (sym other) r.good.good.room_for.forms))
 
   atomic_sound : (checked : Bool) (room blocks_left : ℕ) (statement : Bool → Reader StatementTree)
       → ((c : Bool) → IsStatementSound l c room blocks_left (statement c)) → (d : Directive ExpressionTree)
@@ -117,11 +119,11 @@ module _ (p : Parts) (l : Limits) (one : 1 ≤ l.nested) (sound : ArePartsSound 
       let s = bind_ok (statement false us) _ x h in
       let r = inner false us s.0 s.1 in
       let form = only_where (not checked || has_atomic_form (atomic_kind d) s.0.0) (ok (Construct d s.0.0, s.0.1))
-          (bad_atomic d) x s.2 in
+      (bad_atomic d) x s.2 in
       subst (IsStatementRead l checked (suc room) blocks_left ts) (ok_is _ x form.1)
-          (construct_read checked false room blocks_left d line name ts us parts s.0 r
-          (subst (λ b. Where b ((not checked || has_atomic_form (atomic_kind d) s.0.0) ≡ true)
-          (HasForms checked s.0.0)) (sym atomic) form.0))
+      (construct_read checked false room blocks_left d line name ts us parts s.0 r
+      (subst (λ b. Where b ((not checked || has_atomic_form (atomic_kind d) s.0.0) ≡ true)
+      (HasForms checked s.0.0)) (sym atomic) form.0))
 
   construct_after_sound : (checked : Bool) (room blocks_left : ℕ) (statement : Bool → Reader StatementTree)
       → ((c : Bool) → IsStatementSound l c room blocks_left (statement c)) → (braces : PartsReader)
@@ -132,13 +134,13 @@ module _ (p : Parts) (l : Limits) (one : 1 ≤ l.nested) (sound : ArePartsSound 
   unfolding construct_after
   construct_after_sound checked room blocks_left statement inner braces sections d line alone section ts us x parts
       h = elim (either_way (is_sections d.name) _ _ (ok x) h) [
-    | inl g ↦ sections_sound checked room blocks_left braces sections d line g.0 ts us x parts g.1
-    | inr g ↦ elim (either_way (is_atomic d.name) _ _ (ok x) g.1) [
-      | inl a ↦ atomic_sound checked room blocks_left statement inner d line (alone, section, g.0) a.0 ts us x parts a.1
-      | inr a ↦ constructed_sound checked room blocks_left (statement checked) (inner checked) d line
-          (alone, section, g.0) a.0 ts us x parts a.1
-    ]
-  ]
+        | inl g ↦ sections_sound checked room blocks_left braces sections d line g.0 ts us x parts g.1
+        | inr g ↦ elim (either_way (is_atomic d.name) _ _ (ok x) g.1) [
+          | inl a ↦ atomic_sound checked room blocks_left statement inner d line (alone, section, g.0) a.0 ts us x parts a.1
+          | inr a ↦ constructed_sound checked room blocks_left (statement checked) (inner checked) d line
+              (alone, section, g.0) a.0 ts us x parts a.1
+        ]
+      ]
 
   construct_sound : (checked : Bool) (room blocks_left : ℕ) (statement : Bool → Reader StatementTree)
       → ((c : Bool) → IsStatementSound l c room blocks_left (statement c)) → (braces : PartsReader)
@@ -151,7 +153,7 @@ module _ (p : Parts) (l : Limits) (one : 1 ≤ l.nested) (sound : ArePartsSound 
       let line = sound.line ts d.0 d.1 in
       let name = construct_named ts d.0.0 d.0.1 is line.parts in
       construct_after_sound checked room blocks_left statement inner braces sections d.0.0 line.formed name.0 name.1
-          ts d.0.1 x line.parts d.2
+      ts d.0.1 x line.parts d.2
 
   line_of_sound : (checked : Bool) (room blocks_left : ℕ) (statement : Bool → Reader StatementTree)
       → ((c : Bool) → IsStatementSound l c room blocks_left (statement c)) → (braces : PartsReader)
@@ -176,13 +178,19 @@ module _ (p : Parts) (l : Limits) (one : 1 ≤ l.nested) (sound : ArePartsSound 
       let r = bind_ok (block_items_after p statement blocks_left at ts) _ x h in
       let items = (block_items_sound p l one sound) checked room statement inner blocks_left at ts r.0 r.1 in
       subst (IsStatementRead l checked (suc room) blocks_left (mark punctuators.OpenBrace at ∷ ts)) (ok_is _ x r.2)
-          (record {
+      (record {
         parts = ap (λ w. mark punctuators.OpenBrace at ∷ w) items.parts;
         good = record {
           good = record {
             formed = items.formed;
-            room_for = record { high = omega (arith, items.high); deep = items.deep; nested = items.nested; long =
-                items.long; forms = items.forms };
+            room_for = record {
+              high = omega (arith, items.high);
+              deep = items.deep;
+              nested = items.nested;
+              long =
+                  items.long;
+              forms = items.forms;
+            };
           };
           body = tt;
         };
@@ -192,9 +200,19 @@ module _ (p : Parts) (l : Limits) (one : 1 ≤ l.nested) (sound : ArePartsSound 
   simple_good : (checked : Bool) (room blocks_left : ℕ) (s : StatementTree) → IsStatement s → IsBody s → height s
       ≡ 1 → blocks s ≡ 0 → brackets s ≤ l.nested → longest s ≤ l.tokens → HasForms checked s → IsGoodBody l checked
       (suc room) blocks_left s
-  simple_good checked room blocks_left s formed body high deep nested long forms = record
-      { good = record { formed = formed; room_for = record { high = omega (arith, high); deep = omega (arith, deep);
-      nested = nested; long = long; forms = forms } }; body = body }
+  simple_good checked room blocks_left s formed body high deep nested long forms = record {
+    good = record {
+      formed = formed;
+      room_for = record {
+        high = omega (arith, high);
+        deep = omega (arith, deep);
+        nested = nested;
+        long = long;
+        forms = forms;
+      };
+    };
+    body = body;
+  }
 
   return_sound : (checked : Bool) (room blocks_left : ℕ) (at : Span) (ts : List Token) (x : StatementTree
       × List Token) → return_after p at ts ≡ ok x → IsStatementRead l checked (suc room) blocks_left
@@ -203,7 +221,7 @@ module _ (p : Parts) (l : Limits) (one : 1 ≤ l.nested) (sound : ArePartsSound 
   return_sound checked room blocks_left at ts x h =
       let e = bind_ok (optional_before punctuators.Semicolon p.expression ts) _ x h in
       let r = (optional_sound p l one sound) 0 punctuators.Semicolon p.expression (omega arith) sound.expression ts
-          e.0 e.1 in
+      e.0 e.1 in
       subst (IsStatementRead l checked (suc room) blocks_left (word keywords.Return at ∷ ts)) (ok_is _ x e.2) (record {
         parts = ap (λ w. word keywords.Return at ∷ w) r.parts;
         good = simple_good checked room blocks_left (Return at e.0.0.0 e.0.0.1) r.formed.formed tt refl refl
@@ -245,7 +263,7 @@ module _ (p : Parts) (l : Limits) (one : 1 ≤ l.nested) (sound : ArePartsSound 
   continue_sound checked room blocks_left at ts x h =
       let s = bind_ok (mark_at punctuators.Semicolon ts) _ x h in
       subst (IsStatementRead l checked (suc room) blocks_left (word keywords.Continue at ∷ ts)) (ok_is _ x s.2)
-          (record {
+      (record {
         parts = ap (λ w. word keywords.Continue at ∷ w) (mark_at_is punctuators.Semicolon ts s.0 s.1);
         good = simple_good checked room blocks_left (Continue at s.0.0) tt tt refl refl (omega arith) (omega arith) tt;
         nearest = λ is. absurd cc;
@@ -257,10 +275,10 @@ module _ (p : Parts) (l : Limits) (one : 1 ≤ l.nested) (sound : ArePartsSound 
   unfolding statement_spelling IsStatement HasForms
   empty_sound checked room blocks_left at ts x h = subst (IsStatementRead l checked (suc room) blocks_left
       (mark punctuators.Semicolon at ∷ ts)) (ok_is _ x h) (record {
-    parts = refl;
-    good = simple_good checked room blocks_left (Empty at) tt tt refl refl (omega arith) (omega arith) tt;
-    nearest = λ is. absurd cc;
-  })
+        parts = refl;
+        good = simple_good checked room blocks_left (Empty at) tt tt refl refl (omega arith) (omega arith) tt;
+        nearest = λ is. absurd cc;
+      })
 
   -- a statement of a start whose first token is that of the start
   statement_of_sound : (checked : Bool) (room : ℕ) (statement : Bool → ℕ → Reader StatementTree)
@@ -332,8 +350,8 @@ module _ (p : Parts) (l : Limits) (one : 1 ≤ l.nested) (sound : ArePartsSound 
     braces_sound checked (suc room) blocks_left ts x h =
         let o = bind_ok (mark_at punctuators.OpenBrace ts) _ x h in
         subst (λ w. IsRead braces_spelling (AreGoodBraces l checked (suc room) blocks_left) w x)
-            (sym (mark_at_is punctuators.OpenBrace ts o.0 o.1)) ((braces_sound_with p l one sound) checked room
-            (statement_at p checked room) (λ b. statement_sound checked room b) blocks_left o.0.0 o.0.1 x o.2)
+        (sym (mark_at_is punctuators.OpenBrace ts o.0 o.1)) ((braces_sound_with p l one sound) checked room
+        (statement_at p checked room) (λ b. statement_sound checked room b) blocks_left o.0.0 o.0.1 x o.2)
 
   pub block_item_sound : (checked : Bool) (room blocks_left : ℕ) → IsSound statement_spelling
       (IsGoodItem insides.Block l checked room blocks_left) (block_item_at p (statement_at p checked room blocks_left))
@@ -352,11 +370,20 @@ module _ (p : Parts) (l : Limits) (one : 1 ≤ l.nested) (sound : ArePartsSound 
       let o = bind_ok (mark_at punctuators.OpenBrace ts) _ x h in
       let r = bind_ok (block_items_after p (statement_at p l.checked room) blocks_left o.0.0 o.0.1) _ x o.2 in
       let items = (block_items_sound p l one sound) l.checked room (statement_at p l.checked room)
-          (statement_sound l.checked room) blocks_left o.0.0 o.0.1 r.0 r.1 in
+      (statement_sound l.checked room) blocks_left o.0.0 o.0.1 r.0 r.1 in
       subst (IsRead block_spelling (IsGoodBlock l room blocks_left) ts) (ok_is _ x r.2) (record {
         parts = after_token (mark punctuators.OpenBrace o.0.0) ts o.0.1 (flat_map statement_spelling r.0.0
             ++ mark punctuators.CloseBrace r.0.1 ∷ []) r.0.2 (mark_at_is punctuators.OpenBrace ts o.0 o.1)
             (items.parts ∙ ap (λ w. (w ++ mark punctuators.CloseBrace r.0.1 ∷ []) ++ r.0.2) (statements_flat r.0.0));
-        formed = record { formed = items.formed; room_for = record { high = items.high; deep = items.deep; nested =
-            items.nested; long = items.long }; forms = items.forms };
+        formed = record {
+          formed = items.formed;
+          room_for = record {
+            high = items.high;
+            deep = items.deep;
+            nested =
+                items.nested;
+            long = items.long;
+          };
+          forms = items.forms;
+        };
       })

@@ -1,6 +1,6 @@
 -- What does not stand first where a statement begins, and what a line is seen to be.
-use Rattle.std.proofs.Common.{◌≡◌, ℕ, ◌+◌, ◌≤◌, List, [], ◌∷◌, ◌++◌, Option, Some, None, true, false, refl, sym, ap,
-    subst, ◌∙◌, inl, inr}
+use Rattle.std.proofs.Common.{◌≡◌, ℕ, ◌+◌, ◌≤◌, List, [], ◌∷◌, ◌++◌, Option, Some, None, true, false, refl, sym, ap}
+use Rattle.std.proofs.Common.{subst, ◌∙◌, inl, inr}
 use Rattle.std.specs.List.{flat_map}
 use Rattle.om_lexer.specs.declared.token.Keyword.{Keyword}
 use Rattle.om_lexer.specs.declared.token.Keyword.TheVariants as keywords
@@ -21,14 +21,14 @@ use Rattle.om_parser.specs.declared.start.Start.{Start}
 use Rattle.om_parser.specs.declared.start.Start.TheVariants as starts
 use Rattle.om_parser.specs.ConstructReading.{line_start}
 use Rattle.om_parts.specs.Reading.{take, take_mark, take_word}
-use Rattle.om_tree.specs.Spelling.{token, mark, word, perhaps, expression_spelling, condition_spelling,
-    for_start_spelling, statement_spelling, statements_spelling}
+use Rattle.om_tree.specs.Spelling.{token, mark, word, perhaps, expression_spelling, condition_spelling}
+use Rattle.om_tree.specs.Spelling.{for_start_spelling, statement_spelling, statements_spelling}
 use Rattle.om_tree.specs.Formed.{IsForHead, IsExpression}
 use Rattle.om_tree.specs.Limits.{Limits}
 use Rattle.om_tree.specs.Sizes.{optional_extent, optional_nesting, for_start_extent, for_start_nesting}
 use Rattle.om_parser.specs.StatementReading.{start_of, OpeningTree, OpensIf, OpensWhile, OpensFor}
-use Rattle.om_tree.specs.Tree.{ExpressionTree, ForHeadTree, StatementTree, StatementsTree, NoStatements, Statement,
-    statements}
+use Rattle.om_tree.specs.Tree.{ExpressionTree, ForHeadTree, StatementTree, StatementsTree, NoStatements, Statement}
+use Rattle.om_tree.specs.Tree.{statements}
 use Rattle.om_parts.specs.Laws.{Keeps, IsEnd}
 use Rattle.om_parser.proofs.Taken.{take_mark_is, take_word_is}
 use Rattle.om_parser.proofs.LineStarts.{start_of_directive, line_start_is}

@@ -1,6 +1,6 @@
 -- Reading that stops by another code than that of syntax: in a part, and in the tree round it.
-use Rattle.std.proofs.Common.{◌≡◌, ℕ, zero, suc, List, ◌++◌, Option, Some, None, Ok, Err, sym, ap, subst, ◌∙◌,
-    append_assoc, inl, inr}
+use Rattle.std.proofs.Common.{◌≡◌, ℕ, zero, suc, List, ◌++◌, Option, Some, None, Ok, Err, sym, ap, subst, ◌∙◌}
+use Rattle.std.proofs.Common.{append_assoc, inl, inr}
 use Rattle.om_lexer.specs.declared.fault.SourceFault.{SourceFault}
 use Rattle.om_lexer.specs.declared.token.Keyword.{Keyword}
 use Rattle.om_lexer.specs.declared.token.Punctuator.{Punctuator}
@@ -83,7 +83,7 @@ atomic_behind front us place a = record {
 line_larger : {A B : Type 0} {spell : A → List Token} {P : A → Type 0} (spell_whole : B → List Token)
     (Q : B → Type 0) (front back : List Token) (wrap : A → B) (l : Limits) (us : List Token) (f : SourceFault)
     → ((a : A) → P a → Q (wrap a)) → ((a : A) → spell_whole (wrap a) ≡ front ++ (spell a ++ back))
-        → IsLineFault spell P l us f → IsLineFault spell_whole Q l (front ++ us) f
+    → IsLineFault spell P l us f → IsLineFault spell_whole Q l (front ++ us) f
 line_larger spell_whole Q front back wrap l us f formed spelled c =
     let h = c.has_line in
     record {
@@ -107,7 +107,7 @@ passed_larger : {A B : Type 0} {spell : A → List Token} {P : A → Type 0} {ov
     (spell_whole : B → List Token) (Q : B → Type 0) (over_whole : B → Place) (front back : List Token)
     (wrap : A → B) (us : List Token) (place : ℕ)
     → ((a : A) → P a → Q (wrap a)) → ((a : A) → spell_whole (wrap a) ≡ front ++ (spell a ++ back))
-        → ((a : A) (before : List Token) (t : Token) → over a before t → over_whole (wrap a) (front ++ before) t)
+    → ((a : A) (before : List Token) (t : Token) → over a before t → over_whole (wrap a) (front ++ before) t)
     → IsPassed spell P over us place → IsPassed spell_whole Q over_whole (front ++ us) place
 passed_larger spell_whole Q over_whole front back wrap us place formed spelled passed c = record {
   part = wrap c.part;
@@ -127,13 +127,16 @@ pub within_larger : {A B : Type 0} {spell : A → List Token} {P : A → Type 0}
     (spell_whole : B → List Token) (Q : B → Type 0) (over_whole : B → Place) (front back : List Token)
     (wrap : A → B) (ts us : List Token) (f : SourceFault)
     → ((a : A) → P a → Q (wrap a)) → ((a : A) → spell_whole (wrap a) ≡ front ++ (spell a ++ back))
-        → ((a : A) (before : List Token) (t : Token) → over a before t → over_whole (wrap a) (front ++ before) t)
+    → ((a : A) (before : List Token) (t : Token) → over a before t → over_whole (wrap a) (front ++ before) t)
     → ts ≡ front ++ us → IsStopped spell P over l us f → IsStopped spell_whole Q over_whole l ts f
 within_larger {A} {B} {spell} {P} {over} {l} spell_whole Q over_whole front back wrap ts us f formed spelled passed
     is stopped =
     subst (λ (vs : List Token). IsStopped spell_whole Q over_whole l vs f) (sym is) (elim stopped [
-      | inl (deep, c) ↦ inl (deep, passed_larger spell_whole Q over_whole front back wrap us f.at formed spelled
-          passed c)
+      | inl (deep, c) ↦ inl (
+        deep,
+        passed_larger spell_whole Q over_whole front back wrap us f.at formed spelled
+            passed c,
+      )
       | inr (inl fault) ↦ inr (inl (line_larger spell_whole Q front back wrap l us f formed spelled fault))
       | inr (inr (bad, a)) ↦ inr (inr (bad, atomic_behind front us f.at a))
     ])

@@ -10,8 +10,8 @@ use Rattle.om_lexer.specs.declared.token.Token.{Token}
 use Rattle.om_lexer.specs.declared.token.TokenKind.{TokenKind}
 use Rattle.om_lexer.specs.declared.token.TokenKind.TheVariants as kinds
 use Rattle.om_pragma.specs.declared.name.Name as names
-use Rattle.om_parts.specs.Reading.{take, same_mark, same_word, mark_of, word_of, name_of, take_mark, take_word,
-    take_name, mark_at, word_at, name_at}
+use Rattle.om_parts.specs.Reading.{take, same_mark, same_word, mark_of, word_of, name_of, take_mark, take_word}
+use Rattle.om_parts.specs.Reading.{take_name, mark_at, word_at, name_at}
 use Rattle.om_tree.specs.Spelling.{token, mark, word, name}
 use Rattle.om_parser.proofs.Outcomes.{ok, some, some_is, choose_cases, known_ok, cond_some}
 

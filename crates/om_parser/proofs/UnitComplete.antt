@@ -12,14 +12,14 @@ use Rattle.om_tree.specs.Formed.{IsGlobalDeclaration, IsFunction, IsItem, IsUnit
 use Rattle.om_tree.specs.Limits.{Limits}
 use Rattle.om_parts.specs.Reading.{take, same_mark, take_mark}
 use Rattle.om_parts.specs.Repetition.{until}
-use Rattle.om_tree.specs.Spelling.{token, mark, name, block_spelling, declarator_spelling, declaration_spelling,
-    parameters_spelling, head_spelling, item_spelling, unit_spelling}
+use Rattle.om_tree.specs.Spelling.{token, mark, name, block_spelling, declarator_spelling, declaration_spelling}
+use Rattle.om_tree.specs.Spelling.{parameters_spelling, head_spelling, item_spelling, unit_spelling}
 use Rattle.om_parts.specs.PartReading.{parts}
 use Rattle.om_parser.specs.StatementReading.{block_at}
-use Rattle.om_tree.specs.Tree.{DeclarationTree, HeadTree, FunctionTree, ItemTree, Declaration, Prototype, Function,
-    UnitTree}
-use Rattle.om_parser.specs.UnitReading.{function_after, prototype_after, void_after, int_after, item_at, take_end,
-    unit_at}
+use Rattle.om_tree.specs.Tree.{DeclarationTree, HeadTree, FunctionTree, ItemTree, Declaration, Prototype, Function}
+use Rattle.om_tree.specs.Tree.{UnitTree}
+use Rattle.om_parser.specs.UnitReading.{function_after, prototype_after, void_after, int_after, item_at, take_end}
+use Rattle.om_parser.specs.UnitReading.{unit_at}
 use Rattle.om_parser.proofs.Again.{take_mark_again, take_word_again, mark_again, word_again, name_again, bind_answer}
 use Rattle.om_parts.specs.Laws.{IsAnswer, PartsAreReadAgain, GlobalsAreReadAgain}
 use Rattle.om_parser.proofs.Outcomes.{ok}
@@ -45,8 +45,14 @@ unfolding head_spelling take_end
 head_unended h rest = go h.result
   where
     go : (r : ResultType)
-        → take_end (head_spelling (record { result = r; name = h.name; open_paren = h.open_paren; parameters =
-        h.parameters; close_paren = h.close_paren }) ++ rest) ≡ None
+        → take_end (head_spelling (record {
+          result = r;
+          name = h.name;
+          open_paren = h.open_paren;
+          parameters =
+              h.parameters;
+          close_paren = h.close_paren;
+        }) ++ rest) ≡ None
     go (results.Int at) = refl
     go (results.Void at) = refl
 
@@ -61,8 +67,14 @@ module _ (again : PartsAreReadAgain) (globals : GlobalsAreReadAgain) (l : Limits
   declaration_answer d rest f =
       let g = globals d rest f in
       inl (subst (λ us. (item_at l) us ≡ ok (Declaration d, rest)) g.parts
-          (rw (int_is_no_void d.int (name d.first.name ∷ g.behind), word_again keywords.Int d.int (name d.first.name
-          ∷ g.behind), name_again d.first.name g.behind, g.no_function, g.read) refl))
+      (rw (
+        int_is_no_void d.int (name d.first.name ∷ g.behind),
+        word_again keywords.Int d.int (name d.first.name
+            ∷ g.behind),
+        name_again d.first.name g.behind,
+        g.no_function,
+        g.read,
+      ) refl))
 
   -- an item whose head is read again
   after_head : (h : HeadTree) (i : ItemTree) (rest us : List Token) → IsAnswer (IsSmallItem i)
@@ -71,8 +83,13 @@ module _ (again : PartsAreReadAgain) (globals : GlobalsAreReadAgain) (l : Limits
   after_head h i rest us answer = go h.result answer
     where
       tree : ResultType → HeadTree
-      tree r = record { result = r; name = h.name; open_paren = h.open_paren; parameters = h.parameters;
-          close_paren = h.close_paren }
+      tree r = record {
+        result = r;
+        name = h.name;
+        open_paren = h.open_paren;
+        parameters = h.parameters;
+        close_paren = h.close_paren;
+      }
 
       inner : List Token
       inner = parameters_spelling h.parameters ++ mark punctuators.CloseParen h.close_paren ∷ us
@@ -82,12 +99,23 @@ module _ (again : PartsAreReadAgain) (globals : GlobalsAreReadAgain) (l : Limits
 
       go : (r : ResultType) → IsAnswer (IsSmallItem i) (function_after l (tree r) us) (i, rest)
           → IsAnswer (IsSmallItem i) (item_at l (head_spelling (tree r) ++ us)) (i, rest)
-      go (results.Int at) answer = rw (append_assoc, int_is_no_void at behind, word_again keywords.Int at behind,
-          name_again h.name (mark punctuators.OpenParen h.open_paren ∷ inner), take_mark_again punctuators.OpenParen
-          h.open_paren inner, head_again (tree (results.Int at)) us) answer
-      go (results.Void at) answer = rw (append_assoc, take_word_again keywords.Void at behind, name_again h.name
-          (mark punctuators.OpenParen h.open_paren ∷ inner), mark_again punctuators.OpenParen h.open_paren inner,
-          head_again (tree (results.Void at)) us) answer
+      go (results.Int at) answer = rw (
+        append_assoc,
+        int_is_no_void at behind,
+        word_again keywords.Int at behind,
+        name_again h.name (mark punctuators.OpenParen h.open_paren ∷ inner),
+        take_mark_again punctuators.OpenParen
+            h.open_paren inner,
+        head_again (tree (results.Int at)) us,
+      ) answer
+      go (results.Void at) answer = rw (
+        append_assoc,
+        take_word_again keywords.Void at behind,
+        name_again h.name
+            (mark punctuators.OpenParen h.open_paren ∷ inner),
+        mark_again punctuators.OpenParen h.open_paren inner,
+        head_again (tree (results.Void at)) us,
+      ) answer
 
   prototype_answer : (h : HeadTree) (s : Span) (rest : List Token) → IsAnswer (IsSmallItem (Prototype h s))
       (function_after l h (mark punctuators.Semicolon s ∷ rest)) (Prototype h s, rest)
@@ -101,7 +129,7 @@ module _ (again : PartsAreReadAgain) (globals : GlobalsAreReadAgain) (l : Limits
       let body : List Token = block_spelling f.body ++ rest in
       rw (not_prototype f rest, is_named f.head.parameters formed.0)
       (bind_answer ((block_at l) body) _ (f.body, rest) (Function f, rest) (λ w. w)
-          (function_block_again (parts l) l (again l one) l.statements l.blocks f.body rest formed.1) (inl refl))
+      (function_block_again (parts l) l (again l one) l.statements l.blocks f.body rest formed.1) (inl refl))
 
   item_again : (i : ItemTree) (rest : List Token) → IsItem i → IsAnswer (IsSmallItem i)
       ((item_at l) (item_spelling i ++ rest)) (i, rest)
@@ -133,5 +161,5 @@ module _ (again : PartsAreReadAgain) (globals : GlobalsAreReadAgain) (l : Limits
       let ts : List Token = flat_map item_spelling u.items ++ last ∷ [] in
       bind_answer (until take_end (item_at l) (length ts) ts) _ (u.items, u.end, []) u (λ w. w)
       (until_again item_spelling IsItem IsSmallItem (λ ts. Unit {0}) take_end (item_at l) items_again last u.end []
-          refl tt u.items f)
+      refl tt u.items f)
       (inl refl)

@@ -1,7 +1,7 @@
 -- Where a unit is refused by another code than that of syntax: at a limit its tokens up to there begin a
 -- well-formed one.
-use Rattle.std.proofs.Common.{◌≡◌, ◌≤◌, ℕ, zero, suc, List, [], ◌∷◌, ◌++◌, length, Err, sym, ap, subst, ◌∙◌, refl,
-    inl, inr, All}
+use Rattle.std.proofs.Common.{◌≡◌, ◌≤◌, ℕ, zero, suc, List, [], ◌∷◌, ◌++◌, length, Err, sym, ap, subst, ◌∙◌, refl, inl}
+use Rattle.std.proofs.Common.{inr, All}
 use Rattle.std.specs.List.{flat_map}
 use Rattle.std.proofs.lemmas.List.{append-nil}
 use Rattle.std.proofs.lemmas.List.Elements.{All-nil, All-cons}
@@ -24,11 +24,11 @@ use Rattle.om_parser.specs.StatementReading.{block_at}
 use Rattle.om_tree.specs.Places.{IsOverInItem, IsOverInUnitItems, IsOverInUnit}
 use Rattle.om_parts.specs.Reading.{take_mark, take_word, mark_at, word_at, name_at}
 use Rattle.om_parts.specs.Repetition.{until}
-use Rattle.om_tree.specs.Spelling.{token, mark, word, name, result_spelling, block_spelling, head_spelling,
-    item_spelling, unit_spelling}
+use Rattle.om_tree.specs.Spelling.{token, mark, word, name, result_spelling, block_spelling, head_spelling}
+use Rattle.om_tree.specs.Spelling.{item_spelling, unit_spelling}
 use Rattle.om_tree.specs.Tree.{HeadTree, Function}
-use Rattle.om_parser.specs.UnitReading.{function_after, prototype_after, void_after, int_after, item_at, take_end,
-    unit_at}
+use Rattle.om_parser.specs.UnitReading.{function_after, prototype_after, void_after, int_after, item_at, take_end}
+use Rattle.om_parser.specs.UnitReading.{unit_at}
 use Rattle.om_parser.proofs.Outcomes.{bind_err, choose_cases}
 use Rattle.om_parser.proofs.Taken.{take_mark_is, take_word_is, mark_at_is, word_at_is, name_at_is}
 use Rattle.om_parser.proofs.FunctionSound.{head_sound, named_is}
@@ -54,7 +54,7 @@ module _ (laws : PartLaws) (l : Limits) (one : 1 ≤ l.nested) where
           | inl d ↦ within_larger item_spelling IsItem (IsOverInItem l) (head_spelling h) []
               (λ b. Function (record { head = h; body = b })) (head_spelling h ++ ts) ts f
               (λ b is. (named_is h.parameters named.0, is)) (λ b. ap (λ w. head_spelling h ++ w)
-                  (sym (append-nil (block_spelling b)))) (λ b before t over. (before, refl, over)) refl
+              (sym (append-nil (block_spelling b)))) (λ b before t over. (before, refl, over)) refl
               (function_block_cut (parts l) l one (laws.sound l one) (laws.stop l one) ts f d stops)
         ]
   ]
@@ -78,9 +78,9 @@ module _ (laws : PartLaws) (l : Limits) (one : 1 ≤ l.nested) where
       | inl wrong ↦ absurd (known_plain n.1 _ f wrong stops)
       | inr (p, taken, k) ↦
           let front : ts ≡ name n.0 ∷ mark punctuators.OpenParen p.0 ∷ p.1 = name_at_is ts n named
-              ∙ ap (λ w. name n.0 ∷ w) (mark_at_is punctuators.OpenParen n.1 p taken) in
+          ∙ ap (λ w. name n.0 ∷ w) (mark_at_is punctuators.OpenParen n.1 p taken) in
           subst (λ w. IsItemCut (word keywords.Void void ∷ w) f) (sym front) (prototype_cut (results.Void void) n.0
-              p.0 p.1 f k stops)
+          p.0 p.1 f k stops)
     ]
   ]
 
@@ -95,9 +95,9 @@ module _ (laws : PartLaws) (l : Limits) (one : 1 ≤ l.nested) where
     | inr (n, named, g) ↦ elim (choose_cases (take_mark punctuators.OpenParen n.1) _ _ (Err f) g) [
       | inl (p, taken, k) ↦
           let front : ts ≡ name n.0 ∷ mark punctuators.OpenParen p.0 ∷ p.1 = name_at_is ts n named
-              ∙ ap (λ w. name n.0 ∷ w) (take_mark_is punctuators.OpenParen n.1 p.0 p.1 taken) in
+          ∙ ap (λ w. name n.0 ∷ w) (take_mark_is punctuators.OpenParen n.1 p.0 p.1 taken) in
           subst (λ w. IsItemCut (word keywords.Int int ∷ w) f) (sym front) (prototype_cut (results.Int int) n.0 p.0
-              p.1 f k stops)
+          p.1 f k stops)
       | inr (none, k) ↦ absurd (bind_plain (global_at int n.0 n.1) _ (global_plain int n.0 n.1)
           (λ d f h stops. absurd cc) f k stops)
     ]
@@ -138,9 +138,9 @@ module _ (laws : PartLaws) (l : Limits) (one : 1 ≤ l.nested) where
         | inl fails ↦
             let first = item_sound laws.sound laws.globals_sound l one ts a reads in
             within_larger (flat_map item_spelling) (All IsItem) (IsOverInUnitItems l) (item_spelling a.0) []
-                (λ items. a.0 ∷ items) ts a.1 f (λ items is. All-cons IsItem a.0 items first.formed.0 is)
-                (λ items. ap (λ w. item_spelling a.0 ++ w) (sym (append-nil (flat_map item_spelling items))))
-                (λ items before t over. inr (before, refl, over)) first.parts (items_cut k a.1 f fails stops)
+            (λ items. a.0 ∷ items) ts a.1 f (λ items is. All-cons IsItem a.0 items first.formed.0 is)
+            (λ items. ap (λ w. item_spelling a.0 ++ w) (sym (append-nil (flat_map item_spelling items))))
+            (λ items before t over. inr (before, refl, over)) first.parts (items_cut k a.1 f fails stops)
       ]
     ]
   ]
@@ -153,6 +153,6 @@ module _ (laws : PartLaws) (l : Limits) (one : 1 ≤ l.nested) where
     | inl e ↦
         let filler : Span = record { start = 0; end = 0; line = 0 } in
         within_larger unit_spelling IsUnit (IsOverInUnit l) [] (token kinds.End filler ∷ [])
-            (λ items. record { items = items; end = filler }) ts ts f (λ items is. is) (λ items. refl)
-            (λ items before t over. over) refl (items_cut (length ts) ts f e stops)
+        (λ items. record { items = items; end = filler }) ts ts f (λ items is. is) (λ items. refl)
+        (λ items before t over. over) refl (items_cut (length ts) ts f e stops)
   ]

@@ -1,6 +1,6 @@
 -- A unit that is read is well-formed, within the limits, and spelled as the tokens were.
-use Rattle.std.proofs.Common.{◌≡◌, ◌<◌, ◌≤◌, ℕ, zero, suc, List, [], ◌∷◌, ◌++◌, length, Err, refl, sym, ap, subst,
-    ◌∙◌, Bool, true, false, cond, arith, length-append, inl, inr, All}
+use Rattle.std.proofs.Common.{◌≡◌, ◌<◌, ◌≤◌, ℕ, zero, suc, List, [], ◌∷◌, ◌++◌, length, Err, refl, sym, ap, subst, ◌∙◌}
+use Rattle.std.proofs.Common.{Bool, true, false, cond, arith, length-append, inl, inr, All}
 use Rattle.std.specs.List.{flat_map}
 use Rattle.std.proofs.lemmas.List.{append-nil}
 use Rattle.std.proofs.lemmas.List.Elements.{All-weaker}
@@ -19,13 +19,13 @@ use Rattle.om_parser.specs.FunctionReading.{are_named, head_after}
 use Rattle.om_tree.specs.Limits.{Limits}
 use Rattle.om_parts.specs.Reading.{Reader, Outcome, take_mark, take_word, mark_at, word_at, name_at}
 use Rattle.om_parts.specs.Repetition.{until}
-use Rattle.om_tree.specs.Spelling.{token, mark, word, name, result_spelling, block_spelling, declaration_spelling,
-    head_spelling, item_spelling, unit_spelling}
+use Rattle.om_tree.specs.Spelling.{token, mark, word, name, result_spelling, block_spelling, declaration_spelling}
+use Rattle.om_tree.specs.Spelling.{head_spelling, item_spelling, unit_spelling}
 use Rattle.om_parts.specs.PartReading.{parts, global_at}
 use Rattle.om_parser.specs.StatementReading.{block_at}
 use Rattle.om_tree.specs.Tree.{HeadTree, ItemTree, Declaration, Prototype, Function, UnitTree}
-use Rattle.om_parser.specs.UnitReading.{function_after, prototype_after, void_after, int_after, item_at, end_of,
-    take_end, unit_at}
+use Rattle.om_parser.specs.UnitReading.{function_after, prototype_after, void_after, int_after, item_at, end_of}
+use Rattle.om_parser.specs.UnitReading.{take_end, unit_at}
 use Rattle.om_parser.proofs.Outcomes.{ok, ok_is, some, some_is, bind_ok, choose_cases, after_front}
 use Rattle.om_parser.proofs.Taken.{take_mark_is, take_word_is, mark_at_is, word_at_is, name_at_is}
 use Rattle.om_parts.specs.Laws.{IsRead, IsSound, PartsAreSound, GlobalsAreSound}
@@ -42,8 +42,10 @@ take_end_is (t ∷ []) s us e = go t.kind e
   where
     go : (k : TokenKind) → end_of (token k t.span) [] ≡ some (s, us) → (token k t.span ∷ [] ≡ token kinds.End s
         ∷ us) × (us ≡ [])
-    go kinds.End h = let p = some_is (t.span, []) (s, us) h in (ap (λ y. token kinds.End y.0 ∷ y.1) p,
-        sym (ap (λ y. y.1) p))
+    go kinds.End h = let p = some_is (t.span, []) (s, us) h in (
+      ap (λ y. token kinds.End y.0 ∷ y.1) p,
+      sym (ap (λ y. y.1) p),
+    )
     go _ h = absurd cc
 take_end_is (t ∷ u ∷ ts) s us e = absurd cc
 
@@ -81,16 +83,16 @@ module _ (sound : PartsAreSound) (globals : GlobalsAreSound) (l : Limits) (one :
   function_sound h ts x e = elim (choose_cases (take_mark punctuators.Semicolon ts) _ _ (ok x) e) [
     | inl s ↦ subst (IsRead item_spelling IsGoodItem (head_spelling h ++ ts)) (ok_is (Prototype h s.0.0, s.0.1) x
         s.2) (record {
-      parts = after_front (head_spelling h ++ ts) (head_spelling h) ts (mark punctuators.Semicolon s.0.0 ∷ []) s.0.1
-          refl (take_mark_is punctuators.Semicolon ts s.0.0 s.0.1 s.1);
-      formed = (tt, (tt, tt));
-    })
+          parts = after_front (head_spelling h ++ ts) (head_spelling h) ts (mark punctuators.Semicolon s.0.0 ∷ []) s.0.1
+              refl (take_mark_is punctuators.Semicolon ts s.0.0 s.0.1 s.1);
+          formed = (tt, (tt, tt));
+        })
     | inr g ↦
         let named = only_if (are_named h.parameters) _ _ x g.1 (λ y d. absurd cc) in
         let b = bind_ok (block_at l ts) _ x named.1 in
         let body = function_block_sound (parts l) l one (sound l one) l.statements l.blocks ts b.0 b.1 in
         subst (IsRead item_spelling IsGoodItem (head_spelling h ++ ts))
-            (ok_is (Function (record { head = h; body = b.0.0 }), b.0.1) x b.2) (record {
+        (ok_is (Function (record { head = h; body = b.0.0 }), b.0.1) x b.2) (record {
           parts = after_front (head_spelling h ++ ts) (head_spelling h) ts (block_spelling b.0.0) b.0.1 refl body.parts;
           formed = ((named_is h.parameters named.0, body.formed.formed), (body.formed.room_for, body.formed.forms));
         })
@@ -103,7 +105,7 @@ module _ (sound : PartsAreSound) (globals : GlobalsAreSound) (l : Limits) (one :
   prototype_sound result n left ts x e =
       let h = bind_ok (head_after result n left ts) _ x e in
       subst (λ w. IsRead item_spelling IsGoodItem w x) (sym (head_sound result n left ts h.0 h.1))
-          (function_sound h.0.0 h.0.1 x h.2)
+      (function_sound h.0.0 h.0.1 x h.2)
 
   void_sound : (void : Span) (ts : List Token) (x : ItemTree × List Token) → void_after l void ts ≡ ok x
       → IsRead item_spelling IsGoodItem (word keywords.Void void ∷ ts) x
@@ -112,9 +114,9 @@ module _ (sound : PartsAreSound) (globals : GlobalsAreSound) (l : Limits) (one :
       let n = bind_ok (name_at ts) _ x e in
       let p = bind_ok (mark_at punctuators.OpenParen n.0.1) _ x n.2 in
       let front : ts ≡ name n.0.0 ∷ mark punctuators.OpenParen p.0.0 ∷ p.0.1 = name_at_is ts n.0 n.1
-          ∙ ap (λ w. name n.0.0 ∷ w) (mark_at_is punctuators.OpenParen n.0.1 p.0 p.1) in
+      ∙ ap (λ w. name n.0.0 ∷ w) (mark_at_is punctuators.OpenParen n.0.1 p.0 p.1) in
       subst (λ w. IsRead item_spelling IsGoodItem (word keywords.Void void ∷ w) x) (sym front)
-          (prototype_sound (results.Void void) n.0.0 p.0.0 p.0.1 x p.2)
+      (prototype_sound (results.Void void) n.0.0 p.0.0 p.0.1 x p.2)
 
   int_sound : (int : Span) (ts : List Token) (x : ItemTree × List Token) → int_after l int ts ≡ ok x
       → IsRead item_spelling IsGoodItem (word keywords.Int int ∷ ts) x
@@ -122,7 +124,7 @@ module _ (sound : PartsAreSound) (globals : GlobalsAreSound) (l : Limits) (one :
   int_sound int ts x e =
       let n = bind_ok (name_at ts) _ x e in
       subst (λ w. IsRead item_spelling IsGoodItem (word keywords.Int int ∷ w) x) (sym (name_at_is ts n.0 n.1))
-          (elim (choose_cases (take_mark punctuators.OpenParen n.0.1) _ _ (ok x) n.2) [
+      (elim (choose_cases (take_mark punctuators.OpenParen n.0.1) _ _ (ok x) n.2) [
         | inl p ↦ subst (λ w. IsRead item_spelling IsGoodItem (word keywords.Int int ∷ name n.0.0 ∷ w) x)
             (sym (take_mark_is punctuators.OpenParen n.0.1 p.0.0 p.0.1 p.1)) (prototype_sound (results.Int int)
             n.0.0 p.0.0 p.0.1 x p.2)
@@ -130,7 +132,7 @@ module _ (sound : PartsAreSound) (globals : GlobalsAreSound) (l : Limits) (one :
             let d = bind_ok (global_at int n.0.0 n.0.1) _ x g.1 in
             let r = globals int n.0.0 n.0.1 d.0 d.1 in
             subst (IsRead item_spelling IsGoodItem (word keywords.Int int ∷ name n.0.0 ∷ n.0.1))
-                (ok_is (Declaration d.0.0, d.0.1) x d.2) (record { parts = r.parts; formed = (r.formed, (tt, tt)) })
+            (ok_is (Declaration d.0.0, d.0.1) x d.2) (record { parts = r.parts; formed = (r.formed, (tt, tt)) })
       ])
 
   pub item_sound : IsSound item_spelling IsGoodItem (item_at l)
@@ -141,7 +143,7 @@ module _ (sound : PartsAreSound) (globals : GlobalsAreSound) (l : Limits) (one :
     | inr g ↦
         let i = bind_ok (word_at keywords.Int ts) _ x g.1 in
         subst (λ w. IsRead item_spelling IsGoodItem w x) (sym (word_at_is keywords.Int ts i.0 i.1))
-            (int_sound i.0.0 i.0.1 x i.2)
+        (int_sound i.0.0 i.0.1 x i.2)
   ]
 
   -- every unit that is read
@@ -151,13 +153,16 @@ module _ (sound : PartsAreSound) (globals : GlobalsAreSound) (l : Limits) (one :
   unit_sound ts u h =
       let x = bind_ok (until take_end (item_at l) (length ts) ts) _ u h in
       let r = until_sound item_spelling IsGoodItem (token kinds.End) take_end (item_at l)
-          (λ ts s us e. (take_end_is ts s us e).0) item_sound (length ts) ts x.0 x.1 in
+      (λ ts s us e. (take_end_is ts s us e).0) item_sound (length ts) ts x.0 x.1 in
       let whole : flat_map item_spelling x.0.0 ++ token kinds.End x.0.1 ∷ []
-          ≡ ts = sym (r.parts ∙ ap (λ w. (flat_map item_spelling x.0.0 ++ token kinds.End x.0.1 ∷ []) ++ w)
-          (until_end (item_at l) (length ts) ts x.0 x.1) ∙ append-nil _) in
-      subst (λ v. IsUnit v × (unit_spelling v ≡ ts) × All (IsKeptItem l) v.items) (ok_is _ u x.2)
-          (All-weaker IsGoodItem IsItem (λ i g. g.0) x.0.0 r.formed, whole, All-weaker IsGoodItem (IsKeptItem l)
-          (λ i g. g.1) x.0.0 r.formed)
+      ≡ ts = sym (r.parts ∙ ap (λ w. (flat_map item_spelling x.0.0 ++ token kinds.End x.0.1 ∷ []) ++ w)
+      (until_end (item_at l) (length ts) ts x.0 x.1) ∙ append-nil _) in
+      subst (λ v. IsUnit v × (unit_spelling v ≡ ts) × All (IsKeptItem l) v.items) (ok_is _ u x.2) (
+        All-weaker IsGoodItem IsItem (λ i g. g.0) x.0.0 r.formed,
+        whole,
+        All-weaker IsGoodItem (IsKeptItem l)
+            (λ i g. g.1) x.0.0 r.formed,
+      )
 
 -- ---- what is read takes a token at least
 

@@ -16,12 +16,12 @@ use Rattle.om_parser.specs.declared.statement.Inside.{Inside}
 use Rattle.om_parser.specs.declared.statement.Inside.TheVariants as insides
 use Rattle.om_parser.specs.declared.start.Start.{Start}
 use Rattle.om_parser.specs.declared.start.Start.TheVariants as starts
-use Rattle.om_parts.specs.Reading.{◌>>=◌, choose, Outcome, Reader, syntax, too_deep, take_mark, take_word, mark_at,
-    word_at}
+use Rattle.om_parts.specs.Reading.{◌>>=◌, choose, Outcome, Reader, syntax, too_deep, take_mark, take_word, mark_at}
+use Rattle.om_parts.specs.Reading.{word_at}
 use Rattle.om_parts.specs.Repetition.{until}
-use Rattle.om_tree.specs.Tree.{ExpressionTree, ConditionTree, ForStartTree, Nothing, StartExpression,
-    StartDeclaration, ForHeadTree, StatementTree, LocalDeclaration, Block, Empty, Expression, If, IfElse, While, Do,
-    For, Return, Break, Continue, statements, BlockTree}
+use Rattle.om_tree.specs.Tree.{ExpressionTree, ConditionTree, ForStartTree, Nothing, StartExpression, StartDeclaration}
+use Rattle.om_tree.specs.Tree.{ForHeadTree, StatementTree, LocalDeclaration, Block, Empty, Expression, If, IfElse}
+use Rattle.om_tree.specs.Tree.{While, Do, For, Return, Break, Continue, statements, BlockTree}
 
 -- ---- what a first token begins
 
@@ -75,8 +75,11 @@ optional_before p expression ts = choose (take_mark p ts)
 unfoldable pub for_start_at : Parts → Reader ForStartTree
 for_start_at p ts = choose (take_word keywords.Int ts)
     (λ i. p.enclosed_declaration i.0 i.1 >>= λ d. Ok (StartDeclaration d.0, d.1))
-    (optional_before punctuators.Semicolon p.enclosed ts >>= λ e. Ok (choose e.0.0 (λ x. StartExpression x e.0.1)
-        (Nothing e.0.1), e.1))
+    (optional_before punctuators.Semicolon p.enclosed ts >>= λ e. Ok (
+      choose e.0.0 (λ x. StartExpression x e.0.1)
+          (Nothing e.0.1),
+      e.1,
+    ))
 
 -- a `for` up to its closing parenthesis, behind its word
 unfoldable pub for_head_after : Parts → Span → Reader ForHeadTree
@@ -85,8 +88,18 @@ for_head_after p word ts = do
   s ← for_start_at p l.1
   c ← optional_before punctuators.Semicolon p.enclosed s.1
   e ← optional_before punctuators.CloseParen p.enclosed c.1
-  Ok (record { word = word; open_paren = l.0; start = s.0; condition = c.0.0; semicolon = c.0.1; step = e.0.0;
-      close_paren = e.0.1 }, e.1)
+  Ok (
+    record {
+      word = word;
+      open_paren = l.0;
+      start = s.0;
+      condition = c.0.0;
+      semicolon = c.0.1;
+      step = e.0.0;
+      close_paren = e.0.1;
+    },
+    e.1,
+  )
 
 -- what stands before the statement that is its body
 pub data OpeningTree : Type 0 where

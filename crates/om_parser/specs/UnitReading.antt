@@ -12,8 +12,8 @@ use Rattle.om_tree.specs.declared.tree.ResultType.TheVariants as results
 use Rattle.om_parts.specs.PartReading.{global_at}
 use Rattle.om_parser.specs.FunctionReading.{are_named, head_after}
 use Rattle.om_tree.specs.Limits.{Limits}
-use Rattle.om_parts.specs.Reading.{◌>>=◌, choose, Outcome, Reader, syntax, take_mark, take_word, mark_at, word_at,
-    name_at}
+use Rattle.om_parts.specs.Reading.{◌>>=◌, choose, Outcome, Reader, syntax, take_mark, take_word, mark_at, word_at}
+use Rattle.om_parts.specs.Reading.{name_at}
 use Rattle.om_parts.specs.Repetition.{until}
 use Rattle.om_parser.specs.StatementReading.{block_at}
 use Rattle.om_tree.specs.Tree.{HeadTree, ItemTree, Declaration, Prototype, Function, UnitTree}
@@ -24,8 +24,10 @@ use Rattle.om_tree.specs.Tree.{HeadTree, ItemTree, Declaration, Prototype, Funct
 unfoldable pub function_after : Limits → HeadTree → Reader ItemTree
 function_after l head ts = choose (take_mark punctuators.Semicolon ts)
     (λ s. Ok (Prototype head s.0, s.1))
-    (if are_named head.parameters then (block_at l ts >>= λ b. Ok (Function (record { head = head; body = b.0 }),
-        b.1)) else Err (syntax ts))
+    (if are_named head.parameters then (block_at l ts >>= λ b. Ok (
+      Function (record { head = head; body = b.0 }),
+      b.1,
+    )) else Err (syntax ts))
 
 -- the rest of a prototype or function, behind its left parenthesis
 unfoldable pub prototype_after : Limits → ResultType → names.Name → Span → Reader ItemTree

@@ -1,6 +1,6 @@
 -- What is spelled is taken again, and answers that only a fault of another code than that of syntax hinders.
-use Rattle.std.proofs.Common.{◌≡◌, ℕ, ◌≤◌, Option, List, ◌∷◌, length, Err, refl, sym, subst, Bool, true, false,
-    cond, arith, inl, inr}
+use Rattle.std.proofs.Common.{◌≡◌, ℕ, ◌≤◌, Option, List, ◌∷◌, length, Err, refl, sym, subst, Bool, true, false, cond}
+use Rattle.std.proofs.Common.{arith, inl, inr}
 use Rattle.std.proofs.lemmas.Bool.{leb-false}
 use Rattle.std.specs.Prelude.{nat_le}
 use denote.Enum.Bare.{true_same}
@@ -14,8 +14,8 @@ use Rattle.om_lexer.specs.declared.token.TokenKind.TheVariants as kinds
 use Rattle.om_pragma.specs.declared.name.Name as names
 use Rattle.om_pragma.specs.declared.name.Number.{Number}
 use Rattle.om_parts.specs.ExpressionReading.{within, take_operator}
-use Rattle.om_parts.specs.Reading.{◌>>=◌, Outcome, too_deep, take, same_mark, take_mark, take_name, take_number,
-    mark_at, name_at, number_at}
+use Rattle.om_parts.specs.Reading.{◌>>=◌, Outcome, too_deep, take, same_mark, take_mark, take_name, take_number}
+use Rattle.om_parts.specs.Reading.{mark_at, name_at, number_at}
 use Rattle.om_tree.specs.Spelling.{mark, name, number}
 use Rattle.om_parts.proofs.Outcomes.{ok, some}
 use Rattle.om_parts.specs.Laws.{Stopping, IsAnswer}

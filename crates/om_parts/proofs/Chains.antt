@@ -1,6 +1,6 @@
 -- Reading what goes on with a tree step by step, as a loop does.
-use Rattle.std.proofs.Common.{◌≡◌, ℕ, zero, suc, ◌<◌, ◌≤◌, ◌+◌, ◌-◌, List, length, Option, Some, None, Ok, Err, ◌⊎◌,
-    inl, inr, refl, sym, ap, subst, ◌∙◌, arith, length-append, true, false}
+use Rattle.std.proofs.Common.{◌≡◌, ℕ, zero, suc, ◌<◌, ◌≤◌, ◌+◌, ◌-◌, List, length, Option, Some, None, Ok, Err, ◌⊎◌}
+use Rattle.std.proofs.Common.{inl, inr, refl, sym, ap, subst, ◌∙◌, arith, length-append, true, false}
 use Rattle.std.proofs.Math.Nat.{le-suc_iff}
 use Rattle.std.specs.Prelude.{nat_le, Bool}
 use Rattle.om_lexer.specs.declared.fault.SourceFault.{SourceFault}
@@ -11,15 +11,16 @@ use Rattle.om_lexer.specs.declared.token.Token.{Token}
 use Rattle.om_parts.specs.declared.expression.TheConstants.{LEVELS}
 use Rattle.om_tree.specs.declared.tree.BinaryOperator.{BinaryOperator}
 use Rattle.om_tree.specs.declared.tree.PostfixOperator.{PostfixOperator}
-use Rattle.om_parts.specs.ExpressionReading.{within, postfix_of, level_operator, take_operator, More, chain_at,
-    postfix_more, binary_more, binary_at, argument_at, expression_at, expression_step, expression_after, operand_at}
+use Rattle.om_parts.specs.ExpressionReading.{within, postfix_of, level_operator, take_operator, More, chain_at}
+use Rattle.om_parts.specs.ExpressionReading.{postfix_more, binary_more, binary_at, argument_at, expression_at}
+use Rattle.om_parts.specs.ExpressionReading.{expression_step, expression_after, operand_at}
 use Rattle.om_parts.specs.Reading.{Outcome, Reader, too_deep, mark_at}
 use Rattle.om_tree.specs.Tree.{ExpressionTree, Postfix, Binary}
 use Rattle.om_tree.specs.Spelling.{postfix_mark, expression_spelling}
 use Rattle.om_parts.proofs.Outcomes.{ok, ok_is, some, bind_ok, choose_cases}
 use Rattle.om_parts.proofs.Taken.{mark_at_is}
-use Rattle.om_parts.proofs.ExpressionSound.{within_ok, option_map_is, postfix_is, take_operator_is, take_level_is,
-    operand_sound, all_sound}
+use Rattle.om_parts.proofs.ExpressionSound.{within_ok, option_map_is, postfix_is, take_operator_is, take_level_is}
+use Rattle.om_parts.proofs.ExpressionSound.{operand_sound, all_sound}
 
 -- what is still to be read makes the whole
 abbrev pub GoesOn : More → ExpressionTree → List Token → Outcome (ExpressionTree × List Token) → Type 0
@@ -116,7 +117,7 @@ binary_more_shrinks beyond m operand h a us b more =
     let w = within_ok beyond o.0.0.1 o.0.1 _ b o.2 in
     let r = bind_ok (operand o.0.1) _ b w.1 in
     let same = ap (λ (y : ExpressionTree × List Token). length y.1) (ok_is (Binary a o.0.0.0 o.0.0.1 r.0.0, r.0.1) b
-        r.2) in
+    r.2) in
     let is = ap length (take_level_is m us o.0 o.1).0 in
     let inner = h o.0.1 r.0 r.1 in
     omega (arith, same, is, inner)
@@ -130,15 +131,19 @@ binary_shrinks beyond unary h (suc k) ts x e =
     let a = bind_ok (binary_at beyond unary k ts) _ x e in
     let first = binary_shrinks beyond unary h k ts a.0 a.1 in
     let rest = chain_shrinks (binary_more beyond (8 - k) (binary_at beyond unary k))
-        (binary_more_shrinks beyond (8 - k) (binary_at beyond unary k) (binary_shrinks beyond unary h k))
-        (length a.0.1) a.0.0 a.0.1 x a.2 in
+    (binary_more_shrinks beyond (8 - k) (binary_at beyond unary k) (binary_shrinks beyond unary h k))
+    (length a.0.1) a.0.0 a.0.1 x a.2 in
     omega (arith, first, rest)
 
 pub operand_shorter : (beyond turns room k : ℕ) (us : List Token) (b : ExpressionTree) (vs : List Token)
     → binary_at beyond (operand_at beyond turns room) k us ≡ Ok (b, vs) → length vs ≤ length us
 operand_shorter beyond turns room k us b vs e = binary_shrinks beyond (operand_at beyond turns room)
-    (λ ts x h. let r = operand_sound beyond turns room ts x h in omega (arith, ap length r.parts, length-append
-    (expression_spelling x.0) x.1)) k us (b, vs) e
+    (λ ts x h. let r = operand_sound beyond turns room ts x h in omega (
+      arith,
+      ap length r.parts,
+      length-append
+          (expression_spelling x.0) x.1,
+    )) k us (b, vs) e
 
 pub argument_shorter : (beyond turns room : ℕ) (ts : List Token) (a : Option Span × ExpressionTree)
     (us : List Token) → argument_at beyond (expression_at beyond turns true room) ts ≡ Ok (a, us)
@@ -150,9 +155,15 @@ argument_shorter beyond turns room ts a us h =
     let e = bind_ok (expression_at beyond turns true room c.0.1) _ (a, us) w.1 in
     let r = (all_sound beyond turns room).any true c.0.1 e.0 e.1 in
     let same = ap (λ (y : (Option Span × ExpressionTree) × List Token). length y.1)
-        (ok_is ((Some c.0.0, e.0.0), e.0.1) (a, us) e.2) in
-    omega (arith, ap length (mark_at_is Comma ts c.0 c.1), ap length r.parts, length-append
-        (expression_spelling e.0.0) e.0.1, same)
+    (ok_is ((Some c.0.0, e.0.0), e.0.1) (a, us) e.2) in
+    omega (
+      arith,
+      ap length (mark_at_is Comma ts c.0 c.1),
+      ap length r.parts,
+      length-append
+          (expression_spelling e.0.0) e.0.1,
+      same,
+    )
 
 -- what stops a part stops the whole, or memory ran out
 pub fails_or : {A B : Type 0} {part : Outcome A} {whole : Outcome B} (f : SourceFault) → (f ≡ no_memory)
@@ -194,7 +205,7 @@ module _ (beyond : ℕ) (unary : Reader ExpressionTree) (ts : List Token) (k : �
 pub turn_goes_on : (beyond turns fewer room : ℕ) (may_assign : Bool) (ts : List Token) (a : ExpressionTree)
     (us : List Token) → turns ≡ suc fewer → binary_at beyond (operand_at beyond fewer room) LEVELS ts ≡ Ok (a, us)
     → expression_at beyond turns may_assign room ts ≡ expression_after beyond may_assign
-        (expression_at beyond fewer true room) (expression_at beyond fewer false room) a us
+    (expression_at beyond fewer true room) (expression_at beyond fewer false room) a us
 unfolding expression_at expression_step
 turn_goes_on beyond turns fewer room may_assign ts a us taken reads = subst (λ (n : ℕ). expression_at beyond n
     may_assign room ts ≡ expression_after beyond may_assign (expression_at beyond fewer true room)

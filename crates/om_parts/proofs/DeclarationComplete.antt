@@ -9,14 +9,14 @@ use Rattle.om_lexer.specs.declared.token.Token.{Token}
 use Rattle.om_tree.specs.declared.tree.ArrayLength.{ArrayLength}
 use Rattle.om_pragma.specs.declared.name.Number.{Number}
 use Rattle.om_tree.specs.declared.tree.PrefixOperator.TheVariants as prefixes
-use Rattle.om_parts.specs.DeclarationReading.{constant_at, array_after, declarator_after, further_at,
-    declaration_after, declared_at}
+use Rattle.om_parts.specs.DeclarationReading.{constant_at, array_after, declarator_after, further_at, declaration_after}
+use Rattle.om_parts.specs.DeclarationReading.{declared_at}
 use Rattle.om_tree.specs.Formed.{IsSignedConstant, IsDeclarator, IsDeclaration}
 use Rattle.om_tree.specs.Limits.{expressions_of_declarator, expressions_of_declaration}
 use Rattle.om_parts.specs.Reading.{Reader, take, same_mark, take_mark}
 use Rattle.om_parts.specs.Repetition.{until}
-use Rattle.om_tree.specs.Spelling.{mark, name, number, perhaps, word, expression_spelling, array_spelling,
-    initializer_spelling, declarator_spelling, further_spelling, declaration_spelling}
+use Rattle.om_tree.specs.Spelling.{mark, name, number, perhaps, word, expression_spelling, array_spelling}
+use Rattle.om_tree.specs.Spelling.{initializer_spelling, declarator_spelling, further_spelling, declaration_spelling}
 use Rattle.om_tree.specs.Tree.{ExpressionTree, Constant, Prefix, InitializerTree, DeclaratorTree, DeclarationTree}
 use Rattle.om_parts.proofs.Outcomes.{ok}
 use Rattle.om_parts.proofs.Again.{take_mark_again, mark_again, name_again, number_again, bind_answer}
@@ -47,8 +47,10 @@ equal_is_no_bracket s ts = refl
 array_again : (a : ArrayLength) (rest : List Token) → array_after a.open_bracket
     (number a.size ∷ mark punctuators.CloseBracket a.close_bracket ∷ rest) ≡ ok (a, rest)
 unfolding array_after
-array_again a rest = rw (number_again a.size (mark punctuators.CloseBracket a.close_bracket ∷ rest),
-    mark_again punctuators.CloseBracket a.close_bracket rest) refl
+array_again a rest = rw (
+  number_again a.size (mark punctuators.CloseBracket a.close_bracket ∷ rest),
+  mark_again punctuators.CloseBracket a.close_bracket rest,
+) refl
 
 number_is_no_minus : (n : Number) (ts : List Token) → take_mark punctuators.Minus (number n ∷ ts) ≡ None
 unfolding take_mark take
@@ -58,8 +60,11 @@ pub constant_again : (e : ExpressionTree) (rest : List Token) → IsSignedConsta
     → constant_at (expression_spelling e ++ rest) ≡ ok (e, rest)
 unfolding constant_at expression_spelling
 constant_again (Constant n) rest f = rw (number_is_no_minus n rest, number_again n rest) refl
-constant_again (Prefix prefixes.Minus at (Constant n)) rest f = rw (take_mark_again punctuators.Minus at
-    (number n ∷ rest), number_again n rest) refl
+constant_again (Prefix prefixes.Minus at (Constant n)) rest f = rw (
+  take_mark_again punctuators.Minus at
+      (number n ∷ rest),
+  number_again n rest,
+) refl
 constant_again _ rest f = absurd f
 
 -- the rest of a declaration, behind `int` and the first name
@@ -108,13 +113,16 @@ module _ (Admitted Fits : ExpressionTree → Type 0) (initial : Reader Expressio
           (tree a i, rest)
       go None None f = inl (rw (no_array rest ends, no_initializer rest ends) refl)
       go (Some a) None f = inl
-          (rw (take_mark_again punctuators.OpenBracket a.open_bracket (number a.size ∷ mark punctuators.CloseBracket
-          a.close_bracket ∷ rest), array_again a rest) refl)
+          (rw (
+            take_mark_again punctuators.OpenBracket a.open_bracket (number a.size ∷ mark punctuators.CloseBracket
+                a.close_bracket ∷ rest),
+            array_again a rest,
+          ) refl)
       go None (Some i) f =
           let value : List Token = expression_spelling i.value ++ rest in
           rw (equal_is_no_bracket i.equal value, take_mark_again punctuators.Equal i.equal value)
-              (bind_answer (initial value) _ (i.value, rest) (tree None (Some i), rest)
-              (λ w. All-head Fits i.value [] w) (again i.value rest f ends) (inl refl))
+          (bind_answer (initial value) _ (i.value, rest) (tree None (Some i), rest)
+          (λ w. All-head Fits i.value [] w) (again i.value rest f ends) (inl refl))
       go (Some a) (Some i) f = absurd f
 
   abbrev IsFurther : Span × DeclaratorTree → Type 0
@@ -128,10 +136,10 @@ module _ (Admitted Fits : ExpressionTree → Type 0) (initial : Reader Expressio
   unfolding further_at further_spelling declarator_spelling
   further_again d rest formed ends =
       let back : List Token = (perhaps array_spelling d.1.array ++ perhaps initializer_spelling d.1.initializer)
-          ++ rest in
+      ++ rest in
       rw (mark_again punctuators.Comma d.0 (name d.1.name ∷ back), name_again d.1.name back)
-          (bind_answer (declarator_after initial d.1.name back) _ (d.1, rest) (d, rest) (λ w. w)
-          (declarator_again d.1 rest formed ends) (inl refl))
+      (bind_answer (declarator_after initial d.1.name back) _ (d.1, rest) (d, rest) (λ w. w)
+      (declarator_again d.1 rest formed ends) (inl refl))
 
   all_further_again : AreAgain further_spelling IsFurther FitsFurther EndsDeclarator
       (take_mark punctuators.Semicolon) (further_at initial)
@@ -158,14 +166,14 @@ module _ (Admitted Fits : ExpressionTree → Type 0) (initial : Reader Expressio
       let last : Token = mark punctuators.Semicolon d.semicolon in
       let others : List Token = flat_map further_spelling d.rest ++ last ∷ rest in
       bind_answer (declarator_after initial d.first.name (declaration_rest d rest)) _ (d.first, others) (d, rest)
-          (λ w. all_front Fits (expressions_of_declarator d.first) (flat_map (λ x. expressions_of_declarator x.1)
-          d.rest) w) (declarator_again d.first others formed.0 (ends_first d.rest d.semicolon rest))
+      (λ w. all_front Fits (expressions_of_declarator d.first) (flat_map (λ x. expressions_of_declarator x.1)
+      d.rest) w) (declarator_again d.first others formed.0 (ends_first d.rest d.semicolon rest))
       (bind_answer (until (take_mark punctuators.Semicolon) (further_at initial) (length others) others) _
-          (d.rest, d.semicolon, rest) (d, rest) (λ w. flat_all Fits (λ x. expressions_of_declarator x.1) d.rest
-          (all_back Fits (expressions_of_declarator d.first) (flat_map (λ x. expressions_of_declarator x.1) d.rest) w))
+      (d.rest, d.semicolon, rest) (d, rest) (λ w. flat_all Fits (λ x. expressions_of_declarator x.1) d.rest
+      (all_back Fits (expressions_of_declarator d.first) (flat_map (λ x. expressions_of_declarator x.1) d.rest) w))
       (until_again further_spelling IsFurther FitsFurther EndsDeclarator (take_mark punctuators.Semicolon)
-          (further_at initial) all_further_again last d.semicolon rest (take_mark_again punctuators.Semicolon
-          d.semicolon rest) (EndsBySemicolon d.semicolon rest) d.rest formed.1)
+      (further_at initial) all_further_again last d.semicolon rest (take_mark_again punctuators.Semicolon
+      d.semicolon rest) (EndsBySemicolon d.semicolon rest) d.rest formed.1)
       (inl refl))
 
   -- what stands behind the `int` of a declaration

@@ -1,6 +1,6 @@
 -- A limit stops the reading of a declaration only where it stops that of an initializer.
-use Rattle.std.proofs.Common.{◌≡◌, List, [], ◌∷◌, ◌++◌, length, Some, None, Err, refl, sym, ap, subst, ◌∙◌,
-    append_assoc, inl, inr, All}
+use Rattle.std.proofs.Common.{◌≡◌, List, [], ◌∷◌, ◌++◌, length, Some, None, Err, refl, sym, ap, subst, ◌∙◌}
+use Rattle.std.proofs.Common.{append_assoc, inl, inr, All}
 use Rattle.std.specs.List.{flat_map}
 use Rattle.std.proofs.lemmas.List.{append-nil}
 use Rattle.std.proofs.lemmas.List.Elements.{All-nil, Contains-append_left, Contains-append_right}
@@ -10,16 +10,16 @@ use Rattle.om_lexer.specs.declared.token.Punctuator.TheVariants as punctuators
 use Rattle.om_lexer.specs.declared.token.Span.{Span}
 use Rattle.om_lexer.specs.declared.token.Token.{Token}
 use Rattle.om_pragma.specs.declared.name.Name as names
-use Rattle.om_parts.specs.DeclarationReading.{constant_at, array_after, declarator_after, further_at,
-    declaration_after, declared_at}
+use Rattle.om_parts.specs.DeclarationReading.{constant_at, array_after, declarator_after, further_at, declaration_after}
+use Rattle.om_parts.specs.DeclarationReading.{declared_at}
 use Rattle.om_parts.specs.Reading.{Reader, take_mark, mark_at, name_at, number_at}
 use Rattle.om_parts.specs.Repetition.{until}
 use Rattle.om_tree.specs.Formed.{IsDeclarator, IsDeclaration}
 use Rattle.om_tree.specs.Limits.{Limits, expressions_of_declarator, expressions_of_declaration}
-use Rattle.om_parts.proofs.ItemsCut.{PassesLimit, Deep, IsCuttingAt, embedded, bind_never_deep, until_cut,
-    until_never_deep}
-use Rattle.om_tree.specs.Spelling.{mark, word, name, expression_spelling, initializer_spelling, declarator_spelling,
-    further_spelling, declaration_spelling}
+use Rattle.om_parts.proofs.ItemsCut.{PassesLimit, Deep, IsCuttingAt, embedded, bind_never_deep, until_cut}
+use Rattle.om_parts.proofs.ItemsCut.{until_never_deep}
+use Rattle.om_tree.specs.Spelling.{mark, word, name, expression_spelling, initializer_spelling, declarator_spelling}
+use Rattle.om_tree.specs.Spelling.{further_spelling, declaration_spelling}
 use Rattle.om_tree.specs.Tree.{ExpressionTree, DeclaratorTree, DeclarationTree}
 use Rattle.om_parts.proofs.Outcomes.{ok, bind_err, choose_cases}
 use Rattle.om_parts.proofs.Taken.{take_mark_is, mark_at_is, name_at_is}
@@ -82,9 +82,9 @@ module _ (Admitted : ExpressionTree → Type 0) (l : Limits) (initial : Reader E
   unfolding started declarator_spelling initializer_spelling IsDeclarator
   initializer_cut n equal ts f h deep =
       embedded expression_spelling Admitted (λ e. e ∷ []) declarator_spelling (IsDeclarator Admitted)
-          expressions_of_declarator l (name n ∷ mark punctuators.Equal equal ∷ []) (started n equal) []
+      expressions_of_declarator l (name n ∷ mark punctuators.Equal equal ∷ []) (started n equal) []
       (λ e. ap (λ w. name n ∷ mark punctuators.Equal equal ∷ w) (sym (append-nil (expression_spelling e))))
-          (λ e f. f) (λ e x c. c) ts f.at (cutting ts f h deep)
+      (λ e f. f) (λ e x c. c) ts f.at (cutting ts f h deep)
 
   declarator_cut : (n : names.Name) (ts : List Token) (f : SourceFault) → declarator_after initial n ts ≡ Err f
       → Deep f → IsDeclaratorCut (name n ∷ ts) f
@@ -118,12 +118,12 @@ module _ (Admitted : ExpressionTree → Type 0) (l : Limits) (initial : Reader E
         | inr (d, read, no_err) ↦ absurd cc
         | inl e ↦
             let front : ts ≡ mark punctuators.Comma c.0 ∷ name n.0 ∷ n.1 = mark_at_is punctuators.Comma ts c comma
-                ∙ ap (λ w. mark punctuators.Comma c.0 ∷ w) (name_at_is c.1 n named) in
+            ∙ ap (λ w. mark punctuators.Comma c.0 ∷ w) (name_at_is c.1 n named) in
             subst (λ w. PassesLimit further_spelling IsFurther expressions_of_further l w f.at) (sym front)
-                (embedded declarator_spelling (IsDeclarator Admitted) expressions_of_declarator further_spelling
-                IsFurther expressions_of_further l (mark punctuators.Comma c.0 ∷ []) (λ d. (c.0, d)) []
+            (embedded declarator_spelling (IsDeclarator Admitted) expressions_of_declarator further_spelling
+            IsFurther expressions_of_further l (mark punctuators.Comma c.0 ∷ []) (λ d. (c.0, d)) []
             (λ d. ap (λ w. mark punctuators.Comma c.0 ∷ w) (sym (append-nil (declarator_spelling d)))) (λ d f. f)
-                (λ d x c. c) (name n.0 ∷ n.1) f.at (declarator_cut n.0 n.1 f e deep))
+            (λ d x c. c) (name n.0 ∷ n.1) f.at (declarator_cut n.0 n.1 f e deep))
       ]
     ]
   ]
@@ -143,12 +143,12 @@ module _ (Admitted : ExpressionTree → Type 0) (l : Limits) (initial : Reader E
   unfolding alone declaration_spelling IsDeclaration
   first_cut int n ts f h deep =
       embedded declarator_spelling (IsDeclarator Admitted) expressions_of_declarator declaration_spelling
-          (IsDeclaration Admitted) expressions_of_declaration l (word keywords.Int int ∷ []) (alone int)
-          (mark punctuators.Semicolon int ∷ [])
+      (IsDeclaration Admitted) expressions_of_declaration l (word keywords.Int int ∷ []) (alone int)
+      (mark punctuators.Semicolon int ∷ [])
       (λ d. ap (λ w. word keywords.Int int ∷ w) (append_assoc (declarator_spelling d) []
-          (mark punctuators.Semicolon int ∷ []))) (λ d f. (f, All-nil IsFurther))
-          (λ d x c. Contains-append_left (expressions_of_declarator d) [] x c) (name n ∷ ts) f.at
-          (declarator_cut n ts f h deep)
+      (mark punctuators.Semicolon int ∷ []))) (λ d f. (f, All-nil IsFurther))
+      (λ d x c. Contains-append_left (expressions_of_declarator d) [] x c) (name n ∷ ts) f.at
+      (declarator_cut n ts f h deep)
 
   together : Span → DeclaratorTree → List (Span × DeclaratorTree) → DeclarationTree
   together int d ds = record { int = int; first = d; rest = ds; semicolon = int }
@@ -159,12 +159,12 @@ module _ (Admitted : ExpressionTree → Type 0) (l : Limits) (initial : Reader E
   unfolding together declaration_spelling IsDeclaration
   rest_cut int d ts f formed h deep =
       embedded (flat_map further_spelling) (All IsFurther) (flat_map expressions_of_further) declaration_spelling
-          (IsDeclaration Admitted) expressions_of_declaration l (word keywords.Int int ∷ declarator_spelling d)
-          (together int d) (mark punctuators.Semicolon int ∷ [])
+      (IsDeclaration Admitted) expressions_of_declaration l (word keywords.Int int ∷ declarator_spelling d)
+      (together int d) (mark punctuators.Semicolon int ∷ [])
       (λ ds. refl) (λ ds f. (formed, f)) (λ ds x c. Contains-append_right (expressions_of_declarator d)
-          (flat_map expressions_of_further ds) x c) ts f.at
+      (flat_map expressions_of_further ds) x c) ts f.at
       (until_cut further_spelling IsFurther expressions_of_further l (take_mark punctuators.Semicolon)
-          (further_at initial) further_parts further_cut (length ts) ts f h deep)
+      (further_at initial) further_parts further_cut (length ts) ts f h deep)
 
   pub declaration_cut : (int : Span) (n : names.Name) (ts : List Token) (f : SourceFault) → declaration_after
       initial int n ts ≡ Err f → Deep f → IsDeclarationCut (word keywords.Int int ∷ name n ∷ ts) f
@@ -173,12 +173,12 @@ module _ (Admitted : ExpressionTree → Type 0) (l : Limits) (initial : Reader E
     | inl e ↦ first_cut int n ts f e deep
     | inr (d, read, g) ↦ elim (bind_err (until (take_mark punctuators.Semicolon) (further_at initial) (length d.1)
         d.1) _ f g) [
-      | inr (m, list, no_err) ↦ absurd cc
-      | inl e ↦
-          let first = declarator_after_sound Admitted initial sound n ts d read in
-          subst (λ w. IsDeclarationCut (word keywords.Int int ∷ w) f) (sym first.parts)
+          | inr (m, list, no_err) ↦ absurd cc
+          | inl e ↦
+              let first = declarator_after_sound Admitted initial sound n ts d read in
+              subst (λ w. IsDeclarationCut (word keywords.Int int ∷ w) f) (sym first.parts)
               (rest_cut int d.0 d.1 f first.formed e deep)
-    ]
+        ]
   ]
 
   pub declared_cut : (int : Span) (ts : List Token) (f : SourceFault) → declared_at initial int ts ≡ Err f → Deep f

@@ -4,8 +4,8 @@ use Rattle.om_lexer.specs.declared.token.Punctuator.TheVariants as punctuators
 use Rattle.om_lexer.specs.declared.token.Span.{Span}
 use Rattle.om_lexer.specs.declared.token.Token.{Token}
 use Rattle.om_pragma.specs.declared.name.Name as names
-use Rattle.om_parts.specs.DeclarationReading.{constant_at, array_after, declarator_after, further_at,
-    declaration_after, declared_at}
+use Rattle.om_parts.specs.DeclarationReading.{constant_at, array_after, declarator_after, further_at, declaration_after}
+use Rattle.om_parts.specs.DeclarationReading.{declared_at}
 use Rattle.om_parts.specs.Reading.{Reader, mark_at, name_at, number_at}
 use Rattle.om_parts.specs.Repetition.{until}
 use Rattle.om_tree.specs.Tree.{ExpressionTree}

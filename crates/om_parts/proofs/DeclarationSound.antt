@@ -1,6 +1,6 @@
 -- A declaration that is read is spelled as the tokens were, and its initializers are such as the place admits.
-use Rattle.std.proofs.Common.{◌≡◌, ◌<◌, List, [], ◌∷◌, ◌++◌, length, Option, Some, None, refl, sym, ap, subst, ◌∙◌,
-    arith, append_assoc, length-append, inl, inr, All}
+use Rattle.std.proofs.Common.{◌≡◌, ◌<◌, List, [], ◌∷◌, ◌++◌, length, Option, Some, None, refl, sym, ap, subst, ◌∙◌}
+use Rattle.std.proofs.Common.{arith, append_assoc, length-append, inl, inr, All}
 use Rattle.std.specs.List.{flat_map}
 use Rattle.std.proofs.lemmas.List.Elements.{All-nil, All-cons, All-append, All-weaker}
 use Rattle.om_lexer.specs.declared.token.Keyword.TheVariants as keywords
@@ -11,14 +11,14 @@ use Rattle.om_parts.specs.declared.declaration.Initial.{Initial}
 use Rattle.om_parts.specs.declared.declaration.Initial.TheVariants as initials
 use Rattle.om_tree.specs.declared.tree.ArrayLength.{ArrayLength}
 use Rattle.om_pragma.specs.declared.name.Name as names
-use Rattle.om_parts.specs.DeclarationReading.{constant_at, initial_at, array_after, declarator_after, further_at,
-    declaration_after, declared_at}
+use Rattle.om_parts.specs.DeclarationReading.{constant_at, initial_at, array_after, declarator_after, further_at}
+use Rattle.om_parts.specs.DeclarationReading.{declaration_after, declared_at}
 use Rattle.om_tree.specs.Formed.{IsSignedConstant, IsDeclarator, IsDeclaration}
 use Rattle.om_tree.specs.Limits.{Limits, expressions_of_declarator, expressions_of_declaration}
 use Rattle.om_parts.specs.Reading.{Reader, take_mark, mark_at, name_at, number_at}
 use Rattle.om_parts.specs.Repetition.{until}
-use Rattle.om_tree.specs.Spelling.{mark, word, name, number, expression_spelling, array_spelling,
-    initializer_spelling, declarator_spelling, further_spelling, declaration_spelling}
+use Rattle.om_tree.specs.Spelling.{mark, word, name, number, expression_spelling, array_spelling, initializer_spelling}
+use Rattle.om_tree.specs.Spelling.{declarator_spelling, further_spelling, declaration_spelling}
 use Rattle.om_tree.specs.Tree.{ExpressionTree, InitializerTree, DeclaratorTree, DeclarationTree}
 use Rattle.om_parts.proofs.Outcomes.{ok, ok_is, bind_ok, choose_cases, after_front, after_token}
 use Rattle.om_parts.proofs.Taken.{take_mark_is, mark_at_is, name_at_is, number_at_is}
@@ -36,8 +36,8 @@ array_sound left ts x h =
     let n = bind_ok (number_at ts) _ x h in
     let r = bind_ok (mark_at punctuators.CloseBracket n.0.1) _ x n.2 in
     subst (λ y. mark punctuators.OpenBracket left ∷ ts ≡ array_spelling y.0 ++ y.1) (ok_is _ x r.2)
-        (ap (λ w. mark punctuators.OpenBracket left ∷ w) (number_at_is ts n.0 n.1 ∙ ap (λ w. number n.0.0 ∷ w)
-        (mark_at_is punctuators.CloseBracket n.0.1 r.0 r.1)))
+    (ap (λ w. mark punctuators.OpenBracket left ∷ w) (number_at_is ts n.0 n.1 ∙ ap (λ w. number n.0.0 ∷ w)
+    (mark_at_is punctuators.CloseBracket n.0.1 r.0 r.1)))
 
 pub constant_sound : IsSound expression_spelling IsSignedConstant constant_at
 unfolding constant_at expression_spelling
@@ -52,7 +52,7 @@ constant_sound ts x h = elim (choose_cases (take_mark punctuators.Minus ts) _ _ 
   | inr g ↦
       let n = bind_ok (number_at ts) _ x g.1 in
       subst (IsRead expression_spelling IsSignedConstant ts) (ok_is _ x n.2)
-          (record { parts = number_at_is ts n.0 n.1; formed = tt })
+      (record { parts = number_at_is ts n.0 n.1; formed = tt })
 ]
 
 module _ (Admitted : ExpressionTree → Type 0) (initial : Reader ExpressionTree) (sound : IsSound expression_spelling
@@ -107,9 +107,9 @@ module _ (Admitted : ExpressionTree → Type 0) (initial : Reader ExpressionTree
       let m = bind_ok (until (take_mark punctuators.Semicolon) (further_at initial) (length d.0.1) d.0.1) _ x d.2 in
       let first = declarator_after_sound n ts d.0 d.1 in
       let r = until_sound further_spelling IsFurther (mark punctuators.Semicolon) (take_mark punctuators.Semicolon)
-          (further_at initial) (take_mark_is punctuators.Semicolon) further_sound (length d.0.1) d.0.1 m.0 m.1 in
+      (further_at initial) (take_mark_is punctuators.Semicolon) further_sound (length d.0.1) d.0.1 m.0 m.1 in
       subst (IsRead declaration_spelling (IsDeclaration Admitted) (word keywords.Int int ∷ name n ∷ ts))
-          (ok_is _ x m.2) (record {
+      (ok_is _ x m.2) (record {
         parts = ap (λ w. word keywords.Int int ∷ w) (after_front (name n ∷ ts) (declarator_spelling d.0.0) d.0.1
             (flat_map further_spelling m.0.0 ++ mark punctuators.Semicolon m.0.1 ∷ []) m.0.2 first.parts r.parts
             ∙ simp append_assoc);
@@ -122,7 +122,7 @@ module _ (Admitted : ExpressionTree → Type 0) (initial : Reader ExpressionTree
   declared_sound int ts x h =
       let n = bind_ok (name_at ts) _ x h in
       subst (λ w. IsRead declaration_spelling (IsDeclaration Admitted) (word keywords.Int int ∷ w) x)
-          (sym (name_at_is ts n.0 n.1)) (declaration_after_sound int n.0.0 n.0.1 x n.2)
+      (sym (name_at_is ts n.0 n.1)) (declaration_after_sound int n.0.0 n.0.1 x n.2)
 
 -- ---- what is admitted is said of the declaration and of its expressions
 
@@ -148,10 +148,13 @@ module _ (A B : ExpressionTree → Type 0) where
   declaration_parts d f =
       let first = declarator_parts d.first f.0 in
       let further = All-weaker (λ (x : Span × DeclaratorTree). IsDeclarator (λ e. A e × B e) x.1)
-          (λ x. IsDeclarator A x.1 × All B (expressions_of_declarator x.1)) (λ x g. declarator_parts x.1 g) d.rest
-          f.1 in (
-        (first.0, All-weaker (λ (x : Span × DeclaratorTree). IsDeclarator A x.1
-            × All B (expressions_of_declarator x.1)) (λ x. IsDeclarator A x.1) (λ x g. g.0) d.rest further),
+      (λ x. IsDeclarator A x.1 × All B (expressions_of_declarator x.1)) (λ x g. declarator_parts x.1 g) d.rest
+      f.1 in (
+        (
+          first.0,
+          All-weaker (λ (x : Span × DeclaratorTree). IsDeclarator A x.1
+              × All B (expressions_of_declarator x.1)) (λ x. IsDeclarator A x.1) (λ x g. g.0) d.rest further,
+        ),
         All-append B (expressions_of_declarator d.first) (flat_map (λ x. expressions_of_declarator x.1) d.rest)
             first.1 (all_flat B (λ x. expressions_of_declarator x.1) d.rest
             (All-weaker (λ (x : Span × DeclaratorTree). IsDeclarator A x.1 × All B (expressions_of_declarator x.1))

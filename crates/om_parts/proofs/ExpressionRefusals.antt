@@ -3,11 +3,12 @@ use Rattle.std.proofs.Common.{◌≡◌, ℕ, zero, suc, ◌-◌, List, length, 
 use Rattle.om_lexer.specs.declared.token.Span.{Span}
 use Rattle.om_lexer.specs.declared.token.Token.{Token}
 use Rattle.om_pragma.specs.declared.name.Name as names
-use Rattle.om_parts.specs.ExpressionReading.{prefix_of, postfix_of, level_operator, take_operator, take_assign,
-    take_text, Inside, enter, closed_by, paren_after, index_after, first_at, argument_at, arguments_at,
-    arguments_after, call_after, named_after, primary_step, More, chain_at, postfix_more, binary_more, postfix_step,
-    unary_step, binary_at, conditional_after, expression_after, expression_step, deeper, unary_at, expression_at,
-    operand_at, whole_at}
+use Rattle.om_parts.specs.ExpressionReading.{prefix_of, postfix_of, level_operator, take_operator, take_assign}
+use Rattle.om_parts.specs.ExpressionReading.{take_text, Inside, enter, closed_by, paren_after, index_after, first_at}
+use Rattle.om_parts.specs.ExpressionReading.{argument_at, arguments_at, arguments_after, call_after, named_after}
+use Rattle.om_parts.specs.ExpressionReading.{primary_step, More, chain_at, postfix_more, binary_more, postfix_step}
+use Rattle.om_parts.specs.ExpressionReading.{unary_step, binary_at, conditional_after, expression_after}
+use Rattle.om_parts.specs.ExpressionReading.{expression_step, deeper, unary_at, expression_at, operand_at, whole_at}
 use Rattle.om_tree.specs.Limits.{Limits}
 use Rattle.om_parts.specs.Reading.{Outcome, Reader, take_mark, take_number, mark_at, name_at}
 use Rattle.om_parts.specs.Repetition.{until}
@@ -55,8 +56,8 @@ module _ (beyond : ℕ) (whole : Reader ExpressionTree) (h : IsRefusing whole) w
       (λ r. limited beyond r.0 r.1 _ (done _))
       (bind _ _ (either (take_text n ts) _ _ (λ t. limited beyond t.0.span t.1 _ (done _)) (h ts))
       (λ a. bind _ _ (bind (until _ (argument_at beyond whole) (length a.1) a.1) _
-          (until_refuses _ (argument_at beyond whole) argument_refuses (length a.1) a.1) (λ m. done _))
-          (λ m. limited beyond m.1 m.2 _ (done _))))
+      (until_refuses _ (argument_at beyond whole) argument_refuses (length a.1) a.1) (λ m. done _))
+      (λ m. limited beyond m.1 m.2 _ (done _))))
 
 module _ (beyond : ℕ) (inside : Inside) (h : IsInsideRefusing inside) where
   named_refuses : (n : names.Name) (ts : List Token) → Refuses (named_after beyond inside n ts)
@@ -107,7 +108,7 @@ unfolding unary_step postfix_step
 unary_refuses beyond again inside h within ts = either (take_operator prefix_of ts) _ _
     (λ o. limited beyond o.0.1 o.1 _ (bind (again o.1) _ (h o.1) (λ e. done _)))
     (bind (primary_step beyond inside ts) _ (primary_refuses beyond inside within ts)
-        (λ a. chain_refuses (postfix_more beyond) (postfix_more_refuses beyond) (length a.1) a.0 a.1))
+    (λ a. chain_refuses (postfix_more beyond) (postfix_more_refuses beyond) (length a.1) a.0 a.1))
 
 binary_refuses : (beyond : ℕ) (unary : Reader ExpressionTree) → IsRefusing unary → (k : ℕ)
     → IsRefusing (binary_at beyond unary k)
@@ -123,9 +124,9 @@ unfolding expression_step expression_after conditional_after mark_at
 expression_refuses beyond may operand whole choice operands wholes choices ts = bind (operand ts) _ (operands ts)
     (λ c. either (take_mark _ c.1) _ _
     (λ q. limited beyond q.0 q.1 _ (bind (whole q.1) _ (wholes q.1) (λ a. bind (mark_at _ a.1) _ (expected a.1 _)
-        (λ colon. limited beyond colon.0 colon.1 _ (bind (choice colon.1) _ (choices colon.1) (λ b. done _))))))
+    (λ colon. limited beyond colon.0 colon.1 _ (bind (choice colon.1) _ (choices colon.1) (λ b. done _))))))
     (either (take_assign may c.0 c.1) _ _
-        (λ o. limited beyond o.0.1 o.1 _ (bind (whole o.1) _ (wholes o.1) (λ v. done _))) (done _)))
+    (λ o. limited beyond o.0.1 o.1 _ (bind (whole o.1) _ (wholes o.1) (λ v. done _))) (done _)))
 
 record AreRefusing (beyond turns room : ℕ) : Type 0 where
   unary : IsRefusing (unary_at beyond turns room)
@@ -142,9 +143,12 @@ all_refuse beyond zero room = record { unary = λ ts. wrong ts; any = λ may ts.
 all_refuse beyond (suc turns) room =
     let below = all_refuse beyond turns room in
     let operand : IsRefusing (operand_at beyond turns room) = unary_refuses beyond (unary_at beyond turns room) _
-        below.unary (inside_refuses beyond turns (λ r. (all_refuse beyond turns r).any true) room) in
-    record { unary = operand; any = λ may. expression_refuses beyond may _ _ _
-        (binary_refuses beyond (operand_at beyond turns room) operand 6) (below.any true) (below.any false) }
+    below.unary (inside_refuses beyond turns (λ r. (all_refuse beyond turns r).any true) room) in
+    record {
+      unary = operand;
+      any = λ may. expression_refuses beyond may _ _ _
+          (binary_refuses beyond (operand_at beyond turns room) operand 6) (below.any true) (below.any false);
+    }
 
 pub whole_refuses : (l : Limits) (room : ℕ) (ts : List Token) → Refuses (whole_at l room ts)
 unfolding whole_at

@@ -1,6 +1,5 @@
 -- The tokens at both ends of an expression, and operators and brackets that are read again.
-use Rattle.std.proofs.Common.{◌≡◌, ℕ, zero, suc, ◌-◌, ◌<◌, ◌≤◌, List, [], ◌∷◌, ◌++◌, length, Option, Some, None,
-    Err, refl, sym, ap, subst, ◌∙◌, Bool, true, false, arith, append_assoc, length-append, ◌⊎◌, inl, inr}
+use Rattle.std.proofs.Common.{◌≡◌, ℕ, zero, suc, ◌-◌, ◌<◌, ◌≤◌, List, [], ◌∷◌, ◌++◌, length, Option, Some, None, Err, refl, sym, ap, subst, ◌∙◌, Bool, true, false, arith, append_assoc, length-append, ◌⊎◌, inl, inr}
 use Rattle.std.proofs.lemmas.Bool.{leb-true, leb-false}
 use Rattle.std.proofs.lemmas.Bool.Decides.{eqb_tells}
 use Rattle.std.proofs.lemmas.Slice.Eq.{bytes_eq-Decides}
@@ -23,15 +22,12 @@ use Rattle.om_tree.specs.declared.tree.PostfixOperator.TheVariants as postfixes
 use Rattle.om_tree.specs.declared.tree.PrefixOperator.{PrefixOperator}
 use Rattle.om_tree.specs.declared.tree.PrefixOperator.TheVariants as prefixes
 use Rattle.om_tree.specs.declared.tree.Text as texts
-use Rattle.om_parts.specs.ExpressionReading.{prefix_of, postfix_of, assign_of, of_level, level_operator,
-    take_operator, take_assign, text_of, take_text, primary_step, More, chain_at, postfix_more, binary_more,
-    postfix_step, unary_step, binary_at, expression_after, expression_step, deeper, expression_at, operand_at}
+use Rattle.om_parts.specs.ExpressionReading.{prefix_of, postfix_of, assign_of, of_level, level_operator, take_operator, take_assign, text_of, take_text, primary_step, More, chain_at, postfix_more, binary_more, postfix_step, unary_step, binary_at, expression_after, expression_step, deeper, expression_at, operand_at}
 use Rattle.om_tree.specs.Formed.{level, binary_level, IsExpression}
 use Rattle.om_tree.specs.Limits.{nesting}
 use Rattle.om_parts.specs.Reading.{Reader, choose, take, same_mark, mark_of, take_mark}
 use Rattle.om_tree.specs.Spelling.{mark, text, prefix_mark, postfix_mark, binary_mark, assign_mark, expression_spelling}
-use Rattle.om_tree.specs.Tree.{ExpressionTree, Name, Constant, Text, Paren, Index, Call, Prefix, Postfix, Binary,
-    Conditional, Assign}
+use Rattle.om_tree.specs.Tree.{ExpressionTree, Name, Constant, Text, Paren, Index, Call, Prefix, Postfix, Binary, Conditional, Assign}
 use Rattle.om_parts.proofs.Outcomes.{some}
 use Rattle.om_parts.proofs.Again.{take_operator_again}
 use Rattle.om_parts.specs.Laws.{Stopping, IsAnswer}
@@ -76,8 +72,7 @@ abbrev pub following : List Token → ℕ
 following [] = 0
 following (t ∷ ts) = strength t.kind
 
-operator_none : {O : Type 0} (f : TokenKind → Option O) (n : ℕ) → ((k : TokenKind) → strength k < n → f k ≡ None)
-    → (ts : List Token) → following ts < n → take_operator f ts ≡ None
+operator_none : {O : Type 0} (f : TokenKind → Option O) (n : ℕ) → ((k : TokenKind) → strength k < n → f k ≡ None) → (ts : List Token) → following ts < n → take_operator f ts ≡ None
 unfolding take_operator take
 operator_none f n none [] lt = refl
 operator_none f n none (t ∷ ts) lt = rw (none t.kind lt) refl
@@ -123,8 +118,7 @@ pub other_mark : (p q : Punctuator) (s : Span) (ts : List Token) → (q ≡ p �
 unfolding take_mark take same_mark
 other_mark p q s ts other = go (sameb the_punctuators q p) refl
   where
-    go : (b : Bool) → sameb the_punctuators q p ≡ b → choose {B = Option (Span × List Token)}
-        (if b then Some s else None) (λ x. some (x, ts)) None ≡ None
+    go : (b : Bool) → sameb the_punctuators q p ≡ b → choose {B = Option (Span × List Token)} (if b then Some s else None) (λ x. some (x, ts)) None ≡ None
     go true is = absurd (other (same_true the_punctuators tt q p is))
     go false is = refl
 
@@ -133,10 +127,8 @@ unfolding take_mark take
 mark_none p [] lt = refl
 mark_none p (t ∷ ts) lt = kind t.kind lt
   where
-    kind : (k : TokenKind) → strength k < mark_strength p → choose {B = Option (Span × List Token)}
-        (mark_of p k t.span) (λ x. some (x, ts)) None ≡ None
-    kind (kinds.Punctuator q) less = other_mark p q t.span ts (λ same. let e = ap mark_strength same in omega
-        (arith, e, less))
+    kind : (k : TokenKind) → strength k < mark_strength p → choose {B = Option (Span × List Token)} (mark_of p k t.span) (λ x. some (x, ts)) None ≡ None
+    kind (kinds.Punctuator q) less = other_mark p q t.span ts (λ same. let e = ap mark_strength same in omega (arith, e, less))
     kind (kinds.Name n) less = refl
     kind (kinds.Constant n) less = refl
     kind (kinds.Keyword n) less = refl
@@ -168,26 +160,22 @@ differs : (p q : Punctuator) → begins_expression p ≡ false → begins_expres
 differs p q fails holds same = let e : true ≡ false = sym holds ∙ ap begins_expression same ∙ fails in absurd cc
 
 -- no expression begins with another mark
-pub no_mark : (p : Punctuator) → begins_expression p ≡ false → (t : ExpressionTree) (rest : List Token)
-    → take_mark p (expression_spelling t ++ rest) ≡ None
+pub no_mark : (p : Punctuator) → begins_expression p ≡ false → (t : ExpressionTree) (rest : List Token) → take_mark p (expression_spelling t ++ rest) ≡ None
 unfolding take_mark take expression_spelling
 no_mark p none (Name n) rest = refl
 no_mark p none (Constant n) rest = refl
 no_mark p none (Text t) rest = refl
-no_mark p none (Paren left e right) rest = other_mark p punctuators.OpenParen left _
-    (differs p punctuators.OpenParen none refl)
+no_mark p none (Paren left e right) rest = other_mark p punctuators.OpenParen left _ (differs p punctuators.OpenParen none refl)
 no_mark p none (Index n left e right) rest = refl
 no_mark p none (Call n left values right) rest = refl
-no_mark p none (Prefix o at e) rest = other_mark p (prefix_mark o) at _
-    (differs p (prefix_mark o) none (begins_prefix o))
+no_mark p none (Prefix o at e) rest = other_mark p (prefix_mark o) at _ (differs p (prefix_mark o) none (begins_prefix o))
 no_mark p none (Postfix e o at) rest = rw append_assoc (no_mark p none e _)
 no_mark p none (Binary a o at b) rest = rw append_assoc (no_mark p none a _)
 no_mark p none (Conditional c question a colon b) rest = rw append_assoc (no_mark p none c _)
 no_mark p none (Assign a o at b) rest = rw append_assoc (no_mark p none a _)
 
 -- no well-formed one with a text
-no_text : (n : names.Name) (t : ExpressionTree) → IsExpression t → (rest : List Token)
-    → take (λ t. text_of t.kind t.span) (expression_spelling t ++ rest) ≡ None
+no_text : (n : names.Name) (t : ExpressionTree) → IsExpression t → (rest : List Token) → take (λ t. text_of t.kind t.span) (expression_spelling t ++ rest) ≡ None
 unfolding take expression_spelling IsExpression
 no_text n (Name m) f rest = refl
 no_text n (Constant m) f rest = refl
@@ -201,8 +189,7 @@ no_text n (Binary a o at b) f rest = rw append_assoc (no_text n a f.0 _)
 no_text n (Conditional c question a colon b) f rest = rw append_assoc (no_text n c f.0 _)
 no_text n (Assign a o at b) f rest = rw append_assoc (no_text n a f.0 _)
 
-pub no_text_here : (n : names.Name) (t : ExpressionTree) → IsExpression t → (rest : List Token)
-    → take_text n (expression_spelling t ++ rest) ≡ None
+pub no_text_here : (n : names.Name) (t : ExpressionTree) → IsExpression t → (rest : List Token) → take_text n (expression_spelling t ++ rest) ≡ None
 unfolding take_text
 no_text_here n t f rest = go (bytes_eq n.text (codes "printf"))
   where
@@ -210,8 +197,7 @@ no_text_here n t f rest = go (bytes_eq n.text (codes "printf"))
     go true = no_text n t f rest
     go false = refl
 
-pub text_again : (n : names.Name) (t : texts.Text) (rest : List Token) → n.text ≡ codes "printf"
-    → take_text n (text t ∷ rest) ≡ some (t, rest)
+pub text_again : (n : names.Name) (t : texts.Text) (rest : List Token) → n.text ≡ codes "printf" → take_text n (text t ∷ rest) ≡ some (t, rest)
 unfolding take_text take
 text_again n t rest named = rw ((bytes_eq-Decides n.text (codes "printf")).1 named) refl
 
@@ -246,8 +232,7 @@ binary_least binaries.Divide = omega arith
 binary_least binaries.Remainder = omega arith
 
 -- what binds tighter than an operator before it begins with none
-no_prefix : (t : ExpressionTree) → IsExpression t → 10 ≤ level t → (rest : List Token) → take_operator prefix_of
-    (expression_spelling t ++ rest) ≡ None
+no_prefix : (t : ExpressionTree) → IsExpression t → 10 ≤ level t → (rest : List Token) → take_operator prefix_of (expression_spelling t ++ rest) ≡ None
 unfolding take_operator take expression_spelling IsExpression
 no_prefix (Name n) f le rest = refl
 no_prefix (Constant n) f le rest = refl
@@ -270,15 +255,10 @@ expression_some (Paren left e right) = omega arith
 expression_some (Index n left e right) = omega arith
 expression_some (Call n left values right) = omega arith
 expression_some (Prefix o at e) = omega arith
-expression_some (Postfix e o at) = omega (arith, expression_some e, length-append (expression_spelling e)
-    (mark (postfix_mark o) at ∷ []))
-expression_some (Binary a o at b) = omega (arith, expression_some a, length-append (expression_spelling a)
-    (mark (binary_mark o) at ∷ expression_spelling b))
-expression_some (Conditional c question a colon b) = omega (arith, expression_some c, length-append
-    (expression_spelling c) (mark punctuators.Question question
-    ∷ (expression_spelling a ++ mark punctuators.Colon colon ∷ expression_spelling b)))
-expression_some (Assign a o at b) = omega (arith, expression_some a, length-append (expression_spelling a)
-    (mark (assign_mark o) at ∷ expression_spelling b))
+expression_some (Postfix e o at) = omega (arith, expression_some e, length-append (expression_spelling e) (mark (postfix_mark o) at ∷ []))
+expression_some (Binary a o at b) = omega (arith, expression_some a, length-append (expression_spelling a) (mark (binary_mark o) at ∷ expression_spelling b))
+expression_some (Conditional c question a colon b) = omega (arith, expression_some c, length-append (expression_spelling c) (mark punctuators.Question question ∷ (expression_spelling a ++ mark punctuators.Colon colon ∷ expression_spelling b)))
+expression_some (Assign a o at b) = omega (arith, expression_some a, length-append (expression_spelling a) (mark (assign_mark o) at ∷ expression_spelling b))
 
 -- ---- operators are read again
 
@@ -343,18 +323,15 @@ assign_again assigns.Multiply = refl
 assign_again assigns.Divide = refl
 assign_again assigns.Remainder = refl
 
-pub take_assign_again : (target : ExpressionTree) (o : AssignOperator) (s : Span) (ts : List Token)
-    → 9 ≤ level target → take_assign true target (mark (assign_mark o) s ∷ ts) ≡ some ((o, s), ts)
+pub take_assign_again : (target : ExpressionTree) (o : AssignOperator) (s : Span) (ts : List Token) → 9 ≤ level target → take_assign true target (mark (assign_mark o) s ∷ ts) ≡ some ((o, s), ts)
 unfolding take_assign
 take_assign_again target o s ts le = go (nat_le 9 (level target)) refl
   where
-    go : (b : Bool) → nat_le 9 (level target) ≡ b → (if b then take_operator assign_of (mark (assign_mark o) s ∷ ts)
-        else None) ≡ some ((o, s), ts)
+    go : (b : Bool) → nat_le 9 (level target) ≡ b → (if b then take_operator assign_of (mark (assign_mark o) s ∷ ts) else None) ≡ some ((o, s), ts)
     go true is = take_operator_again assign_of assign_mark assign_again o s ts
     go false is = let lt = leb-false _ _ is in absurd (omega (arith, le, lt))
 
-no_assign : (may : Bool) (target : ExpressionTree) (ts : List Token) → following ts < grade may → take_assign may
-    target ts ≡ None
+no_assign : (may : Bool) (target : ExpressionTree) (ts : List Token) → following ts < grade may → take_assign may target ts ≡ None
 unfolding take_assign
 no_assign false target ts lt = refl
 no_assign true target ts lt = go (nat_le 9 (level target))
@@ -387,18 +364,13 @@ expressions may beyond turns room = expression_at beyond (suc turns) may room
 
 -- this tree is read again where tokens follow that go on less tightly
 abbrev pub Again : Readers → (m : ℕ) → ExpressionTree → Type 0
-Again reader m t = (beyond turns room : ℕ) (rest : List Token) → length (expression_spelling t) ≤ suc turns
-    → following rest < m → IsAnswer (Fits beyond room t rest)
-    (reader beyond turns room (expression_spelling t ++ rest)) (t, rest)
+Again reader m t = (beyond turns room : ℕ) (rest : List Token) → length (expression_spelling t) ≤ suc turns → following rest < m → IsAnswer (Fits beyond room t rest) (reader beyond turns room (expression_spelling t ++ rest)) (t, rest)
 
 -- what goes on with it is read with this tree on the left
 abbrev pub Begins : Readers → ((beyond turns room : ℕ) → More) → (m : ℕ) → ExpressionTree → Type 0
-Begins reader more m t = (beyond turns room : ℕ) (rest : List Token) → length (expression_spelling t) ≤ suc turns
-    → following rest < suc m
-    → ((k : ℕ) × (length rest ≤ k) × (reader beyond turns room (expression_spelling t ++ rest)
-        ≡ chain_at (more beyond turns room) k t rest))
-    ⊎ ((stop : Stopping) × (reader beyond turns room (expression_spelling t ++ rest) ≡ Err stop.fault)
-        × (Fits beyond room t rest → ⊥))
+Begins reader more m t = (beyond turns room : ℕ) (rest : List Token) → length (expression_spelling t) ≤ suc turns → following rest < suc m
+    → ((k : ℕ) × (length rest ≤ k) × (reader beyond turns room (expression_spelling t ++ rest) ≡ chain_at (more beyond turns room) k t rest))
+    ⊎ ((stop : Stopping) × (reader beyond turns room (expression_spelling t ++ rest) ≡ Err stop.fault) × (Fits beyond room t rest → ⊥))
 
 abbrev pub postfix_mores : (beyond turns room : ℕ) → More
 postfix_mores beyond turns room = postfix_more beyond
@@ -406,27 +378,21 @@ postfix_mores beyond turns room = postfix_more beyond
 abbrev pub binary_mores : ℕ → (beyond turns room : ℕ) → More
 binary_mores k beyond turns room = binary_more beyond (8 - k) (binary_at beyond (operand_at beyond turns room) k)
 
-pub ends : (reader : Readers) (more : (beyond turns room : ℕ) → More) (m : ℕ) (t : ExpressionTree)
-    → ((beyond turns room : ℕ) (a : ExpressionTree) (ts : List Token) → following ts < m → more beyond turns room a
-    ts ≡ None) → Begins reader more m t → Again reader m t
+pub ends : (reader : Readers) (more : (beyond turns room : ℕ) → More) (m : ℕ) (t : ExpressionTree) → ((beyond turns room : ℕ) (a : ExpressionTree) (ts : List Token) → following ts < m → more beyond turns room a ts ≡ None) → Begins reader more m t → Again reader m t
 unfolding chain_at
-ends reader more m t none begins beyond turns room rest len lt =
-    elim (begins beyond turns room rest len (omega arith)) [
+ends reader more m t none begins beyond turns room rest len lt = elim (begins beyond turns room rest len (omega arith)) [
   | inl (zero, le, e) ↦ inl e
   | inl (suc k, le, e) ↦ inl (e ∙ rw (none beyond turns room t rest lt) refl)
   | inr deep ↦ inr deep
 ]
 
-no_postfix : (beyond turns room : ℕ) (a : ExpressionTree) (ts : List Token) → following ts < 10
-    → postfix_more beyond a ts ≡ None
+no_postfix : (beyond turns room : ℕ) (a : ExpressionTree) (ts : List Token) → following ts < 10 → postfix_more beyond a ts ≡ None
 unfolding postfix_more
 no_postfix beyond turns room a ts lt = rw (operator_none postfix_of 10 postfix_none ts lt) refl
 
-pub no_binary : (k beyond turns room : ℕ) (a : ExpressionTree) (ts : List Token) → following ts < 8 - k
-    → binary_mores k beyond turns room a ts ≡ None
+pub no_binary : (k beyond turns room : ℕ) (a : ExpressionTree) (ts : List Token) → following ts < 8 - k → binary_mores k beyond turns room a ts ≡ None
 unfolding binary_more
-no_binary k beyond turns room a ts lt = rw (operator_none (level_operator (8 - k)) (8 - k) (level_none (8 - k)) ts
-    lt) refl
+no_binary k beyond turns room a ts lt = rw (operator_none (level_operator (8 - k)) (8 - k) (level_none (8 - k)) ts lt) refl
 
 pub postfix_from : (t : ExpressionTree) → Again primaries 11 t → Begins postfixed postfix_mores 10 t
 unfolding postfix_step
@@ -435,17 +401,13 @@ postfix_from t again beyond turns room rest len lt = elim (again beyond turns ro
   | inr (stop, e, never) ↦ inr (stop, rw e refl, never)
 ]
 
-pub unary_from : (t : ExpressionTree) → IsExpression t → 10 ≤ level t → Begins postfixed postfix_mores 10 t
-    → Again operand_at 10 t
+pub unary_from : (t : ExpressionTree) → IsExpression t → 10 ≤ level t → Begins postfixed postfix_mores 10 t → Again operand_at 10 t
 unfolding unary_step
-unary_from t f le begins beyond turns room rest len lt = rw (no_prefix t f le rest)
-    (ends postfixed postfix_mores 10 t no_postfix begins beyond turns room rest len lt)
+unary_from t f le begins beyond turns room rest len lt = rw (no_prefix t f le rest) (ends postfixed postfix_mores 10 t no_postfix begins beyond turns room rest len lt)
 
-pub binary_from : (k : ℕ) (t : ExpressionTree) → k ≤ 5 → Again (binaries_of k) (9 - k) t
-    → Begins (binaries_of (suc k)) (binary_mores k) (8 - k) t
+pub binary_from : (k : ℕ) (t : ExpressionTree) → k ≤ 5 → Again (binaries_of k) (9 - k) t → Begins (binaries_of (suc k)) (binary_mores k) (8 - k) t
 unfolding binary_at
-binary_from k t le again beyond turns room rest len lt =
-    elim (again beyond turns room rest len (omega (arith, lt, le))) [
+binary_from k t le again beyond turns room rest len lt = elim (again beyond turns room rest len (omega (arith, lt, le))) [
   | inl e ↦ inl (length rest, omega arith, rw e refl)
   | inr (stop, e, never) ↦ inr (stop, rw e refl, never)
 ]
@@ -454,10 +416,8 @@ pub weaken : (reader : Readers) (m n : ℕ) (t : ExpressionTree) → n ≤ m →
 weaken reader m n t le again beyond turns room rest len lt = again beyond turns room rest len (omega arith)
 
 -- the next looser level follows
-step_up : (t : ExpressionTree) (l : ℕ) → l ≤ 5 → Again (binaries_of l) (9 - l) t → Again (binaries_of (suc l))
-    (9 - suc l) t
-step_up t l le again = weaken (binaries_of (suc l)) (8 - l) (9 - suc l) t (omega arith)
-    (ends (binaries_of (suc l)) (binary_mores l) (8 - l) t (no_binary l) (binary_from l t le again))
+step_up : (t : ExpressionTree) (l : ℕ) → l ≤ 5 → Again (binaries_of l) (9 - l) t → Again (binaries_of (suc l)) (9 - suc l) t
+step_up t l le again = weaken (binaries_of (suc l)) (8 - l) (9 - suc l) t (omega arith) (ends (binaries_of (suc l)) (binary_mores l) (8 - l) t (no_binary l) (binary_from l t le again))
 
 le_cases : (k l : ℕ) → k ≤ suc l → (k ≤ l) ⊎ (k ≡ suc l)
 le_cases k l le = go (nat_le k l) refl
@@ -466,22 +426,17 @@ le_cases k l le = go (nat_le k l) refl
     go true is = inl (leb-true _ _ is)
     go false is = inr (let lt = leb-false _ _ is in omega (arith, le, lt))
 
-pub up : (t : ExpressionTree) (k l : ℕ) → k ≤ l → l ≤ 6 → Again (binaries_of k) (9 - k) t → Again (binaries_of l)
-    (9 - l) t
-up t k zero le most again = let same : k ≡ 0 = omega (arith, le) in subst (λ n. Again (binaries_of n) (9 - n) t)
-    same again
+pub up : (t : ExpressionTree) (k l : ℕ) → k ≤ l → l ≤ 6 → Again (binaries_of k) (9 - k) t → Again (binaries_of l) (9 - l) t
+up t k zero le most again = let same : k ≡ 0 = omega (arith, le) in subst (λ n. Again (binaries_of n) (9 - n) t) same again
 up t k (suc l) le most again = elim (le_cases k l le) [
   | inl less ↦ step_up t l (omega (arith, most)) (up t k l less (omega (arith, most)) again)
   | inr same ↦ subst (λ n. Again (binaries_of n) (9 - n) t) same again
 ]
 
-pub expression_from : (may : Bool) (t : ExpressionTree) → Again (binaries_of 6) 3 t → Again (expressions may)
-    (grade may) t
+pub expression_from : (may : Bool) (t : ExpressionTree) → Again (binaries_of 6) 3 t → Again (expressions may) (grade may) t
 unfolding expression_at expression_step expression_after
-expression_from may t again beyond turns room rest len lt =
-    elim (again beyond turns room rest len (omega (arith, lt, least may))) [
-  | inl e ↦ inl (rw (e, mark_none punctuators.Question rest (omega (arith, lt, least may)), no_assign may t rest lt)
-      refl)
+expression_from may t again beyond turns room rest len lt = elim (again beyond turns room rest len (omega (arith, lt, least may))) [
+  | inl e ↦ inl (rw (e, mark_none punctuators.Question rest (omega (arith, lt, least may)), no_assign may t rest lt) refl)
   | inr (stop, e, never) ↦ inr (stop, rw e refl, never)
 ]
   where

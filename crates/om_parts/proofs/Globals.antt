@@ -9,8 +9,8 @@ use Rattle.om_tree.specs.Formed.{IsSignedConstant}
 use Rattle.om_tree.specs.Limits.{expressions_of_declaration}
 use Rattle.om_tree.specs.Spelling.{expression_spelling}
 use Rattle.om_tree.specs.Tree.{ExpressionTree}
-use Rattle.om_parts.proofs.DeclarationComplete.{EndsDeclarator, constant_again, declaration_rest, rest_is,
-    no_parameters, declaration_again, all_any}
+use Rattle.om_parts.proofs.DeclarationComplete.{EndsDeclarator, constant_again, declaration_rest, rest_is}
+use Rattle.om_parts.proofs.DeclarationComplete.{no_parameters, declaration_again, all_any}
 use Rattle.om_parts.proofs.DeclarationCut.{constant_never_deep, declaration_never_deep}
 use Rattle.om_parts.proofs.DeclarationRefusals.{constant_refuses, declaration_refuses}
 use Rattle.om_parts.proofs.DeclarationSound.{IsAny, constant_sound, declaration_after_sound}

@@ -1,6 +1,6 @@
 -- Several well-formed items are read again, within the limits.
-use Rattle.std.proofs.Common.{◌≡◌, ℕ, zero, suc, ◌<◌, ◌≤◌, List, [], ◌∷◌, ◌++◌, length, None, refl, sym, subst,
-    arith, append_assoc, length-append, inl, All}
+use Rattle.std.proofs.Common.{◌≡◌, ℕ, zero, suc, ◌<◌, ◌≤◌, List, [], ◌∷◌, ◌++◌, length, None, refl, sym, subst, arith}
+use Rattle.std.proofs.Common.{append_assoc, length-append, inl, All}
 use Rattle.std.specs.List.{flat_map}
 use Rattle.std.proofs.lemmas.List.Elements.{All-nil, All-cons, All-head, All-tail}
 use Rattle.om_lexer.specs.declared.token.Span.{Span}
@@ -40,8 +40,13 @@ pub record AreAgain {A : Type 0} (spell : A → List Token) (P F : A → Type 0)
 items_length : {A : Type 0} (spell : A → List Token) (P : A → Type 0) → ((x : A) → P x → 0 < length (spell x))
     → (xs : List A) → All P xs → length xs ≤ length (flat_map spell xs)
 items_length spell P some_tokens [] f = omega arith
-items_length spell P some_tokens (x ∷ xs) f = omega (arith, some_tokens x (All-head P x xs f), items_length spell P
-    some_tokens xs (All-tail P x xs f), length-append (spell x) (flat_map spell xs))
+items_length spell P some_tokens (x ∷ xs) f = omega (
+  arith,
+  some_tokens x (All-head P x xs f),
+  items_length spell P
+      some_tokens xs (All-tail P x xs f),
+  length-append (spell x) (flat_map spell xs),
+)
 
 module _ {A : Type 0} (spell : A → List Token) (P F : A → Type 0) (MayFollow : List Token → Type 0) (ender : Ender)
     (item : Reader A) (again : AreAgain spell P F MayFollow ender item) (last : Token) (s : Span) (us : List Token)
@@ -59,10 +64,10 @@ module _ {A : Type 0} (spell : A → List Token) (P F : A → Type 0) (MayFollow
   until_so_many (suc k) (x ∷ xs) lt f =
       let rest : List Token = flat_map spell xs ++ last ∷ us in
       rw (append_assoc, again.unended x rest (All-head P x xs f)) (bind_answer (item (spell x ++ rest)) _ (x, rest)
-          (x ∷ xs, s, us) (λ w. All-head F x xs w) (again.one x rest (All-head P x xs f)
-          (may_follow xs (All-tail P x xs f)))
+      (x ∷ xs, s, us) (λ w. All-head F x xs w) (again.one x rest (All-head P x xs f)
+      (may_follow xs (All-tail P x xs f)))
       (bind_answer (until ender item k rest) _ (xs, s, us) (x ∷ xs, s, us) (λ w. All-tail F x xs w)
-          (until_so_many k xs (omega arith) (All-tail P x xs f)) (inl refl)))
+      (until_so_many k xs (omega arith) (All-tail P x xs f)) (inl refl)))
 
   pub until_again : (xs : List A) → All P xs → IsAnswer (All F xs)
       (until ender item (length (flat_map spell xs ++ last ∷ us)) (flat_map spell xs ++ last ∷ us)) (xs, s, us)

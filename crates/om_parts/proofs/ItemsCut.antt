@@ -55,9 +55,9 @@ pub embedded : {A B : Type 0} (spell : A → List Token) (P : A → Type 0) (who
     (larger : B → List Token) (Q : B → Type 0) (of_larger : B → List ExpressionTree) (l : Limits)
     (front : List Token) (make : A → B) (back : List Token)
     → ((a : A) → larger (make a) ≡ front ++ spell a ++ back) → ((a : A) → P a → Q (make a))
-        → ((a : A) (e : ExpressionTree) → Contains (whole a) e → Contains (of_larger (make a)) e)
+    → ((a : A) (e : ExpressionTree) → Contains (whole a) e → Contains (of_larger (make a)) e)
     → (ts : List Token) (place : ℕ) → PassesLimit spell P whole l ts place → PassesLimit larger Q of_larger l
-        (front ++ ts) place
+    (front ++ ts) place
 embedded spell P whole larger Q of_larger l front make back spelled formed contains ts place c = record {
   part = make c.part;
   formed = formed c.part c.formed;

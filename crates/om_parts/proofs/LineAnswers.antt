@@ -48,7 +48,7 @@ run_refused is_read run once f is = go (rw is at (is_read run once))
 pub answered : OnlyOne → IsReading → (run : List Token) → EndsOnce run
     → (r : Result (Directive (Bor (List Token))) SourceFault)
     → IfOk r (λ d. IsDirectiveOf run (with_tokens d)) → IfErr r (λ f. (f ≡ no_memory) ⊎ IsRefusal run f)
-        → IfErr r (λ f. f.code ≡ codes.Syntax → EndsOnce run → StopsAt run f.at)
+    → IfErr r (λ f. f.code ≡ codes.Syntax → EndsOnce run → StopsAt run f.at)
     → Reads with_tokens r (directive_at run)
 answered only is_read run once (Ok d) found refused stops = only run (directive_at run) (Ok (with_tokens d))
     (is_read run once) found
@@ -64,8 +64,8 @@ FindsFirst = (ts es : List Token) (place : ℕ) → expression_before place ts �
 pub value_found : FindsFirst → ((ts es : List Token) (place : ℕ) → IsFirstValue ts place es → expression_before
     place ts ≡ some es)
     → (ts : List Token) (place : ℕ) (o : Option (Bor (List Token))) → IfSome o (λ e. IsFirstValue ts place e.now)
-        → (o ≡ None → (e : List Token) → StandsAsValue ts place e → ⊥)
-        → option_map (λ (e : Bor (List Token)). e.now) o ≡ expression_before place ts
+    → (o ≡ None → (e : List Token) → StandsAsValue ts place e → ⊥)
+    → option_map (λ (e : Bor (List Token)). e.now) o ≡ expression_before place ts
 value_found only found ts place (Some e) first absent = sym (found ts e.now place first)
 value_found only found ts place None first absent = go (expression_before place ts) refl
   where

@@ -1,6 +1,6 @@
 -- What a directive line spells is read again, within the limits.
-use Rattle.std.proofs.Common.{◌≡◌, ◌+◌, ◌-◌, ◌≤◌, List, [], ◌∷◌, ◌++◌, length, Option, Some, None, Ok, Err, refl,
-    false, ap, subst, ◌∙◌, arith, inl, inr}
+use Rattle.std.proofs.Common.{◌≡◌, ◌+◌, ◌-◌, ◌≤◌, List, [], ◌∷◌, ◌++◌, length, Option, Some, None, Ok, Err, refl, false}
+use Rattle.std.proofs.Common.{ap, subst, ◌∙◌, arith, inl, inr}
 use Rattle.std.specs.Prelude.{option_to_list}
 use Rattle.std.proofs.lemmas.List.{append-nil, length-map}
 use Rattle.om_lexer.specs.declared.fault.FaultCode.{FaultCode}
@@ -45,8 +45,8 @@ value_again : (l : Limits) → 1 ≤ l.nested → (run : List Token) (e : Expres
 unfolding clause_value
 value_again l one run e formed =
     let again = subst (λ (ts : List Token). IsAnswer ((nesting e ≤ l.nested - 1) × (extent e ≤ l.tokens))
-        (whole_at l (l.nested - 1) ts) (e, [])) (append-nil (expression_spelling e))
-        (whole_again l (l.nested - 1) e [] formed (omega arith)) in
+    (whole_at l (l.nested - 1) ts) (e, [])) (append-nil (expression_spelling e))
+    (whole_again l (l.nested - 1) e [] formed (omega arith)) in
     go (whole_at l (l.nested - 1) (expression_spelling e)) again
   where
     go : (read : Outcome (ExpressionTree × List Token)) → IsAnswer ((nesting e ≤ l.nested - 1)
@@ -54,8 +54,11 @@ value_again l one run e formed =
         (all_of run (expression_spelling e) read) e
     go read (inl is) = inl (rw is refl)
     go read (inr (s, is, never)) =
-        inr (s, rw is (ap (λ (f : SourceFault). Err f) (in_run_other run (expression_spelling e) s.fault s.other)),
-        never)
+        inr (
+          s,
+          rw is (ap (λ (f : SourceFault). Err f) (in_run_other run (expression_spelling e) s.fault s.other)),
+          never,
+        )
 
 -- a directive with its expressions as tokens
 tokens_of : Directive ExpressionTree → Directive (List Token)
@@ -77,8 +80,12 @@ directive_read only is_read d formed = run_reads only is_read (directive_spellin
 -- a line has one expression at most
 few_in : HasOneExpression → (d : Directive ExpressionTree) → IsLine d → length (expressions d) ≤ 1
 unfolding tokens_of
-few_in one_expression d formed = omega (arith, one_expression (tokens_of d) (tokens_formed d formed),
-    ap length (mapped_expressions expression_spelling d), length-map (expressions d) expression_spelling)
+few_in one_expression d formed = omega (
+  arith,
+  one_expression (tokens_of d) (tokens_formed d formed),
+  ap length (mapped_expressions expression_spelling d),
+  length-map (expressions d) expression_spelling,
+)
 
 -- the expression in place of its tokens makes the directive
 restored : HasOneExpression → (d : Directive ExpressionTree) → IsLine d → (o : Option ExpressionTree)
@@ -98,9 +105,9 @@ with_value_again few l one run d formed = go (first_expression d.clauses) refl
     kept e is w =
         let only = only_first d (few_in few d formed) (Some e) is in
         let nested : most (λ x. nesting x + 1) (e ∷ []) ≤ l.nested = subst (λ (xs : List ExpressionTree). most
-            (λ x. nesting x + 1) xs ≤ l.nested) only w.nested in
+        (λ x. nesting x + 1) xs ≤ l.nested) only w.nested in
         let long : most extent (e ∷ []) ≤ l.tokens = subst (λ (xs : List ExpressionTree). most extent xs ≤ l.tokens)
-            only w.long in
+        only w.long in
         (omega (arith, nested, one), omega (arith, long))
 
     go : (o : Option ExpressionTree) → first_expression d.clauses ≡ o → IsAnswer (KeepsLine l d)
@@ -110,11 +117,11 @@ with_value_again few l one run d formed = go (first_expression d.clauses) refl
     go (Some e) is =
         let same = restored few d formed (Some e) is e (refl, tt) in
         let filled : IsAnswer (KeepsLine l d)
-            (ok (map_directive (λ (any : List Token). e) (map_directive expression_spelling d))) d = inl (ap ok same) in
+        (ok (map_directive (λ (any : List Token). e) (map_directive expression_spelling d))) d = inl (ap ok same) in
         rw (first_mapped expression_spelling d.clauses, is)
-            (bind_answer (clause_value l run (expression_spelling e))
-            (λ x. Ok (map_directive (λ (any : List Token). x) (map_directive expression_spelling d))) e d
-            (kept e is) (value_again l one run e (formed_value IsExpression d formed e is)) filled)
+        (bind_answer (clause_value l run (expression_spelling e))
+        (λ x. Ok (map_directive (λ (any : List Token). x) (map_directive expression_spelling d))) e d
+        (kept e is) (value_again l one run e (formed_value IsExpression d formed e is)) filled)
 
 run_read : (d : Directive ExpressionTree) (rest : List Token) → run_of (directive_spelling expression_spelling d
     ++ rest) ≡ some (directive_spelling expression_spelling d, rest)
@@ -129,4 +136,4 @@ line_again only is_read few l one d rest formed =
     let run : List Token = directive_spelling expression_spelling d in
     let filled : IsAnswer (KeepsLine l d) (ok (d, rest)) (d, rest) = inl refl in
     rw (run_read d rest, directive_read only is_read d formed) (bind_answer (with_value l run (tokens_of d))
-        (λ x. Ok (x, rest)) d (d, rest) (λ w. w) (with_value_again few l one run d formed) filled)
+    (λ x. Ok (x, rest)) d (d, rest) (λ w. w) (with_value_again few l one run d formed) filled)

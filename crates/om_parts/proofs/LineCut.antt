@@ -1,7 +1,7 @@
 -- Where a directive line is refused with another code than that of syntax, a limit is passed in its
 -- expression, or S5 or S6 stands there.
-use Rattle.std.proofs.Common.{◌≡◌, ◌-◌, ◌≤◌, List, [], ◌∷◌, ◌++◌, Bool, true, false, cond, Ok, Err, refl, sym, ap,
-    subst, ◌∙◌, append_assoc, ◌⊎◌, inl, inr}
+use Rattle.std.proofs.Common.{◌≡◌, ◌-◌, ◌≤◌, List, [], ◌∷◌, ◌++◌, Bool, true, false, cond, Ok, Err, refl, sym, ap}
+use Rattle.std.proofs.Common.{subst, ◌∙◌, append_assoc, ◌⊎◌, inl, inr}
 use Rattle.std.specs.Prelude.{◌&&◌, nat_eq}
 use Rattle.om_lexer.specs.declared.fault.FaultCode.TheVariants as codes
 use Rattle.om_lexer.specs.declared.fault.SourceFault.{SourceFault}
@@ -16,8 +16,8 @@ use Rattle.om_pragma.specs.Refusals.{EndsOnce}
 use Rattle.om_parts.specs.ExpressionReading.{whole_at}
 use Rattle.om_tree.specs.Limits.{Limits}
 use Rattle.om_parts.specs.WrongLines.{clause_token, ExpectsClause, IsNoDirective, IsPassedInClause, IsWrongLine}
-use Rattle.om_parts.specs.LineReading.{run_of, is_syntax, in_run, place_behind, last_start, all_of, clause_value,
-    with_value, sooner, line_of, line_at}
+use Rattle.om_parts.specs.LineReading.{run_of, is_syntax, in_run, place_behind, last_start, all_of, clause_value}
+use Rattle.om_parts.specs.LineReading.{with_value, sooner, line_of, line_at}
 use Rattle.om_tree.specs.Places.{in_parentheses}
 use Rattle.om_parts.specs.Reading.{Outcome, syntax}
 use Rattle.om_tree.specs.Spelling.{token, mark}
@@ -37,8 +37,10 @@ NoSyntax f = f.code ≡ codes.Syntax → ⊥
 kept : (run es : List Token) (d f : SourceFault) → in_run run es d ≡ f → NoSyntax f → d ≡ f
 kept run es d f e not = go (is_syntax d.code && nat_eq d.at 4294967295) e
   where
-    go : (b : Bool) → cond {A = SourceFault} b (record { code = codes.Syntax; at = place_behind (last_start es) run
-        }) d ≡ f → d ≡ f
+    go : (b : Bool) → cond {A = SourceFault} b (record {
+      code = codes.Syntax;
+      at = place_behind (last_start es) run;
+    }) d ≡ f → d ≡ f
     go true e = absurd (not (ap (λ (g : SourceFault). g.code) (sym e)))
     go false e = e
 
@@ -65,7 +67,7 @@ passed l line es f s h deep =
     let c = whole_cut l (l.nested - 1) es f h deep in
     let after : List Token = c.after ++ s.place.after in
     let inside : es ++ s.place.after ≡ c.begun ++ c.token ∷ after = ap (λ (w : List Token). w ++ s.place.after)
-        c.stands ∙ simp append_assoc in
+    c.stands ∙ simp append_assoc in
     record {
       before = s.place.before;
       word = s.place.word;
@@ -104,7 +106,7 @@ line_fault laws l run once (Ok d) f is h not = elim (choose_cases (first_express
     | inl fails ↦
         let read = run_directive laws.is_read run once d is in
         let s = subst (λ (ts : List Token). StandsInClause ts es) read.spelled (stands_in_directive laws.stand d es
-            read.formed first) in
+        read.formed first) in
         value_fault l run es f s fails not
     | inr done ↦ absurd cc
   ]
@@ -138,8 +140,13 @@ line_cut laws l one hash us f h not =
     let ts : List Token = token kinds.DirectiveBegin hash ∷ us in
     elim (choose_cases (run_of ts) _ _ (Err f) h) [
       | inl (r, is, e) ↦ elim (bind_err (line_of l r.0 (directive_at r.0)) _ f e) [
-        | inl fails ↦ record { line = r.0; after = r.1; parts = run_is ts r is; one_line = run_is_line hash us r is;
-            wrong = line_fault laws l r.0 (run_is_ended ts r is) (directive_at r.0) f refl fails not }
+        | inl fails ↦ record {
+          line = r.0;
+          after = r.1;
+          parts = run_is ts r is;
+          one_line = run_is_line hash us r is;
+          wrong = line_fault laws l r.0 (run_is_ended ts r is) (directive_at r.0) f refl fails not;
+        }
         | inr done ↦ absurd cc
       ]
       | inr (none, e) ↦ absurd (not (ap (λ (g : SourceFault). g.code) (sym (err_is (syntax []) f e))))

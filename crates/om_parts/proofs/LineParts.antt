@@ -1,6 +1,6 @@
 -- A directive with other expressions in place of its own, by the expressions that it has.
-use Rattle.std.proofs.Common.{◌≡◌, ◌≤◌, List, [], ◌∷◌, ◌++◌, length, map, Option, Some, None, refl, sym, ap, subst,
-    ◌∙◌, arith}
+use Rattle.std.proofs.Common.{◌≡◌, ◌≤◌, List, [], ◌∷◌, ◌++◌, length, map, Option, Some, None, refl, sym, ap, subst, ◌∙◌}
+use Rattle.std.proofs.Common.{arith}
 use Rattle.std.specs.Prelude.{option_map, option_to_list}
 use Rattle.std.specs.List.{flat_map}
 use Rattle.om_lexer.specs.declared.token.Span.{Span}
@@ -10,8 +10,8 @@ use Rattle.om_pragma.specs.declared.clause.Clause.TheVariants as clauses
 use Rattle.om_pragma.specs.declared.clause.ClauseItem.{ClauseItem}
 use Rattle.om_pragma.specs.declared.tree.Directive.{Directive}
 use Rattle.om_pragma.specs.declared.tree.DirectiveName.{DirectiveName}
-use Rattle.om_pragma.specs.Expressions.{clause_expression, clause_expressions, expressions, first_expression,
-    or_else, map_clause, map_item, map_directive}
+use Rattle.om_pragma.specs.Expressions.{clause_expression, clause_expressions, expressions, first_expression, or_else}
+use Rattle.om_pragma.specs.Expressions.{map_clause, map_item, map_directive}
 use Rattle.om_pragma.specs.Spelling.{argument_spelling, clause_spelling, item_spelling, directive_spelling}
 use Rattle.om_pragma.specs.Table.{EachBehind, IsClause, IsItem, IsDirective}
 use Rattle.om_parts.proofs.Outcomes.{some, some_is}
@@ -53,7 +53,7 @@ same_items {E} {F} f g (i ∷ items) each = go i.clause each (same_items f g ite
     go : (c : Clause E) → Each (λ e. f e ≡ g e) (clause_expressions c ++ in_items items)
         → (Each (λ e. f e ≡ g e) (in_items items) → map (map_item f) items ≡ map (map_item g) items)
         → item i.comma (map_clause f c) ∷ map (map_item f) items ≡ item i.comma (map_clause g c) ∷ map (map_item g)
-            items
+        items
     go (clauses.Value k s v) each later = rw (each.0, later each.1) refl
     go (clauses.Default s a) each later = rw (later each) refl
     go (clauses.Data k s l) each later = rw (later each) refl
@@ -70,7 +70,7 @@ same_spelled {E} g h (i ∷ items) each = go i.clause each (same_spelled g h ite
     go : (c : Clause E) → Each (λ e. g e ≡ h e) (clause_expressions c ++ in_items items)
         → (Each (λ e. g e ≡ h e) (in_items items) → flat_map (item_spelling g) items ≡ flat_map (item_spelling h) items)
         → item_spelling g (item i.comma c) ++ flat_map (item_spelling g) items ≡ item_spelling h (item i.comma c)
-            ++ flat_map (item_spelling h) items
+        ++ flat_map (item_spelling h) items
     go (clauses.Value k s v) each later = rw (each.0, later each.1) refl
     go (clauses.Default s a) each later = rw (later each) refl
     go (clauses.Data k s l) each later = rw (later each) refl
@@ -164,8 +164,10 @@ module _ {E : Type 0} (d : Directive E) (few : length (expressions d) ≤ 1) (o 
     (is : first_expression d.clauses ≡ o) where
   -- nothing is changed where the first expression is not
   pub mapped_itself : (f : E → E) → Each (λ e. f e ≡ e) (option_to_list o) → map_directive f d ≡ d
-  mapped_itself f each = rw (same_items f (λ e. e) d.clauses (each_first d few o is (λ e. f e ≡ e) each),
-      items_itself d.clauses) refl
+  mapped_itself f each = rw (
+    same_items f (λ e. e) d.clauses (each_first d few o is (λ e. f e ≡ e) each),
+    items_itself d.clauses,
+  ) refl
 
   -- the tokens are the same where those of the first expression are
   pub same_tokens : (g h : E → List Token) → Each (λ e. g e ≡ h e) (option_to_list o) → directive_spelling g d

@@ -1,6 +1,6 @@
 -- The run of a directive line: its tokens up to the first end, found token by token.
-use Rattle.std.proofs.Common.{◌≡◌, ℕ, ◌+◌, ◌<◌, ◌≤◌, List, [], ◌∷◌, ◌++◌, length, take, Option, Some, None, Bool,
-    true, false, cond, refl, sym, ap, subst, ◌∙◌, arith, append_assoc, length-append}
+use Rattle.std.proofs.Common.{◌≡◌, ℕ, ◌+◌, ◌<◌, ◌≤◌, List, [], ◌∷◌, ◌++◌, length, take, Option, Some, None, Bool, true}
+use Rattle.std.proofs.Common.{false, cond, refl, sym, ap, subst, ◌∙◌, arith, append_assoc, length-append}
 use Rattle.std.specs.Prelude.{◌≢◌, option_map}
 use Rattle.std.proofs.lemmas.Bool.{lt-ltb, le-ltb}
 use Rattle.std.proofs.lemmas.List.Elements.{All-nil, All-cons}
@@ -81,8 +81,13 @@ module _ (tokens rest : List Token) (taken : ℕ) (h : IsPast tokens rest taken)
         }
 
     pub past_within : taken < length tokens
-    past_within = omega (arith, h.counted, ap length h.parts, length-append h.front rest,
-        ap length (first_is rest t us first))
+    past_within = omega (
+      arith,
+      h.counted,
+      ap length h.parts,
+      length-append h.front rest,
+      ap length (first_is rest t us first),
+    )
 
 -- ---- the first token behind a place
 
@@ -121,8 +126,12 @@ NoEnd t = t.kind ≢ kinds.DirectiveEnd
 
 -- what is found ends with an end, and has no other
 ended_first : (t : Token) → is_end t.kind ≡ true → EndsOnce (t ∷ [])
-ended_first t is = record { front = []; end = t.span; parts = ap (λ k. token k t.span ∷ []) (end_kind t.kind is);
-    endless = All-nil NoEnd }
+ended_first t is = record {
+  front = [];
+  end = t.span;
+  parts = ap (λ k. token k t.span ∷ []) (end_kind t.kind is);
+  endless = All-nil NoEnd;
+}
   where
     end_kind : (k : TokenKind) → is_end k ≡ true → k ≡ kinds.DirectiveEnd
     end_kind kinds.DirectiveEnd e = refl
@@ -160,8 +169,14 @@ run_is_line hash ts r e = go (run_of ts) refl e
     go (Some s) is e =
         let c = run_is_ended ts s is in
         subst (λ (p : List Token × List Token). IsOneLine p.0) (some_is (token kinds.DirectiveBegin hash ∷ s.0, s.1)
-            r e) (record { hash = hash; inner = c.front; end = c.end; parts =
-            ap (λ (w : List Token). token kinds.DirectiveBegin hash ∷ w) c.parts; endless = c.endless })
+        r e) (record {
+          hash = hash;
+          inner = c.front;
+          end = c.end;
+          parts =
+              ap (λ (w : List Token). token kinds.DirectiveBegin hash ∷ w) c.parts;
+          endless = c.endless;
+        })
     go None is e = absurd cc
 
 -- none of these tokens ends a line

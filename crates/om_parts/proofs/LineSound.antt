@@ -1,6 +1,6 @@
 -- A directive line that is read is well-formed, within the limits, and spelled as the tokens were.
-use Rattle.std.proofs.Common.{◌≡◌, ◌+◌, ◌-◌, ◌≤◌, List, [], ◌∷◌, ◌++◌, map, Option, Some, None, Ok, Err, refl, sym,
-    ap, subst, ◌∙◌, arith, inl, inr}
+use Rattle.std.proofs.Common.{◌≡◌, ◌+◌, ◌-◌, ◌≤◌, List, [], ◌∷◌, ◌++◌, map, Option, Some, None, Ok, Err, refl, sym, ap}
+use Rattle.std.proofs.Common.{subst, ◌∙◌, arith, inl, inr}
 use Rattle.std.specs.Prelude.{option_to_list}
 use Rattle.std.proofs.lemmas.List.{append-nil}
 use Rattle.om_lexer.specs.declared.fault.SourceFault.{SourceFault}
@@ -43,8 +43,12 @@ value_sound l one run es e h = go (whole_at l (l.nested - 1) es) refl h
         → IsValue l es e
     go (Ok (x, [])) is h =
         let w = whole_sound l (l.nested - 1) es (x, []) is in
-        subst (IsValue l es) (ok_is x e h) (record { spelled = sym (w.parts ∙ append-nil (expression_spelling x));
-            formed = w.formed.0; nested = omega (arith, w.formed.1, one); long = w.formed.2 })
+        subst (IsValue l es) (ok_is x e h) (record {
+          spelled = sym (w.parts ∙ append-nil (expression_spelling x));
+          formed = w.formed.0;
+          nested = omega (arith, w.formed.1, one);
+          long = w.formed.2;
+        })
     go (Ok (x, t ∷ ts)) is h = absurd cc
     go (Err f) is h = absurd cc
 
@@ -99,7 +103,7 @@ with_value_sound few l one run d formed x h = elim (choose_cases (first_expressi
       let e = bind_ok (clause_value l run v.0) _ x v.2 in
       let value = value_sound l one run v.0 e.0 e.1 in
       subst (IsOf l d) (ok_is (map_directive (λ (any : List Token). e.0) d) x e.2)
-          (filled_sound few l d formed e.0 value.formed (Some v.0) v.1 (value, tt))
+      (filled_sound few l d formed e.0 value.formed (Some v.0) v.1 (value, tt))
   | inr v ↦ subst (IsOf l d) (ok_is (map_directive (λ (any : List Token). no_value) d) x v.1)
       (filled_sound few l d formed no_value tt None v.0 tt)
 ]
@@ -120,9 +124,9 @@ line_sound is_read few l one ts x h = elim (choose_cases (run_of ts) _ _ (ok x) 
       let d = bind_ok (line_of l r.0.0 (directive_at r.0.0)) _ x r.2 in
       let s = go r.0.0 (run_is_ended ts r.0 r.1) (directive_at r.0.0) refl d.0 d.1 in
       let whole : ts ≡ directive_spelling expression_spelling d.0 ++ r.0.1 = run_is ts r.0 r.1
-          ∙ ap (λ (w : List Token). w ++ r.0.1) (sym s.0) in
+      ∙ ap (λ (w : List Token). w ++ r.0.1) (sym s.0) in
       let read : IsRead (directive_spelling expression_spelling) (IsWholeLine l) ts (d.0, r.0.1) = record
-          { parts = whole; formed = s.1 } in
+      { parts = whole; formed = s.1 } in
       subst (IsRead (directive_spelling expression_spelling) (IsWholeLine l) ts) (ok_is (d.0, r.0.1) x d.2) read
   | inr r ↦ absurd cc
 ]

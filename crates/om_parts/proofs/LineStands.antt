@@ -14,8 +14,8 @@ use Rattle.om_pragma.specs.declared.tree.Directive.{Directive}
 use Rattle.om_pragma.specs.Expressions.{clause_expression, first_expression, or_else, IsClosed}
 use Rattle.om_pragma.specs.Reading.{expression_before}
 use Rattle.om_pragma.specs.Refusals.{StandsClause, ClausesStand}
-use Rattle.om_pragma.specs.Spelling.{token, comma_spelling, argument_spelling, clause_spelling, item_spelling,
-    opening_spelling, name_spelling, directive_spelling}
+use Rattle.om_pragma.specs.Spelling.{token, comma_spelling, argument_spelling, clause_spelling, item_spelling}
+use Rattle.om_pragma.specs.Spelling.{opening_spelling, name_spelling, directive_spelling}
 use Rattle.om_pragma.specs.Table.{IsDirective}
 use Rattle.om_tree.specs.Spelling.{mark}
 use Rattle.om_parts.specs.WrongLines.{clause_token, ExpectsClause, IsNoDirective}
@@ -67,16 +67,33 @@ first_clause [] es is = absurd cc
 first_clause (i ∷ items) es is = go i.clause (λ h. first_clause items es h) is
   where
     further : (c : Clause (List Token)) → FirstClause items es → FirstClause (item i.comma c ∷ items) es
-    further c s = record { front = item i.comma c ∷ s.front; comma = s.comma; word = s.word; at = s.at; left =
-        s.left; right = s.right; rest = s.rest; split = ap (λ (w : Items). item i.comma c ∷ w) s.split }
+    further c s = record {
+      front = item i.comma c ∷ s.front;
+      comma = s.comma;
+      word = s.word;
+      at = s.at;
+      left =
+          s.left;
+      right = s.right;
+      rest = s.rest;
+      split = ap (λ (w : Items). item i.comma c ∷ w) s.split;
+    }
 
     go : (c : Clause (List Token)) → (first_expression items ≡ some es → FirstClause items es)
         → or_else (clause_expression c) (first_expression items) ≡ some es → FirstClause (item i.comma c ∷ items) es
-    go (clauses.Value k s v) later is = record { front = []; comma = i.comma; word = k; at = s; left = v.open_paren;
-        right = v.close_paren; rest = items; split =
-        ap (λ (e : List Token). item i.comma
-        (clauses.Value k s (record { open_paren = v.open_paren; expression = e; close_paren = v.close_paren }))
-        ∷ items) (some_is v.expression es is) }
+    go (clauses.Value k s v) later is = record {
+      front = [];
+      comma = i.comma;
+      word = k;
+      at = s;
+      left = v.open_paren;
+      right = v.close_paren;
+      rest = items;
+      split =
+          ap (λ (e : List Token). item i.comma
+          (clauses.Value k s (record { open_paren = v.open_paren; expression = e; close_paren = v.close_paren }))
+          ∷ items) (some_is v.expression es is);
+    }
     go (clauses.Default s a) later is = further (clauses.Default s a) (later is)
     go (clauses.Data k s l) later is = further (clauses.Data k s l) (later is)
     go (clauses.Reduction s r) later is = further (clauses.Reduction s r) (later is)
@@ -89,15 +106,15 @@ unfolding directive_spelling item_spelling clause_spelling argument_spelling
 stands_in_directive stand d es formed is =
     let c = first_clause d.clauses es is in
     let i : ClauseItem (List Token) = item c.comma
-        (clauses.Value c.word c.at (record { open_paren = c.left; expression = es; close_paren = c.right })) in
+    (clauses.Value c.word c.at (record { open_paren = c.left; expression = es; close_paren = c.right })) in
     let end : List Token = token kinds.DirectiveEnd d.end ∷ [] in
     let after : List Token = mark punctuators.CloseParen c.right ∷ (spelling c.rest ++ end) in
     let behind : spelling d.clauses ++ end ≡ spelling c.front
-        ++ (comma_spelling c.comma ++ clause_tokens c.word c.at c.left es after) =
+    ++ (comma_spelling c.comma ++ clause_tokens c.word c.at c.left es after) =
     ap (λ (w : Items). spelling w ++ end) c.split ∙ ap (λ (w : List Token). w ++ end)
-        (flat_map-append (item_spelling (λ e. e)) c.front (i ∷ c.rest)) ∙ simp append_assoc in
+    (flat_map-append (item_spelling (λ e. e)) c.front (i ∷ c.rest)) ∙ simp append_assoc in
     let same : clause_spelling (λ e. e) i.clause ++ (spelling c.rest ++ end) ≡ clause_tokens c.word c.at c.left es
-        after = simp append_assoc in
+    after = simp append_assoc in
     record {
       place = record {
         before = opening_spelling d.hash d.pragma d.omp
@@ -124,5 +141,15 @@ pub stands_before_fault : FindsFirst → (place : ℕ) (line es : List Token) �
     place line ≡ some es → StandsInClause line es
 stands_before_fault first place line es none e =
     let v = (first line es place e).stands in
-    record { place = record { before = v.before; word = v.word; at = v.at; left = v.left; after =
-        mark punctuators.CloseParen v.right ∷ v.behind; stands = v.parts }; in_clause = inr none }
+    record {
+      place = record {
+        before = v.before;
+        word = v.word;
+        at = v.at;
+        left = v.left;
+        after =
+            mark punctuators.CloseParen v.right ∷ v.behind;
+        stands = v.parts;
+      };
+      in_clause = inr none;
+    }

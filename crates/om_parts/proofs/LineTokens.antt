@@ -1,6 +1,6 @@
 -- The tokens of an expression close their parentheses, and those of a directive line end it at the last.
-use Rattle.std.proofs.Common.{◌≡◌, ℕ, ◌+◌, ◌-◌, List, [], ◌∷◌, ◌++◌, length, Option, Some, None, true, false, refl,
-    ap, subst, arith, append_assoc, All}
+use Rattle.std.proofs.Common.{◌≡◌, ℕ, ◌+◌, ◌-◌, List, [], ◌∷◌, ◌++◌, length, Option, Some, None, true, false, refl, ap}
+use Rattle.std.proofs.Common.{subst, arith, append_assoc, All}
 use Rattle.std.specs.Prelude.{◌≢◌}
 use Rattle.std.proofs.lemmas.List.Elements.{All-nil, All-cons}
 use Rattle.std.specs.List.{flat_map}
@@ -31,9 +31,10 @@ use Rattle.om_pragma.specs.declared.tree.DirectiveName.TheVariants as directives
 use Rattle.om_pragma.specs.Expressions.{Closes, IsClosed}
 use Rattle.om_pragma.specs.Reading.{is_end}
 use Rattle.om_pragma.specs.Refusals.{EndsOnce}
-use Rattle.om_pragma.specs.Spelling.{kind_of, further_spelling, names_spelling, list_spelling, chunk_spelling,
-    argument_spelling, comma_spelling, clause_spelling, item_spelling, critical_spelling, flush_spelling,
-    name_spelling, opening_spelling, directive_spelling}
+use Rattle.om_pragma.specs.Spelling.{kind_of, further_spelling, names_spelling, list_spelling, chunk_spelling}
+use Rattle.om_pragma.specs.Spelling.{argument_spelling, comma_spelling, clause_spelling, item_spelling}
+use Rattle.om_pragma.specs.Spelling.{critical_spelling, flush_spelling, name_spelling, opening_spelling}
+use Rattle.om_pragma.specs.Spelling.{directive_spelling}
 use Rattle.om_pragma.specs.Words.{same_mark, sharing_word, operator_word, schedule_word, clause_word}
 use Rattle.om_tree.specs.declared.tree.AssignOperator.{AssignOperator}
 use Rattle.om_tree.specs.declared.tree.AssignOperator.TheVariants as assigns
@@ -43,10 +44,10 @@ use Rattle.om_tree.specs.declared.tree.PostfixOperator.{PostfixOperator}
 use Rattle.om_tree.specs.declared.tree.PostfixOperator.TheVariants as postfixes
 use Rattle.om_tree.specs.declared.tree.PrefixOperator.{PrefixOperator}
 use Rattle.om_tree.specs.declared.tree.PrefixOperator.TheVariants as prefixes
-use Rattle.om_tree.specs.Spelling.{token, mark, prefix_mark, postfix_mark, binary_mark, assign_mark,
-    expression_spelling, arguments_spelling}
-use Rattle.om_tree.specs.Tree.{ExpressionTree, Name, Constant, Text, Paren, Index, Call, Prefix, Postfix, Binary,
-    Conditional, Assign, ArgumentsTree, NoArguments, Argument}
+use Rattle.om_tree.specs.Spelling.{token, mark, prefix_mark, postfix_mark, binary_mark, assign_mark}
+use Rattle.om_tree.specs.Spelling.{expression_spelling, arguments_spelling}
+use Rattle.om_tree.specs.Tree.{ExpressionTree, Name, Constant, Text, Paren, Index, Call, Prefix, Postfix, Binary}
+use Rattle.om_tree.specs.Tree.{Conditional, Assign, ArgumentsTree, NoArguments, Argument}
 use Rattle.om_parts.proofs.ExpressionTokens.{expression_some}
 use Rattle.om_parts.proofs.LineRuns.{Endless, endless_both}
 
@@ -157,12 +158,12 @@ mutual
       let other : List Token = expression_spelling b ++ us in
       let inner : List Token = expression_spelling a ++ mark punctuators.Colon colon ∷ other in
       let same : expression_spelling c ++ mark punctuators.Question question ∷ inner
-          ≡ (expression_spelling c ++ mark punctuators.Question question
-          ∷ (expression_spelling a ++ mark punctuators.Colon colon ∷ expression_spelling b))
-          ++ us = simp append_assoc in
+      ≡ (expression_spelling c ++ mark punctuators.Question question
+      ∷ (expression_spelling a ++ mark punctuators.Colon colon ∷ expression_spelling b))
+      ++ us = simp append_assoc in
       subst (λ (ts : List Token). Closes n ts) same (closes_behind c n (mark punctuators.Question question ∷ inner)
-          (question_flat n question inner (closes_behind a n (mark punctuators.Colon colon ∷ other)
-          (colon_flat n colon other (closes_behind b n us h)))))
+      (question_flat n question inner (closes_behind a n (mark punctuators.Colon colon ∷ other)
+      (colon_flat n colon other (closes_behind b n us h)))))
   closes_behind (Assign a o at b) n us h = rw append_assoc
       (closes_behind a n (mark (assign_mark o) at ∷ (expression_spelling b ++ us))
       (assign_flat o n at (expression_spelling b ++ us) (closes_behind b n us h)))
@@ -178,8 +179,11 @@ mutual
 
 pub expression_closed : (e : ExpressionTree) → IsClosed (expression_spelling e)
 unfolding Closes
-expression_closed e = (some_tokens, subst (λ (ts : List Token). Closes 0 ts) (append-nil (expression_spelling e))
-    (closes_behind e 0 [] refl))
+expression_closed e = (
+  some_tokens,
+  subst (λ (ts : List Token). Closes 0 ts) (append-nil (expression_spelling e))
+      (closes_behind e 0 [] refl),
+)
   where
     some_tokens : expression_spelling e ≡ [] → ⊥
     some_tokens none = let none_long : length (expression_spelling e) ≡ 0 = ap length none in absurd
@@ -199,8 +203,11 @@ mutual
   expression_endless (Name m) = (refl, tt)
   expression_endless (Constant m) = (refl, tt)
   expression_endless (Text t) = (refl, tt)
-  expression_endless (Paren left e right) = (refl, endless_both (expression_spelling e) _ (expression_endless e)
-      (refl, tt))
+  expression_endless (Paren left e right) = (
+    refl,
+    endless_both (expression_spelling e) _ (expression_endless e)
+        (refl, tt),
+  )
   expression_endless (Index m left e right) =
       (refl, (refl, endless_both (expression_spelling e) _ (expression_endless e) (refl, tt)))
   expression_endless (Call m left values right) =
@@ -210,8 +217,11 @@ mutual
   expression_endless (Binary a o at b) = endless_both (expression_spelling a) _ (expression_endless a)
       (refl, expression_endless b)
   expression_endless (Conditional c question a colon b) = endless_both (expression_spelling c) _
-      (expression_endless c) (refl, endless_both (expression_spelling a) _ (expression_endless a)
-      (refl, expression_endless b))
+      (expression_endless c) (
+        refl,
+        endless_both (expression_spelling a) _ (expression_endless a)
+            (refl, expression_endless b),
+      )
   expression_endless (Assign a o at b) = endless_both (expression_spelling a) _ (expression_endless a)
       (refl, expression_endless b)
 
@@ -219,14 +229,20 @@ mutual
   arguments_endless NoArguments = tt
   arguments_endless (Argument None e more) = endless_both (expression_spelling e) (arguments_spelling more)
       (expression_endless e) (arguments_endless more)
-  arguments_endless (Argument (Some comma) e more) = (refl, endless_both (expression_spelling e)
-      (arguments_spelling more) (expression_endless e) (arguments_endless more))
+  arguments_endless (Argument (Some comma) e more) = (
+    refl,
+    endless_both (expression_spelling e)
+        (arguments_spelling more) (expression_endless e) (arguments_endless more),
+  )
 
 names_endless : (first : names.Name) (rest : List (Span × names.Name)) (close : Span)
     → Endless (names_spelling first rest close)
 unfolding Endless names_spelling further_spelling
-names_endless first rest close = (refl, endless_both (flat_map further_spelling rest) _
-    (flat_endless further_spelling (λ n. (refl, (refl, tt))) rest) (refl, tt))
+names_endless first rest close = (
+  refl,
+  endless_both (flat_map further_spelling rest) _
+      (flat_endless further_spelling (λ n. (refl, (refl, tt))) rest) (refl, tt),
+)
 
 list_endless : (l : lists.NameList) → Endless (list_spelling l)
 unfolding Endless list_spelling
@@ -269,8 +285,11 @@ chunk_endless None = tt
 
 argument_endless : (c : Clause ExpressionTree) → Endless (argument_spelling expression_spelling c)
 unfolding Endless argument_spelling
-argument_endless (clauses.Value k s v) = (refl, endless_both (expression_spelling v.expression) _
-    (expression_endless v.expression) (refl, tt))
+argument_endless (clauses.Value k s v) = (
+  refl,
+  endless_both (expression_spelling v.expression) _
+      (expression_endless v.expression) (refl, tt),
+)
 argument_endless (clauses.Default s a) = (refl, (sharing_no_end a.sharing, (refl, tt)))
 argument_endless (clauses.Data k s l) = list_endless l
 argument_endless (clauses.Reduction s r) =
@@ -286,8 +305,10 @@ comma_endless None = tt
 
 item_endless : (i : ClauseItem ExpressionTree) → Endless (item_spelling expression_spelling i)
 unfolding Endless item_spelling clause_spelling
-item_endless i = endless_both (comma_spelling i.comma) _ (comma_endless i.comma) (clause_no_end (kind_of i.clause),
-    argument_endless i.clause)
+item_endless i = endless_both (comma_spelling i.comma) _ (comma_endless i.comma) (
+  clause_no_end (kind_of i.clause),
+  argument_endless i.clause,
+)
 
 critical_endless : (n : Option (Span × names.Name × Span)) → Endless (critical_spelling n)
 unfolding Endless critical_spelling
@@ -314,9 +335,17 @@ before_end d = opening_spelling d.hash d.pragma d.omp
 
 pub before_end_endless : (d : Directive ExpressionTree) → Endless (before_end d)
 unfolding before_end Endless opening_spelling
-before_end_endless d =
-    (refl, (refl, (refl, endless_both (name_spelling d.name) _ (name_endless d.name)
-    (flat_endless (item_spelling expression_spelling) item_endless d.clauses))))
+before_end_endless d = (
+  refl,
+  (
+    refl,
+    (
+      refl,
+      endless_both (name_spelling d.name) _ (name_endless d.name)
+          (flat_endless (item_spelling expression_spelling) item_endless d.clauses),
+    ),
+  ),
+)
 
 -- the end stands last
 pub end_last : (d : Directive ExpressionTree) → directive_spelling expression_spelling d ≡ before_end d
@@ -327,8 +356,13 @@ end_last d = simp append_assoc
 -- and nowhere else
 pub spelled_once : (d : Directive ExpressionTree) → EndsOnce (directive_spelling expression_spelling d)
 unfolding Endless
-spelled_once d = record { front = before_end d; end = d.end; parts = end_last d; endless = all_endless
-    (before_end d) (before_end_endless d) }
+spelled_once d = record {
+  front = before_end d;
+  end = d.end;
+  parts = end_last d;
+  endless = all_endless
+      (before_end d) (before_end_endless d);
+}
   where
     all_endless : (ts : List Token) → Endless ts → All (λ t. t.kind ≢ kinds.DirectiveEnd) ts
     all_endless [] e = All-nil (λ t. t.kind ≢ kinds.DirectiveEnd)

@@ -1,6 +1,6 @@
 -- What the code makes of a directive line is what the reader makes.
-use Rattle.std.proofs.Common.{◌≡◌, ◌≤◌, List, [], ◌∷◌, length, None, Result, Ok, Err, refl, sym, ap, ◌∙◌, arith,
-    ◌⊎◌, inl, inr}
+use Rattle.std.proofs.Common.{◌≡◌, ◌≤◌, List, [], ◌∷◌, length, None, Result, Ok, Err, refl, sym, ap, ◌∙◌, arith, ◌⊎◌}
+use Rattle.std.proofs.Common.{inl, inr}
 use Rattle.std.specs.Prelude.{option_to_list, IfOk, IfErr}
 use Rattle.std.proofs.lemmas.Bool.{le-leb}
 use denote.Ref.{Bor}
@@ -52,9 +52,9 @@ module _ (d : Directive (Bor (List Token))) where
     none_filled made none is =
         let v : Expression = values.Constant number in
         let same : view_directive made ≡ map_directive (λ (any : List Token). no_value) (with_tokens d) =
-            filled_view made v (is (λ any. v) tt)
-            ∙ ap (λ (e : ExpressionTree). map_directive (λ (any : List Token). e) (with_tokens d))
-            (view_constant number) in
+        filled_view made v (is (λ any. v) tt)
+        ∙ ap (λ (e : ExpressionTree). map_directive (λ (any : List Token). e) (with_tokens d))
+        (view_constant number) in
         rw (first_mapped tokens_in d.clauses, none) (ap ok (sym same))
 
     some_filled : (made : Directive Expression) (tokens : Bor (List Token)) (v : Expression) → first_expression

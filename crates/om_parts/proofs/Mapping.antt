@@ -97,9 +97,11 @@ module _ {E F : Type 0} (f : E → F) where
           between = mapped_between before i.comma each.0.between;
           can_stand = rw (mapped_kinds before, mapped_kind i.clause) each.0.can_stand;
           formed = mapped_clause i.clause each.0.formed;
-        } in
-        (first, subst (λ (b : List (ClauseItem F)). EachBehind (IsItem Q n) b (map (map_item f) items))
-            (map_push (map_item f) before i) (mapped_each n (before ++ i ∷ []) items each.1))
+        } in (
+          first,
+          subst (λ (b : List (ClauseItem F)). EachBehind (IsItem Q n) b (map (map_item f) items))
+              (map_push (map_item f) before i) (mapped_each n (before ++ i ∷ []) items each.1),
+        )
 
     pub mapped_directive : (d : Directive E) → IsDirective P d → IsDirective Q (map_directive f d)
     unfolding IsDirective

@@ -1,6 +1,6 @@
 -- What the parts of statements spell is read again, within the limits.
-use Rattle.std.proofs.Common.{◌≡◌, ℕ, ◌+◌, ◌-◌, ◌<◌, ◌≤◌, List, [], ◌∷◌, ◌++◌, sym, subst, arith, append_assoc, inl,
-    inr, All}
+use Rattle.std.proofs.Common.{◌≡◌, ℕ, ◌+◌, ◌-◌, ◌<◌, ◌≤◌, List, [], ◌∷◌, ◌++◌, sym, subst, arith, append_assoc, inl}
+use Rattle.std.proofs.Common.{inr, All}
 use Rattle.std.proofs.lemmas.List.Elements.{All-nil, All-cons}
 use Rattle.om_lexer.specs.declared.token.Punctuator.{Punctuator}
 use Rattle.om_lexer.specs.declared.token.Span.{Span}
@@ -15,14 +15,14 @@ use Rattle.om_tree.specs.Sizes.{most, extent}
 use Rattle.om_tree.specs.Spelling.{mark, name, expression_spelling, declarator_spelling}
 use Rattle.om_tree.specs.Tree.{ExpressionTree, DeclarationTree}
 use Rattle.om_parts.proofs.LineComplete.{line_again}
-use Rattle.om_parts.specs.Laws.{IsAnswer, Keeps, KeepsDeclaration, IsEnd, IsExpressionAgain, declaration_tail,
-    IsDeclarationAgain, PartsAreReadAgain}
+use Rattle.om_parts.specs.Laws.{IsAnswer, Keeps, KeepsDeclaration, IsEnd, IsExpressionAgain, declaration_tail}
+use Rattle.om_parts.specs.Laws.{IsDeclarationAgain, PartsAreReadAgain}
 use Rattle.om_parts.proofs.LineAnswers.{OnlyOne, IsReading, HasOneExpression}
 use Rattle.om_parts.proofs.Again.{narrower}
 use Rattle.om_parts.proofs.ExpressionComplete.{whole_again}
 use Rattle.om_parts.proofs.ExpressionTokens.{following}
-use Rattle.om_parts.proofs.DeclarationComplete.{EndsDeclarator, EndsBySemicolon, EndsByComma, declaration_rest,
-    declared_again}
+use Rattle.om_parts.proofs.DeclarationComplete.{EndsDeclarator, EndsBySemicolon, EndsByComma, declaration_rest}
+use Rattle.om_parts.proofs.DeclarationComplete.{declared_again}
 
 -- no token that may follow a whole expression goes on with it
 ends : (q : Punctuator) (s : Span) (rest : List Token) → IsEnd q → following (mark q s ∷ rest) < 1
@@ -64,7 +64,7 @@ module _ (l : Limits) (room round : ℕ) (sum : room + round ≡ l.nested) where
   local_again d rest f = subst (λ us. IsAnswer (KeepsDeclaration l round d)
       (declared_at (initial_at l (initials.Expression room)) d.int us) (d, rest)) (tail_is d rest)
       (narrower (declared_at (initial_at l (initials.Expression room)) d.int (name d.first.name ∷ declaration_rest d
-          rest)) (d, rest) (λ w. keep_all (expressions_of_declaration d) w.nested w.long)
+      rest)) (d, rest) (λ w. keep_all (expressions_of_declaration d) w.nested w.long)
       (declared_again IsExpression (Keeps l round) (initial_at l (initials.Expression room)) initial_again d rest f))
 
 -- what an enclosed part keeps, it keeps with one parenthesis of room at least

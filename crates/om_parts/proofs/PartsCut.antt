@@ -118,9 +118,11 @@ module _ (m : Limits) where
   local_passed : IsDeclarationCut m (declared_at (initial_at m (initials.Expression m.nested)))
   local_passed int ts f h stops =
       let initial = initial_at m (initials.Expression m.nested) in
-      let deep = stops_too_deep f (declared_refuses initial initial_refuses int ts f h) stops in
-      (deep, passed_in declaration_spelling _ expressions_of_declaration m (_ ∷ ts) f.at
-          (declared_cut IsExpression m initial initial_sound initial_cut int ts f h deep))
+      let deep = stops_too_deep f (declared_refuses initial initial_refuses int ts f h) stops in (
+        deep,
+        passed_in declaration_spelling _ expressions_of_declaration m (_ ∷ ts) f.at
+            (declared_cut IsExpression m initial initial_sound initial_cut int ts f h deep),
+      )
 
 pub parts_cut : LineLaws → PartsStopSo
 unfolding parts whole_at initial_at

@@ -25,16 +25,31 @@ module _ (l : Limits) (room round : ℕ) (sum : room + round ≡ l.nested) where
   pub expression_sound : IsSound expression_spelling (IsWhole l round) (whole_at l room)
   expression_sound ts x h =
       let r = whole_sound l room ts x h in
-      record { parts = r.parts; formed = record { formed = r.formed.0; nested = omega (arith, r.formed.1, sum);
-          long = omega (arith, r.formed.2) } }
+      record {
+        parts = r.parts;
+        formed = record {
+          formed = r.formed.0;
+          nested = omega (arith, r.formed.1, sum);
+          long = omega (arith, r.formed.2);
+        };
+      }
 
   initial_sound : IsSound expression_spelling (λ e. IsExpression e × IsKept l round e)
       (initial_at l (initials.Expression room))
   unfolding initial_at
   initial_sound ts x h =
       let r = whole_sound l room ts x h in
-      record { parts = r.parts; formed = (r.formed.0, record { nested = omega (arith, r.formed.1, sum); long = omega
-          (arith, r.formed.2) }) }
+      record {
+        parts = r.parts;
+        formed = (
+          r.formed.0,
+          record {
+            nested = omega (arith, r.formed.1, sum);
+            long = omega
+                (arith, r.formed.2);
+          },
+        );
+      }
 
   most_nested : (es : List ExpressionTree) → All (IsKept l round) es → most nesting es + round ≤ l.nested
   most_nested [] w = omega (arith, sum)
@@ -51,12 +66,16 @@ module _ (l : Limits) (room round : ℕ) (sum : room + round ≡ l.nested) where
   pub local_sound : IsDeclarationSound l round (declared_at (initial_at l (initials.Expression room)))
   local_sound int ts x h =
       let r = declared_sound (λ e. IsExpression e × IsKept l round e) (initial_at l (initials.Expression room))
-          initial_sound int ts x h in
+      initial_sound int ts x h in
       let both = declaration_parts IsExpression (IsKept l round) x.0 r.formed in
       record {
         parts = r.parts;
-        formed = record { formed = both.0; nested = most_nested (expressions_of_declaration x.0) both.1; long =
-            most_long (expressions_of_declaration x.0) both.1 };
+        formed = record {
+          formed = both.0;
+          nested = most_nested (expressions_of_declaration x.0) both.1;
+          long =
+              most_long (expressions_of_declaration x.0) both.1;
+        };
       }
 
 pub parts_sound : IsReading → HasOneExpression → PartsAreSound

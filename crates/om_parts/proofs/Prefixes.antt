@@ -1,12 +1,12 @@
 -- Reading the operators before an operand one by one, as a loop does.
-use Rattle.std.proofs.Common.{◌≡◌, ℕ, zero, suc, ◌<◌, ◌≤◌, List, [], ◌∷◌, ◌++◌, length, None, Ok, Err, refl, sym,
-    ap, subst, ◌∙◌, arith, true, false}
+use Rattle.std.proofs.Common.{◌≡◌, ℕ, zero, suc, ◌<◌, ◌≤◌, List, [], ◌∷◌, ◌++◌, length, None, Ok, Err, refl, sym, ap}
+use Rattle.std.proofs.Common.{subst, ◌∙◌, arith, true, false}
 use Rattle.std.specs.Prelude.{nat_le}
 use Rattle.om_lexer.specs.declared.token.Span.{Span}
 use Rattle.om_lexer.specs.declared.token.Token.{Token}
 use Rattle.om_tree.specs.declared.tree.PrefixOperator.{PrefixOperator}
-use Rattle.om_parts.specs.ExpressionReading.{within, prefix_of, take_operator, unary_step, unary_at, operand_at,
-    postfix_at, prefixed, behind}
+use Rattle.om_parts.specs.ExpressionReading.{within, prefix_of, take_operator, unary_step, unary_at, operand_at}
+use Rattle.om_parts.specs.ExpressionReading.{postfix_at, prefixed, behind}
 use Rattle.om_parts.specs.Reading.{Outcome, syntax, too_deep}
 use Rattle.om_tree.specs.Tree.{ExpressionTree, Prefix}
 use Rattle.om_tree.specs.Spelling.{prefix_mark}
@@ -59,9 +59,11 @@ module _ (beyond turns : ℕ) (ts : List Token) (os : List (PrefixOperator × Sp
         turns ts os left us → GoesOnBehind beyond turns ts (os ++ (o, s) ∷ []) fewer vs
     unfolding unary_step unary_at within
     run_goes_on left fewer more inside goes =
-        let begun = subst (λ (n : ℕ). GoesOnBehind beyond turns ts os n us) more goes in
-        (omega (arith, begun.0), λ room. begun.1 room ∙ rw (taken, inside)
-            (behind_last os (o, s) (operand_at beyond fewer room vs)))
+        let begun = subst (λ (n : ℕ). GoesOnBehind beyond turns ts os n us) more goes in (
+          omega (arith, begun.0),
+          λ room. begun.1 room ∙ rw (taken, inside)
+              (behind_last os (o, s) (operand_at beyond fewer room vs)),
+        )
 
 -- an operator that is taken leaves fewer tokens
 pub prefix_shorter : (ts : List Token) (o : PrefixOperator) (s : Span) (us : List Token) → take_operator prefix_of

@@ -1,6 +1,6 @@
 -- Reading refuses by no other code than those of syntax and of limits.
-use Rattle.std.proofs.Common.{◌≡◌, ℕ, zero, suc, List, length, Option, Some, None, Ok, Err, sym, ap, Bool, true,
-    false, cond, ◌⊎◌, inl, inr}
+use Rattle.std.proofs.Common.{◌≡◌, ℕ, zero, suc, List, length, Option, Some, None, Ok, Err, sym, ap, Bool, true, false}
+use Rattle.std.proofs.Common.{cond, ◌⊎◌, inl, inr}
 use Rattle.std.specs.Prelude.{nat_le}
 use Rattle.om_lexer.specs.declared.fault.FaultCode.TheVariants as codes
 use Rattle.om_lexer.specs.declared.fault.SourceFault.{SourceFault}

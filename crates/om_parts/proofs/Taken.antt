@@ -9,8 +9,8 @@ use Rattle.om_lexer.specs.declared.token.TokenKind.{TokenKind}
 use Rattle.om_lexer.specs.declared.token.TokenKind.TheVariants as kinds
 use Rattle.om_pragma.specs.declared.name.Name as names
 use Rattle.om_pragma.specs.declared.name.Number.{Number}
-use Rattle.om_parts.specs.Reading.{take, same_mark, mark_of, name_of, number_of, take_mark, take_name, take_number,
-    mark_at, name_at, number_at}
+use Rattle.om_parts.specs.Reading.{take, same_mark, mark_of, name_of, number_of, take_mark, take_name, take_number}
+use Rattle.om_parts.specs.Reading.{mark_at, name_at, number_at}
 use Rattle.om_tree.specs.Spelling.{token, mark, name, number}
 use Rattle.om_parts.proofs.Outcomes.{ok, some, some_is, choose_cases, known_ok, cond_some}
 

@@ -37,7 +37,7 @@ declarator_after initial name ts = choose (take_mark punctuators.OpenBracket ts)
     (λ b. array_after b.0 b.1 >>= λ a. Ok (record { name = name; array = Some a.0; initializer = None }, a.1))
     (choose (take_mark punctuators.Equal ts)
     (λ q. initial q.1 >>= λ e. Ok
-        (record { name = name; array = None; initializer = Some (record { equal = q.0; value = e.0 }) }, e.1))
+    (record { name = name; array = None; initializer = Some (record { equal = q.0; value = e.0 }) }, e.1))
     (Ok (record { name = name; array = None; initializer = None }, ts)))
 
 -- a comma and a declarator

@@ -1,6 +1,6 @@
 -- Reading an expression from the left.
-use Rattle.std.specs.Prelude.{◌≡◌, ℕ, zero, suc, ◌-◌, List, [], ◌∷◌, length, Option, Some, None, Result, Ok, Err, ⊤,
-    Bool, true, false, ◌&&◌, nat_le, nat_eq, bytes_eq, codes, option_map, if◌then◌else◌}
+use Rattle.std.specs.Prelude.{◌≡◌, ℕ, zero, suc, ◌-◌, List, [], ◌∷◌, length, Option, Some, None, Result, Ok, Err, ⊤}
+use Rattle.std.specs.Prelude.{Bool, true, false, ◌&&◌, nat_le, nat_eq, bytes_eq, codes, option_map, if◌then◌else◌}
 use Rattle.om_lexer.specs.declared.fault.SourceFault.{SourceFault}
 use Rattle.om_lexer.specs.declared.token.Punctuator.{Punctuator}
 use Rattle.om_lexer.specs.declared.token.Punctuator.TheVariants as punctuators
@@ -21,11 +21,11 @@ use Rattle.om_tree.specs.declared.tree.PrefixOperator.TheVariants as prefixes
 use Rattle.om_tree.specs.declared.tree.Text as texts
 use Rattle.om_tree.specs.Formed.{binary_level, level}
 use Rattle.om_tree.specs.Limits.{Limits}
-use Rattle.om_parts.specs.Reading.{◌>>=◌, choose, Outcome, Reader, syntax, too_deep, take, take_mark, take_number,
-    mark_at, name_at}
+use Rattle.om_parts.specs.Reading.{◌>>=◌, choose, Outcome, Reader, syntax, too_deep, take, take_mark, take_number}
+use Rattle.om_parts.specs.Reading.{mark_at, name_at}
 use Rattle.om_parts.specs.Repetition.{until}
-use Rattle.om_tree.specs.Tree.{ExpressionTree, Name, Constant, Text, Paren, Index, Call, Prefix, Postfix, Binary,
-    Conditional, Assign, NoArguments, arguments}
+use Rattle.om_tree.specs.Tree.{ExpressionTree, Name, Constant, Text, Paren, Index, Call, Prefix, Postfix, Binary}
+use Rattle.om_tree.specs.Tree.{Conditional, Assign, NoArguments, arguments}
 
 -- goes on, unless the token before these is beyond the expression's limit: at least so many tokens are left
 -- behind those that it may have
@@ -254,8 +254,8 @@ unfoldable mutual
   expression_at beyond zero may_assign room ts = Err (syntax ts)
   expression_at beyond (suc turns) may_assign room ts =
       expression_step beyond may_assign
-          (binary_at beyond (unary_step beyond (unary_at beyond turns room)
-          (deeper (expression_at beyond turns true) room)) LEVELS)
+      (binary_at beyond (unary_step beyond (unary_at beyond turns room)
+      (deeper (expression_at beyond turns true) room)) LEVELS)
       (expression_at beyond turns true room) (expression_at beyond turns false room) ts
 
 -- an operand with the operators round it, with so many turns left

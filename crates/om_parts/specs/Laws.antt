@@ -19,8 +19,8 @@ use Rattle.om_tree.specs.Formed.{IsExpression, IsLine, IsLocalDeclaration, IsGlo
 use Rattle.om_tree.specs.Limits.{Limits, nesting}
 use Rattle.om_tree.specs.Places.{Place, IsPassed, IsOverInExpression, IsOverInDeclaration, in_parentheses}
 use Rattle.om_tree.specs.Sizes.{extent, declaration_nesting, declaration_longest, line_longest, line_nesting}
-use Rattle.om_tree.specs.Spelling.{token, mark, word, name, expression_spelling, declarator_spelling,
-    further_spelling, declaration_spelling}
+use Rattle.om_tree.specs.Spelling.{token, mark, word, name, expression_spelling, declarator_spelling, further_spelling}
+use Rattle.om_tree.specs.Spelling.{declaration_spelling}
 use Rattle.om_tree.specs.Tree.{ExpressionTree, DeclarationTree}
 
 -- ---- what is read is well-formed, within the limits, and spelled as the tokens were

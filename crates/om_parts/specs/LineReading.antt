@@ -1,6 +1,6 @@
 -- Reading a directive line with its expression.
-use Rattle.std.specs.Prelude.{ℕ, ◌-◌, List, [], ◌∷◌, length, Option, Some, None, Ok, Err, Bool, true, false, ◌&&◌,
-    nat_eq, nat_lt, slice_get, option_map, if◌then◌else◌}
+use Rattle.std.specs.Prelude.{ℕ, ◌-◌, List, [], ◌∷◌, length, Option, Some, None, Ok, Err, Bool, true, false, ◌&&◌}
+use Rattle.std.specs.Prelude.{nat_eq, nat_lt, slice_get, option_map, if◌then◌else◌}
 use Rattle.om_lexer.specs.declared.fault.FaultCode.{FaultCode}
 use Rattle.om_lexer.specs.declared.fault.FaultCode.TheVariants as codes
 use Rattle.om_lexer.specs.declared.fault.SourceFault.{SourceFault}
@@ -35,8 +35,11 @@ is_syntax _ = false
 
 -- a fault of some tokens of a run; where it is that they end, it stands at the token behind them
 abbrev pub in_run : (run es : List Token) → SourceFault → SourceFault
-in_run run es f = if is_syntax f.code && nat_eq f.at 4294967295 then record { code = codes.Syntax; at = place_behind
-    (last_start es) run } else f
+in_run run es f = if is_syntax f.code && nat_eq f.at 4294967295 then record {
+  code = codes.Syntax;
+  at = place_behind
+      (last_start es) run;
+} else f
 
 -- the expression, where no tokens are left behind it
 abbrev pub alone : ExpressionTree → List Token → Outcome ExpressionTree

@@ -11,8 +11,9 @@ use Rattle.om_pragma.specs.declared.clause.Clause.TheVariants as clauses
 use Rattle.om_pragma.specs.declared.clause.ClauseItem.{ClauseItem}
 use Rattle.om_pragma.specs.declared.name.Name as names
 use Rattle.om_pragma.specs.declared.tree.Directive.{Directive}
-use Rattle.om_pragma.specs.Spelling.{argument_spelling, clause_spelling, comma_spelling, directive_spelling,
-    further_spelling, item_spelling, list_spelling, name_spelling, names_spelling, opening_spelling}
+use Rattle.om_pragma.specs.Spelling.{argument_spelling, clause_spelling, comma_spelling, directive_spelling}
+use Rattle.om_pragma.specs.Spelling.{further_spelling, item_spelling, list_spelling, name_spelling, names_spelling}
+use Rattle.om_pragma.specs.Spelling.{opening_spelling}
 use Rattle.om_rules.specs.DirectiveRules.{names_in}
 
 module _ (start : ℕ) where

@@ -19,31 +19,34 @@ use Rattle.om_pragma.specs.Questions.{atomic_kind}
 use Rattle.om_resolved.specs.declared.resolved.CopyKind.{CopyKind}
 use Rattle.om_resolved.specs.declared.resolved.CopyKind.TheVariants as copies
 use Rattle.om_resolved.specs.declared.resolved.Side.{Side}
-use Rattle.om_resolved.specs.Beside.{CopiesBehind, Everywhere, EverywhereIn, EverywhereInParts, IsCopyBehind,
-    TreeCopiesBehind}
+use Rattle.om_resolved.specs.Beside.{CopiesBehind, Everywhere, EverywhereIn, EverywhereInParts, IsCopyBehind}
+use Rattle.om_resolved.specs.Beside.{TreeCopiesBehind}
 use Rattle.om_resolved.specs.ResolvedTree as resolved
-use Rattle.om_resolved.specs.ResolvedTree.{ResolvedClauseTree, ResolvedFunctionTree, ResolvedLoopTree,
-    ResolvedPartsTree, ResolvedStatementTree, ResolvedUpdateTree}
+use Rattle.om_resolved.specs.ResolvedTree.{ResolvedClauseTree, ResolvedFunctionTree, ResolvedLoopTree}
+use Rattle.om_resolved.specs.ResolvedTree.{ResolvedPartsTree, ResolvedStatementTree, ResolvedUpdateTree}
 use Rattle.om_rules.specs.DirectiveRules.{in_construct, names_in, parallel_in, traits_of}
 use Rattle.om_rules.specs.Grouping.{Grouped, grouped, parts_of}
 use Rattle.om_rules.specs.Loops.{Loop, loop_in}
 use Rattle.om_rules.specs.Perhaps.{all_along, each}
 use Rattle.om_rules.specs.Resolution.{resolved_expression, variable_named}
-use Rattle.om_rules.specs.Scopes.{Scopes, after_function, after_item, after_parameters, declarators_of,
-    definitions_of, file_scope, inside, parameters_of}
+use Rattle.om_rules.specs.Scopes.{Scopes, after_function, after_item, after_parameters, declarators_of, definitions_of}
+use Rattle.om_rules.specs.Scopes.{file_scope, inside, parameters_of}
 use Rattle.om_rules.specs.Sharing.{is_parallel}
-use Rattle.om_rules.specs.StatementResolution.{atomic_of, construct_of, flushed, has_nowait, kind_of,
-    loop_construct_of, parallel_of, resolved_alone, resolved_clause, resolved_clauses, resolved_declarators,
-    resolved_item, resolved_listed, resolved_loop, resolved_loop_construct, resolved_parts, resolved_perhaps,
-    resolved_plain_construct, resolved_repeated, resolved_start, resolved_statement, resolved_statements,
-    schedule_of, sections_construct_of, with_update}
-use Rattle.om_rules.specs.StatementRules.{after_for_start, after_statement, begins_part, in_loop, parts_behind,
-    round_bounds}
+use Rattle.om_rules.specs.StatementResolution.{atomic_of, construct_of, flushed, has_nowait, kind_of, loop_construct_of}
+use Rattle.om_rules.specs.StatementResolution.{parallel_of, resolved_alone, resolved_clause, resolved_clauses}
+use Rattle.om_rules.specs.StatementResolution.{resolved_declarators, resolved_item, resolved_listed, resolved_loop}
+use Rattle.om_rules.specs.StatementResolution.{resolved_loop_construct, resolved_parts, resolved_perhaps}
+use Rattle.om_rules.specs.StatementResolution.{resolved_plain_construct, resolved_repeated, resolved_start}
+use Rattle.om_rules.specs.StatementResolution.{resolved_statement, resolved_statements, schedule_of}
+use Rattle.om_rules.specs.StatementResolution.{sections_construct_of, with_update}
+use Rattle.om_rules.specs.StatementRules.{after_for_start, after_statement, begins_part, in_loop, parts_behind}
+use Rattle.om_rules.specs.StatementRules.{round_bounds}
 use Rattle.om_rules.specs.UnitResolution.{item_functions, resolution_of, resolved_function}
 use Rattle.om_rules.specs.Updates.{statement_side, update_of}
-use Rattle.om_tree.specs.Tree.{ExpressionTree, FunctionTree, ItemTree, Declaration, Prototype, Function,
-    StatementTree, LocalDeclaration, Block, Empty, Expression, If, IfElse, While, Do, For, Return, Break, Continue,
-    Construct, StandAlone, Sections, Section, StatementsTree, NoStatements, Statement, statements}
+use Rattle.om_tree.specs.Tree.{ExpressionTree, FunctionTree, ItemTree, Declaration, Prototype, Function, StatementTree}
+use Rattle.om_tree.specs.Tree.{LocalDeclaration, Block, Empty, Expression, If, IfElse, While, Do, For, Return, Break}
+use Rattle.om_tree.specs.Tree.{Continue, Construct, StandAlone, Sections, Section, StatementsTree, NoStatements}
+use Rattle.om_tree.specs.Tree.{Statement, statements}
 
 -- in a statement each region's copies stand behind its beginning
 abbrev Good : ResolvedStatementTree → Type 0
@@ -90,7 +93,7 @@ module _ (start : ℕ) where
       → IfSome (resolved_clauses scopes items) AreCopiesBehind
   clauses_behind scopes items h =
       if_all_of (λ item. All (IsNameBehind start) (listed_names item.clause)) (IsCopyBehind start)
-          (resolved_item scopes)
+      (resolved_item scopes)
       (λ item own. clause_behind scopes item.clause own) items h
 
 -- ---- constructs
@@ -129,7 +132,7 @@ construct_good parallel side d (directives.Flush s list) cs body hc h = h
 
 loop_good : (d : Directive ExpressionTree) (cs : List ResolvedClauseTree) (l : ResolvedLoopTree)
     (body : ResolvedStatementTree) → All (IsCopyBehind d.hash.start) cs → Good body
-        → Good (loop_construct_of d cs l body)
+    → Good (loop_construct_of d cs l body)
 loop_good d cs l body hc h =
     either Good (is_parallel (traits_of d.name).region) (parallel_of d cs (resolved.Loop d.hash [] true l body))
     (resolved.Loop d.hash cs (has_nowait d) l body) (hc, (tt, h)) (tt, h)

@@ -11,11 +11,12 @@ use Rattle.om_places.specs.Behind.{HasNamesBehind, ItemNamesBehind, NamesBehind,
 use Rattle.om_places.specs.Laws.{NamesStandBehind}
 use Rattle.om_pragma.specs.declared.tree.Directive.{Directive}
 use Rattle.om_pragma.specs.Spelling.{directive_spelling}
-use Rattle.om_tree.specs.Spelling.{block_spelling, condition_spelling, expression_spelling, for_head_spelling,
-    head_spelling, item_spelling, statement_spelling, statements_spelling, unit_spelling}
-use Rattle.om_tree.specs.Tree.{ExpressionTree, ItemTree, Declaration, Prototype, Function, StatementTree,
-    LocalDeclaration, Block, Empty, Expression, If, IfElse, While, Do, For, Return, Break, Continue, Construct,
-    StandAlone, Sections, Section, StatementsTree, NoStatements, Statement, statements}
+use Rattle.om_tree.specs.Spelling.{block_spelling, condition_spelling, expression_spelling, for_head_spelling}
+use Rattle.om_tree.specs.Spelling.{head_spelling, item_spelling, statement_spelling, statements_spelling, unit_spelling}
+use Rattle.om_tree.specs.Tree.{ExpressionTree, ItemTree, Declaration, Prototype, Function, StatementTree}
+use Rattle.om_tree.specs.Tree.{LocalDeclaration, Block, Empty, Expression, If, IfElse, While, Do, For, Return, Break}
+use Rattle.om_tree.specs.Tree.{Continue, Construct, StandAlone, Sections, Section, StatementsTree, NoStatements}
+use Rattle.om_tree.specs.Tree.{Statement, statements}
 
 -- the tokens of a line
 abbrev line : Directive ExpressionTree → List Token

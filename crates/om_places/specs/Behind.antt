@@ -5,9 +5,10 @@ use Rattle.om_pragma.specs.declared.clause.Clause.TheVariants as clauses
 use Rattle.om_pragma.specs.declared.name.Name as names
 use Rattle.om_pragma.specs.declared.tree.Directive.{Directive}
 use Rattle.om_rules.specs.DirectiveRules.{names_in}
-use Rattle.om_tree.specs.Tree.{StatementTree, LocalDeclaration, Block, Empty, Expression, If, IfElse, While, Do,
-    For, Return, Break, Continue, Construct, StandAlone, Sections, Section, StatementsTree, NoStatements, Statement,
-    statements, ItemTree, Declaration, Prototype, Function, UnitTree}
+use Rattle.om_tree.specs.Tree.{StatementTree, LocalDeclaration, Block, Empty, Expression, If, IfElse, While, Do, For}
+use Rattle.om_tree.specs.Tree.{Return, Break, Continue, Construct, StandAlone, Sections, Section, StatementsTree}
+use Rattle.om_tree.specs.Tree.{NoStatements, Statement, statements, ItemTree, Declaration, Prototype, Function}
+use Rattle.om_tree.specs.Tree.{UnitTree}
 
 -- the names that a clause lists
 abbrev pub listed_names : {E : Type 0} → Clause E → List names.Name

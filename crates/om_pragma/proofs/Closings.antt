@@ -1,6 +1,6 @@
 -- Looking for the parenthesis that closes, as a loop does.
-use Rattle.std.proofs.Common.{◌≡◌, ℕ, ◌+◌, ◌<◌, ◌≤◌, List, [], ◌∷◌, ◌++◌, length, take, None, Result, Ok, Err, Bool,
-    true, false, cond, refl, sym, ap, ◌∙◌, arith, append_assoc, length-append}
+use Rattle.std.proofs.Common.{◌≡◌, ℕ, ◌+◌, ◌<◌, ◌≤◌, List, [], ◌∷◌, ◌++◌, length, take, None, Result, Ok, Err, Bool}
+use Rattle.std.proofs.Common.{true, false, cond, refl, sym, ap, ◌∙◌, arith, append_assoc, length-append}
 use Rattle.std.specs.Prelude.{◌-◌, ◌==◌}
 use Rattle.std.proofs.lemmas.List.{append-nil}
 use Rattle.om_lexer.specs.declared.token.Punctuator.TheVariants as punctuators
@@ -50,8 +50,14 @@ pub record IsInside (tokens rest : List Token) (inside depth : ℕ) : Type 0 whe
   pub whole : with_front front (closing depth rest) ≡ closing 0 tokens
 
 pub inside_begins : (tokens : List Token) → IsInside tokens tokens 0 0
-inside_begins tokens = record { front = []; parts = refl; counted = refl; few = omega arith; whole = nothing_before
-    (closing 0 tokens) }
+inside_begins tokens = record {
+  front = [];
+  parts = refl;
+  counted = refl;
+  few = omega arith;
+  whole = nothing_before
+      (closing 0 tokens);
+}
 
 first_is : (ts : List Token) (t : Token) (us : List Token) → take_first ts ≡ some (t, us) → ts ≡ t ∷ us
 first_is [] t us e = absurd cc
@@ -64,7 +70,7 @@ module _ (tokens rest : List Token) (inside depth : ℕ) (h : IsInside tokens re
   inside_ends t us is none =
       let r = first_is rest t us is in
       let w : with_front h.front (closing depth rest) ≡ ok (h.front, t.span, us) = rw (r, none)
-          (ap (λ (xs : List Token). ok (xs, t.span, us)) (append-nil h.front)) in
+      (ap (λ (xs : List Token). ok (xs, t.span, us)) (append-nil h.front)) in
       let front : take inside tokens ≡ h.front = rw (h.counted, h.parts) (take_front h.front rest) in
       sym h.whole ∙ w ∙ ap (λ (xs : List Token). ok (xs, t.span, us)) (sym front)
 
@@ -91,8 +97,13 @@ module _ (tokens rest : List Token) (inside depth : ℕ) (h : IsInside tokens re
       go (t ∷ ts) is none = absurd cc
 
   pub inside_less : (t : Token) (us : List Token) → take_first rest ≡ some (t, us) → inside < length tokens
-  inside_less t us is = omega (arith, h.counted, ap length h.parts, length-append h.front rest,
-      ap length (first_is rest t us is))
+  inside_less t us is = omega (
+    arith,
+    h.counted,
+    ap length h.parts,
+    length-append h.front rest,
+    ap length (first_is rest t us is),
+  )
 
   pub depth_less : (t : Token) (us : List Token) → take_first rest ≡ some (t, us) → depth < length tokens
   depth_less t us is = let lt = inside_less t us is in omega (arith, lt, h.few)

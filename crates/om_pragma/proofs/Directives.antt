@@ -1,6 +1,6 @@
 -- A directive that is read is spelled so, and one that is spelled is read again.
-use Rattle.std.proofs.Common.{◌≡◌, ℕ, suc, List, [], ◌∷◌, ◌++◌, length, Option, Some, None, Bool, true, false, Ok,
-    refl, sym, ap, subst, ◌∙◌, ◌<◌, arith, length-append, inl, inr}
+use Rattle.std.proofs.Common.{◌≡◌, ℕ, suc, List, [], ◌∷◌, ◌++◌, length, Option, Some, None, Bool, true, false, Ok, refl}
+use Rattle.std.proofs.Common.{sym, ap, subst, ◌∙◌, ◌<◌, arith, length-append, inl, inr}
 use Rattle.std.specs.List.{flat_map}
 use Rattle.std.specs.Prelude.{not, ◌&&◌}
 use Rattle.om_lexer.specs.declared.token.Punctuator.TheVariants as punctuators
@@ -16,11 +16,11 @@ use Rattle.om_pragma.specs.declared.tree.DirectiveName.{DirectiveName}
 use Rattle.om_pragma.specs.declared.tree.DirectiveName.TheVariants as directives
 use Rattle.om_pragma.specs.declared.kind.DirectiveKind.TheVariants as words
 use Rattle.om_pragma.specs.Expressions.{IsClosed}
-use Rattle.om_pragma.specs.Reading.{◌>>=◌, Outcome, stopped, syntax_at, opening_at, directive_name_at, take_end,
-    is_end, until, item_at, clauses_at, directive_at}
+use Rattle.om_pragma.specs.Reading.{◌>>=◌, Outcome, stopped, syntax_at, opening_at, directive_name_at, take_end, is_end}
+use Rattle.om_pragma.specs.Reading.{until, item_at, clauses_at, directive_at}
 use Rattle.om_pragma.specs.Refusals.{GoesOnWith, IsWhole, IsWrittenItem}
-use Rattle.om_pragma.specs.Spelling.{token, opening_spelling, name_spelling, comma_spelling, clause_spelling,
-    argument_spelling, item_spelling, directive_spelling, kind_of, span_of}
+use Rattle.om_pragma.specs.Spelling.{token, opening_spelling, name_spelling, comma_spelling, clause_spelling}
+use Rattle.om_pragma.specs.Spelling.{argument_spelling, item_spelling, directive_spelling, kind_of, span_of}
 use Rattle.om_pragma.specs.Table.{EachBehind, IsBetween, IsItem, IsDirective, IsDirectiveOf}
 use Rattle.om_pragma.specs.Words.{same_kind, same_mark, same_keyword, directive_word, clause_word}
 use Rattle.om_pragma.proofs.Items.{item_is, item_again, item_no_end, some_item}
@@ -41,7 +41,7 @@ take_end_is [] x e = absurd (none_some x e)
 take_end_is (t ∷ []) x e =
     let c = cond_some (is_end t.kind) (t.span, []) x e in
     subst (λ (y : Span × List Token). (t ∷ [] ≡ token kinds.DirectiveEnd y.0 ∷ []) × (y.1 ≡ [])) c.1
-        (ap (λ k. token k t.span ∷ []) (end_is t.kind c.0), refl)
+    (ap (λ k. token k t.span ∷ []) (end_is t.kind c.0), refl)
 take_end_is (t ∷ (u ∷ us)) x e = absurd (none_some x e)
 
 abbrev pub Items : Type 0
@@ -62,8 +62,13 @@ clauses_end name ts r h = until_ends syntax_at take_end (item_at name) (item_spe
 
 pub item_shorter : (name : DirectiveName) (before : Items) (ts : List Token) (i : ClauseItem (List Token))
     (us : List Token) → item_at name before ts ≡ ok (i, us) → length us < length ts
-item_shorter name before ts i us e = omega (arith, ap length (item_is name before ts (i, us) e).0, length-append
-    (item_spelling (λ e. e) i) us, some_item i)
+item_shorter name before ts i us e = omega (
+  arith,
+  ap length (item_is name before ts (i, us) e).0,
+  length-append
+      (item_spelling (λ e. e) i) us,
+  some_item i,
+)
 
 -- what stands behind some clauses is reached
 pub clauses_pass : (name : DirectiveName) (items : Items) (us : List Token)
@@ -85,12 +90,12 @@ clauses_are n ts c h =
     elim e.last [
       | inl l ↦
           let parts : ts ≡ spelling e.xs ++ token kinds.DirectiveEnd l.0.0 ∷ [] = e.parts
-              ∙ ap (λ (w : List Token). spelling e.xs ++ w) (take_end_is e.us l.0 l.1).0 in
+          ∙ ap (λ (w : List Token). spelling e.xs ++ w) (take_end_is e.us l.0 l.1).0 in
           let whole : (ts ≡ spelling e.all ++ token kinds.DirectiveEnd l.0.0 ∷ []) × EachBehind (IsItem IsClosed n)
-              [] e.all = subst (λ (y : Items). (ts ≡ spelling y ++ token kinds.DirectiveEnd l.0.0 ∷ [])
-              × EachBehind (IsItem IsClosed n) [] y) (sym e.is_all) (parts, e.each) in
+          [] e.all = subst (λ (y : Items). (ts ≡ spelling y ++ token kinds.DirectiveEnd l.0.0 ∷ [])
+          × EachBehind (IsItem IsClosed n) [] y) (sym e.is_all) (parts, e.each) in
           subst (λ (y : Items × Span × List Token). (ts ≡ spelling y.0 ++ token kinds.DirectiveEnd y.1 ∷ [])
-              × EachBehind (IsItem IsClosed n) [] y.0) (sym (ok_is c (e.all, l.0.0, l.0.1) l.2)) whole
+          × EachBehind (IsItem IsClosed n) [] y.0) (sym (ok_is c (e.all, l.0.0, l.0.1) l.2)) whole
       | inr l ↦ absurd (ok_err c l.0 l.3)
     ]
 
@@ -102,10 +107,16 @@ directive_is ts d h =
     let c = bind_ok (clauses_at n.0.0 n.0.1) _ d n.2 in
     let e = clauses_are n.0.0 n.0.1 c.0 c.1 in
     let whole = opening_is ts o.0 (stopped_ok (opening_at ts) o.0 o.1)
-        ∙ ap (λ (w : List Token). opening_spelling o.0.0.0 o.0.0.1 o.0.0.2 ++ w)
-        ((directive_name_is o.0.1 n.0 n.1).parts ∙ ap (λ (w : List Token). name_spelling n.0.0 ++ w) e.0) in
-    let read : Directive (List Token) = record { hash = o.0.0.0; pragma = o.0.0.1; omp = o.0.0.2; name = n.0.0;
-        clauses = c.0.0; end = c.0.1 } in
+    ∙ ap (λ (w : List Token). opening_spelling o.0.0.0 o.0.0.1 o.0.0.2 ++ w)
+    ((directive_name_is o.0.1 n.0 n.1).parts ∙ ap (λ (w : List Token). name_spelling n.0.0 ++ w) e.0) in
+    let read : Directive (List Token) = record {
+      hash = o.0.0.0;
+      pragma = o.0.0.1;
+      omp = o.0.0.2;
+      name = n.0.0;
+      clauses = c.0.0;
+      end = c.0.1;
+    } in
     subst (IsDirectiveOf ts) (ok_is read d c.2) (record { formed = e.1; spelled = sym whole })
 
 -- ---- again
@@ -168,8 +179,11 @@ pub each_written : (n : DirectiveName) (before items : Items) → EachBehind (Is
     → EachBehind IsWrittenItem before items
 unfolding EachBehind
 each_written n before [] each = tt
-each_written n before (i ∷ items) each = (record { between = each.0.between; formed = each.0.formed }, each_written
-    n (before ++ i ∷ []) items each.1)
+each_written n before (i ∷ items) each = (
+  record { between = each.0.between; formed = each.0.formed },
+  each_written
+      n (before ++ i ∷ []) items each.1,
+)
 
 -- the end, or clauses before it, go on with no directive's words
 pub whole_written : (n : DirectiveName) (items : Items) (end : Span) → EachBehind IsWrittenItem [] items
@@ -196,8 +210,11 @@ pub directive_parts : (hash pragma omp : Span) (n : DirectiveName) (behind : Lis
     → directive_at (opening_spelling hash pragma omp ++ (name_spelling n ++ behind))
     ≡ (r >>= λ c. Ok (record { hash = hash; pragma = pragma; omp = omp; name = n; clauses = c.0; end = c.1 }))
 unfolding directive_at
-directive_parts hash pragma omp n behind r whole e = rw (opening_again hash pragma omp (name_spelling n ++ behind),
-    directive_name_again n behind whole, e) refl
+directive_parts hash pragma omp n behind r whole e = rw (
+  opening_again hash pragma omp (name_spelling n ++ behind),
+  directive_name_again n behind whole,
+  e,
+) refl
 
 pub ends_at : (n : DirectiveName) (items : Items) (s : Span) (k : ℕ) → until syntax_at take_end (item_at n) (suc k)
     items (token kinds.DirectiveEnd s ∷ []) ≡ ok (items, s, [])
@@ -210,9 +227,9 @@ unfolding directive_spelling IsDirective
 directive_again d formed =
     let behind : List Token = spelling d.clauses ++ token kinds.DirectiveEnd d.end ∷ [] in
     let read = clauses_pass d.name d.clauses (token kinds.DirectiveEnd d.end ∷ []) (ok (d.clauses, d.end, []))
-        formed (ends_at d.name d.clauses d.end) in
+    formed (ends_at d.name d.clauses d.end) in
     directive_parts d.hash d.pragma d.omp d.name behind (ok (d.clauses, d.end, []))
-        (whole_name d.name d.clauses d.end formed) read
+    (whole_name d.name d.clauses d.end formed) read
 
 pub read_again : (ts : List Token) (d : Directive (List Token)) → IsDirectiveOf ts d → directive_at ts ≡ ok d
 read_again ts d h = subst (λ us. directive_at us ≡ ok d) h.spelled (directive_again d h.formed)

@@ -1,12 +1,12 @@
 -- Putting an expression in place of a directive's own, and finding it, as loops do.
-use Rattle.std.proofs.Common.{◌≡◌, ◌+◌, ◌≤◌, ◌<◌, ℕ, List, [], ◌∷◌, ◌++◌, length, map, Option, Some, None, refl,
-    sym, ap, subst, ◌∙◌, arith, append_assoc, length-append}
+use Rattle.std.proofs.Common.{◌≡◌, ◌+◌, ◌≤◌, ◌<◌, ℕ, List, [], ◌∷◌, ◌++◌, length, map, Option, Some, None, refl, sym}
+use Rattle.std.proofs.Common.{ap, subst, ◌∙◌, arith, append_assoc, length-append}
 use Rattle.std.proofs.lemmas.List.{append-nil}
 use Rattle.std.specs.Prelude.{option_to_list}
 use Rattle.std.specs.List.{flat_map}
 use Rattle.om_pragma.specs.declared.clause.ClauseItem.{ClauseItem}
-use Rattle.om_pragma.specs.Expressions.{clause_expression, clause_expressions, first_expression, or_else, take_item,
-    map_item, IsValue}
+use Rattle.om_pragma.specs.Expressions.{clause_expression, clause_expressions, first_expression, or_else, take_item}
+use Rattle.om_pragma.specs.Expressions.{map_item, IsValue}
 use Rattle.om_pragma.proofs.Outcomes.{some, some_is}
 
 abbrev pub in_items : {E : Type 0} → List (ClauseItem E) → List E
@@ -32,7 +32,7 @@ module _ {E F : Type 0} (value left : Option F) (made : List (ClauseItem F)) (re
       → length (clause_expressions i.clause) ≤ length (option_to_list left)
   few_first i more is =
       let few : length (clause_expressions i.clause ++ in_items more) ≤ length (option_to_list left) = subst
-          (λ (r : List (ClauseItem E)). length (in_items r) ≤ length (option_to_list left)) is h.few in
+      (λ (r : List (ClauseItem E)). length (in_items r) ≤ length (option_to_list left)) is h.few in
       omega (arith, few, length-append (clause_expressions i.clause) (in_items more))
 
   pub filling_goes_on : (i : ClauseItem E) (more : List (ClauseItem E)) (next : ClauseItem F) (remains : Option F)
@@ -43,7 +43,7 @@ module _ {E F : Type 0} (value left : Option F) (made : List (ClauseItem F)) (re
   filling_goes_on i more next remains is makes keeps few = record {
     few =
         let before : length (clause_expressions i.clause ++ in_items more) ≤ length (option_to_list left) = subst
-            (λ (r : List (ClauseItem E)). length (in_items r) ≤ length (option_to_list left)) is h.few in
+        (λ (r : List (ClauseItem E)). length (in_items r) ≤ length (option_to_list left)) is h.few in
         counted (clause_expression i.clause) (length-append (clause_expressions i.clause) (in_items more)) before few;
     still = λ f v. keeps f (h.still f v);
     whole = λ f v. append_assoc made (next ∷ []) (map (map_item f) more) ∙ rw (makes f (h.still f v))

@@ -1,6 +1,6 @@
 -- Clauses in their row: what is read is spelled so, and what is spelled is read again.
-use Rattle.std.proofs.Common.{◌≡◌, ℕ, ◌<◌, List, [], ◌∷◌, ◌++◌, length, Option, Some, None, Bool, true, false, cond,
-    Result, Ok, Err, refl, ap, subst, ◌∙◌, arith, append_assoc, length-append, inl, inr}
+use Rattle.std.proofs.Common.{◌≡◌, ℕ, ◌<◌, List, [], ◌∷◌, ◌++◌, length, Option, Some, None, Bool, true, false, cond}
+use Rattle.std.proofs.Common.{Result, Ok, Err, refl, ap, subst, ◌∙◌, arith, append_assoc, length-append, inl, inr}
 use Rattle.om_lexer.specs.declared.fault.FaultCode.TheVariants as fault_codes
 use Rattle.om_lexer.specs.declared.token.Punctuator.{Punctuator}
 use Rattle.om_lexer.specs.declared.token.Punctuator.TheVariants as punctuators
@@ -14,10 +14,10 @@ use Rattle.om_pragma.specs.declared.clause.ClauseKind.{ClauseKind}
 use Rattle.om_pragma.specs.declared.clause.ClauseKind.TheVariants as clause_kinds
 use Rattle.om_pragma.specs.declared.tree.DirectiveName.{DirectiveName}
 use Rattle.om_pragma.specs.Expressions.{IsClosed}
-use Rattle.om_pragma.specs.Reading.{choose, fault, all_clauses, take_kind, take_word, take_end, is_end, in_clause,
-    clause_after, clause_at, comma_at, item_at}
-use Rattle.om_pragma.specs.Spelling.{token, argument_spelling, clause_spelling, comma_spelling, item_spelling,
-    kind_of, span_of}
+use Rattle.om_pragma.specs.Reading.{choose, fault, all_clauses, take_kind, take_word, take_end, is_end, in_clause}
+use Rattle.om_pragma.specs.Reading.{clause_after, clause_at, comma_at, item_at}
+use Rattle.om_pragma.specs.Spelling.{token, argument_spelling, clause_spelling, comma_spelling, item_spelling, kind_of}
+use Rattle.om_pragma.specs.Spelling.{span_of}
 use Rattle.om_pragma.specs.Table.{may_stand, kinds_of, IsBetween, IsClause, IsItem}
 use Rattle.om_pragma.specs.Words.{same_kind, same_keyword, is_word, clause_word, among}
 use Rattle.om_pragma.proofs.Arguments.{clause_after_is, clause_again}
@@ -143,13 +143,17 @@ item_is name before ts x h =
     let c = bind_ok (clause_at name (kinds_of before) (comma_at before ts).1) _ x h in
     let comma = comma_is before ts in
     let r = clause_at_is name (kinds_of before) (comma_at before ts).1 c.0 c.1 in
-    let read : ClauseItem (List Token) × List Token = (record { comma = (comma_at before ts).0; clause = c.0.0 },
-        c.0.1) in
+    let read : ClauseItem (List Token) × List Token = (
+      record { comma = (comma_at before ts).0; clause = c.0.0 },
+      c.0.1,
+    ) in
     subst (λ (y : ClauseItem (List Token) × List Token).
-        (ts ≡ (comma_spelling y.0.comma ++ clause_spelling (λ e. e) y.0.clause) ++ y.1) × IsItem IsClosed name
-        before y.0) (ok_is read x c.2)
-    (after_front ts (comma_spelling (comma_at before ts).0) (comma_at before ts).1 (clause_spelling (λ e. e) c.0.0)
-        c.0.1 comma.0 r.parts, record { between = comma.1; can_stand = r.can_stand; formed = r.formed })
+    (ts ≡ (comma_spelling y.0.comma ++ clause_spelling (λ e. e) y.0.clause) ++ y.1) × IsItem IsClosed name
+    before y.0) (ok_is read x c.2) (
+      after_front ts (comma_spelling (comma_at before ts).0) (comma_at before ts).1 (clause_spelling (λ e. e) c.0.0)
+          c.0.1 comma.0 r.parts,
+      record { between = comma.1; can_stand = r.can_stand; formed = r.formed },
+    )
 
 -- ---- again
 
@@ -165,8 +169,12 @@ clause_at_again : (name : DirectiveName) (before : List ClauseKind) (c : Clause 
     → may_stand name before (kind_of c) ≡ true → IsClause IsClosed c → clause_at name before
     (clause_spelling (λ e. e) c ++ us) ≡ ok (c, us)
 unfolding clause_at clause_spelling
-clause_at_again name before c us can formed = rw (word_again clause_word all_clauses (kind_of c)
-    (clause_known (kind_of c)) (span_of c) (argument_spelling (λ e. e) c ++ us), can, clause_again c us formed) refl
+clause_at_again name before c us can formed = rw (
+  word_again clause_word all_clauses (kind_of c)
+      (clause_known (kind_of c)) (span_of c) (argument_spelling (λ e. e) c ++ us),
+  can,
+  clause_again c us formed,
+) refl
 
 pub item_again : (name : DirectiveName) (before : List (ClauseItem (List Token))) (i : ClauseItem (List Token))
     (us : List Token) → IsItem IsClosed name before i → item_at name before (item_spelling (λ e. e) i ++ us)
@@ -174,8 +182,12 @@ pub item_again : (name : DirectiveName) (before : List (ClauseItem (List Token))
 unfolding item_at item_spelling clause_spelling
 item_again name before i us h =
     let behind : List Token = clause_spelling (λ e. e) i.clause ++ us in
-    rw (append_assoc, comma_before behind refl, clause_at_again name (kinds_of before) i.clause us h.can_stand
-        h.formed) refl
+    rw (
+      append_assoc,
+      comma_before behind refl,
+      clause_at_again name (kinds_of before) i.clause us h.can_stand
+          h.formed,
+    ) refl
   where
     comma_before : (behind : List Token) → behind ≡ clause_spelling (λ e. e) i.clause ++ us → comma_at before
         (comma_spelling i.comma ++ behind) ≡ (i.comma, behind)
@@ -196,5 +208,8 @@ item_no_end name before i us h = go i.comma
 
 pub some_item : (i : ClauseItem (List Token)) → 0 < length (item_spelling (λ e. e) i)
 unfolding item_spelling clause_spelling
-some_item i = omega (arith, length-append (comma_spelling i.comma) (token (clause_word (kind_of i.clause))
-    (span_of i.clause) ∷ argument_spelling (λ e. e) i.clause))
+some_item i = omega (
+  arith,
+  length-append (comma_spelling i.comma) (token (clause_word (kind_of i.clause))
+      (span_of i.clause) ∷ argument_spelling (λ e. e) i.clause),
+)

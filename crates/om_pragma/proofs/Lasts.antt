@@ -11,9 +11,9 @@ use Rattle.om_pragma.specs.declared.name.Name as names
 use Rattle.om_pragma.specs.declared.tree.DirectiveName.{DirectiveName}
 use Rattle.om_pragma.specs.declared.tree.DirectiveName.TheVariants as directives
 use Rattle.om_pragma.specs.Reading.{is_end}
-use Rattle.om_pragma.specs.Spelling.{token, mark, name, further_spelling, names_spelling, list_spelling,
-    chunk_spelling, argument_spelling, clause_spelling, comma_spelling, item_spelling, critical_spelling,
-    flush_spelling, name_spelling, kind_of, span_of}
+use Rattle.om_pragma.specs.Spelling.{token, mark, name, further_spelling, names_spelling, list_spelling, chunk_spelling}
+use Rattle.om_pragma.specs.Spelling.{argument_spelling, clause_spelling, comma_spelling, item_spelling}
+use Rattle.om_pragma.specs.Spelling.{critical_spelling, flush_spelling, name_spelling, kind_of, span_of}
 use Rattle.om_pragma.specs.Words.{clause_word, operator_word, schedule_word}
 use Rattle.om_pragma.proofs.Items.{clause_is_word, word_no_end}
 

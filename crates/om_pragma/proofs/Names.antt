@@ -1,6 +1,6 @@
 -- The words of a directive: what is read is spelled so, and what is spelled is read again.
-use Rattle.std.proofs.Common.{◌≡◌, ℕ, List, [], ◌∷◌, ◌++◌, Option, Some, None, Bool, true, false, cond, Result, Ok,
-    Err, refl, sym, ap, subst, ◌∙◌, inl, inr}
+use Rattle.std.proofs.Common.{◌≡◌, ℕ, List, [], ◌∷◌, ◌++◌, Option, Some, None, Bool, true, false, cond, Result, Ok, Err}
+use Rattle.std.proofs.Common.{refl, sym, ap, subst, ◌∙◌, inl, inr}
 use Rattle.std.specs.Prelude.{codes}
 use Rattle.om_lexer.specs.declared.fault.SourceFault.{SourceFault}
 use Rattle.om_lexer.specs.declared.token.Punctuator.TheVariants as punctuators
@@ -13,16 +13,17 @@ use Rattle.om_pragma.specs.declared.tree.DirectiveName.{DirectiveName}
 use Rattle.om_pragma.specs.declared.tree.DirectiveName.TheVariants as directives
 use Rattle.om_pragma.specs.declared.kind.DirectiveKind.{DirectiveKind}
 use Rattle.om_pragma.specs.declared.kind.DirectiveKind.TheVariants as words
-use Rattle.om_pragma.specs.Reading.{Outcome, stopped, known, take_kind, take_word, mark_at, name_at, list_after,
-    critical_after, critical_at, flush_at, parallel_at, name_after, directive_name_at, opening_at}
+use Rattle.om_pragma.specs.Reading.{Outcome, stopped, known, take_kind, take_word, mark_at, name_at, list_after}
+use Rattle.om_pragma.specs.Reading.{critical_after, critical_at, flush_at, parallel_at, name_after, directive_name_at}
+use Rattle.om_pragma.specs.Reading.{opening_at}
 use Rattle.om_pragma.specs.Refusals.{IsWhole}
-use Rattle.om_pragma.specs.Spelling.{token, mark, name, list_spelling, names_spelling, critical_spelling,
-    flush_spelling, name_spelling, opening_spelling}
+use Rattle.om_pragma.specs.Spelling.{token, mark, name, list_spelling, names_spelling, critical_spelling}
+use Rattle.om_pragma.specs.Spelling.{flush_spelling, name_spelling, opening_spelling}
 use Rattle.om_pragma.specs.Words.{same_kind, same_mark, same_keyword, directive_word, among, directive_words}
 use Rattle.om_pragma.proofs.Arguments.{list_after_is, list_after_again}
 use Rattle.om_pragma.proofs.Outcomes.{ok, ok_is, some, bind_ok, choose_cases, known_ok}
-use Rattle.om_pragma.proofs.Taken.{same_kind_is, take_kind_is, take_word_is, mark_at_is, name_at_is,
-    take_mark_again, mark_again, name_again, word_known}
+use Rattle.om_pragma.proofs.Taken.{same_kind_is, take_kind_is, take_word_is, mark_at_is, name_at_is, take_mark_again}
+use Rattle.om_pragma.proofs.Taken.{mark_again, name_again, word_known}
 
 -- the directive that its first word is alone
 abbrev pub alone : DirectiveKind → DirectiveKind
@@ -117,7 +118,7 @@ critical_is s ts x h = elim (choose_cases (take_kind (kinds.Punctuator punctuato
             ∙ ap (λ (w : List Token). mark punctuators.OpenParen o.0.0 ∷ w) (name_at_is o.0.1 n.0 n.1
             ∙ ap (λ (w : List Token). name n.0.0 ∷ w) (mark_at_is punctuators.CloseParen n.0.1 c.0 c.1))
             ∙ ap (λ (p : (Span × names.Name × Span) × List Token). mark punctuators.OpenParen p.0.0 ∷ name p.0.1
-                ∷ mark punctuators.CloseParen p.0.2 ∷ p.1) inner);
+            ∷ mark punctuators.CloseParen p.0.2 ∷ p.1) inner);
         whole = λ t more e g. g;
       })
   | inr o ↦ subst (IsNameRead (token (directive_word words.Critical) s ∷ ts))
@@ -133,7 +134,7 @@ flush_is s ts x h = elim (choose_cases (take_kind (kinds.Punctuator punctuators.
       let r = bind_ok (stopped (list_after o.0.0 o.0.1)) _ x o.2 in
       let l = list_after_is o.0.0 o.0.1 r.0 (stopped_ok (list_after o.0.0 o.0.1) r.0 r.1) in
       subst (IsNameRead (token (directive_word words.Flush) s ∷ ts)) (ok_is (directives.Flush s (some r.0.0), r.0.1)
-          x r.2) (record {
+      x r.2) (record {
         parts = ap (λ (w : List Token). token (directive_word words.Flush) s ∷ w)
             (take_kind_is (kinds.Punctuator punctuators.OpenParen) ts o.0.0 o.0.1 o.1 ∙ l);
         whole = λ t more e g. g;
@@ -147,12 +148,18 @@ parallel_is : (s : Span) (ts : List Token) (x : DirectiveName × List Token) →
 unfolding parallel_at name_spelling
 parallel_is s ts x h = elim (choose_cases (take_kind (directive_word words.For) ts) _ _ x h) [
   | inl f ↦ subst (IsNameRead (token (directive_word words.Parallel) s ∷ ts)) f.2
-      (record { parts = ap (λ (w : List Token). token (directive_word words.Parallel) s ∷ w)
-      (take_kind_is (directive_word words.For) ts f.0.0 f.0.1 f.1); whole = λ t more e g. g })
+      (record {
+        parts = ap (λ (w : List Token). token (directive_word words.Parallel) s ∷ w)
+            (take_kind_is (directive_word words.For) ts f.0.0 f.0.1 f.1);
+        whole = λ t more e g. g;
+      })
   | inr f ↦ elim (choose_cases (take_kind (directive_word words.Sections) ts) _ _ x f.1) [
     | inl g ↦ subst (IsNameRead (token (directive_word words.Parallel) s ∷ ts)) g.2
-        (record { parts = ap (λ (w : List Token). token (directive_word words.Parallel) s ∷ w)
-        (take_kind_is (directive_word words.Sections) ts g.0.0 g.0.1 g.1); whole = λ t more e g. g })
+        (record {
+          parts = ap (λ (w : List Token). token (directive_word words.Parallel) s ∷ w)
+              (take_kind_is (directive_word words.Sections) ts g.0.0 g.0.1 g.1);
+          whole = λ t more e g. g;
+        })
     | inr g ↦ subst (IsNameRead (token (directive_word words.Parallel) s ∷ ts)) g.1 (record {
       parts = refl;
       whole = λ t more e. elim [
@@ -210,12 +217,12 @@ opening_is ts x h =
     let o = bind_ok (known p.0.1 (take_kind (kinds.Name (codes "omp")) p.0.1)) _ x p.2 in
     take_kind_is kinds.DirectiveBegin ts b.0.0 b.0.1 (known_ok ts (take_kind kinds.DirectiveBegin ts) b.0 b.1)
     ∙ ap (λ (w : List Token). token kinds.DirectiveBegin b.0.0 ∷ w) (take_kind_is (kinds.Name (codes "pragma"))
-        b.0.1 p.0.0 p.0.1 (known_ok b.0.1 (take_kind (kinds.Name (codes "pragma")) b.0.1) p.0 p.1)
+    b.0.1 p.0.0 p.0.1 (known_ok b.0.1 (take_kind (kinds.Name (codes "pragma")) b.0.1) p.0 p.1)
     ∙ ap (λ (w : List Token). token (kinds.Name (codes "pragma")) p.0.0 ∷ w)
-        (take_kind_is (kinds.Name (codes "omp")) p.0.1 o.0.0 o.0.1
-        (known_ok p.0.1 (take_kind (kinds.Name (codes "omp")) p.0.1) o.0 o.1)))
+    (take_kind_is (kinds.Name (codes "omp")) p.0.1 o.0.0 o.0.1
+    (known_ok p.0.1 (take_kind (kinds.Name (codes "omp")) p.0.1) o.0 o.1)))
     ∙ ap (λ (y : (Span × Span × Span) × List Token). opening_spelling y.0.0 y.0.1 y.0.2 ++ y.1)
-        (ok_is ((b.0.0, p.0.0, o.0.0), o.0.1) x o.2)
+    (ok_is ((b.0.0, p.0.0, o.0.0), o.0.1) x o.2)
 
 -- ---- again
 
@@ -233,8 +240,10 @@ name_after_again w s us y e = rw (word_known directive_word directive_words (dir
 parallel_again : (s : Span) (us : List Token) → IsWhole (directives.Parallel s) us → parallel_at s us
     ≡ (directives.Parallel s, us)
 unfolding parallel_at
-parallel_again s us whole = rw (none_taken (directive_word words.For) us (λ t more e k. whole t more e (inl k)),
-    none_taken (directive_word words.Sections) us (λ t more e k. whole t more e (inr k))) refl
+parallel_again s us whole = rw (
+  none_taken (directive_word words.For) us (λ t more e k. whole t more e (inl k)),
+  none_taken (directive_word words.Sections) us (λ t more e k. whole t more e (inr k)),
+) refl
 
 for_again : (s t : Span) (us : List Token) → parallel_at s (token (directive_word words.For) t ∷ us)
     ≡ (directives.ParallelFor s t, us)
@@ -272,8 +281,11 @@ directive_name_again (directives.Critical s None) us whole = name_after_again wo
 directive_name_again (directives.Critical s (Some n)) us whole =
     let close : List Token = mark punctuators.CloseParen n.2 ∷ us in
     name_after_again words.Critical s (mark punctuators.OpenParen n.0 ∷ name n.1 ∷ close)
-        (ok (directives.Critical s (some n), us)) (rw (take_mark_again punctuators.OpenParen n.0 (name n.1 ∷ close),
-        name_again n.1 close, mark_again punctuators.CloseParen n.2 us) refl)
+    (ok (directives.Critical s (some n), us)) (rw (
+      take_mark_again punctuators.OpenParen n.0 (name n.1 ∷ close),
+      name_again n.1 close,
+      mark_again punctuators.CloseParen n.2 us,
+    ) refl)
 directive_name_again (directives.Atomic s) us whole = name_after_again words.Atomic s us
     (ok (directives.Atomic s, us)) refl
 directive_name_again (directives.Task s) us whole = name_after_again words.Task s us (ok (directives.Task s, us)) refl
@@ -290,5 +302,7 @@ directive_name_again (directives.Flush s None) us whole = name_after_again words
 directive_name_again (directives.Flush s (Some l)) us whole =
     let inside : List Token = names_spelling l.first l.rest l.close_paren ++ us in
     name_after_again words.Flush s (mark punctuators.OpenParen l.open_paren ∷ inside)
-        (ok (directives.Flush s (some l), us)) (rw (take_mark_again punctuators.OpenParen l.open_paren inside,
-        list_after_again l us) refl)
+    (ok (directives.Flush s (some l), us)) (rw (
+      take_mark_again punctuators.OpenParen l.open_paren inside,
+      list_after_again l us,
+    ) refl)

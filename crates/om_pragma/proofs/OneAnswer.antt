@@ -1,6 +1,6 @@
 -- Tokens are a directive or none, for one reason at one place.
-use Rattle.std.proofs.Common.{◌≡◌, ℕ, List, [], ◌∷◌, ◌++◌, Result, Ok, Err, refl, sym, ap, subst, ◌∙◌, ◌⊎◌, inl,
-    inr, append_assoc}
+use Rattle.std.proofs.Common.{◌≡◌, ℕ, List, [], ◌∷◌, ◌++◌, Result, Ok, Err, refl, sym, ap, subst, ◌∙◌, ◌⊎◌, inl, inr}
+use Rattle.std.proofs.Common.{append_assoc}
 use Rattle.om_lexer.specs.declared.fault.SourceFault.{SourceFault}
 use Rattle.om_lexer.specs.declared.token.Token.{Token}
 use Rattle.om_pragma.specs.declared.tree.Directive.{Directive}
@@ -50,8 +50,13 @@ compare (t ∷ front) rest (u ∷ other) left e =
     ]
 
 begins_less : (front more : List Token) → BeginsDirective (front ++ more) → BeginsDirective front
-begins_less front more b = record { directive = b.directive; more = more ++ b.more; written = b.written; parts =
-    b.parts ∙ append_assoc front more b.more }
+begins_less front more b = record {
+  directive = b.directive;
+  more = more ++ b.more;
+  written = b.written;
+  parts =
+      b.parts ∙ append_assoc front more b.more;
+}
 
 not_further : (ts : List Token) (a b : ℕ) (x : StopsAt ts a) (y : StopsAt ts b) → GoesFurther x.front
     (x.first ∷ x.after) y.front → ⊥
@@ -59,7 +64,7 @@ not_further ts a b x y g =
     let rest : x.first ∷ x.after ≡ g.next ∷ g.after = g.rest_is in
     let same : g.next ≡ x.first = cc in
     x.stops (subst (λ (t : Token). BeginsDirective (x.front ++ t ∷ [])) same (begins_less (x.front ++ g.next ∷ [])
-        g.more (subst BeginsDirective g.further_is y.begins)))
+    g.more (subst BeginsDirective g.further_is y.begins)))
 
 stop_one : (ts : List Token) (a b : ℕ) → StopsAt ts a → StopsAt ts b → a ≡ b
 stop_one ts a b x y = elim (compare x.front (x.first ∷ x.after) y.front (y.first ∷ y.after) (sym x.parts ∙ y.parts)) [

@@ -15,8 +15,8 @@ use Rattle.om_pragma.specs.declared.tree.DirectiveName.TheVariants as directives
 use Rattle.om_pragma.specs.Expressions.{clause_expressions, expressions}
 use Rattle.om_pragma.specs.Kinds.{directive_kind}
 use Rattle.om_pragma.specs.Spelling.{kind_of, value_kind}
-use Rattle.om_pragma.specs.Table.{clauses_of, same_clause, excludes, may_stand, kinds_of, EachBehind, IsItem,
-    IsDirective}
+use Rattle.om_pragma.specs.Table.{clauses_of, same_clause, excludes, may_stand, kinds_of, EachBehind, IsItem}
+use Rattle.om_pragma.specs.Table.{IsDirective}
 
 any_more : {A : Type 0} (p : A → Bool) (xs : List A) (x : A) → list_any p xs ≡ true → list_any p (xs ++ x ∷ []) ≡ true
 any_more p [] x e = absurd cc
@@ -82,7 +82,7 @@ no_value n before k can taken =
     let has = and_first (list_any (λ j. same_clause j (value_kind k)) (clauses_of (directive_kind n))) _ can in
     let same = only_value n k has in
     not_both (list_any (λ j. same_clause j (value_kind k)) (clauses_of (directive_kind n)))
-        (list_any (λ j. excludes j (value_kind k)) (kinds_of before)) can
+    (list_any (λ j. excludes j (value_kind k)) (kinds_of before)) can
     (any_kind (λ j. excludes j (value_kind k)) before ∙ rw same taken)
 
 none_left : {E : Type 0} (P : E → Type 0) (n : DirectiveName) (before items : List (ClauseItem E))
@@ -117,10 +117,13 @@ at_most_one {E} P n before (i ∷ items) each = go i.clause refl (at_most_one P 
     go (clauses.Value k s v) is later none =
         let can : may_stand n (kinds_of before) (value_kind k) ≡ true = rw is at each.0.can_stand in
         let same = only_value n k
-            (and_first (list_any (λ j. same_clause j (value_kind k)) (clauses_of (directive_kind n))) _ can) in
+        (and_first (list_any (λ j. same_clause j (value_kind k)) (clauses_of (directive_kind n))) _ can) in
         let itself : excludes (kind_of i.clause) (value_of_name n) ≡ true = rw (is, sym same) (excludes_itself k) in
-        omega (arith, none (any_last (λ (j : ClauseItem E). excludes (kind_of j.clause) (value_of_name n)) before i
-            itself))
+        omega (
+          arith,
+          none (any_last (λ (j : ClauseItem E). excludes (kind_of j.clause) (value_of_name n)) before i
+              itself),
+        )
     go (clauses.Default s a) is later none = later
     go (clauses.Data k s l) is later none = later
     go (clauses.Reduction s r) is later none = later

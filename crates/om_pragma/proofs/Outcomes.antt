@@ -1,6 +1,6 @@
 -- Outcomes of reading, step by step.
-use Rattle.std.proofs.Common.{◌≡◌, List, ◌∷◌, ◌++◌, Option, Some, None, Result, Ok, Err, refl, ap, ◌∙◌, sym, cond,
-    Bool, true, false, ◌⊎◌, inl, inr, append_assoc}
+use Rattle.std.proofs.Common.{◌≡◌, List, ◌∷◌, ◌++◌, Option, Some, None, Result, Ok, Err, refl, ap, ◌∙◌, sym, cond, Bool}
+use Rattle.std.proofs.Common.{true, false, ◌⊎◌, inl, inr, append_assoc}
 use Rattle.om_lexer.specs.declared.token.Token.{Token}
 use Rattle.om_pragma.specs.Reading.{◌>>=◌, choose, known}
 

@@ -1,6 +1,6 @@
 -- What a row of items that is read consists of, and that such a row is read again.
-use Rattle.std.proofs.Common.{◌≡◌, ℕ, zero, suc, ◌<◌, ◌≤◌, List, [], ◌∷◌, ◌++◌, length, Option, Some, None, Result,
-    Ok, Err, refl, sym, ap, subst, ◌∙◌, arith, append_assoc, length-append, ◌⊎◌, inl, inr}
+use Rattle.std.proofs.Common.{◌≡◌, ℕ, zero, suc, ◌<◌, ◌≤◌, List, [], ◌∷◌, ◌++◌, length, Option, Some, None, Result, Ok}
+use Rattle.std.proofs.Common.{Err, refl, sym, ap, subst, ◌∙◌, arith, append_assoc, length-append, ◌⊎◌, inl, inr}
 use Rattle.std.proofs.lemmas.List.{append-nil}
 use Rattle.std.specs.List.{flat_map}
 use Rattle.om_lexer.specs.declared.token.Span.{Span}
@@ -35,12 +35,24 @@ module _ {A X : Type 0} (none : List Token → X) (ender : Ender) (item : List A
         Further = (b : List A) (us : List Token) → length us < n → until none ender item n b us ≡ r → Ends b us r
 
         stops : Further → ender ts ≡ None → (i : Result (A × List Token) X) → item before ts ≡ i → Ends before ts r
-        stops further absent (Err f) is = record { xs = []; us = ts; all = before; is_all = sym (append-nil before);
-            parts = refl; each = tt; last = inr (f, absent, is, sym e ∙ rw (absent, is) refl) }
+        stops further absent (Err f) is = record {
+          xs = [];
+          us = ts;
+          all = before;
+          is_all = sym (append-nil before);
+          parts = refl;
+          each = tt;
+          last = inr (f, absent, is, sym e ∙ rw (absent, is) refl);
+        }
         stops further absent (Ok a) is =
             let s = sound before ts a is in
-            let shorter : length a.1 < n = omega (arith, lt, ap length s.0, length-append (spell a.0) a.1,
-                some_tokens a.0) in
+            let shorter : length a.1 < n = omega (
+              arith,
+              lt,
+              ap length s.0,
+              length-append (spell a.0) a.1,
+              some_tokens a.0,
+            ) in
             let more = further (before ++ a.0 ∷ []) a.1 shorter (rw (absent, is) at e) in
             record {
               xs = a.0 ∷ more.xs;
@@ -54,8 +66,16 @@ module _ {A X : Type 0} (none : List Token → X) (ender : Ender) (item : List A
             }
 
         go : Further → (o : Option (Span × List Token)) → ender ts ≡ o → Ends before ts r
-        go further (Some x) is = record { xs = []; us = ts; all = before; is_all = sym (append-nil before); parts =
-            refl; each = tt; last = inl (x, is, sym e ∙ rw is refl) }
+        go further (Some x) is = record {
+          xs = [];
+          us = ts;
+          all = before;
+          is_all = sym (append-nil before);
+          parts =
+              refl;
+          each = tt;
+          last = inl (x, is, sym e ∙ rw is refl);
+        }
         go further None is = stops further is (item before ts) refl
 
   module _ (again : (before : List A) (x : A) (us : List Token) → P before x → item before (spell x ++ us)
@@ -72,12 +92,19 @@ module _ {A X : Type 0} (none : List Token → X) (ender : Ender) (item : List A
     until_passes all us r last (x ∷ xs) before (suc n) is each lt =
         let rest : List Token = flat_map spell xs ++ us in
         let more = until_passes all us r last xs (before ++ x ∷ []) n (is ∙ sym (append_assoc before (x ∷ []) xs))
-            each.1 (omega arith) in
+        each.1 (omega arith) in
         rw (append_assoc, unended before x rest each.0, again before x rest each.0) more
 
 pub so_many : {A : Type 0} (spell : A → List Token) → ((x : A) → 0 < length (spell x))
     → (xs : List A) (us : List Token) → length xs ≤ length (flat_map spell xs ++ us)
 so_many spell some_tokens [] us = omega arith
-so_many spell some_tokens (x ∷ xs) us = omega (arith, some_tokens x, so_many spell some_tokens xs us, length-append
-    (spell x) (flat_map spell xs), length-append (spell x ++ flat_map spell xs) us, length-append
-    (flat_map spell xs) us)
+so_many spell some_tokens (x ∷ xs) us = omega (
+  arith,
+  some_tokens x,
+  so_many spell some_tokens xs us,
+  length-append
+      (spell x) (flat_map spell xs),
+  length-append (spell x ++ flat_map spell xs) us,
+  length-append
+      (flat_map spell xs) us,
+)

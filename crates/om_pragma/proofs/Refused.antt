@@ -1,6 +1,6 @@
 -- What is refused breaks its rule, and what breaks a rule is refused there.
-use Rattle.std.proofs.Common.{◌≡◌, ◌≢◌, ℕ, suc, List, [], ◌∷◌, ◌++◌, Option, Some, None, Bool, true, false, cond,
-    Result, Ok, Err, refl, sym, ap, subst, ◌∙◌, ◌⊎◌, inl, inr}
+use Rattle.std.proofs.Common.{◌≡◌, ◌≢◌, ℕ, suc, List, [], ◌∷◌, ◌++◌, Option, Some, None, Bool, true, false, cond}
+use Rattle.std.proofs.Common.{Result, Ok, Err, refl, sym, ap, subst, ◌∙◌, ◌⊎◌, inl, inr}
 use Rattle.om_lexer.specs.declared.fault.FaultCode.{FaultCode}
 use Rattle.om_lexer.specs.declared.fault.FaultCode.TheVariants as codes
 use Rattle.om_lexer.specs.declared.fault.SourceFault.{SourceFault}
@@ -16,13 +16,14 @@ use Rattle.om_pragma.specs.declared.tree.DirectiveName.{DirectiveName}
 use Rattle.om_pragma.specs.declared.kind.DirectiveKind.{DirectiveKind}
 use Rattle.om_pragma.specs.declared.kind.DirectiveKind.TheVariants as words
 use Rattle.om_pragma.specs.Expressions.{IsClosed}
-use Rattle.om_pragma.specs.Reading.{fault, stopped, in_clause, no_word, all_clauses, take_kind, take_word, take_end,
-    opening_at, critical_after, critical_at, list_after, flush_at, name_after, directive_name_at, clause_after,
-    clause_at, comma_at, item_at, syntax_at, until, clauses_at, directive_at}
-use Rattle.om_pragma.specs.Refusals.{StandsClause, IsUnknownDirective, IsUnknownClause, IsBadClause, IsWordFault,
-    IsRefusal}
-use Rattle.om_pragma.specs.Spelling.{token, opening_spelling, comma_spelling, argument_spelling, clause_spelling,
-    kind_of, span_of}
+use Rattle.om_pragma.specs.Reading.{fault, stopped, in_clause, no_word, all_clauses, take_kind, take_word, take_end}
+use Rattle.om_pragma.specs.Reading.{opening_at, critical_after, critical_at, list_after, flush_at, name_after}
+use Rattle.om_pragma.specs.Reading.{directive_name_at, clause_after, clause_at, comma_at, item_at, syntax_at, until}
+use Rattle.om_pragma.specs.Reading.{clauses_at, directive_at}
+use Rattle.om_pragma.specs.Refusals.{StandsClause, IsUnknownDirective, IsUnknownClause, IsBadClause, IsWordFault}
+use Rattle.om_pragma.specs.Refusals.{IsRefusal}
+use Rattle.om_pragma.specs.Spelling.{token, opening_spelling, comma_spelling, argument_spelling, clause_spelling}
+use Rattle.om_pragma.specs.Spelling.{kind_of, span_of}
 use Rattle.om_pragma.specs.Table.{may_stand, kinds_of, EachBehind, IsClause, IsItem, IsDirectiveOf}
 use Rattle.om_pragma.specs.Words.{same_kind, is_word, directive_word, clause_word, among, directive_words}
 use Rattle.om_pragma.proofs.Arguments.{clause_after_is, clause_again}
@@ -77,9 +78,17 @@ no_word_is {K} word ks alone known (t ∷ ts) f none e = go (is_word t.kind) ref
   where
     go : (b : Bool) → is_word t.kind ≡ b → fault (cond b codes.UnknownDirective codes.Syntax) t.span.start ≡ f
         → (f.code ≡ codes.Syntax) ⊎ IsUnknown word (t ∷ ts) f
-    go true is e = inr (record { first = t; rest = ts; parts = refl; some_word = is; unknown = unknown_word word ks
-        alone known t ts none; code = ap (λ (g : SourceFault). g.code) (sym e); place =
-        ap (λ (g : SourceFault). g.at) e })
+    go true is e = inr (record {
+      first = t;
+      rest = ts;
+      parts = refl;
+      some_word = is;
+      unknown = unknown_word word ks
+          alone known t ts none;
+      code = ap (λ (g : SourceFault). g.code) (sym e);
+      place =
+          ap (λ (g : SourceFault). g.at) e;
+    })
     go false is e = inl (ap (λ (g : SourceFault). g.code) (sym e))
 
 stopped_err : {A : Type 0} (r : Result A ℕ) (f : SourceFault) → stopped r ≡ err f → f.code ≡ codes.Syntax
@@ -125,7 +134,7 @@ record IsBad (name : DirectiveName) (before : List ClauseKind) (ts : List Token)
   parts : ts ≡ token (clause_word kind) word ∷ rest
   bad : (may_stand name before kind ≡ false)
       ⊎ ((c : Clause (List Token)) (behind : List Token) → IsClause IsClosed c → token (clause_word kind) word
-          ∷ rest ≢ clause_spelling (λ e. e) c ++ behind)
+      ∷ rest ≢ clause_spelling (λ e. e) c ++ behind)
   code : f.code ≡ codes.BadClause
   place : word.start ≡ f.at
 
@@ -137,7 +146,7 @@ unfolding clause_spelling
 clause_stands k s us c behind e =
     let word : token (clause_word k) s ≡ token (clause_word (kind_of c)) (span_of c) = cc in
     let found : among clause_word all_clauses (clause_word (kind_of c))
-        ≡ some k = rw (ap (λ (t : Token). t.kind) (sym word)) (clause_known k) in
+    ≡ some k = rw (ap (λ (t : Token). t.kind) (sym word)) (clause_known k) in
     (some_is (kind_of c) k (sym (clause_known (kind_of c)) ∙ found), ap (λ (t : Token). t.span) (sym word), cc)
 
 in_clause_err : (s : Span) (r : Result (Clause (List Token) × List Token) ℕ) (f : SourceFault) → in_clause s r
@@ -168,15 +177,23 @@ clause_err name before ts f h = elim (choose_cases (take_word clause_word all_cl
           bad = inr (λ c behind formed spelled.
               let s = clause_stands w.0.0 w.0.1 w.1 c behind spelled in
               let again : clause_after w.0.0 w.0.1 w.1 ≡ ok (c, behind) = rw (s.2, sym s.0, sym s.1)
-                  (clause_again c behind formed) in
+              (clause_again c behind formed) in
               ok_err (c, behind) r.0.0 (sym again ∙ r.0.1));
           code = ap (λ (g : SourceFault). g.code) r.1;
           place = ap (λ (g : SourceFault). g.at) (sym r.1);
         }))
     go w begins false can e =
         let is : f ≡ fault codes.BadClause w.0.1.start = sym (err_is (fault codes.BadClause w.0.1.start) f e) in
-        inr (inr (record { kind = w.0.0; word = w.0.1; rest = w.1; parts = begins; bad = inl can; code =
-            ap (λ (g : SourceFault). g.code) is; place = ap (λ (g : SourceFault). g.at) (sym is) }))
+        inr (inr (record {
+          kind = w.0.0;
+          word = w.0.1;
+          rest = w.1;
+          parts = begins;
+          bad = inl can;
+          code =
+              ap (λ (g : SourceFault). g.code) is;
+          place = ap (λ (g : SourceFault). g.at) (sym is);
+        }))
 
 abbrev pub IsFault : List Token → SourceFault → Type 0
 IsFault ts f = (f.code ≡ codes.Syntax) ⊎ IsWordFault ts f.code f.at
@@ -200,11 +217,11 @@ behind_fault ts o n f opening named h =
                 let comma = comma_is e.all e.us in
                 let words = directive_name_is o.1 n named in
                 let each : EachBehind (IsItem IsClosed n.0) [] e.all = subst
-                    (λ (y : Items). EachBehind (IsItem IsClosed n.0) [] y) (sym e.is_all) e.each in
+                (λ (y : Items). EachBehind (IsItem IsClosed n.0) [] y) (sym e.is_all) e.each in
                 let rest : List Token = (comma_at e.all e.us).1 in
                 let behind : n.1 ≡ spelling e.all ++ (comma_spelling (comma_at e.all e.us).0 ++ rest) = subst
-                    (λ (y : Items). n.1 ≡ spelling y ++ e.us) (sym e.is_all) e.parts
-                    ∙ ap (λ (w : List Token). spelling e.all ++ w) comma.0 in
+                (λ (y : Items). n.1 ≡ spelling y ++ e.us) (sym e.is_all) e.parts
+                ∙ ap (λ (w : List Token). spelling e.all ++ w) comma.0 in
                 let stands : StandsClause ts n.0 e.all rest = record {
                   hash = o.0.0;
                   pragma = o.0.1;
@@ -221,12 +238,29 @@ behind_fault ts o n f opening named h =
                 elim (clause_err n.0 (kinds_of e.all) rest f (c ∙ ap err (sym same))) [
                   | inl s ↦ inl s
                   | inr (inl u) ↦ at_code ts codes.UnknownDirective f u.code
-                      (inr (record { name = n.0; before = e.all; word = u.first; rest = u.rest; stands = subst
-                      (StandsClause ts n.0 e.all) u.parts stands; some_word = u.some_word; unknown = u.unknown;
-                      place = u.place }))
+                      (inr (record {
+                        name = n.0;
+                        before = e.all;
+                        word = u.first;
+                        rest = u.rest;
+                        stands = subst
+                            (StandsClause ts n.0 e.all) u.parts stands;
+                        some_word = u.some_word;
+                        unknown = u.unknown;
+                        place = u.place;
+                      }))
                   | inr (inr b) ↦ at_code ts codes.BadClause f b.code
-                      (record { name = n.0; before = e.all; kind = b.kind; word = b.word; rest = b.rest; stands =
-                      subst (StandsClause ts n.0 e.all) b.parts stands; bad = b.bad; place = b.place })
+                      (record {
+                        name = n.0;
+                        before = e.all;
+                        kind = b.kind;
+                        word = b.word;
+                        rest = b.rest;
+                        stands =
+                            subst (StandsClause ts n.0 e.all) b.parts stands;
+                        bad = b.bad;
+                        place = b.place;
+                      })
                 ]
             | inr c ↦ absurd cc
           ]
@@ -270,8 +304,11 @@ wrong_word t us at w e = rw (w, e) refl
 unknown_directive_read : (ts : List Token) (at : ℕ) → IsUnknownDirective ts at → directive_at ts
     ≡ err (fault codes.UnknownDirective at)
 unfolding directive_at directive_name_at
-unknown_directive_read ts at h = rw (h.parts, opening_again h.hash h.pragma h.omp (h.word ∷ h.rest),
-    not_taken directive_word directive_words h.word h.rest h.unknown)
+unknown_directive_read ts at h = rw (
+  h.parts,
+  opening_again h.hash h.pragma h.omp (h.word ∷ h.rest),
+  not_taken directive_word directive_words h.word h.rest h.unknown,
+)
     (ap err (wrong_word h.word h.rest at h.some_word h.place))
 
 -- a fault of what stands where a clause is expected is the fault of the whole
@@ -282,11 +319,11 @@ unfolding item_at until take_end
 stands_read ts name before t rest f h w e =
     let us : List Token = comma_spelling h.comma ++ t ∷ rest in
     let fails : item_at name before us ≡ err f = rw (comma_again before h.comma t.kind t.span rest h.between w, e)
-        refl in
+    refl in
     let last : (n : ℕ) → until syntax_at take_end (item_at name) (suc n) before us ≡ err f = λ n. rw
-        (no_end h.comma, fails) refl in
+    (no_end h.comma, fails) refl in
     let clauses : clauses_at name h.behind_name ≡ err f = rw h.behind_parts (clauses_pass name before us (err f)
-        h.formed last) in
+    h.formed last) in
     rw h.parts (directive_parts h.hash h.pragma h.omp name h.behind_name (err f) h.whole_name clauses)
   where
     no_end : (c : Option Span) → take_end (comma_spelling c ++ t ∷ rest) ≡ None
@@ -305,7 +342,7 @@ unfolding clause_at clause_spelling
 bad_clause_read ts at h = stands_read ts h.name h.before (token (clause_word h.kind) h.word) h.rest
     (fault codes.BadClause at) h.stands (clause_is_word h.kind)
     (rw (word_again clause_word all_clauses h.kind (clause_known h.kind) h.word h.rest)
-        (fails (may_stand h.name (kinds_of h.before) h.kind) refl h.bad))
+    (fails (may_stand h.name (kinds_of h.before) h.kind) refl h.bad))
   where
     wrong_inside : (r : Result (Clause (List Token) × List Token) ℕ) → clause_after h.kind h.word h.rest ≡ r
         → ((c : Clause (List Token)) (behind : List Token) → IsClause IsClosed c → token (clause_word h.kind) h.word
@@ -314,7 +351,7 @@ bad_clause_read ts at h = stands_read ts h.name h.before (token (clause_word h.k
     wrong_inside (Ok x) is bad =
         let r = clause_after_is h.kind h.word h.rest x is in
         absurd (bad x.0 x.1 r.formed
-            (rw (r.kind, r.at) (ap (λ (w : List Token). token (clause_word h.kind) h.word ∷ w) r.parts)))
+        (rw (r.kind, r.at) (ap (λ (w : List Token). token (clause_word h.kind) h.word ∷ w) r.parts)))
 
     fails : (b : Bool) → may_stand h.name (kinds_of h.before) h.kind ≡ b
         → (may_stand h.name (kinds_of h.before) h.kind ≡ false) ⊎ ((c : Clause (List Token)) (behind : List Token)
@@ -341,7 +378,7 @@ refusal ts f h = elim (refused_fault ts f h) [
       no_other = λ code at is.
           let same : fault code at ≡ f = err_is (fault code at) f (sym (word_fault_read ts code at is) ∙ h) in
           let here : IsWordFault ts codes.Syntax at = subst (λ (k : FaultCode). IsWordFault ts k at)
-              (ap (λ (g : SourceFault). g.code) same ∙ syntax) is in
+          (ap (λ (g : SourceFault). g.code) same ∙ syntax) is in
           here;
     },
   )
@@ -352,7 +389,7 @@ pub one_fault : (ts : List Token) (code other : FaultCode) (at place : ℕ) → 
     → IsWordFault ts other place → (code ≡ other) × (at ≡ place)
 one_fault ts code other at place h g =
     let same = err_is (fault code at) (fault other place) (sym (word_fault_read ts code at h) ∙ word_fault_read ts
-        other place g) in
+    other place g) in
     (ap (λ (f : SourceFault). f.code) same, ap (λ (f : SourceFault). f.at) same)
 
 pub fault_in_no_directive : (ts : List Token) (code : FaultCode) (at : ℕ) (d : Directive (List Token))

@@ -19,8 +19,11 @@ each_before : (name : DirectiveName) (before front rest : Items) (i : ClauseItem
     → EachBehind (IsItem IsClosed name) before (front ++ i ∷ rest) → EachBehind (IsItem IsClosed name) before front
     × IsBetween (before ++ front) i.comma
 unfolding EachBehind
-each_before name before [] rest i each = (tt, subst (λ (b : Items). IsBetween b i.comma) (sym (append-nil before))
-    each.0.between)
+each_before name before [] rest i each = (
+  tt,
+  subst (λ (b : Items). IsBetween b i.comma) (sym (append-nil before))
+      each.0.between,
+)
 each_before name before (j ∷ front) rest i each =
     let later = each_before name (before ++ j ∷ []) front rest i each.1 in
     ((each.0, later.0), subst (λ (b : Items). IsBetween b i.comma) (append_assoc before (j ∷ []) front) later.1)
@@ -29,7 +32,7 @@ pub clauses_stand : ClausesStand
 unfolding directive_spelling item_spelling IsDirective
 clauses_stand d front rest i formed split =
     let each = each_before d.name [] front rest i (subst (λ (w : Items). EachBehind (IsItem IsClosed d.name) [] w)
-        split formed) in
+    split formed) in
     let end : List Token = token kinds.DirectiveEnd d.end ∷ [] in
     record {
       hash = d.hash;

@@ -1,6 +1,6 @@
 -- Where reading stops with S3: some directive begins with the tokens before, and none goes on with the token there.
-use Rattle.std.proofs.Common.{◌≡◌, ℕ, suc, List, [], ◌∷◌, ◌++◌, length, Option, Some, None, Bool, true, false, cond,
-    refl, sym, ap, subst, ◌∙◌, arith, append_assoc, inl, inr}
+use Rattle.std.proofs.Common.{◌≡◌, ℕ, suc, List, [], ◌∷◌, ◌++◌, length, Option, Some, None, Bool, true, false, cond}
+use Rattle.std.proofs.Common.{refl, sym, ap, subst, ◌∙◌, arith, append_assoc, inl, inr}
 use Rattle.std.proofs.lemmas.List.{append-nil}
 use Rattle.std.specs.Prelude.{codes}
 use Rattle.std.specs.List.{flat_map}
@@ -11,8 +11,8 @@ use Rattle.om_lexer.specs.declared.token.Token.{Token}
 use Rattle.om_lexer.specs.declared.token.TokenKind.{TokenKind}
 use Rattle.om_lexer.specs.declared.token.TokenKind.TheVariants as kinds
 use Rattle.om_pragma.specs.declared.name.Name as names
-use Rattle.om_pragma.specs.Reading.{choose, Part, place, known, take_kind, take_name, name_of, mark_at, name_at,
-    until, further_at, names_at, critical_after, opening_at}
+use Rattle.om_pragma.specs.Reading.{choose, Part, place, known, take_kind, take_name, name_of, mark_at, name_at, until}
+use Rattle.om_pragma.specs.Reading.{further_at, names_at, critical_after, opening_at}
 use Rattle.om_pragma.specs.Spelling.{token, mark, name, further_spelling, names_spelling, opening_spelling}
 use Rattle.om_pragma.specs.Table.{EachBehind}
 use Rattle.om_pragma.specs.Words.{same_kind, same_mark}
@@ -112,9 +112,9 @@ rest_again : (n : names.Name) (all xs : Further) (us : List Token) (at : ℕ) �
 unfolding names_at
 rest_again n all xs us at is each last =
     let passes = until_passes place (take_kind (kinds.Punctuator punctuators.CloseParen)) further_at
-        further_spelling IsAny further_again not_closed all us (err at) last xs []
-        (suc (length (flat_map further_spelling xs ++ us))) is each
-        (omega (arith, so_many further_spelling some_further xs us)) in
+    further_spelling IsAny further_again not_closed all us (err at) last xs []
+    (suc (length (flat_map further_spelling xs ++ us))) is each
+    (omega (arith, so_many further_spelling some_further xs us)) in
     rw (name_again n (flat_map further_spelling xs ++ us), passes) refl
 
 no_comma_stuck : (n : names.Name) (all xs : Further) (us : List Token) (at : ℕ) → all ≡ [] ++ xs → EachBehind IsAny
@@ -134,9 +134,9 @@ no_comma_stuck n all xs us at is each absent e =
       begins = refl;
       again = λ t after other here.
           let none : take_kind (kinds.Punctuator punctuators.CloseParen) (t ∷ other) ≡ None = kind_looks
-              (kinds.Punctuator punctuators.CloseParen) t after other
-              (subst (λ (vs : List Token). take_kind (kinds.Punctuator punctuators.CloseParen) vs ≡ None) here
-              absent) in
+          (kinds.Punctuator punctuators.CloseParen) t after other
+          (subst (λ (vs : List Token). take_kind (kinds.Punctuator punctuators.CloseParen) vs ≡ None) here
+          absent) in
           rest_again n all xs (t ∷ other) at is each (λ k. rw (none, w.1 t after other here) refl);
     }
 
@@ -181,44 +181,57 @@ no_name_stuck n all xs comma us at is each e =
     comma_fails : (k : ℕ) (t : Token) (other : List Token) → name_at (t ∷ other) ≡ err at
         → until place (take_kind (kinds.Punctuator punctuators.CloseParen)) further_at (suc k) all
         (mark punctuators.Comma comma ∷ t ∷ other) ≡ err at
-    comma_fails k t other fails = rw (comma_no_close comma (t ∷ other), mark_again punctuators.Comma comma
-        (t ∷ other), fails) refl
+    comma_fails k t other fails = rw (
+      comma_no_close comma (t ∷ other),
+      mark_again punctuators.Comma comma
+          (t ∷ other),
+      fails,
+    ) refl
 
 pub names_stuck : (ts : List Token) (at : ℕ) → names_at ts ≡ err at → IsStuck names_at list_tokens ts at
 unfolding names_at further_at names_spelling
 names_stuck ts at e = elim (bind_err (name_at ts) _ at e) [
   | inl n ↦
       let w = name_wrong ts at n in
-      record { front = []; rest = ts; parts = refl; place = w.0; goes_on = refl; part = (no_name, [], no_span);
-          more = names_spelling no_name [] no_span; begins = refl; again = λ t after other here. rw
-          (w.1 t after other here) refl }
+      record {
+        front = [];
+        rest = ts;
+        parts = refl;
+        place = w.0;
+        goes_on = refl;
+        part = (no_name, [], no_span);
+        more = names_spelling no_name [] no_span;
+        begins = refl;
+        again = λ t after other here. rw
+            (w.1 t after other here) refl;
+      }
   | inr n ↦ elim (bind_err (until place (take_kind (kinds.Punctuator punctuators.CloseParen)) further_at
       (suc (length n.0.1)) [] n.0.1) _ at n.2) [
-    | inl u ↦
-        let x = until_ends place (take_kind (kinds.Punctuator punctuators.CloseParen)) further_at further_spelling
+        | inl u ↦
+            let x = until_ends place (take_kind (kinds.Punctuator punctuators.CloseParen)) further_at further_spelling
             IsAny further_is some_further (suc (length n.0.1)) [] n.0.1 (err at) (omega arith) u in
-        let begins : ts ≡ name n.0.0 ∷ (flat_map further_spelling x.xs ++ x.us) = name_at_is ts n.0 n.1
+            let begins : ts ≡ name n.0.0 ∷ (flat_map further_spelling x.xs ++ x.us) = name_at_is ts n.0 n.1
             ∙ ap (λ (w : List Token). name n.0.0 ∷ w) x.parts in
-        elim x.last [
-          | inl l ↦ absurd (ok_err (x.all, l.0.0, l.0.1) at (sym l.2))
-          | inr l ↦
-              let same : at ≡ l.0 = err_is at l.0 l.3 in
-              elim (bind_err (mark_at punctuators.Comma x.us) _ l.0 l.2) [
-                | inl c ↦ subst (λ (w : List Token). IsStuck names_at list_tokens w at) (sym begins)
-                    (no_comma_stuck n.0.0 x.all x.xs x.us at x.is_all x.each l.1 (c ∙ ap err (sym same)))
-                | inr c ↦ elim (bind_err (name_at c.0.1) _ l.0 c.2) [
-                  | inl m ↦
-                      let whole : ts ≡ name n.0.0 ∷ (flat_map further_spelling x.xs ++ mark punctuators.Comma c.0.0
+            elim x.last [
+              | inl l ↦ absurd (ok_err (x.all, l.0.0, l.0.1) at (sym l.2))
+              | inr l ↦
+                  let same : at ≡ l.0 = err_is at l.0 l.3 in
+                  elim (bind_err (mark_at punctuators.Comma x.us) _ l.0 l.2) [
+                    | inl c ↦ subst (λ (w : List Token). IsStuck names_at list_tokens w at) (sym begins)
+                        (no_comma_stuck n.0.0 x.all x.xs x.us at x.is_all x.each l.1 (c ∙ ap err (sym same)))
+                    | inr c ↦ elim (bind_err (name_at c.0.1) _ l.0 c.2) [
+                      | inl m ↦
+                          let whole : ts ≡ name n.0.0 ∷ (flat_map further_spelling x.xs ++ mark punctuators.Comma c.0.0
                           ∷ c.0.1) = begins ∙ ap (λ (w : List Token). name n.0.0
                           ∷ (flat_map further_spelling x.xs ++ w)) (mark_at_is punctuators.Comma x.us c.0 c.1) in
-                      subst (λ (w : List Token). IsStuck names_at list_tokens w at) (sym whole)
+                          subst (λ (w : List Token). IsStuck names_at list_tokens w at) (sym whole)
                           (no_name_stuck n.0.0 x.all x.xs c.0.0 c.0.1 at x.is_all x.each (m ∙ ap err (sym same)))
-                  | inr m ↦ absurd cc
-                ]
-              ]
-        ]
-    | inr u ↦ absurd cc
-  ]
+                      | inr m ↦ absurd cc
+                    ]
+                  ]
+            ]
+        | inr u ↦ absurd cc
+      ]
 ]
 
 -- ---- the name of `critical`
@@ -229,15 +242,33 @@ unfolding critical_after
 critical_stuck left ts at e = elim (bind_err (name_at ts) _ at e) [
   | inl n ↦
       let w = name_wrong ts at n in
-      record { front = []; rest = ts; parts = refl; place = w.0; goes_on = refl; part = (left, no_name, no_span);
-          more = name no_name ∷ mark punctuators.CloseParen no_span ∷ []; begins = refl; again = λ t after other
-          here. rw (w.1 t after other here) refl }
+      record {
+        front = [];
+        rest = ts;
+        parts = refl;
+        place = w.0;
+        goes_on = refl;
+        part = (left, no_name, no_span);
+        more = name no_name ∷ mark punctuators.CloseParen no_span ∷ [];
+        begins = refl;
+        again = λ t after other
+            here. rw (w.1 t after other here) refl;
+      }
   | inr n ↦ elim (bind_err (mark_at punctuators.CloseParen n.0.1) _ at n.2) [
     | inl c ↦
         let w = mark_wrong punctuators.CloseParen n.0.1 at c in
-        record { front = name n.0.0 ∷ []; rest = n.0.1; parts = name_at_is ts n.0 n.1; place = w.0; goes_on = refl;
-            part = (left, n.0.0, no_span); more = mark punctuators.CloseParen no_span ∷ []; begins = refl; again =
-            λ t after other here. rw (name_again n.0.0 (t ∷ other), w.1 t after other here) refl }
+        record {
+          front = name n.0.0 ∷ [];
+          rest = n.0.1;
+          parts = name_at_is ts n.0 n.1;
+          place = w.0;
+          goes_on = refl;
+          part = (left, n.0.0, no_span);
+          more = mark punctuators.CloseParen no_span ∷ [];
+          begins = refl;
+          again =
+              λ t after other here. rw (name_again n.0.0 (t ∷ other), w.1 t after other here) refl;
+        }
     | inr c ↦ absurd cc
   ]
 ]
@@ -259,32 +290,64 @@ unfolding opening_at opening_spelling
 opening_stuck ts at e = elim (bind_err (known ts (take_kind kinds.DirectiveBegin ts)) _ at e) [
   | inl b ↦
       let w = kind_wrong kinds.DirectiveBegin ts at b in
-      record { front = []; rest = ts; parts = refl; place = w.0; goes_on = refl; part = (no_span, no_span, no_span);
-          more = opening_spelling no_span no_span no_span; begins = refl; again = λ t after other here. rw
-          (w.1 t after other here) refl }
+      record {
+        front = [];
+        rest = ts;
+        parts = refl;
+        place = w.0;
+        goes_on = refl;
+        part = (no_span, no_span, no_span);
+        more = opening_spelling no_span no_span no_span;
+        begins = refl;
+        again = λ t after other here. rw
+            (w.1 t after other here) refl;
+      }
   | inr b ↦
       let begin = take_kind_is kinds.DirectiveBegin ts b.0.0 b.0.1 (known_ok ts (take_kind kinds.DirectiveBegin ts)
-          b.0 b.1) in
+      b.0 b.1) in
       elim (bind_err (known b.0.1 (take_kind (kinds.Name (codes "pragma")) b.0.1)) _ at b.2) [
         | inl p ↦
             let w = kind_wrong (kinds.Name (codes "pragma")) b.0.1 at p in
-            record { front = token kinds.DirectiveBegin b.0.0 ∷ []; rest = b.0.1; parts = begin; place =
-                w.0; goes_on = refl; part = (b.0.0, no_span, no_span); more = token (kinds.Name (codes "pragma"))
-                no_span ∷ token (kinds.Name (codes "omp")) no_span ∷ []; begins = refl; again = λ t after other
-                here. rw (kind_read kinds.DirectiveBegin refl b.0.0 (t ∷ other), w.1 t after other here) refl }
+            record {
+              front = token kinds.DirectiveBegin b.0.0 ∷ [];
+              rest = b.0.1;
+              parts = begin;
+              place =
+                  w.0;
+              goes_on = refl;
+              part = (b.0.0, no_span, no_span);
+              more = token (kinds.Name (codes "pragma"))
+                  no_span ∷ token (kinds.Name (codes "omp")) no_span ∷ [];
+              begins = refl;
+              again = λ t after other
+                  here. rw (kind_read kinds.DirectiveBegin refl b.0.0 (t ∷ other), w.1 t after other here) refl;
+            }
         | inr p ↦
             let pragma = take_kind_is (kinds.Name (codes "pragma")) b.0.1 p.0.0 p.0.1
-                (known_ok b.0.1 (take_kind (kinds.Name (codes "pragma")) b.0.1) p.0 p.1) in
+            (known_ok b.0.1 (take_kind (kinds.Name (codes "pragma")) b.0.1) p.0 p.1) in
             elim (bind_err (known p.0.1 (take_kind (kinds.Name (codes "omp")) p.0.1)) _ at p.2) [
               | inl o ↦
                   let w = kind_wrong (kinds.Name (codes "omp")) p.0.1 at o in
-                  record { front = token kinds.DirectiveBegin b.0.0 ∷ token (kinds.Name (codes "pragma")) p.0.0
-                      ∷ []; rest = p.0.1; parts = begin ∙ ap (λ (w : List Token). token kinds.DirectiveBegin b.0.0
-                      ∷ w) pragma; place = w.0; goes_on = refl; part = (b.0.0, p.0.0, no_span); more = token
-                      (kinds.Name (codes "omp")) no_span ∷ []; begins = refl; again = λ t after other here. rw
-                      (kind_read kinds.DirectiveBegin refl b.0.0 (token (kinds.Name (codes "pragma")) p.0.0 ∷ t
-                      ∷ other), kind_read (kinds.Name (codes "pragma")) refl p.0.0 (t ∷ other), w.1 t after other
-                      here) refl }
+                  record {
+                    front = token kinds.DirectiveBegin b.0.0 ∷ token (kinds.Name (codes "pragma")) p.0.0
+                        ∷ [];
+                    rest = p.0.1;
+                    parts = begin ∙ ap (λ (w : List Token). token kinds.DirectiveBegin b.0.0
+                        ∷ w) pragma;
+                    place = w.0;
+                    goes_on = refl;
+                    part = (b.0.0, p.0.0, no_span);
+                    more = token
+                        (kinds.Name (codes "omp")) no_span ∷ [];
+                    begins = refl;
+                    again = λ t after other here. rw (
+                      kind_read kinds.DirectiveBegin refl b.0.0 (token (kinds.Name (codes "pragma")) p.0.0 ∷ t
+                          ∷ other),
+                      kind_read (kinds.Name (codes "pragma")) refl p.0.0 (t ∷ other),
+                      w.1 t after other
+                          here,
+                    ) refl;
+                  }
               | inr o ↦ absurd cc
             ]
       ]

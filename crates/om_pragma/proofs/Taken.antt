@@ -47,10 +47,10 @@ unfolding take_word
 take_word_is word ks [] x e = absurd (none_some x e)
 take_word_is {K} word ks (t ∷ ts) x e = elim (choose_cases (among word ks t.kind) (λ k. some ((k, t.span), ts)) None
     (some x) e) [
-  | inl g ↦ ap (λ k. token k t.span ∷ ts) (among_is word ks t.kind g.0 g.1)
-      ∙ ap (λ (p : (K × Span) × List Token). token (word p.0.0) p.0.1 ∷ p.1) (some_is ((g.0, t.span), ts) x g.2)
-  | inr g ↦ absurd (none_some x g.1)
-]
+      | inl g ↦ ap (λ k. token k t.span ∷ ts) (among_is word ks t.kind g.0 g.1)
+          ∙ ap (λ (p : (K × Span) × List Token). token (word p.0.0) p.0.1 ∷ p.1) (some_is ((g.0, t.span), ts) x g.2)
+      | inr g ↦ absurd (none_some x g.1)
+    ]
 
 name_of_is : (k : TokenKind) (s : Span) (n : names.Name) → name_of k s ≡ some n → token k s ≡ name n
 name_of_is (kinds.Name text) s n e = ap name (some_is _ n e)

@@ -1,6 +1,6 @@
 -- What is found as the first expression before a place is the first that stands there.
-use Rattle.std.proofs.Common.{◌≡◌, ◌≢◌, ℕ, suc, ◌<◌, List, [], ◌∷◌, ◌++◌, length, Option, Some, None, Bool, true,
-    false, cond, Result, Ok, Err, refl, sym, ap, subst, ◌∙◌, arith, codes}
+use Rattle.std.proofs.Common.{◌≡◌, ◌≢◌, ℕ, suc, ◌<◌, List, [], ◌∷◌, ◌++◌, length, Option, Some, None, Bool, true, false}
+use Rattle.std.proofs.Common.{cond, Result, Ok, Err, refl, sym, ap, subst, ◌∙◌, arith, codes}
 use Rattle.std.specs.Prelude.{nat_le, ◌||◌}
 use Rattle.std.proofs.lemmas.Bool.{leb-false, lt-leb}
 use Rattle.om_lexer.specs.declared.token.Punctuator.TheVariants as punctuators
@@ -10,8 +10,8 @@ use Rattle.om_lexer.specs.declared.token.TokenKind.TheVariants as kinds
 use Rattle.om_pragma.specs.declared.clause.ValueClause.{ValueClause}
 use Rattle.om_pragma.specs.declared.clause.ValueClause.TheVariants as value_kinds
 use Rattle.om_pragma.specs.Expressions.{or_else, Closes, IsClosed}
-use Rattle.om_pragma.specs.Reading.{mark_at, closing, some_tokens, ends_before, in_parentheses, expression_at,
-    expression_before}
+use Rattle.om_pragma.specs.Reading.{mark_at, closing, some_tokens, ends_before, in_parentheses, expression_at}
+use Rattle.om_pragma.specs.Reading.{expression_before}
 use Rattle.om_pragma.specs.Spelling.{token, mark, value_kind}
 use Rattle.om_pragma.specs.Values.{StandsAsValue, IsFirstValue}
 use Rattle.om_pragma.specs.Words.{same_kind, clause_word}
@@ -39,8 +39,11 @@ record IsValueAt (place : ℕ) (t : Token) (ts inside : List Token) : Type 0 whe
 
 some_inside : (xs es : List Token) → some_tokens xs ≡ some es → (xs ≡ es) × (es ≢ [])
 some_inside [] es e = absurd cc
-some_inside (x ∷ xs) es e = (some_is (x ∷ xs) es e, λ none. let is : some (x ∷ xs) ≡ some [] = e ∙ ap some none in
-    absurd cc)
+some_inside (x ∷ xs) es e = (
+  some_is (x ∷ xs) es e,
+  λ none. let is : some (x ∷ xs) ≡ some [] = e ∙ ap some none in
+      absurd cc,
+)
 
 in_parentheses_is : (place : ℕ) (k : ValueClause) (t : Token) (ts es : List Token) → t.kind
     ≡ clause_word (value_kind k) → t.span.start < place → ends_before place (in_parentheses ts) ≡ some es
@@ -102,8 +105,13 @@ unfolding expression_at in_parentheses
 value_at_again place t ts es v = rw (v.word_is, lt-leb place t.span.start v.starts) (go v.word)
   where
     inside : ends_before place (in_parentheses ts) ≡ some es
-    inside = rw (v.parts, mark_again punctuators.OpenParen v.left (es ++ mark punctuators.CloseParen v.right
-        ∷ v.behind), closing_again 0 es v.right v.behind v.closed.1, lt-leb place v.right.start v.ends)
+    inside = rw (
+      v.parts,
+      mark_again punctuators.OpenParen v.left (es ++ mark punctuators.CloseParen v.right
+          ∷ v.behind),
+      closing_again 0 es v.right v.behind v.closed.1,
+      lt-leb place v.right.start v.ends,
+    )
         (some_again es v.closed.0)
 
     go : (k : ValueClause) → cond (same_kind (clause_word (value_kind k)) (kinds.Name (codes "num_threads"))
@@ -148,7 +156,7 @@ stands_later place t ts es s = record {
 -- one that stands among tokens of which the first begins none
 further : (place : ℕ) (t : Token) (ts es : List Token) → expression_at place t ts ≡ None
     → (o : StandsAsValue (t ∷ ts) place es) → (s : StandsAsValue ts place es)
-        × (length o.before ≡ suc (length s.before))
+    × (length o.before ≡ suc (length s.before))
 further place t ts es absent o = go o.before refl o.parts
   where
     word : Token
@@ -203,12 +211,17 @@ is_first place (t ∷ ts) es e = go (λ h. is_first place ts es h) (expression_a
     go : (expression_before place ts ≡ some es → IsFirstValue ts place es) → (o : Option (List Token))
         → expression_at place t ts ≡ o → or_else o (expression_before place ts) ≡ some es → IsFirstValue (t ∷ ts)
         place es
-    go later (Some x) is e = record { stands = stands_first place t ts es (value_at_is place t ts es (is ∙ e));
-        first = λ other o. omega arith }
+    go later (Some x) is e = record {
+      stands = stands_first place t ts es (value_at_is place t ts es (is ∙ e));
+      first = λ other o. omega arith;
+    }
     go later None is e =
         let h = later e in
-        record { stands = stands_later place t ts es h.stands; first = λ other o. let f = further place t ts other
-            is o in omega (arith, h.first other f.0, f.1) }
+        record {
+          stands = stands_later place t ts es h.stands;
+          first = λ other o. let f = further place t ts other
+              is o in omega (arith, h.first other f.0, f.1);
+        }
 
 pub is_absent : (place : ℕ) (ts : List Token) → expression_before place ts ≡ None → (es : List Token)
     → StandsAsValue ts place es → ⊥
@@ -233,15 +246,18 @@ same_rest (t ∷ front) rest (u ∷ other) left e long = same_rest front rest ot
 
 first_one : (place : ℕ) (ts xs es : List Token) → IsFirstValue ts place xs → IsFirstValue ts place es → xs ≡ es
 first_one place ts xs es x y =
-    let long : length x.stands.before ≡ length y.stands.before = omega (arith, x.first es y.stands,
-        y.first xs x.stands) in
+    let long : length x.stands.before ≡ length y.stands.before = omega (
+      arith,
+      x.first es y.stands,
+      y.first xs x.stands,
+    ) in
     let rest = same_rest x.stands.before _ y.stands.before _ (sym x.stands.parts ∙ y.stands.parts) long in
     let inside : xs ++ mark punctuators.CloseParen x.stands.right ∷ x.stands.behind ≡ es
-        ++ mark punctuators.CloseParen y.stands.right ∷ y.stands.behind = cc in
+    ++ mark punctuators.CloseParen y.stands.right ∷ y.stands.behind = cc in
     let same = sym (closing_again 0 xs x.stands.right x.stands.behind x.stands.closed.1) ∙ ap (closing 0) inside
-        ∙ closing_again 0 es y.stands.right y.stands.behind y.stands.closed.1 in
+    ∙ closing_again 0 es y.stands.right y.stands.behind y.stands.closed.1 in
     ap (λ (c : List Token × Span × List Token). c.0) (ok_is (xs, x.stands.right, x.stands.behind)
-        (es, y.stands.right, y.stands.behind) same)
+    (es, y.stands.right, y.stands.behind) same)
 
 pub is_found : (place : ℕ) (ts es : List Token) → IsFirstValue ts place es → expression_before place ts ≡ some es
 is_found place ts es h = go (expression_before place ts) refl

@@ -1,6 +1,6 @@
 -- The expressions of a directive.
-use Rattle.std.specs.Prelude.{◌≡◌, ◌≢◌, ℕ, ◌+◌, ◌-◌, ◌==◌, List, [], ◌∷◌, map, if◌then◌else◌, Option, Some, None,
-    IsSomeAnd, IfSome, option_to_list}
+use Rattle.std.specs.Prelude.{◌≡◌, ◌≢◌, ℕ, ◌+◌, ◌-◌, ◌==◌, List, [], ◌∷◌, map, if◌then◌else◌, Option, Some, None}
+use Rattle.std.specs.Prelude.{IsSomeAnd, IfSome, option_to_list}
 use Rattle.std.specs.List.{flat_map}
 use denote.Ref.{Bor}
 use Rattle.om_lexer.specs.declared.token.Punctuator.TheVariants as punctuators
@@ -60,8 +60,15 @@ map_item f i = record { comma = i.comma; clause = map_clause f i.clause }
 
 -- a directive with other expressions in place of its own
 abbrev pub map_directive : {E F : Type 0} → (E → F) → Directive E → Directive F
-map_directive f d = record { hash = d.hash; pragma = d.pragma; omp = d.omp; name = d.name; clauses =
-    map (map_item f) d.clauses; end = d.end }
+map_directive f d = record {
+  hash = d.hash;
+  pragma = d.pragma;
+  omp = d.omp;
+  name = d.name;
+  clauses =
+      map (map_item f) d.clauses;
+  end = d.end;
+}
 
 -- a function that gives the value, where there is one
 abbrev pub IsValue : {E F : Type 0} → (E → F) → Option F → Type 0

@@ -1,7 +1,7 @@
 -- Reading the tokens of a directive from the left, as the code does: a part and the tokens behind it, or
 -- where it stops.
-use Rattle.std.specs.Prelude.{◌≡◌, ℕ, zero, suc, List, [], ◌∷◌, ◌++◌, length, Option, Some, None, Result, Ok, Err,
-    Bool, true, false, ◌⊎◌, codes, if◌then◌else◌, nat_le, ◌||◌}
+use Rattle.std.specs.Prelude.{◌≡◌, ℕ, zero, suc, List, [], ◌∷◌, ◌++◌, length, Option, Some, None, Result, Ok, Err, Bool}
+use Rattle.std.specs.Prelude.{true, false, ◌⊎◌, codes, if◌then◌else◌, nat_le, ◌||◌}
 use Rattle.om_lexer.specs.Faults.{no_memory}
 use Rattle.om_lexer.specs.declared.fault.FaultCode.{FaultCode}
 use Rattle.om_lexer.specs.declared.fault.FaultCode.TheVariants as fault_codes
@@ -40,8 +40,8 @@ use Rattle.om_pragma.specs.declared.kind.DirectiveKind.{DirectiveKind}
 use Rattle.om_pragma.specs.declared.kind.DirectiveKind.TheVariants as words
 use Rattle.om_pragma.specs.Expressions.{open_behind, or_else}
 use Rattle.om_pragma.specs.Table.{may_stand, kinds_of}
-use Rattle.om_pragma.specs.Words.{same_kind, is_word, among, directive_word, directive_words, clause_word,
-    sharing_word, operator_word, schedule_word}
+use Rattle.om_pragma.specs.Words.{same_kind, is_word, among, directive_word, directive_words, clause_word, sharing_word}
+use Rattle.om_pragma.specs.Words.{operator_word, schedule_word}
 
 -- the next step, where this one gives a value
 infixl 10 ◌>>=◌
@@ -210,8 +210,18 @@ reduction_after s ts = do
   w ← known o.1 (take_word operator_word reduction_operators o.1)
   c ← mark_at punctuators.Colon w.1
   n ← names_at c.1
-  Ok (clauses.Reduction s (record { open_paren = o.0; operator = w.0.0; sign = w.0.1; colon = c.0; first = n.0.0;
-      rest = n.0.1; close_paren = n.0.2 }), n.1)
+  Ok (
+    clauses.Reduction s (record {
+      open_paren = o.0;
+      operator = w.0.0;
+      sign = w.0.1;
+      colon = c.0;
+      first = n.0.0;
+      rest = n.0.1;
+      close_paren = n.0.2;
+    }),
+    n.1,
+  )
 
 -- the kinds of schedules
 abbrev pub schedule_kinds : List ScheduleKind
@@ -289,7 +299,7 @@ all_clauses = clause_kinds.NumThreads ∷ clause_kinds.Filter ∷ clause_kinds.D
 unfoldable pub clause_at : DirectiveName → List ClauseKind → List Token → Outcome (Clause (List Token) × List Token)
 clause_at name before ts = choose (take_word clause_word all_clauses ts)
     (λ w. if may_stand name before w.0.0 then in_clause w.0.1 (clause_after w.0.0 w.0.1 w.1) else Err
-        (fault fault_codes.BadClause w.0.1.start))
+    (fault fault_codes.BadClause w.0.1.start))
     (Err (no_word ts))
 
 -- a comma that may stand there, if something stands before it

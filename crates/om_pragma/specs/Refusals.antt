@@ -20,10 +20,10 @@ use Rattle.om_pragma.specs.declared.tree.DirectiveName.TheVariants as directives
 use Rattle.om_pragma.specs.declared.kind.DirectiveKind.{DirectiveKind}
 use Rattle.om_pragma.specs.declared.kind.DirectiveKind.TheVariants as words
 use Rattle.om_pragma.specs.Expressions.{IsClosed, with_tokens}
-use Rattle.om_pragma.specs.Spelling.{token, name_spelling, opening_spelling, item_spelling, comma_spelling,
-    clause_spelling, directive_spelling}
-use Rattle.om_pragma.specs.Table.{may_stand, kinds_of, IsBetween, IsClause, IsItem, EachBehind, IsDirective,
-    IsDirectiveOf}
+use Rattle.om_pragma.specs.Spelling.{token, name_spelling, opening_spelling, item_spelling, comma_spelling}
+use Rattle.om_pragma.specs.Spelling.{clause_spelling, directive_spelling}
+use Rattle.om_pragma.specs.Table.{may_stand, kinds_of, IsBetween, IsClause, IsItem, EachBehind, IsDirective}
+use Rattle.om_pragma.specs.Table.{IsDirectiveOf}
 use Rattle.om_pragma.specs.Words.{is_word, directive_word, clause_word}
 
 -- the words of a directive go on with this token: to those of a combined one, to the name of `critical` or to
@@ -58,7 +58,7 @@ abbrev pub ClausesStand : Type 0
 ClausesStand = (d : Directive (List Token)) (front rest : List (ClauseItem (List Token)))
     (i : ClauseItem (List Token)) → IsDirective IsClosed d → d.clauses ≡ front ++ i ∷ rest
     → StandsClause (directive_spelling (λ e. e) d) d.name front (clause_spelling (λ e. e) i.clause
-        ++ (flat_map (item_spelling (λ e. e)) rest ++ token kinds.DirectiveEnd d.end ∷ []))
+    ++ (flat_map (item_spelling (λ e. e)) rest ++ token kinds.DirectiveEnd d.end ∷ []))
 
 -- S5: where the directive must stand, a word stands that the table does not have as one.
 pub record IsUnknownDirective (tokens : List Token) (at : ℕ) : Type 0 where
@@ -95,7 +95,7 @@ pub record IsBadClause (tokens : List Token) (at : ℕ) : Type 0 where
   pub stands : StandsClause tokens name before (token (clause_word kind) word ∷ rest)
   pub bad : (may_stand name (kinds_of before) kind ≡ false)
       ⊎ ((c : Clause (List Token)) (behind : List Token) → IsClause IsClosed c → token (clause_word kind) word
-          ∷ rest ≢ clause_spelling (λ e. e) c ++ behind)
+      ∷ rest ≢ clause_spelling (λ e. e) c ++ behind)
   pub place : word.start ≡ at
 
 -- S5 or S6 stands at a place

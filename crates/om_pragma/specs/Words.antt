@@ -72,7 +72,7 @@ abbrev pub directive_words : List DirectiveKind
 directive_words = directives.Parallel ∷ directives.For ∷ directives.Sections ∷ directives.Section
     ∷ directives.Single ∷ directives.Masked ∷ directives.Master
     ∷ directives.Critical ∷ directives.Atomic ∷ directives.Task ∷ directives.Taskgroup ∷ directives.Barrier
-        ∷ directives.Taskwait ∷ directives.Taskyield ∷ directives.Flush ∷ []
+    ∷ directives.Taskwait ∷ directives.Taskyield ∷ directives.Flush ∷ []
 
 -- the directive that a word is alone, as the first of its line; a combined one may go on behind it
 abbrev pub begun_by : TokenKind → Option DirectiveKind

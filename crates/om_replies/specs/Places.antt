@@ -11,7 +11,7 @@ use Rattle.om_cells.specs.declared.control.Control.TheVariants as control
 abbrev pub context_text : Context → ℕ → List ℕ
 context_text context line = codes "task " ++ name_text context.task ++ codes " team " ++ name_text context.team.name
     ++ codes " number " ++ decimal context.team.number ++ codes " of " ++ decimal context.team.size
-        ++ codes " line " ++ decimal line
+    ++ codes " line " ++ decimal line
 
 abbrev pub control_text : controls.Control → ℕ → List ℕ
 control_text control.Idle line = codes "idle"

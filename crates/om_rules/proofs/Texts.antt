@@ -1,6 +1,6 @@
 -- The bytes of names.
-use Rattle.std.proofs.Common.{◌≡◌, Bool, true, false, ◌||◌, not, ℕ, suc, List, [], ◌∷◌, ◌++◌, map, length,
-    if◌then◌else◌, refl, sym, ap, ◌∙◌, Vec}
+use Rattle.std.proofs.Common.{◌≡◌, Bool, true, false, ◌||◌, not, ℕ, suc, List, [], ◌∷◌, ◌++◌, map, length}
+use Rattle.std.proofs.Common.{if◌then◌else◌, refl, sym, ap, ◌∙◌, Vec}
 use Rattle.std.proofs.lemmas.List.{map-append}
 use Rattle.std.specs.declared.alloc.Global.{Global}
 use Rattle.std.specs.List.{list_any, position, prefix_len}
@@ -32,11 +32,11 @@ texts_of names = map (λ name. name.items) names
 -- a name that is inserted into a set
 pub inserted_texts : (names : List (Vec ℕ Global)) (name : Vec ℕ Global)
     → texts_of (if list_any (λ other. bytes_eq name.items other.items) names then names else names ++ name ∷ [])
-        ≡ with_name (texts_of names) name.items
+    ≡ with_name (texts_of names) name.items
 inserted_texts names name =
     by (list_any (λ other. bytes_eq name.items other.items) names)
-        ∙ ap (λ there. if there then texts_of names else texts_of names ++ name.items ∷ [])
-        (sym (list_any-map (bytes_eq name.items) (λ other. other.items) names))
+    ∙ ap (λ there. if there then texts_of names else texts_of names ++ name.items ∷ [])
+    (sym (list_any-map (bytes_eq name.items) (λ other. other.items) names))
   where
     by : (there : Bool) → texts_of (if there then names else names ++ name ∷ [])
         ≡ (if there then texts_of names else texts_of names ++ name.items ∷ [])

@@ -1,6 +1,6 @@
 -- The rules of directives, each by the breaches that one has of it, in the order of the text.
-use Rattle.std.specs.Prelude.{ℕ, List, [], ◌∷◌, ◌++◌, Option, None, Some, Bool, true, false, fold, map, not, ◌&&◌,
-    ◌||◌, if◌then◌else◌}
+use Rattle.std.specs.Prelude.{ℕ, List, [], ◌∷◌, ◌++◌, Option, None, Some, Bool, true, false, fold, map, not, ◌&&◌, ◌||◌}
+use Rattle.std.specs.Prelude.{if◌then◌else◌}
 use Rattle.std.specs.List.{list_any, flat_map}
 use Rattle.std.specs.Str.{bytes_eq}
 use Rattle.om_lexer.specs.declared.fault.FaultCode.TheVariants as faults
@@ -39,8 +39,13 @@ use Rattle.om_rules.specs.Sharing.{declares, is_parallel, is_unlisted}
 -- ---- directives
 
 abbrev pub row : RegionKind → (is_bound : Bool) → Inside → (takes_loop : Bool) → Traits
-row region is_bound inside takes_loop = record { region = region; is_bound = is_bound; inside = inside; takes_loop =
-    takes_loop }
+row region is_bound inside takes_loop = record {
+  region = region;
+  is_bound = is_bound;
+  inside = inside;
+  takes_loop =
+      takes_loop;
+}
 
 -- What a directive is as a construct: whether it is a worksharing construct or a barrier, whether such may
 -- stand in it (OpenMP
@@ -112,12 +117,23 @@ copy_of name = (name.text, meanings.Variable (variables.Local name.span.start) s
 
 -- once a name stands in the list of a clause
 abbrev pub after_name : DataSharing → Listed → names.Name → Listed
-after_name lists.Shared listed name = record { default = listed.default; shared = with_name listed.shared name.text;
-    copies = listed.copies }
-after_name lists.Private listed name = record { default = listed.default; shared = listed.shared; copies =
-    listed.copies ++ copy_of name ∷ [] }
-after_name lists.Firstprivate listed name = record { default = listed.default; shared = listed.shared; copies =
-    listed.copies ++ copy_of name ∷ [] }
+after_name lists.Shared listed name = record {
+  default = listed.default;
+  shared = with_name listed.shared name.text;
+  copies = listed.copies;
+}
+after_name lists.Private listed name = record {
+  default = listed.default;
+  shared = listed.shared;
+  copies =
+      listed.copies ++ copy_of name ∷ [];
+}
+after_name lists.Firstprivate listed name = record {
+  default = listed.default;
+  shared = listed.shared;
+  copies =
+      listed.copies ++ copy_of name ∷ [];
+}
 
 abbrev pub is_variable : Option Meaning → Bool
 is_variable (Some (meanings.Variable variable shape)) = true

@@ -1,6 +1,6 @@
 -- The rules of names and expressions, each by the breaches that a tree has of it, in the order of the text.
-use Rattle.std.specs.Prelude.{ℕ, ◌+◌, ◌==◌, List, [], ◌++◌, Option, None, Some, Bool, true, false, codes, nat_lt,
-    nat_eq, if◌then◌else◌, not, ◌&&◌, ◌||◌, is_some, position}
+use Rattle.std.specs.Prelude.{ℕ, ◌+◌, ◌==◌, List, [], ◌++◌, Option, None, Some, Bool, true, false, codes, nat_lt}
+use Rattle.std.specs.Prelude.{nat_eq, if◌then◌else◌, not, ◌&&◌, ◌||◌, is_some, position}
 use Rattle.std.specs.Str.{bytes_eq}
 use Rattle.om_lexer.specs.declared.fault.FaultCode.TheVariants as faults
 use Rattle.om_lexer.specs.declared.fault.SourceFault.{SourceFault}
@@ -8,8 +8,8 @@ use Rattle.om_pragma.specs.declared.name.Name as names
 use Rattle.om_pragma.specs.declared.name.Number.{Number}
 use Rattle.om_tree.specs.declared.tree.PrefixOperator.{PrefixOperator}
 use Rattle.om_tree.specs.declared.tree.PrefixOperator.TheVariants as prefixes
-use Rattle.om_tree.specs.Tree.{ExpressionTree, Name, Constant, Text, Paren, Index, Call, Prefix, Postfix, Binary,
-    Conditional, Assign, ArgumentsTree, NoArguments, Argument}
+use Rattle.om_tree.specs.Tree.{ExpressionTree, Name, Constant, Text, Paren, Index, Call, Prefix, Postfix, Binary}
+use Rattle.om_tree.specs.Tree.{Conditional, Assign, ArgumentsTree, NoArguments, Argument}
 use Rattle.om_rules.specs.declared.meaning.Meaning.{Meaning}
 use Rattle.om_rules.specs.declared.meaning.Meaning.TheVariants as meanings
 use Rattle.om_resolved.specs.declared.resolved.Shape.TheVariants as shapes
@@ -63,7 +63,7 @@ misused_scalar_breaches meaning at = breach_if (not (is_scalar meaning)) faults.
 abbrev pub scalar_breaches : Scopes → names.Name → List SourceFault
 scalar_breaches scopes name =
     undeclared_breaches scopes name ++ misused_scalar_breaches (meaning_of scopes name.text) name.span.start
-        ++ unlisted_breaches scopes name
+    ++ unlisted_breaches scopes name
 
 -- an array of which a `task` round the place would make a copy
 abbrev pub is_copied_array : Scopes → List ℕ → Bool
@@ -91,7 +91,7 @@ is_miscalled for_value name count None = true
 abbrev pub call_breaches : Scopes → Bool → names.Name → ℕ → List SourceFault
 call_breaches scopes for_value name count =
     undeclared_breaches scopes name ++ breach_if (is_miscalled for_value name.text count
-        (meaning_of scopes name.text)) faults.Misuse name.span.start
+    (meaning_of scopes name.text)) faults.Misuse name.span.start
 
 abbrev pub is_printf : Option Meaning → Bool
 is_printf (Some meanings.Printf) = true
@@ -191,7 +191,7 @@ unfoldable mutual
   printed_breaches scopes place NoArguments = []
   printed_breaches scopes place (Argument comma e rest) =
       (if place == 0 then [] else perhaps_with (nat_lt PRINTED_LIMIT place) faults.TooMany (expression_start e)
-          (expression_breaches scopes true e))
+      (expression_breaches scopes true e))
       ++ printed_breaches scopes (place + 1) rest
 
   -- S9: what is assigned to is such (C17 6.5.16p2)
@@ -227,7 +227,7 @@ print_breaches scopes for_value n values = misprint_breaches for_value n values 
 abbrev pub argument_breaches : Scopes → ℕ → ExpressionTree → List SourceFault
 argument_breaches scopes place e =
     if place == 0 then [] else perhaps_with (nat_lt PRINTED_LIMIT place) faults.TooMany (expression_start e)
-        (expression_breaches scopes true e)
+    (expression_breaches scopes true e)
 
 -- of an element of an array
 abbrev pub element_breaches : Scopes → names.Name → ExpressionTree → List SourceFault

@@ -1,6 +1,6 @@
 -- Breaches of rules, and where they stand.
-use Rattle.std.specs.Prelude.{ℕ, List, [], ◌∷◌, ◌++◌, ◌&&◌, ◌||◌, nat_lt, nat_le, nat_eq, Option, None, Some, Bool,
-    true, if◌then◌else◌}
+use Rattle.std.specs.Prelude.{ℕ, List, [], ◌∷◌, ◌++◌, ◌&&◌, ◌||◌, nat_lt, nat_le, nat_eq, Option, None, Some, Bool}
+use Rattle.std.specs.Prelude.{true, if◌then◌else◌}
 use Rattle.om_lexer.specs.Faults.{number_of}
 use Rattle.om_lexer.specs.declared.fault.FaultCode.{FaultCode}
 use Rattle.om_lexer.specs.declared.fault.FaultCode.TheVariants as faults

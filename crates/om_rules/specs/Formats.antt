@@ -1,7 +1,7 @@
 -- The formats of `printf` (C17 7.21.6.1): `%d` takes a value, `%%` none, and there is no other conversion.
 use Rattle.std.specs.Prelude.{ℕ, ◌-◌, ◌==◌, List, Bool, false, fold, if◌then◌else◌}
-use Rattle.om_tree.specs.Tree.{ExpressionTree, Name, Constant, Text, Paren, Index, Call, Prefix, Postfix, Binary,
-    Conditional, Assign}
+use Rattle.om_tree.specs.Tree.{ExpressionTree, Name, Constant, Text, Paren, Index, Call, Prefix, Postfix, Binary}
+use Rattle.om_tree.specs.Tree.{Conditional, Assign}
 use Rattle.om_rules.specs.declared.reading.Reading.{Reading}
 use Rattle.om_rules.specs.declared.reading.Reading.TheVariants as readings
 

@@ -1,7 +1,7 @@
 -- The items of `sections` in their parts (OpenMP API 5.2, section 11.3).
 use Rattle.std.specs.Prelude.{List, [], ◌∷◌, ◌++◌, Bool, true, false}
-use Rattle.om_resolved.specs.ResolvedTree.{ResolvedStatementTree, ResolvedStatementsTree, NoStatements, Statement,
-    ResolvedPartsTree, NoParts, Part}
+use Rattle.om_resolved.specs.ResolvedTree.{ResolvedStatementTree, ResolvedStatementsTree, NoStatements, Statement}
+use Rattle.om_resolved.specs.ResolvedTree.{ResolvedPartsTree, NoParts, Part}
 
 pub record Grouped : Type 0 where
   -- those that go on with a part that begins before them

@@ -1,6 +1,6 @@
 -- Parts in a row, as a loop goes through them: matter of proofs, for whoever checks and resolves part after part.
-use Rattle.std.proofs.Common.{◌≡◌, List, [], ◌∷◌, ◌++◌, append_assoc, Option, None, Some, fold, option_map, refl,
-    sym, ap, ◌∙◌}
+use Rattle.std.proofs.Common.{◌≡◌, List, [], ◌∷◌, ◌++◌, append_assoc, Option, None, Some, fold, option_map, refl, sym}
+use Rattle.std.proofs.Common.{ap, ◌∙◌}
 use Rattle.om_lexer.specs.declared.fault.SourceFault.{SourceFault}
 use Rattle.om_rules.specs.Faults.{breaches_along, first_of}
 use Rattle.om_rules.specs.Outcomes.{Refuses}
@@ -30,10 +30,10 @@ module _ {S X : Type 0} (breaches : S → X → List SourceFault) (after : S →
 
   pub unbroken-refuse : {start : S} {all : List X} {state : S} {x : X} {left : List X} {fault : SourceFault}
       → Unbroken start all state (x ∷ left) → Refuses (breaches state x) fault
-          → Refuses (breaches_along breaches after start all) fault
+      → Refuses (breaches_along breaches after start all) fault
   unbroken-refuse {start} {all} {state} {x} {left} {fault} l refused other =
       ap first_of l.unbroken ∙ first_of_left (breaches state x) (breaches_along breaches after (after state x) left)
-          fault (refused other)
+      fault (refused other)
 
 -- what is made so far, and behind it what the parts that are left give
 abbrev pub made_and : {Y : Type 0} → List Y → Option (List Y) → Option (List Y)

@@ -1,6 +1,6 @@
 -- Canonical loops (OpenMP API 5.2, section 4.4.1).
-use Rattle.std.specs.Prelude.{ℕ, ℤ, pos, ◌-ℤ◌, List, [], ◌∷◌, Option, None, Some, Bool, true, false, ◌&&◌, not,
-    nat_lt, nat_le, if◌then◌else◌}
+use Rattle.std.specs.Prelude.{ℕ, ℤ, pos, ◌-ℤ◌, List, [], ◌∷◌, Option, None, Some, Bool, true, false, ◌&&◌, not, nat_lt}
+use Rattle.std.specs.Prelude.{nat_le, if◌then◌else◌}
 use Rattle.std.specs.Str.{bytes_eq}
 use Rattle.om_lexer.specs.declared.token.Span.{Span}
 use Rattle.om_pragma.specs.declared.name.Name as names
@@ -13,10 +13,11 @@ use Rattle.om_tree.specs.declared.tree.PostfixOperator.{PostfixOperator}
 use Rattle.om_tree.specs.declared.tree.PostfixOperator.TheVariants as postfixes
 use Rattle.om_tree.specs.declared.tree.PrefixOperator.{PrefixOperator}
 use Rattle.om_tree.specs.declared.tree.PrefixOperator.TheVariants as prefixes
-use Rattle.om_tree.specs.Tree.{ExpressionTree, Name, Constant, Text, Paren, Index, Call, Prefix, Postfix, Binary,
-    Conditional, Assign, InitializerTree, DeclaratorTree, ForStartTree, Nothing, StartExpression, StartDeclaration,
-    ForHeadTree, StatementTree, LocalDeclaration, Block, Empty, Expression, If, IfElse, While, Do, For, Return,
-    Break, Continue, Construct, StandAlone, Sections, Section}
+use Rattle.om_tree.specs.Tree.{ExpressionTree, Name, Constant, Text, Paren, Index, Call, Prefix, Postfix, Binary}
+use Rattle.om_tree.specs.Tree.{Conditional, Assign, InitializerTree, DeclaratorTree, ForStartTree, Nothing}
+use Rattle.om_tree.specs.Tree.{StartExpression, StartDeclaration, ForHeadTree, StatementTree, LocalDeclaration, Block}
+use Rattle.om_tree.specs.Tree.{Empty, Expression, If, IfElse, While, Do, For, Return, Break, Continue, Construct}
+use Rattle.om_tree.specs.Tree.{StandAlone, Sections, Section}
 use Rattle.om_rules.specs.declared.direction.Direction.{Direction}
 use Rattle.om_rules.specs.declared.direction.Direction.TheVariants as directions
 use Rattle.om_rules.specs.declared.direction.Step.{Step}

@@ -3,10 +3,10 @@ use Rattle.std.specs.Prelude.{ℕ}
 use Rattle.om_lexer.specs.declared.token.Span.{Span}
 use Rattle.om_tree.specs.declared.tree.ResultType.{ResultType}
 use Rattle.om_tree.specs.declared.tree.ResultType.TheVariants as results
-use Rattle.om_tree.specs.Tree.{ExpressionTree, Name, Constant, Text, Paren, Index, Call, Prefix, Postfix, Binary,
-    Conditional, Assign, StatementTree, LocalDeclaration, Block, Empty, Expression, If, IfElse, While, Do, For,
-    Return, Break, Continue, Construct, StandAlone, Sections, Section, HeadTree, ItemTree, Declaration, Prototype,
-    Function}
+use Rattle.om_tree.specs.Tree.{ExpressionTree, Name, Constant, Text, Paren, Index, Call, Prefix, Postfix, Binary}
+use Rattle.om_tree.specs.Tree.{Conditional, Assign, StatementTree, LocalDeclaration, Block, Empty, Expression, If}
+use Rattle.om_tree.specs.Tree.{IfElse, While, Do, For, Return, Break, Continue, Construct, StandAlone, Sections}
+use Rattle.om_tree.specs.Tree.{Section, HeadTree, ItemTree, Declaration, Prototype, Function}
 
 unfoldable pub expression_first : ExpressionTree → Span
 expression_first (Name n) = n.span

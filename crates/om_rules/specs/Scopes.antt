@@ -1,6 +1,6 @@
 -- Names, what they are declared as, and where that is seen (C17 6.2.1).
-use Rattle.std.specs.Prelude.{ℕ, ◌+◌, List, [], ◌∷◌, ◌++◌, Option, None, Some, Bool, codes, fold, length, map,
-    is_some, Vec, true, false, if◌then◌else◌, nat_eq, ◌&&◌, not}
+use Rattle.std.specs.Prelude.{ℕ, ◌+◌, List, [], ◌∷◌, ◌++◌, Option, None, Some, Bool, codes, fold, length, map, is_some}
+use Rattle.std.specs.Prelude.{Vec, true, false, if◌then◌else◌, nat_eq, ◌&&◌, not}
 use Rattle.std.specs.List.{list_any}
 use Rattle.std.specs.Map.{lookup}
 use Rattle.std.specs.Option.{option_or}
@@ -12,8 +12,8 @@ use Rattle.om_pragma.specs.declared.name.Name as names
 use Rattle.om_tree.specs.declared.tree.Parameter.{Parameter}
 use Rattle.om_tree.specs.declared.tree.ResultType.{ResultType}
 use Rattle.om_tree.specs.declared.tree.ResultType.TheVariants as results
-use Rattle.om_tree.specs.Tree.{DeclaratorTree, DeclarationTree, ParametersTree, NoParameters, Void, Listed,
-    HeadTree, ItemTree, Declaration, Prototype, Function}
+use Rattle.om_tree.specs.Tree.{DeclaratorTree, DeclarationTree, ParametersTree, NoParameters, Void, Listed, HeadTree}
+use Rattle.om_tree.specs.Tree.{ItemTree, Declaration, Prototype, Function}
 use Rattle.om_resolved.specs.declared.resolved.Variable.TheVariants as variables
 use Rattle.om_rules.specs.declared.meaning.Meaning.{Meaning}
 use Rattle.om_rules.specs.declared.meaning.Meaning.TheVariants as meanings
@@ -170,8 +170,14 @@ predeclared = codes "printf" ∷ codes "omp_get_thread_num" ∷ codes "omp_get_n
 
 -- no name is declared yet, in a source that defines these functions
 abbrev pub nothing_declared : List (List ℕ) → Scopes
-nothing_declared definitions = record { inner = []; outer = []; globals = 0; cells = 0; definitions = definitions;
-    defined = [] }
+nothing_declared definitions = record {
+  inner = [];
+  outer = [];
+  globals = 0;
+  cells = 0;
+  definitions = definitions;
+  defined = [];
+}
 
 -- what is in scope where a source begins that defines these functions besides
 abbrev pub file_scope : List (List ℕ) → Scopes

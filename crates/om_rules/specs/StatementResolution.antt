@@ -2,10 +2,10 @@
 use Rattle.std.specs.Prelude.{ℕ, List, [], ◌∷◌, Option, None, Some, Bool, true, option_map, not, if◌then◌else◌}
 use Rattle.om_lexer.specs.declared.token.Span.{Span}
 use Rattle.om_tree.specs.declared.tree.ArrayLength.{ArrayLength}
-use Rattle.om_tree.specs.Tree.{ExpressionTree, InitializerTree, DeclaratorTree, ForStartTree, Nothing,
-    StartExpression, StartDeclaration, ForHeadTree, StatementTree, LocalDeclaration, Block, Empty, Expression, If,
-    IfElse, While, Do, For, Return, Break, Continue, Construct, StandAlone, Sections, Section, StatementsTree,
-    NoStatements, Statement}
+use Rattle.om_tree.specs.Tree.{ExpressionTree, InitializerTree, DeclaratorTree, ForStartTree, Nothing, StartExpression}
+use Rattle.om_tree.specs.Tree.{StartDeclaration, ForHeadTree, StatementTree, LocalDeclaration, Block, Empty, Expression}
+use Rattle.om_tree.specs.Tree.{If, IfElse, While, Do, For, Return, Break, Continue, Construct, StandAlone, Sections}
+use Rattle.om_tree.specs.Tree.{Section, StatementsTree, NoStatements, Statement}
 use Rattle.om_pragma.specs.declared.clause.Clause.{Clause}
 use Rattle.om_pragma.specs.declared.clause.Clause.TheVariants as clauses
 use Rattle.om_pragma.specs.declared.clause.ClauseItem.{ClauseItem}
@@ -38,13 +38,14 @@ use Rattle.om_rules.specs.Perhaps.{◌>>=◌, perhaps, each, each_along, all_of}
 use Rattle.om_rules.specs.Places.{expression_first, statement_first}
 use Rattle.om_rules.specs.Resolution.{resolved_expression, variable_named}
 use Rattle.om_resolved.specs.ResolvedTree as resolved
-use Rattle.om_resolved.specs.ResolvedTree.{ResolvedDeclaratorTree, ResolvedClauseTree, ResolvedLoopTree,
-    ResolvedStartTree, ResolvedUpdateTree, ResolvedStatementTree, ResolvedStatementsTree, ResolvedPartsTree}
+use Rattle.om_resolved.specs.ResolvedTree.{ResolvedDeclaratorTree, ResolvedClauseTree, ResolvedLoopTree}
+use Rattle.om_resolved.specs.ResolvedTree.{ResolvedStartTree, ResolvedUpdateTree, ResolvedStatementTree}
+use Rattle.om_resolved.specs.ResolvedTree.{ResolvedStatementsTree, ResolvedPartsTree}
 use Rattle.om_rules.specs.Scopes.{Scopes, inside, declarators_of, after_local}
 use Rattle.om_rules.specs.Sharing.{is_parallel}
 use Rattle.om_rules.specs.Updates.{statement_side, update_of}
-use Rattle.om_rules.specs.StatementRules.{after_for_start, after_statement, begins_part, in_loop, parts_behind,
-    round_bounds, with_iteration}
+use Rattle.om_rules.specs.StatementRules.{after_for_start, after_statement, begins_part, in_loop, parts_behind}
+use Rattle.om_rules.specs.StatementRules.{round_bounds, with_iteration}
 
 -- ---- declarations
 
@@ -291,11 +292,11 @@ unfoldable mutual
       if not (traits_of d.name).takes_loop
       then (resolved_clauses scopes d.clauses >>= λ cs.
       resolved_statement (in_construct d scopes) (parallel_in d parallel) s >>= λ body. Some
-          (construct_of parallel (statement_side s) d d.name cs body))
+      (construct_of parallel (statement_side s) d d.name cs body))
       else (resolved_clauses scopes d.clauses >>= λ cs.
       loop_in s >>= λ found. resolved_loop (round_bounds d scopes) (schedule_of d.clauses) found >>= λ l.
       resolved_repeated (in_construct d scopes) (parallel_in d parallel) found s >>= λ body. Some
-          (loop_construct_of d cs l body))
+      (loop_construct_of d cs l body))
   resolved_statement scopes parallel (StandAlone d) = resolved_alone scopes d d.name
   resolved_statement scopes parallel (Sections d left items right) = do
     cs ← resolved_clauses scopes d.clauses
@@ -353,7 +354,7 @@ abbrev pub resolved_plain_construct : Scopes → Option ℕ → Directive Expres
 resolved_plain_construct scopes parallel d s =
     resolved_clauses scopes d.clauses >>= λ cs.
     resolved_statement (in_construct d scopes) (parallel_in d parallel) s >>= λ body. Some
-        (construct_of parallel (statement_side s) d d.name cs body)
+    (construct_of parallel (statement_side s) d d.name cs body)
 
 -- of one that is for a loop, which is this one
 abbrev pub resolved_loop_construct : Scopes → Option ℕ → Directive ExpressionTree → Option Loop → StatementTree
@@ -362,14 +363,14 @@ resolved_loop_construct scopes parallel d perhaps_found s =
     resolved_clauses scopes d.clauses >>= λ cs.
     perhaps_found >>= λ found. resolved_loop (round_bounds d scopes) (schedule_of d.clauses) found >>= λ l.
     resolved_repeated (in_construct d scopes) (parallel_in d parallel) found s >>= λ body. Some
-        (loop_construct_of d cs l body)
+    (loop_construct_of d cs l body)
 
 -- of a construct
 abbrev pub resolved_construct : Scopes → Option ℕ → Directive ExpressionTree → StatementTree
     → Option ResolvedStatementTree
 resolved_construct scopes parallel d s =
     if not (traits_of d.name).takes_loop then resolved_plain_construct scopes parallel d s else
-        resolved_loop_construct scopes parallel d (loop_in s) s
+    resolved_loop_construct scopes parallel d (loop_in s) s
 
 abbrev pub resolved_sections : Scopes → Option ℕ → Directive ExpressionTree → StatementsTree
     → Option ResolvedStatementTree

@@ -1,14 +1,14 @@
 -- The rules of declarations and statements, by the breaches that a tree has of them, in the order of the text.
-use Rattle.std.specs.Prelude.{ℕ, ◌+◌, List, [], ◌++◌, Option, None, Some, Bool, true, false, nat_eq, nat_le, not,
-    ◌&&◌, ◌||◌, if◌then◌else◌, is_some, fold}
+use Rattle.std.specs.Prelude.{ℕ, ◌+◌, List, [], ◌++◌, Option, None, Some, Bool, true, false, nat_eq, nat_le, not, ◌&&◌}
+use Rattle.std.specs.Prelude.{◌||◌, if◌then◌else◌, is_some, fold}
 use Rattle.om_lexer.specs.declared.fault.FaultCode.TheVariants as faults
 use Rattle.om_lexer.specs.declared.fault.SourceFault.{SourceFault}
 use Rattle.om_tree.specs.declared.tree.ArrayLength.{ArrayLength}
 use Rattle.om_pragma.specs.declared.name.Name as names
-use Rattle.om_tree.specs.Tree.{ExpressionTree, InitializerTree, DeclaratorTree, ForStartTree, Nothing,
-    StartExpression, StartDeclaration, ForHeadTree, StatementTree, LocalDeclaration, Block, Empty, Expression, If,
-    IfElse, While, Do, For, Return, Break, Continue, Construct, StandAlone, Sections, Section, StatementsTree,
-    NoStatements, Statement}
+use Rattle.om_tree.specs.Tree.{ExpressionTree, InitializerTree, DeclaratorTree, ForStartTree, Nothing, StartExpression}
+use Rattle.om_tree.specs.Tree.{StartDeclaration, ForHeadTree, StatementTree, LocalDeclaration, Block, Empty, Expression}
+use Rattle.om_tree.specs.Tree.{If, IfElse, While, Do, For, Return, Break, Continue, Construct, StandAlone, Sections}
+use Rattle.om_tree.specs.Tree.{Section, StatementsTree, NoStatements, Statement}
 use Rattle.om_pragma.specs.declared.tree.Directive.{Directive}
 use Rattle.om_rules.specs.declared.flow.Flow.{Flow}
 use Rattle.om_rules.specs.declared.limits.TheConstants.{SECTION_LIMIT}
@@ -19,8 +19,8 @@ use Rattle.om_rules.specs.DirectiveRules.{constructing, directive_breaches, flus
 use Rattle.om_rules.specs.Loops.{Loop, loop_in}
 use Rattle.om_rules.specs.Sharing.{is_parallel}
 use Rattle.om_resolved.specs.declared.resolved.Shape.TheVariants as shapes
-use Rattle.om_rules.specs.Scopes.{Scopes, is_declared, inside, meaning_of, with_local, declarators_of, after_local,
-    after_locals}
+use Rattle.om_rules.specs.Scopes.{Scopes, is_declared, inside, meaning_of, with_local, declarators_of, after_local}
+use Rattle.om_rules.specs.Scopes.{after_locals}
 
 -- S8: declared again in the same scope (C17 6.7p3)
 abbrev pub redeclared_breaches : Scopes → names.Name → List SourceFault
@@ -76,8 +76,15 @@ for_turn_breaches scopes h = perhaps_breaches scopes true h.condition ++ perhaps
 
 -- in a loop
 abbrev pub looping : Flow → Flow
-looping flow = record { may_break = true; may_continue = true; returns = flow.returns; in_construct =
-    flow.in_construct; is_closed = flow.is_closed; parallel = flow.parallel }
+looping flow = record {
+  may_break = true;
+  may_continue = true;
+  returns = flow.returns;
+  in_construct =
+      flow.in_construct;
+  is_closed = flow.is_closed;
+  parallel = flow.parallel;
+}
 
 -- ---- canonical loops
 
@@ -117,8 +124,15 @@ in_loop scopes (Some found) = inside (with_iteration scopes found)
 
 -- a `continue` goes on with the next iteration
 abbrev pub continuing : Flow → Flow
-continuing flow = record { may_break = flow.may_break; may_continue = true; returns = flow.returns; in_construct =
-    flow.in_construct; is_closed = flow.is_closed; parallel = flow.parallel }
+continuing flow = record {
+  may_break = flow.may_break;
+  may_continue = true;
+  returns = flow.returns;
+  in_construct =
+      flow.in_construct;
+  is_closed = flow.is_closed;
+  parallel = flow.parallel;
+}
 
 -- ---- statements
 
@@ -168,7 +182,7 @@ unfoldable mutual
       (inside scopes) flow s
   statement_breaches scopes flow (IfElse at c s other t) =
       expression_breaches scopes true c.value ++ statement_breaches (inside scopes) flow s ++ statement_breaches
-          (inside scopes) flow t
+      (inside scopes) flow t
   statement_breaches scopes flow (While at c s) = expression_breaches scopes true c.value ++ statement_breaches
       (inside scopes) (looping flow) s
   statement_breaches scopes flow (Do at s again c semicolon) = statement_breaches (inside scopes) (looping flow) s
@@ -187,9 +201,9 @@ unfoldable mutual
       then statement_breaches (in_construct d scopes) (constructing d flow) s
       else if is_some (loop_in s)
       then bounds_breaches (round_bounds d scopes) (loop_in s) ++ body_breaches (in_construct d scopes)
-          (constructing d flow) (loop_in s) s
+      (constructing d flow) (loop_in s) s
       else with_breach (record { code = faults.LoopForm; at = statement_start s })
-          (statement_breaches (in_construct d scopes) (constructing d flow) s))
+      (statement_breaches (in_construct d scopes) (constructing d flow) s))
   statement_breaches scopes flow (StandAlone d) = directive_breaches scopes flow d ++ flush_breaches scopes d.name
   statement_breaches scopes flow (Sections d left parts right) =
       directive_breaches scopes flow d ++ sections_breaches (in_construct d scopes) (constructing d flow) 0 parts
@@ -235,9 +249,9 @@ loop_construct_breaches scopes flow d found s =
     directive_breaches scopes flow d
     ++ (if is_some found
     then bounds_breaches (round_bounds d scopes) found ++ body_breaches (in_construct d scopes)
-        (constructing d flow) found s
+    (constructing d flow) found s
     else with_breach (record { code = faults.LoopForm; at = statement_start s })
-        (statement_breaches (in_construct d scopes) (constructing d flow) s))
+    (statement_breaches (in_construct d scopes) (constructing d flow) s))
 
 -- of another construct
 abbrev pub plain_construct_breaches : Scopes → Flow → Directive ExpressionTree → StatementTree → List SourceFault
@@ -252,9 +266,9 @@ construct_breaches scopes flow d s =
     then statement_breaches (in_construct d scopes) (constructing d flow) s
     else if is_some (loop_in s)
     then bounds_breaches (round_bounds d scopes) (loop_in s) ++ body_breaches (in_construct d scopes)
-        (constructing d flow) (loop_in s) s
+    (constructing d flow) (loop_in s) s
     else with_breach (record { code = faults.LoopForm; at = statement_start s })
-        (statement_breaches (in_construct d scopes) (constructing d flow) s))
+    (statement_breaches (in_construct d scopes) (constructing d flow) s))
 
 abbrev pub sections_construct_breaches : Scopes → Flow → Directive ExpressionTree → StatementsTree → List SourceFault
 sections_construct_breaches scopes flow d parts = directive_breaches scopes flow d ++ sections_breaches

@@ -2,8 +2,8 @@
 use Rattle.std.specs.Prelude.{ℤ, pos, List, [], ◌∷◌, Option, None, Some, map}
 use Rattle.std.specs.List.{flat_map}
 use Rattle.om_tree.specs.declared.tree.Parameter.{Parameter}
-use Rattle.om_tree.specs.Tree.{InitializerTree, DeclaratorTree, statements, FunctionTree, ItemTree, Declaration,
-    Prototype, Function, UnitTree}
+use Rattle.om_tree.specs.Tree.{InitializerTree, DeclaratorTree, statements, FunctionTree, ItemTree, Declaration}
+use Rattle.om_tree.specs.Tree.{Prototype, Function, UnitTree}
 use Rattle.om_pragma.specs.declared.name.Name as names
 use Rattle.om_resolved.specs.declared.resolved.GlobalVariable.{GlobalVariable}
 use Rattle.om_resolved.specs.declared.resolved.LocalVariable.{LocalVariable}
@@ -11,8 +11,8 @@ use Rattle.om_rules.specs.Constants.{signed_constant, signed_value}
 use Rattle.om_rules.specs.Perhaps.{◌>>=◌, all_along}
 use Rattle.om_rules.specs.Places.{head_first}
 use Rattle.om_resolved.specs.ResolvedTree.{ResolvedFunctionTree, ResolvedStatementsTree, ResolvedTree}
-use Rattle.om_rules.specs.Scopes.{Scopes, file_scope, inside, declarators_of, definitions_of, parameters_of,
-    returns_value, after_function, after_item, after_parameters}
+use Rattle.om_rules.specs.Scopes.{Scopes, file_scope, inside, declarators_of, definitions_of, parameters_of}
+use Rattle.om_rules.specs.Scopes.{returns_value, after_function, after_item, after_parameters}
 use Rattle.om_rules.specs.StatementResolution.{length_of, local_of, resolved_statements}
 
 -- ---- functions
@@ -50,8 +50,13 @@ initial_of None = pos 0
 initial_of (Some initializer) = signed_value (signed_constant initializer.value)
 
 abbrev pub global_of : DeclaratorTree → GlobalVariable
-global_of d = record { name = d.name.text; at = d.name.span.start; length = length_of d.array; initial = initial_of
-    d.initializer }
+global_of d = record {
+  name = d.name.text;
+  at = d.name.span.start;
+  length = length_of d.array;
+  initial = initial_of
+      d.initializer;
+}
 
 -- the globals that an item declares
 abbrev pub globals_of : ItemTree → List GlobalVariable
@@ -69,9 +74,9 @@ item_functions scopes (Function f) = resolved_function scopes f >>= λ function.
 abbrev pub items_resolution : List ItemTree → Option ResolvedTree
 items_resolution items = all_along item_functions after_item (file_scope (definitions_of items)) items >>=
     λ functions. Some (record {
-  globals = flat_map globals_of items;
-  functions = functions;
-})
+      globals = flat_map globals_of items;
+      functions = functions;
+    })
 
 -- the resolution of a whole source
 unfoldable pub resolution_of : UnitTree → Option ResolvedTree

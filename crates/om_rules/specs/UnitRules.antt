@@ -1,6 +1,6 @@
 -- The rules at file scope, by the breaches that a source has of them, in the order of the text.
-use Rattle.std.specs.Prelude.{ℕ, ◌+◌, List, [], ◌++◌, Option, None, Some, Bool, true, false, codes, nat_lt, nat_le,
-    not, ◌&&◌, length}
+use Rattle.std.specs.Prelude.{ℕ, ◌+◌, List, [], ◌++◌, Option, None, Some, Bool, true, false, codes, nat_lt, nat_le, not}
+use Rattle.std.specs.Prelude.{◌&&◌, length}
 use Rattle.std.specs.List.{list_any}
 use Rattle.std.specs.Str.{bytes_eq}
 use Rattle.om_lexer.specs.declared.fault.FaultCode.TheVariants as faults
@@ -8,8 +8,8 @@ use Rattle.om_lexer.specs.declared.fault.SourceFault.{SourceFault}
 use Rattle.om_pragma.specs.declared.name.Name as names
 use Rattle.om_pragma.specs.declared.name.Number.{Number}
 use Rattle.om_tree.specs.declared.tree.Parameter.{Parameter}
-use Rattle.om_tree.specs.Tree.{InitializerTree, DeclaratorTree, statements, HeadTree, FunctionTree, ItemTree,
-    Declaration, Prototype, Function}
+use Rattle.om_tree.specs.Tree.{InitializerTree, DeclaratorTree, statements, HeadTree, FunctionTree, ItemTree}
+use Rattle.om_tree.specs.Tree.{Declaration, Prototype, Function}
 use Rattle.om_rules.specs.declared.flow.Flow.{Flow}
 use Rattle.om_rules.specs.declared.limits.TheConstants.{GLOBAL_CELL_LIMIT}
 use Rattle.om_rules.specs.declared.limits.TheConstants.{FUNCTION_LIMIT, PARAMETER_LIMIT}
@@ -20,9 +20,9 @@ use Rattle.om_rules.specs.Faults.{breach_if, untaken_breaches}
 use Rattle.om_rules.specs.ExpressionRules.{constant_breaches}
 use Rattle.om_rules.specs.Places.{expression_start, head_start}
 use Rattle.om_rules.specs.Constants.{signed_constant}
-use Rattle.om_rules.specs.Scopes.{Scopes, predeclared, asks, meaning_here, inside, signature_of, signature_eq,
-    parameters_of, declarators_of, cells_of, after_global, after_parameter, after_parameters, after_prototype,
-    after_function, after_item}
+use Rattle.om_rules.specs.Scopes.{Scopes, predeclared, asks, meaning_here, inside, signature_of, signature_eq}
+use Rattle.om_rules.specs.Scopes.{parameters_of, declarators_of, cells_of, after_global, after_parameter}
+use Rattle.om_rules.specs.Scopes.{after_parameters, after_prototype, after_function, after_item}
 use Rattle.om_rules.specs.Faults.{breaches_along}
 use Rattle.om_rules.specs.StatementRules.{redeclared_breaches, array_size_breaches, statements_breaches}
 
@@ -68,7 +68,7 @@ is_other_main name signature = bytes_eq name (codes "main") && not (signature_eq
 abbrev pub head_breaches : Scopes → HeadTree → List SourceFault
 head_breaches scopes head =
     breach_if (is_redeclared (signature_of head) (meaning_here scopes head.name.text)) faults.Redeclared
-        head.name.span.start
+    head.name.span.start
     ++ breach_if (is_other_main head.name.text (signature_of head)) faults.Misuse head.name.span.start
 
 abbrev pub parameter_name_breaches : Scopes → Option names.Name → List SourceFault
@@ -83,7 +83,7 @@ ParameterState = ℕ × Scopes
 abbrev pub parameter_breaches : ParameterState → Parameter → List SourceFault
 parameter_breaches (before, scopes) parameter =
     breach_if (nat_le PARAMETER_LIMIT before) faults.TooMany parameter.int.start ++ parameter_name_breaches scopes
-        parameter.name
+    parameter.name
 
 abbrev pub next_parameter : ParameterState → Parameter → ParameterState
 next_parameter (before, scopes) parameter = (before + 1, after_parameter scopes parameter)
@@ -97,8 +97,14 @@ prototype_breaches scopes head = head_breaches scopes head ++ parameters_breache
 
 -- what a function's statements may do
 abbrev pub flow_of : HeadTree → Flow
-flow_of head = record { may_break = false; may_continue = false; returns = (signature_of head).returns;
-    in_construct = false; is_closed = false; parallel = None }
+flow_of head = record {
+  may_break = false;
+  may_continue = false;
+  returns = (signature_of head).returns;
+  in_construct = false;
+  is_closed = false;
+  parallel = None;
+}
 
 -- S11 at the first definition too many, S8 at a second one of a function
 abbrev pub definition_breaches : Scopes → HeadTree → List SourceFault
@@ -112,7 +118,7 @@ abbrev pub body_breaches : Scopes → FunctionTree → List SourceFault
 body_breaches scopes f =
     parameters_breaches (inside scopes) (parameters_of f.head.parameters)
     ++ statements_breaches (after_parameters (inside scopes) (parameters_of f.head.parameters)) (flow_of f.head)
-        (statements f.body.items)
+    (statements f.body.items)
 
 abbrev pub function_breaches : Scopes → FunctionTree → List SourceFault
 function_breaches scopes f = definition_breaches scopes f.head ++ body_breaches (after_function scopes f.head) f

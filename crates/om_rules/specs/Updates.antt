@@ -82,8 +82,14 @@ step_operation o = operation_of (step_operator o) sides.Left (resolved.Constant 
 
 abbrev pub updated : Span → variables.Variable → (index : Option ResolvedExpressionTree) → Operation
     → ResolvedUpdateTree
-updated at variable index found = record { at = at; variable = variable; index = index; operator = found.operator;
-    side = found.side; operand = found.operand }
+updated at variable index found = record {
+  at = at;
+  variable = variable;
+  index = index;
+  operator = found.operator;
+  side = found.side;
+  operand = found.operand;
+}
 
 abbrev pub expression_update : Span → Side → ResolvedExpressionTree → Option ResolvedUpdateTree
 expression_update at side (resolved.Assign v o e) = operation side o e >>= λ found. Some (updated at v None found)

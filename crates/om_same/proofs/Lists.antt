@@ -1,6 +1,6 @@
 -- Lists that agree item by item.
-use Rattle.std.proofs.Common.{◌≡◌, ◌≤◌, ◌<◌, ◌+◌, ℕ, sym, ◌∙◌, ap, arith, List, [], ◌∷◌, ◌++◌, length, take, get_or,
-    reverse}
+use Rattle.std.proofs.Common.{◌≡◌, ◌≤◌, ◌<◌, ◌+◌, ℕ, sym, ◌∙◌, ap, arith, List, [], ◌∷◌, ◌++◌, length, take, get_or}
+use Rattle.std.proofs.Common.{reverse}
 use Rattle.std.proofs.lemmas.List.{take_more, reverse-reverse}
 use Rattle.std.proofs.lemmas.Grind.{common_steps}
 
@@ -9,7 +9,7 @@ pub same_to_next : {X : Type 0} (xs ys : List X) (i : ℕ) (x y : X) → i < len
     → y ≡ get_or ys i y → x ≡ y → take i xs ≡ take i ys → take (i + 1) xs ≡ take (i + 1) ys
 same_to_next xs ys i x y in_xs in_ys at_x at_y same before =
     take_more xs i x in_xs ∙ ap (λ zs. zs ++ get_or xs i x ∷ []) before ∙ ap (λ z. take i ys ++ z ∷ [])
-        (sym at_x ∙ same ∙ at_y)
+    (sym at_x ∙ same ∙ at_y)
     ∙ sym (take_more ys i y in_ys)
 
 -- all items agree

@@ -1,6 +1,6 @@
 -- Lists from the top down, kept with the top last.
-use Rattle.std.proofs.Common.{◌≡◌, ◌∷◌, [], ℕ, ◌-◌, ◌≤◌, ◌<◌, ◌⊎◌, inl, inr, List, ◌++◌, length, take, drop,
-    reverse, sym, ap, ◌∙◌, arith, take-append-drop}
+use Rattle.std.proofs.Common.{◌≡◌, ◌∷◌, [], ℕ, ◌-◌, ◌≤◌, ◌<◌, ◌⊎◌, inl, inr, List, ◌++◌, length, take, drop, reverse}
+use Rattle.std.proofs.Common.{sym, ap, ◌∙◌, arith, take-append-drop}
 use Rattle.std.proofs.lemmas.Bool.{cases_lt}
 use Rattle.std.proofs.lemmas.List.{reverse-append, length-reverse, length-drop}
 use Rattle.std.proofs.Math.Seq.{drop-append_seam}
@@ -24,7 +24,7 @@ taken_by n xs (inl many) =
 taken_by n xs (inr few) =
     let k = length xs - n in
     let size : length (drop k xs) ≡ n = length-drop k xs ∙ (let e : length xs - (length xs - n)
-        ≡ n = omega (arith, few) in e) in
+    ≡ n = omega (arith, few) in e) in
     sym (under (take k xs) (drop k xs))
     ∙ ap (λ l. drop (length (drop k xs)) (reverse l)) (take-append-drop k xs)
     ∙ ap (λ m. drop m (reverse xs)) size

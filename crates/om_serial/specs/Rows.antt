@@ -1,6 +1,6 @@
 -- The rows of serial instructions: those of the frame machine, with objects for variables and updates for what is put.
-use Rattle.std.specs.Prelude.{ℕ, ◌+◌, ℤ, pos, nat_le, if◌then◌else◌, Option, None, Some, unwrap_or, Result, Ok, Err,
-    List, [], ◌∷◌, ◌++◌, length}
+use Rattle.std.specs.Prelude.{ℕ, ◌+◌, ℤ, pos, nat_le, if◌then◌else◌, Option, None, Some, unwrap_or, Result, Ok, Err}
+use Rattle.std.specs.Prelude.{List, [], ◌∷◌, ◌++◌, length}
 use Rattle.om_foot.specs.declared.object.Obj.TheVariants as obj
 use Rattle.om_foot.specs.declared.footprint.Access.{Access}
 use Rattle.om_code.specs.declared.instruction.Instr.{Instr}
@@ -36,8 +36,8 @@ use Rattle.om_row.specs.declared.row.Answer.{Answer}
 use Rattle.om_row.specs.declared.row.Row.{Row}
 use Rattle.om_row.specs.declared.row.Row.TheVariants.{Goes, Faults, Lacks}
 use Rattle.om_row.specs.Rows.{Asked, decided, goes, first_of, rest_of}
-use Rattle.om_row.specs.Objects.{read, write, object_of, home_at, slot_cells, given_cells, own_cells, homes_in,
-    puts, deaths}
+use Rattle.om_row.specs.Objects.{read, write, object_of, home_at, slot_cells, given_cells, own_cells, homes_in, puts}
+use Rattle.om_row.specs.Objects.{deaths}
 
 -- the slots of the body that runs in a context
 abbrev pub slots_in : Raw → Context → List Slot
@@ -68,18 +68,30 @@ cells_of_slot raw c slot = slot_cells c.task c.frame.ordinal slot (home_at c.fra
 
 -- a slot that becomes unset
 abbrev pub cleared : Raw → Context → ℕ → Turn → Answer
-cleared raw c slot t = record { names = cells_of_slot raw c slot; row = row_of (c.frame.next + 1)
-    (unsets (cells_of_slot raw c slot)) t }
+cleared raw c slot t = record {
+  names = cells_of_slot raw c slot;
+  row = row_of (c.frame.next + 1)
+      (unsets (cells_of_slot raw c slot)) t;
+}
 
 -- the row of what an instruction of the frame machine touches, and of its turn
 abbrev pub touch_row : Raw → Context → (cells.Cell → Turn) → Touch → Asked
 touch_row raw c t touch.Nothing = decided (row_of (c.frame.next + 1) [] (t cell.Unset))
-touch_row raw c t (touch.Reads place index) = record { names = read (object_of c place index) ∷ []; row = λ values.
-    row_of (c.frame.next + 1) [] (t (cell_in (first_of values))) }
-touch_row raw c t (touch.Writes place index) = record { names = write (object_of c place index) ∷ []; row =
-    λ values. row_of (c.frame.next + 1) [] (t (cell_in (first_of values))) }
-touch_row raw c t (touch.Clears slot) = record { names = cells_of_slot raw c slot; row = λ _. row_of
-    (c.frame.next + 1) (unsets (cells_of_slot raw c slot)) (t cell.Unset) }
+touch_row raw c t (touch.Reads place index) = record {
+  names = read (object_of c place index) ∷ [];
+  row = λ values.
+      row_of (c.frame.next + 1) [] (t (cell_in (first_of values)));
+}
+touch_row raw c t (touch.Writes place index) = record {
+  names = write (object_of c place index) ∷ [];
+  row =
+      λ values. row_of (c.frame.next + 1) [] (t (cell_in (first_of values)));
+}
+touch_row raw c t (touch.Clears slot) = record {
+  names = cells_of_slot raw c slot;
+  row = λ _. row_of
+      (c.frame.next + 1) (unsets (cells_of_slot raw c slot)) (t cell.Unset);
+}
 touch_row raw c t (touch.Prints text values) = record {
   names = write obj.Output ∷ [];
   row = λ _. row_of (c.frame.next + 1) (Append (Bytes (print_bytes raw text values c.frame.operands)) ∷ [])
@@ -111,8 +123,11 @@ call_row launch body c (Some ns) =
 abbrev pub return_row : Context → List Slot → List Frame → Option Operand → Asked
 return_row c slots callers None = decided Lacks
 return_row c slots [] (Some v) = decided Lacks
-return_row c slots (caller ∷ callers) (Some v) = record { names = own_cells c slots; row = λ _. Goes
-    (EndFrame v ∷ []) (deaths (own_cells c slots)) }
+return_row c slots (caller ∷ callers) (Some v) = record {
+  names = own_cells c slots;
+  row = λ _. Goes
+      (EndFrame v ∷ []) (deaths (own_cells c slots));
+}
 
 -- OpenMP 5.2, 5.5.5: a copy of a reduction is combined with its original, in one step
 abbrev pub combined : ℕ → Result ℤ Fault → Row

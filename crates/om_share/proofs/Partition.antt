@@ -1,13 +1,13 @@
 -- A static schedule parts the iterations of a loop.
-use Rattle.std.proofs.Common.{◌≡◌, ⊎_elim, subst, sym, ◌∙◌, ap, ℕ, zero, suc, ◌+◌, ◌-◌, ◌*◌, ◌/◌, ◌%◌, ◌<◌, ◌≤◌,
-    arith, Option, None, Some}
+use Rattle.std.proofs.Common.{◌≡◌, ⊎_elim, subst, sym, ◌∙◌, ap, ℕ, zero, suc, ◌+◌, ◌-◌, ◌*◌, ◌/◌, ◌%◌, ◌<◌, ◌≤◌, arith}
+use Rattle.std.proofs.Common.{Option, None, Some}
 use Rattle.std.specs.Prelude.{nat_lt, nat_eq, min, if◌then◌else◌, IsSomeAnd}
 use Rattle.std.proofs.lemmas.Grind.{common_steps}
 use Rattle.std.proofs.lemmas.Nat.{div-add-mod', mod_below, mul-le, same_from_place, div-mul-add}
 use Rattle.std.proofs.lemmas.Bool.{cases_lt, cases_order}
 use Rattle.om_share.specs.declared.chunk.Chunk.{Chunk}
-use Rattle.om_share.specs.Chunks.{chunk_within, round_robin, block_start, block_size, block, IsChunkSize, LiesIn,
-    IsPartition, AreShares}
+use Rattle.om_share.specs.Chunks.{chunk_within, round_robin, block_start, block_size, block, IsChunkSize, LiesIn}
+use Rattle.om_share.specs.Chunks.{IsPartition, AreShares}
 
 -- a chunk, if there is one, holds an iteration
 abbrev pub Holds : Option Chunk → ℕ → Type 0
@@ -72,8 +72,13 @@ record IsStarted (n t i k : ℕ) : Type 0 where
   high : k < block_start n t (thread + 1)
 
 in_last : (n t i m k : ℕ) → m ≡ i + 1 → block_start n t i ≤ k → k < block_start n t m → IsStarted n t m k
-in_last n t i m k e low high = record { thread = i; before = omega (arith, e); low = low; high = subst
-    (λ q. k < block_start n t q) e high }
+in_last n t i m k e low high = record {
+  thread = i;
+  before = omega (arith, e);
+  low = low;
+  high = subst
+      (λ q. k < block_start n t q) e high;
+}
 
 further : (n t i k : ℕ) → IsStarted n t i k → IsStarted n t (suc i) k
 further n t i k r = record { thread = r.thread; before = omega (arith, r.before); low = r.low; high = r.high }
@@ -85,9 +90,15 @@ started n t (suc i) k h = ⊎_elim (λ less. further n t i k (started n t i k le
 
 block_some : (n t k : ℕ) → 1 ≤ t → k < n → (i : ℕ) × (i < t) × Holds (block n t i) k
 block_some n t k p h =
-    let r = started n t t k (omega (arith, last_block n t p)) in
-    (r.thread, r.before, holds n _ _ k (record { low = r.low; high = omega (arith, r.high, next_block n t r.thread);
-        below = h }))
+    let r = started n t t k (omega (arith, last_block n t p)) in (
+      r.thread,
+      r.before,
+      holds n _ _ k (record {
+        low = r.low;
+        high = omega (arith, r.high, next_block n t r.thread);
+        below = h;
+      }),
+    )
 
 -- a later block begins where this one ends, or further on
 apart : (n t i j k : ℕ) → i < j → Holds (block n t i) k → Holds (block n t j) k → i ≡ j
@@ -146,7 +157,7 @@ whole_from n t i r k p e low high =
     let last = last_block n t (omega arith) in
     let rises = later_block n t (i + 1) t (omega arith) in
     first_block (block n t i) r k e
-        (holds n _ _ k (record { low = low; high = high; below = omega (arith, last, rises, high, next_block n t i) }))
+    (holds n _ _ k (record { low = low; high = high; below = omega (arith, last, rises, high, next_block n t i) }))
 
 pub shares : (n t : ℕ) → AreShares n t
 shares n t = record {

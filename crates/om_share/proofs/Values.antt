@@ -1,6 +1,6 @@
 -- The value of an iteration has 128 bits.
-use Rattle.std.proofs.Common.{◌≡◌, ◌∙◌, ap, arith, ℕ, ◌*◌, ◌<◌, ◌≤◌, ◌^◌, ℤ, pos, negsuc, ◌+ℤ◌, ◌*ℤ◌, to_z, of_z,
-    FitsSigned, subst, sym}
+use Rattle.std.proofs.Common.{◌≡◌, ◌∙◌, ap, arith, ℕ, ◌*◌, ◌<◌, ◌≤◌, ◌^◌, ℤ, pos, negsuc, ◌+ℤ◌, ◌*ℤ◌, to_z, of_z}
+use Rattle.std.proofs.Common.{FitsSigned, subst, sym}
 use Rattle.std.specs.Prelude.{unsigned_abs}
 use Rattle.std.specs.Int.{w32, w128}
 use Rattle.std.proofs.lemmas.Int.{ints, to_z-of_z, fits_signed_from_abs, unsigned_abs-mul}
@@ -13,7 +13,7 @@ abs_of_int (negsuc n) h = omega (arith, ints)
 abs_of_product : (n : ℕ) (step : ℤ) → n < 2 ^ 64 → FitsSigned w32 step → unsigned_abs (pos n *ℤ step) ≤ 2 ^ 95
 abs_of_product n step h f =
     let parts : n * unsigned_abs step ≤ 2 ^ 64 * 2 ^ 31 = mul-le n (unsigned_abs step) (2 ^ 64) (2 ^ 31)
-        (omega arith) (abs_of_int step f) in
+    (omega arith) (abs_of_int step f) in
     subst (λ k. k ≤ 2 ^ 95) (sym (unsigned_abs-mul (pos n) step)) (omega (arith, parts))
 
 abs_fits : (z : ℤ) → unsigned_abs z ≤ 2 ^ 95 → FitsSigned w128 z

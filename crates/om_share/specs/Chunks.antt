@@ -1,6 +1,6 @@
 -- The iterations of a loop, and the chunks in which they are shared out (OpenMP 5.2, 4.4.2 and 11.5.3).
-use Rattle.std.specs.Prelude.{◌≡◌, ◌↔◌, ℕ, ◌+◌, ◌-◌, ◌*◌, ◌/◌, ◌%◌, ◌<◌, ◌≤◌, ℤ, pos, negsuc, ◌+ℤ◌, ◌-ℤ◌, ◌*ℤ◌,
-    neg_ℤ, nat_lt, nat_eq, ◌&&◌, min, if◌then◌else◌, Option, None, Some, IsSomeAnd, IfSome}
+use Rattle.std.specs.Prelude.{◌≡◌, ◌↔◌, ℕ, ◌+◌, ◌-◌, ◌*◌, ◌/◌, ◌%◌, ◌<◌, ◌≤◌, ℤ, pos, negsuc, ◌+ℤ◌, ◌-ℤ◌, ◌*ℤ◌, neg_ℤ}
+use Rattle.std.specs.Prelude.{nat_lt, nat_eq, ◌&&◌, min, if◌then◌else◌, Option, None, Some, IsSomeAnd, IfSome}
 use Rattle.om_code.specs.declared.instruction.Comparison.{Comparison}
 use Rattle.om_code.specs.declared.instruction.Comparison.TheVariants.{Less, LessOrEqual, Greater, GreaterOrEqual}
 use Rattle.om_share.specs.declared.chunk.Chunk.{Chunk}

@@ -1,6 +1,6 @@
 -- The rows of worksharing, masked and critical regions.
-use Rattle.std.specs.Prelude.{ℕ, ◌+◌, ℤ, pos, ◌&&◌, Bool, true, false, nat_lt, nat_eq, if◌then◌else◌, Option, None,
-    Some, List, [], ◌∷◌, slice_get}
+use Rattle.std.specs.Prelude.{ℕ, ◌+◌, ℤ, pos, ◌&&◌, Bool, true, false, nat_lt, nat_eq, if◌then◌else◌, Option, None}
+use Rattle.std.specs.Prelude.{Some, List, [], ◌∷◌, slice_get}
 use Rattle.std.specs.Ordering.{int_eq}
 use Rattle.om_foot.specs.declared.object.Obj.TheVariants as obj
 use Rattle.om_code.specs.declared.frame.Fault.TheVariants as fault
@@ -74,14 +74,23 @@ work_of sharing.Sections = work.Sections
 
 -- a loop or sections that a member opens: it has no chunk yet
 abbrev pub opened : sharings.Sharing → ℕ → ℕ → ℤ → ℤ → Schedule → Share
-opened s region n lower step sched = record { sharing = s; region = region; count = n; lower = lower; step = step;
-    schedule = sched; taken = 0; next = 0; end = 0 }
+opened s region n lower step sched = record {
+  sharing = s;
+  region = region;
+  count = n;
+  lower = lower;
+  step = step;
+  schedule = sched;
+  taken = 0;
+  next = 0;
+  end = 0;
+}
 
 abbrev pub open_row : ℕ → ℕ → ℕ → Context → Share → Asked
 open_row worker to takes c share =
     if is_misplaced c then decided (Faults fault.Nesting)
     else recorded worker (begun to takes (construct.Share share)) (event_record.Work (work_of share.sharing)
-        endpoint.Begin c.team.name c.task share.count)
+    endpoint.Begin c.team.name c.task share.count)
 
 -- whether the chunks of a schedule have at least one iteration
 abbrev pub is_right_schedule : Schedule → Bool
@@ -252,14 +261,20 @@ lock_row worker to number lock None = Goes (edits to 0 (Open (construct.Critical
 lock_row worker to number lock (Some holder) = Blocked (blocked.Critical holder)
 
 abbrev pub enter_critical_row : ℕ → ℕ → ℕ → List ℕ → Asked
-enter_critical_row worker to number lock = record { names = write (obj.Lock number) ∷ events worker ∷ []; row =
-    λ values. lock_row worker to number lock (holder_in (first_of values)) }
+enter_critical_row worker to number lock = record {
+  names = write (obj.Lock number) ∷ events worker ∷ [];
+  row =
+      λ values. lock_row worker to number lock (holder_in (first_of values));
+}
 
 abbrev pub unlock_row : ℕ → List ℕ → Row
 unlock_row to lock = Goes (edits to 0 Close) (Put (value.Lock None) ∷ event (event_record.MutexReleased lock) ∷ [])
 
 abbrev pub leave_critical_row : ℕ → ℕ → ℕ → List ℕ → Option Construct → Asked
 leave_critical_row worker to number lock region =
-    if is_critical number region then record { names = write (obj.Lock number) ∷ events worker ∷ []; row =
-        λ _. unlock_row to lock }
+    if is_critical number region then record {
+      names = write (obj.Lock number) ∷ events worker ∷ [];
+      row =
+          λ _. unlock_row to lock;
+    }
     else decided Lacks

@@ -31,5 +31,5 @@ pub all_added : {T E : Type 0} (r : Result T E) (us a b new : List Update) (d k 
     → OnOk r (new ≡ b ++ Add k ∷ []) → OnOk r (new ≡ us ++ additions d group)
 all_added (Ok x) us a b new d k group name same in_group first second third =
     three us a b new (Add k) first second third ∙ ap (λ n. us ++ Add n ∷ Add n ∷ Add n ∷ []) same
-        ∙ ap (λ g. us ++ additions d g) (sym in_group)
+    ∙ ap (λ g. us ++ additions d g) (sym in_group)
 all_added (Err x) us a b new d k group name same in_group first second third = tt

@@ -1,6 +1,6 @@
 -- The rows of tasks, task groups, and the end of the program.
-use Rattle.std.specs.Prelude.{ℕ, ℤ, pos, negsuc, Bool, true, false, if◌then◌else◌, nat_eq, Option, None, Some, List,
-    [], ◌∷◌, ◌++◌}
+use Rattle.std.specs.Prelude.{ℕ, ℤ, pos, negsuc, Bool, true, false, if◌then◌else◌, nat_eq, Option, None, Some, List, []}
+use Rattle.std.specs.Prelude.{◌∷◌, ◌++◌}
 use Rattle.std.specs.Cmp.Lexicographic.{pointwise}
 use Rattle.om_foot.specs.Names.{parent_of}
 use Rattle.om_foot.specs.declared.object.Obj.TheVariants as obj
@@ -101,16 +101,22 @@ sync_event s e c = event_record.SyncRegion s e c.team.name c.task
 
 -- OpenMP 5.2, 15.5: a task waits for its children
 abbrev pub wait_begin_row : ℕ → ℕ → Context → Asked
-wait_begin_row worker to c = record { names = events worker ∷ []; row = λ _. goes to 0 None
-    (event (sync_event sync.TaskWait endpoint.Begin c) ∷ []) }
+wait_begin_row worker to c = record {
+  names = events worker ∷ [];
+  row = λ _. goes to 0 None
+      (event (sync_event sync.TaskWait endpoint.Begin c) ∷ []);
+}
 
 abbrev pub waited : ℕ → Context → Bool → Row
 waited to c true = goes to 0 None (Keep ∷ event (sync_event sync.TaskWait endpoint.End c) ∷ [])
 waited to c false = Blocked blocked.Children
 
 abbrev pub wait_end_row : ℕ → ℕ → Context → Asked
-wait_end_row worker to c = record { names = read (obj.Kids c.task) ∷ events worker ∷ []; row = λ values. waited to c
-    (is_zero (count_in (first_of values))) }
+wait_end_row worker to c = record {
+  names = read (obj.Kids c.task) ∷ events worker ∷ [];
+  row = λ values. waited to c
+      (is_zero (count_in (first_of values)));
+}
 
 -- OpenMP 5.2, 12.7: a task goes on, and might have started another one
 abbrev pub task_yield_row : ℕ → Asked
@@ -135,8 +141,11 @@ closed to c false = Blocked blocked.Group
 
 abbrev pub closed_row : ℕ → ℕ → Context → Option (List ℕ) → Asked
 closed_row worker to c None = decided Lacks
-closed_row worker to c (Some group) = record { names = read (obj.Group group) ∷ events worker ∷ []; row = λ values.
-    closed to c (is_zero (count_in (first_of values))) }
+closed_row worker to c (Some group) = record {
+  names = read (obj.Group group) ∷ events worker ∷ [];
+  row = λ values.
+      closed to c (is_zero (count_in (first_of values)));
+}
 
 abbrev pub group_end_row : ℕ → ℕ → Context → Asked
 group_end_row worker to c = closed_row worker to c (innermost_group (innermost c.constructs))
@@ -182,8 +191,11 @@ started worker name c s (Some ready) = Goes (BeginContext (task_context name c r
 abbrev pub started_row : ℕ → List ℕ → Context → Bool → Option statuses.TaskStatus → Asked
 started_row worker name c admits None = decided (Blocked blocked.Place)
 started_row worker name c false (Some s) = decided (Blocked blocked.Task)
-started_row worker name c true (Some s) = record { names = write (obj.Task name) ∷ events worker ∷ []; row =
-    λ values. started worker name c s (ready_for c.team.name (task_in (first_of values))) }
+started_row worker name c true (Some s) = record {
+  names = write (obj.Task name) ∷ events worker ∷ [];
+  row =
+      λ values. started worker name c s (ready_for c.team.name (task_in (first_of values)));
+}
 
 -- OpenMP 5.2, 12.9: the task of a name is started on a context, at a scheduling point
 abbrev pub start_row : Starting → List ℕ → Context → Asked

@@ -56,11 +56,28 @@ additions d group = Add d ∷ Add d ∷ group_addition d group
 
 -- what a task that is made waits with
 abbrev pub ready_of : Making → Body → Context → Ready
-ready_of m body c = record { body = m.launch.body; line = m.line; homes = homes_in c body.slots; team = c.team.name;
-    phase = c.phase; group = group_of c }
+ready_of m body c = record {
+  body = m.launch.body;
+  line = m.line;
+  homes = homes_in c body.slots;
+  team = c.team.name;
+  phase = c.phase;
+  group = group_of c;
+}
 
 -- the context of a task that is started on another context: its place in the team is that of the context below
 abbrev pub task_context : List ℕ → Context → Ready → Context
-task_context name c ready = record { task = name; kind = kind.Explicit; team = c.team; phase = ready.phase; births =
-    0; regions = 0; frames = 1; group = ready.group; constructs = []; frame = first_frame ready.body ready.homes;
-    callers = [] }
+task_context name c ready = record {
+  task = name;
+  kind = kind.Explicit;
+  team = c.team;
+  phase = ready.phase;
+  births =
+      0;
+  regions = 0;
+  frames = 1;
+  group = ready.group;
+  constructs = [];
+  frame = first_frame ready.body ready.homes;
+  callers = [];
+}

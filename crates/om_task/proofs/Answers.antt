@@ -27,4 +27,4 @@ pub same_spawn : {E : Type 0} (r : Result Answer E) (m n : Making) (b d : Body) 
     → IfOk r (λ answer. answer ≡ answered (spawn_row n d c) s)
 same_spawn r m n b d c s makings bodies h =
     subst (λ q. IfOk r (λ answer. answer ≡ answered (spawn_row n q c) s)) bodies
-        (subst (λ q. IfOk r (λ answer. answer ≡ answered (spawn_row q b c) s)) makings h)
+    (subst (λ q. IfOk r (λ answer. answer ≡ answered (spawn_row q b c) s)) makings h)

@@ -31,8 +31,15 @@ use Rattle.om_task.proofs.Walk.{choice_within, row_within}
 
 -- some number that no counter is above
 context_bound : (c : Context) → (n : ℕ) × IsWithin n c
-context_bound c = (c.births + c.regions + c.phase + c.frames, record { births = omega arith; regions = omega arith;
-    phase = omega arith; frames = omega arith })
+context_bound c = (
+  c.births + c.regions + c.phase + c.frames,
+  record {
+    births = omega arith;
+    regions = omega arith;
+    phase = omega arith;
+    frames = omega arith;
+  },
+)
 
 contexts_bound : (cs : List Context) → (n : ℕ) × AreWithin n cs
 contexts_bound [] = (0, tt)
@@ -97,7 +104,7 @@ values_modest program workers l (v ∷ values) us e =
     let a = control_bound c in let b = values_bound values in
     outcome_modest (a.0 + b.0) c (row_in program workers l c values) us
     (row_within (a.0 + b.0) program workers l c values (control_more a.0 (a.0 + b.0) c (omega arith) a.1)
-        (values_more b.0 (a.0 + b.0) values (omega arith) b.1)) e
+    (values_more b.0 (a.0 + b.0) values (omega arith) b.1)) e
 
 names_once : (program : Raw) (workers : ℕ) (l : Label) (c : controls.Control) → AddOnce (further_in program workers l c)
 names_once program workers l (Running stack) = let a = context_bound stack.top in

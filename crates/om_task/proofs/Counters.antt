@@ -7,15 +7,20 @@ use Rattle.om_cells.specs.declared.control.Stack.{Stack}
 use Rattle.om_cells.specs.declared.control.Control as controls
 use Rattle.om_cells.specs.declared.control.Control.TheVariants.{Idle, Running, Faulted, Ended}
 use Rattle.om_cells.specs.declared.edit.Edit.{Edit}
-use Rattle.om_cells.specs.declared.edit.Edit.TheVariants.{Go, BeginFrame, EndFrame, BeginContext, EndContext, Open,
-    Close, Replace, CountBirth, CountRegion, CountPhase, Fail, End}
+use Rattle.om_cells.specs.declared.edit.Edit.TheVariants.{Go, BeginFrame, EndFrame, BeginContext, EndContext, Open}
+use Rattle.om_cells.specs.declared.edit.Edit.TheVariants.{Close, Replace, CountBirth, CountRegion, CountPhase, Fail}
+use Rattle.om_cells.specs.declared.edit.Edit.TheVariants.{End}
 use Rattle.om_cells.specs.Edits.{changed_by, changed, edited, HasRoom, HaveRoom, context_ended, value_given}
 use Rattle.om_task.specs.Counters.{IsWithin, AreWithin, ControlWithin}
 use Rattle.om_task.proofs.Bounds.{counted, counts, BeginsWithin, BeginWithin}
 
 pub context_more : (n m : ℕ) (c : Context) → n ≤ m → IsWithin n c → IsWithin m c
-context_more n m c h w = record { births = omega (arith, h, w.births); regions = omega (arith, h, w.regions);
-    phase = omega (arith, h, w.phase); frames = omega (arith, h, w.frames) }
+context_more n m c h w = record {
+  births = omega (arith, h, w.births);
+  regions = omega (arith, h, w.regions);
+  phase = omega (arith, h, w.phase);
+  frames = omega (arith, h, w.frames);
+}
 
 pub contexts_more : (n m : ℕ) (cs : List Context) → n ≤ m → AreWithin n cs → AreWithin m cs
 contexts_more n m [] h w = tt
@@ -50,17 +55,29 @@ ended_within n (c ∷ below) w = w
 given_within : (n : ℕ) (v : Operand) (callers : List Frame) (c : Context) → IsWithin n c
     → IsWithin n (value_given v callers c)
 given_within n v [] c w = w
-given_within n v (f ∷ callers) c w = record { births = w.births; regions = w.regions; phase = w.phase; frames =
-    w.frames }
+given_within n v (f ∷ callers) c w = record {
+  births = w.births;
+  regions = w.regions;
+  phase = w.phase;
+  frames =
+      w.frames;
+}
 
 -- a stack after an edit has counted as much more as the edit counts
 stack_within : (n : ℕ) (edit : Edit) (stack : Stack) → BeginsWithin n edit → ControlWithin n (Running stack)
     → ControlWithin (n + counted edit) (edited edit stack)
 stack_within n (Go to takes pushed) stack b w = control_more n (n + 0) (edited (Go to takes pushed) stack)
     (omega arith) (record { births = w.0.births; regions = w.0.regions; phase = w.0.phase; frames = w.0.frames }, w.1)
-stack_within n (BeginFrame to takes body homes) stack b w =
-    (record { births = omega (arith, w.0.births); regions = omega (arith, w.0.regions); phase = omega
-    (arith, w.0.phase); frames = omega (arith, w.0.frames) }, contexts_more n (n + 1) stack.below (omega arith) w.1)
+stack_within n (BeginFrame to takes body homes) stack b w = (
+  record {
+    births = omega (arith, w.0.births);
+    regions = omega (arith, w.0.regions);
+    phase = omega
+        (arith, w.0.phase);
+    frames = omega (arith, w.0.frames);
+  },
+  contexts_more n (n + 1) stack.below (omega arith) w.1,
+)
 stack_within n (EndFrame v) stack b w = control_more n (n + 0) (edited (EndFrame v) stack) (omega arith)
     (given_within n v stack.top.callers stack.top w.0, w.1)
 stack_within n (BeginContext c) stack b w = control_more n (n + 0) (edited (BeginContext c) stack) (omega arith) (b, w)
@@ -72,15 +89,36 @@ stack_within n Close stack b w = control_more n (n + 0) (edited Close stack) (om
     (record { births = w.0.births; regions = w.0.regions; phase = w.0.phase; frames = w.0.frames }, w.1)
 stack_within n (Replace c) stack b w = control_more n (n + 0) (edited (Replace c) stack) (omega arith)
     (record { births = w.0.births; regions = w.0.regions; phase = w.0.phase; frames = w.0.frames }, w.1)
-stack_within n CountBirth stack b w =
-    (record { births = omega (arith, w.0.births); regions = omega (arith, w.0.regions); phase = omega
-    (arith, w.0.phase); frames = omega (arith, w.0.frames) }, contexts_more n (n + 1) stack.below (omega arith) w.1)
-stack_within n CountRegion stack b w =
-    (record { births = omega (arith, w.0.births); regions = omega (arith, w.0.regions); phase = omega
-    (arith, w.0.phase); frames = omega (arith, w.0.frames) }, contexts_more n (n + 1) stack.below (omega arith) w.1)
-stack_within n CountPhase stack b w =
-    (record { births = omega (arith, w.0.births); regions = omega (arith, w.0.regions); phase = omega
-    (arith, w.0.phase); frames = omega (arith, w.0.frames) }, contexts_more n (n + 1) stack.below (omega arith) w.1)
+stack_within n CountBirth stack b w = (
+  record {
+    births = omega (arith, w.0.births);
+    regions = omega (arith, w.0.regions);
+    phase = omega
+        (arith, w.0.phase);
+    frames = omega (arith, w.0.frames);
+  },
+  contexts_more n (n + 1) stack.below (omega arith) w.1,
+)
+stack_within n CountRegion stack b w = (
+  record {
+    births = omega (arith, w.0.births);
+    regions = omega (arith, w.0.regions);
+    phase = omega
+        (arith, w.0.phase);
+    frames = omega (arith, w.0.frames);
+  },
+  contexts_more n (n + 1) stack.below (omega arith) w.1,
+)
+stack_within n CountPhase stack b w = (
+  record {
+    births = omega (arith, w.0.births);
+    regions = omega (arith, w.0.regions);
+    phase = omega
+        (arith, w.0.phase);
+    frames = omega (arith, w.0.frames);
+  },
+  contexts_more n (n + 1) stack.below (omega arith) w.1,
+)
 stack_within n (Fail f) stack b w = tt
 stack_within n (End v) stack b w = tt
 
@@ -97,9 +135,9 @@ pub changed_within : (n : ℕ) (edits : List Edit) (c : controls.Control) → Be
 changed_within n [] c b w = control_more n (n + 0) c (omega arith) w
 changed_within n (edit ∷ edits) c b w =
     control_more (n + counted edit + counts edits) (n + (counted edit + counts edits))
-        (changed edits (changed_by edit c)) (omega arith)
+    (changed edits (changed_by edit c)) (omega arith)
     (changed_within (n + counted edit) edits (changed_by edit c) (begin_more n (n + counted edit) edits
-        (omega arith) b.1) (edit_within n edit c b.0 w))
+    (omega arith) b.1) (edit_within n edit c b.0 w))
 
 has_room : (n : ℕ) (edit : Edit) (c : controls.Control) → ControlWithin n c → n + counted edit + 1 < 2 ^ 64
     → HasRoom edit c
@@ -124,6 +162,8 @@ has_room n (End v) (Running stack) w h = tt
 pub have_room : (n : ℕ) (edits : List Edit) (c : controls.Control) → BeginWithin n edits → ControlWithin n c
     → n + counts edits + 1 < 2 ^ 64 → HaveRoom edits c
 have_room n [] c b w h = tt
-have_room n (edit ∷ edits) c b w h =
-    (has_room n edit c w (omega (arith, h)), have_room (n + counted edit) edits (changed_by edit c)
-        (begin_more n (n + counted edit) edits (omega arith) b.1) (edit_within n edit c b.0 w) (omega (arith, h)))
+have_room n (edit ∷ edits) c b w h = (
+  has_room n edit c w (omega (arith, h)),
+  have_room (n + counted edit) edits (changed_by edit c)
+      (begin_more n (n + counted edit) edits (omega arith) b.1) (edit_within n edit c b.0 w) (omega (arith, h)),
+)

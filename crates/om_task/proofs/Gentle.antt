@@ -1,6 +1,6 @@
 -- Gentle updates, and accesses that add nothing.
-use Rattle.std.proofs.Common.{◌≡◌, refl, ℕ, zero, suc, ◌+◌, ℤ, pos, negsuc, Bool, true, false, if◌then◌else◌, arith,
-    List, [], ◌∷◌, ◌++◌, replicate}
+use Rattle.std.proofs.Common.{◌≡◌, refl, ℕ, zero, suc, ◌+◌, ℤ, pos, negsuc, Bool, true, false, if◌then◌else◌, arith}
+use Rattle.std.proofs.Common.{List, [], ◌∷◌, ◌++◌, replicate}
 use Rattle.std.proofs.lemmas.Int.{ints}
 use Rattle.om_foot.specs.declared.footprint.Access.{Access}
 use Rattle.om_code.specs.declared.raw.Slot.{Slot}
@@ -89,15 +89,22 @@ keeps_gentle n (suc k) = (tt, keeps_gentle n k)
 
 -- a member of a team begins with nothing counted
 pub member_within : (n : ℕ) (team : Team) (frame : Frame) → IsWithin n (member team frame)
-member_within n team frame = record { births = omega arith; regions = omega arith; phase = omega arith; frames =
-    omega arith }
+member_within n team frame = record {
+  births = omega arith;
+  regions = omega arith;
+  phase = omega arith;
+  frames =
+      omega arith;
+}
 
 pub controls_gentle : (n : ℕ) (team : Team) (frame : Frame) (number count : ℕ)
     → AreGentle n (member_controls team frame number count)
 controls_gentle n team frame number zero = tt
-controls_gentle n team frame number (suc count) =
-    ((tt, (member_within n (record team { number = number }) frame, tt)), controls_gentle n team frame (number + 1)
-    count)
+controls_gentle n team frame number (suc count) = (
+  (tt, (member_within n (record team { number = number }) frame, tt)),
+  controls_gentle n team frame (number + 1)
+      count,
+)
 
 pub values_gentle : (n : ℕ) (ns : List ℤ) (count : ℕ) → AreGentle n (member_puts ns count)
 values_gentle n ns zero = tt

@@ -1,6 +1,6 @@
 -- Counters stay below the number of steps.
-use Rattle.std.proofs.Common.{◌≡◌, refl, subst, ℕ, ◌+◌, ◌≤◌, arith, Bool, true, false, cond, List, [], ◌∷◌, Option,
-    None, Some, length}
+use Rattle.std.proofs.Common.{◌≡◌, refl, subst, ℕ, ◌+◌, ◌≤◌, arith, Bool, true, false, cond, List, [], ◌∷◌, Option}
+use Rattle.std.proofs.Common.{None, Some, length}
 use Rattle.om_code.specs.declared.raw.Raw.{Raw}
 use Rattle.om_foot.specs.Footprint.{obj_eq}
 use Rattle.om_foot.specs.declared.object.Obj.TheVariants as obj
@@ -126,16 +126,26 @@ outcome_within : (n : ℕ) (c : controls.Control) (r : Row) (accesses : List Acc
 outcome_within n c (row.Goes edits us) accesses s t w k h e =
     let new : updated accesses (Put (value.Control (changed edits c)) ∷ us) s ≡ t = cc in
     subst (StateWithin (n + 1)) new
-    (updated_within (n + 1) accesses (Put (value.Control (changed edits c)) ∷ us) s
-    ((tt, control_more (n + counts edits) (n + 1) (changed edits c) (omega (arith, k.few))
-        (changed_within n edits c k.begun w)), gentle_more n (n + 1) us (omega arith) k.gentle)
+    (updated_within (n + 1) accesses (Put (value.Control (changed edits c)) ∷ us) s (
+      (
+        tt,
+        control_more (n + counts edits) (n + 1) (changed edits c) (omega (arith, k.few))
+            (changed_within n edits c k.begun w),
+      ),
+      gentle_more n (n + 1) us (omega arith) k.gentle,
+    )
     (state_more n (n + 1) s (omega arith) h))
 outcome_within n c (row.Faults f) accesses s t w k h e =
     let new : updated accesses (Put (value.Control (changed (Fail f ∷ []) c)) ∷ []) s ≡ t = cc in
     subst (StateWithin (n + 1)) new
-    (updated_within (n + 1) accesses (Put (value.Control (changed (Fail f ∷ []) c)) ∷ []) s
-    ((tt, control_more (n + counts (Fail f ∷ [])) (n + 1) (changed (Fail f ∷ []) c) (omega arith)
-        (changed_within n (Fail f ∷ []) c (tt, tt) w)), tt)
+    (updated_within (n + 1) accesses (Put (value.Control (changed (Fail f ∷ []) c)) ∷ []) s (
+      (
+        tt,
+        control_more (n + counts (Fail f ∷ [])) (n + 1) (changed (Fail f ∷ []) c) (omega arith)
+            (changed_within n (Fail f ∷ []) c (tt, tt) w),
+      ),
+      tt,
+    )
     (state_more n (n + 1) s (omega arith) h))
 outcome_within n c (row.Blocked b) accesses s t w k h e = cc
 outcome_within n c row.Lacks accesses s t w k h e = cc
@@ -149,7 +159,7 @@ step_within program workers n s t l h e =
     let names : List Access = further_in program workers l c in
     let w : ControlWithin n c = control_within n l.worker s c refl h in
     outcome_within n c (row_in program workers l c (values_read names s)) (step_at (rules_of program workers) s
-        l).footprint s t w (row_within n program workers l c (values_read names s) w (values_within n names s h)) h e
+    l).footprint s t w (row_within n program workers l c (values_read names s) w (values_within n names s h)) h e
 
 then_within : (n : ℕ) (o : Option State) (f : State → Option State) (t : State)
     → ((u : State) → o ≡ Some u → f u ≡ Some t → StateWithin n t) → and_then o f ≡ Some t → StateWithin n t
@@ -163,12 +173,20 @@ replay_within program workers n m [] s t h e few = let same : s ≡ t = cc in su
 replay_within program workers n m (l ∷ ls) s t h e few =
     then_within m (next_state (rules_of program workers) s l) (λ u. replay_from (rules_of program workers) u ls) t
     (λ u is rest. replay_within program workers (n + 1) m ls u t (step_within program workers n s u l h is) rest
-        (omega (arith, few))) e
+    (omega (arith, few))) e
 
 first_within : (program : Raw) (b : Bool) → ControlWithin 0
     (if b then Running (record { top = first_context program; below = [] }) else Idle)
-first_within program true = (record { births = omega arith; regions = omega arith; phase = omega arith; frames =
-    omega arith }, tt)
+first_within program true = (
+  record {
+    births = omega arith;
+    regions = omega arith;
+    phase = omega arith;
+    frames =
+        omega arith;
+  },
+  tt,
+)
 first_within program false = tt
 
 start_within : (program : Raw) (workers : ℕ) → StateWithin 0 (start_of program workers)

@@ -21,11 +21,12 @@ use Rattle.om_row.specs.Rows.{goes, first_of}
 use Rattle.om_row.specs.Objects.{is_misplaced}
 use Rattle.om_share.specs.declared.chunk.Chunk.{Chunk}
 use Rattle.om_share.specs.Chunks.{static_chunk, chunk_within, value_of}
-use Rattle.om_share.specs.Rows.{edits, begun, recorded, open_row, loop_row, loop_of, sections_row, taken_row,
-    given_row, static_row, dynamic_row, chunk_row, grab_row, value_row, int_of, iteration_row, iterate_row,
-    section_row, is_section, is_loop, is_member, is_masked, is_critical, is_right_form, pick_row, chosen_row,
-    single_row, end_worksharing_row, filtered_row, masked_row, end_masked_row, ask_critical_row, lock_row,
-    enter_critical_row, leave_critical_row}
+use Rattle.om_share.specs.Rows.{edits, begun, recorded, open_row, loop_row, loop_of, sections_row, taken_row, given_row}
+use Rattle.om_share.specs.Rows.{static_row, dynamic_row, chunk_row, grab_row, value_row, int_of, iteration_row}
+use Rattle.om_share.specs.Rows.{iterate_row, section_row, is_section, is_loop, is_member, is_masked, is_critical}
+use Rattle.om_share.specs.Rows.{is_right_form, pick_row, chosen_row, single_row, end_worksharing_row, filtered_row}
+use Rattle.om_share.specs.Rows.{masked_row, end_masked_row, ask_critical_row, lock_row, enter_critical_row}
+use Rattle.om_share.specs.Rows.{leave_critical_row}
 use Rattle.om_task.proofs.Bounds.{counts, BeginWithin, RowWithin, AskedWithin}
 use Rattle.om_task.proofs.Gentle.{lacks, by_control, plain, if_row, if_asked}
 
@@ -59,8 +60,12 @@ taken_within n to otherwise share None = record { few = omega arith; begun = (tt
 
 given_within : (n to otherwise : ℕ) (share : Share) (chunk : Option Chunk)
     → RowWithin n (given_row to otherwise share chunk)
-given_within n to otherwise share (Some chunk) = record { few = omega arith; begun = (tt, (tt, tt)); gentle =
-    ((tt, tt), tt) }
+given_within n to otherwise share (Some chunk) = record {
+  few = omega arith;
+  begun = (tt, (tt, tt));
+  gentle =
+      ((tt, tt), tt);
+}
 given_within n to otherwise share None = record { few = omega arith; begun = (tt, tt); gentle = tt }
 
 static_within : (n to otherwise : ℕ) (c : Context) (share : Share) (size : Option ℕ) (values : List Val)
@@ -97,7 +102,7 @@ iteration_within : (n to otherwise : ℕ) (c : Context) (slot : ℕ) (share : Sh
     → AskedWithin n (iteration_row to otherwise c slot share) values
 iteration_within n to otherwise c slot share values =
     if_asked n (nat_lt share.next share.end) _ _ values
-        (value_within n to c slot share (int_of (value_of share.lower share.step share.next)) values)
+    (value_within n to c slot share (int_of (value_of share.lower share.step share.next)) values)
     (by_control n (goes otherwise 0 None []) values (record { few = omega arith; begun = (tt, tt); gentle = tt }))
 
 pub iterate_within : (n to otherwise : ℕ) (c : Context) (slot : ℕ) (share : Option Share) (values : List Val)
@@ -117,10 +122,18 @@ pick_within n targets (Some share) values = by_control n _ values
 pick_within n targets None values = lacks n values
 
 chosen_within : (n to otherwise : ℕ) (c : Context) (first : Bool) → RowWithin n (chosen_row to otherwise c first)
-chosen_within n to otherwise c true = record { few = omega arith; begun = (tt, (tt, (tt, tt))); gentle =
-    ((tt, tt), (tt, tt)) }
-chosen_within n to otherwise c false = record { few = omega arith; begun = (tt, (tt, (tt, tt))); gentle =
-    (tt, (tt, tt)) }
+chosen_within n to otherwise c true = record {
+  few = omega arith;
+  begun = (tt, (tt, (tt, tt)));
+  gentle =
+      ((tt, tt), (tt, tt));
+}
+chosen_within n to otherwise c false = record {
+  few = omega arith;
+  begun = (tt, (tt, (tt, tt)));
+  gentle =
+      (tt, (tt, tt));
+}
 
 pub single_within : (n worker to otherwise : ℕ) (c : Context) (values : List Val)
     → AskedWithin n (single_row worker to otherwise c) values
@@ -164,8 +177,12 @@ ask_critical_within n worker to lock values = recorded_within n worker (Go to 0 
 
 lock_within : (n worker to number : ℕ) (lock : List ℕ) (holder : Option ℕ)
     → RowWithin n (lock_row worker to number lock holder)
-lock_within n worker to number lock None = record { few = omega arith; begun = (tt, (tt, tt)); gentle =
-    ((tt, tt), (tt, tt)) }
+lock_within n worker to number lock None = record {
+  few = omega arith;
+  begun = (tt, (tt, tt));
+  gentle =
+      ((tt, tt), (tt, tt));
+}
 lock_within n worker to number lock (Some holder) = tt
 
 pub enter_critical_within : (n worker to number : ℕ) (lock : List ℕ) (values : List Val)
@@ -177,4 +194,4 @@ pub leave_critical_within : (n worker to number : ℕ) (lock : List ℕ) (region
     → AskedWithin n (leave_critical_row worker to number lock region) values
 leave_critical_within n worker to number lock region values =
     if_asked n (is_critical number region) _ _ values (plain n _ values (refl, (refl, tt))
-        (record { few = omega arith; begun = (tt, (tt, tt)); gentle = ((tt, tt), (tt, tt)) })) (lacks n values)
+    (record { few = omega arith; begun = (tt, (tt, tt)); gentle = ((tt, tt), (tt, tt)) })) (lacks n values)

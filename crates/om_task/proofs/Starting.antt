@@ -1,6 +1,6 @@
 -- The start of a program, a global and a worker after the other.
-use Rattle.std.proofs.Common.{◌≡◌, refl, ◌∙◌, ap, Bool, true, false, cond, ◌&&◌, List, [], ◌∷◌, ℕ, zero, suc, ◌<◌,
-    ◌≤◌, ℤ, pos, length, take, arith, nat_eq, get_or, Some}
+use Rattle.std.proofs.Common.{◌≡◌, refl, ◌∙◌, ap, Bool, true, false, cond, ◌&&◌, List, [], ◌∷◌, ℕ, zero, suc, ◌<◌, ◌≤◌}
+use Rattle.std.proofs.Common.{ℤ, pos, length, take, arith, nat_eq, get_or, Some}
 use Rattle.std.proofs.Math.Path.{fun_ext}
 use Rattle.std.specs.Prelude.{if◌then◌else◌, slice_get, nat_lt}
 use Rattle.om_code.specs.declared.raw.GlobalVariable.{GlobalVariable}
@@ -108,9 +108,9 @@ at_next : (program : Raw) (n : ℕ) (d : GlobalVariable) → n < length program.
     ≡ start_below program (suc n) q
 at_next program n d h (obj.Global v i) =
     ap (λ b. cond (nat_eq n v && b) (int (initial_in (Some (get_or program.globals n d))))
-        (start_below program n (obj.Global v i))) (eq_flip 0 i)
+    (start_below program n (obj.Global v i))) (eq_flip 0 i)
     ∙ put_cell (nat_eq n v) (nat_eq i 0) (initial_in (Some (get_or program.globals n d)))
-        (initial_of (take n program.globals) v)
+    (initial_of (take n program.globals) v)
     ∙ ap (λ x. int (if nat_eq i 0 then x else pos 0)) (one_more program.globals n v d h)
 at_next program n d h (obj.Control w) = refl
 at_next program n d h (obj.Cell t f s j) = refl
@@ -141,7 +141,7 @@ other_records = event_record.ThreadBegin thread.Worker ∷ []
 put_events : (same first before after : Bool) (records : List Record) → (same ≡ true → first ≡ false)
     → (same ≡ true → after ≡ true) → (same ≡ false → before ≡ after)
     → cond same (value.Events other_records) (value.Events (if first then records else if before then other_records
-        else [])) ≡ value.Events (if first then records else if after then other_records else [])
+    else [])) ≡ value.Events (if first then records else if after then other_records else [])
 put_events true true before after records p q r = cc (p refl)
 put_events true false before true records p q r = refl
 put_events true false before false records p q r = cc (q refl)

@@ -1,7 +1,7 @@
 -- The rows of serial instructions, parallel regions, barriers and tasks keep to their bounds.
 use Rattle.std.proofs.lemmas.Int.{ints}
-use Rattle.std.proofs.Common.{subst, ◌≡◌, refl, ℕ, zero, suc, ◌+◌, ◌-◌, ◌≤◌, ℤ, pos, negsuc, Bool, true, false,
-    if◌then◌else◌, arith, List, [], ◌∷◌, ◌++◌, Option, None, Some, length}
+use Rattle.std.proofs.Common.{subst, ◌≡◌, refl, ℕ, zero, suc, ◌+◌, ◌-◌, ◌≤◌, ℤ, pos, negsuc, Bool, true, false}
+use Rattle.std.proofs.Common.{if◌then◌else◌, arith, List, [], ◌∷◌, ◌++◌, Option, None, Some, length}
 use Rattle.std.specs.Prelude.{Result, Ok, Err, nat_lt, nat_le, nat_eq}
 use Rattle.std.specs.Cmp.Lexicographic.{pointwise}
 use Rattle.om_foot.specs.Names.{parent_of}
@@ -43,24 +43,25 @@ use Rattle.om_row.specs.declared.row.Launch.{Launch}
 use Rattle.om_row.specs.declared.row.Row.TheVariants.{Faults}
 use Rattle.om_row.specs.Rows.{first_of, rest_of}
 use Rattle.om_row.specs.Objects.{own_cells, deaths, puts, events, given_cells, innermost}
-use Rattle.om_serial.specs.Rows.{put_of, row_of, unsets, cells_of_slot, touch_row, serial_row, slots_in, number_row,
-    call_row, return_row, combined, reduced, reduce_row}
+use Rattle.om_serial.specs.Rows.{put_of, row_of, unsets, cells_of_slot, touch_row, serial_row, slots_in, number_row}
+use Rattle.om_serial.specs.Rows.{call_row, return_row, combined, reduced, reduce_row}
 use Rattle.om_fork.specs.Barriers.{barrier, is_open}
 use Rattle.om_fork.specs.Teams.{first_busy, member_controls, member_puts}
-use Rattle.om_fork.specs.Rows.{forked, team_row, team_of, named_row, sized_row, fork_row, begin_row, reached_row,
-    is_misplaced_barrier, arrive_row, kept, departed, depart_row, left, left_row, leave_row}
+use Rattle.om_fork.specs.Rows.{forked, team_row, team_of, named_row, sized_row, fork_row, begin_row, reached_row}
+use Rattle.om_fork.specs.Rows.{is_misplaced_barrier, arrive_row, kept, departed, depart_row, left, left_row, leave_row}
 use Rattle.om_spawn.specs.declared.start.Starting.{Starting}
 use Rattle.om_spawn.specs.declared.task.Making.{Making}
 use Rattle.om_spawn.specs.Tasks.{is_zero, born, group_of, innermost_group, counts, additions, task_context}
-use Rattle.om_spawn.specs.Rows.{made_row, given_row, spawn_row, ended_row, end_row_of, task_end_row, wait_begin_row,
-    waited, wait_end_row, task_yield_row, opened_row, group_begin_row, closed, closed_row, group_end_row, value_of,
-    finished, finished_row, finish_row, ready_for, started, started_row, start_row}
+use Rattle.om_spawn.specs.Rows.{made_row, given_row, spawn_row, ended_row, end_row_of, task_end_row, wait_begin_row}
+use Rattle.om_spawn.specs.Rows.{waited, wait_end_row, task_yield_row, opened_row, group_begin_row, closed, closed_row}
+use Rattle.om_spawn.specs.Rows.{group_end_row, value_of, finished, finished_row, finish_row, ready_for, started}
+use Rattle.om_spawn.specs.Rows.{started_row, start_row}
 use Rattle.om_task.specs.Counters.{IsWithin, TaskWithin, ValueWithin}
 use Rattle.om_task.specs.Steps.{AddOnce}
 use Rattle.om_task.proofs.Bounds.{AreGentle, RowWithin, AskedWithin, ValuesWithin}
-use Rattle.om_task.proofs.Gentle.{AddNone, none_append, once_append, slot_none, given_none, own_none, arrivals_none,
-    workers_none, members_none, gentle_append, puts_gentle, deaths_gentle, keeps_gentle, member_within,
-    controls_gentle, values_gentle, lacks, by_control, plain, if_asked}
+use Rattle.om_task.proofs.Gentle.{AddNone, none_append, once_append, slot_none, given_none, own_none, arrivals_none}
+use Rattle.om_task.proofs.Gentle.{workers_none, members_none, gentle_append, puts_gentle, deaths_gentle, keeps_gentle}
+use Rattle.om_task.proofs.Gentle.{member_within, controls_gentle, values_gentle, lacks, by_control, plain, if_asked}
 
 put_gentle : (n : ℕ) (o : Option ℤ) (us : List Update) → AreGentle n us → AreGentle n (put_of o ++ us)
 put_gentle n None us h = h
@@ -71,8 +72,12 @@ unsets_gentle n [] = tt
 unsets_gentle n (a ∷ own) = ((tt, tt), unsets_gentle n own)
 
 turn_within : (n to : ℕ) (us : List Update) (t : Turn) → AreGentle n us → RowWithin n (row_of to us t)
-turn_within n to us (turn.Goes jump takes pushed put) h = record { few = omega arith; begun = (tt, tt); gentle =
-    put_gentle n put us h }
+turn_within n to us (turn.Goes jump takes pushed put) h = record {
+  few = omega arith;
+  begun = (tt, tt);
+  gentle =
+      put_gentle n put us h;
+}
 turn_within n to us (turn.Faults f) h = tt
 turn_within n to us turn.Lacks h = tt
 turn_within n to us (turn.Returns v) h = tt
@@ -106,7 +111,7 @@ call_within n launch body c None values = lacks n values
 call_within n launch body c (Some ns) values =
     if_asked n (nat_le 999 (length c.callers)) _ _ values (by_control n (Faults fault.Frames) values tt)
     (plain n _ values (given_none c.task c.frames body.given)
-        (record { few = omega arith; begun = (tt, tt); gentle = puts_gentle n ns }))
+    (record { few = omega arith; begun = (tt, tt); gentle = puts_gentle n ns }))
 
 pub return_within : (n : ℕ) (c : Context) (slots : List Slot) (callers : List Frame) (v : Option Operand)
     (values : List Val) → AskedWithin n (return_row c slots callers v) values
@@ -148,8 +153,8 @@ team_within : (n worker : ℕ) (launch : Launch) (body : Body) (c : Context) (te
     (values : List Val) → AskedWithin n (team_row worker launch body c team ns) values
 team_within n worker launch body c team ns values =
     plain n _ values (none_append _ _ (workers_none 1 (team.size - 1))
-        (none_append _ _ (members_none team.name body.given 0 team.size) (refl, tt)))
-        (forked_within n launch c.task team _ ns (first_busy 1 (team.size - 1) values))
+    (none_append _ _ (members_none team.name body.given 0 team.size) (refl, tt)))
+    (forked_within n launch c.task team _ ns (first_busy 1 (team.size - 1) values))
 
 named_within : (n worker workers : ℕ) (launch : Launch) (body : Body) (c : Context) (asked : Option ℕ) (ns : List ℤ)
     (values : List Val) → AskedWithin n (named_row worker workers launch body c asked ns) values
@@ -183,15 +188,19 @@ pub arrive_within : (n worker to : ℕ) (b : Barrier) (c : Context) (values : Li
 arrive_within n worker to b c values =
     if_asked n (is_misplaced_barrier b c) _ _ values (by_control n (Faults fault.Nesting) values tt)
     (plain n (reached_row worker to b c) values (refl, (refl, tt))
-        (record { few = omega arith; begun = (tt, tt); gentle = ((tt, tt), (tt, tt)) }))
+    (record { few = omega arith; begun = (tt, tt); gentle = ((tt, tt), (tt, tt)) }))
 
 barrier_none : (team : Team) (phase : ℕ) → AddNone (barrier team phase)
 barrier_none team phase = none_append _ _ (arrivals_none team.name 0 team.size) (refl, tt)
 
 departed_within : (n to : ℕ) (b : Barrier) (c : Context) (opens : Bool) → RowWithin n (departed to b c opens)
 departed_within n to b c false = tt
-departed_within n to b c true = record { few = omega arith; begun = (tt, (tt, tt)); gentle = gentle_append n
-    (kept c.team.size) _ (keeps_gentle n (c.team.size + 1)) (tt, tt) }
+departed_within n to b c true = record {
+  few = omega arith;
+  begun = (tt, (tt, tt));
+  gentle = gentle_append n
+      (kept c.team.size) _ (keeps_gentle n (c.team.size + 1)) (tt, tt);
+}
 
 pub depart_within : (n worker to : ℕ) (b : Barrier) (c : Context) (values : List Val)
     → AskedWithin n (depart_row worker to b c) values
@@ -201,15 +210,19 @@ depart_within n worker to b c values = plain n _ values (none_append _ _ (barrie
 left_within : (n : ℕ) (c : Context) (below : List Context) (own : List Access) (opens : Bool)
     → RowWithin n (left c below own opens)
 left_within n c below own false = tt
-left_within n c below own true = record { few = omega arith; begun = (tt, tt); gentle = gentle_append n
-    (kept c.team.size) _ (keeps_gentle n (c.team.size + 1)) (gentle_append n (deaths own) _ (deaths_gentle n own)
-    (tt, tt)) }
+left_within n c below own true = record {
+  few = omega arith;
+  begun = (tt, tt);
+  gentle = gentle_append n
+      (kept c.team.size) _ (keeps_gentle n (c.team.size + 1)) (gentle_append n (deaths own) _ (deaths_gentle n own)
+      (tt, tt));
+}
 
 left_row_within : (n worker : ℕ) (c : Context) (below : List Context) (slots : List Slot) (values : List Val)
     → AskedWithin n (left_row worker c below (own_cells c slots)) values
 left_row_within n worker c below slots values =
     plain n _ values (none_append _ _ (barrier_none c.team c.phase) (none_append _ _ (own_none c 0 slots)
-        (refl, tt))) (left_within n c below (own_cells c slots) (is_open c.phase c.team.size values))
+    (refl, tt))) (left_within n c below (own_cells c slots) (is_open c.phase c.team.size values))
 
 pub leave_within : (n worker : ℕ) (c : Context) (below : List Context) (slots : List Slot) (k : Kind) (number : ℕ)
     (values : List Val) → AskedWithin n (leave_row worker c below slots k number) values
@@ -231,23 +244,37 @@ counts_once parent c (Some g) worker = (λ e. refl, (λ e. refl, (λ e. refl, (�
 ups_gentle : (n : ℕ) (group : Option (List ℕ)) (us : List Update) → AreGentle n us
     → AreGentle n (additions (pos 1) group ++ us)
 ups_gentle n None us h = ((omega (arith, ints), omega (arith, ints)), ((omega (arith, ints), omega (arith, ints)), h))
-ups_gentle n (Some g) us h = ((omega (arith, ints), omega (arith, ints)),
-    ((omega (arith, ints), omega (arith, ints)), ((omega (arith, ints), omega (arith, ints)), h)))
+ups_gentle n (Some g) us h = (
+  (omega (arith, ints), omega (arith, ints)),
+  ((omega (arith, ints), omega (arith, ints)), ((omega (arith, ints), omega (arith, ints)), h)),
+)
 
 downs_gentle : (n : ℕ) (group : Option (List ℕ)) (us : List Update) → AreGentle n us
     → AreGentle n (additions (negsuc 0) group ++ us)
 downs_gentle n None us h = ((omega (arith, ints), omega (arith, ints)), ((omega (arith, ints), omega (arith, ints)), h))
-downs_gentle n (Some g) us h = ((omega (arith, ints), omega (arith, ints)),
-    ((omega (arith, ints), omega (arith, ints)), ((omega (arith, ints), omega (arith, ints)), h)))
+downs_gentle n (Some g) us h = (
+  (omega (arith, ints), omega (arith, ints)),
+  ((omega (arith, ints), omega (arith, ints)), ((omega (arith, ints), omega (arith, ints)), h)),
+)
 
 made_within : (n : ℕ) (m : Making) (body : Body) (c : Context) (ns : List ℤ) (new : Option (List ℕ))
     (values : List Val) → IsWithin n c → AskedWithin n (made_row m body c ns new) values
 made_within n m body c ns None values w = by_control n (Faults fault.Name) values tt
 made_within n m body c ns (Some new) values w = record {
-  names = ((λ e. cc), once_append (given_cells new 0 body.given) _ (given_none new 0 body.given)
-      (counts_once c.task c (group_of c) m.worker));
-  row = record { few = omega arith; begun = (tt, (tt, tt)); gentle = ((tt, w.phase), gentle_append n (puts ns) _
-      (puts_gentle n ns) (ups_gentle n (group_of c) _ (tt, tt))) };
+  names = (
+    (λ e. cc),
+    once_append (given_cells new 0 body.given) _ (given_none new 0 body.given)
+        (counts_once c.task c (group_of c) m.worker),
+  );
+  row = record {
+    few = omega arith;
+    begun = (tt, (tt, tt));
+    gentle = (
+      (tt, w.phase),
+      gentle_append n (puts ns) _
+          (puts_gentle n ns) (ups_gentle n (group_of c) _ (tt, tt)),
+    );
+  };
 }
 
 given_ints_within : (n : ℕ) (m : Making) (body : Body) (c : Context) (ints : Option (List ℤ)) (values : List Val)
@@ -265,9 +292,15 @@ ended_within n worker c below slots None values = lacks n values
 ended_within n worker c [] slots (Some parent) values = lacks n values
 ended_within n worker c (b ∷ below) slots (Some parent) values = record {
   names = ((λ e. cc), once_append (own_cells c slots) _ (own_none c 0 slots) (counts_once parent c c.group worker));
-  row = record { few = omega arith; begun = (tt, tt); gentle =
-      ((tt, tt), gentle_append n (deaths (own_cells c slots)) _ (deaths_gentle n (own_cells c slots))
-      (downs_gentle n c.group _ (tt, tt))) };
+  row = record {
+    few = omega arith;
+    begun = (tt, tt);
+    gentle = (
+      (tt, tt),
+      gentle_append n (deaths (own_cells c slots)) _ (deaths_gentle n (own_cells c slots))
+          (downs_gentle n c.group _ (tt, tt)),
+    );
+  };
 }
 
 end_within : (n worker : ℕ) (stack : Stack) (slots : List Slot) (k : Kind) (values : List Val)
@@ -353,14 +386,23 @@ ready_within n team task.Done x h e = cc
 
 context_within : (n : ℕ) (name : List ℕ) (c : Context) (ready : Ready) → ready.phase ≤ n
     → IsWithin n (task_context name c ready)
-context_within n name c ready h = record { births = omega arith; regions = omega arith; phase = h; frames = omega
-    arith }
+context_within n name c ready h = record {
+  births = omega arith;
+  regions = omega arith;
+  phase = h;
+  frames = omega
+      arith;
+}
 
 started_within : (n worker : ℕ) (name : List ℕ) (c : Context) (s : statuses.TaskStatus) (r : Option Ready)
     → ((x : Ready) → r ≡ Some x → x.phase ≤ n) → RowWithin n (started worker name c s r)
 started_within n worker name c s None h = tt
-started_within n worker name c s (Some ready) h = record { few = omega arith; begun =
-    (context_within n name c ready (h ready refl), tt); gentle = ((tt, tt), (tt, tt)) }
+started_within n worker name c s (Some ready) h = record {
+  few = omega arith;
+  begun =
+      (context_within n name c ready (h ready refl), tt);
+  gentle = ((tt, tt), (tt, tt));
+}
 
 task_read : (n : ℕ) (v : Val) → ValueWithin n v → TaskWithin n (task_in v)
 task_read n (value.Task t) h = h
@@ -382,8 +424,8 @@ started_row_within n worker name c admits None values h = by_control n _ values 
 started_row_within n worker name c false (Some s) values h = by_control n _ values tt
 started_row_within n worker name c true (Some s) values h =
     plain n _ values (refl, (refl, tt))
-        (started_within n worker name c s (ready_for c.team.name (task_in (first_of values)))
-        (λ x e. ready_within n c.team.name (task_in (first_of values)) x (first_read n values h) e))
+    (started_within n worker name c s (ready_for c.team.name (task_in (first_of values)))
+    (λ x e. ready_within n c.team.name (task_in (first_of values)) x (first_read n values h) e))
 
 pub start_within : (n : ℕ) (s : Starting) (name : List ℕ) (c : Context) (values : List Val) → ValuesWithin n values
     → AskedWithin n (start_row s name c) values

@@ -21,12 +21,13 @@ use Rattle.om_task.specs.Sites.{Site, context, operands, next, slots, line, laun
 use Rattle.om_task.proofs.Bounds.{RowWithin, AskedWithin, ValuesWithin}
 use Rattle.om_task.specs.Table.{row_of, fork_takes}
 use Rattle.om_task.proofs.Gentle.{lacks}
-use Rattle.om_task.proofs.ShareRows.{loop_within, sections_within, grab_within, iterate_within, pick_within,
-    single_within, end_worksharing_within, masked_within, end_masked_within, ask_critical_within,
-    enter_critical_within, leave_critical_within}
-use Rattle.om_task.proofs.TaskRows.{serial_within, number_within, call_within, return_within, reduce_within,
-    fork_within, begin_within, arrive_within, depart_within, leave_within, spawn_within, task_end_within,
-    wait_begin_within, wait_end_within, yield_within, group_begin_within, group_end_within, finish_within, start_within}
+use Rattle.om_task.proofs.ShareRows.{loop_within, sections_within, grab_within, iterate_within, pick_within}
+use Rattle.om_task.proofs.ShareRows.{single_within, end_worksharing_within, masked_within, end_masked_within}
+use Rattle.om_task.proofs.ShareRows.{ask_critical_within, enter_critical_within, leave_critical_within}
+use Rattle.om_task.proofs.TaskRows.{serial_within, number_within, call_within, return_within, reduce_within}
+use Rattle.om_task.proofs.TaskRows.{fork_within, begin_within, arrive_within, depart_within, leave_within, spawn_within}
+use Rattle.om_task.proofs.TaskRows.{task_end_within, wait_begin_within, wait_end_within, yield_within}
+use Rattle.om_task.proofs.TaskRows.{group_begin_within, group_end_within, finish_within, start_within}
 
 instruction_within : (n : ℕ) (s : Site) (instr : Instr) (values : List Val) → IsWithin n s.stack.top
     → AskedWithin n (row_of s instr) values
@@ -113,8 +114,12 @@ pub choice_within : (n : ℕ) (s : Site) (instr : Option Instr) (choice : Choice
     → IsWithin n s.stack.top → ValuesWithin n values → AskedWithin n (choice_row s instr choice) values
 choice_within n s instr Next values w h = next_within n s instr values w
 choice_within n s instr (Start name) values w h = start_within n
-    (record { worker = s.worker; status = leaving instr; admits = admits_all s.program name
-    (s.stack.top ∷ s.stack.below) }) name s.stack.top values h
+    (record {
+      worker = s.worker;
+      status = leaving instr;
+      admits = admits_all s.program name
+          (s.stack.top ∷ s.stack.below);
+    }) name s.stack.top values h
 
 -- the row of a control keeps to its bounds
 pub row_within : (n : ℕ) (program : Raw) (workers : ℕ) (l : Label) (c : controls.Control) (values : List Val)

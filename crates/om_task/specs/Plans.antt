@@ -14,13 +14,20 @@ use Rattle.om_task.specs.Rules.{further_in, row_in, outcome_after, line_in}
 
 -- what it names besides the control, and its row
 abbrev pub answer_in : Raw → ℕ → State → Label → Control → Answer
-answer_in program workers s l c = record { names = further_in program workers l c; row = row_in program workers l c
-    (values_read (further_in program workers l c) s) }
+answer_in program workers s l c = record {
+  names = further_in program workers l c;
+  row = row_in program workers l c
+      (values_read (further_in program workers l c) s);
+}
 
 -- the step of that answer
 abbrev pub step_by : Raw → Label → Control → Answer → Step
-step_by program l c answer = record { footprint = control_access l ∷ answer.names; outcome = outcome_after c
-    answer.row; line = line_in program c }
+step_by program l c answer = record {
+  footprint = control_access l ∷ answer.names;
+  outcome = outcome_after c
+      answer.row;
+  line = line_in program c;
+}
 
 -- the edits of a row have room in the numbers that they count up
 abbrev pub RowHasRoom : Control → Row → Type 0

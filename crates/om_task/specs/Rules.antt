@@ -1,6 +1,6 @@
 -- The rules of a program: the state that it starts in, and what each worker's step names, does and shows as its line.
-use Rattle.std.specs.Prelude.{ℕ, pos, ℤ, Bool, true, false, nat_eq, nat_lt, if◌then◌else◌, Option, None, Some,
-    option_map, unwrap_or, List, [], ◌∷◌, slice_get}
+use Rattle.std.specs.Prelude.{ℕ, pos, ℤ, Bool, true, false, nat_eq, nat_lt, if◌then◌else◌, Option, None, Some}
+use Rattle.std.specs.Prelude.{option_map, unwrap_or, List, [], ◌∷◌, slice_get}
 use Rattle.om_foot.specs.Names.{is_below}
 use Rattle.om_foot.specs.declared.footprint.Access.{Access}
 use Rattle.om_foot.specs.declared.object.Obj.TheVariants as obj
@@ -77,7 +77,7 @@ initial_at program variable index = if nat_eq index 0 then initial_in (slice_get
 abbrev pub first_records : ℕ → ℕ → List Record
 first_records workers worker =
     if nat_eq worker 0 then event_record.ThreadBegin thread.Initial ∷ event_record.ImplicitTask endpoint.Begin []
-        (0 ∷ []) 1 1 flag.Initial ∷ []
+    (0 ∷ []) 1 1 flag.Initial ∷ []
     else if nat_lt worker workers then event_record.ThreadBegin thread.Worker ∷ [] else []
 
 -- the state in which a program starts: worker 0 runs the initial task, all else is as by default
@@ -120,8 +120,12 @@ next_row s (Some instr) = row_of s instr
 -- the row of a choice
 abbrev pub choice_row : Site → Option Instr → Choice → Asked
 choice_row s instr Next = next_row s instr
-choice_row s instr (Start name) = start_row (record { worker = s.worker; status = leaving instr; admits = admits_all
-    s.program name (s.stack.top ∷ s.stack.below) }) name s.stack.top
+choice_row s instr (Start name) = start_row (record {
+  worker = s.worker;
+  status = leaving instr;
+  admits = admits_all
+      s.program name (s.stack.top ∷ s.stack.below);
+}) name s.stack.top
 
 abbrev pub asked : Site → Choice → Asked
 asked s choice = choice_row s (instruction_at s.program s.stack.top.frame.body s.stack.top.frame.next) choice

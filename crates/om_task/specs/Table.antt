@@ -10,10 +10,11 @@ use Rattle.om_row.specs.Rows.{Asked, decided}
 use Rattle.om_row.specs.Objects.{innermost}
 use Rattle.om_serial.specs.Rows.{serial_row, number_row, call_row, return_row, reduce_row}
 use Rattle.om_fork.specs.Rows.{fork_row, begin_row, arrive_row, depart_row, leave_row}
-use Rattle.om_share.specs.Rows.{share_in, loop_row, sections_row, grab_row, iterate_row, pick_row, single_row,
-    end_worksharing_row, masked_row, end_masked_row, ask_critical_row, enter_critical_row, leave_critical_row}
-use Rattle.om_spawn.specs.Rows.{spawn_row, task_end_row, wait_begin_row, wait_end_row, task_yield_row,
-    group_begin_row, group_end_row, finish_row}
+use Rattle.om_share.specs.Rows.{share_in, loop_row, sections_row, grab_row, iterate_row, pick_row, single_row}
+use Rattle.om_share.specs.Rows.{end_worksharing_row, masked_row, end_masked_row, ask_critical_row, enter_critical_row}
+use Rattle.om_share.specs.Rows.{leave_critical_row}
+use Rattle.om_spawn.specs.Rows.{spawn_row, task_end_row, wait_begin_row, wait_end_row, task_yield_row, group_begin_row}
+use Rattle.om_spawn.specs.Rows.{group_end_row, finish_row}
 use Rattle.om_task.specs.Sites.{Site, context, operands, next, slots, line, launch, body_of, lock_of, targets_of}
 
 abbrev pub fork_takes : Bool → ℕ → ℕ
@@ -64,8 +65,12 @@ region_row s _ = decided Lacks
 
 -- tasks, task groups and the end of the program
 abbrev pub task_row : Site → Instr → Asked
-task_row s (i.Spawn body values) = spawn_row (record { worker = s.worker; line = line s; launch = launch s values
-    body }) (body_of s.program body) (context s)
+task_row s (i.Spawn body values) = spawn_row (record {
+  worker = s.worker;
+  line = line s;
+  launch = launch s values
+      body;
+}) (body_of s.program body) (context s)
 task_row s i.TaskEnd = task_end_row s.worker s.stack (slots s)
 task_row s i.WaitBegin = wait_begin_row s.worker (next s) (context s)
 task_row s i.WaitEnd = wait_end_row s.worker (next s) (context s)

@@ -13,8 +13,8 @@ use Rattle.om_tree.specs.declared.tree.BinaryOperator.{BinaryOperator}
 use Rattle.om_tree.specs.declared.tree.BinaryOperator.TheVariants as binaries
 use Rattle.om_tree.specs.declared.tree.PrefixOperator.{PrefixOperator}
 use Rattle.om_tree.specs.declared.tree.PrefixOperator.TheVariants as prefixes
-use Rattle.om_tree.specs.Tree.{ExpressionTree, Name, Constant, Text, Paren, Index, Call, Prefix, Postfix, Binary,
-    Conditional, Assign, ArgumentsTree, NoArguments, Argument, StatementTree, Expression}
+use Rattle.om_tree.specs.Tree.{ExpressionTree, Name, Constant, Text, Paren, Index, Call, Prefix, Postfix, Binary}
+use Rattle.om_tree.specs.Tree.{Conditional, Assign, ArgumentsTree, NoArguments, Argument, StatementTree, Expression}
 
 unfoldable mutual
   -- the same but for the spans

@@ -9,12 +9,13 @@ use Rattle.om_tree.specs.declared.tree.ArrayLength.{ArrayLength}
 use Rattle.om_tree.specs.declared.tree.BinaryOperator.{BinaryOperator}
 use Rattle.om_tree.specs.declared.tree.BinaryOperator.TheVariants as binaries
 use Rattle.om_tree.specs.declared.tree.PrefixOperator.TheVariants as prefixes
-use Rattle.om_tree.specs.Tree.{ExpressionTree, Name, Constant, Text, Paren, Index, Call, Prefix, Postfix, Binary,
-    Conditional, Assign, ArgumentsTree, NoArguments, Argument, InitializerTree, DeclaratorTree, DeclarationTree,
-    StatementTree, Expression, Return, ParametersTree, NoParameters, Void, Listed, FunctionTree, ItemTree,
-    Declaration, Prototype, Function, UnitTree, ForStartTree, Nothing, StartExpression, StartDeclaration,
-    ForHeadTree, StatementsTree, LocalDeclaration, Block, Empty, If, IfElse, While, Do, For, Break, Continue,
-    Construct, StandAlone, Sections, Section, NoStatements, Statement, statements}
+use Rattle.om_tree.specs.Tree.{ExpressionTree, Name, Constant, Text, Paren, Index, Call, Prefix, Postfix, Binary}
+use Rattle.om_tree.specs.Tree.{Conditional, Assign, ArgumentsTree, NoArguments, Argument, InitializerTree}
+use Rattle.om_tree.specs.Tree.{DeclaratorTree, DeclarationTree, StatementTree, Expression, Return, ParametersTree}
+use Rattle.om_tree.specs.Tree.{NoParameters, Void, Listed, FunctionTree, ItemTree, Declaration, Prototype, Function}
+use Rattle.om_tree.specs.Tree.{UnitTree, ForStartTree, Nothing, StartExpression, StartDeclaration, ForHeadTree}
+use Rattle.om_tree.specs.Tree.{StatementsTree, LocalDeclaration, Block, Empty, If, IfElse, While, Do, For, Break}
+use Rattle.om_tree.specs.Tree.{Continue, Construct, StandAlone, Sections, Section, NoStatements, Statement, statements}
 
 -- levels of precedence, the loosest first: 1 assignment (C17 6.5.16), 2 conditional (6.5.15), 3 and 4 logical
 -- (6.5.14, 6.5.13),

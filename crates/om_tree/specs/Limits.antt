@@ -1,6 +1,6 @@
 -- How large the expressions of an accepted source are.
-use Rattle.std.specs.Prelude.{◌≡◌, ℕ, ◌+◌, ◌-◌, ◌≤◌, ◌⊎◌, max, List, [], ◌∷◌, ◌++◌, length, Option, Some, None,
-    Bool, true}
+use Rattle.std.specs.Prelude.{◌≡◌, ℕ, ◌+◌, ◌-◌, ◌≤◌, ◌⊎◌, max, List, [], ◌∷◌, ◌++◌, length, Option, Some, None, Bool}
+use Rattle.std.specs.Prelude.{true}
 use Rattle.std.specs.List.{flat_map}
 use Rattle.om_lexer.specs.declared.token.Punctuator.TheVariants as punctuators
 use Rattle.om_lexer.specs.declared.token.Token.{Token}
@@ -8,8 +8,9 @@ use Rattle.om_lexer.specs.declared.token.TokenKind.{TokenKind}
 use Rattle.om_lexer.specs.declared.token.TokenKind.TheVariants as kinds
 use Rattle.om_tree.specs.declared.limit.TheConstants.{NESTING_LIMIT, TOKEN_LIMIT, BLOCK_LIMIT, STATEMENT_LIMIT}
 use Rattle.om_tree.specs.Spelling.{expression_spelling}
-use Rattle.om_tree.specs.Tree.{ExpressionTree, Name, Constant, Text, Paren, Index, Call, Prefix, Postfix, Binary,
-    Conditional, Assign, ArgumentsTree, NoArguments, Argument, InitializerTree, DeclaratorTree, DeclarationTree}
+use Rattle.om_tree.specs.Tree.{ExpressionTree, Name, Constant, Text, Paren, Index, Call, Prefix, Postfix, Binary}
+use Rattle.om_tree.specs.Tree.{Conditional, Assign, ArgumentsTree, NoArguments, Argument, InitializerTree}
+use Rattle.om_tree.specs.Tree.{DeclaratorTree, DeclarationTree}
 
 abbrev mutual
   -- how many parentheses and brackets stand round the innermost part
@@ -56,8 +57,14 @@ pub record Limits : Type 0 where
 
 -- those of an accepted source
 abbrev pub accepted : Limits
-accepted = record { nested = NESTING_LIMIT; tokens = TOKEN_LIMIT; blocks = BLOCK_LIMIT; statements =
-    STATEMENT_LIMIT; checked = true }
+accepted = record {
+  nested = NESTING_LIMIT;
+  tokens = TOKEN_LIMIT;
+  blocks = BLOCK_LIMIT;
+  statements =
+      STATEMENT_LIMIT;
+  checked = true;
+}
 
 -- the parentheses and the tokens of an expression keep these limits
 unfoldable pub IsWithin : Limits → ExpressionTree → Type 0

@@ -5,13 +5,15 @@ use Rattle.om_lexer.specs.declared.token.Punctuator.TheVariants as punctuators
 use Rattle.om_lexer.specs.declared.token.Token.{Token}
 use Rattle.om_pragma.specs.Spelling.{directive_spelling}
 use Rattle.om_tree.specs.Limits.{Limits, IsTooMuch, expressions_of_declaration}
-use Rattle.om_tree.specs.Spelling.{mark, word, perhaps, expression_spelling, declaration_spelling,
-    condition_spelling, for_start_spelling, for_head_spelling, statement_spelling, head_spelling, item_spelling}
+use Rattle.om_tree.specs.Spelling.{mark, word, perhaps, expression_spelling, declaration_spelling, condition_spelling}
+use Rattle.om_tree.specs.Spelling.{for_start_spelling, for_head_spelling, statement_spelling, head_spelling}
+use Rattle.om_tree.specs.Spelling.{item_spelling}
 use Rattle.om_tree.specs.Formed.{IsBody}
-use Rattle.om_tree.specs.Tree.{ExpressionTree, DeclarationTree, ConditionTree, ForStartTree, Nothing,
-    StartExpression, StartDeclaration, ForHeadTree, StatementTree, StatementsTree, LocalDeclaration, Block, Empty,
-    Expression, If, IfElse, While, Do, For, Return, Break, Continue, Construct, StandAlone, Sections, Section,
-    NoStatements, Statement, statements, BlockTree, ItemTree, Declaration, Prototype, Function, UnitTree}
+use Rattle.om_tree.specs.Tree.{ExpressionTree, DeclarationTree, ConditionTree, ForStartTree, Nothing, StartExpression}
+use Rattle.om_tree.specs.Tree.{StartDeclaration, ForHeadTree, StatementTree, StatementsTree, LocalDeclaration, Block}
+use Rattle.om_tree.specs.Tree.{Empty, Expression, If, IfElse, While, Do, For, Return, Break, Continue, Construct}
+use Rattle.om_tree.specs.Tree.{StandAlone, Sections, Section, NoStatements, Statement, statements, BlockTree, ItemTree}
+use Rattle.om_tree.specs.Tree.{Declaration, Prototype, Function, UnitTree}
 
 -- Where a limit is passed in a part: the tokens of the part before that place, and the token there.
 abbrev pub Place : Type 1
@@ -45,8 +47,13 @@ pub record IsOverIn {A : Type 0} (spelling : A → List Token) (expressions : A 
 
 -- the limits of an expression in the parentheses of a statement, which are the outermost ones round its parts
 abbrev pub in_parentheses : Limits → Limits
-in_parentheses l = record { nested = l.nested - 1; tokens = l.tokens; blocks = l.blocks; statements = l.statements;
-    checked = l.checked }
+in_parentheses l = record {
+  nested = l.nested - 1;
+  tokens = l.tokens;
+  blocks = l.blocks;
+  statements = l.statements;
+  checked = l.checked;
+}
 
 -- in an expression
 abbrev pub IsOverInExpression : Limits → ExpressionTree → Place
@@ -76,10 +83,10 @@ InForHead l h =
     let start : List Token = word keywords.For h.word ∷ mark punctuators.OpenParen h.open_paren ∷ [] in
     let condition : List Token = start ++ for_start_spelling h.start in
     let step : List Token = condition ++ (perhaps expression_spelling h.condition ++ mark punctuators.Semicolon
-        h.semicolon ∷ []) in
+    h.semicolon ∷ []) in
     Either (Behind start (InForStart l h.start))
-        (Either (Behind condition (InOptional (in_parentheses l) h.condition))
-        (Behind step (InOptional (in_parentheses l) h.step)))
+    (Either (Behind condition (InOptional (in_parentheses l) h.condition))
+    (Behind step (InOptional (in_parentheses l) h.step)))
 
 -- at the first token of a statement round which so many stand already
 abbrev pub AtFirst : Limits → (depth : ℕ) → StatementTree → Place

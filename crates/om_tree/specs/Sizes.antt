@@ -1,16 +1,17 @@
 -- How large the statements of an accepted source are, and which forms its `atomic`s have.
-use Rattle.std.specs.Prelude.{◌≡◌, ℕ, ◌+◌, ◌≤◌, max, List, [], ◌∷◌, length, Option, Some, None, All, Bool, true,
-    false, not, ◌||◌}
+use Rattle.std.specs.Prelude.{◌≡◌, ℕ, ◌+◌, ◌≤◌, max, List, [], ◌∷◌, length, Option, Some, None, All, Bool, true, false}
+use Rattle.std.specs.Prelude.{not, ◌||◌}
 use Rattle.om_pragma.specs.declared.tree.Directive.{Directive}
 use Rattle.om_pragma.specs.Expressions.{expressions}
 use Rattle.om_pragma.specs.Questions.{is_atomic, atomic_kind}
 use Rattle.om_tree.specs.AtomicForms.{has_atomic_form}
 use Rattle.om_tree.specs.Limits.{Limits, accepted, nesting, expressions_of_declaration}
 use Rattle.om_tree.specs.Spelling.{expression_spelling}
-use Rattle.om_tree.specs.Tree.{ExpressionTree, DeclarationTree, ForStartTree, Nothing, StartExpression,
-    StartDeclaration, StatementTree, StatementsTree, LocalDeclaration, Block, Empty, Expression, If, IfElse, While,
-    Do, For, Return, Break, Continue, Construct, StandAlone, Sections, Section, NoStatements, Statement, statements,
-    BlockTree, ItemTree, Declaration, Prototype, Function, UnitTree}
+use Rattle.om_tree.specs.Tree.{ExpressionTree, DeclarationTree, ForStartTree, Nothing, StartExpression}
+use Rattle.om_tree.specs.Tree.{StartDeclaration, StatementTree, StatementsTree, LocalDeclaration, Block, Empty}
+use Rattle.om_tree.specs.Tree.{Expression, If, IfElse, While, Do, For, Return, Break, Continue, Construct, StandAlone}
+use Rattle.om_tree.specs.Tree.{Sections, Section, NoStatements, Statement, statements, BlockTree, ItemTree, Declaration}
+use Rattle.om_tree.specs.Tree.{Prototype, Function, UnitTree}
 
 -- the largest of these
 abbrev pub most : {A : Type 0} → (A → ℕ) → List A → ℕ

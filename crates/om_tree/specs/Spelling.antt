@@ -25,12 +25,14 @@ use Rattle.om_tree.specs.declared.tree.PrefixOperator.TheVariants as prefixes
 use Rattle.om_tree.specs.declared.tree.ResultType.{ResultType}
 use Rattle.om_tree.specs.declared.tree.ResultType.TheVariants as results
 use Rattle.om_tree.specs.declared.tree.Text as texts
-use Rattle.om_tree.specs.Tree.{ExpressionTree, Name, Constant, Text, Paren, Index, Call, Prefix, Postfix, Binary,
-    Conditional, Assign, ArgumentsTree, NoArguments, Argument, InitializerTree, DeclaratorTree, DeclarationTree,
-    ConditionTree, ForStartTree, Nothing, StartExpression, StartDeclaration, ForHeadTree, StatementTree,
-    LocalDeclaration, Block, Empty, Expression, If, IfElse, While, Do, For, Return, Break, Continue, Construct,
-    StandAlone, Sections, Section, StatementsTree, NoStatements, Statement, BlockTree, ParametersTree, NoParameters,
-    Void, Listed, HeadTree, ItemTree, Declaration, Prototype, Function, UnitTree}
+use Rattle.om_tree.specs.Tree.{ExpressionTree, Name, Constant, Text, Paren, Index, Call, Prefix, Postfix, Binary}
+use Rattle.om_tree.specs.Tree.{Conditional, Assign, ArgumentsTree, NoArguments, Argument, InitializerTree}
+use Rattle.om_tree.specs.Tree.{DeclaratorTree, DeclarationTree, ConditionTree, ForStartTree, Nothing, StartExpression}
+use Rattle.om_tree.specs.Tree.{StartDeclaration, ForHeadTree, StatementTree, LocalDeclaration, Block, Empty, Expression}
+use Rattle.om_tree.specs.Tree.{If, IfElse, While, Do, For, Return, Break, Continue, Construct, StandAlone, Sections}
+use Rattle.om_tree.specs.Tree.{Section, StatementsTree, NoStatements, Statement, BlockTree, ParametersTree}
+use Rattle.om_tree.specs.Tree.{NoParameters, Void, Listed, HeadTree, ItemTree, Declaration, Prototype, Function}
+use Rattle.om_tree.specs.Tree.{UnitTree}
 
 -- a token of a kind, where it stands
 abbrev pub token : TokenKind → Span → Token

@@ -23,8 +23,9 @@ use Rattle.om_tree.specs.declared.tree.Statement.{Statement, fold-Statement}
 use Rattle.om_tree.specs.declared.tree.Statement.TheOpen.{Statement-F}
 use Rattle.om_tree.specs.declared.tree.Unit as units
 use Rattle.om_tree.specs.Tree as trees
-use Rattle.om_tree.specs.Tree.{ExpressionTree, InitializerTree, DeclaratorTree, DeclarationTree, ConditionTree,
-    ForStartTree, ForHeadTree, StatementTree, BlockTree, ParametersTree, HeadTree, FunctionTree, ItemTree, UnitTree}
+use Rattle.om_tree.specs.Tree.{ExpressionTree, InitializerTree, DeclaratorTree, DeclarationTree, ConditionTree}
+use Rattle.om_tree.specs.Tree.{ForStartTree, ForHeadTree, StatementTree, BlockTree, ParametersTree, HeadTree}
+use Rattle.om_tree.specs.Tree.{FunctionTree, ItemTree, UnitTree}
 
 -- one layer of an expression, whose parts are trees already
 abbrev pub expression_layer : Expression-F ExpressionTree → ExpressionTree
@@ -63,8 +64,12 @@ view_further d = (d.0, view_declarator d.1)
 
 -- a declaration without boxes and capacities
 abbrev pub view_declaration : declarations.Declaration → DeclarationTree
-view_declaration d = record { int = d.int; first = view_declarator d.first; rest = map view_further d.rest.items;
-    semicolon = d.semicolon }
+view_declaration d = record {
+  int = d.int;
+  first = view_declarator d.first;
+  rest = map view_further d.rest.items;
+  semicolon = d.semicolon;
+}
 
 -- an expression in parentheses, as a tree
 abbrev pub view_condition : Condition → ConditionTree
@@ -119,8 +124,12 @@ view_statement = fold-Statement StatementTree statement_layer
 
 -- a block without boxes and capacities
 abbrev pub view_block : blocks.Block → BlockTree
-view_block b = record { open_brace = b.open_brace; items = map view_statement b.items.items; close_brace =
-    b.close_brace }
+view_block b = record {
+  open_brace = b.open_brace;
+  items = map view_statement b.items.items;
+  close_brace =
+      b.close_brace;
+}
 
 -- parameters without capacities
 abbrev pub view_parameters : Parameters → ParametersTree
@@ -130,8 +139,14 @@ view_parameters (parameters.Listed first rest) = trees.Listed first rest.items
 
 -- a function's result, name and parameters, as a tree
 abbrev pub view_head : FunctionHead → HeadTree
-view_head h = record { result = h.result; name = h.name; open_paren = h.open_paren; parameters = view_parameters
-    h.parameters; close_paren = h.close_paren }
+view_head h = record {
+  result = h.result;
+  name = h.name;
+  open_paren = h.open_paren;
+  parameters = view_parameters
+      h.parameters;
+  close_paren = h.close_paren;
+}
 
 -- the same of a function
 abbrev pub view_function : functions.Function → FunctionTree

@@ -1,6 +1,6 @@
 -- The statement of an `atomic` that reads or writes resolves to an assignment.
-use Rattle.std.proofs.Common.{◌≡◌, ℕ, Bool, true, false, cond, not, List, [], ◌∷◌, All, Option, None, Some,
-    option_map, refl}
+use Rattle.std.proofs.Common.{◌≡◌, ℕ, Bool, true, false, cond, not, List, [], ◌∷◌, All, Option, None, Some, option_map}
+use Rattle.std.proofs.Common.{refl}
 use Rattle.std.specs.Prelude.{IfSome}
 use Rattle.std.proofs.lemmas.List.Elements.{All-nil, All-cons, All-append, All-head, All-tail}
 use Rattle.om_lexer.specs.declared.token.Span.{Span}
@@ -11,25 +11,28 @@ use Rattle.om_pragma.specs.declared.tree.DirectiveName.{DirectiveName}
 use Rattle.om_pragma.specs.declared.tree.DirectiveName.TheVariants as directives
 use Rattle.om_pragma.specs.Questions.{atomic_kind, is_atomic}
 use Rattle.om_resolved.specs.declared.resolved.Side.{Side}
-use Rattle.om_resolved.specs.Beside.{Assigns, AtomicAssigns, Everywhere, EverywhereIn, EverywhereInParts,
-    IsAssignment, TreeAtomicsAssign}
+use Rattle.om_resolved.specs.Beside.{Assigns, AtomicAssigns, Everywhere, EverywhereIn, EverywhereInParts, IsAssignment}
+use Rattle.om_resolved.specs.Beside.{TreeAtomicsAssign}
 use Rattle.om_resolved.specs.ResolvedTree as resolved
-use Rattle.om_resolved.specs.ResolvedTree.{ResolvedClauseTree, ResolvedExpressionTree, ResolvedFunctionTree,
-    ResolvedLoopTree, ResolvedPartsTree, ResolvedStatementTree, ResolvedTree, ResolvedUpdateTree}
+use Rattle.om_resolved.specs.ResolvedTree.{ResolvedClauseTree, ResolvedExpressionTree, ResolvedFunctionTree}
+use Rattle.om_resolved.specs.ResolvedTree.{ResolvedLoopTree, ResolvedPartsTree, ResolvedStatementTree, ResolvedTree}
+use Rattle.om_resolved.specs.ResolvedTree.{ResolvedUpdateTree}
 use Rattle.om_rules.specs.DirectiveRules.{in_construct, parallel_in, traits_of}
 use Rattle.om_rules.specs.Grouping.{Grouped, grouped, parts_of}
 use Rattle.om_rules.specs.Loops.{Loop, loop_in}
 use Rattle.om_rules.specs.Perhaps.{◌>>=◌, all_along}
 use Rattle.om_rules.specs.Resolution.{TargetTree, Scalar, ElementOf, assigned, resolved_expression, resolved_target}
-use Rattle.om_rules.specs.Scopes.{Scopes, after_function, after_item, after_parameters, declarators_of,
-    definitions_of, file_scope, inside, parameters_of}
+use Rattle.om_rules.specs.Scopes.{Scopes, after_function, after_item, after_parameters, declarators_of, definitions_of}
+use Rattle.om_rules.specs.Scopes.{file_scope, inside, parameters_of}
 use Rattle.om_rules.specs.Sharing.{is_parallel}
-use Rattle.om_rules.specs.StatementResolution.{atomic_of, construct_of, flushed, has_nowait, loop_construct_of,
-    parallel_of, resolved_alone, resolved_clauses, resolved_declarators, resolved_loop, resolved_loop_construct,
-    resolved_parts, resolved_perhaps, resolved_plain_construct, resolved_repeated, resolved_start,
-    resolved_statement, resolved_statements, schedule_of, sections_construct_of, with_update}
-use Rattle.om_rules.specs.StatementRules.{after_for_start, after_statement, begins_part, in_loop, parts_behind,
-    round_bounds}
+use Rattle.om_rules.specs.StatementResolution.{atomic_of, construct_of, flushed, has_nowait, loop_construct_of}
+use Rattle.om_rules.specs.StatementResolution.{parallel_of, resolved_alone, resolved_clauses, resolved_declarators}
+use Rattle.om_rules.specs.StatementResolution.{resolved_loop, resolved_loop_construct, resolved_parts, resolved_perhaps}
+use Rattle.om_rules.specs.StatementResolution.{resolved_plain_construct, resolved_repeated, resolved_start}
+use Rattle.om_rules.specs.StatementResolution.{resolved_statement, resolved_statements, schedule_of}
+use Rattle.om_rules.specs.StatementResolution.{sections_construct_of, with_update}
+use Rattle.om_rules.specs.StatementRules.{after_for_start, after_statement, begins_part, in_loop, parts_behind}
+use Rattle.om_rules.specs.StatementRules.{round_bounds}
 use Rattle.om_rules.specs.UnitResolution.{item_functions, resolution_of, resolved_function, resolved_inside}
 use Rattle.om_rules.specs.Updates.{statement_side, update_of}
 use Rattle.om_whole.proofs.Steps.{if_any, if_either, if_mapped, if_then}
@@ -37,9 +40,10 @@ use Rattle.om_whole.proofs.Unbroken.{not_false}
 use Rattle.om_tree.specs.AtomicForms.{has_atomic_form, is_read, is_write}
 use Rattle.om_tree.specs.Sizes.{AtomicsHaveForms, HasForms, HasItemForms, HaveForms, Where}
 use Rattle.om_tree.specs.Tree as trees
-use Rattle.om_tree.specs.Tree.{ExpressionTree, FunctionTree, ItemTree, Declaration, Prototype, Function,
-    StatementTree, LocalDeclaration, Block, Empty, Expression, If, IfElse, While, Do, For, Return, Break, Continue,
-    Construct, StandAlone, Sections, Section, StatementsTree, NoStatements, Statement, UnitTree, statements}
+use Rattle.om_tree.specs.Tree.{ExpressionTree, FunctionTree, ItemTree, Declaration, Prototype, Function, StatementTree}
+use Rattle.om_tree.specs.Tree.{LocalDeclaration, Block, Empty, Expression, If, IfElse, While, Do, For, Return, Break}
+use Rattle.om_tree.specs.Tree.{Continue, Construct, StandAlone, Sections, Section, StatementsTree, NoStatements}
+use Rattle.om_tree.specs.Tree.{Statement, UnitTree, statements}
 
 -- in a statement each `atomic` that reads or writes assigns
 abbrev Good : ResolvedStatementTree → Type 0
@@ -63,7 +67,7 @@ unfolding resolved_expression
 assignment scopes a o at b =
     if_then (λ t. Unit {0}) IsAssignment (resolved_target scopes a) _ (if_any (resolved_target scopes a)) (λ t u.
     if_then (λ e. Unit {0}) IsAssignment (resolved_expression scopes b) _ (if_any (resolved_expression scopes b))
-        (λ e u. assigns t o e))
+    (λ e u. assigns t o e))
 
 read_assigns : (scopes : Scopes) (e : ExpressionTree) → is_read e ≡ true → IfSome (resolved_expression scopes e)
     IsAssignment
@@ -83,10 +87,10 @@ unfolding has_atomic_form resolved_statement
 atomic_body scopes parallel kinds.Update s form = if_any (resolved_statement scopes parallel s)
 atomic_body scopes parallel kinds.Read (Expression e semicolon) form =
     if_then IsAssignment (IsBodyOf kinds.Read) (resolved_expression scopes e) _ (read_assigns scopes e form)
-        (λ x hx. (hx, tt))
+    (λ x hx. (hx, tt))
 atomic_body scopes parallel kinds.Write (Expression e semicolon) form =
     if_then IsAssignment (IsBodyOf kinds.Write) (resolved_expression scopes e) _ (write_assigns scopes e form)
-        (λ x hx. (hx, tt))
+    (λ x hx. (hx, tt))
 atomic_body scopes parallel kinds.Read _ form = cc
 atomic_body scopes parallel kinds.Write _ form = cc
 
@@ -176,14 +180,14 @@ loop_good : (d : Directive ExpressionTree) (cs : List ResolvedClauseTree) (l : R
     (body : ResolvedStatementTree) → Good body → Good (loop_construct_of d cs l body)
 loop_good d cs l body h =
     if_either Good (is_parallel (traits_of d.name).region) (parallel_of d cs (resolved.Loop d.hash [] true l body))
-        (resolved.Loop d.hash cs (has_nowait d) l body) (tt, (tt, h)) (tt, h)
+    (resolved.Loop d.hash cs (has_nowait d) l body) (tt, (tt, h)) (tt, h)
 
 sections_good : (d : Directive ExpressionTree) (cs : List ResolvedClauseTree) (parts : ResolvedPartsTree)
     → EverywhereInParts AtomicAssigns parts → Good (sections_construct_of d cs parts)
 sections_good d cs parts h =
     if_either Good (is_parallel (traits_of d.name).region)
-        (parallel_of d cs (resolved.Sections d.hash [] true parts)) (resolved.Sections d.hash cs (has_nowait d)
-        parts) (tt, (tt, h)) (tt, h)
+    (parallel_of d cs (resolved.Sections d.hash [] true parts)) (resolved.Sections d.hash cs (has_nowait d)
+    parts) (tt, (tt, h)) (tt, h)
 
 alone_good : (scopes : Scopes) (d : Directive ExpressionTree) (name : DirectiveName)
     → IfSome (resolved_alone scopes d name) Good
@@ -236,26 +240,26 @@ mutual
       _ (λ ds. tt)
   statement_good scopes parallel (Block left items right) h =
       if_then (EverywhereIn AtomicAssigns) Good (resolved_statements (inside scopes) parallel items) _
-          (statements_good (inside scopes) parallel items h) (λ ss hs. (tt, hs))
+      (statements_good (inside scopes) parallel items h) (λ ss hs. (tt, hs))
   statement_good scopes parallel (Empty semicolon) h = tt
   statement_good scopes parallel (Expression e semicolon) h = then_good (resolved_expression scopes e) _ (λ x. tt)
   statement_good scopes parallel (If at c s) h =
       then_good (resolved_expression scopes c.value) _ (λ x.
       if_then Good Good (resolved_statement (inside scopes) parallel s) _ (statement_good (inside scopes) parallel s
-          h) (λ t ht. (tt, ht)))
+      h) (λ t ht. (tt, ht)))
   statement_good scopes parallel (IfElse at c s other u) h =
       then_good (resolved_expression scopes c.value) _ (λ x.
       if_then Good Good (resolved_statement (inside scopes) parallel s) _ (statement_good (inside scopes) parallel s
-          h.0) (λ t ht.
+      h.0) (λ t ht.
       if_then Good Good (resolved_statement (inside scopes) parallel u) _ (statement_good (inside scopes) parallel u
-          h.1) (λ v hv. (tt, ht, hv))))
+      h.1) (λ v hv. (tt, ht, hv))))
   statement_good scopes parallel (While at c s) h =
       then_good (resolved_expression scopes c.value) _ (λ x.
       if_then Good Good (resolved_statement (inside scopes) parallel s) _ (statement_good (inside scopes) parallel s
-          h) (λ t ht. (tt, ht)))
+      h) (λ t ht. (tt, ht)))
   statement_good scopes parallel (Do at s again c semicolon) h =
       if_then Good Good (resolved_statement (inside scopes) parallel s) _ (statement_good (inside scopes) parallel s
-          h) (λ t ht.
+      h) (λ t ht.
       then_good (resolved_expression scopes c.value) _ (λ x. (tt, ht)))
   statement_good scopes parallel (For head s) h =
       let behind = after_for_start (inside scopes) head.start in
@@ -263,19 +267,19 @@ mutual
       then_good (resolved_perhaps behind head.condition) _ (λ y.
       then_good (resolved_perhaps behind head.step) _ (λ z.
       if_then Good Good (resolved_statement (inside behind) parallel s) _ (statement_good (inside behind) parallel s
-          h) (λ t ht. (tt, ht)))))
+      h) (λ t ht. (tt, ht)))))
   statement_good scopes parallel (Return at value semicolon) h = then_good (resolved_perhaps scopes value) _ (λ x. tt)
   statement_good scopes parallel (Break at semicolon) h = tt
   statement_good scopes parallel (Continue at semicolon) h = tt
   statement_good scopes parallel (Construct d s) h =
       either_good (not (traits_of d.name).takes_loop) (resolved_plain_construct scopes parallel d s)
-          (resolved_loop_construct scopes parallel d (loop_in s) s)
+      (resolved_loop_construct scopes parallel d (loop_in s) s)
       (λ e.
       then_good (resolved_clauses scopes d.clauses) _ (λ cs.
       if_then (IsGoodBody (atomic_kind d) d.name) Good (resolved_statement (in_construct d scopes)
-          (parallel_in d parallel) s) _
+      (parallel_in d parallel) s) _
       (body_good (atomic_kind d) d.name (has_atomic_form (atomic_kind d) s)
-          (resolved_statement (in_construct d scopes) (parallel_in d parallel) s) (HasForms true s) h
+      (resolved_statement (in_construct d scopes) (parallel_in d parallel) s) (HasForms true s) h
       (λ form. atomic_body (in_construct d scopes) (parallel_in d parallel) (atomic_kind d) s form)
       (λ forms. statement_good (in_construct d scopes) (parallel_in d parallel) s forms))
       (λ body hb. construct_good parallel (statement_side s) d d.name cs body hb)))
@@ -285,15 +289,15 @@ mutual
       then_good (resolved_loop (round_bounds d scopes) (schedule_of d.clauses) found) _ (λ l.
       if_then Good Good (resolved_repeated (in_construct d scopes) (parallel_in d parallel) found s) _
       (repeated_good (in_construct d scopes) (parallel_in d parallel) found s (loop_forms d.name _ (HasForms true s)
-          (not_false (traits_of d.name).takes_loop e) h))
+      (not_false (traits_of d.name).takes_loop e) h))
       (λ body hb. loop_good d cs l body hb)))))
   statement_good scopes parallel (StandAlone d) h = alone_good scopes d d.name
   statement_good scopes parallel (Sections d left items right) h =
       then_good (resolved_clauses scopes d.clauses) _ (λ cs.
       if_then (EverywhereInParts AtomicAssigns) Good
-          (option_map parts_of (resolved_parts (in_construct d scopes) (parallel_in d parallel) 0 items)) _
+      (option_map parts_of (resolved_parts (in_construct d scopes) (parallel_in d parallel) 0 items)) _
       (if_mapped AreGoodItems (EverywhereInParts AtomicAssigns) (resolved_parts (in_construct d scopes)
-          (parallel_in d parallel) 0 items) parts_of
+      (parallel_in d parallel) 0 items) parts_of
       (parts_good (in_construct d scopes) (parallel_in d parallel) 0 items h) (λ g hg. hg.1))
       (λ parts hp. sections_good d cs parts hp))
   statement_good scopes parallel (Section d s) h = statement_good (inside scopes) parallel s h
@@ -303,9 +307,9 @@ mutual
   statements_good scopes parallel NoStatements h = tt
   statements_good scopes parallel (Statement s rest) h =
       if_then Good (EverywhereIn AtomicAssigns) (resolved_statement scopes parallel s) _
-          (statement_good scopes parallel s h.0) (λ t ht.
+      (statement_good scopes parallel s h.0) (λ t ht.
       if_then (EverywhereIn AtomicAssigns) (EverywhereIn AtomicAssigns)
-          (resolved_statements (after_statement scopes s) parallel rest) _
+      (resolved_statements (after_statement scopes s) parallel rest) _
       (statements_good (after_statement scopes s) parallel rest h.1) (λ ts hts. (ht, hts)))
 
   repeated_good : (scopes : Scopes) (parallel : Option ℕ) (found : Loop) (s : StatementTree) → HasForms true s
@@ -332,10 +336,10 @@ mutual
   parts_good scopes parallel before NoStatements h = (tt, tt)
   parts_good scopes parallel before (Statement s rest) h =
       if_then Good AreGoodItems (resolved_statement (inside scopes) parallel s) _
-          (statement_good (inside scopes) parallel s h.0) (λ t ht.
+      (statement_good (inside scopes) parallel s h.0) (λ t ht.
       if_then AreGoodItems AreGoodItems (resolved_parts scopes parallel (parts_behind before s) rest) _
       (parts_good scopes parallel (parts_behind before s) rest h.1) (λ g hg. item_good (begins_part before s) t g ht
-          hg))
+      hg))
 
 -- ---- functions
 
@@ -346,7 +350,7 @@ function_good scopes f h =
     let behind = after_function scopes f.head in
     if_then (EverywhereIn AtomicAssigns) (λ x. EverywhereIn AtomicAssigns x.body) (resolved_inside behind f) _
     (statements_good (after_parameters (inside behind) (parameters_of f.head.parameters)) None
-        (statements f.body.items) h) (λ body hb. hb)
+    (statements f.body.items) h) (λ body hb. hb)
 
 abbrev IsGoodFunction : ResolvedFunctionTree → Type 0
 IsGoodFunction function = EverywhereIn AtomicAssigns function.body
@@ -358,22 +362,22 @@ item_functions_good scopes (Declaration d) h = All-nil IsGoodFunction
 item_functions_good scopes (Prototype head semicolon) h = All-nil IsGoodFunction
 item_functions_good scopes (Function f) h =
     if_then IsGoodFunction (All IsGoodFunction) (resolved_function scopes f) _ (function_good scopes f h)
-        (λ x hx. All-cons IsGoodFunction x [] hx (All-nil IsGoodFunction))
+    (λ x hx. All-cons IsGoodFunction x [] hx (All-nil IsGoodFunction))
 
 items_good : (items : List ItemTree) (scopes : Scopes) → All (HasItemForms true) items
     → IfSome (all_along item_functions after_item scopes items) (All IsGoodFunction)
 items_good [] scopes h = All-nil IsGoodFunction
 items_good (item ∷ items) scopes h =
     if_then (All IsGoodFunction) (All IsGoodFunction) (item_functions scopes item) _
-        (item_functions_good scopes item (All-head (HasItemForms true) item items h)) (λ xs hxs.
+    (item_functions_good scopes item (All-head (HasItemForms true) item items h)) (λ xs hxs.
     if_then (All IsGoodFunction) (All IsGoodFunction) (all_along item_functions after_item (after_item scopes item)
-        items) _
+    items) _
     (items_good items (after_item scopes item) (All-tail (HasItemForms true) item items h))
-        (λ ys hys. All-append IsGoodFunction xs ys hxs hys))
+    (λ ys hys. All-append IsGoodFunction xs ys hxs hys))
 
 pub unit_assigns : (unit : UnitTree) → AtomicsHaveForms unit → IfSome (resolution_of unit) TreeAtomicsAssign
 unfolding resolution_of AtomicsHaveForms
 unit_assigns unit forms =
     let scopes = file_scope (definitions_of unit.items) in
     if_then (All IsGoodFunction) TreeAtomicsAssign (all_along item_functions after_item scopes unit.items) _
-        (items_good unit.items scopes forms) (λ functions h. h)
+    (items_good unit.items scopes forms) (λ functions h. h)

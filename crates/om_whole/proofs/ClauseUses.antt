@@ -20,16 +20,18 @@ use Rattle.om_rules.specs.Loops.{Loop}
 use Rattle.om_rules.specs.Perhaps.{perhaps, each}
 use Rattle.om_rules.specs.Resolution.{resolved_expression, variable_named}
 use Rattle.om_resolved.specs.ResolvedTree as resolved
-use Rattle.om_resolved.specs.ResolvedTree.{ResolvedExpressionTree, ResolvedClauseTree, ResolvedLoopTree,
-    ResolvedStatementTree, ResolvedStatementsTree, ResolvedPartsTree}
+use Rattle.om_resolved.specs.ResolvedTree.{ResolvedExpressionTree, ResolvedClauseTree, ResolvedLoopTree}
+use Rattle.om_resolved.specs.ResolvedTree.{ResolvedStatementTree, ResolvedStatementsTree, ResolvedPartsTree}
 use Rattle.om_rules.specs.Scopes.{Scopes, declarators_of, after_local}
 use Rattle.om_rules.specs.Sharing.{is_parallel}
-use Rattle.om_rules.specs.StatementResolution.{resolved_initial, resolved_declarator, resolved_declarators,
-    clause_of, resolved_listed, kind_of, resolved_clause, resolved_clauses, resolved_item, has_nowait, parallel_of,
-    construct_of, loop_construct_of, sections_construct_of, bounds_scopes, resolved_loop, resolved_start,
-    resolved_perhaps, flushed, resolved_alone}
-use Rattle.om_resolved.specs.Uses.{IsVariable, UsesVariables, PerhapsUsesVariables, DeclaratorsUseVariables,
-    StartUsesVariables, ClauseUsesVariables, ClausesUseVariables, StatementUsesVariables, PartsUseVariables}
+use Rattle.om_rules.specs.StatementResolution.{resolved_initial, resolved_declarator, resolved_declarators, clause_of}
+use Rattle.om_rules.specs.StatementResolution.{resolved_listed, kind_of, resolved_clause, resolved_clauses}
+use Rattle.om_rules.specs.StatementResolution.{resolved_item, has_nowait, parallel_of, construct_of, loop_construct_of}
+use Rattle.om_rules.specs.StatementResolution.{sections_construct_of, bounds_scopes, resolved_loop, resolved_start}
+use Rattle.om_rules.specs.StatementResolution.{resolved_perhaps, flushed, resolved_alone}
+use Rattle.om_resolved.specs.Uses.{IsVariable, UsesVariables, PerhapsUsesVariables, DeclaratorsUseVariables}
+use Rattle.om_resolved.specs.Uses.{StartUsesVariables, ClauseUsesVariables, ClausesUseVariables, StatementUsesVariables}
+use Rattle.om_resolved.specs.Uses.{PartsUseVariables}
 use Rattle.om_whole.proofs.ExpressionUses.{expression_uses}
 use Rattle.om_whole.proofs.GlobalsBelow.{Below, named_below, below_after_local, below_found}
 use Rattle.om_whole.proofs.UpdateUses.{atomic_uses}
@@ -53,17 +55,17 @@ declarator_uses : (n : ℕ) (scopes : Scopes) (d : DeclaratorTree) → Below n s
 unfolding resolved_declarator
 declarator_uses n scopes d h =
     if_then (PerhapsUsesVariables n) (λ x. PerhapsUsesVariables n x.initial)
-        (resolved_initial (after_local scopes d) d.initializer) _
+    (resolved_initial (after_local scopes d) d.initializer) _
     (perhaps_use n (λ i. resolved_expression (after_local scopes d) i.value)
-        (λ i. expression_uses n (after_local scopes d) i.value (below_after_local n scopes d h)) d.initializer)
+    (λ i. expression_uses n (after_local scopes d) i.value (below_after_local n scopes d h)) d.initializer)
     (λ x hx. hx)
 
 pub declarators_use : (n : ℕ) (scopes : Scopes) (ds : List DeclaratorTree) → Below n scopes
     → IfSome (resolved_declarators scopes ds) (DeclaratorsUseVariables n)
 declarators_use n scopes ds h =
     if_each_along (Below n) (λ x. PerhapsUsesVariables n x.initial) after_local
-        (λ state d g. below_after_local n state d g) resolved_declarator (λ state d g. declarator_uses n state d g)
-        ds scopes h
+    (λ state d g. below_after_local n state d g) resolved_declarator (λ state d g. declarator_uses n state d g)
+    ds scopes h
 
 pub start_uses : (n : ℕ) (scopes : Scopes) (start : ForStartTree) → Below n scopes
     → IfSome (resolved_start scopes start) (StartUsesVariables n)
@@ -96,7 +98,7 @@ clause_uses : (n : ℕ) (scopes : Scopes) (clause : Clause ExpressionTree) → B
 unfolding resolved_clause
 clause_uses n scopes (clauses.Value kind s v) h =
     if_then (UsesVariables n) (ClausesUseVariables n) (resolved_expression scopes v.expression) _
-        (expression_uses n scopes v.expression h)
+    (expression_uses n scopes v.expression h)
     (λ e he. All-cons (ClauseUsesVariables n) (resolved.ClauseValue kind e) [] he (All-nil (ClauseUsesVariables n)))
 clause_uses n scopes (clauses.Default s argument) h = All-nil (ClauseUsesVariables n)
 clause_uses n scopes (clauses.Data sharing s list) h = all_listed_use n (kind_of sharing) scopes
@@ -116,7 +118,7 @@ clauses_use n scopes items h = if_all_of (ClauseUsesVariables n) (resolved_item 
 pub construct_uses : (n : ℕ) (parallel : Option ℕ) (side : Side) (d : Directive ExpressionTree)
     (name : DirectiveName) (cs : List ResolvedClauseTree) (body : ResolvedStatementTree)
     → ClausesUseVariables n cs → StatementUsesVariables n body → StatementUsesVariables n
-        (construct_of parallel side d name cs body)
+    (construct_of parallel side d name cs body)
 unfolding construct_of
 construct_uses n parallel side d (directives.Parallel s) cs body hc h = (hc, h)
 construct_uses n parallel side d (directives.Task s) cs body hc h = (hc, h)
@@ -140,10 +142,10 @@ construct_uses n parallel side d (directives.Flush s list) cs body hc h = h
 pub loop_construct_uses : (n : ℕ) (d : Directive ExpressionTree) (cs : List ResolvedClauseTree)
     (l : ResolvedLoopTree) (body : ResolvedStatementTree)
     → ClausesUseVariables n cs → UsesVariables n l.from → UsesVariables n l.to → StatementUsesVariables n body
-        → StatementUsesVariables n (loop_construct_of d cs l body)
+    → StatementUsesVariables n (loop_construct_of d cs l body)
 loop_construct_uses n d cs l body hc from to h =
     if_either (StatementUsesVariables n) (is_parallel (traits_of d.name).region)
-        (parallel_of d cs (resolved.Loop d.hash [] true l body)) (resolved.Loop d.hash cs (has_nowait d) l body)
+    (parallel_of d cs (resolved.Loop d.hash [] true l body)) (resolved.Loop d.hash cs (has_nowait d) l body)
     (hc, (All-nil (ClauseUsesVariables n), from, to, h)) (hc, from, to, h)
 
 pub sections_construct_uses : (n : ℕ) (d : Directive ExpressionTree) (cs : List ResolvedClauseTree)
@@ -151,7 +153,7 @@ pub sections_construct_uses : (n : ℕ) (d : Directive ExpressionTree) (cs : Lis
     → ClausesUseVariables n cs → PartsUseVariables n parts → StatementUsesVariables n (sections_construct_of d cs parts)
 sections_construct_uses n d cs parts hc h =
     if_either (StatementUsesVariables n) (is_parallel (traits_of d.name).region)
-        (parallel_of d cs (resolved.Sections d.hash [] true parts)) (resolved.Sections d.hash cs (has_nowait d) parts)
+    (parallel_of d cs (resolved.Sections d.hash [] true parts)) (resolved.Sections d.hash cs (has_nowait d) parts)
     (hc, (All-nil (ClauseUsesVariables n), h)) (hc, h)
 
 pub loop_uses : (n : ℕ) (scopes : Scopes) (schedule : ResolvedSchedule) (found : Loop) → Below n scopes
@@ -162,9 +164,9 @@ loop_uses n scopes schedule found h =
     let inner = bounds_scopes scopes found in
     let below = below_found n scopes found h in
     if_then (UsesVariables n) P (resolved_expression inner found.start.from) _
-        (expression_uses n inner found.start.from below) (λ x hx.
+    (expression_uses n inner found.start.from below) (λ x hx.
     if_then (UsesVariables n) P (resolved_expression inner found.to) _ (expression_uses n inner found.to below)
-        (λ y hy. (hx, hy)))
+    (λ y hy. (hx, hy)))
 
 -- ---- directives that stand alone
 

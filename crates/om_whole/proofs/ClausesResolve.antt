@@ -11,31 +11,34 @@ use Rattle.om_pragma.specs.declared.name.NameList.{NameList}
 use Rattle.om_pragma.specs.declared.tree.Directive.{Directive}
 use Rattle.om_pragma.specs.declared.tree.DirectiveName.{DirectiveName}
 use Rattle.om_pragma.specs.declared.tree.DirectiveName.TheVariants as directives
-use Rattle.om_tree.specs.Tree.{ExpressionTree, InitializerTree, DeclaratorTree, ForStartTree, Nothing,
-    StartExpression, StartDeclaration}
+use Rattle.om_tree.specs.Tree.{ExpressionTree, InitializerTree, DeclaratorTree, ForStartTree, Nothing, StartExpression}
+use Rattle.om_tree.specs.Tree.{StartDeclaration}
 use Rattle.om_rules.specs.declared.flow.Flow.{Flow}
 use Rattle.om_resolved.specs.declared.resolved.CopyKind.{CopyKind}
 use Rattle.om_resolved.specs.declared.resolved.CopyKind.TheVariants as copies
 use Rattle.om_resolved.specs.declared.resolved.ResolvedSchedule.{ResolvedSchedule}
 use Rattle.om_rules.specs.declared.meaning.Meaning.{Meaning}
 use Rattle.om_rules.specs.declared.meaning.Meaning.TheVariants as meanings
-use Rattle.om_rules.specs.DirectiveRules.{Listed, nothing_listed, is_listed, after_name, is_variable, is_mislisted,
-    uses_original, listed_breaches, names_in, names_breaches, clause_breaches, item_breaches, after_item,
-    directive_breaches, nesting_breaches, flushed_breaches, list_breaches, flush_breaches}
-use Rattle.om_rules.specs.ExpressionRules.{undeclared_breaches, expression_breaches, is_scalar, is_copied_array,
-    misplaced_breaches}
+use Rattle.om_rules.specs.DirectiveRules.{Listed, nothing_listed, is_listed, after_name, is_variable, is_mislisted}
+use Rattle.om_rules.specs.DirectiveRules.{uses_original, listed_breaches, names_in, names_breaches, clause_breaches}
+use Rattle.om_rules.specs.DirectiveRules.{item_breaches, after_item, directive_breaches, nesting_breaches}
+use Rattle.om_rules.specs.DirectiveRules.{flushed_breaches, list_breaches, flush_breaches}
+use Rattle.om_rules.specs.ExpressionRules.{undeclared_breaches, expression_breaches, is_scalar, is_copied_array}
+use Rattle.om_rules.specs.ExpressionRules.{misplaced_breaches}
 use Rattle.om_rules.specs.Faults.{breach_if, breaches_along}
 use Rattle.om_rules.specs.Loops.{Loop}
 use Rattle.om_rules.specs.Perhaps.{each}
 use Rattle.om_rules.specs.Resolution.{variable_of, variable_named, resolved_expression}
 use Rattle.om_rules.specs.Scopes.{Scopes, meaning_of, after_local, declarators_of}
 use Rattle.om_rules.specs.Sharing.{is_unlisted}
-use Rattle.om_rules.specs.StatementResolution.{resolved_initial, resolved_declarator, resolved_declarators,
-    resolved_listed, kind_of, resolved_clause, resolved_clauses, resolved_item, bounds_scopes, resolved_loop,
-    resolved_start, resolved_perhaps, flushed, resolved_alone}
-use Rattle.om_rules.specs.StatementRules.{redeclared_breaches, array_size_breaches, initializer_breaches,
-    local_breaches, locals_breaches, return_breaches, perhaps_breaches, for_start_breaches, variable_breaches,
-    values_breaches, found_breaches, with_iteration}
+use Rattle.om_rules.specs.StatementResolution.{resolved_initial, resolved_declarator, resolved_declarators}
+use Rattle.om_rules.specs.StatementResolution.{resolved_listed, kind_of, resolved_clause, resolved_clauses}
+use Rattle.om_rules.specs.StatementResolution.{resolved_item, bounds_scopes, resolved_loop, resolved_start}
+use Rattle.om_rules.specs.StatementResolution.{resolved_perhaps, flushed, resolved_alone}
+use Rattle.om_rules.specs.StatementRules.{redeclared_breaches, array_size_breaches, initializer_breaches}
+use Rattle.om_rules.specs.StatementRules.{local_breaches, locals_breaches, return_breaches, perhaps_breaches}
+use Rattle.om_rules.specs.StatementRules.{for_start_breaches, variable_breaches, values_breaches, found_breaches}
+use Rattle.om_rules.specs.StatementRules.{with_iteration}
 use Rattle.om_whole.proofs.ExpressionsResolve.{has_expression, never_misplaced, scalar_is_variable}
 use Rattle.om_whole.proofs.SomeSteps.{some_then, some_each, some_all_of, some_each_along, some_each_flat}
 use Rattle.om_whole.proofs.Unbroken.{front, back, not_broken, not_false, left_false}
@@ -54,8 +57,8 @@ unfolding local_breaches resolved_declarator
 has_declarator scopes d whole =
     some_then (resolved_initial (after_local scopes d) d.initializer) _
     (has_initial (after_local scopes d) d.initializer
-        (back (redeclared_breaches scopes d.name ++ array_size_breaches d)
-        (initializer_breaches (after_local scopes d) d.initializer) whole)) (λ x. refl)
+    (back (redeclared_breaches scopes d.name ++ array_size_breaches d)
+    (initializer_breaches (after_local scopes d) d.initializer) whole)) (λ x. refl)
 
 pub has_declarators : (scopes : Scopes) (ds : List DeclaratorTree) → locals_breaches scopes ds ≡ []
     → IsSome (resolved_declarators scopes ds)
@@ -112,7 +115,7 @@ has_variable scopes sharing listed name whole =
     let twice = is_listed listed name.text in
     let unlisted = breach_if (uses_original sharing && is_unlisted scopes name.text) faults.Unlisted name.span.start in
     let right = not_broken (wrong || twice) faults.Misuse name.span.start (back (undeclared_breaches scopes name)
-        (breach_if (wrong || twice) faults.Misuse name.span.start) (front _ unlisted whole)) in
+    (breach_if (wrong || twice) faults.Misuse name.span.start) (front _ unlisted whole)) in
     well_listed sharing scopes name.text (left_false wrong twice right)
 
 has_names : (scopes : Scopes) (sharing : DataSharing) (kind : Option CopyKind) (listed : Listed)
@@ -121,7 +124,7 @@ has_names : (scopes : Scopes) (sharing : DataSharing) (kind : Option CopyKind) (
 has_names scopes sharing kind listed ns whole =
     some_each (listed_breaches scopes sharing) (after_name sharing) (resolved_listed kind scopes)
     (λ state name w. some_then (variable_named scopes name) _ (has_variable scopes sharing state name w)
-        (λ v. refl)) ns listed whole
+    (λ v. refl)) ns listed whole
 
 has_clause : (scopes : Scopes) (listed : Listed) (clause : Clause ExpressionTree) → clause_breaches scopes listed
     clause ≡ [] → IsSome (resolved_clause scopes clause)
@@ -140,9 +143,9 @@ pub has_clauses : (scopes : Scopes) (flow : Flow) (d : Directive ExpressionTree)
     ≡ [] → IsSome (resolved_clauses scopes d.clauses)
 has_clauses scopes flow d whole =
     some_all_of (item_breaches scopes) after_item (resolved_item scopes) (λ state item w. has_clause scopes state
-        item.clause w) d.clauses nothing_listed
+    item.clause w) d.clauses nothing_listed
     (back (nesting_breaches flow d.name) (breaches_along (item_breaches scopes) after_item nothing_listed d.clauses)
-        whole)
+    whole)
 
 -- ---- canonical loops
 
@@ -163,9 +166,9 @@ has_loop scopes schedule found whole =
     let inner = bounds_scopes scopes found in
     let values = has_bounds scopes found whole in
     let to = has_expression inner true found.to (back (expression_breaches inner true found.start.from)
-        (expression_breaches inner true found.to) values) in
+    (expression_breaches inner true found.to) values) in
     some_then (resolved_expression inner found.start.from) _ (has_expression inner true found.start.from
-        (front (expression_breaches inner true found.start.from) (expression_breaches inner true found.to) values))
+    (front (expression_breaches inner true found.start.from) (expression_breaches inner true found.to) values))
     (λ x. some_then (resolved_expression inner found.to) _ to (λ y. refl))
 
 -- ---- directives that stand alone

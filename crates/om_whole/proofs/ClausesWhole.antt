@@ -1,6 +1,6 @@
 -- Clauses without a breach resolve to whole ones.
-use Rattle.std.proofs.Common.{◌≡◌, ℕ, Bool, true, false, not, ◌||◌, ◌&&◌, List, [], ◌∷◌, ◌++◌, All, Option, None,
-    Some, inl, inr, fold, refl, sym, ap, subst, ◌∙◌}
+use Rattle.std.proofs.Common.{◌≡◌, ℕ, Bool, true, false, not, ◌||◌, ◌&&◌, List, [], ◌∷◌, ◌++◌, All, Option, None, Some}
+use Rattle.std.proofs.Common.{inl, inr, fold, refl, sym, ap, subst, ◌∙◌}
 use Rattle.std.specs.Prelude.{IfSome}
 use Rattle.std.specs.List.{list_any, flat_map}
 use Rattle.std.specs.Map.{lookup}
@@ -21,8 +21,8 @@ use Rattle.om_pragma.specs.declared.tree.DirectiveName.{DirectiveName}
 use Rattle.om_pragma.specs.declared.tree.DirectiveName.TheVariants as directives
 use Rattle.om_pragma.specs.Kinds.{directive_kind}
 use Rattle.om_pragma.specs.Spelling.{kind_of}
-use Rattle.om_pragma.specs.Table.{clauses_of, same_clause, may_stand, excludes, kinds_of, IsItem, EachBehind,
-    IsDirective}
+use Rattle.om_pragma.specs.Table.{clauses_of, same_clause, may_stand, excludes, kinds_of, IsItem, EachBehind}
+use Rattle.om_pragma.specs.Table.{IsDirective}
 use Rattle.om_resolved.specs.declared.resolved.ConstructKind.TheVariants as constructs
 use Rattle.om_resolved.specs.declared.resolved.CopyKind.{CopyKind}
 use Rattle.om_resolved.specs.declared.resolved.CopyKind.TheVariants as copies
@@ -30,13 +30,14 @@ use Rattle.om_resolved.specs.declared.resolved.Shape.TheVariants as shapes
 use Rattle.om_resolved.specs.declared.resolved.Variable.{Variable}
 use Rattle.om_resolved.specs.ResolvedTree as resolved
 use Rattle.om_resolved.specs.ResolvedTree.{ResolvedClauseTree}
-use Rattle.om_resolved.specs.Whole.{Around, Local, IsInScope, IsWhole, Admitted, of_parallel, of_task,
-    of_worksharing, of_construct, nothing, IsAdmittedCopy, IsShared, IsWholeClause, copies_in}
+use Rattle.om_resolved.specs.Whole.{Around, Local, IsInScope, IsWhole, Admitted, of_parallel, of_task, of_worksharing}
+use Rattle.om_resolved.specs.Whole.{of_construct, nothing, IsAdmittedCopy, IsShared, IsWholeClause, copies_in}
 use Rattle.om_rules.specs.declared.meaning.Meaning.{Meaning}
 use Rattle.om_rules.specs.declared.meaning.Meaning.TheVariants as meanings
-use Rattle.om_rules.specs.DirectiveRules.{Listed, nothing_listed, is_listed, copy_of, after_name, after_names,
-    is_variable, is_mislisted, uses_original, sharing_of, listed_breaches, names_in, names_breaches,
-    clause_breaches, item_breaches, after_clause, after_item, listed_by, in_construct}
+use Rattle.om_rules.specs.DirectiveRules.{Listed, nothing_listed, is_listed, copy_of, after_name, after_names}
+use Rattle.om_rules.specs.DirectiveRules.{is_variable, is_mislisted, uses_original, sharing_of, listed_breaches}
+use Rattle.om_rules.specs.DirectiveRules.{names_in, names_breaches, clause_breaches, item_breaches, after_clause}
+use Rattle.om_rules.specs.DirectiveRules.{after_item, listed_by, in_construct}
 use Rattle.om_rules.specs.ExpressionRules.{undeclared_breaches, is_scalar, is_copied_array}
 use Rattle.om_rules.specs.Faults.{breach_if, breaches_along}
 use Rattle.om_whole.specs.Knowing.{IsThere, Known, Knows}
@@ -45,8 +46,8 @@ use Rattle.om_rules.specs.Resolution.{variable_of, variable_named, resolved_expr
 use Rattle.om_rules.specs.Scopes.{Scope, Scopes, meaning_of}
 use Rattle.om_rules.specs.Sharing.{is_unlisted}
 use Rattle.om_rules.specs.StatementResolution as resolution
-use Rattle.om_rules.specs.StatementResolution.{clause_of, resolved_listed, resolved_clause, resolved_item,
-    resolved_clauses}
+use Rattle.om_rules.specs.StatementResolution.{clause_of, resolved_listed, resolved_clause, resolved_item}
+use Rattle.om_rules.specs.StatementResolution.{resolved_clauses}
 use Rattle.om_whole.proofs.ExpressionsWhole.{known_scalar, meant, whole_expression}
 use Rattle.om_whole.proofs.Knowing.{if_more, contains_last, lookup_push, there_more, known_more, known_within}
 use Rattle.om_whole.proofs.Steps.{if_then}
@@ -220,9 +221,10 @@ each_admitted : (nowait : Bool) (name : DirectiveName) (items before : List (Cla
     → EachBehind (IsItem IsExpression name) before items → AdmitsAll (admitted_by nowait name) items
 unfolding EachBehind
 each_admitted nowait name [] before h = tt
-each_admitted nowait name (item ∷ items) before h =
-    (in_table nowait name item.clause (stands_in_table name (kinds_of before) (kind_of item.clause) h.0.can_stand),
-        each_admitted nowait name items (before ++ item ∷ []) h.1)
+each_admitted nowait name (item ∷ items) before h = (
+  in_table nowait name item.clause (stands_in_table name (kinds_of before) (kind_of item.clause) h.0.can_stand),
+  each_admitted nowait name items (before ++ item ∷ []) h.1,
+)
 
 pub line_admitted : (nowait : Bool) (d : Directive ExpressionTree) → IsLine d
     → AdmitsAll (admitted_by nowait d.name) d.clauses
@@ -234,7 +236,7 @@ line_admitted nowait d h = each_admitted nowait d.name d.clauses [] h
 shared_there : (around : Around) (definitions : List (List ℕ)) (name : List ℕ) (meaning : Option Meaning)
     → is_variable meaning ≡ true
     → IfSome meaning (IsThere around.globals around.functions around.locals definitions name)
-        → IfSome (variable_of meaning) (IsShared around)
+    → IfSome (variable_of meaning) (IsShared around)
 shared_there around definitions name (Some (meanings.Variable v shapes.Scalar)) e h = inl h
 shared_there around definitions name (Some (meanings.Variable v shapes.Array)) e h = inr h
 shared_there around definitions name (Some (meanings.Function signature)) e h = tt
@@ -249,8 +251,8 @@ well_listed scopes sharing listed name w =
     let twice = is_listed listed name.text in
     let unlisted = breach_if (uses_original sharing && is_unlisted scopes name.text) faults.Unlisted name.span.start in
     left_false bad twice (not_broken (bad || twice) faults.Misuse name.span.start
-        (back (undeclared_breaches scopes name) (breach_if (bad || twice) faults.Misuse name.span.start)
-        (front _ unlisted w)))
+    (back (undeclared_breaches scopes name) (breach_if (bad || twice) faults.Misuse name.span.start)
+    (front _ unlisted w)))
 
 pub whole_shared : (around : Around) (scopes : Scopes) (listed : Listed) (name : names.Name) → Knows around scopes
     → listed_breaches scopes lists.Shared listed name ≡ [] → IfSome (variable_named scopes name) (IsShared around)
@@ -258,8 +260,8 @@ whole_shared around scopes listed name h w =
     let meaning = meaning_of scopes name.text in
     let right = well_listed scopes lists.Shared listed name w in
     shared_there around scopes.definitions name.text meaning
-        (not_false (is_variable meaning) (left_false (not (is_variable meaning)) (is_copied_array scopes name.text)
-        right)) (meant around scopes name.text h)
+    (not_false (is_variable meaning) (left_false (not (is_variable meaning)) (is_copied_array scopes name.text)
+    right)) (meant around scopes name.text h)
 
 scalar_listed : (around : Around) (scopes : Scopes) (name : names.Name) → Knows around scopes
     → not (is_scalar (meaning_of scopes name.text)) ≡ false → IfSome (variable_named scopes name)
@@ -270,19 +272,19 @@ scalar_listed around scopes name h right = known_scalar around scopes name h
 whole_listed : (around : Around) (admitted : Admitted) (kind : Option CopyKind) (scopes : Scopes) (listed : Listed)
     (name : names.Name) → Knows around scopes → AdmitsKind admitted kind
     → listed_breaches scopes (sharing_of kind) listed name ≡ [] → IfSome (resolved_listed kind scopes name)
-        (IsWholeClause around admitted)
+    (IsWholeClause around admitted)
 whole_listed around admitted None scopes listed name h a w =
     if_then (IsShared around) (IsWholeClause around admitted) (variable_named scopes name) _
-        (whole_shared around scopes listed name h w) (λ v hv. (a, hv))
+    (whole_shared around scopes listed name h w) (λ v hv. (a, hv))
 whole_listed around admitted (Some copies.Private) scopes listed name h a w =
     if_then (IsInScope around shapes.Scalar) (IsWholeClause around admitted) (variable_named scopes name) _
-        (scalar_listed around scopes name h (well_listed scopes lists.Private listed name w)) (λ v hv. (a, tt))
+    (scalar_listed around scopes name h (well_listed scopes lists.Private listed name w)) (λ v hv. (a, tt))
 whole_listed around admitted (Some copies.Firstprivate) scopes listed name h a w =
     if_then (IsInScope around shapes.Scalar) (IsWholeClause around admitted) (variable_named scopes name) _
-        (scalar_listed around scopes name h (well_listed scopes lists.Firstprivate listed name w)) (λ v hv. (a, hv))
+    (scalar_listed around scopes name h (well_listed scopes lists.Firstprivate listed name w)) (λ v hv. (a, hv))
 whole_listed around admitted (Some (copies.Reduction o)) scopes listed name h a w =
     if_then (IsInScope around shapes.Scalar) (IsWholeClause around admitted) (variable_named scopes name) _
-        (scalar_listed around scopes name h (well_listed scopes lists.Firstprivate listed name w)) (λ v hv. (a, hv))
+    (scalar_listed around scopes name h (well_listed scopes lists.Firstprivate listed name w)) (λ v hv. (a, hv))
 
 -- ---- copies
 
@@ -295,10 +297,10 @@ copies_more : (around : Around) (scopes : Scopes) (locals more : List Local) (sc
     scopes locals scope → AreCopies around scopes (locals ++ more) scope
 copies_more around scopes locals more scope h =
     λ name. if_more (IsThere around.globals around.functions locals scopes.definitions name)
-        (IsThere around.globals around.functions (locals ++ more) scopes.definitions name)
-        (lookup (bytes_eq name) scope)
+    (IsThere around.globals around.functions (locals ++ more) scopes.definitions name)
+    (lookup (bytes_eq name) scope)
     (λ meaning there. there_more around.globals around.functions locals more scopes.definitions name meaning there)
-        (h name)
+    (h name)
 
 copies_push : (around : Around) (scopes : Scopes) (locals : List Local) (scope : Scope) (name : names.Name)
     → AreCopies around scopes locals scope
@@ -306,13 +308,13 @@ copies_push : (around : Around) (scopes : Scopes) (locals : List Local) (scope :
 copies_push around scopes locals scope name h =
     let local : Local = (name.span.start, shapes.Scalar) in
     λ other. lookup_push around.globals around.functions (IsThere around.globals around.functions
-        (locals ++ local ∷ []) scopes.definitions other) (bytes_eq other) scope (copy_of name)
+    (locals ++ local ∷ []) scopes.definitions other) (bytes_eq other) scope (copy_of name)
     (copies_more around scopes locals (local ∷ []) scope h other) (contains_last locals local)
 
 copies_after_name : (around : Around) (scopes : Scopes) (locals : List Local) (kind : Option CopyKind)
     (listed : Listed) (name : names.Name) (v : Variable) → AreCopies around scopes locals listed.copies
     → AreCopies around scopes (locals ++ copies_in (clause_of kind v name)) (after_name (sharing_of kind) listed
-        name).copies
+    name).copies
 copies_after_name around scopes locals None listed name v h = copies_more around scopes locals [] listed.copies h
 copies_after_name around scopes locals (Some copies.Private) listed name v h = copies_push around scopes locals
     listed.copies name h
@@ -337,7 +339,7 @@ module _ (around : Around) (admitted : Admitted) (scopes : Scopes) (h : Knows ar
   joined : (locals : List Local) (xs ys : List ResolvedClauseTree) (behind : Scope)
       → All (IsWholeClause around admitted) xs
       → AreGoodClauses around admitted scopes (locals ++ flat_map copies_in xs) behind ys → AreGoodClauses around
-          admitted scopes locals behind (xs ++ ys)
+      admitted scopes locals behind (xs ++ ys)
   joined locals xs ys behind hx hy = (
     All-append (IsWholeClause around admitted) xs ys hx hy.0,
     subst (λ all. AreCopies around scopes all behind) (append_assoc locals (flat_map copies_in xs)
@@ -354,14 +356,14 @@ module _ (around : Around) (admitted : Admitted) (scopes : Scopes) (h : Knows ar
       scopes locals listed.copies → (v : Option Variable)
       → IfSome (v >>= λ x. Some (clause_of kind x n)) (IsWholeClause around admitted)
       → IfSome (v >>= λ x. Some (clause_of kind x n)) (λ c. IsWholeClause around admitted c × AreCopies around
-          scopes (locals ++ copies_in c) (after_name (sharing_of kind) listed n).copies)
+      scopes (locals ++ copies_in c) (after_name (sharing_of kind) listed n).copies)
   listed_good kind n listed locals hl None g = tt
   listed_good kind n listed locals hl (Some x) g = (g, copies_after_name around scopes locals kind listed n x hl)
 
   whole_names : (kind : Option CopyKind) → AdmitsKind admitted kind → (ns : List names.Name) (listed : Listed)
       (locals : List Local) → AreCopies around scopes locals listed.copies
       → names_breaches scopes (sharing_of kind) listed ns ≡ [] → IfSome (each (resolved_listed kind scopes) ns)
-          (AreGoodClauses around admitted scopes locals (after_names (sharing_of kind) listed ns).copies)
+      (AreGoodClauses around admitted scopes locals (after_names (sharing_of kind) listed ns).copies)
   whole_names kind a [] listed locals hl w = none_good locals listed.copies hl
   whole_names kind a (n ∷ ns) listed locals hl w =
       let own = listed_breaches scopes (sharing_of kind) listed n in
@@ -369,27 +371,30 @@ module _ (around : Around) (admitted : Admitted) (scopes : Scopes) (h : Knows ar
       let others = names_breaches scopes (sharing_of kind) behind ns in
       let Q = AreGoodClauses around admitted scopes locals (after_names (sharing_of kind) listed (n ∷ ns)).copies in
       if_then (λ c. IsWholeClause around admitted c × AreCopies around scopes (locals ++ copies_in c) behind.copies)
-          Q (resolved_listed kind scopes n) _
+      Q (resolved_listed kind scopes n) _
       (listed_good kind n listed locals hl (variable_named scopes n) (whole_listed around admitted kind scopes
-          listed n h a (front own others w))) (λ c hc.
+      listed n h a (front own others w))) (λ c hc.
       if_then (AreGoodClauses around admitted scopes (locals ++ copies_in c) (after_names (sharing_of kind) behind
-          ns).copies) Q (each (resolved_listed kind scopes) ns) _
+      ns).copies) Q (each (resolved_listed kind scopes) ns) _
       (whole_names kind a ns behind (locals ++ copies_in c) hc.1 (back own others w)) (λ cs hcs.
       joined locals (c ∷ []) cs (after_names (sharing_of kind) behind ns).copies
-          (All-cons (IsWholeClause around admitted) c [] hc.0 (All-nil (IsWholeClause around admitted)))
+      (All-cons (IsWholeClause around admitted) c [] hc.0 (All-nil (IsWholeClause around admitted)))
       (subst (λ all. AreGoodClauses around admitted scopes all (after_names (sharing_of kind) behind ns).copies cs)
-          (ap (λ more. locals ++ more) (sym (append-nil (copies_in c)))) hcs)))
+      (ap (λ more. locals ++ more) (sym (append-nil (copies_in c)))) hcs)))
 
   whole_clause : (listed : Listed) (locals : List Local) (clause : Clause ExpressionTree) → Admits admitted clause
       → AreCopies around scopes locals listed.copies → clause_breaches scopes listed clause ≡ []
       → IfSome (resolved_clause scopes clause) (AreGoodClauses around admitted scopes locals
-          (after_clause listed clause).copies)
+      (after_clause listed clause).copies)
   unfolding clause_breaches resolved_clause after_clause
   whole_clause listed locals (clauses.Value kind s v) a hl w =
       if_then (IsWhole around true) (AreGoodClauses around admitted scopes locals listed.copies)
-          (resolved_expression scopes v.expression) _ (whole_expression around scopes true v.expression h w)
-      (λ e he. (All-cons (IsWholeClause around admitted) (resolved.ClauseValue kind e) [] (a, he)
-          (All-nil (IsWholeClause around admitted)), copies_more around scopes locals [] listed.copies hl))
+      (resolved_expression scopes v.expression) _ (whole_expression around scopes true v.expression h w)
+      (λ e he. (
+        All-cons (IsWholeClause around admitted) (resolved.ClauseValue kind e) [] (a, he)
+            (All-nil (IsWholeClause around admitted)),
+        copies_more around scopes locals [] listed.copies hl,
+      ))
   whole_clause listed locals (clauses.Default s argument) a hl w = none_good locals listed.copies hl
   whole_clause listed locals (clauses.Data lists.Shared s list) a hl w = whole_names None a
       (names_in list.first list.rest) listed locals hl w
@@ -405,8 +410,8 @@ module _ (around : Around) (admitted : Admitted) (scopes : Scopes) (h : Knows ar
   whole_row : (items : List (ClauseItem ExpressionTree)) (listed : Listed) (locals : List Local)
       → AdmitsAll admitted items → AreCopies around scopes locals listed.copies
       → breaches_along (item_breaches scopes) after_item listed items ≡ []
-          → IfSome (all_of (resolved_item scopes) items) (AreGoodClauses around admitted scopes locals
-          (fold after_item listed items).copies)
+      → IfSome (all_of (resolved_item scopes) items) (AreGoodClauses around admitted scopes locals
+      (fold after_item listed items).copies)
   whole_row [] listed locals a hl w = none_good locals listed.copies hl
   whole_row (item ∷ items) listed locals a hl w =
       let own = item_breaches scopes listed item in
@@ -414,21 +419,21 @@ module _ (around : Around) (admitted : Admitted) (scopes : Scopes) (h : Knows ar
       let others = breaches_along (item_breaches scopes) after_item behind items in
       let Q = AreGoodClauses around admitted scopes locals (fold after_item behind items).copies in
       if_then (AreGoodClauses around admitted scopes locals behind.copies) Q (resolved_item scopes item) _
-          (whole_clause listed locals item.clause a.0 hl (front own others w)) (λ xs hxs.
+      (whole_clause listed locals item.clause a.0 hl (front own others w)) (λ xs hxs.
       if_then (AreGoodClauses around admitted scopes (locals ++ flat_map copies_in xs)
-          (fold after_item behind items).copies) Q (all_of (resolved_item scopes) items) _
+      (fold after_item behind items).copies) Q (all_of (resolved_item scopes) items) _
       (whole_row items behind (locals ++ flat_map copies_in xs) a.1 hxs.1 (back own others w))
-          (λ ys hys. joined locals xs ys (fold after_item behind items).copies hxs.0 hys))
+      (λ ys hys. joined locals xs ys (fold after_item behind items).copies hxs.0 hys))
 
   -- the clauses of a directive, and what is known in its construct
   pub whole_clauses : (d : Directive ExpressionTree) → AdmitsAll admitted d.clauses
       → breaches_along (item_breaches scopes) after_item nothing_listed d.clauses ≡ []
       → IfSome (resolved_clauses scopes d.clauses) (λ cs. All (IsWholeClause around admitted) cs
-          × Known around.globals around.functions (around.locals ++ flat_map copies_in cs) (in_construct d scopes))
+      × Known around.globals around.functions (around.locals ++ flat_map copies_in cs) (in_construct d scopes))
   whole_clauses d a w =
       if_more (AreGoodClauses around admitted scopes around.locals (listed_by d).copies)
       (λ cs. All (IsWholeClause around admitted) cs × Known around.globals around.functions
-          (around.locals ++ flat_map copies_in cs) (in_construct d scopes))
+      (around.locals ++ flat_map copies_in cs) (in_construct d scopes))
       (resolved_clauses scopes d.clauses)
       (λ cs hcs. (
         hcs.0,

@@ -1,6 +1,6 @@
 -- Constructs round whole statements are whole.
-use Rattle.std.proofs.Common.{◌≡◌, ℕ, Bool, true, false, cond, List, [], ◌∷◌, All, Option, None, Some, map, refl,
-    ap, subst, arith}
+use Rattle.std.proofs.Common.{◌≡◌, ℕ, Bool, true, false, cond, List, [], ◌∷◌, All, Option, None, Some, map, refl, ap}
+use Rattle.std.proofs.Common.{subst, arith}
 use Rattle.std.specs.Prelude.{IfSome}
 use Rattle.std.specs.List.{flat_map}
 use Rattle.std.proofs.lemmas.List.Elements.{All-nil, All-cons}
@@ -19,17 +19,17 @@ use Rattle.om_resolved.specs.declared.resolved.Side.{Side}
 use Rattle.om_resolved.specs.declared.resolved.Taking.{Taking}
 use Rattle.om_resolved.specs.ResolvedTree as resolved
 use Rattle.om_resolved.specs.ResolvedTree.{ResolvedClauseTree, ResolvedUpdateTree, ResolvedStatementTree}
-use Rattle.om_resolved.specs.Whole.{Around, of_parallel, of_worksharing, nothing, IsShared, IsWholeClause, within,
-    IsRegion, IsWholeUpdate, IsWholeStatement}
-use Rattle.om_rules.specs.DirectiveRules.{names_in, nothing_listed, flushed_breaches, list_breaches, flush_breaches,
-    traits_of}
+use Rattle.om_resolved.specs.Whole.{Around, of_parallel, of_worksharing, nothing, IsShared, IsWholeClause, within}
+use Rattle.om_resolved.specs.Whole.{IsRegion, IsWholeUpdate, IsWholeStatement}
+use Rattle.om_rules.specs.DirectiveRules.{names_in, nothing_listed, flushed_breaches, list_breaches, flush_breaches}
+use Rattle.om_rules.specs.DirectiveRules.{traits_of}
 use Rattle.om_whole.specs.Knowing.{Knows}
 use Rattle.om_rules.specs.Perhaps.{each}
 use Rattle.om_rules.specs.Resolution.{variable_named}
 use Rattle.om_rules.specs.Scopes.{Scopes}
 use Rattle.om_rules.specs.Sharing.{is_parallel}
-use Rattle.om_rules.specs.StatementResolution.{has_nowait, with_update, atomic_of, construct_of, flushed,
-    resolved_alone}
+use Rattle.om_rules.specs.StatementResolution.{has_nowait, with_update, atomic_of, construct_of, flushed}
+use Rattle.om_rules.specs.StatementResolution.{resolved_alone}
 use Rattle.om_rules.specs.Updates.{update_of}
 use Rattle.om_whole.proofs.ClausesWhole.{admitted_by, whole_shared}
 use Rattle.om_whole.proofs.Steps.{if_then}
@@ -72,7 +72,7 @@ atomic_whole : (around : Around) (kind : AtomicKind) (side : Side) (at : Span) (
     → IsWholeStatement (within around cs) body → IsWholeStatement around (atomic_of kind side at cs body)
 atomic_whole around atomics.Update side at cs body hc hb =
     with_update_whole around at (update_of side body) (whole_update (within around []) side body
-        (subst (λ clauses. IsWholeStatement (within around clauses) body) (no_clauses around cs hc) hb))
+    (subst (λ clauses. IsWholeStatement (within around clauses) body) (no_clauses around cs hc) hb))
 atomic_whole around atomics.Read side at cs body hc hb = (hc, hb)
 atomic_whole around atomics.Write side at cs body hc hb = (hc, hb)
 
@@ -81,7 +81,7 @@ atomic_whole around atomics.Write side at cs body hc hb = (hc, hb)
 pub construct_whole : (around : Around) (parallel : Option ℕ) (side : Side) (d : Directive ExpressionTree)
     (name : DirectiveName) (cs : List ResolvedClauseTree) (body : ResolvedStatementTree)
     → IsConstruct name → (traits_of name).takes_loop ≡ false
-        → All (IsWholeClause around (admitted_by (has_nowait d) name)) cs → IsWholeStatement (within around cs) body
+    → All (IsWholeClause around (admitted_by (has_nowait d) name)) cs → IsWholeStatement (within around cs) body
     → IsWholeStatement around (construct_of parallel side d name cs body)
 unfolding construct_of
 construct_whole around parallel side d (directives.Parallel s) cs body is plain hc hb =
@@ -135,9 +135,9 @@ shared_each around scopes (n ∷ ns) h w =
     let own = flushed_breaches scopes n in
     let others = flat_map (flushed_breaches scopes) ns in
     if_then (IsShared around) (All (IsShared around)) (variable_named scopes n) _
-        (whole_shared around scopes nothing_listed n h (front own others w)) (λ v hv.
+    (whole_shared around scopes nothing_listed n h (front own others w)) (λ v hv.
     if_then (All (IsShared around)) (All (IsShared around)) (each (variable_named scopes) ns) _
-        (shared_each around scopes ns h (back own others w)) (λ vs hvs. All-cons (IsShared around) v vs hv hvs))
+    (shared_each around scopes ns h (back own others w)) (λ vs hvs. All-cons (IsShared around) v vs hv hvs))
 
 flushed_whole : (around : Around) (scopes : Scopes) (list : Option NameList) → Knows around scopes
     → list_breaches scopes list ≡ [] → IfSome (flushed scopes list) (All (IsShared around))

@@ -5,12 +5,12 @@ use Rattle.om_tree.specs.declared.tree.AssignOperator.{AssignOperator}
 use Rattle.om_tree.specs.declared.tree.PostfixOperator.{PostfixOperator}
 use Rattle.om_tree.specs.declared.tree.PrefixOperator.{PrefixOperator}
 use Rattle.om_tree.specs.declared.tree.PrefixOperator.TheVariants as prefixes
-use Rattle.om_tree.specs.Tree.{ExpressionTree, Name, Constant, Text, Paren, Index, Call, Prefix, Postfix, Binary,
-    Conditional, Assign, ArgumentsTree, NoArguments, Argument}
+use Rattle.om_tree.specs.Tree.{ExpressionTree, Name, Constant, Text, Paren, Index, Call, Prefix, Postfix, Binary}
+use Rattle.om_tree.specs.Tree.{Conditional, Assign, ArgumentsTree, NoArguments, Argument}
 use Rattle.om_rules.specs.ExpressionRules.{is_printf}
-use Rattle.om_rules.specs.Resolution.{TargetTree, Scalar, ElementOf, assigned, stepped, prefixed, variable_named,
-    callee_named, call_of, format_in, print_of, own_call_of, resolved_expression, resolved_values, resolved_printed,
-    resolved_target}
+use Rattle.om_rules.specs.Resolution.{TargetTree, Scalar, ElementOf, assigned, stepped, prefixed, variable_named}
+use Rattle.om_rules.specs.Resolution.{callee_named, call_of, format_in, print_of, own_call_of, resolved_expression}
+use Rattle.om_rules.specs.Resolution.{resolved_values, resolved_printed, resolved_target}
 use Rattle.om_resolved.specs.ResolvedTree as resolved
 use Rattle.om_resolved.specs.ResolvedTree.{ResolvedExpressionTree, ValuesTree}
 use Rattle.om_rules.specs.Scopes.{Scopes, meaning_of}
@@ -34,7 +34,7 @@ stepped_uses n (ElementOf v index) o h = h
 
 prefixed_uses : (n : ℕ) (o : PrefixOperator) (target : Option TargetTree) (operand : Option ResolvedExpressionTree)
     → IfSome target (TargetUsesVariables n) → IfSome operand (UsesVariables n) → IfSome (prefixed o target operand)
-        (UsesVariables n)
+    (UsesVariables n)
 prefixed_uses n prefixes.Increment target operand ht he = if_then (TargetUsesVariables n) (UsesVariables n) target _
     ht (λ t h. assigned_uses n t _ _ h tt)
 prefixed_uses n prefixes.Decrement target operand ht he = if_then (TargetUsesVariables n) (UsesVariables n) target _
@@ -74,11 +74,11 @@ mutual
   expression_uses n scopes (Index name left e right) h =
       if_then (IsVariable n) (UsesVariables n) (variable_named scopes name) _ (named_below n scopes name h) (λ v hv.
       if_then (UsesVariables n) (UsesVariables n) (resolved_expression scopes e) _ (expression_uses n scopes e h)
-          (λ i hi. (hv, hi)))
+      (λ i hi. (hv, hi)))
   expression_uses n scopes (Call name left values right) h =
       if_either (λ o. IfSome o (UsesVariables n)) (is_printf (meaning_of scopes name.text))
-          (print_of (format_in values) (resolved_printed scopes values)) (own_call_of (callee_named scopes name)
-          (resolved_values scopes values))
+      (print_of (format_in values) (resolved_printed scopes values)) (own_call_of (callee_named scopes name)
+      (resolved_values scopes values))
       (print_uses n (format_in values) (resolved_printed scopes values) (printed_use n scopes values h))
       (own_call_uses n (callee_named scopes name) (resolved_values scopes values) (values_use n scopes values h))
   expression_uses n scopes (Prefix o at e) h = prefixed_uses n o (resolved_target scopes e)
@@ -87,29 +87,29 @@ mutual
       (resolved_target scopes e) _ (target_uses n scopes e h) (λ t ht. stepped_uses n t o ht)
   expression_uses n scopes (Binary a o at b) h =
       if_then (UsesVariables n) (UsesVariables n) (resolved_expression scopes a) _ (expression_uses n scopes a h)
-          (λ x hx.
+      (λ x hx.
       if_then (UsesVariables n) (UsesVariables n) (resolved_expression scopes b) _ (expression_uses n scopes b h)
-          (λ y hy. (hx, hy)))
+      (λ y hy. (hx, hy)))
   expression_uses n scopes (Conditional c question a colon b) h =
       if_then (UsesVariables n) (UsesVariables n) (resolved_expression scopes c) _ (expression_uses n scopes c h)
-          (λ z hz.
+      (λ z hz.
       if_then (UsesVariables n) (UsesVariables n) (resolved_expression scopes a) _ (expression_uses n scopes a h)
-          (λ x hx.
+      (λ x hx.
       if_then (UsesVariables n) (UsesVariables n) (resolved_expression scopes b) _ (expression_uses n scopes b h)
-          (λ y hy. (hz, hx, hy))))
+      (λ y hy. (hz, hx, hy))))
   expression_uses n scopes (Assign a o at b) h =
       if_then (TargetUsesVariables n) (UsesVariables n) (resolved_target scopes a) _ (target_uses n scopes a h) (λ t ht.
       if_then (UsesVariables n) (UsesVariables n) (resolved_expression scopes b) _ (expression_uses n scopes b h)
-          (λ y hy. assigned_uses n t o y ht hy))
+      (λ y hy. assigned_uses n t o y ht hy))
 
   values_use : (n : ℕ) (scopes : Scopes) (values : ArgumentsTree) → Below n scopes
       → IfSome (resolved_values scopes values) (ValuesUseVariables n)
   values_use n scopes NoArguments h = tt
   values_use n scopes (Argument comma e rest) h =
       if_then (UsesVariables n) (ValuesUseVariables n) (resolved_expression scopes e) _
-          (expression_uses n scopes e h) (λ x hx.
+      (expression_uses n scopes e h) (λ x hx.
       if_then (ValuesUseVariables n) (ValuesUseVariables n) (resolved_values scopes rest) _
-          (values_use n scopes rest h) (λ xs hxs. (hx, hxs)))
+      (values_use n scopes rest h) (λ xs hxs. (hx, hxs)))
 
   printed_use : (n : ℕ) (scopes : Scopes) (values : ArgumentsTree) → Below n scopes
       → IfSome (resolved_printed scopes values) (ValuesUseVariables n)
@@ -122,9 +122,9 @@ mutual
       (named_below n scopes name h) (λ v hv. hv)
   target_uses n scopes (Index name left e right) h =
       if_then (IsVariable n) (TargetUsesVariables n) (variable_named scopes name) _ (named_below n scopes name h)
-          (λ v hv.
+      (λ v hv.
       if_then (UsesVariables n) (TargetUsesVariables n) (resolved_expression scopes e) _
-          (expression_uses n scopes e h) (λ i hi. (hv, hi)))
+      (expression_uses n scopes e h) (λ i hi. (hv, hi)))
   target_uses n scopes (Paren left e right) h = target_uses n scopes e h
   target_uses n scopes (Constant number) h = tt
   target_uses n scopes (Text t) h = tt

@@ -1,6 +1,6 @@
 -- An expression without a breach has a resolution.
-use Rattle.std.proofs.Common.{◌≡◌, ℕ, ◌+◌, ◌≤◌, Bool, true, false, cond, not, ◌||◌, List, [], ◌++◌, Option, None,
-    Some, is_some, refl, sym, ap, ◌∙◌, arith}
+use Rattle.std.proofs.Common.{◌≡◌, ℕ, ◌+◌, ◌≤◌, Bool, true, false, cond, not, ◌||◌, List, [], ◌++◌, Option, None, Some}
+use Rattle.std.proofs.Common.{is_some, refl, sym, ap, ◌∙◌, arith}
 use Rattle.std.specs.Prelude.{IsSome, nat_lt, ◌==◌, position}
 use Rattle.std.specs.Str.{bytes_eq}
 use Rattle.std.proofs.lemmas.Bool.Decides.{nat_tests}
@@ -8,21 +8,23 @@ use Rattle.om_lexer.specs.declared.fault.FaultCode.TheVariants as faults
 use Rattle.om_lexer.specs.declared.fault.SourceFault.{SourceFault}
 use Rattle.om_pragma.specs.declared.name.Name as names
 use Rattle.om_tree.specs.declared.tree.PrefixOperator.TheVariants as prefixes
-use Rattle.om_tree.specs.Tree.{ExpressionTree, Name, Constant, Text, Paren, Index, Call, Prefix, Postfix, Binary,
-    Conditional, Assign, ArgumentsTree, NoArguments, Argument}
+use Rattle.om_tree.specs.Tree.{ExpressionTree, Name, Constant, Text, Paren, Index, Call, Prefix, Postfix, Binary}
+use Rattle.om_tree.specs.Tree.{Conditional, Assign, ArgumentsTree, NoArguments, Argument}
 use Rattle.om_rules.specs.declared.meaning.Meaning.{Meaning}
 use Rattle.om_rules.specs.declared.meaning.Meaning.TheVariants as meanings
 use Rattle.om_rules.specs.declared.limits.TheConstants.{PRINTED_LIMIT}
-use Rattle.om_rules.specs.ExpressionRules.{is_undeclared, undeclared_breaches, is_scalar, is_array,
-    misused_scalar_breaches, scalar_breaches, misused_array_breaches, array_breaches, unlisted_breaches,
-    is_miscalled, call_breaches, is_printf, leading_breaches, misplaced_breaches, argument_count, is_target,
-    is_print, misprint_breaches, expression_breaches, arguments_breaches, printed_breaches, target_breaches,
-    print_breaches, own_call_breaches}
+use Rattle.om_rules.specs.ExpressionRules.{is_undeclared, undeclared_breaches, is_scalar, is_array}
+use Rattle.om_rules.specs.ExpressionRules.{misused_scalar_breaches, scalar_breaches, misused_array_breaches}
+use Rattle.om_rules.specs.ExpressionRules.{array_breaches, unlisted_breaches, is_miscalled, call_breaches, is_printf}
+use Rattle.om_rules.specs.ExpressionRules.{leading_breaches, misplaced_breaches, argument_count, is_target, is_print}
+use Rattle.om_rules.specs.ExpressionRules.{misprint_breaches, expression_breaches, arguments_breaches, printed_breaches}
+use Rattle.om_rules.specs.ExpressionRules.{target_breaches, print_breaches, own_call_breaches}
 use Rattle.om_rules.specs.Faults.{breach_if, perhaps_with}
 use Rattle.om_rules.specs.Formats.{is_format}
 use Rattle.om_rules.specs.Places.{expression_start}
-use Rattle.om_rules.specs.Resolution.{variable_of, variable_named, callee_of, callee_named, text_in, format_in,
-    print_of, own_call_of, resolved_expression, resolved_values, resolved_printed, resolved_target}
+use Rattle.om_rules.specs.Resolution.{variable_of, variable_named, callee_of, callee_named, text_in, format_in}
+use Rattle.om_rules.specs.Resolution.{print_of, own_call_of, resolved_expression, resolved_values, resolved_printed}
+use Rattle.om_rules.specs.Resolution.{resolved_target}
 use Rattle.om_resolved.specs.ResolvedTree.{ValuesTree}
 use Rattle.om_rules.specs.Scopes.{Scopes, meaning_of}
 use Rattle.om_rules.specs.Sharing.{is_copied}
@@ -47,9 +49,9 @@ has_scalar : (scopes : Scopes) (n : names.Name) → scalar_breaches scopes n ≡
 has_scalar scopes n whole =
     scalar_is_variable (meaning_of scopes n.text)
     (not_false (is_scalar (meaning_of scopes n.text)) (not_broken (not (is_scalar (meaning_of scopes n.text)))
-        faults.Misuse n.span.start
+    faults.Misuse n.span.start
     (back (undeclared_breaches scopes n) (misused_scalar_breaches (meaning_of scopes n.text) n.span.start)
-        (front _ (unlisted_breaches scopes n) whole))))
+    (front _ (unlisted_breaches scopes n) whole))))
 
 has_array : (scopes : Scopes) (n : names.Name) → array_breaches scopes n ≡ [] → IsSome (variable_named scopes n)
 has_array scopes n whole =
@@ -57,7 +59,7 @@ has_array scopes n whole =
     let copied = is_copied scopes n.text in
     let is = not_broken (not (is_array meaning) || copied) faults.Misuse n.span.start
     (back (undeclared_breaches scopes n) (misused_array_breaches meaning copied n.span.start)
-        (front _ (unlisted_breaches scopes n) whole)) in
+    (front _ (unlisted_breaches scopes n) whole)) in
     array_is_variable meaning (not_false (is_array meaning) (left_false (not (is_array meaning)) copied is))
 
 -- ---- calls
@@ -77,9 +79,9 @@ called scopes for_value n count whole =
     let meaning = meaning_of scopes n.text in
     has_callee scopes for_value n.text count meaning
     (not_broken (is_undeclared scopes n.text meaning) faults.Undeclared n.span.start
-        (front (undeclared_breaches scopes n) _ whole))
+    (front (undeclared_breaches scopes n) _ whole))
     (not_broken (is_miscalled for_value n.text count meaning) faults.Misuse n.span.start
-        (back (undeclared_breaches scopes n) _ whole))
+    (back (undeclared_breaches scopes n) _ whole))
 
 has_text : (e : ExpressionTree) (count : ℕ) → is_format e count ≡ true → IsSome (text_in e)
 has_text (Text t) count e = refl
@@ -115,7 +117,7 @@ has_print : (for_value : Bool) (n : names.Name) (values : ArgumentsTree) (printe
 has_print for_value n values printed whole there =
     print_there (format_in values) printed
     (has_format values (not_false (is_print values) (right_false for_value (not (is_print values))
-        (not_broken (for_value || not (is_print values)) faults.Misuse n.span.start whole)))) there
+    (not_broken (for_value || not (is_print values)) faults.Misuse n.span.start whole)))) there
 
 has_own_call : (scopes : Scopes) (for_value : Bool) (n : names.Name) (count : ℕ) (values : Option ValuesTree)
     → call_breaches scopes for_value n count ≡ [] → IsSome values → IsSome (own_call_of (callee_named scopes n) values)
@@ -153,21 +155,21 @@ mutual
   has_expression scopes for_value (Index n left e right) whole =
       let i = has_expression scopes true e (back (array_breaches scopes n) (expression_breaches scopes true e) whole) in
       some_then (variable_named scopes n) _
-          (has_array scopes n (front (array_breaches scopes n) (expression_breaches scopes true e) whole))
-          (λ v. some_then (resolved_expression scopes e) _ i (λ x. refl))
+      (has_array scopes n (front (array_breaches scopes n) (expression_breaches scopes true e) whole))
+      (λ v. some_then (resolved_expression scopes e) _ i (λ x. refl))
   has_expression scopes for_value (Call n left values right) whole =
       by_test (is_printf (meaning_of scopes n.text)) (λ breaches found. breaches ≡ [] → IsSome found)
       (print_breaches scopes for_value n values) (own_call_breaches scopes for_value n values)
       (print_of (format_in values) (resolved_printed scopes values)) (own_call_of (callee_named scopes n)
-          (resolved_values scopes values))
+      (resolved_values scopes values))
       (λ w. has_print for_value n values (resolved_printed scopes values)
-          (front (misprint_breaches for_value n values) (printed_breaches scopes 0 values) w)
-          (has_printed scopes values (back (misprint_breaches for_value n values) (printed_breaches scopes 0 values)
-          w)))
+      (front (misprint_breaches for_value n values) (printed_breaches scopes 0 values) w)
+      (has_printed scopes values (back (misprint_breaches for_value n values) (printed_breaches scopes 0 values)
+      w)))
       (λ w. has_own_call scopes for_value n (argument_count values) (resolved_values scopes values)
-          (front (call_breaches scopes for_value n (argument_count values)) (arguments_breaches scopes values) w)
+      (front (call_breaches scopes for_value n (argument_count values)) (arguments_breaches scopes values) w)
       (has_values scopes values (back (call_breaches scopes for_value n (argument_count values))
-          (arguments_breaches scopes values) w)))
+      (arguments_breaches scopes values) w)))
       whole
   has_expression scopes for_value (Prefix prefixes.Increment at e) whole = some_then (resolved_target scopes e) _
       (has_target scopes e whole) (λ t. refl)
@@ -183,10 +185,10 @@ mutual
       (has_target scopes e whole) (λ t. refl)
   has_expression scopes for_value (Binary a o at b) whole =
       let y = has_expression scopes true b (back (expression_breaches scopes true a)
-          (expression_breaches scopes true b) whole) in
+      (expression_breaches scopes true b) whole) in
       some_then (resolved_expression scopes a) _
-          (has_expression scopes true a (front (expression_breaches scopes true a)
-          (expression_breaches scopes true b) whole)) (λ x.
+      (has_expression scopes true a (front (expression_breaches scopes true a)
+      (expression_breaches scopes true b) whole)) (λ x.
       some_then (resolved_expression scopes b) _ y (λ z. refl))
   has_expression scopes for_value (Conditional c question a colon b) whole =
       let first = expression_breaches scopes true c in
@@ -199,9 +201,9 @@ mutual
       some_then (resolved_expression scopes a) _ y (λ u. some_then (resolved_expression scopes b) _ z (λ v. refl)))
   has_expression scopes for_value (Assign a o at b) whole =
       let y = has_expression scopes true b (back (target_breaches scopes a) (expression_breaches scopes true b)
-          whole) in
+      whole) in
       some_then (resolved_target scopes a) _
-          (has_target scopes a (front (target_breaches scopes a) (expression_breaches scopes true b) whole)) (λ t.
+      (has_target scopes a (front (target_breaches scopes a) (expression_breaches scopes true b) whole)) (λ t.
       some_then (resolved_expression scopes b) _ y (λ z. refl))
 
   has_values : (scopes : Scopes) (values : ArgumentsTree) → arguments_breaches scopes values ≡ []
@@ -209,10 +211,10 @@ mutual
   has_values scopes NoArguments whole = refl
   has_values scopes (Argument comma e rest) whole =
       let y = has_values scopes rest (back (expression_breaches scopes true e) (arguments_breaches scopes rest)
-          whole) in
+      whole) in
       some_then (resolved_expression scopes e) _
-          (has_expression scopes true e (front (expression_breaches scopes true e) (arguments_breaches scopes rest)
-          whole)) (λ x.
+      (has_expression scopes true e (front (expression_breaches scopes true e) (arguments_breaches scopes rest)
+      whole)) (λ x.
       some_then (resolved_values scopes rest) _ y (λ z. refl))
 
   -- those of a `printf`, behind its format
@@ -221,13 +223,13 @@ mutual
   has_behind scopes place NoArguments le whole = refl
   has_behind scopes place (Argument comma e rest) le whole =
       let own = perhaps_with (nat_lt PRINTED_LIMIT place) faults.TooMany (expression_start e)
-          (expression_breaches scopes true e) in
+      (expression_breaches scopes true e) in
       let here = cond (place == 0) [] own in
       let others = printed_breaches scopes (place + 1) rest in
       let y = has_behind scopes (place + 1) rest (omega arith) (back here others whole) in
       some_then (resolved_expression scopes e) _
       (has_expression scopes true e (not_placed (nat_lt PRINTED_LIMIT place) faults.TooMany (expression_start e)
-          (expression_breaches scopes true e) (behind_format place own le (front here others whole))))
+      (expression_breaches scopes true e) (behind_format place own le (front here others whole))))
       (λ x. some_then (resolved_values scopes rest) _ y (λ z. refl))
 
   has_printed : (scopes : Scopes) (values : ArgumentsTree) → printed_breaches scopes 0 values ≡ []
@@ -241,8 +243,8 @@ mutual
   has_target scopes (Index n left e right) whole =
       let i = has_expression scopes true e (back (array_breaches scopes n) (expression_breaches scopes true e) whole) in
       some_then (variable_named scopes n) _
-          (has_array scopes n (front (array_breaches scopes n) (expression_breaches scopes true e) whole))
-          (λ v. some_then (resolved_expression scopes e) _ i (λ x. refl))
+      (has_array scopes n (front (array_breaches scopes n) (expression_breaches scopes true e) whole))
+      (λ v. some_then (resolved_expression scopes e) _ i (λ x. refl))
   has_target scopes (Paren left e right) whole =
       by_test (is_target e) (λ breaches found. breaches ≡ [] → IsSome (resolved_target scopes e))
       (target_breaches scopes e) (misplaced_breaches scopes (Paren left e right)) e e

@@ -1,8 +1,8 @@
 -- The functions of a source: their names are those that it defines, each means the function's signature, and
 -- `main` is alone.
-use Rattle.std.proofs.Common.{◌≡◌, ℕ, zero, suc, ◌-◌, ◌<◌, ◌≤◌, Bool, true, false, cond, not, ◌&&◌, List, [], ◌∷◌,
-    ◌++◌, append_assoc, append-nil, All, Option, None, Some, option_map, codes, fold, get_or, map, length,
-    slice_get, refl, sym, ap, subst, ◌∙◌, arith, length-append}
+use Rattle.std.proofs.Common.{◌≡◌, ℕ, zero, suc, ◌-◌, ◌<◌, ◌≤◌, Bool, true, false, cond, not, ◌&&◌, List, [], ◌∷◌, ◌++◌}
+use Rattle.std.proofs.Common.{append_assoc, append-nil, All, Option, None, Some, option_map, codes, fold, get_or, map}
+use Rattle.std.proofs.Common.{length, slice_get, refl, sym, ap, subst, ◌∙◌, arith, length-append}
 use Rattle.std.specs.Prelude.{IfSome, IsSome, IsSomeAnd, position}
 use Rattle.std.specs.Bool.{one_answer}
 use Rattle.std.specs.Cmp.{IsEquivalence}
@@ -19,8 +19,8 @@ use Rattle.om_lexer.specs.declared.fault.FaultCode.TheVariants as faults
 use Rattle.om_pragma.specs.declared.name.Name as names
 use Rattle.om_tree.specs.declared.tree.Parameter.{Parameter}
 use Rattle.om_tree.specs.Formed.{AreNamed, IsFunction}
-use Rattle.om_tree.specs.Tree.{ParametersTree, NoParameters, Void, Listed, FunctionTree, ItemTree, Declaration,
-    Prototype, Function}
+use Rattle.om_tree.specs.Tree.{ParametersTree, NoParameters, Void, Listed, FunctionTree, ItemTree, Declaration}
+use Rattle.om_tree.specs.Tree.{Prototype, Function}
 use Rattle.om_resolved.specs.ResolvedTree.{ResolvedFunctionTree}
 use Rattle.om_resolved.specs.Whole.{IsMain, is_main, same_name}
 use Rattle.om_rules.specs.declared.meaning.Meaning.TheVariants as meanings
@@ -28,12 +28,13 @@ use Rattle.om_rules.specs.declared.meaning.Signature.{Signature}
 use Rattle.om_rules.specs.Faults.{breach_if}
 use Rattle.om_whole.specs.Knowing.{IsCallee, IsDefinition}
 use Rattle.om_rules.specs.Perhaps.{all_along}
-use Rattle.om_rules.specs.Scopes.{Scopes, asks, after_definition, after_function, after_item, declarators_of,
-    definitions_of, file_scope, parameters_of, predeclared, returns_value, signature_eq, signature_of, with_name}
-use Rattle.om_rules.specs.UnitResolution.{item_functions, named_parameter, parameter_variable, resolved_function,
-    resolved_inside}
-use Rattle.om_rules.specs.UnitRules.{body_breaches, definition_breaches, function_breaches, head_breaches,
-    is_other_main, is_redeclared, item_breaches, items_breaches}
+use Rattle.om_rules.specs.Scopes.{Scopes, asks, after_definition, after_function, after_item, declarators_of}
+use Rattle.om_rules.specs.Scopes.{definitions_of, file_scope, parameters_of, predeclared, returns_value, signature_eq}
+use Rattle.om_rules.specs.Scopes.{signature_of, with_name}
+use Rattle.om_rules.specs.UnitResolution.{item_functions, named_parameter, parameter_variable, resolved_function}
+use Rattle.om_rules.specs.UnitResolution.{resolved_inside}
+use Rattle.om_rules.specs.UnitRules.{body_breaches, definition_breaches, function_breaches, head_breaches}
+use Rattle.om_rules.specs.UnitRules.{is_other_main, is_redeclared, item_breaches, items_breaches}
 use Rattle.om_whole.proofs.FileScopes.{AtFile, Means, function_means, same_bytes, same_signature}
 use Rattle.om_whole.proofs.Limits.{globals_defined, prototype_defined}
 use Rattle.om_whole.proofs.Steps.{if_any, if_then}
@@ -60,7 +61,7 @@ named_length (Void at) h = refl
 named_length (Listed first rest) h =
     all_named (first ∷ map (λ further. further.1) rest)
     (All-cons (λ p. IsSome p.name) first (map (λ further. further.1) rest) h.0
-        (All-map (λ p. IsSome p.name) (λ further. further.1) rest h.1))
+    (All-map (λ p. IsSome p.name) (λ further. further.1) rest h.1))
 
 -- ---- signatures
 
@@ -75,19 +76,19 @@ head_unbroken : (scopes : Scopes) (f : FunctionTree) → function_breaches scope
     ≡ []
 head_unbroken scopes f w =
     back _ (head_breaches scopes f.head) (front (definition_breaches scopes f.head)
-        (body_breaches (after_function scopes f.head) f) w)
+    (body_breaches (after_function scopes f.head) f) w)
 
 pub signed : (definitions : List (List ℕ)) (final scopes : Scopes) (f : FunctionTree) (rest : List ItemTree)
     → AtFile definitions scopes
     → fold after_item (after_function scopes f.head) rest ≡ final → IsFunction f → function_breaches scopes f ≡ []
-        → IfSome (resolved_function scopes f) (IsSigned final)
+    → IfSome (resolved_function scopes f) (IsSigned final)
 unfolding resolved_function IsFunction
 signed definitions final scopes f rest h e formed w =
     let own = resolved_inside (after_function scopes f.head) f in
     if_then (λ body. Unit {0}) (IsSigned final) own _ (if_any own) (λ body u.
     function_means scopes f rest final e (head_unbroken scopes f w)
     ∙ ap (λ n. Some (meanings.Function (record { returns = returns_value f.head.result; parameters = n })))
-        (sym (named_length f.head.parameters formed.0)))
+    (sym (named_length f.head.parameters formed.0)))
 
 -- ---- `main`
 
@@ -102,17 +103,17 @@ none_there (x ∷ xs) e = absurd (omega (arith, e))
 pub own_main : (definitions : List (List ℕ)) (final scopes : Scopes) (f : FunctionTree) (rest : List ItemTree)
     → AtFile definitions scopes
     → fold after_item (after_function scopes f.head) rest ≡ final → IsFunction f → function_breaches scopes f ≡ []
-        → IfSome (resolved_function scopes f) IsOwnMain
+    → IfSome (resolved_function scopes f) IsOwnMain
 unfolding resolved_function IsFunction
 own_main definitions final scopes f rest h e formed w =
     let own = resolved_inside (after_function scopes f.head) f in
     let many = breach_if (is_redeclared (signature_of f.head) (lookup (bytes_eq f.head.name.text) scopes.inner))
-        faults.Redeclared f.head.name.span.start in
+    faults.Redeclared f.head.name.span.start in
     let other = not_broken (is_other_main f.head.name.text (signature_of f.head)) faults.Misuse
-        f.head.name.span.start (back many _ (head_unbroken scopes f w)) in
+    f.head.name.span.start (back many _ (head_unbroken scopes f w)) in
     if_then (λ body. Unit {0}) IsOwnMain own _ (if_any own) (λ body u is.
     let same : signature_of f.head ≡ asks = same_signature (signature_of f.head) asks
-        (by (bytes_eq f.head.name.text (codes "main")) (signature_eq (signature_of f.head) asks) is other) in
+    (by (bytes_eq f.head.name.text (codes "main")) (signature_eq (signature_of f.head) asks) is other) in
     let few : length (parameters_of f.head.parameters) ≡ 0 = ap (λ s. s.parameters) same in
     record {
       named = is;
@@ -149,16 +150,16 @@ item_defines scopes (Declaration d) w = globals_defined (declarators_of d) scope
 item_defines scopes (Prototype head semicolon) w = prototype_defined scopes head ∙ sym (append-nil scopes.defined)
 item_defines scopes (Function f) w =
     let again = breach_if (list_any (bytes_eq f.head.name.text) scopes.defined) faults.Redeclared
-        f.head.name.span.start in
+    f.head.name.span.start in
     let both = front _ (head_breaches scopes f.head) (front (definition_breaches scopes f.head)
-        (body_breaches (after_function scopes f.head) f) w) in
+    (body_breaches (after_function scopes f.head) f) w) in
     let new = not_broken (list_any (bytes_eq f.head.name.text) scopes.defined) faults.Redeclared
-        f.head.name.span.start (back _ again both) in
+    f.head.name.span.start (back _ again both) in
     let whole : (after_function scopes f.head).defined ≡ scopes.defined ++ f.head.name.text ∷ [] =
     ap (λ names. with_name names f.head.name.text) (prototype_defined scopes f.head) ∙ one_further scopes.defined
-        f.head.name.text new in
+    f.head.name.text new in
     if_then (λ x. x.name ≡ f.head.name.text) (Defines scopes (Function f)) (resolved_function scopes f) _
-        (resolved_name scopes f) (λ x same.
+    (resolved_name scopes f) (λ x same.
     whole ∙ ap (λ name. scopes.defined ++ name ∷ []) (sym same))
 
 behind_item : (scopes : Scopes) (item : ItemTree) → (after_item scopes item).defined ≡ after_definition
@@ -178,14 +179,14 @@ items_define (item ∷ items) scopes w =
     let own = item_breaches scopes item in
     let others = items_breaches (after_item scopes item) items in
     if_then (Defines scopes item) (DefineAll scopes (item ∷ items)) (item_functions scopes item) _
-        (item_defines scopes item (front own others w)) (λ xs hxs.
+    (item_defines scopes item (front own others w)) (λ xs hxs.
     if_then (DefineAll (after_item scopes item) items) (DefineAll scopes (item ∷ items))
-        (all_along item_functions after_item (after_item scopes item) items) _
+    (all_along item_functions after_item (after_item scopes item) items) _
     (items_define items (after_item scopes item) (back own others w)) (λ ys hys.
     ap (λ names. fold after_definition names items) (sym (behind_item scopes item)) ∙ hys
-        ∙ ap (λ names. names ++ map function_name ys) hxs
+    ∙ ap (λ names. names ++ map function_name ys) hxs
     ∙ append_assoc scopes.defined (map function_name xs) (map function_name ys)
-        ∙ ap (λ names. scopes.defined ++ names) (sym (map-append function_name xs ys))))
+    ∙ ap (λ names. scopes.defined ++ names) (sym (map-append function_name xs ys))))
 
 -- the functions that a source defines, and those that are there before it
 abbrev pub AreDefined : List ItemTree → List ResolvedFunctionTree → Type 0
@@ -242,9 +243,9 @@ pub distinct_functions : (items : List ItemTree) (xs : List ResolvedFunctionTree
     → IsDistinct same_name xs
 distinct_functions items xs is =
     let all : IsDistinct bytes_eq (predeclared ++ map function_name xs) = subst (λ names. IsDistinct bytes_eq names)
-        is (definitions_distinct items predeclared predeclared_distinct) in
+    is (definitions_distinct items predeclared predeclared_distinct) in
     functions_distinct xs
-        (IsDistinct-tail bytes_eq _ _ (IsDistinct-tail bytes_eq _ _ (IsDistinct-tail bytes_eq _ _ all)))
+    (IsDistinct-tail bytes_eq _ _ (IsDistinct-tail bytes_eq _ _ (IsDistinct-tail bytes_eq _ _ all)))
 
 -- ---- what is called
 
@@ -255,7 +256,7 @@ module _ (functions : List ResolvedFunctionTree) (final : Scopes) (all : All (Is
       → IsSomeAnd (slice_get functions k) (IsDefinition name signature)
   defined_at k same lt =
       by (slice_get functions k) refl (sym (slice_get-map function_name functions k) ∙ slice_get-get_or
-          (map function_name functions) k [] lt ∙ ap Some (sym same))
+      (map function_name functions) k [] lt ∙ ap Some (sym same))
     where
       by : (o : Option ResolvedFunctionTree) → slice_get functions k ≡ o → option_map function_name o ≡ Some name
           → IsSomeAnd o (IsDefinition name signature)
@@ -263,9 +264,9 @@ module _ (functions : List ResolvedFunctionTree) (final : Scopes) (all : All (Is
       by (Some x) e h =
           let named : x.name ≡ name = cc in
           let own : IsSigned final x = subst (IsSigned final) (get_or_from_slice_get functions k x x e)
-              (All-get_or (IsSigned final) functions k x (slice_get_within functions k x e) all) in
+          (All-get_or (IsSigned final) functions k x (slice_get_within functions k x e) all) in
           let one : Some (meanings.Function (own_signature x)) ≡ Some (meanings.Function signature) = sym own
-              ∙ ap (λ name. lookup (bytes_eq name) final.inner) named ∙ means in
+          ∙ ap (λ name. lookup (bytes_eq name) final.inner) named ∙ means in
           let same : own_signature x ≡ signature = cc in
           record { named = named; parameters = ap (λ s. s.parameters) same; returns = ap (λ s. s.returns) same }
 
@@ -278,13 +279,13 @@ module _ (functions : List ResolvedFunctionTree) (final : Scopes) (all : All (Is
   behind_all (suc (suc (suc k))) same lt le =
       let place : k ≡ suc (suc (suc k)) - 3 = omega arith in
       subst (λ n. IsSomeAnd (slice_get functions n) (IsDefinition name signature)) place
-          (defined_at k same (omega (arith, lt)))
+      (defined_at k same (omega (arith, lt)))
 
   behind_printf : Means final (codes "printf") meanings.Printf → (p : ℕ) → name
       ≡ get_or (predeclared ++ map function_name functions) p [] → 1 ≤ p
   behind_printf printf zero same =
       let clash : Some (meanings.Function signature) ≡ Some meanings.Printf = sym means
-          ∙ ap (λ name. lookup (bytes_eq name) final.inner) same ∙ printf in cc
+      ∙ ap (λ name. lookup (bytes_eq name) final.inner) same ∙ printf in cc
   behind_printf printf (suc p) same = omega arith
 
   pub callee : Means final (codes "printf") meanings.Printf → (definitions : List (List ℕ)) → definitions
@@ -300,5 +301,5 @@ module _ (functions : List ResolvedFunctionTree) (final : Scopes) (all : All (Is
       by (Some p) e =
           let found = position-Some (bytes_eq name) (predeclared ++ map function_name functions) p [] e in
           let same : name ≡ get_or (predeclared ++ map function_name functions) p [] =
-              (bytes_eq-Decides name (get_or (predeclared ++ map function_name functions) p [])).0 found.1 in
+          (bytes_eq-Decides name (get_or (predeclared ++ map function_name functions) p [])).0 found.1 in
           record { behind_printf = behind_printf printf p same; own = λ le. behind_all p same found.0 le }

@@ -1,7 +1,7 @@
 -- The globals of a source: the shapes of their names at file scope, and their cells.
-use Rattle.std.proofs.Common.{◌≡◌, ℕ, ◌+◌, ◌≤◌, Bool, true, false, cond, List, [], ◌∷◌, ◌++◌, append_assoc,
-    append-nil, All, Option, None, Some, option_map, fold, map, length, slice_get, refl, sym, ap, subst, ◌∙◌, arith,
-    length-append}
+use Rattle.std.proofs.Common.{◌≡◌, ℕ, ◌+◌, ◌≤◌, Bool, true, false, cond, List, [], ◌∷◌, ◌++◌, append_assoc, append-nil}
+use Rattle.std.proofs.Common.{All, Option, None, Some, option_map, fold, map, length, slice_get, refl, sym, ap, subst}
+use Rattle.std.proofs.Common.{◌∙◌, arith, length-append}
 use Rattle.std.specs.Prelude.{IfSome}
 use Rattle.std.specs.List.{flat_map}
 use Rattle.std.specs.Map.{lookup}
@@ -16,8 +16,9 @@ use Rattle.om_resolved.specs.declared.resolved.Variable.TheVariants as variables
 use Rattle.om_resolved.specs.Whole as whole
 use Rattle.om_rules.specs.declared.meaning.Meaning.{Meaning}
 use Rattle.om_rules.specs.declared.meaning.Meaning.TheVariants as meanings
-use Rattle.om_rules.specs.Scopes.{Binding, Scope, Scopes, is_declared, shape_of, cells_of, signature_of,
-    with_function, after_global, after_globals, after_prototype, after_function, after_item, declarators_of}
+use Rattle.om_rules.specs.Scopes.{Binding, Scope, Scopes, is_declared, shape_of, cells_of, signature_of, with_function}
+use Rattle.om_rules.specs.Scopes.{after_global, after_globals, after_prototype, after_function, after_item}
+use Rattle.om_rules.specs.Scopes.{declarators_of}
 use Rattle.om_rules.specs.StatementResolution.{length_of}
 use Rattle.om_rules.specs.UnitResolution.{global_of, globals_of}
 use Rattle.om_rules.specs.UnitRules.{global_breaches, globals_breaches, item_breaches, items_breaches}
@@ -94,7 +95,7 @@ shapes_global globals scopes d h = record {
       (d.name.text, meanings.Variable (variables.Global scopes.globals) (shape_of d.array))
       (all_more globals (global_of d ∷ []) scopes.inner h.inner)
       (subst (λ number. option_map shape_at (slice_get (globals ++ global_of d ∷ []) number)
-          ≡ Some (shape_of d.array)) (sym h.count)
+      ≡ Some (shape_of d.array)) (sym h.count)
       (ap (option_map shape_at) (slice_get-last globals (global_of d)) ∙ ap Some (same_shape d.array)));
 }
 
@@ -103,16 +104,22 @@ shapes_globals : (ds : List DeclaratorTree) (globals : List GlobalVariable) (sco
 shapes_globals [] globals scopes h = rw append-nil h
 shapes_globals (d ∷ ds) globals scopes h =
     subst (λ all. Shapes all (after_globals scopes (d ∷ ds))) (append_assoc globals (global_of d ∷ [])
-        (map global_of ds))
+    (map global_of ds))
     (shapes_globals ds (globals ++ global_of d ∷ []) (after_global scopes d) (shapes_global globals scopes d h))
 
 shapes_prototype : (globals : List GlobalVariable) (scopes : Scopes) (head : HeadTree) → Shapes globals scopes
     → Shapes globals (after_prototype scopes head)
 shapes_prototype globals scopes head h =
     if_either (Shapes globals) (is_declared scopes head.name.text) scopes (with_function scopes head.name.text
-        (signature_of head)) h
-    (record { count = h.count; inner = all_push globals scopes.inner (head.name.text, meanings.Function
-        (signature_of head)) h.inner tt })
+    (signature_of head)) h
+    (record {
+      count = h.count;
+      inner = all_push globals scopes.inner (
+        head.name.text,
+        meanings.Function
+            (signature_of head),
+      ) h.inner tt;
+    })
 
 shapes_item : (globals : List GlobalVariable) (scopes : Scopes) (item : ItemTree) → Shapes globals scopes
     → Shapes (globals ++ globals_of item) (after_item scopes item)
@@ -128,7 +135,7 @@ shapes_items : (items : List ItemTree) (globals : List GlobalVariable) (scopes :
 shapes_items [] globals scopes h = rw append-nil h
 shapes_items (item ∷ items) globals scopes h =
     subst (λ all. Shapes all (fold after_item scopes (item ∷ items))) (append_assoc globals (globals_of item)
-        (flat_map globals_of items))
+    (flat_map globals_of items))
     (shapes_items items (globals ++ globals_of item) (after_item scopes item) (shapes_item globals scopes item h))
 
 -- of a whole file, which begins without globals
@@ -169,7 +176,7 @@ cells_globals [] scopes few w = (cells_none scopes.cells, few)
 cells_globals (d ∷ ds) scopes few w =
     let one = global_fits scopes d (front (global_breaches scopes d) (globals_breaches (after_global scopes d) ds) w) in
     let rest = cells_globals ds (after_global scopes d) one.1
-        (back (global_breaches scopes d) (globals_breaches (after_global scopes d) ds) w) in
+    (back (global_breaches scopes d) (globals_breaches (after_global scopes d) ds) w) in
     let own : 1 ≤ whole.cell_count (global_of d) = subst (λ n. 1 ≤ n) (sym (same_cells d.array)) one.0 in (
       record {
         total = ap (λ n. fold add_cells (scopes.cells + n) (map global_of ds)) (same_cells d.array) ∙ rest.0.total;
@@ -182,7 +189,7 @@ cells_prototype : (scopes : Scopes) (head : HeadTree) → scopes.cells ≤ 65536
     (after_prototype scopes head).cells × ((after_prototype scopes head).cells ≤ 65536)
 cells_prototype scopes head few =
     if_either (λ behind. Cells scopes.cells [] behind.cells × (behind.cells ≤ 65536))
-        (is_declared scopes head.name.text) scopes (with_function scopes head.name.text (signature_of head))
+    (is_declared scopes head.name.text) scopes (with_function scopes head.name.text (signature_of head))
     (cells_none scopes.cells, few) (cells_none scopes.cells, few)
 
 cells_item : (scopes : Scopes) (item : ItemTree) → scopes.cells ≤ 65536 → item_breaches scopes item ≡ []
@@ -194,18 +201,22 @@ cells_item scopes (Function f) few w = cells_prototype scopes f.head few
 -- the globals of items have so many cells, within the limit
 pub cells_items : (items : List ItemTree) (scopes : Scopes) → scopes.cells ≤ 65536 → items_breaches scopes items ≡ []
     → (fold add_cells scopes.cells (flat_map globals_of items) ≤ 65536)
-        × All (λ global. 1 ≤ whole.cell_count global) (flat_map globals_of items)
-cells_items items scopes few w = let all = go items scopes few w in (subst (λ n. n ≤ 65536) (sym all.0.total) all.1,
-    all.0.each)
+    × All (λ global. 1 ≤ whole.cell_count global) (flat_map globals_of items)
+cells_items items scopes few w = let all = go items scopes few w in (
+  subst (λ n. n ≤ 65536) (sym all.0.total) all.1,
+  all.0.each,
+)
   where
     go : (items : List ItemTree) (scopes : Scopes) → scopes.cells ≤ 65536 → items_breaches scopes items ≡ []
         → Cells scopes.cells (flat_map globals_of items) (fold after_item scopes items).cells
-            × ((fold after_item scopes items).cells ≤ 65536)
+        × ((fold after_item scopes items).cells ≤ 65536)
     go [] scopes few w = (cells_none scopes.cells, few)
     go (item ∷ items) scopes few w =
         let one = cells_item scopes item few (front (item_breaches scopes item)
-            (items_breaches (after_item scopes item) items) w) in
+        (items_breaches (after_item scopes item) items) w) in
         let rest = go items (after_item scopes item) one.1
-            (back (item_breaches scopes item) (items_breaches (after_item scopes item) items) w) in
-        (cells_join scopes.cells (after_item scopes item).cells _ (globals_of item) (flat_map globals_of items)
-            one.0 rest.0, rest.1)
+        (back (item_breaches scopes item) (items_breaches (after_item scopes item) items) w) in (
+          cells_join scopes.cells (after_item scopes item).cells _ (globals_of item) (flat_map globals_of items)
+              one.0 rest.0,
+          rest.1,
+        )

@@ -1,6 +1,6 @@
 -- What a name means at file scope stays so, and a function's name means its signature.
-use Rattle.std.proofs.Common.{◌≡◌, ℕ, Bool, true, false, cond, not, ◌&&◌, if◌then◌else◌, List, [], ◌∷◌, ◌++◌, All,
-    Option, None, Some, is_some, fold, refl, sym, ap, ◌∙◌, arith}
+use Rattle.std.proofs.Common.{◌≡◌, ℕ, Bool, true, false, cond, not, ◌&&◌, if◌then◌else◌, List, [], ◌∷◌, ◌++◌, All}
+use Rattle.std.proofs.Common.{Option, None, Some, is_some, fold, refl, sym, ap, ◌∙◌, arith}
 use Rattle.std.specs.Prelude.{IfSome, nat_eq}
 use Rattle.std.specs.Map.{lookup}
 use Rattle.std.specs.Str.{bytes_eq}
@@ -16,11 +16,12 @@ use Rattle.om_rules.specs.declared.meaning.Meaning.TheVariants as meanings
 use Rattle.om_rules.specs.declared.meaning.Signature.{Signature}
 use Rattle.om_rules.specs.Faults.{breach_if}
 use Rattle.om_rules.specs.Perhaps.{all_along}
-use Rattle.om_rules.specs.Scopes.{Binding, Scope, Scopes, is_declared, signature_of, signature_eq, with_function,
-    after_global, after_globals, after_prototype, after_function, after_item, declarators_of}
+use Rattle.om_rules.specs.Scopes.{Binding, Scope, Scopes, is_declared, signature_of, signature_eq, with_function}
+use Rattle.om_rules.specs.Scopes.{after_global, after_globals, after_prototype, after_function, after_item}
+use Rattle.om_rules.specs.Scopes.{declarators_of}
 use Rattle.om_rules.specs.UnitResolution.{item_functions, resolved_function}
-use Rattle.om_rules.specs.UnitRules.{function_breaches, head_breaches, is_redeclared, is_other_main, item_breaches,
-    items_breaches}
+use Rattle.om_rules.specs.UnitRules.{function_breaches, head_breaches, is_redeclared, is_other_main, item_breaches}
+use Rattle.om_rules.specs.UnitRules.{items_breaches}
 use Rattle.om_whole.proofs.Steps.{if_either, if_then}
 use Rattle.om_whole.proofs.Unbroken.{front, back, not_broken, not_false}
 
@@ -36,7 +37,7 @@ lookup_front name b m ((other, own) ∷ scope) e = by (bytes_eq name other) (loo
   where
     by : (test : Bool) → (lookup (bytes_eq name) scope ≡ Some m → lookup (bytes_eq name) (scope ++ b ∷ []) ≡ Some m)
         → cond test (Some own) (lookup (bytes_eq name) scope) ≡ Some m → cond test (Some own)
-            (lookup (bytes_eq name) (scope ++ b ∷ [])) ≡ Some m
+        (lookup (bytes_eq name) (scope ++ b ∷ [])) ≡ Some m
     by true rest e = e
     by false rest e = rest e
 
@@ -48,7 +49,7 @@ lookup_last name m ((other, own) ∷ scope) e = by (bytes_eq name other) (lookup
     by : (test : Bool) → (lookup (bytes_eq name) scope ≡ None → lookup (bytes_eq name) (scope ++ (name, m) ∷ [])
         ≡ Some m)
         → cond test (Some own) (lookup (bytes_eq name) scope) ≡ None → cond test (Some own)
-            (lookup (bytes_eq name) (scope ++ (name, m) ∷ [])) ≡ Some m
+        (lookup (bytes_eq name) (scope ++ (name, m) ∷ [])) ≡ Some m
     by true rest e = cc
     by false rest e = rest e
 
@@ -66,7 +67,7 @@ prototype_keeps : (scopes : Scopes) (head : HeadTree) (name : List ℕ) (m : Mea
     → Means (after_prototype scopes head) name m
 prototype_keeps scopes head name m e =
     if_either (λ behind. Means behind name m) (is_declared scopes head.name.text) scopes
-        (with_function scopes head.name.text (signature_of head)) e (lookup_front name _ m scopes.inner e)
+    (with_function scopes head.name.text (signature_of head)) e (lookup_front name _ m scopes.inner e)
 
 item_keeps : (scopes : Scopes) (item : ItemTree) (name : List ℕ) (m : Meaning) → Means scopes name m
     → Means (after_item scopes item) name m
@@ -96,7 +97,7 @@ at_prototype : (definitions : List (List ℕ)) (scopes : Scopes) (head : HeadTre
     → AtFile definitions (after_prototype scopes head)
 at_prototype definitions scopes head h =
     if_either (AtFile definitions) (is_declared scopes head.name.text) scopes (with_function scopes head.name.text
-        (signature_of head)) h (record { outer = h.outer; definitions_are = h.definitions_are })
+    (signature_of head)) h (record { outer = h.outer; definitions_are = h.definitions_are })
 
 pub at_function : (definitions : List (List ℕ)) (scopes : Scopes) (head : HeadTree) → AtFile definitions scopes
     → AtFile definitions (after_function scopes head)
@@ -130,13 +131,13 @@ prototype_means : (scopes : Scopes) (head : HeadTree) → head_breaches scopes h
 prototype_means scopes head w =
     by (lookup (bytes_eq head.name.text) scopes.inner) refl
     (not_broken (is_redeclared (signature_of head) (lookup (bytes_eq head.name.text) scopes.inner))
-        faults.Redeclared head.name.span.start
+    faults.Redeclared head.name.span.start
     (front _ (breach_if (is_other_main head.name.text (signature_of head)) faults.Misuse head.name.span.start) w))
   where
     by : (o : Option Meaning) → lookup (bytes_eq head.name.text) scopes.inner ≡ o
         → is_redeclared (signature_of head) o ≡ false
         → Means (cond (is_some o) scopes (with_function scopes head.name.text (signature_of head))) head.name.text
-            (meanings.Function (signature_of head))
+        (meanings.Function (signature_of head))
     by None e same = lookup_last head.name.text (meanings.Function (signature_of head)) scopes.inner e
     by (Some (meanings.Function earlier)) e same = e ∙ ap (λ s. Some (meanings.Function s))
         (same_signature earlier (signature_of head) (not_false (signature_eq earlier (signature_of head)) same))
@@ -148,7 +149,7 @@ prototype_means scopes head w =
 -- the functions of items, each in the scopes behind those before it, and those at the end of the file
 module _ (P : ResolvedFunctionTree → Type 0) (definitions : List (List ℕ)) (final : Scopes)
     (one : (scopes : Scopes) (f : FunctionTree) (rest : List ItemTree) → AtFile definitions scopes → fold after_item
-        (after_function scopes f.head) rest ≡ final
+    (after_function scopes f.head) rest ≡ final
     → IsFunction f → function_breaches scopes f ≡ [] → IfSome (resolved_function scopes f) P) where
   of_item : (scopes : Scopes) (item : ItemTree) (rest : List ItemTree) → AtFile definitions scopes → fold after_item
       (after_item scopes item) rest ≡ final
@@ -158,21 +159,21 @@ module _ (P : ResolvedFunctionTree → Type 0) (definitions : List (List ℕ)) (
   of_item scopes (Prototype head semicolon) rest h e formed w = All-nil P
   of_item scopes (Function f) rest h e formed w =
       if_then P (All P) (resolved_function scopes f) _ (one scopes f rest h e formed w)
-          (λ x hx. All-cons P x [] hx (All-nil P))
+      (λ x hx. All-cons P x [] hx (All-nil P))
 
   pub of_items : (items : List ItemTree) (scopes : Scopes) → AtFile definitions scopes → fold after_item scopes
       items ≡ final
       → All IsItem items → items_breaches scopes items ≡ [] → IfSome (all_along item_functions after_item scopes
-          items) (All P)
+      items) (All P)
   of_items [] scopes h e formed w = All-nil P
   of_items (item ∷ items) scopes h e formed w =
       let own = item_breaches scopes item in
       let others = items_breaches (after_item scopes item) items in
       if_then (All P) (All P) (item_functions scopes item) _
-          (of_item scopes item items h e (All-head IsItem item items formed) (front own others w)) (λ xs hxs.
+      (of_item scopes item items h e (All-head IsItem item items formed) (front own others w)) (λ xs hxs.
       if_then (All P) (All P) (all_along item_functions after_item (after_item scopes item) items) _
       (of_items items (after_item scopes item) (at_item definitions scopes item h) e
-          (All-tail IsItem item items formed) (back own others w)) (λ ys hys. All-append P xs ys hxs hys))
+      (All-tail IsItem item items formed) (back own others w)) (λ ys hys. All-append P xs ys hxs hys))
 
 -- a function's name means its signature at the end of the file
 pub function_means : (scopes : Scopes) (f : FunctionTree) (rest : List ItemTree) (final : Scopes) → fold after_item
@@ -181,4 +182,4 @@ pub function_means : (scopes : Scopes) (f : FunctionTree) (rest : List ItemTree)
 function_means scopes f rest final e w =
     ap (λ scopes. lookup (bytes_eq f.head.name.text) scopes.inner) (sym e)
     ∙ items_keep rest (after_function scopes f.head) f.head.name.text (meanings.Function (signature_of f.head))
-        (prototype_means scopes f.head w)
+    (prototype_means scopes f.head w)

@@ -11,22 +11,23 @@ use Rattle.om_pragma.specs.declared.clause.DataSharing.TheVariants as lists
 use Rattle.om_pragma.specs.declared.name.Name as names
 use Rattle.om_pragma.specs.declared.tree.Directive.{Directive}
 use Rattle.om_tree.specs.declared.tree.Parameter.{Parameter}
-use Rattle.om_tree.specs.Tree.{ExpressionTree, DeclaratorTree, ForStartTree, Nothing, StartExpression,
-    StartDeclaration, StatementTree, LocalDeclaration, Block, Empty, Expression, If, IfElse, While, Do, For, Return,
-    Break, Continue, Construct, StandAlone, Sections, Section, HeadTree}
+use Rattle.om_tree.specs.Tree.{ExpressionTree, DeclaratorTree, ForStartTree, Nothing, StartExpression, StartDeclaration}
+use Rattle.om_tree.specs.Tree.{StatementTree, LocalDeclaration, Block, Empty, Expression, If, IfElse, While, Do, For}
+use Rattle.om_tree.specs.Tree.{Return, Break, Continue, Construct, StandAlone, Sections, Section, HeadTree}
 use Rattle.om_resolved.specs.declared.resolved.Variable.{Variable}
 use Rattle.om_resolved.specs.declared.resolved.Variable.TheVariants as variables
 use Rattle.om_rules.specs.declared.meaning.Meaning.{Meaning}
 use Rattle.om_rules.specs.declared.meaning.Meaning.TheVariants as meanings
 use Rattle.om_rules.specs.declared.region.Region.{Region}
 use Rattle.om_resolved.specs.declared.resolved.Shape.{Shape}
-use Rattle.om_rules.specs.DirectiveRules.{Listed, nothing_listed, names_in, copy_of, after_name, after_names,
-    after_clause, after_item, listed_by, in_construct, traits_of}
+use Rattle.om_rules.specs.DirectiveRules.{Listed, nothing_listed, names_in, copy_of, after_name, after_names}
+use Rattle.om_rules.specs.DirectiveRules.{after_clause, after_item, listed_by, in_construct, traits_of}
 use Rattle.om_rules.specs.Loops.{Loop}
 use Rattle.om_rules.specs.Resolution.{variable_of, variable_named}
-use Rattle.om_rules.specs.Scopes.{Binding, Scope, Enclosing, Scopes, meaning_outside, meaning_of, is_declared,
-    with_local, with_function, signature_of, within, plain, inside, after_local, after_locals, declarators_of,
-    after_parameter_name, after_parameter, after_parameters, after_prototype, after_function}
+use Rattle.om_rules.specs.Scopes.{Binding, Scope, Enclosing, Scopes, meaning_outside, meaning_of, is_declared}
+use Rattle.om_rules.specs.Scopes.{with_local, with_function, signature_of, within, plain, inside, after_local}
+use Rattle.om_rules.specs.Scopes.{after_locals, declarators_of, after_parameter_name, after_parameter, after_parameters}
+use Rattle.om_rules.specs.Scopes.{after_prototype, after_function}
 use Rattle.om_rules.specs.Sharing.{is_parallel}
 use Rattle.om_rules.specs.StatementResolution.{bounds_scopes}
 use Rattle.om_rules.specs.StatementRules.{after_for_start, after_statement, in_loop, round_bounds, with_iteration}
@@ -70,8 +71,11 @@ outer_more m n [] le h = tt
 outer_more m n (e ∷ outer) le h = (scope_more m n e.scope le h.0, outer_more m n outer le h.1)
 
 pub more : (m n : ℕ) (scopes : Scopes) → m ≤ n → Below m scopes → Below n scopes
-more m n scopes le h = record { inner = scope_more m n scopes.inner le h.inner; outer = outer_more m n scopes.outer
-    le h.outer }
+more m n scopes le h = record {
+  inner = scope_more m n scopes.inner le h.inner;
+  outer = outer_more m n scopes.outer
+      le h.outer;
+}
 
 -- ---- what a name means
 
@@ -86,13 +90,13 @@ outside_below : (n : ℕ) (outer : List Enclosing) (name : List ℕ) → OuterBe
 outside_below n [] name h = tt
 outside_below n (e ∷ outer) name h =
     if_first (MeaningBelow n) (lookup (bytes_eq name) e.scope) (meaning_outside outer name)
-        (lookup_below n (bytes_eq name) e.scope h.0) (outside_below n outer name h.1)
+    (lookup_below n (bytes_eq name) e.scope h.0) (outside_below n outer name h.1)
 
 meaning_below : (n : ℕ) (scopes : Scopes) (name : List ℕ) → Below n scopes → IfSome (meaning_of scopes name)
     (MeaningBelow n)
 meaning_below n scopes name h =
     if_first (MeaningBelow n) (lookup (bytes_eq name) scopes.inner) (meaning_outside scopes.outer name)
-        (lookup_below n (bytes_eq name) scopes.inner h.inner) (outside_below n scopes.outer name h.outer)
+    (lookup_below n (bytes_eq name) scopes.inner h.inner) (outside_below n scopes.outer name h.outer)
 
 variable_below : (n : ℕ) (meaning : Option Meaning) → IfSome meaning (MeaningBelow n) → IfSome (variable_of meaning)
     (IsVariable n)
@@ -118,8 +122,11 @@ scope_push n scope b h hb = scope_append n scope (b ∷ []) h (hb, tt)
 
 pub below_local : (n : ℕ) (scopes : Scopes) (name : names.Name) (shape : Shape) → Below n scopes
     → Below n (with_local scopes name shape)
-below_local n scopes name shape h = record { inner = scope_push n scopes.inner
-    (name.text, meanings.Variable (variables.Local name.span.start) shape) h.inner tt; outer = h.outer }
+below_local n scopes name shape h = record {
+  inner = scope_push n scopes.inner
+      (name.text, meanings.Variable (variables.Local name.span.start) shape) h.inner tt;
+  outer = h.outer;
+}
 
 pub below_after_local : (n : ℕ) (scopes : Scopes) (d : DeclaratorTree) → Below n scopes → Below n (after_local scopes d)
 below_after_local n scopes d h = below_local n scopes d.name _ h
@@ -143,9 +150,11 @@ pub below_prototype : (n : ℕ) (scopes : Scopes) (head : HeadTree) → Below n 
     → Below n (after_prototype scopes head)
 below_prototype n scopes head h =
     if_either (Below n) (is_declared scopes head.name.text) scopes (with_function scopes head.name.text
-        (signature_of head)) h
-    (record { inner = scope_push n scopes.inner (head.name.text, meanings.Function (signature_of head)) h.inner tt;
-        outer = h.outer })
+    (signature_of head)) h
+    (record {
+      inner = scope_push n scopes.inner (head.name.text, meanings.Function (signature_of head)) h.inner tt;
+      outer = h.outer;
+    })
 
 pub below_function : (n : ℕ) (scopes : Scopes) (head : HeadTree) → Below n scopes → Below n (after_function scopes head)
 below_function n scopes head h = let p = below_prototype n scopes head h in record { inner = p.inner; outer = p.outer }

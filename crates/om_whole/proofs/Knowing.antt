@@ -15,8 +15,8 @@ use Rattle.om_rules.specs.declared.meaning.Meaning.{Meaning}
 use Rattle.om_rules.specs.declared.meaning.Meaning.TheVariants as meanings
 use Rattle.om_rules.specs.declared.region.Region.{Region}
 use Rattle.om_whole.specs.Knowing.{IsThere, Known}
-use Rattle.om_rules.specs.Scopes.{Binding, Scope, Scopes, meaning_outside, meaning_of, with_local, within, plain,
-    inside}
+use Rattle.om_rules.specs.Scopes.{Binding, Scope, Scopes, meaning_outside, meaning_of, with_local, within, plain}
+use Rattle.om_rules.specs.Scopes.{inside}
 use Rattle.om_whole.proofs.Steps.{if_either, if_first}
 
 pub if_more : {A : Type 0} (P Q : A → Type 0) (o : Option A) → ((x : A) → P x → Q x) → IfSome o P → IfSome o Q
@@ -34,7 +34,7 @@ among_more globals locals more shape (named.Local at) h = Contains-append_left l
 module _ (globals : List GlobalVariable) (functions : List ResolvedFunctionTree) where
   pub there_more : (locals more : List Local) (definitions : List (List ℕ)) (name : List ℕ) (meaning : Meaning)
       → IsThere globals functions locals definitions name meaning → IsThere globals functions (locals ++ more)
-          definitions name meaning
+      definitions name meaning
   there_more locals more definitions name (meanings.Variable v shape) h = among_more globals locals more shape v h
   there_more locals more definitions name (meanings.Function signature) h = h
   there_more locals more definitions name meanings.Printf h = h
@@ -60,10 +60,13 @@ module _ (globals : List GlobalVariable) (functions : List ResolvedFunctionTree)
 
   pub known_within : (locals : List Local) (inner : Scope) (region : Region) (scopes : Scopes)
       → ((name : List ℕ) → IfSome (lookup (bytes_eq name) inner)
-          (IsThere globals functions locals scopes.definitions name))
+      (IsThere globals functions locals scopes.definitions name))
       → Known globals functions locals scopes → Known globals functions locals (within inner region scopes)
-  known_within locals inner region scopes own h = record { inner = own; outer = λ name. known_meaning locals scopes
-      name h }
+  known_within locals inner region scopes own h = record {
+    inner = own;
+    outer = λ name. known_meaning locals scopes
+        name h;
+  }
 
   pub known_inside : (locals : List Local) (scopes : Scopes) → Known globals functions locals scopes
       → Known globals functions locals (inside scopes)
@@ -78,19 +81,19 @@ module _ (globals : List GlobalVariable) (functions : List ResolvedFunctionTree)
     where
       by : (passes : Bool) → (IfSome (lookup test cs) P → IfSome (lookup test (cs ++ b ∷ [])) P)
           → IfSome (cond passes (Some c.1) (lookup test cs)) P
-              → IfSome (cond passes (Some c.1) (lookup test (cs ++ b ∷ []))) P
+          → IfSome (cond passes (Some c.1) (lookup test (cs ++ b ∷ []))) P
       by true rest g = g
       by false rest g = rest g
 
   pub known_local : (locals : List Local) (scopes : Scopes) (name : names.Name) (shape : Shape)
       → Known globals functions locals scopes → Known globals functions (locals ++ (name.span.start, shape) ∷ [])
-          (with_local scopes name shape)
+      (with_local scopes name shape)
   known_local locals scopes name shape h =
       let more = known_more locals ((name.span.start, shape) ∷ []) scopes h in
       record {
         inner = λ other. lookup_push (IsThere globals functions (locals ++ (name.span.start, shape) ∷ [])
             scopes.definitions other) (bytes_eq other) scopes.inner
             (name.text, meanings.Variable (named.Local name.span.start) shape) (more.inner other)
-                (contains_last locals (name.span.start, shape));
+            (contains_last locals (name.span.start, shape));
         outer = more.outer;
       }

@@ -1,6 +1,6 @@
 -- A source that breaks no rule keeps to the limits on globals and functions.
-use Rattle.std.proofs.Common.{◌≡◌, ℕ, zero, suc, ◌+◌, ◌<◌, ◌≤◌, Bool, true, false, cond, List, [], ◌∷◌, ◌++◌,
-    Option, None, Some, map, length, refl, ap, ◌∙◌, arith, length-append}
+use Rattle.std.proofs.Common.{◌≡◌, ℕ, zero, suc, ◌+◌, ◌<◌, ◌≤◌, Bool, true, false, cond, List, [], ◌∷◌, ◌++◌, Option}
+use Rattle.std.proofs.Common.{None, Some, map, length, refl, ap, ◌∙◌, arith, length-append}
 use Rattle.std.specs.Prelude.{IfSome, nat_lt, nat_le, nat_eq}
 use Rattle.std.specs.List.{flat_map, list_any}
 use Rattle.std.specs.Str.{bytes_eq}
@@ -14,12 +14,14 @@ use Rattle.om_rules.specs.Faults.{breach_if}
 use Rattle.om_rules.specs.Perhaps.{◌>>=◌, all_along}
 use Rattle.om_rules.specs.Places.{head_start}
 use Rattle.om_resolved.specs.ResolvedTree.{ResolvedFunctionTree}
-use Rattle.om_rules.specs.Scopes.{Scopes, is_declared, with_name, with_function, signature_of, after_global,
-    after_globals, after_prototype, after_function, after_item, cells_of, declarators_of, predeclared}
+use Rattle.om_rules.specs.Scopes.{Scopes, is_declared, with_name, with_function, signature_of, after_global}
+use Rattle.om_rules.specs.Scopes.{after_globals, after_prototype, after_function, after_item, cells_of, declarators_of}
+use Rattle.om_rules.specs.Scopes.{predeclared}
 use Rattle.om_rules.specs.StatementRules.{array_size_breaches, is_empty_array}
 use Rattle.om_rules.specs.UnitResolution.{global_of, globals_of, item_functions, resolved_function}
-use Rattle.om_rules.specs.UnitRules.{global_name_breaches, global_breaches, globals_breaches, initial_breaches,
-    head_breaches, definition_breaches, body_breaches, function_breaches, item_breaches, items_breaches}
+use Rattle.om_rules.specs.UnitRules.{global_name_breaches, global_breaches, globals_breaches, initial_breaches}
+use Rattle.om_rules.specs.UnitRules.{head_breaches, definition_breaches, body_breaches, function_breaches}
+use Rattle.om_rules.specs.UnitRules.{item_breaches, items_breaches}
 use Rattle.om_whole.proofs.Steps.{if_then}
 use Rattle.om_whole.proofs.Unbroken.{front, back, not_broken}
 
@@ -42,16 +44,16 @@ pub global_fits : (scopes : Scopes) (d : DeclaratorTree) → global_breaches sco
 global_fits scopes d none =
     let named = front (global_name_breaches scopes d) (initial_breaches d.initializer) none in
     let too_many = breach_if (nat_lt GLOBAL_CELL_LIMIT (scopes.cells + cells_of d.array)) faults.TooMany
-        d.name.span.start in
+    d.name.span.start in
     let full = not_broken (is_empty_array d.array) faults.Misuse d.name.span.start
-        (back _ (array_size_breaches d) (front _ too_many named)) in
+    (back _ (array_size_breaches d) (front _ too_many named)) in
     let room = not_broken (nat_lt GLOBAL_CELL_LIMIT (scopes.cells + cells_of d.array)) faults.TooMany
-        d.name.span.start (back _ too_many named) in
+    d.name.span.start (back _ too_many named) in
     (has_cells d.array full, below_limit 65536 (scopes.cells + cells_of d.array) room)
 
 globals_fit : (ds : List DeclaratorTree) (scopes : Scopes) → scopes.cells ≤ 65536 → globals_breaches scopes ds ≡ []
     → ((after_globals scopes ds).cells ≤ 65536)
-        × (scopes.cells + length (map global_of ds) ≤ (after_globals scopes ds).cells)
+    × (scopes.cells + length (map global_of ds) ≤ (after_globals scopes ds).cells)
 globals_fit [] scopes fits none = (fits, omega arith)
 globals_fit (d ∷ ds) scopes fits none =
     let one = global_fits scopes d (front (global_breaches scopes d) _ none) in
@@ -68,7 +70,7 @@ prototype_cells scopes head = by (is_declared scopes head.name.text)
 
 item_fits : (scopes : Scopes) (item : ItemTree) → scopes.cells ≤ 65536 → item_breaches scopes item ≡ []
     → ((after_item scopes item).cells ≤ 65536)
-        × (scopes.cells + length (globals_of item) ≤ (after_item scopes item).cells)
+    × (scopes.cells + length (globals_of item) ≤ (after_item scopes item).cells)
 item_fits scopes (Declaration d) fits none = globals_fit (declarators_of d) scopes fits none
 item_fits scopes (Prototype head semicolon) fits none = let same = prototype_cells scopes head in
     (omega (arith, same, fits), omega (arith, same))
@@ -114,14 +116,14 @@ function_counts : (scopes : Scopes) (f : FunctionTree) → function_breaches sco
 function_counts scopes f none =
     let own = front (definition_breaches scopes f.head) (body_breaches (after_function scopes f.head) f) none in
     let too_many = breach_if (nat_le (FUNCTION_LIMIT + length predeclared) (length scopes.defined)) faults.TooMany
-        (head_start f.head) in
+    (head_start f.head) in
     let again = breach_if (list_any (bytes_eq f.head.name.text) scopes.defined) faults.Redeclared
-        f.head.name.span.start in
+    f.head.name.span.start in
     let both = front (too_many ++ again) (head_breaches scopes f.head) own in
     let room = not_broken (nat_le (FUNCTION_LIMIT + length predeclared) (length scopes.defined)) faults.TooMany
-        (head_start f.head) (front too_many again both) in
+    (head_start f.head) (front too_many again both) in
     let new = not_broken (list_any (bytes_eq f.head.name.text) scopes.defined) faults.Redeclared
-        f.head.name.span.start (back too_many again both) in
+    f.head.name.span.start (back too_many again both) in
     let same = prototype_defined scopes f.head in (
       ap (λ names. length (with_name names f.head.name.text)) same ∙ with_further scopes.defined f.head.name.text new,
       above (FUNCTION_LIMIT + length predeclared) (length scopes.defined) room,
@@ -142,30 +144,30 @@ functions_fit [] scopes fits none = omega (arith, fits)
 functions_fit (Declaration d ∷ items) scopes fits none =
     let same = ap length (globals_defined (declarators_of d) scopes) in
     let rest = functions_fit items (after_item scopes (Declaration d)) (omega (arith, same, fits))
-        (back (item_breaches scopes (Declaration d)) _ none) in
+    (back (item_breaches scopes (Declaration d)) _ none) in
     if_then (Fits (all_defined (after_item scopes (Declaration d)))) (Fits (all_defined scopes))
-        (all_along item_functions after_item (after_item scopes (Declaration d)) items) _ rest
-        (λ xs h. omega (arith, same, h))
+    (all_along item_functions after_item (after_item scopes (Declaration d)) items) _ rest
+    (λ xs h. omega (arith, same, h))
 functions_fit (Prototype head semicolon ∷ items) scopes fits none =
     let same = ap length (prototype_defined scopes head) in
     let rest = functions_fit items (after_item scopes (Prototype head semicolon)) (omega (arith, same, fits))
-        (back (item_breaches scopes (Prototype head semicolon)) _ none) in
+    (back (item_breaches scopes (Prototype head semicolon)) _ none) in
     if_then (Fits (all_defined (after_prototype scopes head))) (Fits (all_defined scopes))
-        (all_along item_functions after_item (after_prototype scopes head) items) _ rest
-        (λ xs h. omega (arith, same, h))
+    (all_along item_functions after_item (after_prototype scopes head) items) _ rest
+    (λ xs h. omega (arith, same, h))
 functions_fit (Function f ∷ items) scopes fits none =
     let one = function_counts scopes f (front (item_breaches scopes (Function f)) _ none) in
     let rest = functions_fit items (after_item scopes (Function f)) (omega (arith, one.0, one.1))
-        (back (item_breaches scopes (Function f)) _ none) in
+    (back (item_breaches scopes (Function f)) _ none) in
     of_function (resolved_function scopes f) (all_along item_functions after_item (after_function scopes f.head)
-        items) (λ xs h. omega (arith, one.0, h)) rest
+    items) (λ xs h. omega (arith, one.0, h)) rest
   where
     of_function : (own : Option ResolvedFunctionTree) (others : Option (List ResolvedFunctionTree))
         → ((xs : List ResolvedFunctionTree) → Fits (all_defined (after_function scopes f.head)) xs
-            → all_defined scopes + suc (length xs) ≤ 259)
+        → all_defined scopes + suc (length xs) ≤ 259)
         → IfSome others (Fits (all_defined (after_function scopes f.head)))
         → IfSome ((own >>= λ function. Some (function ∷ [])) >>= λ front. others >>= λ rest. Some (front ++ rest))
-            (Fits (all_defined scopes))
+        (Fits (all_defined scopes))
     of_function None others one rest = tt
     of_function (Some function) None one rest = tt
     of_function (Some function) (Some xs) one rest = one xs rest

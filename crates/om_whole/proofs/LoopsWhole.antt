@@ -1,6 +1,6 @@
 -- A canonical loop without a breach resolves to a whole one.
-use Rattle.std.proofs.Common.{◌≡◌, ℕ, ◌≤◌, ℤ, pos, Bool, true, false, cond, ◌&&◌, List, [], ◌∷◌, ◌++◌, Option, None,
-    Some, refl, sym, subst, arith}
+use Rattle.std.proofs.Common.{◌≡◌, ℕ, ◌≤◌, ℤ, pos, Bool, true, false, cond, ◌&&◌, List, [], ◌∷◌, ◌++◌, Option, None}
+use Rattle.std.proofs.Common.{Some, refl, sym, subst, arith}
 use Rattle.std.proofs.lemmas.Int.{ints}
 use Rattle.std.specs.Prelude.{IfSome, option_map, ◌-ℤ◌, ◌<ℤ◌, nat_lt, nat_le}
 use Rattle.std.proofs.lemmas.Bool.Decides.{nat_tests}
@@ -21,9 +21,10 @@ use Rattle.om_rules.specs.declared.direction.Direction.TheVariants as directions
 use Rattle.om_rules.specs.declared.direction.Step.{Step}
 use Rattle.om_rules.specs.ExpressionRules.{expression_breaches}
 use Rattle.om_whole.specs.Knowing.{Knows}
-use Rattle.om_rules.specs.Loops.{is_named, signed, one_step, step_of, stride_in, LoopStart, Bound, bounded,
-    comparison_direction, compared, bound_of, prefix_step, postfix_step, added_step, subtracted_step, sum_step,
-    value_step, assigned_step, step_in, same_direction, Loop, start_of, loop_to, loop_of, loop_in}
+use Rattle.om_rules.specs.Loops.{is_named, signed, one_step, step_of, stride_in, LoopStart, Bound, bounded}
+use Rattle.om_rules.specs.Loops.{comparison_direction, compared, bound_of, prefix_step, postfix_step, added_step}
+use Rattle.om_rules.specs.Loops.{subtracted_step, sum_step, value_step, assigned_step, step_in, same_direction, Loop}
+use Rattle.om_rules.specs.Loops.{start_of, loop_to, loop_of, loop_in}
 use Rattle.om_rules.specs.Perhaps.{◌>>=◌}
 use Rattle.om_rules.specs.Resolution.{resolved_expression}
 use Rattle.om_rules.specs.Scopes.{Scopes, inside}
@@ -42,9 +43,10 @@ use Rattle.om_tree.specs.declared.tree.PostfixOperator.TheVariants as postfixes
 use Rattle.om_tree.specs.declared.tree.PrefixOperator.{PrefixOperator}
 use Rattle.om_tree.specs.declared.tree.PrefixOperator.TheVariants as prefixes
 use Rattle.om_tree.specs.Formed.{IsExpression, IsLine}
-use Rattle.om_tree.specs.Tree.{ExpressionTree, Name, Constant, Text, Paren, Index, Call, Prefix, Postfix, Binary,
-    Conditional, Assign, ForHeadTree, StatementTree, LocalDeclaration, Block, Empty, Expression, If, IfElse, While,
-    Do, For, Return, Break, Continue, Construct, StandAlone, Sections, Section}
+use Rattle.om_tree.specs.Tree.{ExpressionTree, Name, Constant, Text, Paren, Index, Call, Prefix, Postfix, Binary}
+use Rattle.om_tree.specs.Tree.{Conditional, Assign, ForHeadTree, StatementTree, LocalDeclaration, Block, Empty}
+use Rattle.om_tree.specs.Tree.{Expression, If, IfElse, While, Do, For, Return, Break, Continue, Construct, StandAlone}
+use Rattle.om_tree.specs.Tree.{Sections, Section}
 
 -- what a test decides
 pub test_cases : {A : Type 0} (P : A → Type 0) (test : Bool) (x y : A) → (test ≡ true → P x) → (test ≡ false → P y)
@@ -91,7 +93,7 @@ IsGoodStep step = (n : ℕ) × (1 ≤ n) × (step.value ≡ signed step.directio
 good_step_of : (direction : Direction) (value : ℕ) → IfSome (step_of direction value) IsGoodStep
 good_step_of direction value =
     test_cases (λ x. IfSome x IsGoodStep) (nat_lt 0 value && nat_le value 2147483647)
-        (Some (record { direction = direction; value = signed direction value })) None
+    (Some (record { direction = direction; value = signed direction value })) None
     (λ e. (value, positive value (both_true (nat_lt 0 value) (nat_le value 2147483647) e), refl)) (λ e. tt)
   where
     positive : (n : ℕ) → nat_lt 0 n ≡ true → 1 ≤ n
@@ -127,9 +129,9 @@ good_postfix postfixes.Decrement = good_one directions.Down
 good_added : (a b : ExpressionTree) (name : List ℕ) → IfSome (added_step a b name) IsGoodStep
 good_added a b name =
     if_either (λ x. IfSome x IsGoodStep) (is_named a name) (stride_in directions.Up b)
-        (cond (is_named b name) (stride_in directions.Up a) None) (good_stride directions.Up b)
+    (cond (is_named b name) (stride_in directions.Up a) None) (good_stride directions.Up b)
     (if_either (λ x. IfSome x IsGoodStep) (is_named b name) (stride_in directions.Up a) None
-        (good_stride directions.Up a) tt)
+    (good_stride directions.Up a) tt)
 
 good_subtracted : (a b : ExpressionTree) (name : List ℕ) → IfSome (subtracted_step a b name) IsGoodStep
 good_subtracted a b name = if_either (λ x. IfSome x IsGoodStep) (is_named a name) (stride_in directions.Down b) None
@@ -232,7 +234,7 @@ loop_goes : (at : Span) (start : LoopStart) (bound : Bound) (step : Step) → Is
     → IfSome (loop_to at start bound step) GoesOn
 loop_goes at start bound step hb hs =
     test_cases (λ x. IfSome x GoesOn) (same_direction bound.direction step.direction)
-        (Some (record { at = at; start = start; comparison = bound.comparison; to = bound.to; step = step.value })) None
+    (Some (record { at = at; start = start; comparison = bound.comparison; to = bound.to; step = step.value })) None
     (λ same. step_goes bound.comparison bound.direction step.direction step.value hb same hs) (λ e. tt)
 
 head_goes : (h : ForHeadTree) → IfSome (loop_of h) GoesOn
@@ -241,9 +243,9 @@ head_goes h =
     if_then (λ x. Unit {0}) GoesOn h.condition _ (if_any h.condition) (λ condition v.
     if_then (λ x. Unit {0}) GoesOn h.step _ (if_any h.step) (λ step w.
     if_then IsGoodBound GoesOn (bound_of condition start.variable.text) _ (good_bound condition start.variable.text)
-        (λ bound hb.
+    (λ bound hb.
     if_then IsGoodStep GoesOn (step_in step start.variable.text) _ (good_step step start.variable.text)
-        (λ by hs. loop_goes h.word start bound by hb hs)))))
+    (λ by hs. loop_goes h.word start bound by hb hs)))))
 
 pub goes_on : (s : StatementTree) → IfSome (loop_in s) GoesOn
 goes_on (For h s) = head_goes h
@@ -308,9 +310,9 @@ known_bounds : (around : Around) (scopes : Scopes) (found : Loop) → Knows arou
     → Knows (with_locals around (scalar (local_of found.start.variable) ∷ [])) (bounds_scopes scopes found)
 known_bounds around scopes found h =
     if_either (λ inner. Knows (with_locals around (scalar (local_of found.start.variable) ∷ [])) inner)
-        found.start.is_declared (with_iteration scopes found) scopes
+    found.start.is_declared (with_iteration scopes found) scopes
     (known_local around.globals around.functions around.locals (inside scopes) found.start.variable shapes.Scalar
-        (known_inside around.globals around.functions around.locals scopes h))
+    (known_inside around.globals around.functions around.locals scopes h))
     (known_more around.globals around.functions around.locals (scalar (local_of found.start.variable) ∷ []) scopes h)
 
 -- a resolved loop, whose variable is that one's
@@ -329,7 +331,7 @@ whole_loop around scopes schedule found h goes chunk w =
     let from = expression_breaches inner true found.start.from in
     let to = expression_breaches inner true found.to in
     if_then (IsWhole within true) (IsGoodLoop around found) (resolved_expression inner found.start.from) _
-        (whole_expression within inner true found.start.from known (front from to values)) (λ x hx.
+    (whole_expression within inner true found.start.from known (front from to values)) (λ x hx.
     if_then (IsWhole within true) (IsGoodLoop around found) (resolved_expression inner found.to) _
-        (whole_expression within inner true found.to known (back from to values)) (λ y hy.
+    (whole_expression within inner true found.to known (back from to values)) (λ y hy.
     (record { from = hx; to = hy; step = goes; chunk = chunk }, refl)))

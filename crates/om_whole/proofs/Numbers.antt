@@ -1,6 +1,6 @@
 -- The numbers of globals are the places of their names among those that are declared.
-use Rattle.std.proofs.Common.{◌≡◌, ℕ, zero, suc, Bool, true, false, cond, List, [], ◌∷◌, ◌++◌, append_assoc,
-    append-nil, Some, fold, map, length, slice_get, refl, sym, ap, subst, ◌∙◌, arith, length-append}
+use Rattle.std.proofs.Common.{◌≡◌, ℕ, zero, suc, Bool, true, false, cond, List, [], ◌∷◌, ◌++◌, append_assoc, append-nil}
+use Rattle.std.proofs.Common.{Some, fold, map, length, slice_get, refl, sym, ap, subst, ◌∙◌, arith, length-append}
 use Rattle.std.specs.Prelude.{IfSome}
 use Rattle.std.specs.List.{flat_map}
 use Rattle.std.specs.Map.{lookup}
@@ -14,9 +14,9 @@ use Rattle.om_resolved.specs.declared.resolved.Variable.TheVariants as variables
 use Rattle.om_rules.specs.declared.meaning.Meaning.{Meaning}
 use Rattle.om_rules.specs.declared.meaning.Meaning.TheVariants as meanings
 use Rattle.om_whole.specs.Laws.{NumbersNameGlobals}
-use Rattle.om_rules.specs.Scopes.{Binding, Scope, Scopes, file_scope, definitions_of, meaning_of, meaning_outside,
-    is_declared, shape_of, signature_of, with_function, after_global, after_globals, after_prototype,
-    after_function, after_item, declarators_of}
+use Rattle.om_rules.specs.Scopes.{Binding, Scope, Scopes, file_scope, definitions_of, meaning_of, meaning_outside}
+use Rattle.om_rules.specs.Scopes.{is_declared, shape_of, signature_of, with_function, after_global, after_globals}
+use Rattle.om_rules.specs.Scopes.{after_prototype, after_function, after_item, declarators_of}
 use Rattle.om_rules.specs.UnitResolution.{global_of, globals_of}
 use Rattle.om_whole.proofs.Steps.{if_either, if_first, if_given}
 
@@ -85,7 +85,7 @@ means_one : (globals : Names) (scopes : Scopes) (name : List ℕ) → Numbered g
     → IfSome (meaning_of scopes name) (MeansOne globals name)
 means_one globals scopes name h =
     if_first (MeansOne globals name) (lookup (bytes_eq name) scopes.inner) (meaning_outside scopes.outer name)
-        (lookup_means globals name scopes.inner h.inner)
+    (lookup_means globals name scopes.inner h.inner)
     (subst (λ outer. IfSome (meaning_outside outer name) (MeansOne globals name)) (sym h.outer) tt)
 
 -- ---- declarations
@@ -94,9 +94,16 @@ numbered_function : (globals : Names) (scopes : Scopes) (head : HeadTree) → Nu
     → Numbered globals (after_prototype scopes head)
 numbered_function globals scopes head h =
     if_either (Numbered globals) (is_declared scopes head.name.text) scopes (with_function scopes head.name.text
-        (signature_of head)) h
-    (record { count = h.count; inner = mean_push globals scopes.inner (head.name.text, meanings.Function
-        (signature_of head)) h.inner tt; outer = h.outer })
+    (signature_of head)) h
+    (record {
+      count = h.count;
+      inner = mean_push globals scopes.inner (
+        head.name.text,
+        meanings.Function
+            (signature_of head),
+      ) h.inner tt;
+      outer = h.outer;
+    })
 
 numbered_global : (globals : Names) (scopes : Scopes) (d : DeclaratorTree) → Numbered globals scopes
     → Numbered (globals ++ d.name.text ∷ []) (after_global scopes d)
@@ -106,7 +113,7 @@ numbered_global globals scopes d h = record {
       (d.name.text, meanings.Variable (variables.Global scopes.globals) (shape_of d.array))
       (mean_more globals (d.name.text ∷ []) scopes.inner h.inner)
       (subst (λ number. slice_get (globals ++ d.name.text ∷ []) number ≡ Some d.name.text) (sym h.count)
-          (slice_get-last globals d.name.text));
+      (slice_get-last globals d.name.text));
   outer = h.outer;
 }
 
@@ -118,7 +125,7 @@ numbered_globals : (ds : List DeclaratorTree) (globals : Names) (scopes : Scopes
 numbered_globals [] globals scopes h = rw append-nil h
 numbered_globals (d ∷ ds) globals scopes h =
     subst (λ all. Numbered all (after_globals scopes (d ∷ ds))) (append_assoc globals (d.name.text ∷ [])
-        (map name_of (map global_of ds)))
+    (map name_of (map global_of ds)))
     (numbered_globals ds (globals ++ d.name.text ∷ []) (after_global scopes d) (numbered_global globals scopes d h))
 
 numbered_item : (globals : Names) (scopes : Scopes) (item : ItemTree) → Numbered globals scopes
@@ -127,8 +134,11 @@ numbered_item globals scopes (Declaration d) h = numbered_globals (declarators_o
 numbered_item globals scopes (Prototype head semicolon) h = rw append-nil (numbered_function globals scopes head h)
 numbered_item globals scopes (Function f) h =
     let p = numbered_function globals scopes f.head h in
-    let behind : Numbered globals (after_function scopes f.head) = record { count = p.count; inner = p.inner;
-        outer = p.outer } in
+    let behind : Numbered globals (after_function scopes f.head) = record {
+      count = p.count;
+      inner = p.inner;
+      outer = p.outer;
+    } in
     rw append-nil behind
 
 numbered_items : (items : List ItemTree) (globals : Names) (scopes : Scopes) → Numbered globals scopes
@@ -139,16 +149,16 @@ numbered_items (item ∷ items) globals scopes h =
     (append_assoc globals (map name_of (globals_of item)) (map name_of (flat_map globals_of items))
     ∙ ap (λ own. globals ++ own) (sym (map-append name_of (globals_of item) (flat_map globals_of items))))
     (numbered_items items (globals ++ map name_of (globals_of item)) (after_item scopes item)
-        (numbered_item globals scopes item h))
+    (numbered_item globals scopes item h))
 
 pub numbers_name_globals : NumbersNameGlobals
 numbers_name_globals items name number shape e =
     let start : Numbered [] (file_scope (definitions_of items)) = record
-        { count = refl; inner = (tt, (tt, (tt, tt))); outer = refl } in
+    { count = refl; inner = (tt, (tt, (tt, tt))); outer = refl } in
     let all = numbered_items items [] (file_scope (definitions_of items)) start in
     let own = if_given (MeansOne (map name_of (flat_map globals_of items)) name)
-        (meaning_of (fold after_item (file_scope (definitions_of items)) items) name)
-        (meanings.Variable (variables.Global number) shape)
+    (meaning_of (fold after_item (file_scope (definitions_of items)) items) name)
+    (meanings.Variable (variables.Global number) shape)
     (means_one (map name_of (flat_map globals_of items)) (fold after_item (file_scope (definitions_of items)) items)
-        name all) e in
+    name all) e in
     sym (slice_get-map name_of (flat_map globals_of items) number) ∙ own

@@ -47,12 +47,12 @@ counted scopes flow parallel before (Statement s rest) few w =
     let own = statement_breaches (inside scopes) flow s in
     let others = sections_breaches scopes flow (parts_behind before s) rest in
     let free = not_broken (begins_part before s && nat_le SECTION_LIMIT before) faults.TooMany (statement_start s)
-        (front many own (front (many ++ own) others w)) in
+    (front many own (front (many ++ own) others w)) in
     if_then (λ t. Unit {0}) (Fit before) (resolved_statement (inside scopes) parallel s) _
-        (if_any (resolved_statement (inside scopes) parallel s)) (λ t u.
+    (if_any (resolved_statement (inside scopes) parallel s)) (λ t u.
     if_then (Fit (parts_behind before s)) (Fit before) (resolved_parts scopes parallel (parts_behind before s) rest) _
     (counted scopes flow parallel (parts_behind before s) rest (room_behind (begins_part before s) before few free)
-        (back (many ++ own) others w)) (λ rest h.
+    (back (many ++ own) others w)) (λ rest h.
     fit_more (begins_part before s) before t rest h))
 
 pub few_parts : (scopes : Scopes) (flow : Flow) (parallel : Option ℕ) (items : StatementsTree) → sections_breaches
@@ -60,7 +60,7 @@ pub few_parts : (scopes : Scopes) (flow : Flow) (parallel : Option ℕ) (items :
     → IfSome (resolved_parts scopes parallel 0 items) (λ g. part_count g.parts ≤ 256)
 few_parts scopes flow parallel items w =
     if_more (Fit 0) (λ g. part_count g.parts ≤ 256) (resolved_parts scopes parallel 0 items)
-        (λ g h. omega (arith, h)) (counted scopes flow parallel 0 items (omega arith) w)
+    (λ g h. omega (arith, h)) (counted scopes flow parallel 0 items (omega arith) w)
 
 pub some_part : (scopes : Scopes) (parallel : Option ℕ) (items : StatementsTree) → AreSome items
     → IfSome (resolved_parts scopes parallel 0 items) (λ g. 1 ≤ part_count g.parts)
@@ -68,7 +68,7 @@ unfolding resolved_parts
 some_part scopes parallel NoStatements some = absurd some
 some_part scopes parallel (Statement s rest) some =
     if_then (λ t. Unit {0}) (λ g. 1 ≤ part_count g.parts) (resolved_statement (inside scopes) parallel s) _
-        (if_any (resolved_statement (inside scopes) parallel s)) (λ t u.
+    (if_any (resolved_statement (inside scopes) parallel s)) (λ t u.
     if_then (λ g. Unit {0}) (λ g. 1 ≤ part_count g.parts) (resolved_parts scopes parallel (parts_behind 0 s) rest) _
-        (if_any (resolved_parts scopes parallel (parts_behind 0 s) rest)) (λ g u.
+    (if_any (resolved_parts scopes parallel (parts_behind 0 s) rest)) (λ g u.
     omega arith))

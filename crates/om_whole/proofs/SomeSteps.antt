@@ -24,7 +24,7 @@ module _ {S X Y : Type 0} (breaches : S → X → List SourceFault) (after : S �
   some_each f one (x ∷ xs) state whole =
       let own = one state x (front (breaches state x) (breaches_along breaches after (after state x) xs) whole) in
       let rest = some_each f one xs (after state x)
-          (back (breaches state x) (breaches_along breaches after (after state x) xs) whole) in
+      (back (breaches state x) (breaches_along breaches after (after state x) xs) whole) in
       some_then (f x) _ own (λ y. some_then (each f xs) _ rest (λ ys. refl))
 
   pub some_all_of : (f : X → Option (List Y)) → ((state : S) (x : X) → breaches state x ≡ [] → IsSome (f x))
@@ -33,7 +33,7 @@ module _ {S X Y : Type 0} (breaches : S → X → List SourceFault) (after : S �
   some_all_of f one (x ∷ xs) state whole =
       let own = one state x (front (breaches state x) (breaches_along breaches after (after state x) xs) whole) in
       let rest = some_all_of f one xs (after state x)
-          (back (breaches state x) (breaches_along breaches after (after state x) xs) whole) in
+      (back (breaches state x) (breaches_along breaches after (after state x) xs) whole) in
       some_then (f x) _ own (λ y. some_then (all_of f xs) _ rest (λ ys. refl))
 
   pub some_each_along : (f : S → X → Option Y) → ((state : S) (x : X) → breaches state x ≡ [] → IsSome (f state x))
@@ -42,7 +42,7 @@ module _ {S X Y : Type 0} (breaches : S → X → List SourceFault) (after : S �
   some_each_along f one (x ∷ xs) state whole =
       let own = one state x (front (breaches state x) (breaches_along breaches after (after state x) xs) whole) in
       let rest = some_each_along f one xs (after state x)
-          (back (breaches state x) (breaches_along breaches after (after state x) xs) whole) in
+      (back (breaches state x) (breaches_along breaches after (after state x) xs) whole) in
       some_then (f state x) _ own (λ y. some_then (each_along f after (after state x) xs) _ rest (λ ys. refl))
 
   pub some_all_along : (f : S → X → Option (List Y)) → ((state : S) (x : X) → breaches state x ≡ []
@@ -52,7 +52,7 @@ module _ {S X Y : Type 0} (breaches : S → X → List SourceFault) (after : S �
   some_all_along f one (x ∷ xs) state whole =
       let own = one state x (front (breaches state x) (breaches_along breaches after (after state x) xs) whole) in
       let rest = some_all_along f one xs (after state x)
-          (back (breaches state x) (breaches_along breaches after (after state x) xs) whole) in
+      (back (breaches state x) (breaches_along breaches after (after state x) xs) whole) in
       some_then (f state x) _ own (λ y. some_then (all_along f after (after state x) xs) _ rest (λ ys. refl))
 
 pub some_each_flat : {X Y : Type 0} (breaches : X → List SourceFault) (f : X → Option Y)

@@ -1,27 +1,30 @@
 -- A resolved statement uses globals that there are.
 use Rattle.std.proofs.Common.{ℕ, Bool, true, false, Option, Some, option_map}
 use Rattle.std.specs.Prelude.{IfSome, not}
-use Rattle.om_tree.specs.Tree.{StatementTree, LocalDeclaration, Block, Empty, Expression, If, IfElse, While, Do,
-    For, Return, Break, Continue, Construct, StandAlone, Sections, Section, StatementsTree, NoStatements, Statement}
+use Rattle.om_tree.specs.Tree.{StatementTree, LocalDeclaration, Block, Empty, Expression, If, IfElse, While, Do, For}
+use Rattle.om_tree.specs.Tree.{Return, Break, Continue, Construct, StandAlone, Sections, Section, StatementsTree}
+use Rattle.om_tree.specs.Tree.{NoStatements, Statement}
 use Rattle.om_rules.specs.DirectiveRules.{in_construct, parallel_in, traits_of}
 use Rattle.om_rules.specs.Grouping.{Grouped, grouped, parts_of}
 use Rattle.om_rules.specs.Loops.{Loop, loop_in}
 use Rattle.om_rules.specs.Resolution.{resolved_expression}
 use Rattle.om_resolved.specs.ResolvedTree.{ResolvedLoopTree, ResolvedStatementTree}
 use Rattle.om_rules.specs.Scopes.{Scopes, inside, declarators_of}
-use Rattle.om_rules.specs.StatementResolution.{resolved_declarators, resolved_clauses, resolved_loop,
-    resolved_start, resolved_perhaps, schedule_of, resolved_statement, resolved_statements, resolved_repeated,
-    resolved_parts, resolved_plain_construct, resolved_loop_construct}
+use Rattle.om_rules.specs.StatementResolution.{resolved_declarators, resolved_clauses, resolved_loop, resolved_start}
+use Rattle.om_rules.specs.StatementResolution.{resolved_perhaps, schedule_of, resolved_statement, resolved_statements}
+use Rattle.om_rules.specs.StatementResolution.{resolved_repeated, resolved_parts, resolved_plain_construct}
+use Rattle.om_rules.specs.StatementResolution.{resolved_loop_construct}
 use Rattle.om_rules.specs.Updates.{statement_side}
-use Rattle.om_rules.specs.StatementRules.{after_for_start, after_statement, begins_part, in_loop, parts_behind,
-    round_bounds}
-use Rattle.om_resolved.specs.Uses.{UsesVariables, PerhapsUsesVariables, DeclaratorsUseVariables, StartUsesVariables,
-    ClausesUseVariables, StatementUsesVariables, StatementsUseVariables, PartsUseVariables}
-use Rattle.om_whole.proofs.ClauseUses.{perhaps_uses, declarators_use, start_uses, clauses_use, construct_uses,
-    loop_construct_uses, sections_construct_uses, loop_uses, alone_uses}
+use Rattle.om_rules.specs.StatementRules.{after_for_start, after_statement, begins_part, in_loop, parts_behind}
+use Rattle.om_rules.specs.StatementRules.{round_bounds}
+use Rattle.om_resolved.specs.Uses.{UsesVariables, PerhapsUsesVariables, DeclaratorsUseVariables, StartUsesVariables}
+use Rattle.om_resolved.specs.Uses.{ClausesUseVariables, StatementUsesVariables, StatementsUseVariables}
+use Rattle.om_resolved.specs.Uses.{PartsUseVariables}
+use Rattle.om_whole.proofs.ClauseUses.{perhaps_uses, declarators_use, start_uses, clauses_use, construct_uses}
+use Rattle.om_whole.proofs.ClauseUses.{loop_construct_uses, sections_construct_uses, loop_uses, alone_uses}
 use Rattle.om_whole.proofs.ExpressionUses.{expression_uses}
-use Rattle.om_whole.proofs.GlobalsBelow.{Below, below_inside, below_construct, below_bounds, below_in_loop,
-    below_start, below_statement}
+use Rattle.om_whole.proofs.GlobalsBelow.{Below, below_inside, below_construct, below_bounds, below_in_loop, below_start}
+use Rattle.om_whole.proofs.GlobalsBelow.{below_statement}
 use Rattle.om_whole.proofs.Steps.{if_then, if_any, if_either, if_mapped}
 
 -- what the items of `sections` use
@@ -44,85 +47,85 @@ mutual
       → IfSome (resolved_statement scopes parallel s) (StatementUsesVariables n)
   statement_uses n scopes parallel (LocalDeclaration d) h =
       if_then (DeclaratorsUseVariables n) (StatementUsesVariables n)
-          (resolved_declarators scopes (declarators_of d)) _ (declarators_use n scopes (declarators_of d) h)
-          (λ ds hds. hds)
+      (resolved_declarators scopes (declarators_of d)) _ (declarators_use n scopes (declarators_of d) h)
+      (λ ds hds. hds)
   statement_uses n scopes parallel (Block left items right) h =
       if_then (StatementsUseVariables n) (StatementUsesVariables n) (resolved_statements (inside scopes) parallel
-          items) _ (statements_use n (inside scopes) parallel items (below_inside n scopes h)) (λ ss hss. hss)
+      items) _ (statements_use n (inside scopes) parallel items (below_inside n scopes h)) (λ ss hss. hss)
   statement_uses n scopes parallel (Empty semicolon) h = tt
   statement_uses n scopes parallel (Expression e semicolon) h = if_then (UsesVariables n) (StatementUsesVariables n)
       (resolved_expression scopes e) _ (expression_uses n scopes e h) (λ x hx. hx)
   statement_uses n scopes parallel (If at c s) h =
       if_then (UsesVariables n) (StatementUsesVariables n) (resolved_expression scopes c.value) _
-          (expression_uses n scopes c.value h) (λ x hx.
+      (expression_uses n scopes c.value h) (λ x hx.
       if_then (StatementUsesVariables n) (StatementUsesVariables n) (resolved_statement (inside scopes) parallel s)
-          _ (statement_uses n (inside scopes) parallel s (below_inside n scopes h)) (λ t ht. (hx, ht)))
+      _ (statement_uses n (inside scopes) parallel s (below_inside n scopes h)) (λ t ht. (hx, ht)))
   statement_uses n scopes parallel (IfElse at c s other t) h =
       if_then (UsesVariables n) (StatementUsesVariables n) (resolved_expression scopes c.value) _
-          (expression_uses n scopes c.value h) (λ x hx.
+      (expression_uses n scopes c.value h) (λ x hx.
       if_then (StatementUsesVariables n) (StatementUsesVariables n) (resolved_statement (inside scopes) parallel s)
-          _ (statement_uses n (inside scopes) parallel s (below_inside n scopes h)) (λ y hy.
+      _ (statement_uses n (inside scopes) parallel s (below_inside n scopes h)) (λ y hy.
       if_then (StatementUsesVariables n) (StatementUsesVariables n) (resolved_statement (inside scopes) parallel t)
-          _ (statement_uses n (inside scopes) parallel t (below_inside n scopes h)) (λ z hz. (hx, hy, hz))))
+      _ (statement_uses n (inside scopes) parallel t (below_inside n scopes h)) (λ z hz. (hx, hy, hz))))
   statement_uses n scopes parallel (While at c s) h =
       if_then (UsesVariables n) (StatementUsesVariables n) (resolved_expression scopes c.value) _
-          (expression_uses n scopes c.value h) (λ x hx.
+      (expression_uses n scopes c.value h) (λ x hx.
       if_then (StatementUsesVariables n) (StatementUsesVariables n) (resolved_statement (inside scopes) parallel s)
-          _ (statement_uses n (inside scopes) parallel s (below_inside n scopes h)) (λ t ht. (hx, ht)))
+      _ (statement_uses n (inside scopes) parallel s (below_inside n scopes h)) (λ t ht. (hx, ht)))
   statement_uses n scopes parallel (Do at s again c semicolon) h =
       if_then (StatementUsesVariables n) (StatementUsesVariables n) (resolved_statement (inside scopes) parallel s)
-          _ (statement_uses n (inside scopes) parallel s (below_inside n scopes h)) (λ t ht.
+      _ (statement_uses n (inside scopes) parallel s (below_inside n scopes h)) (λ t ht.
       if_then (UsesVariables n) (StatementUsesVariables n) (resolved_expression scopes c.value) _
-          (expression_uses n scopes c.value h) (λ x hx. (ht, hx)))
+      (expression_uses n scopes c.value h) (λ x hx. (ht, hx)))
   statement_uses n scopes parallel (For head s) h =
       let within = below_inside n scopes h in
       let behind = below_start n (inside scopes) head.start within in
       if_then (StartUsesVariables n) (StatementUsesVariables n) (resolved_start (inside scopes) head.start) _
-          (start_uses n (inside scopes) head.start within) (λ x hx.
+      (start_uses n (inside scopes) head.start within) (λ x hx.
       if_then (PerhapsUsesVariables n) (StatementUsesVariables n)
-          (resolved_perhaps (after_for_start (inside scopes) head.start) head.condition) _
-          (perhaps_uses n (after_for_start (inside scopes) head.start) head.condition behind) (λ y hy.
+      (resolved_perhaps (after_for_start (inside scopes) head.start) head.condition) _
+      (perhaps_uses n (after_for_start (inside scopes) head.start) head.condition behind) (λ y hy.
       if_then (PerhapsUsesVariables n) (StatementUsesVariables n)
-          (resolved_perhaps (after_for_start (inside scopes) head.start) head.step) _
-          (perhaps_uses n (after_for_start (inside scopes) head.start) head.step behind) (λ z hz.
+      (resolved_perhaps (after_for_start (inside scopes) head.start) head.step) _
+      (perhaps_uses n (after_for_start (inside scopes) head.start) head.step behind) (λ z hz.
       if_then (StatementUsesVariables n) (StatementUsesVariables n)
-          (resolved_statement (inside (after_for_start (inside scopes) head.start)) parallel s) _
+      (resolved_statement (inside (after_for_start (inside scopes) head.start)) parallel s) _
       (statement_uses n (inside (after_for_start (inside scopes) head.start)) parallel s
-          (below_inside n (after_for_start (inside scopes) head.start) behind)) (λ t ht. (hx, hy, hz, ht)))))
+      (below_inside n (after_for_start (inside scopes) head.start) behind)) (λ t ht. (hx, hy, hz, ht)))))
   statement_uses n scopes parallel (Return at value semicolon) h =
       if_then (PerhapsUsesVariables n) (StatementUsesVariables n) (resolved_perhaps scopes value) _
-          (perhaps_uses n scopes value h) (λ x hx. hx)
+      (perhaps_uses n scopes value h) (λ x hx. hx)
   statement_uses n scopes parallel (Break at semicolon) h = tt
   statement_uses n scopes parallel (Continue at semicolon) h = tt
   statement_uses n scopes parallel (Construct d s) h =
       if_either (λ o. IfSome o (StatementUsesVariables n)) (not (traits_of d.name).takes_loop)
-          (resolved_plain_construct scopes parallel d s) (resolved_loop_construct scopes parallel d (loop_in s) s)
+      (resolved_plain_construct scopes parallel d s) (resolved_loop_construct scopes parallel d (loop_in s) s)
       (if_then (ClausesUseVariables n) (StatementUsesVariables n) (resolved_clauses scopes d.clauses) _
-          (clauses_use n scopes d.clauses h) (λ cs hcs.
+      (clauses_use n scopes d.clauses h) (λ cs hcs.
       if_then (StatementUsesVariables n) (StatementUsesVariables n) (resolved_statement (in_construct d scopes)
-          (parallel_in d parallel) s) _
+      (parallel_in d parallel) s) _
       (statement_uses n (in_construct d scopes) (parallel_in d parallel) s (below_construct n d scopes h))
-          (λ body hb. construct_uses n parallel (statement_side s) d d.name cs body hcs hb)))
+      (λ body hb. construct_uses n parallel (statement_side s) d d.name cs body hcs hb)))
       (if_then (ClausesUseVariables n) (StatementUsesVariables n) (resolved_clauses scopes d.clauses) _
-          (clauses_use n scopes d.clauses h) (λ cs hcs.
+      (clauses_use n scopes d.clauses h) (λ cs hcs.
       if_then (λ found. Unit {0}) (StatementUsesVariables n) (loop_in s) _ (if_any (loop_in s)) (λ found u.
       if_then (LoopUsesVariables n) (StatementUsesVariables n) (resolved_loop (round_bounds d scopes)
-          (schedule_of d.clauses) found) _ (loop_uses n (round_bounds d scopes) (schedule_of d.clauses) found
-          (below_bounds n d scopes h)) (λ l hl.
+      (schedule_of d.clauses) found) _ (loop_uses n (round_bounds d scopes) (schedule_of d.clauses) found
+      (below_bounds n d scopes h)) (λ l hl.
       if_then (StatementUsesVariables n) (StatementUsesVariables n) (resolved_repeated (in_construct d scopes)
-          (parallel_in d parallel) found s) _
+      (parallel_in d parallel) found s) _
       (repeated_uses n (in_construct d scopes) (parallel_in d parallel) found s (below_construct n d scopes h))
-          (λ body hb. loop_construct_uses n d cs l body hcs hl.0 hl.1 hb)))))
+      (λ body hb. loop_construct_uses n d cs l body hcs hl.0 hl.1 hb)))))
   statement_uses n scopes parallel (StandAlone d) h = alone_uses n scopes d d.name h
   statement_uses n scopes parallel (Sections d left parts right) h =
       if_then (ClausesUseVariables n) (StatementUsesVariables n) (resolved_clauses scopes d.clauses) _
-          (clauses_use n scopes d.clauses h) (λ cs hcs.
+      (clauses_use n scopes d.clauses h) (λ cs hcs.
       if_then (PartsUseVariables n) (StatementUsesVariables n)
-          (option_map parts_of (resolved_parts (in_construct d scopes) (parallel_in d parallel) 0 parts)) _
+      (option_map parts_of (resolved_parts (in_construct d scopes) (parallel_in d parallel) 0 parts)) _
       (if_mapped (GroupUses n) (PartsUseVariables n) (resolved_parts (in_construct d scopes)
-          (parallel_in d parallel) 0 parts) parts_of
+      (parallel_in d parallel) 0 parts) parts_of
       (parts_use n (in_construct d scopes) (parallel_in d parallel) 0 parts (below_construct n d scopes h))
-          (λ items hi. hi.1))
+      (λ items hi. hi.1))
       (λ made hm. sections_construct_uses n d cs made hcs hm))
   statement_uses n scopes parallel (Section d s) h = statement_uses n (inside scopes) parallel s
       (below_inside n scopes h)
@@ -132,9 +135,9 @@ mutual
   statements_use n scopes parallel NoStatements h = tt
   statements_use n scopes parallel (Statement s rest) h =
       if_then (StatementUsesVariables n) (StatementsUseVariables n) (resolved_statement scopes parallel s) _
-          (statement_uses n scopes parallel s h) (λ t ht.
+      (statement_uses n scopes parallel s h) (λ t ht.
       if_then (StatementsUseVariables n) (StatementsUseVariables n) (resolved_statements (after_statement scopes s)
-          parallel rest) _
+      parallel rest) _
       (statements_use n (after_statement scopes s) parallel rest (below_statement n scopes s h)) (λ ts hts. (ht, hts)))
 
   repeated_uses : (n : ℕ) (scopes : Scopes) (parallel : Option ℕ) (found : Loop) (s : StatementTree)
@@ -162,7 +165,7 @@ mutual
   parts_use n scopes parallel before NoStatements h = (tt, tt)
   parts_use n scopes parallel before (Statement s rest) h =
       if_then (StatementUsesVariables n) (GroupUses n) (resolved_statement (inside scopes) parallel s) _
-          (statement_uses n (inside scopes) parallel s (below_inside n scopes h)) (λ t ht.
+      (statement_uses n (inside scopes) parallel s (below_inside n scopes h)) (λ t ht.
       if_then (GroupUses n) (GroupUses n) (resolved_parts scopes parallel (parts_behind before s) rest) _
       (parts_use n scopes parallel (parts_behind before s) rest h) (λ items hi. group_uses n (begins_part before s)
-          t items ht hi))
+      t items ht hi))

@@ -1,17 +1,17 @@
 -- A statement without a breach has a resolution.
-use Rattle.std.proofs.Common.{◌≡◌, ℕ, true, false, cond, not, List, [], ◌++◌, Option, None, Some, is_some,
-    option_map, refl}
+use Rattle.std.proofs.Common.{◌≡◌, ℕ, true, false, cond, not, List, [], ◌++◌, Option, None, Some, is_some, option_map}
+use Rattle.std.proofs.Common.{refl}
 use Rattle.std.specs.Prelude.{IsSome, nat_le, ◌&&◌}
 use Rattle.om_lexer.specs.declared.fault.FaultCode.TheVariants as faults
 use Rattle.om_lexer.specs.declared.fault.SourceFault.{SourceFault}
 use Rattle.om_pragma.specs.declared.tree.Directive.{Directive}
-use Rattle.om_tree.specs.Tree.{ExpressionTree, StatementTree, LocalDeclaration, Block, Empty, Expression, If,
-    IfElse, While, Do, For, Return, Break, Continue, Construct, StandAlone, Sections, Section, StatementsTree,
-    NoStatements, Statement}
+use Rattle.om_tree.specs.Tree.{ExpressionTree, StatementTree, LocalDeclaration, Block, Empty, Expression, If, IfElse}
+use Rattle.om_tree.specs.Tree.{While, Do, For, Return, Break, Continue, Construct, StandAlone, Sections, Section}
+use Rattle.om_tree.specs.Tree.{StatementsTree, NoStatements, Statement}
 use Rattle.om_rules.specs.declared.flow.Flow.{Flow}
 use Rattle.om_rules.specs.declared.limits.TheConstants.{SECTION_LIMIT}
-use Rattle.om_rules.specs.DirectiveRules.{constructing, directive_breaches, flush_breaches, in_construct,
-    parallel_in, traits_of}
+use Rattle.om_rules.specs.DirectiveRules.{constructing, directive_breaches, flush_breaches, in_construct, parallel_in}
+use Rattle.om_rules.specs.DirectiveRules.{traits_of}
 use Rattle.om_rules.specs.ExpressionRules.{expression_breaches}
 use Rattle.om_rules.specs.Faults.{breach_if, with_breach}
 use Rattle.om_rules.specs.Grouping.{parts_of}
@@ -19,15 +19,17 @@ use Rattle.om_rules.specs.Loops.{Loop, loop_in}
 use Rattle.om_rules.specs.Places.{statement_start}
 use Rattle.om_rules.specs.Resolution.{resolved_expression}
 use Rattle.om_rules.specs.Scopes.{Scopes, inside, declarators_of}
-use Rattle.om_rules.specs.StatementResolution.{resolved_declarators, resolved_clauses, resolved_loop,
-    resolved_start, resolved_perhaps, schedule_of, resolved_statement, resolved_statements, resolved_repeated,
-    resolved_parts, resolved_plain_construct, resolved_loop_construct}
-use Rattle.om_rules.specs.StatementRules.{jump_breaches, return_breaches, perhaps_breaches, for_start_breaches,
-    after_for_start, for_turn_breaches, looping, round_bounds, found_breaches, bounds_breaches, in_loop, continuing,
-    after_statement, begins_part, parts_behind, statement_breaches, statements_breaches, body_breaches,
-    sections_breaches}
-use Rattle.om_whole.proofs.ClausesResolve.{has_declarators, has_start, has_perhaps, has_returned, has_clauses,
-    has_loop, has_alone}
+use Rattle.om_rules.specs.StatementResolution.{resolved_declarators, resolved_clauses, resolved_loop, resolved_start}
+use Rattle.om_rules.specs.StatementResolution.{resolved_perhaps, schedule_of, resolved_statement, resolved_statements}
+use Rattle.om_rules.specs.StatementResolution.{resolved_repeated, resolved_parts, resolved_plain_construct}
+use Rattle.om_rules.specs.StatementResolution.{resolved_loop_construct}
+use Rattle.om_rules.specs.StatementRules.{jump_breaches, return_breaches, perhaps_breaches, for_start_breaches}
+use Rattle.om_rules.specs.StatementRules.{after_for_start, for_turn_breaches, looping, round_bounds, found_breaches}
+use Rattle.om_rules.specs.StatementRules.{bounds_breaches, in_loop, continuing, after_statement, begins_part}
+use Rattle.om_rules.specs.StatementRules.{parts_behind, statement_breaches, statements_breaches, body_breaches}
+use Rattle.om_rules.specs.StatementRules.{sections_breaches}
+use Rattle.om_whole.proofs.ClausesResolve.{has_declarators, has_start, has_perhaps, has_returned, has_clauses, has_loop}
+use Rattle.om_whole.proofs.ClausesResolve.{has_alone}
 use Rattle.om_whole.proofs.ExpressionsResolve.{has_expression}
 use Rattle.om_whole.proofs.SomeSteps.{some_then, some_mapped}
 use Rattle.om_whole.proofs.Unbroken.{front, back, by_test, never_placed}
@@ -37,21 +39,21 @@ loop_there : (scopes : Scopes) (parallel : Option ℕ) (flow : Flow) (d : Direct
     (s : StatementTree) (perhaps_found : Option Loop) (others : List SourceFault)
     → IsSome (resolved_clauses scopes d.clauses)
     → ((found : Loop) → body_breaches (in_construct d scopes) (constructing d flow) (Some found) s ≡ []
-        → IsSome (resolved_repeated (in_construct d scopes) (parallel_in d parallel) found s))
+    → IsSome (resolved_repeated (in_construct d scopes) (parallel_in d parallel) found s))
     → cond (is_some perhaps_found) (bounds_breaches (round_bounds d scopes) perhaps_found
-        ++ body_breaches (in_construct d scopes) (constructing d flow) perhaps_found s)
+    ++ body_breaches (in_construct d scopes) (constructing d flow) perhaps_found s)
     (with_breach (record { code = faults.LoopForm; at = statement_start s }) others) ≡ []
     → IsSome (resolved_loop_construct scopes parallel d perhaps_found s)
 loop_there scopes parallel flow d s None others clauses body whole = absurd
     (never_placed faults.LoopForm (statement_start s) others whole)
 loop_there scopes parallel flow d s (Some found) others clauses body whole =
     let l = has_loop (round_bounds d scopes) (schedule_of d.clauses) found
-        (front (found_breaches (round_bounds d scopes) found) (body_breaches (in_construct d scopes)
-        (constructing d flow) (Some found) s) whole) in
+    (front (found_breaches (round_bounds d scopes) found) (body_breaches (in_construct d scopes)
+    (constructing d flow) (Some found) s) whole) in
     let repeated = body found (back (found_breaches (round_bounds d scopes) found)
-        (body_breaches (in_construct d scopes) (constructing d flow) (Some found) s) whole) in
+    (body_breaches (in_construct d scopes) (constructing d flow) (Some found) s) whole) in
     some_then (resolved_clauses scopes d.clauses) _ clauses
-        (λ cs. some_then (resolved_loop (round_bounds d scopes) (schedule_of d.clauses) found) _ l (λ x.
+    (λ cs. some_then (resolved_loop (round_bounds d scopes) (schedule_of d.clauses) found) _ l (λ x.
     some_then (resolved_repeated (in_construct d scopes) (parallel_in d parallel) found s) _ repeated (λ y. refl)))
 
 mutual
@@ -72,7 +74,7 @@ mutual
       let branch = statement_breaches (inside scopes) flow s in
       let y = has_statement (inside scopes) flow parallel s (back condition branch whole) in
       some_then (resolved_expression scopes c.value) _ (has_expression scopes true c.value
-          (front condition branch whole)) (λ x.
+      (front condition branch whole)) (λ x.
       some_then (resolved_statement (inside scopes) parallel s) _ y (λ t. refl))
   has_statement scopes flow parallel (IfElse at c s other t) whole =
       let condition = expression_breaches scopes true c.value in
@@ -82,22 +84,22 @@ mutual
       let y = has_statement (inside scopes) flow parallel s (back condition branch before) in
       let z = has_statement (inside scopes) flow parallel t (back (condition ++ branch) otherwise whole) in
       some_then (resolved_expression scopes c.value) _ (has_expression scopes true c.value
-          (front condition branch before)) (λ x.
+      (front condition branch before)) (λ x.
       some_then (resolved_statement (inside scopes) parallel s) _ y
-          (λ u. some_then (resolved_statement (inside scopes) parallel t) _ z (λ v. refl)))
+      (λ u. some_then (resolved_statement (inside scopes) parallel t) _ z (λ v. refl)))
   has_statement scopes flow parallel (While at c s) whole =
       let condition = expression_breaches scopes true c.value in
       let body = statement_breaches (inside scopes) (looping flow) s in
       let y = has_statement (inside scopes) (looping flow) parallel s (back condition body whole) in
       some_then (resolved_expression scopes c.value) _ (has_expression scopes true c.value
-          (front condition body whole)) (λ x.
+      (front condition body whole)) (λ x.
       some_then (resolved_statement (inside scopes) parallel s) _ y (λ t. refl))
   has_statement scopes flow parallel (Do at s again c semicolon) whole =
       let condition = expression_breaches scopes true c.value in
       let body = statement_breaches (inside scopes) (looping flow) s in
       let y = has_expression scopes true c.value (back body condition whole) in
       some_then (resolved_statement (inside scopes) parallel s) _ (has_statement (inside scopes) (looping flow)
-          parallel s (front body condition whole)) (λ t.
+      parallel s (front body condition whole)) (λ t.
       some_then (resolved_expression scopes c.value) _ y (λ x. refl))
   has_statement scopes flow parallel (For h s) whole =
       let behind = after_for_start (inside scopes) h.start in
@@ -107,34 +109,34 @@ mutual
       let before = front (start ++ turn) body whole in
       let turns = back start turn before in
       let condition = has_perhaps behind true h.condition (front (perhaps_breaches behind true h.condition)
-          (perhaps_breaches behind false h.step) turns) in
+      (perhaps_breaches behind false h.step) turns) in
       let step = has_perhaps behind false h.step (back (perhaps_breaches behind true h.condition)
-          (perhaps_breaches behind false h.step) turns) in
+      (perhaps_breaches behind false h.step) turns) in
       let repeated = has_statement (inside behind) (looping flow) parallel s (back (start ++ turn) body whole) in
       some_then (resolved_start (inside scopes) h.start) _ (has_start (inside scopes) h.start
-          (front start turn before)) (λ x.
+      (front start turn before)) (λ x.
       some_then (resolved_perhaps behind h.condition) _ condition (λ y.
       some_then (resolved_perhaps behind h.step) _ step (λ z.
       some_then (resolved_statement (inside behind) parallel s) _ repeated (λ t. refl))))
   has_statement scopes flow parallel (Return at value semicolon) whole =
       some_then (resolved_perhaps scopes value) _
-          (has_returned scopes flow value (back (jump_breaches (not flow.in_construct) at.start)
-          (return_breaches scopes flow value) whole)) (λ x. refl)
+      (has_returned scopes flow value (back (jump_breaches (not flow.in_construct) at.start)
+      (return_breaches scopes flow value) whole)) (λ x. refl)
   has_statement scopes flow parallel (Break at semicolon) whole = refl
   has_statement scopes flow parallel (Continue at semicolon) whole = refl
   has_statement scopes flow parallel (Construct d s) whole =
       let clauses = has_clauses scopes flow d (front (directive_breaches scopes flow d) _ whole) in
       let plain = statement_breaches (in_construct d scopes) (constructing d flow) s in
       let looped = cond (is_some (loop_in s)) (bounds_breaches (round_bounds d scopes) (loop_in s)
-          ++ body_breaches (in_construct d scopes) (constructing d flow) (loop_in s) s)
+      ++ body_breaches (in_construct d scopes) (constructing d flow) (loop_in s) s)
       (with_breach (record { code = faults.LoopForm; at = statement_start s }) plain) in
       by_test (not (traits_of d.name).takes_loop) (λ breaches found. breaches ≡ [] → IsSome found) plain looped
-          (resolved_plain_construct scopes parallel d s) (resolved_loop_construct scopes parallel d (loop_in s) s)
+      (resolved_plain_construct scopes parallel d s) (resolved_loop_construct scopes parallel d (loop_in s) s)
       (λ w. let y = has_statement (in_construct d scopes) (constructing d flow) (parallel_in d parallel) s w in
       some_then (resolved_clauses scopes d.clauses) _ clauses
-          (λ cs. some_then (resolved_statement (in_construct d scopes) (parallel_in d parallel) s) _ y (λ body. refl)))
+      (λ cs. some_then (resolved_statement (in_construct d scopes) (parallel_in d parallel) s) _ y (λ body. refl)))
       (λ w. loop_there scopes parallel flow d s (loop_in s) plain clauses
-          (λ found v. has_repeated (in_construct d scopes) (constructing d flow) (parallel_in d parallel) found s v) w)
+      (λ found v. has_repeated (in_construct d scopes) (constructing d flow) (parallel_in d parallel) found s v) w)
       (back (directive_breaches scopes flow d) (cond (not (traits_of d.name).takes_loop) plain looped) whole)
   has_statement scopes flow parallel (StandAlone d) whole = has_alone scopes d d.name
       (back (directive_breaches scopes flow d) (flush_breaches scopes d.name) whole)
@@ -142,11 +144,11 @@ mutual
       let own = directive_breaches scopes flow d in
       let others = sections_breaches (in_construct d scopes) (constructing d flow) 0 parts in
       let items = has_parts (in_construct d scopes) (constructing d flow) (parallel_in d parallel) 0 parts
-          (back own others whole) in
+      (back own others whole) in
       some_then (resolved_clauses scopes d.clauses) _ (has_clauses scopes flow d (front own others whole)) (λ cs.
       some_then (option_map parts_of (resolved_parts (in_construct d scopes) (parallel_in d parallel) 0 parts)) _
       (some_mapped (resolved_parts (in_construct d scopes) (parallel_in d parallel) 0 parts) parts_of items)
-          (λ x. refl))
+      (λ x. refl))
   has_statement scopes flow parallel (Section d s) whole = has_statement (inside scopes) flow parallel s whole
 
   pub has_statements : (scopes : Scopes) (flow : Flow) (parallel : Option ℕ) (ss : StatementsTree)
@@ -157,7 +159,7 @@ mutual
       let others = statements_breaches (after_statement scopes s) flow rest in
       let y = has_statements (after_statement scopes s) flow parallel rest (back own others whole) in
       some_then (resolved_statement scopes parallel s) _ (has_statement scopes flow parallel s
-          (front own others whole)) (λ t.
+      (front own others whole)) (λ t.
       some_then (resolved_statements (after_statement scopes s) parallel rest) _ y (λ ts. refl))
 
   has_repeated : (scopes : Scopes) (flow : Flow) (parallel : Option ℕ) (found : Loop) (s : StatementTree)
@@ -190,5 +192,5 @@ mutual
       let first = front (many ++ own) others whole in
       let y = has_parts scopes flow parallel (parts_behind before s) rest (back (many ++ own) others whole) in
       some_then (resolved_statement (inside scopes) parallel s) _ (has_statement (inside scopes) flow parallel s
-          (back many own first)) (λ t.
+      (back many own first)) (λ t.
       some_then (resolved_parts scopes parallel (parts_behind before s) rest) _ y (λ ts. refl))

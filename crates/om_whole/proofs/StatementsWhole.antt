@@ -1,14 +1,14 @@
 -- Declarations, jumps and the beginnings of loops without a breach resolve to whole ones.
-use Rattle.std.proofs.Common.{◌≡◌, ℕ, ◌≤◌, zero, suc, Bool, true, false, cond, not, List, [], ◌∷◌, ◌++◌, Option,
-    None, Some, refl, subst, arith}
+use Rattle.std.proofs.Common.{◌≡◌, ℕ, ◌≤◌, zero, suc, Bool, true, false, cond, not, List, [], ◌∷◌, ◌++◌, Option, None}
+use Rattle.std.proofs.Common.{Some, refl, subst, arith}
 use Rattle.std.specs.Prelude.{IfSome, nat_eq}
 use Rattle.om_lexer.specs.declared.fault.FaultCode.TheVariants as faults
 use Rattle.om_resolved.specs.ResolvedTree as resolved
-use Rattle.om_resolved.specs.ResolvedTree.{ResolvedExpressionTree, ResolvedDeclaratorTree, ResolvedClauseTree,
-    ResolvedLoopTree, ResolvedStartTree, ResolvedStatementTree}
+use Rattle.om_resolved.specs.ResolvedTree.{ResolvedExpressionTree, ResolvedDeclaratorTree, ResolvedClauseTree}
+use Rattle.om_resolved.specs.ResolvedTree.{ResolvedLoopTree, ResolvedStartTree, ResolvedStatementTree}
 use Rattle.om_resolved.specs.Whole as whole
-use Rattle.om_resolved.specs.Whole.{Around, IsWhole, IsWholeIfAny, AreWholeDeclarators, declared, after_declarators,
-    IsWholeStart, after_start, IsWholeReturn, repeated, within, iterated, after_item}
+use Rattle.om_resolved.specs.Whole.{Around, IsWhole, IsWholeIfAny, AreWholeDeclarators, declared, after_declarators}
+use Rattle.om_resolved.specs.Whole.{IsWholeStart, after_start, IsWholeReturn, repeated, within, iterated, after_item}
 use Rattle.om_rules.specs.declared.flow.Flow.{Flow}
 use Rattle.om_pragma.specs.declared.tree.Directive.{Directive}
 use Rattle.om_rules.specs.DirectiveRules.{constructing}
@@ -17,19 +17,19 @@ use Rattle.om_whole.specs.Knowing.{Known, Knows, Agrees}
 use Rattle.om_rules.specs.Resolution.{resolved_expression}
 use Rattle.om_rules.specs.Scopes as scoping
 use Rattle.om_rules.specs.Scopes.{Scopes, declarators_of, after_local, after_locals}
-use Rattle.om_rules.specs.StatementResolution.{local_of, length_of, resolved_initial, resolved_declarator,
-    resolved_declarators, resolved_start, resolved_perhaps}
-use Rattle.om_rules.specs.StatementRules.{continuing, redeclared_breaches, is_empty_array, array_size_breaches,
-    initializer_breaches, local_breaches, locals_breaches, return_breaches, perhaps_breaches, for_start_breaches,
-    after_for_start, looping}
+use Rattle.om_rules.specs.StatementResolution.{local_of, length_of, resolved_initial, resolved_declarator}
+use Rattle.om_rules.specs.StatementResolution.{resolved_declarators, resolved_start, resolved_perhaps}
+use Rattle.om_rules.specs.StatementRules.{continuing, redeclared_breaches, is_empty_array, array_size_breaches}
+use Rattle.om_rules.specs.StatementRules.{initializer_breaches, local_breaches, locals_breaches, return_breaches}
+use Rattle.om_rules.specs.StatementRules.{perhaps_breaches, for_start_breaches, after_for_start, looping}
 use Rattle.om_whole.proofs.ExpressionsResolve.{never_misplaced}
 use Rattle.om_whole.proofs.ExpressionsWhole.{whole_expression}
 use Rattle.om_whole.proofs.Knowing.{known_local, known_more}
 use Rattle.om_whole.proofs.Steps.{if_then}
 use Rattle.om_whole.proofs.Unbroken.{front, back, not_broken}
 use Rattle.om_tree.specs.declared.tree.ArrayLength.{ArrayLength}
-use Rattle.om_tree.specs.Tree.{ExpressionTree, InitializerTree, DeclaratorTree, ForStartTree, Nothing,
-    StartExpression, StartDeclaration}
+use Rattle.om_tree.specs.Tree.{ExpressionTree, InitializerTree, DeclaratorTree, ForStartTree, Nothing, StartExpression}
+use Rattle.om_tree.specs.Tree.{StartDeclaration}
 
 -- ---- declarations
 
@@ -39,7 +39,7 @@ pub whole_perhaps : (around : Around) (scopes : Scopes) (for_value : Bool) (e : 
 whole_perhaps around scopes for_value None h w = tt
 whole_perhaps around scopes for_value (Some e) h w =
     if_then (IsWhole around for_value) (IsWholeIfAny around for_value) (resolved_expression scopes e) _
-        (whole_expression around scopes for_value e h w) (λ x hx. hx)
+    (whole_expression around scopes for_value e h w) (λ x hx. hx)
 
 whole_initial : (around : Around) (scopes : Scopes) (initializer : Option InitializerTree) → Knows around scopes
     → initializer_breaches scopes initializer ≡ [] → IfSome (resolved_initial scopes initializer)
@@ -47,7 +47,7 @@ whole_initial : (around : Around) (scopes : Scopes) (initializer : Option Initia
 whole_initial around scopes None h w = tt
 whole_initial around scopes (Some i) h w =
     if_then (IsWhole around true) (IsWholeIfAny around true) (resolved_expression scopes i.value) _
-        (whole_expression around scopes true i.value h w) (λ x hx. hx)
+    (whole_expression around scopes true i.value h w) (λ x hx. hx)
 
 has_element : (array : Option ArrayLength) → is_empty_array array ≡ false → IfSome (length_of array)
     (λ length. 1 ≤ length)
@@ -66,10 +66,10 @@ same_shape (Some array) = refl
 known_declared : (around : Around) (scopes : Scopes) (d : DeclaratorTree) (initial : Option ResolvedExpressionTree)
     → Knows around scopes
     → Knows (declared around (record { variable = local_of d.name; length = length_of d.array; initial = initial }))
-        (after_local scopes d)
+    (after_local scopes d)
 known_declared around scopes d initial h =
     subst (λ shape. Known around.globals around.functions (around.locals ++ (d.name.span.start, shape) ∷ [])
-        (after_local scopes d)) (same_shape d.array)
+    (after_local scopes d)) (same_shape d.array)
     (known_local around.globals around.functions around.locals scopes d.name (scoping.shape_of d.array) h)
 
 -- a resolved declarator, and what is known behind it
@@ -84,14 +84,18 @@ whole_declarator around scopes d h w =
     let before = redeclared_breaches scopes d.name ++ array_size_breaches d in
     let own = initializer_breaches (after_local scopes d) d.initializer in
     let full = not_broken (is_empty_array d.array) faults.Misuse d.name.span.start
-        (back (redeclared_breaches scopes d.name) (array_size_breaches d) (front before own w)) in
+    (back (redeclared_breaches scopes d.name) (array_size_breaches d) (front before own w)) in
     let behind = known_declared around scopes d None h in
     if_then (IsWholeIfAny
-        (declared around (record { variable = local_of d.name; length = length_of d.array; initial = None })) true)
-        (IsGoodDeclarator around scopes d)
+    (declared around (record { variable = local_of d.name; length = length_of d.array; initial = None })) true)
+    (IsGoodDeclarator around scopes d)
     (resolved_initial (after_local scopes d) d.initializer) _
-    (whole_initial (declared around (record { variable = local_of d.name; length = length_of d.array; initial =
-        None })) (after_local scopes d) d.initializer behind (back before own w))
+    (whole_initial (declared around (record {
+      variable = local_of d.name;
+      length = length_of d.array;
+      initial =
+          None;
+    })) (after_local scopes d) d.initializer behind (back before own w))
     (λ initial hi. (has_element d.array full, hi, behind))
 
 -- resolved declarators, and what is known behind them
@@ -104,14 +108,14 @@ pub whole_declarators : (ds : List DeclaratorTree) (around : Around) (scopes : S
 whole_declarators [] around scopes h w = (tt, h)
 whole_declarators (d ∷ ds) around scopes h w =
     if_then (IsGoodDeclarator around scopes d) (AreGoodDeclarators around scopes (d ∷ ds))
-        (resolved_declarator scopes d) _
+    (resolved_declarator scopes d) _
     (whole_declarator around scopes d h (front (local_breaches scopes d) (locals_breaches (after_local scopes d) ds)
-        w)) (λ r hr.
+    w)) (λ r hr.
     if_then (AreGoodDeclarators (declared around r) (after_local scopes d) ds)
-        (AreGoodDeclarators around scopes (d ∷ ds)) (resolved_declarators (after_local scopes d) ds) _
+    (AreGoodDeclarators around scopes (d ∷ ds)) (resolved_declarators (after_local scopes d) ds) _
     (whole_declarators ds (declared around r) (after_local scopes d) hr.2
-        (back (local_breaches scopes d) (locals_breaches (after_local scopes d) ds) w))
-        (λ rs hrs. ((hr.0, hr.1, hrs.0), hrs.1)))
+    (back (local_breaches scopes d) (locals_breaches (after_local scopes d) ds) w))
+    (λ rs hrs. ((hr.0, hr.1, hrs.0), hrs.1)))
 
 -- what a `for` begins with, and what is known behind it
 abbrev pub IsGoodStart : Around → Scopes → ForStartTree → ResolvedStartTree → Type 0
@@ -123,10 +127,10 @@ unfolding resolved_start
 whole_start around scopes (Nothing semicolon) h w = (tt, h)
 whole_start around scopes (StartExpression e semicolon) h w =
     if_then (IsWhole around false) (IsGoodStart around scopes (StartExpression e semicolon))
-        (resolved_expression scopes e) _ (whole_expression around scopes false e h w) (λ x hx. (hx, h))
+    (resolved_expression scopes e) _ (whole_expression around scopes false e h w) (λ x hx. (hx, h))
 whole_start around scopes (StartDeclaration d) h w =
     if_then (AreGoodDeclarators around scopes (declarators_of d)) (IsGoodStart around scopes (StartDeclaration d))
-        (resolved_declarators scopes (declarators_of d)) _
+    (resolved_declarators scopes (declarators_of d)) _
     (whole_declarators (declarators_of d) around scopes h w) (λ ds hds. hds)
 
 -- ---- jumps
@@ -153,12 +157,22 @@ agrees_declarators : (ds : List ResolvedDeclaratorTree) (around : Around) (flow 
     → Agrees (after_declarators around ds) flow
 agrees_declarators [] around flow f = f
 agrees_declarators (d ∷ ds) around flow f =
-    agrees_declarators ds (declared around d) flow (record { breaks = f.breaks; continues = f.continues; returns =
-        f.returns; in_construct = f.in_construct })
+    agrees_declarators ds (declared around d) flow (record {
+      breaks = f.breaks;
+      continues = f.continues;
+      returns =
+          f.returns;
+      in_construct = f.in_construct;
+    })
 
 pub agrees_looping : (around : Around) (flow : Flow) → Agrees around flow → Agrees (repeated around) (looping flow)
-agrees_looping around flow f = record { breaks = refl; continues = refl; returns = f.returns; in_construct =
-    f.in_construct }
+agrees_looping around flow f = record {
+  breaks = refl;
+  continues = refl;
+  returns = f.returns;
+  in_construct =
+      f.in_construct;
+}
 
 pub agrees_start : (around : Around) (flow : Flow) (start : ResolvedStartTree) → Agrees around flow
     → Agrees (after_start around start) flow
@@ -190,8 +204,13 @@ agrees_item around flow (resolved.StandAlone at directive) f = f
 
 pub agrees_construct : (around : Around) (flow : Flow) (d : Directive ExpressionTree) (cs : List ResolvedClauseTree)
     → Agrees around flow → Agrees (within around cs) (constructing d flow)
-agrees_construct around flow d cs f = record { breaks = refl; continues = refl; returns = f.returns; in_construct =
-    refl }
+agrees_construct around flow d cs f = record {
+  breaks = refl;
+  continues = refl;
+  returns = f.returns;
+  in_construct =
+      refl;
+}
 
 pub agrees_loop : (around : Around) (flow : Flow) (d : Directive ExpressionTree) (cs : List ResolvedClauseTree)
     (l : ResolvedLoopTree) → Agrees around flow → Agrees (iterated around cs l) (continuing (constructing d flow))

@@ -63,5 +63,5 @@ module _ {S X Y : Type 0} (Good : S → Type 0) (P : Y → Type 0) (after : S �
   if_each_along f one [] state good = All-nil P
   if_each_along f one (x ∷ xs) state good =
       if_then P (All P) (f state x) _ (one state x good)
-          (λ y h. if_then (All P) (All P) (each_along f after (after state x) xs) _
-          (if_each_along f one xs (after state x) (keeps state x good)) (λ ys hs. All-cons P y ys h hs))
+      (λ y h. if_then (All P) (All P) (each_along f after (after state x) xs) _
+      (if_each_along f one xs (after state x) (keeps state x good)) (λ ys hs. All-cons P y ys h hs))

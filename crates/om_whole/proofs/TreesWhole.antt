@@ -1,6 +1,6 @@
 -- Well-formed statements without a breach resolve to whole ones.
-use Rattle.std.proofs.Common.{◌≡◌, ℕ, ◌≤◌, Bool, true, false, cond, not, List, [], ◌∷◌, ◌++◌, All, Option, None,
-    Some, is_some, option_map, refl, sym, subst, ◌∙◌}
+use Rattle.std.proofs.Common.{◌≡◌, ℕ, ◌≤◌, Bool, true, false, cond, not, List, [], ◌∷◌, ◌++◌, All, Option, None, Some}
+use Rattle.std.proofs.Common.{is_some, option_map, refl, sym, subst, ◌∙◌}
 use Rattle.std.specs.Prelude.{IfSome, nat_le, ◌&&◌}
 use Rattle.std.specs.List.{flat_map}
 use Rattle.std.proofs.lemmas.List.Elements.{All-nil}
@@ -12,15 +12,15 @@ use Rattle.om_pragma.specs.declared.tree.DirectiveName.TheVariants as names
 use Rattle.om_pragma.specs.Questions.{is_sections}
 use Rattle.om_resolved.specs.declared.resolved.Shape.TheVariants as shapes
 use Rattle.om_resolved.specs.ResolvedTree as resolved
-use Rattle.om_resolved.specs.ResolvedTree.{ResolvedClauseTree, ResolvedLoopTree, ResolvedStatementTree,
-    ResolvedPartsTree}
-use Rattle.om_resolved.specs.Whole.{Around, IsWhole, IsWholeIfAny, IsWholeClause, IsWholeReturn, of_parallel,
-    of_worksharing, copies_in, scalar, within, with_locals, iterated, repeated, after_start, after_item, part_count,
-    IsWholeStatement, AreWholeItems, AreWholeParts}
+use Rattle.om_resolved.specs.ResolvedTree.{ResolvedClauseTree, ResolvedLoopTree, ResolvedStatementTree}
+use Rattle.om_resolved.specs.ResolvedTree.{ResolvedPartsTree}
+use Rattle.om_resolved.specs.Whole.{Around, IsWhole, IsWholeIfAny, IsWholeClause, IsWholeReturn, of_parallel}
+use Rattle.om_resolved.specs.Whole.{of_worksharing, copies_in, scalar, within, with_locals, iterated, repeated}
+use Rattle.om_resolved.specs.Whole.{after_start, after_item, part_count, IsWholeStatement, AreWholeItems, AreWholeParts}
 use Rattle.om_rules.specs.declared.flow.Flow.{Flow}
 use Rattle.om_rules.specs.declared.limits.TheConstants.{SECTION_LIMIT}
-use Rattle.om_rules.specs.DirectiveRules.{constructing, parallel_in, nesting_breaches, nothing_listed,
-    item_breaches, directive_breaches, flush_breaches, in_construct, traits_of}
+use Rattle.om_rules.specs.DirectiveRules.{constructing, parallel_in, nesting_breaches, nothing_listed, item_breaches}
+use Rattle.om_rules.specs.DirectiveRules.{directive_breaches, flush_breaches, in_construct, traits_of}
 use Rattle.om_rules.specs.DirectiveRules as directives
 use Rattle.om_rules.specs.ExpressionRules.{expression_breaches}
 use Rattle.om_rules.specs.Faults.{breach_if, breaches_along, with_breach}
@@ -32,30 +32,32 @@ use Rattle.om_rules.specs.Places.{statement_start}
 use Rattle.om_rules.specs.Resolution.{resolved_expression}
 use Rattle.om_rules.specs.Scopes.{Scopes, inside, declarators_of}
 use Rattle.om_rules.specs.Sharing.{is_parallel}
-use Rattle.om_rules.specs.StatementResolution.{local_of, has_nowait, parallel_of, schedule_of, resolved_clauses,
-    resolved_declarators, resolved_loop, resolved_start, resolved_perhaps, resolved_alone, resolved_statement,
-    resolved_statements, resolved_repeated, resolved_parts, resolved_plain_construct, resolved_loop_construct,
-    resolved_construct, resolved_sections}
-use Rattle.om_rules.specs.StatementRules.{jump_breaches, return_breaches, perhaps_breaches, for_start_breaches,
-    after_for_start, for_turn_breaches, looping, continuing, round_bounds, with_iteration, found_breaches,
-    bounds_breaches, in_loop, after_statement, begins_part, parts_behind, statement_breaches, statements_breaches,
-    body_breaches, sections_breaches}
+use Rattle.om_rules.specs.StatementResolution.{local_of, has_nowait, parallel_of, schedule_of, resolved_clauses}
+use Rattle.om_rules.specs.StatementResolution.{resolved_declarators, resolved_loop, resolved_start, resolved_perhaps}
+use Rattle.om_rules.specs.StatementResolution.{resolved_alone, resolved_statement, resolved_statements}
+use Rattle.om_rules.specs.StatementResolution.{resolved_repeated, resolved_parts, resolved_plain_construct}
+use Rattle.om_rules.specs.StatementResolution.{resolved_loop_construct, resolved_construct, resolved_sections}
+use Rattle.om_rules.specs.StatementRules.{jump_breaches, return_breaches, perhaps_breaches, for_start_breaches}
+use Rattle.om_rules.specs.StatementRules.{after_for_start, for_turn_breaches, looping, continuing, round_bounds}
+use Rattle.om_rules.specs.StatementRules.{with_iteration, found_breaches, bounds_breaches, in_loop, after_statement}
+use Rattle.om_rules.specs.StatementRules.{begins_part, parts_behind, statement_breaches, statements_breaches}
+use Rattle.om_rules.specs.StatementRules.{body_breaches, sections_breaches}
 use Rattle.om_rules.specs.Updates.{statement_side}
 use Rattle.om_whole.proofs.ClausesWhole.{admitted_by, line_admitted, whole_clauses}
 use Rattle.om_whole.proofs.ConstructsWhole.{construct_whole, loop_admitted, alone_whole, region}
 use Rattle.om_whole.proofs.ExpressionsWhole.{whole_expression}
 use Rattle.om_whole.proofs.Knowing.{if_more, known_inside, known_local, known_more}
 use Rattle.om_whole.proofs.LoopsWhole.{GoesOn, goes_on, IsGoodSchedule, good_schedule, IsGoodLoop, whole_loop}
-use Rattle.om_whole.proofs.StatementsWhole.{AreGoodDeclarators, whole_declarators, IsGoodStart, whole_start,
-    whole_perhaps, whole_return, not_true, agrees_looping, agrees_start, agrees_item, agrees_construct, agrees_loop,
-    knows_item}
+use Rattle.om_whole.proofs.StatementsWhole.{AreGoodDeclarators, whole_declarators, IsGoodStart, whole_start}
+use Rattle.om_whole.proofs.StatementsWhole.{whole_perhaps, whole_return, not_true, agrees_looping, agrees_start}
+use Rattle.om_whole.proofs.StatementsWhole.{agrees_item, agrees_construct, agrees_loop, knows_item}
 use Rattle.om_whole.proofs.PartCounts.{few_parts, some_part}
 use Rattle.om_whole.proofs.Steps.{if_then, if_either, if_mapped, if_three}
 use Rattle.om_whole.proofs.Unbroken.{front, back, not_broken, not_false, never_placed}
 use Rattle.om_tree.specs.Formed.{IsStatement, AreStatements, AreSome, AreSectionItems}
-use Rattle.om_tree.specs.Tree.{ExpressionTree, StatementTree, LocalDeclaration, Block, Empty, Expression, If,
-    IfElse, While, Do, For, Return, Break, Continue, Construct, StandAlone, Sections, Section, StatementsTree,
-    NoStatements, Statement}
+use Rattle.om_tree.specs.Tree.{ExpressionTree, StatementTree, LocalDeclaration, Block, Empty, Expression, If, IfElse}
+use Rattle.om_tree.specs.Tree.{While, Do, For, Return, Break, Continue, Construct, StandAlone, Sections, Section}
+use Rattle.om_tree.specs.Tree.{StatementsTree, NoStatements, Statement}
 
 -- what a test decides of two
 by_cases : {A B : Type 0} (test : Bool) (P : A → B → Type 0) (a b : A) (x y : B) → (test ≡ true → P a x)
@@ -84,22 +86,22 @@ known_iteration : (outer : Around) (scopes : Scopes) (found : Loop) (l : Resolve
     → Knows (with_locals outer (scalar l.variable ∷ [])) (in_loop scopes (Some found))
 known_iteration outer scopes found l same h =
     subst (λ variable. Known outer.globals outer.functions (outer.locals ++ scalar variable ∷ [])
-        (in_loop scopes (Some found))) (sym same)
+    (in_loop scopes (Some found))) (sym same)
     (known_inside outer.globals outer.functions (outer.locals ++ (found.start.variable.span.start, shapes.Scalar)
-        ∷ []) (with_iteration scopes found)
+    ∷ []) (with_iteration scopes found)
     (known_local outer.globals outer.functions outer.locals (inside scopes) found.start.variable shapes.Scalar
-        (known_inside outer.globals outer.functions outer.locals scopes h)))
+    (known_inside outer.globals outer.functions outer.locals scopes h)))
 
 loop_whole : (around : Around) (scopes : Scopes) (flow : Flow) (parallel : Option ℕ) (d : Directive ExpressionTree)
     (s : StatementTree) → Knows around scopes → Agrees around flow → (traits_of d.name).takes_loop ≡ true
     → IsGoodSchedule (schedule_of d.clauses) → IfSome (resolved_clauses scopes d.clauses) (AreGood around d scopes)
-        → (perhaps_found : Option Loop) → IfSome perhaps_found GoesOn → (others : List SourceFault)
+    → (perhaps_found : Option Loop) → IfSome perhaps_found GoesOn → (others : List SourceFault)
     → ((found : Loop) (inner : Around) → Knows inner (in_loop (in_construct d scopes) (Some found))
-        → Agrees inner (continuing (constructing d flow))
+    → Agrees inner (continuing (constructing d flow))
     → body_breaches (in_construct d scopes) (constructing d flow) (Some found) s ≡ []
-        → IfSome (resolved_repeated (in_construct d scopes) (parallel_in d parallel) found s) (IsWholeStatement inner))
+    → IfSome (resolved_repeated (in_construct d scopes) (parallel_in d parallel) found s) (IsWholeStatement inner))
     → cond (is_some perhaps_found) (bounds_breaches (round_bounds d scopes) perhaps_found
-        ++ body_breaches (in_construct d scopes) (constructing d flow) perhaps_found s)
+    ++ body_breaches (in_construct d scopes) (constructing d flow) perhaps_found s)
     (with_breach (record { code = faults.LoopForm; at = statement_start s }) others) ≡ []
     → IfSome (resolved_loop_construct scopes parallel d perhaps_found s) (IsWholeStatement around)
 loop_whole around scopes flow parallel d s h f takes chunk clauses None goes others body w = absurd
@@ -109,38 +111,40 @@ loop_whole around scopes flow parallel d s h f takes chunk clauses (Some found) 
     let rest = body_breaches (in_construct d scopes) (constructing d flow) (Some found) s in
     if_then (AreGood around d scopes) (IsWholeStatement around) (resolved_clauses scopes d.clauses) _ clauses (λ cs hcs.
     by cs hcs.1 (is_parallel (traits_of d.name).region) (subst (λ admitted. All (IsWholeClause around admitted) cs)
-        (loop_admitted (has_nowait d) d.name takes) hcs.0) (front bounds rest w) (back bounds rest w))
+    (loop_admitted (has_nowait d) d.name takes) hcs.0) (front bounds rest w) (back bounds rest w))
   where
     by : (cs : List ResolvedClauseTree) → Known around.globals around.functions (around.locals ++ flat_map copies_in
         cs) (in_construct d scopes) → (p : Bool)
         → All (IsWholeClause around (cond p of_parallel of_worksharing)) cs
-            → found_breaches (cond p (in_construct d scopes) scopes) found ≡ []
-            → body_breaches (in_construct d scopes) (constructing d flow) (Some found) s ≡ []
+        → found_breaches (cond p (in_construct d scopes) scopes) found ≡ []
+        → body_breaches (in_construct d scopes) (constructing d flow) (Some found) s ≡ []
         → IfSome (resolved_loop (cond p (in_construct d scopes) scopes) (schedule_of d.clauses) found >>= λ l.
-            resolved_repeated (in_construct d scopes) (parallel_in d parallel) found s >>= λ t.
+        resolved_repeated (in_construct d scopes) (parallel_in d parallel) found s >>= λ t.
         Some (cond p (parallel_of d cs (resolved.Loop d.hash [] true l t)) (resolved.Loop d.hash cs (has_nowait d) l
-            t))) (IsWholeStatement around)
+        t))) (IsWholeStatement around)
     by cs known true hc wb wr =
         if_then (IsGoodLoop (within around cs) found) (IsWholeStatement around)
-            (resolved_loop (in_construct d scopes) (schedule_of d.clauses) found) _
-            (whole_loop (within around cs) (in_construct d scopes) (schedule_of d.clauses) found known goes chunk
-            wb) (λ l hl.
+        (resolved_loop (in_construct d scopes) (schedule_of d.clauses) found) _
+        (whole_loop (within around cs) (in_construct d scopes) (schedule_of d.clauses) found known goes chunk
+        wb) (λ l hl.
         let outer = within (within around cs) [] in
         let deeper = known_more around.globals around.functions (around.locals ++ flat_map copies_in cs) []
-            (in_construct d scopes) known in
+        (in_construct d scopes) known in
         if_then (IsWholeStatement (iterated (within around cs) [] l)) (IsWholeStatement around)
-            (resolved_repeated (in_construct d scopes) (parallel_in d parallel) found s) _
+        (resolved_repeated (in_construct d scopes) (parallel_in d parallel) found s) _
         (body found (iterated (within around cs) [] l) (known_iteration outer (in_construct d scopes) found l hl.1
-            deeper) (record { breaks = refl; continues = refl; returns = f.returns; in_construct = refl }) wr) (λ t ht.
-        (hc, region _ d.hash.start cs (resolved.Loop d.hash [] true l t),
-            (All-nil (IsWholeClause (within around cs) of_worksharing), hl.0, ht))))
+        deeper) (record { breaks = refl; continues = refl; returns = f.returns; in_construct = refl }) wr) (λ t ht. (
+          hc,
+          region _ d.hash.start cs (resolved.Loop d.hash [] true l t),
+          (All-nil (IsWholeClause (within around cs) of_worksharing), hl.0, ht),
+        )))
     by cs known false hc wb wr =
         if_then (IsGoodLoop around found) (IsWholeStatement around) (resolved_loop scopes (schedule_of d.clauses)
-            found) _ (whole_loop around scopes (schedule_of d.clauses) found h goes chunk wb) (λ l hl.
+        found) _ (whole_loop around scopes (schedule_of d.clauses) found h goes chunk wb) (λ l hl.
         if_then (IsWholeStatement (iterated around cs l)) (IsWholeStatement around)
-            (resolved_repeated (in_construct d scopes) (parallel_in d parallel) found s) _
+        (resolved_repeated (in_construct d scopes) (parallel_in d parallel) found s) _
         (body found (iterated around cs l) (known_iteration (within around cs) (in_construct d scopes) found l hl.1
-            known) (agrees_loop around flow d cs l f) wr) (λ t ht. (hc, hl.0, ht)))
+        known) (agrees_loop around flow d cs l f) wr) (λ t ht. (hc, hl.0, ht)))
 
 -- ---- constructs of parts
 
@@ -172,15 +176,15 @@ sections_whole : (around : Around) (scopes : Scopes) (flow : Flow) (parallel : O
     (d : Directive ExpressionTree) (items : StatementsTree) → Agrees around flow → is_sections d.name ≡ true
     → AreSome items
     → IfSome (resolved_clauses scopes d.clauses) (AreGood around d scopes) → sections_breaches
-        (in_construct d scopes) (constructing d flow) 0 items ≡ []
+    (in_construct d scopes) (constructing d flow) 0 items ≡ []
     → ((inner : Around) → Knows inner (in_construct d scopes) → Agrees inner (constructing d flow)
     → IfSome (resolved_parts (in_construct d scopes) (parallel_in d parallel) 0 items)
-        (λ g. AreWholeParts inner g.parts))
+    (λ g. AreWholeParts inner g.parts))
     → IfSome (resolved_sections scopes parallel d items) (IsWholeStatement around)
 sections_whole around scopes flow parallel d items f is some clauses w whole =
     if_then (AreGood around d scopes) (IsWholeStatement around) (resolved_clauses scopes d.clauses) _ clauses (λ cs hcs.
     by cs hcs.1 (is_parallel (traits_of d.name).region) (subst (λ admitted. All (IsWholeClause around admitted) cs)
-        (sections_admitted (has_nowait d) d.name is) hcs.0))
+    (sections_admitted (has_nowait d) d.name is) hcs.0))
   where
     found : Option Grouped
     found = resolved_parts (in_construct d scopes) (parallel_in d parallel) 0 items
@@ -191,27 +195,34 @@ sections_whole around scopes flow parallel d items f is some clauses w whole =
         if_mapped (λ g. AreGoodParts inner g.parts) (AreGoodParts inner) found parts_of
         (if_three (λ g. 1 ≤ part_count g.parts) (λ g. part_count g.parts ≤ 256) (λ g. AreWholeParts inner g.parts) found
         (some_part (in_construct d scopes) (parallel_in d parallel) items some) (few_parts (in_construct d scopes)
-            (constructing d flow) (parallel_in d parallel) items w) (whole inner known agrees))
+        (constructing d flow) (parallel_in d parallel) items w) (whole inner known agrees))
         (λ g hg. hg)
 
     by : (cs : List ResolvedClauseTree) → Known around.globals around.functions (around.locals ++ flat_map copies_in
         cs) (in_construct d scopes) → (p : Bool)
         → All (IsWholeClause around (cond p of_parallel of_worksharing)) cs
         → IfSome (option_map parts_of found >>= λ parts. Some
-            (cond p (parallel_of d cs (resolved.Sections d.hash [] true parts))
-            (resolved.Sections d.hash cs (has_nowait d) parts))) (IsWholeStatement around)
+        (cond p (parallel_of d cs (resolved.Sections d.hash [] true parts))
+        (resolved.Sections d.hash cs (has_nowait d) parts))) (IsWholeStatement around)
     by cs known true hc =
         let outer = within (within around cs) [] in
         let deeper = known_more around.globals around.functions (around.locals ++ flat_map copies_in cs) []
-            (in_construct d scopes) known in
+        (in_construct d scopes) known in
         if_then (AreGoodParts outer) (IsWholeStatement around) (option_map parts_of found) _
-            (good outer deeper (record { breaks = refl; continues = refl; returns = f.returns; in_construct =
-            refl })) (λ parts hp.
-        (hc, region _ d.hash.start cs (resolved.Sections d.hash [] true parts),
-            (All-nil (IsWholeClause (within around cs) of_worksharing), hp.0, hp.1, hp.2)))
+        (good outer deeper (record {
+          breaks = refl;
+          continues = refl;
+          returns = f.returns;
+          in_construct =
+              refl;
+        })) (λ parts hp. (
+          hc,
+          region _ d.hash.start cs (resolved.Sections d.hash [] true parts),
+          (All-nil (IsWholeClause (within around cs) of_worksharing), hp.0, hp.1, hp.2),
+        ))
     by cs known false hc =
         if_then (AreGoodParts (within around cs)) (IsWholeStatement around) (option_map parts_of found) _
-            (good (within around cs) known (agrees_construct around flow d cs f)) (λ parts hp. (hc, hp.0, hp.1, hp.2))
+        (good (within around cs) known (agrees_construct around flow d cs f)) (λ parts hp. (hc, hp.0, hp.1, hp.2))
 
 -- items of `sections`: those in front go on there, and each part begins here
 abbrev AreGoodItems : Around → Around → Grouped → Type 0
@@ -243,70 +254,70 @@ mutual
   pub whole_statement : (around : Around) (scopes : Scopes) (flow : Flow) (parallel : Option ℕ) (s : StatementTree)
       → Knows around scopes → Agrees around flow → IsStatement s
       → statement_breaches scopes flow s ≡ [] → IfSome (resolved_statement scopes parallel s)
-          (IsGoodStatement around scopes s)
+      (IsGoodStatement around scopes s)
   whole_statement around scopes flow parallel (LocalDeclaration d) h f formed w =
       if_then (AreGoodDeclarators around scopes (declarators_of d))
-          (IsGoodStatement around scopes (LocalDeclaration d)) (resolved_declarators scopes (declarators_of d)) _
+      (IsGoodStatement around scopes (LocalDeclaration d)) (resolved_declarators scopes (declarators_of d)) _
       (whole_declarators (declarators_of d) around scopes h w) (λ ds hds. hds)
   whole_statement around scopes flow parallel (Block left items right) h f formed w =
       if_then (AreWholeItems around) (IsGoodStatement around scopes (Block left items right))
-          (resolved_statements (inside scopes) parallel items) _
+      (resolved_statements (inside scopes) parallel items) _
       (whole_items around (inside scopes) flow parallel items (known_inside around.globals around.functions
-          around.locals scopes h) f formed w) (λ ss hss. (hss, h))
+      around.locals scopes h) f formed w) (λ ss hss. (hss, h))
   whole_statement around scopes flow parallel (Empty semicolon) h f formed w = (tt, h)
   whole_statement around scopes flow parallel (Expression e semicolon) h f formed w =
       if_then (IsWhole around false) (IsGoodStatement around scopes (Expression e semicolon))
-          (resolved_expression scopes e) _ (whole_expression around scopes false e h w) (λ x hx. (hx, h))
+      (resolved_expression scopes e) _ (whole_expression around scopes false e h w) (λ x hx. (hx, h))
   whole_statement around scopes flow parallel (If at c s) h f formed w =
       let condition = expression_breaches scopes true c.value in
       let branch = statement_breaches (inside scopes) flow s in
       if_then (IsWhole around true) (IsGoodStatement around scopes (If at c s)) (resolved_expression scopes c.value)
-          _ (whole_expression around scopes true c.value h (front condition branch w)) (λ x hx.
+      _ (whole_expression around scopes true c.value h (front condition branch w)) (λ x hx.
       if_then (IsWholeStatement around) (IsGoodStatement around scopes (If at c s))
-          (resolved_statement (inside scopes) parallel s) _
-          (part around scopes parallel s (whole_statement around (inside scopes) flow parallel s
-          (known_inside around.globals around.functions around.locals scopes h) f formed.1
-          (back condition branch w))) (λ t ht. ((hx, ht), h)))
+      (resolved_statement (inside scopes) parallel s) _
+      (part around scopes parallel s (whole_statement around (inside scopes) flow parallel s
+      (known_inside around.globals around.functions around.locals scopes h) f formed.1
+      (back condition branch w))) (λ t ht. ((hx, ht), h)))
   whole_statement around scopes flow parallel (IfElse at c s other t) h f formed w =
       let condition = expression_breaches scopes true c.value in
       let branch = statement_breaches (inside scopes) flow s in
       let otherwise = statement_breaches (inside scopes) flow t in
       let before = front (condition ++ branch) otherwise w in
       if_then (IsWhole around true) (IsGoodStatement around scopes (IfElse at c s other t))
-          (resolved_expression scopes c.value) _ (whole_expression around scopes true c.value h
-          (front condition branch before)) (λ x hx.
+      (resolved_expression scopes c.value) _ (whole_expression around scopes true c.value h
+      (front condition branch before)) (λ x hx.
       if_then (IsWholeStatement around) (IsGoodStatement around scopes (IfElse at c s other t))
-          (resolved_statement (inside scopes) parallel s) _
-          (part around scopes parallel s (whole_statement around (inside scopes) flow parallel s
-          (known_inside around.globals around.functions around.locals scopes h) f formed.1
-          (back condition branch before))) (λ y hy.
+      (resolved_statement (inside scopes) parallel s) _
+      (part around scopes parallel s (whole_statement around (inside scopes) flow parallel s
+      (known_inside around.globals around.functions around.locals scopes h) f formed.1
+      (back condition branch before))) (λ y hy.
       if_then (IsWholeStatement around) (IsGoodStatement around scopes (IfElse at c s other t))
-          (resolved_statement (inside scopes) parallel t) _
-          (part around scopes parallel t (whole_statement around (inside scopes) flow parallel t
-          (known_inside around.globals around.functions around.locals scopes h) f formed.4
-          (back (condition ++ branch) otherwise w))) (λ z hz. ((hx, hy, hz), h))))
+      (resolved_statement (inside scopes) parallel t) _
+      (part around scopes parallel t (whole_statement around (inside scopes) flow parallel t
+      (known_inside around.globals around.functions around.locals scopes h) f formed.4
+      (back (condition ++ branch) otherwise w))) (λ z hz. ((hx, hy, hz), h))))
   whole_statement around scopes flow parallel (While at c s) h f formed w =
       let condition = expression_breaches scopes true c.value in
       let body = statement_breaches (inside scopes) (looping flow) s in
       if_then (IsWhole around true) (IsGoodStatement around scopes (While at c s))
-          (resolved_expression scopes c.value) _ (whole_expression around scopes true c.value h
-          (front condition body w)) (λ x hx.
+      (resolved_expression scopes c.value) _ (whole_expression around scopes true c.value h
+      (front condition body w)) (λ x hx.
       if_then (IsWholeStatement (repeated around)) (IsGoodStatement around scopes (While at c s))
-          (resolved_statement (inside scopes) parallel s) _
+      (resolved_statement (inside scopes) parallel s) _
       (part (repeated around) scopes parallel s (whole_statement (repeated around) (inside scopes) (looping flow)
-          parallel s (known_inside (repeated around).globals (repeated around).functions (repeated around).locals
-          scopes h) (agrees_looping around flow f) formed.1 (back condition body w))) (λ t ht. ((hx, ht), h)))
+      parallel s (known_inside (repeated around).globals (repeated around).functions (repeated around).locals
+      scopes h) (agrees_looping around flow f) formed.1 (back condition body w))) (λ t ht. ((hx, ht), h)))
   whole_statement around scopes flow parallel (Do at s again c semicolon) h f formed w =
       let condition = expression_breaches scopes true c.value in
       let body = statement_breaches (inside scopes) (looping flow) s in
       if_then (IsWholeStatement (repeated around)) (IsGoodStatement around scopes (Do at s again c semicolon))
-          (resolved_statement (inside scopes) parallel s) _
+      (resolved_statement (inside scopes) parallel s) _
       (part (repeated around) scopes parallel s (whole_statement (repeated around) (inside scopes) (looping flow)
-          parallel s (known_inside (repeated around).globals (repeated around).functions (repeated around).locals
-          scopes h) (agrees_looping around flow f) formed.1 (front body condition w))) (λ t ht.
+      parallel s (known_inside (repeated around).globals (repeated around).functions (repeated around).locals
+      scopes h) (agrees_looping around flow f) formed.1 (front body condition w))) (λ t ht.
       if_then (IsWhole around true) (IsGoodStatement around scopes (Do at s again c semicolon))
-          (resolved_expression scopes c.value) _ (whole_expression around scopes true c.value h
-          (back body condition w)) (λ x hx. ((ht, hx), h)))
+      (resolved_expression scopes c.value) _ (whole_expression around scopes true c.value h
+      (back body condition w)) (λ x hx. ((ht, hx), h)))
   whole_statement around scopes flow parallel (For head s) h f formed w =
       let behind = after_for_start (inside scopes) head.start in
       let start = for_start_breaches (inside scopes) head.start in
@@ -317,97 +328,99 @@ mutual
       let condition = perhaps_breaches behind true head.condition in
       let step = perhaps_breaches behind false head.step in
       if_then (IsGoodStart around (inside scopes) head.start) (IsGoodStatement around scopes (For head s))
-          (resolved_start (inside scopes) head.start) _
+      (resolved_start (inside scopes) head.start) _
       (whole_start around (inside scopes) head.start (known_inside around.globals around.functions around.locals
-          scopes h) (front start turn before)) (λ x hx.
+      scopes h) (front start turn before)) (λ x hx.
       if_then (IsWholeIfAny (after_start around x) true) (IsGoodStatement around scopes (For head s))
-          (resolved_perhaps behind head.condition) _ (whole_perhaps (after_start around x) behind true
-          head.condition hx.1 (front condition step turns)) (λ y hy.
+      (resolved_perhaps behind head.condition) _ (whole_perhaps (after_start around x) behind true
+      head.condition hx.1 (front condition step turns)) (λ y hy.
       if_then (IsWholeIfAny (after_start around x) false) (IsGoodStatement around scopes (For head s))
-          (resolved_perhaps behind head.step) _ (whole_perhaps (after_start around x) behind false head.step hx.1
-          (back condition step turns)) (λ z hz.
+      (resolved_perhaps behind head.step) _ (whole_perhaps (after_start around x) behind false head.step hx.1
+      (back condition step turns)) (λ z hz.
       if_then (IsWholeStatement (repeated (after_start around x))) (IsGoodStatement around scopes (For head s))
-          (resolved_statement (inside behind) parallel s) _
+      (resolved_statement (inside behind) parallel s) _
       (part (repeated (after_start around x)) behind parallel s (whole_statement (repeated (after_start around x))
-          (inside behind) (looping flow) parallel s (known_inside (repeated (after_start around x)).globals
-          (repeated (after_start around x)).functions (repeated (after_start around x)).locals behind hx.1)
-          (agrees_looping (after_start around x) flow (agrees_start around flow x f)) formed.1
-          (back (start ++ turn) body w))) (λ t ht. ((hx.0, hy, hz, ht), h)))))
+      (inside behind) (looping flow) parallel s (known_inside (repeated (after_start around x)).globals
+      (repeated (after_start around x)).functions (repeated (after_start around x)).locals behind hx.1)
+      (agrees_looping (after_start around x) flow (agrees_start around flow x f)) formed.1
+      (back (start ++ turn) body w))) (λ t ht. ((hx.0, hy, hz, ht), h)))))
   whole_statement around scopes flow parallel (Return at value semicolon) h f formed w =
       let jump = jump_breaches (not flow.in_construct) at.start in
       let outside = not_true flow.in_construct (not_broken (not (not flow.in_construct)) faults.LeavesConstruct
-          at.start (front jump (return_breaches scopes flow value) w)) in
+      at.start (front jump (return_breaches scopes flow value) w)) in
       if_then (IsWholeReturn around) (IsGoodStatement around scopes (Return at value semicolon))
-          (resolved_perhaps scopes value) _
+      (resolved_perhaps scopes value) _
       (whole_return around scopes flow value h f.returns (back jump (return_breaches scopes flow value) w))
-          (λ x hx. ((f.in_construct ∙ outside, hx), h))
+      (λ x hx. ((f.in_construct ∙ outside, hx), h))
   whole_statement around scopes flow parallel (Break at semicolon) h f formed w =
       (f.breaks ∙ not_false flow.may_break (not_broken (not flow.may_break) faults.LeavesConstruct at.start w), h)
-  whole_statement around scopes flow parallel (Continue at semicolon) h f formed w =
-      (f.continues ∙ not_false flow.may_continue (not_broken (not flow.may_continue) faults.LeavesConstruct at.start
-      w), h)
+  whole_statement around scopes flow parallel (Continue at semicolon) h f formed w = (
+    f.continues ∙ not_false flow.may_continue (not_broken (not flow.may_continue) faults.LeavesConstruct at.start
+        w),
+    h,
+  )
   whole_statement around scopes flow parallel (Construct d s) h f formed w =
       let own = directive_breaches scopes flow d in
       let clauses = whole_clauses around (admitted_by (has_nowait d) d.name) scopes h d
-          (line_admitted (has_nowait d) d formed.0)
+      (line_admitted (has_nowait d) d formed.0)
       (back (nesting_breaches flow d.name) (breaches_along (item_breaches scopes) directives.after_item
-          nothing_listed d.clauses) (front own _ w)) in
+      nothing_listed d.clauses) (front own _ w)) in
       let plain = statement_breaches (in_construct d scopes) (constructing d flow) s in
       let looped = cond (is_some (loop_in s)) (bounds_breaches (round_bounds d scopes) (loop_in s)
-          ++ body_breaches (in_construct d scopes) (constructing d flow) (loop_in s) s)
+      ++ body_breaches (in_construct d scopes) (constructing d flow) (loop_in s) s)
       (with_breach (record { code = faults.LoopForm; at = statement_start s }) plain) in
       if_more (IsWholeStatement around) (IsGoodStatement around scopes (Construct d s))
-          (resolved_construct scopes parallel d s) (λ t ht. (ht, knows_item around scopes t h))
+      (resolved_construct scopes parallel d s) (λ t ht. (ht, knows_item around scopes t h))
       (by_cases (not (traits_of d.name).takes_loop) (λ breaches found. breaches ≡ []
-          → IfSome found (IsWholeStatement around)) plain looped
+      → IfSome found (IsWholeStatement around)) plain looped
       (resolved_plain_construct scopes parallel d s) (resolved_loop_construct scopes parallel d (loop_in s) s)
       (λ e v.
       if_then (AreGood around d scopes) (IsWholeStatement around) (resolved_clauses scopes d.clauses) _ clauses
-          (λ cs hcs.
+      (λ cs hcs.
       if_then (IsGoodStatement (within around cs) (in_construct d scopes) s) (IsWholeStatement around)
-          (resolved_statement (in_construct d scopes) (parallel_in d parallel) s) _
+      (resolved_statement (in_construct d scopes) (parallel_in d parallel) s) _
       (whole_statement (within around cs) (in_construct d scopes) (constructing d flow) (parallel_in d parallel) s
-          hcs.1 (agrees_construct around flow d cs f) formed.2 v) (λ body hb.
+      hcs.1 (agrees_construct around flow d cs f) formed.2 v) (λ body hb.
       construct_whole around parallel (statement_side s) d d.name cs body formed.1
-          (takes_none (traits_of d.name).takes_loop e) hcs.0 hb.0)))
+      (takes_none (traits_of d.name).takes_loop e) hcs.0 hb.0)))
       (λ e v. loop_whole around scopes flow parallel d s h f (takes_some (traits_of d.name).takes_loop e)
-          (good_schedule d formed.0) clauses (loop_in s) (goes_on s) plain
+      (good_schedule d formed.0) clauses (loop_in s) (goes_on s) plain
       (λ found inner known agrees u. whole_repeated inner (in_construct d scopes) (constructing d flow)
-          (parallel_in d parallel) found s known agrees formed.2 u) v)
+      (parallel_in d parallel) found s known agrees formed.2 u) v)
       (back own (cond (not (traits_of d.name).takes_loop) plain looped) w))
   whole_statement around scopes flow parallel (StandAlone d) h f formed w =
       if_more (IsWholeStatement around) (IsGoodStatement around scopes (StandAlone d))
-          (resolved_alone scopes d d.name) (λ t ht. (ht, knows_item around scopes t h))
+      (resolved_alone scopes d d.name) (λ t ht. (ht, knows_item around scopes t h))
       (alone_whole around scopes d d.name h (back (directive_breaches scopes flow d) (flush_breaches scopes d.name) w))
   whole_statement around scopes flow parallel (Sections d left items right) h f formed w =
       let own = directive_breaches scopes flow d in
       let others = sections_breaches (in_construct d scopes) (constructing d flow) 0 items in
       let clauses = whole_clauses around (admitted_by (has_nowait d) d.name) scopes h d
-          (line_admitted (has_nowait d) d formed.0)
+      (line_admitted (has_nowait d) d formed.0)
       (back (nesting_breaches flow d.name) (breaches_along (item_breaches scopes) directives.after_item
-          nothing_listed d.clauses) (front own others w)) in
+      nothing_listed d.clauses) (front own others w)) in
       if_more (IsWholeStatement around) (IsGoodStatement around scopes (Sections d left items right))
-          (resolved_sections scopes parallel d items) (λ t ht. (ht, knows_item around scopes t h))
+      (resolved_sections scopes parallel d items) (λ t ht. (ht, knows_item around scopes t h))
       (sections_whole around scopes flow parallel d items f formed.1 formed.2 clauses (back own others w)
       (λ inner known agrees.
       if_more (AreGoodItems inner inner) (λ g. AreWholeParts inner g.parts) (resolved_parts (in_construct d scopes)
-          (parallel_in d parallel) 0 items) (λ g hg. hg.1)
+      (parallel_in d parallel) 0 items) (λ g hg. hg.1)
       (whole_parts inner inner (in_construct d scopes) (constructing d flow) (parallel_in d parallel) 0 items known
-          agrees known agrees formed.3 (back own others w))))
+      agrees known agrees formed.3 (back own others w))))
   whole_statement around scopes flow parallel (Section d s) h f formed w =
       if_more (IsGoodStatement around (inside scopes) s) (IsGoodStatement around scopes (Section d s))
-          (resolved_statement (inside scopes) parallel s) (λ t ht. (ht.0, knows_item around scopes t h))
+      (resolved_statement (inside scopes) parallel s) (λ t ht. (ht.0, knows_item around scopes t h))
       (whole_statement around (inside scopes) flow parallel s (known_inside around.globals around.functions
-          around.locals scopes h) f formed.2 w)
+      around.locals scopes h) f formed.2 w)
 
   -- what a canonical loop repeats
   whole_repeated : (inner : Around) (scopes : Scopes) (flow : Flow) (parallel : Option ℕ) (found : Loop)
       (s : StatementTree) → Knows inner (in_loop scopes (Some found)) → Agrees inner (continuing flow)
       → IsStatement s → body_breaches scopes flow (Some found) s ≡ []
-          → IfSome (resolved_repeated scopes parallel found s) (IsWholeStatement inner)
+      → IfSome (resolved_repeated scopes parallel found s) (IsWholeStatement inner)
   whole_repeated inner scopes flow parallel found (For head s) known agrees formed w =
       if_more (IsGoodStatement inner (in_loop scopes (Some found)) s) (IsWholeStatement inner)
-          (resolved_statement (in_loop scopes (Some found)) parallel s) (λ t ht. ht.0)
+      (resolved_statement (in_loop scopes (Some found)) parallel s) (λ t ht. ht.0)
       (whole_statement inner (in_loop scopes (Some found)) (continuing flow) parallel s known agrees formed.1 w)
   whole_repeated inner scopes flow parallel found (LocalDeclaration d) known agrees formed w = tt
   whole_repeated inner scopes flow parallel found (Block left items right) known agrees formed w = tt
@@ -433,17 +446,17 @@ mutual
       let own = statement_breaches scopes flow s in
       let others = statements_breaches (after_statement scopes s) flow rest in
       if_then (IsGoodStatement around scopes s) (AreWholeItems around) (resolved_statement scopes parallel s) _
-          (whole_statement around scopes flow parallel s h f formed.0 (front own others w)) (λ t ht.
+      (whole_statement around scopes flow parallel s h f formed.0 (front own others w)) (λ t ht.
       if_then (AreWholeItems (after_item around t)) (AreWholeItems around)
-          (resolved_statements (after_statement scopes s) parallel rest) _
+      (resolved_statements (after_statement scopes s) parallel rest) _
       (whole_items (after_item around t) (after_statement scopes s) flow parallel rest ht.1
-          (agrees_item around flow t f) formed.2 (back own others w)) (λ ts hts. (ht.0, hts)))
+      (agrees_item around flow t f) formed.2 (back own others w)) (λ ts hts. (ht.0, hts)))
 
   -- the items of `sections`, each in the scopes of the construct
   whole_parts : (here there : Around) (scopes : Scopes) (flow : Flow) (parallel : Option ℕ) (before : ℕ)
       (items : StatementsTree) → Knows here scopes → Agrees here flow → Knows there scopes → Agrees there flow
       → AreSectionItems items → sections_breaches scopes flow before items ≡ []
-          → IfSome (resolved_parts scopes parallel before items) (AreGoodItems here there)
+      → IfSome (resolved_parts scopes parallel before items) (AreGoodItems here there)
   whole_parts here there scopes flow parallel before NoStatements h f k g formed w = (tt, tt)
   whole_parts here there scopes flow parallel before (Statement s rest) h f k g formed w =
       let many = breach_if (begins_part before s && nat_le SECTION_LIMIT before) faults.TooMany (statement_start s) in
@@ -454,11 +467,11 @@ mutual
       let agrees : Agrees at flow = if_either (λ a. Agrees a flow) (begins_part before s) here there f g in
       if_then (IsWholeStatement at) (AreGoodItems here there) (resolved_statement (inside scopes) parallel s) _
       (part at scopes parallel s (whole_statement at (inside scopes) flow parallel s
-          (known_inside at.globals at.functions at.locals scopes known) agrees formed.0
-          (back many own (front (many ++ own) others w)))) (λ t ht.
+      (known_inside at.globals at.functions at.locals scopes known) agrees formed.0
+      (back many own (front (many ++ own) others w)))) (λ t ht.
       if_then (AreGoodItems here (after_item at t)) (AreGoodItems here there)
-          (resolved_parts scopes parallel (parts_behind before s) rest) _
+      (resolved_parts scopes parallel (parts_behind before s) rest) _
       (whole_parts here (after_item at t) scopes flow parallel (parts_behind before s) rest h f
-          (knows_item at scopes t known) (agrees_item at flow t agrees) formed.2 (back (many ++ own) others w))
-          (λ items hi.
+      (knows_item at scopes t known) (agrees_item at flow t agrees) formed.2 (back (many ++ own) others w))
+      (λ items hi.
       good_item here there (begins_part before s) t items ht hi))

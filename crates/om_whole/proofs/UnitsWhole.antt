@@ -1,6 +1,6 @@
 -- A source that breaks no rule resolves to a whole tree.
-use Rattle.std.proofs.Common.{◌≡◌, ℕ, ◌+◌, ◌<◌, ◌≤◌, true, false, List, [], ◌∷◌, ◌++◌, append_assoc, append-nil,
-    All, Option, None, Some, codes, fold, map, length, refl, sym, ap, subst, ◌∙◌, arith}
+use Rattle.std.proofs.Common.{◌≡◌, ℕ, ◌+◌, ◌<◌, ◌≤◌, true, false, List, [], ◌∷◌, ◌++◌, append_assoc, append-nil, All}
+use Rattle.std.proofs.Common.{Option, None, Some, codes, fold, map, length, refl, sym, ap, subst, ◌∙◌, arith}
 use Rattle.std.specs.Prelude.{Any, IfSome, nat_le}
 use Rattle.std.specs.List.{flat_map}
 use Rattle.std.specs.Map.{lookup}
@@ -24,15 +24,16 @@ use Rattle.om_rules.specs.Breaches.{breaches_of, main_breaches, rule_breaches}
 use Rattle.om_rules.specs.Faults.{breaches_along}
 use Rattle.om_whole.specs.Knowing.{Agrees, IsThere, Known}
 use Rattle.om_rules.specs.Perhaps.{◌>>=◌, all_along}
-use Rattle.om_rules.specs.Scopes.{Scopes, after_function, after_item, after_parameter_name, after_parameters,
-    definitions_of, file_scope, inside, meaning_outside, parameters_of, predeclared, returns_value}
+use Rattle.om_rules.specs.Scopes.{Scopes, after_function, after_item, after_parameter_name, after_parameters}
+use Rattle.om_rules.specs.Scopes.{definitions_of, file_scope, inside, meaning_outside, parameters_of, predeclared}
+use Rattle.om_rules.specs.Scopes.{returns_value}
 use Rattle.om_rules.specs.StatementRules.{statements_breaches}
-use Rattle.om_rules.specs.UnitResolution.{globals_of, item_functions, named_parameter, parameter_variable,
-    resolution_of, resolved_function, resolved_inside}
-use Rattle.om_rules.specs.UnitRules.{body_breaches, definition_breaches, flow_of, function_breaches, next_parameter,
-    parameter_breaches, parameter_name_breaches, parameters_breaches}
-use Rattle.om_whole.proofs.FileFunctions.{AreDefined, IsOwnMain, IsSigned, callee, distinct_functions, file_names,
-    function_name, named_length, own_main, signed}
+use Rattle.om_rules.specs.UnitResolution.{globals_of, item_functions, named_parameter, parameter_variable}
+use Rattle.om_rules.specs.UnitResolution.{resolution_of, resolved_function, resolved_inside}
+use Rattle.om_rules.specs.UnitRules.{body_breaches, definition_breaches, flow_of, function_breaches, next_parameter}
+use Rattle.om_rules.specs.UnitRules.{parameter_breaches, parameter_name_breaches, parameters_breaches}
+use Rattle.om_whole.proofs.FileFunctions.{AreDefined, IsOwnMain, IsSigned, callee, distinct_functions, file_names}
+use Rattle.om_whole.proofs.FileFunctions.{function_name, named_length, own_main, signed}
 use Rattle.om_whole.proofs.FileGlobals.{IsShaped, cells_items, names_shaped}
 use Rattle.om_whole.proofs.FileScopes.{AtFile, Means, at_function, items_keep, of_items}
 use Rattle.om_whole.proofs.Knowing.{known_inside, known_local}
@@ -52,11 +53,11 @@ few_parameters [] before scopes few w = omega (arith, few)
 few_parameters (p ∷ ps) before scopes few w =
     let next = next_parameter (before, scopes) p in
     let own = front (parameter_breaches (before, scopes) p) (breaches_along parameter_breaches next_parameter next
-        ps) w in
+    ps) w in
     let room = above 16 before (not_broken (nat_le PARAMETER_LIMIT before) faults.TooMany p.int.start
-        (front _ (parameter_name_breaches scopes p.name) own)) in
+    (front _ (parameter_name_breaches scopes p.name) own)) in
     let rest = few_parameters ps (before + 1) next.1 (omega (arith, room))
-        (back (parameter_breaches (before, scopes) p) (breaches_along parameter_breaches next_parameter next ps) w) in
+    (back (parameter_breaches (before, scopes) p) (breaches_along parameter_breaches next_parameter next ps) w) in
     omega (arith, rest)
 
 module _ (globals : List GlobalVariable) (functions : List ResolvedFunctionTree) where
@@ -75,7 +76,7 @@ module _ (globals : List GlobalVariable) (functions : List ResolvedFunctionTree)
       let rest = map scalar (flat_map parameter_variable ps) in
       subst (λ all. Known globals functions all (after_parameters (after_parameter_name scopes p.name) ps))
       (append_assoc locals own rest ∙ ap (λ all. locals ++ all)
-          (sym (map-append scalar (named_parameter p.name) (flat_map parameter_variable ps))))
+      (sym (map-append scalar (named_parameter p.name) (flat_map parameter_variable ps))))
       (known_parameters ps (locals ++ own) (after_parameter_name scopes p.name) (one_parameter p.name locals scopes h))
 
   -- ---- what is known at file scope
@@ -124,7 +125,7 @@ module _ (globals : List GlobalVariable) (functions : List ResolvedFunctionTree)
     function_whole : (scopes : Scopes) (f : FunctionTree) (rest : List ItemTree) → AtFile definitions scopes
         → fold after_item (after_function scopes f.head) rest ≡ final
         → IsFunction f → function_breaches scopes f ≡ [] → IfSome (resolved_function scopes f)
-            (IsWholeFunction globals functions)
+        (IsWholeFunction globals functions)
     unfolding resolved_function IsFunction
     function_whole scopes f rest h e formed w =
         let behind = after_function scopes f.head in
@@ -132,18 +133,23 @@ module _ (globals : List GlobalVariable) (functions : List ResolvedFunctionTree)
         let body = back (definition_breaches scopes f.head) (body_breaches behind f) w in
         let listed = parameters_breaches (inside behind) ps in
         let items = statements_breaches (after_parameters (inside behind) ps) (flow_of f.head)
-            (statements f.body.items) in
+        (statements f.body.items) in
         let known = known_at behind (at_function definitions scopes f.head h)
         (λ name m means. ap (λ scopes. lookup (bytes_eq name) scopes.inner) (sym e) ∙ items_keep rest behind name m
-            means) in
-        let agrees : Agrees (body_around f) (flow_of f.head) = record { breaks = refl; continues = refl; returns =
-            refl; in_construct = refl } in
+        means) in
+        let agrees : Agrees (body_around f) (flow_of f.head) = record {
+          breaks = refl;
+          continues = refl;
+          returns =
+              refl;
+          in_construct = refl;
+        } in
         let few = few_parameters ps 0 (inside behind) (omega arith) (front listed items body) in
         if_then (AreWholeItems (body_around f)) (IsWholeFunction globals functions) (resolved_inside behind f) _
         (whole_items (body_around f) (after_parameters (inside behind) ps) (flow_of f.head) None
-            (statements f.body.items)
+        (statements f.body.items)
         (known_parameters ps [] (inside behind) (known_inside globals functions [] behind known)) agrees formed.1
-            (back listed items body))
+        (back listed items body))
         (λ body hb. record { parameters = omega (arith, few, named_length f.head.parameters formed.0); body = hb })
 
 -- ---- `main`
@@ -186,21 +192,21 @@ whole_unit unit formed none = by (all_along item_functions after_item scopes ite
         let few : scopes.cells ≤ 65536 = omega arith in
         let cells = cells_items items scopes few rules in
         let are = if_given (AreDefined items) (all_along item_functions after_item scopes items) functions
-            (file_names items rules) e in
+        (file_names items rules) e in
         let signs = if_given (All (IsSigned final)) (all_along item_functions after_item scopes items) functions
         (of_items (IsSigned final) definitions final (signed definitions final) items scopes start refl formed
-            rules) e in
+        rules) e in
         let mains = if_given (All IsOwnMain) (all_along item_functions after_item scopes items) functions
         (of_items IsOwnMain definitions final (own_main definitions final) items scopes start refl formed rules) e in
         let printf = items_keep items scopes (codes "printf") meanings.Printf refl in
         let shaped = names_shaped items scopes refl (tt, (tt, (tt, tt))) in
         let wholes = if_given (All (IsWholeFunction globals functions)) (all_along item_functions after_item scopes
-            items) functions
+        items) functions
         (of_items (IsWholeFunction globals functions) definitions final
-            (function_whole globals functions definitions final printf shaped signs are) items scopes start refl
-            formed rules) e in
+        (function_whole globals functions definitions final printf shaped signs are) items scopes start refl
+        formed rules) e in
         let known = is_resolved unit (tree_of unit functions) none
-            (ap (λ o. o >>= λ functions. Some (tree_of unit functions)) e) in
+        (ap (λ o. o >>= λ functions. Some (tree_of unit functions)) e) in
         record {
           cells = cells.0;
           elements = cells.1;

@@ -7,12 +7,12 @@ use Rattle.om_pragma.specs.declared.tree.AtomicKind.TheVariants as atomics
 use Rattle.om_resolved.specs.declared.resolved.Side.{Side}
 use Rattle.om_resolved.specs.declared.resolved.Side.TheVariants as sides
 use Rattle.om_resolved.specs.ResolvedTree as resolved
-use Rattle.om_resolved.specs.ResolvedTree.{ResolvedExpressionTree, ResolvedClauseTree, ResolvedUpdateTree,
-    ResolvedStatementTree}
+use Rattle.om_resolved.specs.ResolvedTree.{ResolvedExpressionTree, ResolvedClauseTree, ResolvedUpdateTree}
+use Rattle.om_resolved.specs.ResolvedTree.{ResolvedStatementTree}
 use Rattle.om_resolved.specs.Uses.{UsesVariables, ClausesUseVariables, UpdateUsesVariables, StatementUsesVariables}
 use Rattle.om_rules.specs.StatementResolution.{with_update, atomic_of}
-use Rattle.om_rules.specs.Updates.{Operation, operation, operation_of, binary_operator, other_operand,
-    value_operation, expression_update, update_of}
+use Rattle.om_rules.specs.Updates.{Operation, operation, operation_of, binary_operator, other_operand, value_operation}
+use Rattle.om_rules.specs.Updates.{expression_update, update_of}
 use Rattle.om_whole.proofs.Steps.{if_then, if_any}
 use Rattle.om_tree.specs.declared.tree.AssignOperator.{AssignOperator}
 use Rattle.om_tree.specs.declared.tree.AssignOperator.TheVariants as assigns
@@ -29,8 +29,8 @@ value_uses : (n : ℕ) (side : Side) (e : ResolvedExpressionTree) → UsesVariab
     → IfSome (value_operation side e) (OperationUsesVariables n)
 value_uses n side (resolved.Binary a o b) h =
     if_then (λ operator. Unit {0}) (OperationUsesVariables n) (binary_operator o)
-        (λ operator. Some (operation_of operator side (other_operand side a b))) (if_any (binary_operator o))
-        (λ operator u. operand_uses n side a b h.0 h.1)
+    (λ operator. Some (operation_of operator side (other_operand side a b))) (if_any (binary_operator o))
+    (λ operator u. operand_uses n side a b h.0 h.1)
 value_uses n side (resolved.Constant value) h = tt
 value_uses n side (resolved.Variable v) h = tt
 value_uses n side (resolved.Element v index) h = tt
@@ -58,10 +58,10 @@ expression_update_uses : (n : ℕ) (at : Span) (side : Side) (e : ResolvedExpres
     → IfSome (expression_update at side e) (UpdateUsesVariables n)
 expression_update_uses n at side (resolved.Assign v o e) h =
     if_then (OperationUsesVariables n) (UpdateUsesVariables n) (operation side o e) _
-        (operation_uses n side o e h.1) (λ found hf. (h.0, tt, hf))
+    (operation_uses n side o e h.1) (λ found hf. (h.0, tt, hf))
 expression_update_uses n at side (resolved.AssignElement v index o e) h =
     if_then (OperationUsesVariables n) (UpdateUsesVariables n) (operation side o e) _
-        (operation_uses n side o e h.2) (λ found hf. (h.0, h.1, hf))
+    (operation_uses n side o e h.2) (λ found hf. (h.0, h.1, hf))
 expression_update_uses n at side (resolved.Postfix v o) h = (h, tt, tt)
 expression_update_uses n at side (resolved.PostfixElement v index o) h = (h.0, h.1, tt)
 expression_update_uses n at side (resolved.Constant value) h = tt
@@ -105,7 +105,7 @@ with_update_uses n at (Some update) h = h
 pub atomic_uses : (n : ℕ) (kind : AtomicKind) (side : Side) (at : Span) (cs : List ResolvedClauseTree)
     (body : ResolvedStatementTree)
     → ClausesUseVariables n cs → StatementUsesVariables n body → StatementUsesVariables n
-        (atomic_of kind side at cs body)
+    (atomic_of kind side at cs body)
 atomic_uses n atomics.Update side at cs body hc h = with_update_uses n at (update_of side body)
     (update_uses n side body h)
 atomic_uses n atomics.Read side at cs body hc h = (hc, h)

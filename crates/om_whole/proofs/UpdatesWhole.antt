@@ -7,8 +7,8 @@ use Rattle.om_resolved.specs.declared.resolved.Side.TheVariants as sides
 use Rattle.om_resolved.specs.ResolvedTree as resolved
 use Rattle.om_resolved.specs.ResolvedTree.{ResolvedExpressionTree, ResolvedStatementTree}
 use Rattle.om_resolved.specs.Whole.{Around, IsWhole, IsWholeUpdate, IsWholeStatement}
-use Rattle.om_rules.specs.Updates.{Operation, operation, operation_of, binary_operator, other_operand,
-    value_operation, expression_update, update_of}
+use Rattle.om_rules.specs.Updates.{Operation, operation, operation_of, binary_operator, other_operand, value_operation}
+use Rattle.om_rules.specs.Updates.{expression_update, update_of}
 use Rattle.om_whole.proofs.Steps.{if_then, if_any}
 use Rattle.om_tree.specs.declared.tree.AssignOperator.{AssignOperator}
 use Rattle.om_tree.specs.declared.tree.AssignOperator.TheVariants as assigns
@@ -25,8 +25,8 @@ whole_value : (around : Around) (side : Side) (e : ResolvedExpressionTree) → I
     → IfSome (value_operation side e) (IsWholeOperation around)
 whole_value around side (resolved.Binary a o b) h =
     if_then (λ operator. Unit {0}) (IsWholeOperation around) (binary_operator o)
-        (λ operator. Some (operation_of operator side (other_operand side a b))) (if_any (binary_operator o))
-        (λ operator u. whole_operand around side a b h.0 h.1)
+    (λ operator. Some (operation_of operator side (other_operand side a b))) (if_any (binary_operator o))
+    (λ operator u. whole_operand around side a b h.0 h.1)
 whole_value around side (resolved.Constant value) h = tt
 whole_value around side (resolved.Variable v) h = tt
 whole_value around side (resolved.Element v index) h = tt
@@ -54,10 +54,10 @@ whole_expression_update : (around : Around) (at : Span) (side : Side) (e : Resol
     → IsWhole around false e → IfSome (expression_update at side e) (IsWholeUpdate around)
 whole_expression_update around at side (resolved.Assign v o e) h =
     if_then (IsWholeOperation around) (IsWholeUpdate around) (operation side o e) _
-        (whole_operation around side o e h.1) (λ found hf. record { target = h.0; operand = hf })
+    (whole_operation around side o e h.1) (λ found hf. record { target = h.0; operand = hf })
 whole_expression_update around at side (resolved.AssignElement v index o e) h =
     if_then (IsWholeOperation around) (IsWholeUpdate around) (operation side o e) _
-        (whole_operation around side o e h.2) (λ found hf. record { target = (h.0, h.1); operand = hf })
+    (whole_operation around side o e h.2) (λ found hf. record { target = (h.0, h.1); operand = hf })
 whole_expression_update around at side (resolved.Postfix v o) h = record { target = h; operand = tt }
 whole_expression_update around at side (resolved.PostfixElement v index o) h = record
     { target = (h.0, h.1); operand = tt }

@@ -1,28 +1,28 @@
 -- Where no rule is broken, each use has its variable, and there is a `main`.
-use Rattle.std.proofs.Common.{◌≡◌, ℕ, ◌+◌, ◌≤◌, Bool, true, false, ◌||◌, not, List, [], ◌∷◌, ◌++◌, Option, None,
-    Some, All, map, length, codes, refl, sym, ap, subst, ◌∙◌, arith, length-append}
+use Rattle.std.proofs.Common.{◌≡◌, ℕ, ◌+◌, ◌≤◌, Bool, true, false, ◌||◌, not, List, [], ◌∷◌, ◌++◌, Option, None, Some}
+use Rattle.std.proofs.Common.{All, map, length, codes, refl, sym, ap, subst, ◌∙◌, arith, length-append}
 use Rattle.std.specs.Prelude.{IfSome}
 use Rattle.std.specs.List.{flat_map, list_any}
 use Rattle.std.specs.Str.{bytes_eq}
 use Rattle.std.proofs.lemmas.List.Elements.{All-nil, All-cons, All-append}
 use Rattle.std.proofs.lemmas.List.Folds.{Any-from_list_any, list_any-append}
 use Rattle.om_lexer.specs.declared.fault.FaultCode.TheVariants as faults
-use Rattle.om_tree.specs.Tree.{statements, DeclaratorTree, HeadTree, FunctionTree, ItemTree, Declaration, Prototype,
-    Function, UnitTree}
+use Rattle.om_tree.specs.Tree.{statements, DeclaratorTree, HeadTree, FunctionTree, ItemTree, Declaration, Prototype}
+use Rattle.om_tree.specs.Tree.{Function, UnitTree}
 use Rattle.om_rules.specs.declared.meaning.Meaning.TheVariants as meanings
 use Rattle.om_resolved.specs.declared.resolved.Variable.TheVariants as variables
 use Rattle.om_rules.specs.Breaches.{breaches_of, is_main, main_breaches, rule_breaches}
 use Rattle.om_rules.specs.Faults.{breach_if}
 use Rattle.om_rules.specs.Perhaps.{◌>>=◌, all_along}
 use Rattle.om_resolved.specs.ResolvedTree.{ResolvedFunctionTree, ResolvedTree}
-use Rattle.om_rules.specs.Scopes.{Scopes, file_scope, definitions_of, inside, parameters_of, is_declared, shape_of,
-    declarators_of, after_global, after_globals, after_parameters, after_prototype, after_function, after_item,
-    with_function, signature_of}
-use Rattle.om_rules.specs.UnitResolution.{global_of, globals_of, resolved_inside, resolved_function, item_functions,
-    resolution_of}
+use Rattle.om_rules.specs.Scopes.{Scopes, file_scope, definitions_of, inside, parameters_of, is_declared, shape_of}
+use Rattle.om_rules.specs.Scopes.{declarators_of, after_global, after_globals, after_parameters, after_prototype}
+use Rattle.om_rules.specs.Scopes.{after_function, after_item, with_function, signature_of}
+use Rattle.om_rules.specs.UnitResolution.{global_of, globals_of, resolved_inside, resolved_function, item_functions}
+use Rattle.om_rules.specs.UnitResolution.{resolution_of}
 use Rattle.om_resolved.specs.Uses.{StatementsUseVariables, FunctionUsesVariables, is_main_function, IsResolved}
-use Rattle.om_whole.proofs.GlobalsBelow.{Below, more, scope_push, below_inside, below_parameters, below_prototype,
-    below_function}
+use Rattle.om_whole.proofs.GlobalsBelow.{Below, more, scope_push, below_inside, below_parameters, below_prototype}
+use Rattle.om_whole.proofs.GlobalsBelow.{below_function}
 use Rattle.om_whole.proofs.Limits.{Fits, items_fit, functions_fit}
 use Rattle.om_whole.proofs.StatementUses.{statements_use}
 use Rattle.om_whole.proofs.Steps.{if_then, if_any, if_either}
@@ -36,10 +36,10 @@ unfolding resolved_function
 function_uses n scopes f h =
     let behind = after_function scopes f.head in
     let within = below_parameters n (parameters_of f.head.parameters) (inside behind)
-        (below_inside n behind (below_function n scopes f.head h)) in
+    (below_inside n behind (below_function n scopes f.head h)) in
     if_then (StatementsUseVariables n) (FunctionUsesVariables n) (resolved_inside behind f) _
     (statements_use n (after_parameters (inside behind) (parameters_of f.head.parameters)) None
-        (statements f.body.items) within) (λ body hb. hb)
+    (statements f.body.items) within) (λ body hb. hb)
 
 item_uses : (n : ℕ) (scopes : Scopes) (item : ItemTree) → Below n scopes → IfSome (item_functions scopes item)
     (All (FunctionUsesVariables n))
@@ -48,7 +48,7 @@ item_uses n scopes (Declaration d) h = All-nil (FunctionUsesVariables n)
 item_uses n scopes (Prototype head semicolon) h = All-nil (FunctionUsesVariables n)
 item_uses n scopes (Function f) h =
     if_then (FunctionUsesVariables n) (All (FunctionUsesVariables n)) (resolved_function scopes f) _
-        (function_uses n scopes f h)
+    (function_uses n scopes f h)
     (λ x hx. All-cons (FunctionUsesVariables n) x [] hx (All-nil (FunctionUsesVariables n)))
 
 -- ---- globals
@@ -82,13 +82,15 @@ numbered_item : (scopes : Scopes) (item : ItemTree) → Numbered scopes → Numb
     × ((after_item scopes item).globals ≡ scopes.globals + length (globals_of item))
 numbered_item scopes (Declaration d) h = numbered_globals (declarators_of d) scopes h
 numbered_item scopes (Prototype head semicolon) h =
-    let same = prototype_globals scopes head in
-    (subst (λ n. Below n (after_prototype scopes head)) (sym same) (below_prototype scopes.globals scopes head h),
-        omega (arith, same))
+    let same = prototype_globals scopes head in (
+      subst (λ n. Below n (after_prototype scopes head)) (sym same) (below_prototype scopes.globals scopes head h),
+      omega (arith, same),
+    )
 numbered_item scopes (Function f) h =
-    let same = prototype_globals scopes f.head in
-    (subst (λ n. Below n (after_function scopes f.head)) (sym same) (below_function scopes.globals scopes f.head h),
-        omega (arith, same))
+    let same = prototype_globals scopes f.head in (
+      subst (λ n. Below n (after_function scopes f.head)) (sym same) (below_function scopes.globals scopes f.head h),
+      omega (arith, same),
+    )
 
 -- all functions use the globals of the whole source
 items_use : (items : List ItemTree) (scopes : Scopes) (n : ℕ) → Numbered scopes → scopes.globals + length
@@ -99,11 +101,11 @@ items_use (item ∷ items) scopes n h total =
     let one = numbered_item scopes item h in
     let left = length-append (globals_of item) (flat_map globals_of items) in
     if_then (All (FunctionUsesVariables n)) (All (FunctionUsesVariables n)) (item_functions scopes item) _
-        (item_uses n scopes item (more scopes.globals n scopes (omega (arith, total)) h)) (λ xs hxs.
+    (item_uses n scopes item (more scopes.globals n scopes (omega (arith, total)) h)) (λ xs hxs.
     if_then (All (FunctionUsesVariables n)) (All (FunctionUsesVariables n)) (all_along item_functions after_item
-        (after_item scopes item) items) _
+    (after_item scopes item) items) _
     (items_use items (after_item scopes item) n one.0 (omega (arith, total, one.1, left)))
-        (λ ys hys. All-append (FunctionUsesVariables n) xs ys hxs hys))
+    (λ ys hys. All-append (FunctionUsesVariables n) xs ys hxs hys))
 
 -- ---- `main`
 
@@ -124,7 +126,7 @@ item_main scopes (Declaration d) = refl
 item_main scopes (Prototype head semicolon) = refl
 item_main scopes (Function f) =
     if_then (λ x. x.name ≡ f.head.name.text) (HasMain (Function f ∷ [])) (resolved_function scopes f) _
-        (function_name scopes f)
+    (function_name scopes f)
     (λ x same. ap (λ name. bytes_eq name (codes "main") || false) same)
 
 any_append : (xs ys : List ResolvedFunctionTree) → list_any is_main_function (xs ++ ys)
@@ -136,11 +138,11 @@ items_main : (items : List ItemTree) (scopes : Scopes) → IfSome (all_along ite
 items_main [] scopes = refl
 items_main (item ∷ items) scopes =
     if_then (HasMain (item ∷ [])) (HasMain (item ∷ items)) (item_functions scopes item) _ (item_main scopes item)
-        (λ xs hxs.
+    (λ xs hxs.
     if_then (HasMain items) (HasMain (item ∷ items)) (all_along item_functions after_item (after_item scopes item)
-        items) _ (items_main items (after_item scopes item)) (λ ys hys.
+    items) _ (items_main items (after_item scopes item)) (λ ys hys.
     any_append xs ys ∙ either (is_main item) (list_any is_main_function xs) (list_any is_main_function ys)
-        (list_any is_main items) hxs hys))
+    (list_any is_main items) hxs hys))
   where
     either : (own first rest others : Bool) → first ≡ (own || false) → rest ≡ others → (first || rest) ≡ (own || others)
     either true first rest others e f = ap (λ b. b || rest) e
@@ -161,7 +163,7 @@ is_resolved unit tree none e =
     let scopes = file_scope (definitions_of unit.items) in
     let rules = front (rule_breaches unit) (main_breaches unit) none in
     let main = main_there (list_any is_main unit.items) unit.end.start
-        (back (rule_breaches unit) (main_breaches unit) none) in
+    (back (rule_breaches unit) (main_breaches unit) none) in
     let cells : 0 ≤ 65536 = omega arith in
     let defined : 3 ≤ 259 = omega arith in
     let total : 0 + length (flat_map globals_of unit.items) ≤ length (flat_map globals_of unit.items) = omega arith in

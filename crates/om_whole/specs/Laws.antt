@@ -27,7 +27,7 @@ abbrev pub NumbersNameGlobals : Type 0
 NumbersNameGlobals =
     (items : List ItemTree) (name : List ℕ) (number : ℕ) (shape : Shape)
     → meaning_of (fold after_item (file_scope (definitions_of items)) items) name
-        ≡ Some (meanings.Variable (variables.Global number) shape)
+    ≡ Some (meanings.Variable (variables.Global number) shape)
     → option_map (λ global. global.name) (slice_get (flat_map globals_of items) number) ≡ Some name
 
 -- A tree that breaks no rule has a resolution.
@@ -44,7 +44,7 @@ abbrev pub UnbrokenExpressionsAreWhole : Type 0
 UnbrokenExpressionsAreWhole =
     (around : Around) (scopes : Scopes) (is_used : Bool) (e : ExpressionTree)
     → Knows around scopes → expression_breaches scopes is_used e ≡ [] → IfSome (resolved_expression scopes e)
-        (IsWhole around is_used)
+    (IsWhole around is_used)
 
 -- Well-formed statements without a breach, in scopes that are known, resolve to whole ones.
 abbrev pub UnbrokenStatementsAreWhole : Type 0

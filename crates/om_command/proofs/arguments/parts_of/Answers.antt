@@ -7,4 +7,4 @@ pub returns : goal.returns
 returns c =
     map_from_collect _ c.collect.ensures.ran
     (YieldsList-from_slice_split _ (λ byte. byte == 46) c.args.word.now c.split.ensures.rest c.split.ensures.done
-        c.split.ensures.closure (λ x r q k. search (rules, tests)))
+    c.split.ensures.closure (λ x r q k. search (rules, tests)))

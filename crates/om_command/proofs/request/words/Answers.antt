@@ -9,5 +9,5 @@ returns c =
     (YieldsList-from_filter _ _
     (YieldsList-at c.filter.ensures.source
     (YieldsList-from_slice_split _ (λ byte. byte == 32) c.args.line.now c.split.ensures.rest c.split.ensures.done
-        c.split.ensures.closure (λ x r q k. search (rules, tests))))
+    c.split.ensures.closure (λ x r q k. search (rules, tests))))
     c.filter.ensures.closure (λ x r q k. search (rules, tests)))

@@ -9,4 +9,4 @@ returns-in_err-push_spaced_one-clause-front_stays c =
 pub loop-word-preserved : goal.loop-word-preserved
 loop-word-preserved c =
     next_word _ _ _ _ _ _ c.loop-word-test.true c.word-item.is c.loop-word.invariant
-        c.in_ok-push_spaced_one.ensures.appended
+    c.in_ok-push_spaced_one.ensures.appended

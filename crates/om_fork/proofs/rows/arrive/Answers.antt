@@ -8,6 +8,6 @@ use Rattle.om_fork.proofs.rows.arrive.Goals as goal
 pub returns : goal.returns
 returns c = λ s. subst
     (λ b. IfOk c.reached.result (λ answer. answer ≡ answered (if b then decided (Faults fault.Nesting) else
-        reached_row c.args.going.worker c.args.going.to c.args.barrier c.args.context.now) s))
+    reached_row c.args.going.worker c.args.going.to c.args.barrier c.args.context.now) s))
     (sym c.if-is_misplaced_barrier.false ∙ c.is_misplaced_barrier.ensures)
     (c.reached.ensures s)

@@ -24,10 +24,15 @@ pub returns-in_ok-from_slice-in-Allowed-clause-line : goal.returns-in_ok-from_sl
 returns-in_ok-from_slice-in-Allowed-clause-line c =
     let source = c.args.source.now in
     let name : c.of-name.result ≡ slice_range source c.in-Some.found.name c.in-Some.found.name_end =
-        c.of-name.ensures ∙ c.in_ok-from_slice-in-Allowed.ensures.items in (
+    c.of-name.ensures ∙ c.in_ok-from_slice-in-Allowed.ensures.items in (
       value_in 10 (slice_range source c.in-Some.found.number c.in-Some.found.number_end),
-      record { word = c.requires.begins.0; word_end = c.args.end; begins = c.requires.begins.1; definition = rw name
-          c.in-Some.ensures.found },
+      record {
+        word = c.requires.begins.0;
+        word_end = c.args.end;
+        begins = c.requires.begins.1;
+        definition = rw name
+            c.in-Some.ensures.found;
+      },
       rw name c.in-Allowed.ensures,
     )
 
@@ -39,8 +44,12 @@ returns-in-TooMany-clause-fault c =
         to = c.in-Some.found.number;
         name = slice_range c.args.source.now c.in-Some.found.name c.in-Some.found.name_end;
         value = value_in 10 (slice_range c.args.source.now c.in-Some.found.number c.in-Some.found.number_end);
-        define = record { word = c.requires.begins.0; word_end = c.args.end; begins = c.requires.begins.1;
-            definition = c.in-Some.ensures.found };
+        define = record {
+          word = c.requires.begins.0;
+          word_end = c.args.end;
+          begins = c.requires.begins.1;
+          definition = c.in-Some.ensures.found;
+        };
         unknown = c.in-TooMany.ensures.0;
         full = c.in-TooMany.ensures.1;
       },

@@ -13,7 +13,7 @@ returns-in-None-clause-fault c =
     let r = c.requires in
     let rest = take_rest c.args.source.now c.args.at in
     let none = stray_byte _ _ r.no_word r.no_quote (λ q. ap (λ s. starts_with nat_eq s (punctuator_text q))
-        (sym rest) ∙ c.in-None.ensures.none q) in
+    (sym rest) ∙ c.in-None.ensures.none q) in
     inr (c.bad_token.ensures.at, rw c.bad_token.ensures.code none)
 
 pub returns-in-Some-clause-token : goal.returns-in-Some-clause-token
@@ -25,7 +25,7 @@ returns-in-Some-clause-token c =
     let rest = take_rest source at in
     let told = c.in-Some.ensures in
     let begins : starts_with nat_eq (drop at source) (punctuator_text p)
-        ≡ true = ap (λ s. starts_with nat_eq s (punctuator_text p)) (sym rest) ∙ told.begins in
+    ≡ true = ap (λ s. starts_with nat_eq s (punctuator_text p)) (sym rest) ∙ told.begins in
     let token : IsToken source at (at + length (punctuator_text p)) (kinds.Punctuator p) = inl (record {
       longest = punctuator_is_longest source at p (omega (arith, r.inside)) r.no_word r.no_comment begins
           (λ q q_begins. told.longest q (ap (λ s. starts_with nat_eq s (punctuator_text q)) rest ∙ q_begins));

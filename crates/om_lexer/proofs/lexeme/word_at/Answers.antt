@@ -14,14 +14,14 @@ begins c =
     ⊎_elim (λ below. below) (λ above.
     let same : c.word_end-end.result ≡ c.args.at = omega (arith, above, run.behind) in
     absurd (both_ways _ (run.ends (omega (arith, same, c.requires.inside)))
-        (ap (λ k. is_word_byte (slice_index c.args.source.now k)) same ∙ c.requires.word)))
+    (ap (λ k. is_word_byte (slice_index c.args.source.now k)) same ∙ c.requires.word)))
     (cases_lt c.args.at c.word_end-end.result)
 
 pub returns-in_err-kind-clause-fault : goal.returns-in_err-kind-clause-fault
 returns-in_err-kind-clause-fault c =
     let p = err_from_is_err_and c.from_residual.result c.from_residual.ensures.1 in
     let longest = run_is_longest _ _ _ (begins (goal.at.returns-in_err-kind-clause-fault c).After-word_end-end)
-        c.word_end-end.ensures.run in
+    c.word_end-end.ensures.run in
     rw (p.1, p.2) (wrong_word _ _ _ c.requires.word longest _ c.in_err-kind.ensures.fault)
 
 pub returns-clause-token : goal.returns-clause-token

@@ -11,7 +11,7 @@ returns-then-contains_key c =
     let entries = c.args.numbers.now.entries in
     let name = c.args.name.now in
     let known : is_some (number_of_macro (macros_of entries) name) ≡ true = ap is_some
-        (lookup-macros_of (bytes_eq name) entries) ∙ sym c.contains_key.ensures ∙ c.if-contains_key.true in
+    (lookup-macros_of (bytes_eq name) entries) ∙ sym c.contains_key.ensures ∙ c.if-contains_key.true in
     sym (with_known (macros_of entries) name c.args.number known)
 
 pub returns : goal.returns
@@ -22,10 +22,10 @@ returns c =
     let key = c.in_ok-from_slice.field-0 in
     let same = c.in_ok-from_slice.ensures.items in
     let unknown : is_some (number_of_macro (macros_of entries) name) ≡ false = ap is_some
-        (lookup-macros_of (bytes_eq name) entries) ∙ sym c.contains_key.ensures ∙ c.if-contains_key.false in
+    (lookup-macros_of (bytes_eq name) entries) ∙ sym c.contains_key.ensures ∙ c.if-contains_key.false in
     let free = none-is_some (number_of_macro (macros_of entries) name) unknown in
     let absent = sym (lookup-macros_of (bytes_eq key.items) entries)
-        ∙ ap (λ bytes. lookup (bytes_eq bytes) (macros_of entries)) same ∙ free in
+    ∙ ap (λ bytes. lookup (bytes_eq bytes) (macros_of entries)) same ∙ free in
     ap macros_of (c.in_ok-insert.ensures.entries ∙ insert_entry-new _ c.args.numbers.now key number absent)
     ∙ macros_of-push entries key number
     ∙ ap (λ bytes. macros_of entries ++ (bytes, number) ∷ []) same

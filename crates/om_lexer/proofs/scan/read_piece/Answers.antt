@@ -19,6 +19,6 @@ returns-in_err-kind-clause-fault c =
     let p = err_from_is_err_and c.from_residual-in_err-kind.result c.from_residual-in_err-kind.ensures.1 in
     let context = context_of c.args.state.now c.args.macros.now in
     rw (p.1, p.2) (no_token_at c.args.source.now context c.args.at c.requires.inside c.if-source-at-eq10.false
-        c.in_default.ensures.none (sym c.is_ignored.ensures ∙ c.if-is_ignored.false)
+    c.in_default.ensures.none (sym c.is_ignored.ensures ∙ c.if-is_ignored.false)
     (λ begins. both_ways _ c.if-begins_hash_line.false (c.begins_hash_line.ensures.1 begins)) _
-        c.in_err-kind.ensures.fault)
+    c.in_err-kind.ensures.fault)

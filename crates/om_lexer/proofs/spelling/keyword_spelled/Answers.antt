@@ -14,7 +14,7 @@ pub loop-keyword-preserved : goal.loop-keyword-preserved
 unfolding all_keywords
 loop-keyword-preserved c =
     let read : c.keyword_text.result.now ≡ keyword_text (keyword_at c.loop-keyword.keyword-index) =
-        c.keyword_text.ensures in
+    c.keyword_text.ensures in
     record {
       table = refl;
       passed = below_more _ _ c.loop-keyword.invariant.passed (λ same.
@@ -25,4 +25,4 @@ pub returns-clause-none : goal.returns-clause-none
 returns-clause-none c = λ k same.
     let stands = keyword_stands k in
     c.loop-keyword.invariant.passed stands.index (omega (arith, stands.inside))
-        (same ∙ ap keyword_text (sym stands.there))
+    (same ∙ ap keyword_text (sym stands.there))

@@ -20,19 +20,19 @@ returns-then-starts_with-clause-longest c = λ q begins.
     (λ later.
     let wide = wide_first c.loop-punctuator.punctuator-index stands.index later stands.inside in
     subst (λ p. length (punctuator_text p) ≤ length
-        (punctuator_text (punctuator_at c.loop-punctuator.punctuator-index))) stands.there wide)
+    (punctuator_text (punctuator_at c.loop-punctuator.punctuator-index))) stands.there wide)
     (cases_lt stands.index c.loop-punctuator.punctuator-index)
 
 pub loop-punctuator-preserved : goal.loop-punctuator-preserved
 unfolding all_punctuators
 loop-punctuator-preserved c =
     let read : c.punctuator_text.result.now ≡ punctuator_text (punctuator_at c.loop-punctuator.punctuator-index) =
-        c.punctuator_text.ensures in
+    c.punctuator_text.ensures in
     record {
       table = refl;
       passed = below_more _ _ c.loop-punctuator.invariant.passed
           (ap (starts_with nat_eq c.args.bytes.now) (sym read) ∙ sym c.starts_with.ensures.value
-              ∙ c.if-starts_with.false);
+          ∙ c.if-starts_with.false);
     }
 
 pub returns-clause-none : goal.returns-clause-none

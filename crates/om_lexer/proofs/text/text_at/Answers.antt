@@ -8,7 +8,7 @@ pub returns-in_default-clause-fault : goal.returns-in_default-clause-fault
 returns-in_default-clause-fault c =
     let source = c.args.source.now in
     let no_quote : slice_index source c.loop-character.next ≡ 34 → ⊥ = λ quote. c.loop-character-test.true
-        (c.byte_at.ensures.byte ∙ quote) in
+    (c.byte_at.ensures.byte ∙ quote) in
     inr (
       c.bad_token.ensures.at,
       rw c.bad_token.ensures.code (bad_text source c.args.at c.requires.quote (no_characters source (c.args.at + 1)
@@ -19,7 +19,7 @@ pub loop-character-preserved : goal.loop-character-preserved
 loop-character-preserved c =
     let source = c.args.source.now in
     let no_quote : slice_index source c.loop-character.next ≡ 34 → ⊥ = λ quote. c.loop-character-test.true
-        (c.byte_at.ensures.byte ∙ quote) in
+    (c.byte_at.ensures.byte ∙ quote) in
     let told = c.in-Some.ensures in
     record {
       inside = told.inside;
@@ -31,5 +31,8 @@ pub returns-clause-token : goal.returns-clause-token
 returns-clause-token c =
     let source = c.args.source.now in
     let quote = sym c.byte_at.ensures.byte ∙ c.loop-character-test.false in
-    inr (c.loop-character.characters.items, ap kinds.Text c.of.ensures,
-        (c.requires.quote, all_characters source (c.args.at + 1) _ _ quote c.loop-character.invariant.read))
+    inr (
+      c.loop-character.characters.items,
+      ap kinds.Text c.of.ensures,
+      (c.requires.quote, all_characters source (c.args.at + 1) _ _ quote c.loop-character.invariant.read),
+    )

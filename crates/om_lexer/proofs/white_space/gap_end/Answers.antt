@@ -9,6 +9,9 @@ loop-end-preserved c =
     record {
       inside = told.inside;
       behind = omega (arith, told.moves, c.loop-end.invariant.behind);
-      passed = (passed.0 ++ c.in-Some.end ∷ [], spaces_more c.args.source.now c.args.from _ _ passed.0 passed.1
-          told.found);
+      passed = (
+        passed.0 ++ c.in-Some.end ∷ [],
+        spaces_more c.args.source.now c.args.from _ _ passed.0 passed.1
+            told.found,
+      );
     }

@@ -11,9 +11,9 @@ returns-then-is_blank-clause-inside c =
 pub returns-then-byte-eq92-clause-none : goal.returns-then-byte-eq92-clause-none
 returns-then-byte-eq92-clause-none c =
     none_weaker _ (backslash_white c.args.source.now c.args.from (sym c.byte_at-byte.ensures.byte
-        ∙ c.if-byte-eq92.true)) c.line_end.ensures.none
+    ∙ c.if-byte-eq92.true)) c.line_end.ensures.none
 
 pub returns-then-byte-eq47-clause-none : goal.returns-then-byte-eq47-clause-none
 returns-then-byte-eq47-clause-none c =
     none_weaker _ (slash_white c.args.source.now c.args.from (sym c.byte_at-byte.ensures.byte
-        ∙ c.if-byte-eq47.true)) c.comment_end.ensures.none
+    ∙ c.if-byte-eq47.true)) c.comment_end.ensures.none

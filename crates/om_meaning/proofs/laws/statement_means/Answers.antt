@@ -5,4 +5,4 @@ use Rattle.om_meaning.proofs.laws.statement_means.Goals as goal
 pub returns : goal.returns
 returns c =
     λ raw body at same texts x m n jumps p q s w g found h. statement_runs raw body at same texts x m n jumps p q s
-        w (spoken at.formats x g found) h
+    w (spoken at.formats x g found) h

@@ -17,7 +17,7 @@ loop-name-preserved c =
           c.loop-name-test.true c.name-item.is c.loop-name.invariant.1 c.loop-name.invariant.2
           (noted-listing c.args.inside c.args.all marks now c.note.new.self c.name-item.result.items
           (c.marks_behind-outer.ensures ∙ ap (λ found. marks_behind found c.args.all) (c.innermost.ensures
-              ∙ ap (λ n. innermost_of (seen_in now n)) text))
+          ∙ ap (λ n. innermost_of (seen_in now n)) text))
           (λ other. c.in_ok-note.ensures.noted other ∙ ap (λ n. if bytes_eq other n then seen_in now other
-              ++ record { depth = c.args.inside; outer = marks } ∷ [] else seen_in now other) text)),
+          ++ record { depth = c.args.inside; outer = marks } ∷ [] else seen_in now other) text)),
     )

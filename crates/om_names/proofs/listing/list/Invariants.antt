@@ -8,4 +8,4 @@ abbrev pub invariant-loop-name : goal.invariant-loop-name
 invariant-loop-name l =
     (map (λ name. name.items) l.name-items ≡ l.fn.names) × IsDistinct same_name l.name-items
     × ChangedFor (with_listing l.fn.inside l.fn.all) l.fn.listings l.listings
-        (map (λ name. name.items) (take l.name-index l.name-items))
+    (map (λ name. name.items) (take l.name-index l.name-items))

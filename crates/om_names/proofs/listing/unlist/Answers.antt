@@ -13,5 +13,5 @@ loop-name-preserved c =
           c.loop-name.name-index c.name-item.result
           c.loop-name-test.true c.name-item.is c.loop-name.invariant.1 c.loop-name.invariant.2
           (λ other. c.forget.ensures other ∙ ap (λ n. if bytes_eq other n then without_innermost
-              (seen_in before other) else seen_in before other) c.as_slice.ensures.value),
+          (seen_in before other) else seen_in before other) c.as_slice.ensures.value),
     )

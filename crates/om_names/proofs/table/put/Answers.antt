@@ -13,7 +13,7 @@ returns c =
     let same = c.in_ok-from_slice.ensures.items in
     let free = none-is_some (lookup (bytes_eq c.args.name.now) (scope_of entries)) c.requires.is_new in
     let absent = sym (lookup-scope_of (bytes_eq key.items) entries)
-        ∙ ap (λ bytes. lookup (bytes_eq bytes) (scope_of entries)) same ∙ free in
+    ∙ ap (λ bytes. lookup (bytes_eq bytes) (scope_of entries)) same ∙ free in
     ap scope_of (c.in_ok-insert.ensures.entries ∙ insert_entry-new _ c.args.names.now key c.args.meaning absent)
     ∙ scope_of-push entries key c.args.meaning
     ∙ ap (λ bytes. scope_of entries ++ (bytes, c.args.meaning) ∷ []) same

@@ -24,9 +24,9 @@ pub returns-in_err-comma : goal.returns-in_err-comma
 returns-in_err-comma c =
     let p = err_from_is_err_and c.from_residual.result c.from_residual.ensures.1 in
     rw (p.1, p.2) (until_fails (take_mark CloseParen) further_parameter_at c.parameters.parameters.items
-        c.parameters.rest.now (until (take_mark CloseParen) further_parameter_at (length c.args.tokens.now)
-        c.args.tokens.now) c.in_err-comma.field-0.0 (sym c.in_default.ensures) c.in_err-comma.ensures
-        c.parameters.invariant)
+    c.parameters.rest.now (until (take_mark CloseParen) further_parameter_at (length c.args.tokens.now)
+    c.args.tokens.now) c.in_err-comma.field-0.0 (sym c.in_default.ensures) c.in_err-comma.ensures
+    c.parameters.invariant)
 
 pub parameters-smaller : goal.parameters-smaller
 parameters-smaller c = further_parameter_shorter c.parameters.rest.now (c.in_ok-comma.comma, c.in_ok-comma.next)
@@ -35,9 +35,9 @@ parameters-smaller c = further_parameter_shorter c.parameters.rest.now (c.in_ok-
 pub parameters-preserved : goal.parameters-preserved
 parameters-preserved c =
     let pushed : c.push.new.self.items ≡ c.parameters.parameters.items ++ (c.in_ok-comma.comma, c.in_ok-comma.next)
-        ∷ [] = c.in_ok-push.ensures.items in
+    ∷ [] = c.in_ok-push.ensures.items in
     rw pushed (until_goes_on (take_mark CloseParen) further_parameter_at c.parameters.parameters.items
-        c.parameters.rest.now (until (take_mark CloseParen) further_parameter_at (length c.args.tokens.now)
-        c.args.tokens.now) (c.in_ok-comma.comma, c.in_ok-comma.next) c.in_ok-comma.after.now
-        (sym c.in_default.ensures) c.in_ok-comma.ensures (further_parameter_shorter c.parameters.rest.now
-        (c.in_ok-comma.comma, c.in_ok-comma.next) c.in_ok-comma.after.now c.in_ok-comma.ensures) c.parameters.invariant)
+    c.parameters.rest.now (until (take_mark CloseParen) further_parameter_at (length c.args.tokens.now)
+    c.args.tokens.now) (c.in_ok-comma.comma, c.in_ok-comma.next) c.in_ok-comma.after.now
+    (sym c.in_default.ensures) c.in_ok-comma.ensures (further_parameter_shorter c.parameters.rest.now
+    (c.in_ok-comma.comma, c.in_ok-comma.next) c.in_ok-comma.after.now c.in_ok-comma.ensures) c.parameters.invariant)

@@ -67,9 +67,9 @@ decreases-directive l = 8 * l.room.statements + 4
 abbrev pub invariant-items-items : goal.invariant-items-items
 invariant-items-items l =
     let item = item_at l.kind (parts accepted) (statement_at (parts accepted) l.room.checked l.room.statements
-        l.room.blocks) in
+    l.room.blocks) in
     GoesOn (take_mark CloseBrace) item (map view_statement l.items.items) l.rest (until (take_mark CloseBrace) item
-        (length l.tokens) l.tokens)
+    (length l.tokens) l.tokens)
 
 abbrev pub decreases-items-items : goal.decreases-items-items
 decreases-items-items l = length l.rest

@@ -21,8 +21,8 @@ pub returns-in_err-next : goal.returns-in_err-next
 returns-in_err-next c =
     let p = err_from_is_err_and c.from_residual.result c.from_residual.ensures.1 in
     rw (p.1, p.2) (until_fails take_end (item_at accepted) (map view_item c.items.items.items) c.items.rest.now
-        (until take_end (item_at accepted) (length c.args.tokens.now) c.args.tokens.now) c.in_err-next.field-0.0
-        (sym c.in_default.ensures) c.in_err-next.ensures c.items.invariant)
+    (until take_end (item_at accepted) (length c.args.tokens.now) c.args.tokens.now) c.in_err-next.field-0.0
+    (sym c.in_default.ensures) c.in_err-next.ensures c.items.invariant)
 
 pub items-smaller : goal.items-smaller
 items-smaller c = item_shorter c.parts_are_sound.ensures c.globals.ensures.sound accepted (omega arith)
@@ -31,10 +31,10 @@ items-smaller c = item_shorter c.parts_are_sound.ensures c.globals.ensures.sound
 pub items-preserved : goal.items-preserved
 items-preserved c =
     let pushed : map view_item c.push.new.self.items ≡ map view_item c.items.items.items
-        ++ view_item c.in_ok-next.next ∷ [] = rw c.in_ok-push.ensures.items
-        (map_push _ c.items.items.items c.in_ok-next.next) in
+    ++ view_item c.in_ok-next.next ∷ [] = rw c.in_ok-push.ensures.items
+    (map_push _ c.items.items.items c.in_ok-next.next) in
     rw pushed (until_goes_on take_end (item_at accepted) (map view_item c.items.items.items) c.items.rest.now
-        (until take_end (item_at accepted) (length c.args.tokens.now) c.args.tokens.now)
-        (view_item c.in_ok-next.next) c.in_ok-next.after.now (sym c.in_default.ensures) c.in_ok-next.ensures
-        (item_shorter c.parts_are_sound.ensures c.globals.ensures.sound accepted (omega arith) c.items.rest.now
-        (view_item c.in_ok-next.next) c.in_ok-next.after.now c.in_ok-next.ensures) c.items.invariant)
+    (until take_end (item_at accepted) (length c.args.tokens.now) c.args.tokens.now)
+    (view_item c.in_ok-next.next) c.in_ok-next.after.now (sym c.in_default.ensures) c.in_ok-next.ensures
+    (item_shorter c.parts_are_sound.ensures c.globals.ensures.sound accepted (omega arith) c.items.rest.now
+    (view_item c.in_ok-next.next) c.in_ok-next.after.now c.in_ok-next.ensures) c.items.invariant)

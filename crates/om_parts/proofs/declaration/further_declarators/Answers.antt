@@ -28,10 +28,10 @@ pub returns-in_err-comma : goal.returns-in_err-comma
 returns-in_err-comma c =
     let p = err_from_is_err_and c.from_residual.result c.from_residual.ensures.1 in
     rw (p.1, p.2) (until_fails (take_mark Semicolon) (further_at (initial_at accepted c.args.initial))
-        (map view_further c.declarators.declarators.items) c.declarators.rest.now
-        (until (take_mark Semicolon) (further_at (initial_at accepted c.args.initial)) (length c.args.tokens.now)
-        c.args.tokens.now) c.in_err-comma.field-0.0 (sym c.in_default.ensures) c.in_err-comma.ensures
-        c.declarators.invariant)
+    (map view_further c.declarators.declarators.items) c.declarators.rest.now
+    (until (take_mark Semicolon) (further_at (initial_at accepted c.args.initial)) (length c.args.tokens.now)
+    c.args.tokens.now) c.in_err-comma.field-0.0 (sym c.in_default.ensures) c.in_err-comma.ensures
+    c.declarators.invariant)
 
 pub declarators-smaller : goal.declarators-smaller
 declarators-smaller c = initial_further_shorter accepted c.args.initial c.declarators.rest.now
@@ -41,13 +41,13 @@ pub declarators-preserved : goal.declarators-preserved
 declarators-preserved c =
     let inner : c.into_inner.result ≡ c.in_ok-comma.next.value = search rules in
     let pushed : map view_further c.push.new.self.items ≡ map view_further c.declarators.declarators.items
-        ++ (c.in_ok-comma.comma, view_declarator c.in_ok-comma.next.value)
-        ∷ [] = rw (c.in_ok-push.ensures.items, inner) (map_push view_further c.declarators.declarators.items
-        (c.in_ok-comma.comma, c.in_ok-comma.next.value)) in
+    ++ (c.in_ok-comma.comma, view_declarator c.in_ok-comma.next.value)
+    ∷ [] = rw (c.in_ok-push.ensures.items, inner) (map_push view_further c.declarators.declarators.items
+    (c.in_ok-comma.comma, c.in_ok-comma.next.value)) in
     rw pushed (until_goes_on (take_mark Semicolon) (further_at (initial_at accepted c.args.initial))
-        (map view_further c.declarators.declarators.items) c.declarators.rest.now
-        (until (take_mark Semicolon) (further_at (initial_at accepted c.args.initial)) (length c.args.tokens.now)
-        c.args.tokens.now) (c.in_ok-comma.comma, view_declarator c.in_ok-comma.next.value) c.in_ok-comma.after.now
-        (sym c.in_default.ensures) c.in_ok-comma.ensures (initial_further_shorter accepted c.args.initial
-        c.declarators.rest.now (c.in_ok-comma.comma, view_declarator c.in_ok-comma.next.value)
-        c.in_ok-comma.after.now c.in_ok-comma.ensures) c.declarators.invariant)
+    (map view_further c.declarators.declarators.items) c.declarators.rest.now
+    (until (take_mark Semicolon) (further_at (initial_at accepted c.args.initial)) (length c.args.tokens.now)
+    c.args.tokens.now) (c.in_ok-comma.comma, view_declarator c.in_ok-comma.next.value) c.in_ok-comma.after.now
+    (sym c.in_default.ensures) c.in_ok-comma.ensures (initial_further_shorter accepted c.args.initial
+    c.declarators.rest.now (c.in_ok-comma.comma, view_declarator c.in_ok-comma.next.value)
+    c.in_ok-comma.after.now c.in_ok-comma.ensures) c.declarators.invariant)

@@ -2,14 +2,14 @@ use Rattle.std.proofs.Common.{◌≡◌, ◌-◌, ◌∷◌, ◌++◌, [], Some,
 use Rattle.std.proofs.lemmas.List.{map_push}
 use Rattle.std.proofs.lemmas.Result.{err_from_is_err_and}
 use Rattle.om_lexer.specs.declared.token.Punctuator.TheVariants.{CloseParen}
-use Rattle.om_parts.specs.ExpressionReading.{argument_at, arguments_at, binary_at, binary_more, chain_at,
-    expression_at, operand_at}
+use Rattle.om_parts.specs.ExpressionReading.{argument_at, arguments_at, binary_at, binary_more, chain_at, expression_at}
+use Rattle.om_parts.specs.ExpressionReading.{operand_at}
 use Rattle.om_parts.specs.Reading.{take_mark, too_deep}
 use Rattle.om_tree.specs.Tree.{Binary}
 use Rattle.om_tree.specs.View.{view_argument, view_expression}
-use Rattle.om_parts.proofs.Chains.{chain_ends, chain_stops, chain_goes_on, no_binary, binary_over, binary_fails,
-    binary_on, binary_shorter, operand_shorter, argument_shorter, fails_or, binary_stops, level_stops, level_ends,
-    turn_goes_on}
+use Rattle.om_parts.proofs.Chains.{chain_ends, chain_stops, chain_goes_on, no_binary, binary_over, binary_fails}
+use Rattle.om_parts.proofs.Chains.{binary_on, binary_shorter, operand_shorter, argument_shorter, fails_or, binary_stops}
+use Rattle.om_parts.proofs.Chains.{level_stops, level_ends, turn_goes_on}
 use Rattle.om_parts.proofs.Loops.{until_ends, until_fails, until_goes_on}
 use Rattle.om_parts.proofs.Taken.{mark_shorter}
 use Rattle.om_parts.proofs.expression.+expression.Goals as goal
@@ -17,16 +17,16 @@ use Rattle.om_parts.proofs.expression.+expression.Goals as goal
 pub expression-returns : goal.expression-returns
 expression-returns t c =
     rw (turn_goes_on c.args.budget.beyond c.args.budget.turns c.in-Some.turns c.args.budget.room c.args.may_assign
-        c.args.tokens.now (view_expression c.in_ok-left.left.value) c.in_ok-left.rest.now
-        (omega (arith, c.in-Some.ensures)) c.in_ok-left.ensures) c.expression_after.ensures
+    c.args.tokens.now (view_expression c.in_ok-left.left.value) c.in_ok-left.rest.now
+    (omega (arith, c.in-Some.ensures)) c.in_ok-left.ensures) c.expression_after.ensures
 
 pub binary-returns-in_err-left : goal.binary-returns-in_err-left
 unfolding binary_at
 binary-returns-in_err-left t c =
     let p = err_from_is_err_and c.from_residual.result c.from_residual.ensures.1 in
     rw (p.1, p.2) (fails_or c.in_err-left.field-0.0 c.in_err-left.ensures
-        (λ fails. binary_stops c.args.budget.beyond (operand_at c.args.budget.beyond c.args.budget.turns
-        c.args.budget.room) c.args.tokens.now c.in_err-left.field-0.0 0 c.args.levels (omega arith) fails))
+    (λ fails. binary_stops c.args.budget.beyond (operand_at c.args.budget.beyond c.args.budget.turns
+    c.args.budget.room) c.args.tokens.now c.in_err-left.field-0.0 0 c.args.levels (omega arith) fails))
 
 pub binary-levels-init : goal.binary-levels-init
 unfolding binary_at
@@ -36,9 +36,9 @@ pub binary-returns-in_err-joined : goal.binary-returns-in_err-joined
 binary-returns-in_err-joined t c =
     let p = err_from_is_err_and c.from_residual-in_err-joined.result c.from_residual-in_err-joined.ensures.1 in
     rw (p.1, p.2) (fails_or c.in_err-joined.field-0.0 c.in_err-joined.ensures
-        (λ fails. level_stops c.args.budget.beyond (operand_at c.args.budget.beyond c.args.budget.turns
-        c.args.budget.room) c.args.tokens.now c.levels.tighter (view_expression c.levels.left.value)
-        c.levels.rest.now c.levels.invariant c.in_err-joined.field-0.0 c.args.levels c.levels-test.true fails))
+    (λ fails. level_stops c.args.budget.beyond (operand_at c.args.budget.beyond c.args.budget.turns
+    c.args.budget.room) c.args.tokens.now c.levels.tighter (view_expression c.levels.left.value)
+    c.levels.rest.now c.levels.invariant c.in_err-joined.field-0.0 c.args.levels c.levels-test.true fails))
 
 pub binary-levels-preserved : goal.binary-levels-preserved
 binary-levels-preserved t c = level_ends c.args.budget.beyond (operand_at c.args.budget.beyond c.args.budget.turns
@@ -49,7 +49,7 @@ pub operators-returns-in_err-within : goal.operators-returns-in_err-within
 operators-returns-in_err-within t c =
     let p = err_from_is_err_and c.from_residual.result c.from_residual.ensures.1 in
     let operands = binary_at c.args.budget.beyond (operand_at c.args.budget.beyond c.args.budget.turns
-        c.args.budget.room) c.args.tighter in
+    c.args.budget.room) c.args.tighter in
     let more = binary_more c.args.budget.beyond (8 - c.args.tighter) operands in
     let total = chain_at more (length c.args.tokens.now) (view_expression c.args.operand.value) c.args.tokens.now in
     let left = view_expression c.loop-operator.left.value in
@@ -58,15 +58,15 @@ operators-returns-in_err-within t c =
     let taken = sym c.in-Some.ensures in
     let lt = binary_shorter (8 - c.args.tighter) rest c.in-Some.operator c.in-Some.at c.in-Some.others.now taken in
     rw (p.1, p.2, over.1)
-        (inr (chain_stops more left rest total (too_deep c.in-Some.at)
-        (binary_over c.args.budget.beyond (8 - c.args.tighter) operands left rest c.in-Some.operator c.in-Some.at
-        c.in-Some.others.now taken over.0) (omega (arith, lt)) c.loop-operator.invariant))
+    (inr (chain_stops more left rest total (too_deep c.in-Some.at)
+    (binary_over c.args.budget.beyond (8 - c.args.tighter) operands left rest c.in-Some.operator c.in-Some.at
+    c.in-Some.others.now taken over.0) (omega (arith, lt)) c.loop-operator.invariant))
 
 pub operators-returns-in_err-right : goal.operators-returns-in_err-right
 operators-returns-in_err-right t c =
     let p = err_from_is_err_and c.from_residual-in_err-right.result c.from_residual-in_err-right.ensures.1 in
     let operands = binary_at c.args.budget.beyond (operand_at c.args.budget.beyond c.args.budget.turns
-        c.args.budget.room) c.args.tighter in
+    c.args.budget.room) c.args.tighter in
     let more = binary_more c.args.budget.beyond (8 - c.args.tighter) operands in
     let total = chain_at more (length c.args.tokens.now) (view_expression c.args.operand.value) c.args.tokens.now in
     let left = view_expression c.loop-operator.left.value in
@@ -74,23 +74,23 @@ operators-returns-in_err-right t c =
     let taken = sym c.in-Some.ensures in
     let lt = binary_shorter (8 - c.args.tighter) rest c.in-Some.operator c.in-Some.at c.in-Some.others.now taken in
     rw (p.1, p.2) (fails_or c.in_err-right.field-0.0 c.in_err-right.ensures (λ fails. chain_stops more left rest
-        total c.in_err-right.field-0.0 (binary_fails c.args.budget.beyond (8 - c.args.tighter) operands left rest
-        c.in-Some.operator c.in-Some.at c.in-Some.others.now taken c.in_err-right.field-0.0 c.in_ok-within.ensures
-        fails) (omega (arith, lt)) c.loop-operator.invariant))
+    total c.in_err-right.field-0.0 (binary_fails c.args.budget.beyond (8 - c.args.tighter) operands left rest
+    c.in-Some.operator c.in-Some.at c.in-Some.others.now taken c.in_err-right.field-0.0 c.in_ok-within.ensures
+    fails) (omega (arith, lt)) c.loop-operator.invariant))
 
 pub operators-loop-operator-smaller : goal.operators-loop-operator-smaller
 operators-loop-operator-smaller t c =
     let lt = binary_shorter (8 - c.args.tighter) c.loop-operator.rest.now c.in-Some.operator c.in-Some.at
-        c.in-Some.others.now (sym c.in-Some.ensures) in
+    c.in-Some.others.now (sym c.in-Some.ensures) in
     let le = operand_shorter c.args.budget.beyond c.args.budget.turns c.args.budget.room c.args.tighter
-        c.in-Some.others.now (view_expression c.in_ok-right.right.value) c.in_ok-right.others.now
-        c.in_ok-right.ensures in
+    c.in-Some.others.now (view_expression c.in_ok-right.right.value) c.in_ok-right.others.now
+    c.in_ok-right.ensures in
     omega (arith, lt, le)
 
 pub operators-loop-operator-preserved : goal.operators-loop-operator-preserved
 operators-loop-operator-preserved t c =
     let operands = binary_at c.args.budget.beyond (operand_at c.args.budget.beyond c.args.budget.turns
-        c.args.budget.room) c.args.tighter in
+    c.args.budget.room) c.args.tighter in
     let more = binary_more c.args.budget.beyond (8 - c.args.tighter) operands in
     let total = chain_at more (length c.args.tokens.now) (view_expression c.args.operand.value) c.args.tokens.now in
     let left = view_expression c.loop-operator.left.value in
@@ -99,21 +99,21 @@ operators-loop-operator-preserved t c =
     let taken = sym c.in-Some.ensures in
     let lt = binary_shorter (8 - c.args.tighter) rest c.in-Some.operator c.in-Some.at c.in-Some.others.now taken in
     let le = operand_shorter c.args.budget.beyond c.args.budget.turns c.args.budget.room c.args.tighter
-        c.in-Some.others.now right c.in_ok-right.others.now c.in_ok-right.ensures in
+    c.in-Some.others.now right c.in_ok-right.others.now c.in_ok-right.ensures in
     rw c.in_ok-left.ensures (chain_goes_on more left rest total (Binary left c.in-Some.operator c.in-Some.at right)
-        c.in_ok-right.others.now (binary_on c.args.budget.beyond (8 - c.args.tighter) operands left rest
-        c.in-Some.operator c.in-Some.at c.in-Some.others.now taken right c.in_ok-right.others.now
-        c.in_ok-within.ensures c.in_ok-right.ensures) (omega (arith, lt, le)) c.loop-operator.invariant)
+    c.in_ok-right.others.now (binary_on c.args.budget.beyond (8 - c.args.tighter) operands left rest
+    c.in-Some.operator c.in-Some.at c.in-Some.others.now taken right c.in_ok-right.others.now
+    c.in_ok-within.ensures c.in_ok-right.ensures) (omega (arith, lt, le)) c.loop-operator.invariant)
 
 pub operators-returns : goal.operators-returns
 operators-returns t c =
     let operands = binary_at c.args.budget.beyond (operand_at c.args.budget.beyond c.args.budget.turns
-        c.args.budget.room) c.args.tighter in
+    c.args.budget.room) c.args.tighter in
     let more = binary_more c.args.budget.beyond (8 - c.args.tighter) operands in
     let total = chain_at more (length c.args.tokens.now) (view_expression c.args.operand.value) c.args.tokens.now in
     let left = view_expression c.loop-operator.left.value in
     chain_ends more left c.loop-operator.rest.now total (no_binary c.args.budget.beyond (8 - c.args.tighter)
-        operands left c.loop-operator.rest.now (sym c.in_default.ensures)) c.loop-operator.invariant
+    operands left c.loop-operator.rest.now (sym c.in_default.ensures)) c.loop-operator.invariant
 
 pub arguments-further-init : goal.arguments-further-init
 unfolding arguments_at
@@ -125,19 +125,19 @@ pub arguments-returns-in-Some : goal.arguments-returns-in-Some
 arguments-returns-in-Some t c =
     let whole = expression_at c.args.budget.beyond c.args.budget.turns true c.args.budget.room in
     until_ends (take_mark CloseParen) (argument_at c.args.budget.beyond whole)
-        (map view_argument c.further.arguments.items) c.further.rest.now (arguments_at c.args.budget.beyond whole
-        (view_expression c.args.first.value) c.args.tokens.now) c.in-Some.right c.in-Some.after.now
-        (sym c.in-Some.ensures) (mark_shorter CloseParen c.further.rest.now c.in-Some.right c.in-Some.after.now
-        (sym c.in-Some.ensures)) c.further.invariant
+    (map view_argument c.further.arguments.items) c.further.rest.now (arguments_at c.args.budget.beyond whole
+    (view_expression c.args.first.value) c.args.tokens.now) c.in-Some.right c.in-Some.after.now
+    (sym c.in-Some.ensures) (mark_shorter CloseParen c.further.rest.now c.in-Some.right c.in-Some.after.now
+    (sym c.in-Some.ensures)) c.further.invariant
 
 pub arguments-returns-in_err-comma : goal.arguments-returns-in_err-comma
 arguments-returns-in_err-comma t c =
     let p = err_from_is_err_and c.from_residual-in_err-comma.result c.from_residual-in_err-comma.ensures.1 in
     let whole = expression_at c.args.budget.beyond c.args.budget.turns true c.args.budget.room in
     rw (p.1, p.2) (until_fails (take_mark CloseParen) (argument_at c.args.budget.beyond whole)
-        (map view_argument c.further.arguments.items) c.further.rest.now (arguments_at c.args.budget.beyond whole
-        (view_expression c.args.first.value) c.args.tokens.now) c.in_err-comma.field-0.0 (sym c.in_default.ensures)
-        c.in_err-comma.ensures c.further.invariant)
+    (map view_argument c.further.arguments.items) c.further.rest.now (arguments_at c.args.budget.beyond whole
+    (view_expression c.args.first.value) c.args.tokens.now) c.in_err-comma.field-0.0 (sym c.in_default.ensures)
+    c.in_err-comma.ensures c.further.invariant)
 
 pub arguments-further-smaller : goal.arguments-further-smaller
 arguments-further-smaller t c = argument_shorter c.args.budget.beyond c.args.budget.turns c.args.budget.room
@@ -150,10 +150,10 @@ arguments-further-preserved t c =
     let next = view_argument (Some c.in_ok-comma.comma, c.in_ok-comma.next.value) in
     let inner : c.into_inner-in-further.result ≡ c.in_ok-comma.next.value = search rules in
     let pushed : map view_argument c.push-in-further.new.self.items ≡ map view_argument c.further.arguments.items
-        ++ next ∷ [] = rw (c.in_ok-push-2.ensures.items, inner) (map_push _ c.further.arguments.items
-        (Some c.in_ok-comma.comma, c.in_ok-comma.next.value)) in
+    ++ next ∷ [] = rw (c.in_ok-push-2.ensures.items, inner) (map_push _ c.further.arguments.items
+    (Some c.in_ok-comma.comma, c.in_ok-comma.next.value)) in
     rw pushed (until_goes_on (take_mark CloseParen) (argument_at c.args.budget.beyond whole)
-        (map view_argument c.further.arguments.items) c.further.rest.now (arguments_at c.args.budget.beyond whole
-        (view_expression c.args.first.value) c.args.tokens.now) next c.in_ok-comma.after.now
-        (sym c.in_default.ensures) c.in_ok-comma.ensures (argument_shorter c.args.budget.beyond c.args.budget.turns
-        c.args.budget.room c.further.rest.now next c.in_ok-comma.after.now c.in_ok-comma.ensures) c.further.invariant)
+    (map view_argument c.further.arguments.items) c.further.rest.now (arguments_at c.args.budget.beyond whole
+    (view_expression c.args.first.value) c.args.tokens.now) next c.in_ok-comma.after.now
+    (sym c.in_default.ensures) c.in_ok-comma.ensures (argument_shorter c.args.budget.beyond c.args.budget.turns
+    c.args.budget.room c.further.rest.now next c.in_ok-comma.after.now c.in_ok-comma.ensures) c.further.invariant)

@@ -1,7 +1,7 @@
 use Rattle.std.proofs.Common.{◌≡◌, ◌-◌, ◌+◌, ◌*◌, length, map, true, Ok}
 use Rattle.om_lexer.specs.declared.token.Punctuator.TheVariants.{CloseParen}
-use Rattle.om_parts.specs.ExpressionReading.{argument_at, arguments_at, binary_at, binary_more, chain_at,
-    expression_at, operand_at}
+use Rattle.om_parts.specs.ExpressionReading.{argument_at, arguments_at, binary_at, binary_more, chain_at, expression_at}
+use Rattle.om_parts.specs.ExpressionReading.{operand_at}
 use Rattle.om_parts.specs.Reading.{take_mark}
 use Rattle.om_tree.specs.View.{view_argument, view_expression}
 use Rattle.om_parts.proofs.Chains.{GoesOn}
@@ -60,9 +60,9 @@ invariant-binary-levels l = binary_at l.budget.beyond (operand_at l.budget.beyon
 abbrev pub invariant-operators-loop-operator : goal.invariant-operators-loop-operator
 invariant-operators-loop-operator l =
     let more = binary_more l.budget.beyond (8 - l.tighter)
-        (binary_at l.budget.beyond (operand_at l.budget.beyond l.budget.turns l.budget.room) l.tighter) in
+    (binary_at l.budget.beyond (operand_at l.budget.beyond l.budget.turns l.budget.room) l.tighter) in
     GoesOn more (view_expression l.left.value) l.rest
-        (chain_at more (length l.tokens) (view_expression l.fn.operand.value) l.tokens)
+    (chain_at more (length l.tokens) (view_expression l.fn.operand.value) l.tokens)
 
 abbrev pub decreases-operators-loop-operator : goal.decreases-operators-loop-operator
 decreases-operators-loop-operator l = length l.rest

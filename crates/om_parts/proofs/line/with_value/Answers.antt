@@ -14,8 +14,8 @@ pub returns-in-Ok : goal.returns-in-Ok
 returns-in-Ok c =
     let inner : c.into_inner.result ≡ c.in-Ok.value.value = search rules in
     some_read c.args.directive accepted c.args.run.now c.filled-in-Ok.result c.in-Some.tokens.now
-        c.into_inner.result (sym c.in-Some.ensures) (rw inner c.in-Ok.ensures) c.filled-in-Ok.ensures.made
-        c.filled-in-Ok.ensures.refused
+    c.into_inner.result (sym c.in-Some.ensures) (rw inner c.in-Ok.ensures) c.filled-in-Ok.ensures.made
+    c.filled-in-Ok.ensures.refused
 
 pub returns-in-Err : goal.returns-in-Err
 returns-in-Err c = value_fails c.args.directive accepted c.args.run.now c.in-Some.tokens.now c.in-Err.fault

@@ -17,8 +17,8 @@ unfolding further_at
 returns-in_err-comma c =
     let p = err_from_is_err_and c.from_residual.result c.from_residual.ensures.1 in
     rw (p.1, p.2) (goes_stops (take_kind (Punctuator CloseParen)) further_at c.names.names c.names.rest.now
-        (until place (take_kind (Punctuator CloseParen)) further_at (suc (length c.args.tokens.now)) []
-        c.args.tokens.now) c.in_err-comma.field-0.0 (sym c.in_default.ensures) c.in_err-comma.ensures c.names.invariant)
+    (until place (take_kind (Punctuator CloseParen)) further_at (suc (length c.args.tokens.now)) []
+    c.args.tokens.now) c.in_err-comma.field-0.0 (sym c.in_default.ensures) c.in_err-comma.ensures c.names.invariant)
 
 pub names-smaller : goal.names-smaller
 names-smaller c = further_shorter [] c.names.rest.now (c.in_ok-comma.comma, c.in_ok-comma.next)
@@ -28,9 +28,9 @@ pub names-preserved : goal.names-preserved
 unfolding further_at
 names-preserved c =
     let pushed : c.push.new.self ≡ c.names.names ++ (c.in_ok-comma.comma, c.in_ok-comma.next)
-        ∷ [] = c.in_ok-push.ensures.added in
+    ∷ [] = c.in_ok-push.ensures.added in
     rw pushed (goes_on place (take_kind (Punctuator CloseParen)) further_at c.names.names c.names.rest.now
-        (until place (take_kind (Punctuator CloseParen)) further_at (suc (length c.args.tokens.now)) []
-        c.args.tokens.now) (c.in_ok-comma.comma, c.in_ok-comma.next) c.in_ok-comma.behind.now
-        (sym c.in_default.ensures) c.in_ok-comma.ensures (further_shorter [] c.names.rest.now
-        (c.in_ok-comma.comma, c.in_ok-comma.next) c.in_ok-comma.behind.now c.in_ok-comma.ensures) c.names.invariant)
+    (until place (take_kind (Punctuator CloseParen)) further_at (suc (length c.args.tokens.now)) []
+    c.args.tokens.now) (c.in_ok-comma.comma, c.in_ok-comma.next) c.in_ok-comma.behind.now
+    (sym c.in_default.ensures) c.in_ok-comma.ensures (further_shorter [] c.names.rest.now
+    (c.in_ok-comma.comma, c.in_ok-comma.next) c.in_ok-comma.behind.now c.in_ok-comma.ensures) c.names.invariant)

@@ -11,10 +11,12 @@ returns-in_default c =
 pub returns-in-Some-expression_at : goal.returns-in-Some-expression_at
 returns-in-Some-expression_at c =
     let found = sym (before_found c.args.place c.tokens.rest.now c.in-Some.first.now c.in-Some.behind.now
-        c.in-Some-expression_at.expression.now (sym c.in-Some.ensures) (sym c.in-Some-expression_at.ensures))
-        ∙ c.tokens.invariant in
-    record { found = is_first c.args.place c.args.tokens.now c.in-Some-expression_at.expression.now (sym found);
-        absent = λ none. absurd cc }
+    c.in-Some-expression_at.expression.now (sym c.in-Some.ensures) (sym c.in-Some-expression_at.ensures))
+    ∙ c.tokens.invariant in
+    record {
+      found = is_first c.args.place c.args.tokens.now c.in-Some-expression_at.expression.now (sym found);
+      absent = λ none. absurd cc;
+    }
 
 pub tokens-preserved : goal.tokens-preserved
 tokens-preserved c = before_goes_on c.args.place c.tokens.rest.now c.in-Some.first.now c.in-Some.behind.now

@@ -14,5 +14,8 @@ items-preserved g c = first_goes_on c.items.rest.now c.in-Some.item.now c.in-Som
     (sym c.in_default-expression.ensures) ∙ c.items.invariant
 
 pub items-smaller : goal.items-smaller
-items-smaller g c = omega (arith, item_shorter c.items.rest.now c.in-Some.item.now c.in-Some.behind.now
-    (sym c.in-Some.ensures))
+items-smaller g c = omega (
+  arith,
+  item_shorter c.items.rest.now c.in-Some.item.now c.in-Some.behind.now
+      (sym c.in-Some.ensures),
+)

@@ -7,5 +7,5 @@ use Rattle.om_share.proofs.shares.value_of.Goals as goal
 pub returns : goal.returns
 returns c =
     value_is c.args.iteration (to_z w128 (of_z w128 c.from.result)) (to_z w128 (of_z w128 c.from-2.result))
-        (to_z w128 (of_z w128 c.from-3.result)) c.args.lower c.args.step
+    (to_z w128 (of_z w128 c.from-3.result)) c.args.lower c.args.step
     (search rules) c.ranges.lower c.ranges.step (omega (arith, ints)) (omega (arith, ints)) (omega (arith, ints))

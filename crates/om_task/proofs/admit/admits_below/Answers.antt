@@ -6,13 +6,13 @@ use Rattle.om_task.proofs.admit.admits_below.Goals as goal
 pub returns-then-not-admits_on : goal.returns-then-not-admits_on
 returns-then-not-admits_on c =
     admits_none c.args.program.now c.args.name.now c.args.contexts.now c.loop-depth.depth c.in-Some.context.now
-        (sym c.get.ensures ∙ ap (option_map (λ t. t.now)) c.in-Some.is) (sym c.admits_on.ensures
-        ∙ c.if-not-admits_on.true)
+    (sym c.get.ensures ∙ ap (option_map (λ t. t.now)) c.in-Some.is) (sym c.admits_on.ensures
+    ∙ c.if-not-admits_on.true)
     ∙ c.loop-depth.invariant
 
 pub loop-depth-preserved : goal.loop-depth-preserved
 loop-depth-preserved c =
     admits_more c.args.program.now c.args.name.now c.args.contexts.now c.loop-depth.depth c.in-Some.context.now
-        (sym c.get.ensures ∙ ap (option_map (λ t. t.now)) c.in-Some.is) (sym c.admits_on.ensures
-        ∙ c.if-not-admits_on.false)
+    (sym c.get.ensures ∙ ap (option_map (λ t. t.now)) c.in-Some.is) (sym c.admits_on.ensures
+    ∙ c.if-not-admits_on.false)
     ∙ c.loop-depth.invariant

@@ -12,7 +12,7 @@ loop-number-init c =
     c.in_ok-create-2.ensures.state
     ∙ (λ j. with_value (obj.Events 0) (c.in_ok-initial_records.ensures j) (c.in_ok-create.ensures.state j))
     ∙ (λ j. with_value (obj.Events 0) (value.Events (first_records 1 0))
-        (with_value (obj.Control 0) (c.in_ok-first_control.ensures j) (c.new-store.ensures j)))
+    (with_value (obj.Control 0) (c.in_ok-first_control.ensures j) (c.new-store.ensures j)))
     ∙ start-none c.args.program.now
 
 pub loop-number-preserved : goal.loop-number-preserved
@@ -20,9 +20,9 @@ loop-number-preserved c =
     let n : ℕ = c.loop-number.number in
     let d : GlobalVariable = c.global-item.result in
     let here : d ≡ get_or c.args.program.now.globals n d = c.global-item.is ∙ ap (λ gs. get_or gs n d)
-        c.globals-global-items.ensures.same in
+    c.globals-global-items.ensures.same in
     let within : n < length c.args.program.now.globals = subst (λ gs. n < length gs)
-        c.globals-global-items.ensures.same (omega arith) in
+    c.globals-global-items.ensures.same (omega arith) in
     c.in_ok-create-3.ensures.state
     ∙ (λ j. with_value (obj.Global n 0) (c.initial_value.ensures j) (c.loop-number.invariant j))
     ∙ (λ j. with_value (obj.Global n 0) (int (initial_in (Some (here j)))) (start_below c.args.program.now n))

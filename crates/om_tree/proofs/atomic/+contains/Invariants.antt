@@ -8,4 +8,4 @@ use Rattle.om_tree.proofs.atomic.+contains.Given as goal
 abbrev pub invariant-any_contains-loop-value : goal.invariant-any_contains-loop-value
 invariant-any_contains-loop-value l =
     arguments_contain (view_expression l.target) (arguments (map view_argument (drop l.value-index l.values)))
-        ≡ arguments_contain (view_expression l.target) (arguments (map view_argument l.values))
+    ≡ arguments_contain (view_expression l.target) (arguments (map view_argument l.values))

@@ -8,5 +8,5 @@ use Rattle.om_tree.proofs.atomic.+same.Given as goal
 abbrev pub invariant-same_arguments-loop-value : goal.invariant-same_arguments-loop-value
 invariant-same_arguments-loop-value l =
     same_arguments (arguments (map view_argument (drop l.value-index l.values)))
-        (arguments (map view_argument l.rest)) ≡ same_arguments (arguments (map view_argument l.values))
-        (arguments (map view_argument l.others))
+    (arguments (map view_argument l.rest)) ≡ same_arguments (arguments (map view_argument l.values))
+    (arguments (map view_argument l.others))

@@ -4,8 +4,8 @@ use Rattle.om_history.specs.Cones.{rolled}
 use Rattle.om_history.specs.Commands.{TakesCone}
 use Rattle.om_history.specs.declared.reply.RollReply.TheVariants.{Rolled}
 use Rattle.om_history.specs.Pasts.{past_in, history_in}
-use Rattle.om_history.proofs.Rolling.{no_items, some_items, rolled-some, taken_by-is, none_taken-is, takes-is,
-    unrolled-is}
+use Rattle.om_history.proofs.Rolling.{no_items, some_items, rolled-some, taken_by-is, none_taken-is, takes-is}
+use Rattle.om_history.proofs.Rolling.{unrolled-is}
 use Rattle.om_history.proofs.history.History.roll.Goals as goal
 
 pub returns-then-is_empty-clause-reply : goal.returns-then-is_empty-clause-reply

@@ -3,8 +3,8 @@ use Rattle.std.proofs.Common.{◌∙◌, sym, ap}
 use Rattle.om_cells.specs.declared.step.Outcome.{Outcome}
 use Rattle.om_history.specs.Runs.{entry_for, history_with}
 use Rattle.om_history.specs.Pasts.{past_in, entries_in}
-use Rattle.om_history.proofs.Soundness.{fits_in, reply_to_step-is, after_step-is, pushed_entries, past_after-is,
-    kept-with}
+use Rattle.om_history.proofs.Soundness.{fits_in, reply_to_step-is, after_step-is, pushed_entries, past_after-is}
+use Rattle.om_history.proofs.Soundness.{kept-with}
 use Rattle.om_history.proofs.history.History.take.Goals as goal
 
 pub append-requires : goal.append-requires

@@ -8,4 +8,4 @@ pub returns : goal.returns
 returns c =
     let name = c.args.name.now in
     c.copied.ensures ∙ c.get.ensures.value ∙ sym (lookup-macros_of (bytes_eq name) c.self.inside.numbers.entries)
-        ∙ ap (λ macros. number_of_macro macros name) c.self.view_is
+    ∙ ap (λ macros. number_of_macro macros name) c.self.view_is

@@ -1,7 +1,7 @@
 use Rattle.std.proofs.Common.{[], ◌∷◌, ◌++◌, ◌≡◌, suc, reverse, refl, sym, subst, ap, ◌∙◌, arith}
 use Rattle.std.proofs.lemmas.List.{reverse-append}
-use Rattle.om_names.specs.Nesting.{AreMarked, AreNested, ChangedFor, Lists, end_of, entered, marks_in, marks_of,
-    with_listing}
+use Rattle.om_names.specs.Nesting.{AreMarked, AreNested, ChangedFor, Lists, end_of, entered, marks_in, marks_of}
+use Rattle.om_names.specs.Nesting.{with_listing}
 use Rattle.om_names.proofs.Marks.{lists-entered}
 use Rattle.om_names.proofs.nesting.Nesting.enter.Goals as goal
 
@@ -12,13 +12,13 @@ invariant_of-self-2 c =
     let depth = c.args.depth in
     let region = c.args.region in
     let all : c.marks_of-outer.result ≡ marks_of outer = c.marks_of-outer.ensures ∙ ap (λ cs. marks_of (reverse cs))
-        (c.as_slice.ensures.value ∙ c.in_ok-reserve.ensures.items) in
+    (c.as_slice.ensures.value ∙ c.in_ok-reserve.ensures.items) in
     let marks : c.marks_in-marks.result ≡ marks_in region (suc depth) (marks_of outer) = c.marks_in-marks.ensures
-        ∙ ap (λ n. marks_in region n c.marks_of-outer.result) c.requires.next ∙ ap (marks_in region (suc depth)) all in
+    ∙ ap (λ n. marks_in region n c.marks_of-outer.result) c.requires.next ∙ ap (marks_in region (suc depth)) all in
     let pushed : reverse c.push.new.self.items ≡ entered depth region outer =
     ap reverse (c.in-Ok.ensures.items
-        ∙ ap (λ cs. cs ++ record { depth = depth; region = region; marks = c.marks_in-marks.result } ∷ [])
-        c.in_ok-reserve.ensures.items)
+    ∙ ap (λ cs. cs ++ record { depth = depth; region = region; marks = c.marks_in-marks.result } ∷ [])
+    c.in_ok-reserve.ensures.items)
     ∙ reverse-append items (record { depth = depth; region = region; marks = c.marks_in-marks.result } ∷ [])
     ∙ ap (λ marks. record { depth = depth; region = region; marks = marks } ∷ outer) marks in
     let nested : AreNested outer depth = subst (λ cs. AreNested cs depth) (sym c.self.view_is) c.requires.nested in
@@ -27,7 +27,7 @@ invariant_of-self-2 c =
       (omega arith, nested),
       lists-entered c.self.inside.listings c.list.new.listings outer depth region nested c.self.invariant.2
           (subst (λ n. ChangedFor (with_listing n (marks_of outer)) c.self.inside.listings c.list.new.listings
-              region.shared) c.requires.next
+          region.shared) c.requires.next
           (subst (λ marks. ChangedFor (with_listing c.args.inside marks) c.self.inside.listings c.list.new.listings
-              region.shared) all c.in_default.ensures)),
+          region.shared) all c.in_default.ensures)),
     )

@@ -22,4 +22,4 @@ returns-else-depth-marks_without c =
     let none = c.if-depth-marks_without.false in
     le-ltb c.args.depth c.marks_without.result.copying none
     ∙ sym (copied-mark c.args.self.now c.args.depth c.args.name.now (subst (λ marks. marks.copying ≤ c.args.depth)
-        c.marks_without.ensures none))
+    c.marks_without.ensures none))

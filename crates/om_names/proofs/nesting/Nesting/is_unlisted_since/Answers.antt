@@ -8,4 +8,4 @@ pub returns : goal.returns
 returns c =
     ap (λ marks. nat_lt c.args.depth marks.asking) c.marks_without.ensures
     ∙ unlisted-mark c.args.self.now (end_of c.args.self.now) c.args.depth c.args.name.now
-        (subst (λ cs. AreNested cs (end_of cs)) c.self.view_is c.self.invariant.1)
+    (subst (λ cs. AreNested cs (end_of cs)) c.self.view_is c.self.invariant.1)

@@ -10,7 +10,7 @@ returns c =
     let name = c.args.name.now in
     c.marks_behind.ensures
     ∙ ap (λ found. marks_behind found c.marks_of-all.result) (c.innermost.ensures ∙ ap innermost_of
-        (c.self.invariant.2 name))
+    (c.self.invariant.2 name))
     ∙ ap (marks_behind _) (c.marks_of-all.ensures ∙ ap (λ cs. marks_of (reverse cs)) c.as_slice.ensures.value)
     ∙ marks-without constructs (end_of constructs) name c.self.invariant.1
     ∙ ap (λ cs. marks_without cs name) c.self.view_is

@@ -17,14 +17,14 @@ returns over c other =
           ap (λ inside. seen_in (table_of inside.names.entries) other) w.self-inside-is
           ∙ ap (λ now. seen_in (table_of now) other) (c.get_mut.follows.holds left).0
           ∙ seen-write without_innermost es name seen left other (sym c.get_mut.ensures.value ∙ ap option_copied_mut
-              w.in-Some.is) (sym (popped seen.items left.items w.pop-innermost.result w.pop-innermost.ensures.items
-              (λ some. w.pop-innermost.ensures.variant.1 (omega (arith, seen.ok.0, some)))))
+          w.in-Some.is) (sym (popped seen.items left.items w.pop-innermost.result w.pop-innermost.ensures.items
+          (λ some. w.pop-innermost.ensures.variant.1 (omega (arith, seen.ok.0, some)))))
           ∙ ap (λ table. if bytes_eq other name then without_innermost (seen_in table other) else seen_in table
-              other) c.self.view_is
+          other) c.self.view_is
       | in_default w ↦
           ap (λ inside. seen_in (table_of inside.names.entries) other) w.self-inside-is
           ∙ ap (λ now. seen_in (table_of now.entries) other) c.get_mut.follows.holds-at-none
           ∙ seen-absent es name other (sym c.get_mut.ensures.value ∙ ap option_copied_mut w.in_default.is)
           ∙ ap (λ table. if bytes_eq other name then without_innermost (seen_in table other) else seen_in table
-              other) c.self.view_is
+          other) c.self.view_is
     ]

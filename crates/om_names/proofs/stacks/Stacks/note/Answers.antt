@@ -15,17 +15,17 @@ returns-in_err-push-in-Some-clause-unchanged_on_error over c =
     (λ other.
     ap (λ now. seen_in (table_of now) other) (c.get_mut.follows.holds c.push.new.self).0
     ∙ seen-kept c.self.inside.names.entries c.args.name.now c.in-Some.seen.now c.push.new.self other
-        (sym c.get_mut.ensures.value ∙ ap option_copied_mut c.in-Some.is) c.in_err-push-in-Some.ensures.items
+    (sym c.get_mut.ensures.value ∙ ap option_copied_mut c.in-Some.is) c.in_err-push-in-Some.ensures.items
     ∙ ap (λ table. seen_in table other) c.self.view_is)
 
 pub returns-in_ok-push-in-Some-clause-noted : goal.returns-in_ok-push-in-Some-clause-noted
 returns-in_ok-push-in-Some-clause-noted over c other =
     ap (λ now. seen_in (table_of now) other) (c.get_mut.follows.holds c.push.new.self).0
     ∙ seen-write (λ seen. seen ++ c.args.item ∷ []) c.self.inside.names.entries c.args.name.now c.in-Some.seen.now
-        c.push.new.self other (sym c.get_mut.ensures.value ∙ ap option_copied_mut c.in-Some.is)
-        c.in_ok-push-in-Some.ensures.items
+    c.push.new.self other (sym c.get_mut.ensures.value ∙ ap option_copied_mut c.in-Some.is)
+    c.in_ok-push-in-Some.ensures.items
     ∙ ap (λ table. if bytes_eq other c.args.name.now then seen_in table other ++ c.args.item ∷ [] else seen_in table
-        other) c.self.view_is
+    other) c.self.view_is
 
 pub returns-in_ok-insert-in-None-clause-noted : goal.returns-in_ok-insert-in-None-clause-noted
 returns-in_ok-insert-in-None-clause-noted over c other =
@@ -36,13 +36,13 @@ returns-in_ok-insert-in-None-clause-noted over c other =
     let same = c.in_ok-from_slice-in-None.ensures.items in
     let kept = c.get_mut.follows.holds-at-none in
     let none = ap (λ n. lookup (names_key name) n.entries) kept ∙ sym c.get_mut.ensures.value ∙ ap option_copied_mut
-        c.in-None.is in
+    c.in-None.is in
     let absent = ap (λ n. lookup (names_key n) names.entries) same ∙ none in
     ap (λ now. seen_in (table_of now) other) (c.in_ok-insert-in-None.ensures.entries ∙ insert_entry-new _ names key
-        seen absent)
+    seen absent)
     ∙ seen-first names.entries key name seen c.args.item other same none (c.in_ok-push-in-None.ensures.items
-        ∙ ap (λ seen. seen ++ c.args.item ∷ []) c.new-seen.ensures.items)
+    ∙ ap (λ seen. seen ++ c.args.item ∷ []) c.new-seen.ensures.items)
     ∙ ap (λ n. if bytes_eq other name then seen_in (table_of n.entries) other ++ c.args.item ∷ [] else seen_in
-        (table_of n.entries) other) kept
+    (table_of n.entries) other) kept
     ∙ ap (λ table. if bytes_eq other name then seen_in table other ++ c.args.item ∷ [] else seen_in table other)
-        c.self.view_is
+    c.self.view_is

@@ -16,6 +16,6 @@ invariant_of-self-2 c =
       subst (λ es. Shows fields.sightings (scope_of es ∷ scopes_of c.enter_scope.new.outer.items))
           (sym c.enter_scope.ensures.entered)
           (shows-empty fields.sightings (scopes_of c.enter_scope.new.outer.items)
-              (subst (Shows fields.sightings)
-              (sym (ap (λ ts. scopes_of ts) tables ∙ scopes-push outer fields.inner)) c.self.invariant.2)),
+          (subst (Shows fields.sightings)
+          (sym (ap (λ ts. scopes_of ts) tables ∙ scopes-push outer fields.inner)) c.self.invariant.2)),
     )

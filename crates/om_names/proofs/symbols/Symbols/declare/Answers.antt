@@ -25,8 +25,8 @@ declared c =
     let same = c.in_ok-key.ensures.items in
     let kept = c.in_ok-reserve.ensures.entries in
     let absent = ap (λ es. lookup (λ k. bytes_eq key.items k.items) es) kept
-        ∙ sym (lookup-scope_of (bytes_eq key.items) entries)
-        ∙ ap (λ bytes. lookup (bytes_eq bytes) (scope_of entries)) same ∙ undeclared c in
+    ∙ sym (lookup-scope_of (bytes_eq key.items) entries)
+    ∙ ap (λ bytes. lookup (bytes_eq bytes) (scope_of entries)) same ∙ undeclared c in
     ap scope_of (c.in-Ok.ensures.entries ∙ insert_entry-new _ c.reserve.new.self key c.args.meaning absent)
     ∙ scope_of-push c.reserve.new.self.entries key c.args.meaning
     ∙ ap (λ es. scope_of es ++ (key.items, c.args.meaning) ∷ []) kept
@@ -37,18 +37,23 @@ invariant_of-self-2 c =
     let fields = c.self.inside in
     let outer = scopes_of fields.outer.items in
     let depth : c.len-depth.result ≡ length outer = c.len-depth.ensures ∙ fields.outer.ok.0
-        ∙ sym (length-scopes fields.outer.items) in (
+    ∙ sym (length-scopes fields.outer.items) in (
       c.self.invariant.0,
       c.self.invariant.1,
       subst (λ scope. Shows c.note.new.self (scope ∷ outer)) (sym (declared c))
           (shows-push fields.sightings c.note.new.self (scope_of fields.inner.entries) outer c.args.name.now
-              c.args.meaning c.len-depth.result (undeclared c) depth c.in_ok-note.ensures.noted c.self.invariant.2),
+          c.args.meaning c.len-depth.result (undeclared c) depth c.in_ok-note.ensures.noted c.self.invariant.2),
     )
 
 pub returns : goal.returns
 returns c =
     let fields = c.self.inside in
-    ap (λ inner. record { inner = inner; outer = enclosing_of (scopes_of fields.outer.items) fields.nesting;
-        globals = fields.globals; cells = fields.cells; definitions = fields.definitions; defined = fields.defined
-        }) (declared c)
+    ap (λ inner. record {
+      inner = inner;
+      outer = enclosing_of (scopes_of fields.outer.items) fields.nesting;
+      globals = fields.globals;
+      cells = fields.cells;
+      definitions = fields.definitions;
+      defined = fields.defined;
+    }) (declared c)
     ∙ ap (λ scopes. with_bindings scopes ((c.args.name.now, c.args.meaning) ∷ [])) c.self.view_is

@@ -12,12 +12,12 @@ invariant_of-self-2 c =
     let outer = fields.outer.items in
     let tables = c.enter_scope.ensures.outer ∙ ap (λ ts. ts ++ fields.inner ∷ []) c.in_ok-reserve.ensures.items in
     let more : length outer ≤ length c.enter_scope.new.outer.items = rw tables
-        (omega (arith, length-append outer (fields.inner ∷ []))) in (
+    (omega (arith, length-append outer (fields.inner ∷ []))) in (
       c.self.invariant.0,
       nested-deeper fields.nesting (length outer) (length c.enter_scope.new.outer.items) more c.self.invariant.1,
       subst (λ es. Shows fields.sightings (scope_of es ∷ scopes_of c.enter_scope.new.outer.items))
           (sym c.enter_scope.ensures.entered)
           (shows-empty fields.sightings (scopes_of c.enter_scope.new.outer.items)
-              (subst (Shows fields.sightings)
-              (sym (ap (λ ts. scopes_of ts) tables ∙ scopes-push outer fields.inner)) c.self.invariant.2)),
+          (subst (Shows fields.sightings)
+          (sym (ap (λ ts. scopes_of ts) tables ∙ scopes-push outer fields.inner)) c.self.invariant.2)),
     )

@@ -8,8 +8,11 @@ use Rattle.om_names.proofs.Tables.{scope_of-push}
 use Rattle.om_names.proofs.symbols.Symbols.enter_region.Goals as goal
 
 pub loop-name-init : goal.loop-name-init
-loop-name-init c = ([], c.into_iter-name-iterator.ensures.into_iter_gives ∙ c.iter-name-items.ensures.rest,
-    c.in_ok-begin.ensures)
+loop-name-init c = (
+  [],
+  c.into_iter-name-iterator.ensures.into_iter_gives ∙ c.iter-name-items.ensures.rest,
+  c.in_ok-begin.ensures,
+)
 
 pub declare-requires : goal.declare-requires
 declare-requires c =
@@ -21,7 +24,7 @@ declare-requires c =
           ap (λ text. is_declared c.loop-name.self text) c.as_slice.ensures.value
           ∙ ap (λ scopes. is_declared scopes name.items) c.loop-name.invariant.2
           ∙ new-behind taken c.next.new.self name c.in-Some.meaning.now
-              (subst (λ es. IsDistinct same_key (keys_of es)) (sym split) c.iter-name-items.ensures.unique);
+          (subst (λ es. IsDistinct same_key (keys_of es)) (sym split) c.iter-name-items.ensures.unique);
     }
 
 pub loop-name-preserved : goal.loop-name-preserved
@@ -43,4 +46,4 @@ returns c =
     let taken = c.loop-name.invariant.0 in
     c.loop-name.invariant.2
     ∙ ap (λ es. within (scope_of es) c.args.region c.args.self.now) (sym (append-nil taken)
-        ∙ sym (ap (λ rest. taken ++ rest) c.in-None.ensures.steps.0) ∙ c.loop-name.invariant.1)
+    ∙ sym (ap (λ rest. taken ++ rest) c.in-None.ensures.steps.0) ∙ c.loop-name.invariant.1)

@@ -7,4 +7,4 @@ use Rattle.om_names.proofs.symbols.Symbols.enter_region.Given as goal
 abbrev pub invariant-loop-name : goal.invariant-loop-name
 invariant-loop-name l =
     (taken : List (Vec ℕ Global × Meaning)) × (taken ++ l.name-iterator ≡ l.fn.copies.entries)
-        × (l.self ≡ within (scope_of taken) l.fn.region l.fn.self)
+    × (l.self ≡ within (scope_of taken) l.fn.region l.fn.self)

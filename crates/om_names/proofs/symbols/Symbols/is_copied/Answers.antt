@@ -15,14 +15,14 @@ returns-then-depth-gt0 c =
     let constructs = fields.nesting in
     let scopes = scope_of fields.inner.entries ∷ scopes_of fields.outer.items in
     let depth = c.depth_of-depth.ensures ∙ ap (λ seen. depth_of seen) (c.innermost.ensures ∙ ap innermost_of
-        (c.self.invariant.2 name)) in
+    (c.self.invariant.2 name)) in
     c.is_copied_since.ensures
     ∙ ap (λ d. is_copy (holder_since constructs d name)) depth
     ∙ sym (ap (λ deep. deep && is_copy (holder_since constructs (depth_of (innermost_of (sightings scopes name)))
-        name)) (lt-ltb 0 (depth_of (innermost_of (sightings scopes name)))
-        (subst (λ d. 0 < d) depth c.if-depth-gt0.true)))
+    name)) (lt-ltb 0 (depth_of (innermost_of (sightings scopes name)))
+    (subst (λ d. 0 < d) depth c.if-depth-gt0.true)))
     ∙ sym (copied-at (scope_of fields.inner.entries) (scopes_of fields.outer.items) constructs name
-        (subst (AreNested constructs) (sym (length-scopes fields.outer.items)) c.self.invariant.1))
+    (subst (AreNested constructs) (sym (length-scopes fields.outer.items)) c.self.invariant.1))
     ∙ ap (λ scopes. is_copied scopes name) c.self.view_is
 
 pub returns-else-depth-gt0 : goal.returns-else-depth-gt0
@@ -32,11 +32,11 @@ returns-else-depth-gt0 c =
     let constructs = fields.nesting in
     let scopes = scope_of fields.inner.entries ∷ scopes_of fields.outer.items in
     let depth = c.depth_of-depth.ensures ∙ ap (λ seen. depth_of seen) (c.innermost.ensures ∙ ap innermost_of
-        (c.self.invariant.2 name)) in
+    (c.self.invariant.2 name)) in
     le-ltb 0 c.depth_of-depth.result c.if-depth-gt0.false
     ∙ sym (ap (λ deep. deep && is_copy (holder_since constructs (depth_of (innermost_of (sightings scopes name)))
-        name)) (le-ltb 0 (depth_of (innermost_of (sightings scopes name)))
-        (subst (λ d. d ≤ 0) depth c.if-depth-gt0.false)))
+    name)) (le-ltb 0 (depth_of (innermost_of (sightings scopes name)))
+    (subst (λ d. d ≤ 0) depth c.if-depth-gt0.false)))
     ∙ sym (copied-at (scope_of fields.inner.entries) (scopes_of fields.outer.items) constructs name
-        (subst (AreNested constructs) (sym (length-scopes fields.outer.items)) c.self.invariant.1))
+    (subst (AreNested constructs) (sym (length-scopes fields.outer.items)) c.self.invariant.1))
     ∙ ap (λ scopes. is_copied scopes name) c.self.view_is

@@ -13,9 +13,9 @@ returns c =
     let name = c.args.name.now in
     let constructs = fields.nesting in
     let depth = c.depth_of-depth.ensures ∙ ap (λ seen. depth_of seen) (c.innermost.ensures ∙ ap innermost_of
-        (c.self.invariant.2 name)) in
+    (c.self.invariant.2 name)) in
     c.is_unlisted_since.ensures
     ∙ ap (λ d. unlisted_since constructs d name) depth
     ∙ sym (unlisted-at (scope_of fields.inner.entries) (scopes_of fields.outer.items) constructs name
-        (subst (AreNested constructs) (sym (length-scopes fields.outer.items)) c.self.invariant.1))
+    (subst (AreNested constructs) (sym (length-scopes fields.outer.items)) c.self.invariant.1))
     ∙ ap (λ scopes. is_unlisted scopes name) c.self.view_is

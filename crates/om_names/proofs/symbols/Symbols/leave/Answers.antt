@@ -14,16 +14,16 @@ invariant_of-self c =
     let split = c.in-Some.ensures.items in
     let depth : c.len.result ≡ length left = c.len.ensures ∙ c.pop.new.self.ok.0 in
     let fewer : length fields.outer.items ≤ suc (length left) = rw split
-        (omega (arith, length-append left (table ∷ []))) in (
+    (omega (arith, length-append left (table ∷ []))) in (
       c.self.invariant.0,
       subst (λ cs. AreNested cs (length left)) (sym (c.leave.ensures ∙ ap (outside_of constructs) depth))
           (nested-outside constructs (length left) (nested-deeper constructs (length fields.outer.items)
-              (suc (length left)) fewer c.self.invariant.1)),
+          (suc (length left)) fewer c.self.invariant.1)),
       subst (λ t. Shows c.forget_scope.new.sightings (scope_of t.entries ∷ scopes_of left))
           (sym c.replace.ensures.after)
           (c.forget_scope.ensures (scope_of table.entries ∷ scopes_of left)
           (subst (λ t. Shows fields.sightings (scope_of t.entries ∷ scope_of table.entries ∷ scopes_of left))
-              (sym c.replace.ensures.value)
+          (sym c.replace.ensures.value)
           (subst (λ scopes. Shows fields.sightings (scope_of fields.inner.entries ∷ scopes))
-              (ap (λ ts. scopes_of ts) split ∙ scopes-push left table) c.self.invariant.2))),
+          (ap (λ ts. scopes_of ts) split ∙ scopes-push left table) c.self.invariant.2))),
     )
