@@ -195,8 +195,10 @@ fn comparison_direction(operator: BinaryOperator) -> Option<Direction>
     ensures { result ≡ loops.comparison_direction operator }
 {
     match operator {
-        BinaryOperator::Less | BinaryOperator::LessEqual => Some(Direction::Up),
-        BinaryOperator::Greater | BinaryOperator::GreaterEqual => Some(Direction::Down),
+        BinaryOperator::Less => Some(Direction::Up),
+        BinaryOperator::LessEqual => Some(Direction::Up),
+        BinaryOperator::Greater => Some(Direction::Down),
+        BinaryOperator::GreaterEqual => Some(Direction::Down),
         _ => None,
     }
 }

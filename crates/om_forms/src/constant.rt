@@ -23,10 +23,15 @@ pub fn signed_constant(expression: &Expression) -> Option<(bool, Number)>
     match expression {
         Expression::Constant(number) => Some((false, *number)),
         Expression::Prefix {
-            operator: PrefixOperator::Minus,
+            operator,
             operand,
             ..
-        } => minus_constant(operand),
+        } => {
+            let PrefixOperator::Minus = operator else {
+                return None;
+            };
+            minus_constant(operand)
+        }
         _ => None,
     }
 }

@@ -47,7 +47,10 @@ fn after_character(reading: Reading, character: u8) -> Reading
 fn is_whole(reading: Reading) -> bool
     ensures { result ≡ is_whole reading }
 {
-    matches!(reading, Reading::Text(0))
+    let Reading::Text(left) = reading else {
+        return false;
+    };
+    left == 0
 }
 
 /// Whether a format takes so many values.

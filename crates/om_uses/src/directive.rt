@@ -125,7 +125,7 @@ fn clause_of(
 }
 
 /// Where a clause lists its names, and which copy it makes of the variable of each.
-#[derive(Clone, Copy)]
+#[derive(Drop)]
 struct Listing<'a> {
     alloc: Global,
     symbols: &'a Symbols,

@@ -13,11 +13,11 @@ returns-in_err-add-clause-checked c =
     let p = err_from_is_err_and c.from_residual.result c.from_residual.ensures.1 in
     let here = ap (map (λ further. further.1)) (drop-item c.args.rest.now c.loop-further.further-index c.further-item.result c.loop-further-test.true c.further-item.is) in
     let left = rw here at c.loop-further.invariant.rules in
-    rw (p.1, p.2) (unbroken-refuse (listed_breaches c.args.symbols.now (sharing_of c.args.kind)) (after_name (sharing_of c.args.kind)) left (c.in_err-add.ensures.checked _ c.list_name-found.ensures.checked))
+    rw (p.1, p.2) (unbroken-refuse (listed_breaches c.args.listing.now.symbols.now (sharing_of c.args.listing.now.kind)) (after_name (sharing_of c.args.listing.now.kind)) left (c.in_err-add.ensures.checked _ c.list_name-found.ensures.checked))
 
 pub loop-further-preserved : goal.loop-further-preserved
 loop-further-preserved c =
-    let part = resolved_listed c.args.kind c.args.symbols.now in
+    let part = resolved_listed c.args.listing.now.kind c.args.listing.now.symbols.now in
     let rest = map (λ further. further.1) (drop (c.loop-further.further-index + 1) c.args.rest.now) in
     let made = c.loop-further.clauses.items in
     let added = c.in_ok-add.ensures.added in
@@ -28,7 +28,7 @@ loop-further-preserved c =
     let here = ap (map (λ further. further.1)) (drop-item c.args.rest.now c.loop-further.further-index c.further-item.result c.loop-further-test.true c.further-item.is) in
     let pushed = ap (map view_resolved_clause) added.2 ∙ map-push view_resolved_clause made clause in
     record {
-      rules = rw behind (unbroken-step (listed_breaches c.args.symbols.now (sharing_of c.args.kind)) (after_name (sharing_of c.args.kind)) (rw here at c.loop-further.invariant.rules) checked);
+      rules = rw behind (unbroken-step (listed_breaches c.args.listing.now.symbols.now (sharing_of c.args.listing.now.kind)) (after_name (sharing_of c.args.listing.now.kind)) (rw here at c.loop-further.invariant.rules) checked);
       resolved =
           (rw here at c.loop-further.invariant.resolved)
           ∙ each-step part c.further-item.result.1 rest (map view_resolved_clause made) (view_resolved_clause clause) found
