@@ -12,4 +12,11 @@ abbrev pub view_bound : bounds.Bound → Bound
 view_bound b = record { comparison = b.comparison; direction = b.direction; to = view_expression b.to.now }
 
 abbrev pub view_loop : found.Loop → Loop
-view_loop l = record { at = l.at; start = view_start l.start; comparison = l.comparison; to = view_expression l.to.now; step = l.step }
+view_loop l = record {
+  at = l.at;
+  start = view_start l.start;
+  comparison = l.comparison;
+  to = view_expression
+      l.to.now;
+  step = l.step;
+}

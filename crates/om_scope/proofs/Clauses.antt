@@ -22,7 +22,8 @@ same_kind (clauses.Schedule s a) = refl
 same_kind (clauses.Plain k s) = refl
 
 same_kinds : (k : ClauseKind) (items : List (ClauseItem Expression))
-    → list_any (λ i. same_clause (kind_of i.clause) k) (map (map_item view_expression) items) ≡ list_any (λ i. same_clause (kind_of i.clause) k) items
+    → list_any (λ i. same_clause (kind_of i.clause) k) (map (map_item view_expression) items)
+    ≡ list_any (λ i. same_clause (kind_of i.clause) k) items
 same_kinds k [] = refl
 same_kinds k (i ∷ items) = rw (same_kind i.clause, same_kinds k items) refl
 

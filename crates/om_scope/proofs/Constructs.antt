@@ -6,5 +6,7 @@ use Rattle.om_tree.specs.declared.tree.Statement.TheVariants as statements
 use Rattle.om_tree.specs.Tree.{StatementTree, Construct}
 use Rattle.om_tree.specs.View.{statement_layer, view_directive, view_statement}
 
-pub view_construct : (d : _) (s : _) → view_statement (statements.Construct d s) ≡ Construct (view_directive d.value) (view_statement s.value)
-view_construct d s = ap view_statement (sym (statements.rolls-Construct d s)) ∙ fold-roll-Statement StatementTree statement_layer (Statement-F.Construct d s)
+pub view_construct : (d : _) (s : _) → view_statement (statements.Construct d s)
+    ≡ Construct (view_directive d.value) (view_statement s.value)
+view_construct d s = ap view_statement (sym (statements.rolls-Construct d s)) ∙ fold-roll-Statement StatementTree
+    statement_layer (Statement-F.Construct d s)

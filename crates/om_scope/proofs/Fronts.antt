@@ -12,13 +12,16 @@ use Rattle.om_rules.specs.Scopes.{Scopes}
 use Rattle.om_rules.specs.StatementRules.{body_breaches, found_breaches, loop_construct_breaches, round_bounds}
 use Rattle.om_rules.specs.InRow.{first_of_left}
 
-first_of_front : (xs ys zs : List SourceFault) (fault : SourceFault) → first_of (xs ++ ys) ≡ Some fault → first_of (xs ++ (ys ++ zs)) ≡ Some fault
+first_of_front : (xs ys zs : List SourceFault) (fault : SourceFault) → first_of (xs ++ ys) ≡ Some fault
+    → first_of (xs ++ (ys ++ zs)) ≡ Some fault
 first_of_front [] ys zs fault e = first_of_left ys zs fault e
 first_of_front (x ∷ xs) ys zs fault e = e
 
 -- the clauses of a construct and the bounds of its loop go before the loop's body
-pub bounds_refuse : (scopes : Scopes) (flow : Flow) (d : Directive ExpressionTree) (found : Loop) (s : StatementTree) (fault : SourceFault)
+pub bounds_refuse : (scopes : Scopes) (flow : Flow) (d : Directive ExpressionTree) (found : Loop)
+    (s : StatementTree) (fault : SourceFault)
     → Refuses (directive_breaches scopes flow d ++ found_breaches (round_bounds d scopes) found) fault
     → Refuses (loop_construct_breaches scopes flow d (Some found) s) fault
 bounds_refuse scopes flow d found s fault refused other =
-    first_of_front (directive_breaches scopes flow d) (found_breaches (round_bounds d scopes) found) (body_breaches (in_construct d scopes) (constructing d flow) (Some found) s) fault (refused other)
+    first_of_front (directive_breaches scopes flow d) (found_breaches (round_bounds d scopes) found)
+    (body_breaches (in_construct d scopes) (constructing d flow) (Some found) s) fault (refused other)

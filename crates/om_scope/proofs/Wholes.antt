@@ -12,9 +12,11 @@ use Rattle.om_rules.specs.InRow.{made_and, nothing_made}
 abbrev whole : List GlobalVariable → List ResolvedFunctionTree → Option ResolvedTree
 whole globals functions = Some (record { globals = globals; functions = functions })
 
-pub whole_made : (items : List ItemTree) (scopes : Scopes) (none globals : List GlobalVariable) (before made : List ResolvedFunctionTree)
+pub whole_made : (items : List ItemTree) (scopes : Scopes) (none globals : List GlobalVariable)
+    (before made : List ResolvedFunctionTree)
     → scopes ≡ file_scope (definitions_of items) → none ≡ [] → before ≡ []
-    → globals ≡ none ++ flat_map globals_of items → made_and before (all_along item_functions after_item scopes items) ≡ Some made
+    → globals ≡ none ++ flat_map globals_of items → made_and before (all_along item_functions after_item scopes
+    items) ≡ Some made
     → items_resolution items ≡ Some (record { globals = globals; functions = made })
 whole_made items scopes none globals before made begins no_globals no_functions declared functions =
     ap (λ found. found >>= whole (flat_map globals_of items))

@@ -18,7 +18,8 @@ use Rattle.om_rules.specs.Updates.{update_of}
 
 -- of a declaration in a block
 abbrev pub resolved_declaration : Scopes → DeclarationTree → Option ResolvedStatementTree
-resolved_declaration scopes d = resolved_declarators scopes (declarators_of d) >>= λ ds. Some (resolved.Declaration d.int ds)
+resolved_declaration scopes d = resolved_declarators scopes (declarators_of d) >>= λ ds. Some
+    (resolved.Declaration d.int ds)
 
 -- of an expression whose value is not used
 abbrev pub resolved_effect : Scopes → ExpressionTree → Option ResolvedStatementTree

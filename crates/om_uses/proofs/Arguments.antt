@@ -1,5 +1,6 @@
 -- The values of a call, as a loop goes through them.
-use Rattle.std.proofs.Common.{◌≡◌, ℕ, suc, ◌+◌, ◌<◌, List, [], ◌∷◌, ◌++◌, map, length, Some, None, Option, true, zero, refl, sym, ap, ◌∙◌, arith}
+use Rattle.std.proofs.Common.{◌≡◌, ℕ, suc, ◌+◌, ◌<◌, List, [], ◌∷◌, ◌++◌, map, length, Some, None, Option, true, zero}
+use Rattle.std.proofs.Common.{refl, sym, ap, ◌∙◌, arith}
 use Rattle.om_lexer.specs.declared.fault.SourceFault.{SourceFault}
 use Rattle.om_lexer.specs.declared.token.Span.{Span}
 use Rattle.om_tree.specs.declared.tree.Expression.{Expression, fold-roll-Expression}
@@ -7,7 +8,8 @@ use Rattle.om_tree.specs.declared.tree.Expression.TheOpen.{Expression-F}
 use Rattle.om_tree.specs.declared.tree.Expression.TheVariants as expressions
 use Rattle.om_tree.specs.View.{expression_layer, view_expression}
 use Rattle.om_tree.specs.Tree.{ExpressionTree, Call, ArgumentsTree, NoArguments, Argument, arguments}
-use Rattle.om_rules.specs.ExpressionRules.{argument_breaches, argument_count, arguments_breaches, expression_breaches, printed_breaches}
+use Rattle.om_rules.specs.ExpressionRules.{argument_breaches, argument_count, arguments_breaches, expression_breaches}
+use Rattle.om_rules.specs.ExpressionRules.{printed_breaches}
 use Rattle.om_rules.specs.Faults.{first_of}
 use Rattle.om_rules.specs.Outcomes.{Refuses}
 use Rattle.om_rules.specs.Perhaps.{◌>>=◌}
@@ -17,40 +19,54 @@ use Rattle.om_rules.specs.Scopes.{Scopes}
 use Rattle.om_uses.specs.Views.{view_argument}
 use Rattle.om_rules.specs.InRow.{first_of_left}
 
-pub argument_count_is : (values : List (Option Span × Expression)) → argument_count (arguments (map view_argument values)) ≡ length values
+pub argument_count_is : (values : List (Option Span × Expression))
+    → argument_count (arguments (map view_argument values)) ≡ length values
 argument_count_is [] = refl
 argument_count_is (value ∷ values) = omega (arith, argument_count_is values)
 
-pub arguments_step : (scopes : Scopes) (all : ArgumentsTree) (comma : Option Span) (e : ExpressionTree) (rest : ArgumentsTree)
-    → arguments_breaches scopes all ≡ arguments_breaches scopes (Argument comma e rest) → expression_breaches scopes true e ≡ []
+pub arguments_step : (scopes : Scopes) (all : ArgumentsTree) (comma : Option Span) (e : ExpressionTree)
+    (rest : ArgumentsTree)
+    → arguments_breaches scopes all ≡ arguments_breaches scopes (Argument comma e rest) → expression_breaches scopes
+    true e ≡ []
     → arguments_breaches scopes all ≡ arguments_breaches scopes rest
 unfolding arguments_breaches
 arguments_step scopes all comma e rest left whole = left ∙ ap (λ here. here ++ arguments_breaches scopes rest) whole
 
-pub arguments_refuse : (scopes : Scopes) (all : ArgumentsTree) (comma : Option Span) (e : ExpressionTree) (rest : ArgumentsTree) (fault : SourceFault)
-    → arguments_breaches scopes all ≡ arguments_breaches scopes (Argument comma e rest) → Refuses (expression_breaches scopes true e) fault
+pub arguments_refuse : (scopes : Scopes) (all : ArgumentsTree) (comma : Option Span) (e : ExpressionTree)
+    (rest : ArgumentsTree) (fault : SourceFault)
+    → arguments_breaches scopes all ≡ arguments_breaches scopes (Argument comma e rest)
+    → Refuses (expression_breaches scopes true e) fault
     → Refuses (arguments_breaches scopes all) fault
 unfolding arguments_breaches
-arguments_refuse scopes all comma e rest fault left refused other = ap first_of left ∙ first_of_left _ _ fault (refused other)
+arguments_refuse scopes all comma e rest fault left refused other = ap first_of left ∙ first_of_left _ _ fault
+    (refused other)
 
-pub printed_refuse : (scopes : Scopes) (place : ℕ) (all : ArgumentsTree) (comma : Option Span) (e : ExpressionTree) (rest : ArgumentsTree) (fault : SourceFault)
-    → printed_breaches scopes 0 all ≡ printed_breaches scopes place (Argument comma e rest) → Refuses (argument_breaches scopes place e) fault
+pub printed_refuse : (scopes : Scopes) (place : ℕ) (all : ArgumentsTree) (comma : Option Span) (e : ExpressionTree)
+    (rest : ArgumentsTree) (fault : SourceFault)
+    → printed_breaches scopes 0 all ≡ printed_breaches scopes place (Argument comma e rest)
+    → Refuses (argument_breaches scopes place e) fault
     → Refuses (printed_breaches scopes 0 all) fault
 unfolding printed_breaches
-printed_refuse scopes place all comma e rest fault left refused other = ap first_of left ∙ first_of_left _ _ fault (refused other)
+printed_refuse scopes place all comma e rest fault left refused other = ap first_of left ∙ first_of_left _ _ fault
+    (refused other)
 
-pub printed_step : (scopes : Scopes) (place : ℕ) (all : ArgumentsTree) (comma : Option Span) (e : ExpressionTree) (rest : ArgumentsTree)
-    → printed_breaches scopes 0 all ≡ printed_breaches scopes place (Argument comma e rest) → argument_breaches scopes place e ≡ []
+pub printed_step : (scopes : Scopes) (place : ℕ) (all : ArgumentsTree) (comma : Option Span) (e : ExpressionTree)
+    (rest : ArgumentsTree)
+    → printed_breaches scopes 0 all ≡ printed_breaches scopes place (Argument comma e rest) → argument_breaches
+    scopes place e ≡ []
     → printed_breaches scopes 0 all ≡ printed_breaches scopes (place + 1) rest
 unfolding printed_breaches
-printed_step scopes place all comma e rest left whole = left ∙ ap (λ here. here ++ printed_breaches scopes (place + 1) rest) whole
+printed_step scopes place all comma e rest left whole = left
+    ∙ ap (λ here. here ++ printed_breaches scopes (place + 1) rest) whole
 
 -- behind the format
-pub printed_behind : (scopes : Scopes) (place : ℕ) (all : ArgumentsTree) (comma : Option Span) (e : ExpressionTree) (rest : ArgumentsTree)
+pub printed_behind : (scopes : Scopes) (place : ℕ) (all : ArgumentsTree) (comma : Option Span) (e : ExpressionTree)
+    (rest : ArgumentsTree)
     → place ≡ 0 → printed_breaches scopes 0 all ≡ printed_breaches scopes place (Argument comma e rest)
     → printed_breaches scopes 0 all ≡ printed_breaches scopes 1 rest
 unfolding printed_breaches
-printed_behind scopes place all comma e rest first left = left ∙ ap (λ p. printed_breaches scopes p (Argument comma e rest)) first
+printed_behind scopes place all comma e rest first left = left
+    ∙ ap (λ p. printed_breaches scopes p (Argument comma e rest)) first
 
 -- ---- what is made of them
 
@@ -63,7 +79,8 @@ before_none : (es : List ResolvedExpressionTree) → before es NoValues ≡ valu
 before_none [] = refl
 before_none (e ∷ es) = ap (Value e) (before_none es)
 
-before_one : (es : List ResolvedExpressionTree) (e : ResolvedExpressionTree) (rest : ValuesTree) → before (es ++ e ∷ []) rest ≡ before es (Value e rest)
+before_one : (es : List ResolvedExpressionTree) (e : ResolvedExpressionTree) (rest : ValuesTree)
+    → before (es ++ e ∷ []) rest ≡ before es (Value e rest)
 before_one [] e rest = refl
 before_one (x ∷ es) e rest = ap (Value x) (before_one es e rest)
 
@@ -73,27 +90,34 @@ whole (Some rest) = refl
 
 -- all are resolved as those that are made and then those that are left
 abbrev pub IsMade : Scopes → ArgumentsTree → List ResolvedExpressionTree → ArgumentsTree → Type 0
-IsMade scopes all made left = resolved_values scopes all ≡ (resolved_values scopes left >>= λ rest. Some (before made rest))
+IsMade scopes all made left = resolved_values scopes all
+    ≡ (resolved_values scopes left >>= λ rest. Some (before made rest))
 
 pub made_none : (scopes : Scopes) (all : ArgumentsTree) → IsMade scopes all [] all
 made_none scopes all = whole (resolved_values scopes all)
 
 next : (found : Option ValuesTree) (made : List ResolvedExpressionTree) (e : ResolvedExpressionTree)
-    → ((found >>= λ rest. Some (Value e rest)) >>= λ rest. Some (before made rest)) ≡ (found >>= λ rest. Some (before (made ++ e ∷ []) rest))
+    → ((found >>= λ rest. Some (Value e rest)) >>= λ rest. Some (before made rest))
+    ≡ (found >>= λ rest. Some (before (made ++ e ∷ []) rest))
 next None made e = refl
 next (Some rest) made e = ap Some (sym (before_one made e rest))
 
-pub made_step : (scopes : Scopes) (all : ArgumentsTree) (made : List ResolvedExpressionTree) (comma : Option Span) (e : ExpressionTree) (rest : ArgumentsTree) (x : ResolvedExpressionTree)
-    → IsMade scopes all made (Argument comma e rest) → resolved_expression scopes e ≡ Some x → IsMade scopes all (made ++ x ∷ []) rest
+pub made_step : (scopes : Scopes) (all : ArgumentsTree) (made : List ResolvedExpressionTree) (comma : Option Span)
+    (e : ExpressionTree) (rest : ArgumentsTree) (x : ResolvedExpressionTree)
+    → IsMade scopes all made (Argument comma e rest) → resolved_expression scopes e ≡ Some x → IsMade scopes all
+    (made ++ x ∷ []) rest
 unfolding resolved_values
 made_step scopes all made comma e rest x left here =
-    left ∙ ap (λ found. (found >>= λ y. resolved_values scopes rest >>= λ ys. Some (Value y ys)) >>= λ ys. Some (before made ys)) here
+    left ∙ ap (λ found. (found >>= λ y. resolved_values scopes rest >>= λ ys. Some (Value y ys)) >>= λ ys. Some
+    (before made ys)) here
     ∙ next (resolved_values scopes rest) made x
 
-pub made_all : (scopes : Scopes) (all left : ArgumentsTree) (made : List ResolvedExpressionTree) → left ≡ NoArguments → IsMade scopes all made left
+pub made_all : (scopes : Scopes) (all left : ArgumentsTree) (made : List ResolvedExpressionTree) → left
+    ≡ NoArguments → IsMade scopes all made left
     → resolved_values scopes all ≡ Some (values made)
 unfolding resolved_values
-made_all scopes all left made none made_of = made_of ∙ ap (λ l. resolved_values scopes l >>= λ rest. Some (before made rest)) none ∙ ap Some (before_none made)
+made_all scopes all left made none made_of = made_of ∙ ap (λ l. resolved_values scopes l >>= λ rest. Some
+    (before made rest)) none ∙ ap Some (before_none made)
 
 -- the same of the values behind a format, which stands at place 0
 abbrev pub ArePrinted : Scopes → ArgumentsTree → ℕ → List ResolvedExpressionTree → ArgumentsTree → Type 0
@@ -104,29 +128,42 @@ ArePrinted scopes all place made left =
 pub printed_begin : (scopes : Scopes) (all : ArgumentsTree) → ArePrinted scopes all 0 [] all
 printed_begin scopes all = (λ first. whole (resolved_printed scopes all), λ above. absurd (omega (arith, above)))
 
-pub printed_format : (scopes : Scopes) (all : ArgumentsTree) (place : ℕ) (made : List ResolvedExpressionTree) (comma : Option Span) (e : ExpressionTree) (rest : ArgumentsTree)
+pub printed_format : (scopes : Scopes) (all : ArgumentsTree) (place : ℕ) (made : List ResolvedExpressionTree)
+    (comma : Option Span) (e : ExpressionTree) (rest : ArgumentsTree)
     → place ≡ 0 → ArePrinted scopes all place made (Argument comma e rest) → ArePrinted scopes all 1 made rest
 unfolding resolved_printed
-printed_format scopes all place made comma e rest first left = (λ one. absurd (omega (arith, one)), λ above. left.0 first)
+printed_format scopes all place made comma e rest first left = (
+  λ one. absurd (omega (arith, one)),
+  λ above. left.0
+      first,
+)
 
-pub printed_made : (scopes : Scopes) (all : ArgumentsTree) (place : ℕ) (made : List ResolvedExpressionTree) (comma : Option Span) (e : ExpressionTree) (rest : ArgumentsTree) (x : ResolvedExpressionTree)
-    → 0 < place → ArePrinted scopes all place made (Argument comma e rest) → resolved_expression scopes e ≡ Some x → ArePrinted scopes all (place + 1) (made ++ x ∷ []) rest
+pub printed_made : (scopes : Scopes) (all : ArgumentsTree) (place : ℕ) (made : List ResolvedExpressionTree)
+    (comma : Option Span) (e : ExpressionTree) (rest : ArgumentsTree) (x : ResolvedExpressionTree)
+    → 0 < place → ArePrinted scopes all place made (Argument comma e rest) → resolved_expression scopes e ≡ Some x
+    → ArePrinted scopes all (place + 1) (made ++ x ∷ []) rest
 unfolding resolved_values
 printed_made scopes all place made comma e rest x above left here = (
   λ none. absurd (omega (arith, none)),
   λ more.
-      left.1 above ∙ ap (λ found. (found >>= λ y. resolved_values scopes rest >>= λ ys. Some (Value y ys)) >>= λ ys. Some (before made ys)) here
+      left.1 above ∙ ap (λ found. (found >>= λ y. resolved_values scopes rest >>= λ ys. Some (Value y ys)) >>= λ ys.
+      Some (before made ys)) here
       ∙ next (resolved_values scopes rest) made x,
 )
 
-pub printed_all : (scopes : Scopes) (all left : ArgumentsTree) (place : ℕ) (made : List ResolvedExpressionTree) → left ≡ NoArguments → ArePrinted scopes all place made left
+pub printed_all : (scopes : Scopes) (all left : ArgumentsTree) (place : ℕ) (made : List ResolvedExpressionTree)
+    → left ≡ NoArguments → ArePrinted scopes all place made left
     → resolved_printed scopes all ≡ Some (values made)
 unfolding resolved_printed resolved_values
 printed_all scopes all left zero made none printed =
-    printed.0 refl ∙ ap (λ l. resolved_printed scopes l >>= λ rest. Some (before made rest)) none ∙ ap Some (before_none made)
+    printed.0 refl ∙ ap (λ l. resolved_printed scopes l >>= λ rest. Some (before made rest)) none
+    ∙ ap Some (before_none made)
 printed_all scopes all left (suc place) made none printed =
-    printed.1 (omega arith) ∙ ap (λ l. resolved_values scopes l >>= λ rest. Some (before made rest)) none ∙ ap Some (before_none made)
+    printed.1 (omega arith) ∙ ap (λ l. resolved_values scopes l >>= λ rest. Some (before made rest)) none
+    ∙ ap Some (before_none made)
 
 -- a call, as a tree
-pub view_call : (name : _) (left : _) (values : _) (right : _) → view_expression (expressions.Call name left values right) ≡ Call name left (arguments (map view_argument values.items)) right
-view_call name left values right = ap view_expression (sym (expressions.rolls-Call name left values right)) ∙ fold-roll-Expression ExpressionTree expression_layer (Expression-F.Call name left values right)
+pub view_call : (name : _) (left : _) (values : _) (right : _) → view_expression (expressions.Call name left values
+    right) ≡ Call name left (arguments (map view_argument values.items)) right
+view_call name left values right = ap view_expression (sym (expressions.rolls-Call name left values right))
+    ∙ fold-roll-Expression ExpressionTree expression_layer (Expression-F.Call name left values right)

@@ -5,4 +5,5 @@ use Rattle.om_forms.proofs.print.takes_values.Given as goal
 
 -- reading what is left gives what reading all gives
 abbrev pub invariant-loop-character : goal.invariant-loop-character
-invariant-loop-character l = fold after_character l.reading (drop l.character-index l.format) ≡ fold after_character (readings.Text l.count) l.format
+invariant-loop-character l = fold after_character l.reading (drop l.character-index l.format) ≡ fold after_character
+    (readings.Text l.count) l.format

@@ -10,7 +10,8 @@ pub returns-clause-in_scope : goal.returns-clause-in_scope
 returns-clause-in_scope c =
     let ps = parameters_of (view_head c.args.head.now).parameters in
     c.leave.ensures
-    ∙ ap outside (c.in_ok-declare_parameters.ensures.in_scope ∙ ap (λ scopes. after_parameters scopes ps) c.in_ok-enter.ensures)
+    ∙ ap outside (c.in_ok-declare_parameters.ensures.in_scope ∙ ap (λ scopes. after_parameters scopes ps)
+    c.in_ok-enter.ensures)
     ∙ prototype_outside _ ps
     ∙ c.in_ok-declare_head.ensures
 

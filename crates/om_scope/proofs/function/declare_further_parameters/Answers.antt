@@ -8,6 +8,7 @@ use Rattle.om_scope.proofs.function.declare_further_parameters.Goals as goal
 pub returns-in_err-declare_parameter-clause-checked : goal.returns-in_err-declare_parameter-clause-checked
 returns-in_err-declare_parameter-clause-checked c =
     let p = err_from_is_err_and c.from_residual.result c.from_residual.ensures.1 in
-    let here = ap (map (λ further. further.1)) (drop-item c.args.rest.now c.loop-further.further-index c.further-item.result c.loop-further-test.true c.further-item.is) in
+    let here = ap (map (λ further. further.1)) (drop-item c.args.rest.now c.loop-further.further-index
+    c.further-item.result c.loop-further-test.true c.further-item.is) in
     let left = rw here at c.loop-further.invariant.0 in
     rw (p.1, p.2) (λ other. ap first_of left ∙ first_of_left _ _ _ (c.in_err-declare_parameter.ensures.checked other))

@@ -10,7 +10,9 @@ abbrev pub invariant-loop-further : goal.invariant-loop-further
 invariant-loop-further l =
     let all = map (λ further. further.1) l.rest in
     let left = map (λ further. further.1) (drop l.further-index l.rest) in
-    (breaches_along parameter_breaches next_parameter (1, l.fn.symbols) all ≡ breaches_along parameter_breaches next_parameter (l.before, l.symbols) left)
+    (breaches_along parameter_breaches next_parameter (1, l.fn.symbols) all ≡ breaches_along parameter_breaches
+    next_parameter (l.before, l.symbols) left)
     × (after_parameters l.fn.symbols all ≡ after_parameters l.symbols left)
-    × (l.parameters.items ++ flat_map parameter_variable left ≡ l.fn.parameters.items ++ flat_map parameter_variable all)
+    × (l.parameters.items ++ flat_map parameter_variable left ≡ l.fn.parameters.items ++ flat_map parameter_variable
+    all)
     × (l.before ≤ 16)

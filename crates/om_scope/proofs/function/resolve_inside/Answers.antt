@@ -12,5 +12,6 @@ returns-clause-in_scope c =
     c.leave.ensures
     ∙ ap outside
     ((let h = rw c.as_slice.ensures.value at c.in_ok-body.ensures.in_scope in h)
-    ∙ ap (λ scopes. after_statements scopes ss) (c.in_ok-declare_parameters.ensures.in_scope ∙ ap (λ scopes. after_parameters scopes ps) c.in_ok-enter.ensures))
+    ∙ ap (λ scopes. after_statements scopes ss) (c.in_ok-declare_parameters.ensures.in_scope
+    ∙ ap (λ scopes. after_parameters scopes ps) c.in_ok-enter.ensures))
     ∙ function_outside c.args.symbols.now ps ss

@@ -9,7 +9,8 @@ use Rattle.om_rules.specs.Grouping.{with_item}
 use Rattle.om_rules.specs.Scopes.{outside}
 use Rattle.om_rules.specs.StatementResolution.{resolved_statement}
 use Rattle.om_rules.specs.StatementRules.{after_for_start, after_statement, after_statements}
-use Rattle.om_scope.proofs.Blocks.{block_outside, body_outside, construct_outside, for_outside, parts_refuse, parts_step, statements_made, statements_refuse, statements_step, statements_whole}
+use Rattle.om_scope.proofs.Blocks.{block_outside, body_outside, construct_outside, for_outside, parts_refuse}
+use Rattle.om_scope.proofs.Blocks.{parts_step, statements_made, statements_refuse, statements_step, statements_whole}
 use Rattle.om_scope.proofs.Constructs.{view_construct}
 use Rattle.om_scope.proofs.Founds.{ok_anyway, ok_then}
 use Rattle.om_scope.proofs.Fronts.{bounds_refuse}
@@ -26,51 +27,64 @@ resolve_statement-returns-in-Construct-clause-resolved t c =
 pub resolve_body-returns-clause-in_scope : goal.resolve_body-returns-clause-in_scope
 resolve_body-returns-clause-in_scope t c =
     ok_then c.boxed_statement-found.result c.boxed_statement-found.ensures.in_scope
-    (λ behind. c.leave.ensures ∙ ap outside (behind ∙ ap (λ scopes. after_statement scopes (view_statement c.args.body.now)) c.in_ok-enter.ensures) ∙ body_outside c.args.symbols.now (view_statement c.args.body.now))
+    (λ behind. c.leave.ensures
+    ∙ ap outside (behind ∙ ap (λ scopes. after_statement scopes (view_statement c.args.body.now))
+    c.in_ok-enter.ensures) ∙ body_outside c.args.symbols.now (view_statement c.args.body.now))
 
 pub resolve_statements-returns-in_err-add-clause-checked : goal.resolve_statements-returns-in_err-add-clause-checked
 resolve_statements-returns-in_err-add-clause-checked t c =
     let p = err_from_is_err_and c.from_residual.result c.from_residual.ensures.1 in
-    let here = ap (map view_statement) (drop-item c.args.items.now c.loop-item.item-index c.item-item.result c.loop-item-test.true c.item-item.is) in
+    let here = ap (map view_statement) (drop-item c.args.items.now c.loop-item.item-index c.item-item.result
+    c.loop-item-test.true c.item-item.is) in
     let left = rw here at c.loop-item.invariant in
-    rw (p.1, p.2) (statements_refuse _ _ _ _ _ _ _ left.0 (c.in_err-add.ensures.checked _ c.resolve_statement-found.ensures.checked))
+    rw (p.1, p.2) (statements_refuse _ _ _ _ _ _ _ left.0
+    (c.in_err-add.ensures.checked _ c.resolve_statement-found.ensures.checked))
 
 pub resolve_statements-loop-item-preserved : goal.resolve_statements-loop-item-preserved
 resolve_statements-loop-item-preserved t c =
-    let here = ap (map view_statement) (drop-item c.args.items.now c.loop-item.item-index c.item-item.result c.loop-item-test.true c.item-item.is) in
+    let here = ap (map view_statement) (drop-item c.args.items.now c.loop-item.item-index c.item-item.result
+    c.loop-item-test.true c.item-item.is) in
     let left = rw here at c.loop-item.invariant in
     let added = c.in_ok-add.ensures.added in
     let checked = rw added.1 at c.resolve_statement-found.ensures.checked in
     let behind = rw added.1 at c.resolve_statement-found.ensures.in_scope in
     let made = rw added.1 at c.resolve_statement-found.ensures.resolved in
-    let grown = ap (map view_resolved_statement) added.2 ∙ map-push view_resolved_statement c.loop-item.resolved.items added.0 in
+    let grown = ap (map view_resolved_statement) added.2 ∙ map-push view_resolved_statement
+    c.loop-item.resolved.items added.0 in
     rw (behind, grown) (statements_step _ _ _ _ _ _ left.0 checked, left.1, statements_made _ _ _ _ _ _ _ left.2 made)
 
 pub resolve_block-returns-clause-in_scope : goal.resolve_block-returns-clause-in_scope
 resolve_block-returns-clause-in_scope t c =
     let ss = map view_statement c.args.items.now in
     ok_then c.resolve_statements-items.result c.resolve_statements-items.ensures.in_scope
-    (λ behind. c.leave.ensures ∙ ap outside (behind ∙ ap (λ scopes. after_statements scopes ss) c.in_ok-enter.ensures) ∙ block_outside c.args.symbols.now ss)
+    (λ behind. c.leave.ensures ∙ ap outside (behind ∙ ap (λ scopes. after_statements scopes ss)
+    c.in_ok-enter.ensures) ∙ block_outside c.args.symbols.now ss)
 
 pub resolve_for-returns-clause-in_scope : goal.resolve_for-returns-clause-in_scope
 resolve_for-returns-clause-in_scope t c =
     let start = view_for_start c.args.head.now.start in
     c.leave.ensures
-    ∙ ap outside (c.in_ok-body.ensures.in_scope ∙ c.in_ok-turn.ensures.in_scope ∙ ap (λ scopes. after_for_start scopes start) c.in_ok-enter.ensures)
+    ∙ ap outside (c.in_ok-body.ensures.in_scope ∙ c.in_ok-turn.ensures.in_scope
+    ∙ ap (λ scopes. after_for_start scopes start) c.in_ok-enter.ensures)
     ∙ for_outside c.args.symbols.now start
 
 pub resolve_plain_construct-returns-clause-in_scope : goal.resolve_plain_construct-returns-clause-in_scope
 resolve_plain_construct-returns-clause-in_scope t c =
     ok_anyway c.construct_of.result
     (c.leave.ensures
-    ∙ ap outside (c.in_ok-body.ensures.in_scope ∙ ap (λ scopes. after_statement scopes (view_statement c.args.body.now)) c.in_ok-clauses.ensures.in_scope)
+    ∙ ap outside (c.in_ok-body.ensures.in_scope
+    ∙ ap (λ scopes. after_statement scopes (view_statement c.args.body.now)) c.in_ok-clauses.ensures.in_scope)
     ∙ construct_outside _ _ c.args.symbols.now (view_statement c.args.body.now))
 
-pub resolve_loop_construct-returns-in_err-clauses-in-Some-clause-checked : goal.resolve_loop_construct-returns-in_err-clauses-in-Some-clause-checked
+pub resolve_loop_construct-returns-in_err-clauses-in-Some-clause-checked :
+    goal.resolve_loop_construct-returns-in_err-clauses-in-Some-clause-checked
 resolve_loop_construct-returns-in_err-clauses-in-Some-clause-checked t c =
-    let p = err_from_is_err_and c.from_residual-in_err-clauses-in-Some.result c.from_residual-in_err-clauses-in-Some.ensures.1 in
-    let same : loop_in (view_statement c.args.body.now) ≡ Some (view_loop c.in-Some.found) = sym c.loop_in.ensures ∙ ap (option_map view_loop) c.in-Some.is in
-    rw (p.1, p.2, same) (bounds_refuse c.args.symbols.now c.args.flow (view_directive c.args.directive.now) (view_loop c.in-Some.found) (view_statement c.args.body.now) _ c.in_err-clauses-in-Some.ensures.checked)
+    let p = err_from_is_err_and c.from_residual-in_err-clauses-in-Some.result
+    c.from_residual-in_err-clauses-in-Some.ensures.1 in
+    let same : loop_in (view_statement c.args.body.now) ≡ Some (view_loop c.in-Some.found) = sym c.loop_in.ensures
+    ∙ ap (option_map view_loop) c.in-Some.is in
+    rw (p.1, p.2, same) (bounds_refuse c.args.symbols.now c.args.flow (view_directive c.args.directive.now)
+    (view_loop c.in-Some.found) (view_statement c.args.body.now) _ c.in_err-clauses-in-Some.ensures.checked)
 
 pub resolve_statements-returns-clause-resolved : goal.resolve_statements-returns-clause-resolved
 resolve_statements-returns-clause-resolved t c =
@@ -81,20 +95,33 @@ resolve_statements-returns-clause-resolved t c =
 pub resolve_parts-returns-in_err-add_item-clause-checked : goal.resolve_parts-returns-in_err-add_item-clause-checked
 resolve_parts-returns-in_err-add_item-clause-checked t c =
     let p = err_from_is_err_and c.from_residual.result c.from_residual.ensures.1 in
-    let here = ap (map view_statement) (drop-item c.args.items.now c.loop-item.item-index c.item-item.result c.loop-item-test.true c.item-item.is) in
+    let here = ap (map view_statement) (drop-item c.args.items.now c.loop-item.item-index c.item-item.result
+    c.loop-item-test.true c.item-item.is) in
     let left = rw here at c.loop-item.invariant in
     let count : c.len-in-loop-item.result ≡ length (map view_resolved_part c.loop-item.parts.items) =
-    omega (arith, c.len-in-loop-item.ensures, c.loop-item.parts.ok.0, length-map view_resolved_part c.loop-item.parts.items) in
+    omega (
+      arith,
+      c.len-in-loop-item.ensures,
+      c.loop-item.parts.ok.0,
+      length-map view_resolved_part
+          c.loop-item.parts.items,
+    ) in
     let checked = rw (left.1, count) at c.resolve_item-found.ensures.checked in
     rw (p.1, p.2) (parts_refuse _ _ _ _ _ _ _ left.0 (c.in_err-add_item.ensures.checked _ checked))
 
 pub resolve_parts-loop-item-preserved : goal.resolve_parts-loop-item-preserved
 resolve_parts-loop-item-preserved t c =
-    let here = ap (map view_statement) (drop-item c.args.items.now c.loop-item.item-index c.item-item.result c.loop-item-test.true c.item-item.is) in
+    let here = ap (map view_statement) (drop-item c.args.items.now c.loop-item.item-index c.item-item.result
+    c.loop-item-test.true c.item-item.is) in
     let left = rw here at c.loop-item.invariant in
     let made = map view_resolved_part c.loop-item.parts.items in
     let as_many = length-map view_resolved_part c.loop-item.parts.items in
-    let count : c.len-in-loop-item.result ≡ length made = omega (arith, c.len-in-loop-item.ensures, c.loop-item.parts.ok.0, as_many) in
+    let count : c.len-in-loop-item.result ≡ length made = omega (
+      arith,
+      c.len-in-loop-item.ensures,
+      c.loop-item.parts.ok.0,
+      as_many,
+    ) in
     let before : c.len.result ≡ length made = omega (arith, c.len.ensures, c.loop-item.parts.ok.0, as_many) in
     let begun = rw before at c.begins_part-begins.ensures in
     let added = c.in_ok-add_item.ensures.added in
@@ -102,7 +129,11 @@ resolve_parts-loop-item-preserved t c =
     let behind = rw added.1 at c.resolve_item-found.ensures.in_scope in
     let found = rw (left.1, added.1) at c.resolve_item-found.ensures.resolved in
     let grown = added.2 ∙ ap (λ begins. with_item begins (view_resolved_statement added.0.value) made) begun in
-    rw (grown, grouped_count (view_resolved_statement added.0.value) made _) (parts_step _ _ _ _ _ _ left.0 checked, behind ∙ left.1, grouped_step _ _ _ _ _ _ _ left.2 found)
+    rw (grown, grouped_count (view_resolved_statement added.0.value) made _) (
+      parts_step _ _ _ _ _ _ left.0 checked,
+      behind ∙ left.1,
+      grouped_step _ _ _ _ _ _ _ left.2 found,
+    )
 
 pub resolve_parts-returns-clause-resolved : goal.resolve_parts-returns-clause-resolved
 resolve_parts-returns-clause-resolved t c =

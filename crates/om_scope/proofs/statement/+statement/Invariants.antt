@@ -16,7 +16,8 @@ invariant-resolve_statements-loop-item l =
     let parallel = l.flow.parallel in
     (statements_breaches l.fn.symbols l.flow (statements all) ≡ statements_breaches l.symbols l.flow (statements left))
     × (after_statements l.fn.symbols all ≡ after_statements l.symbols left)
-    × Made (resolved_statements l.fn.symbols parallel (statements all)) (resolved_statements l.symbols parallel (statements left)) (map view_resolved_statement l.resolved.items)
+    × Made (resolved_statements l.fn.symbols parallel (statements all)) (resolved_statements l.symbols parallel
+    (statements left)) (map view_resolved_statement l.resolved.items)
 
 abbrev pub invariant-resolve_parts-loop-item : goal.invariant-resolve_parts-loop-item
 invariant-resolve_parts-loop-item l =
@@ -24,6 +25,8 @@ invariant-resolve_parts-loop-item l =
     let left = map view_statement (drop l.item-index l.items) in
     let parallel = l.flow.parallel in
     let made = map view_resolved_part l.parts.items in
-    (sections_breaches l.fn.symbols l.flow 0 (statements all) ≡ sections_breaches l.fn.symbols l.flow (length made) (statements left))
+    (sections_breaches l.fn.symbols l.flow 0 (statements all) ≡ sections_breaches l.fn.symbols l.flow (length made)
+    (statements left))
     × (l.symbols ≡ l.fn.symbols)
-    × MadeParts (resolved_parts l.fn.symbols parallel 0 (statements all)) (resolved_parts l.fn.symbols parallel (length made) (statements left)) made
+    × MadeParts (resolved_parts l.fn.symbols parallel 0 (statements all)) (resolved_parts l.fn.symbols parallel
+    (length made) (statements left)) made

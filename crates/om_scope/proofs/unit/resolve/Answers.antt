@@ -13,7 +13,8 @@ unfolding breaches_of resolution_of
 returns-clause-is_resolved c =
     let rules = rw c.as_slice.ensures.value at c.in_ok-resolved.ensures.checked in
     let made = rw c.as_slice.ensures.value at c.in_ok-resolved.ensures.resolved in
-    c.unbroken_trees_are_resolved.ensures (view_unit c.args.unit) (view_resolved c.in_ok-resolved.resolved) (rw (rules, c.in_ok-check_main.ensures) refl) made
+    c.unbroken_trees_are_resolved.ensures (view_unit c.args.unit) (view_resolved c.in_ok-resolved.resolved)
+    (rw (rules, c.in_ok-check_main.ensures) refl) made
 
 pub returns-clause-whole : goal.returns-clause-whole
 unfolding breaches_of resolution_of

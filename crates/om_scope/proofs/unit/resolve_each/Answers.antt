@@ -12,17 +12,22 @@ use Rattle.om_scope.proofs.unit.resolve_each.Goals as goal
 pub returns-in_err-resolve_item-clause-checked : goal.returns-in_err-resolve_item-clause-checked
 returns-in_err-resolve_item-clause-checked c =
     let p = err_from_is_err_and c.from_residual.result c.from_residual.ensures.1 in
-    let here = ap (map view_item) (drop-item c.args.items.now c.loop-item.item-index c.item-item.result c.loop-item-test.true c.item-item.is) in
+    let here = ap (map view_item) (drop-item c.args.items.now c.loop-item.item-index c.item-item.result
+    c.loop-item-test.true c.item-item.is) in
     let left = rw here at c.loop-item.invariant.rules in
     rw (p.1, p.2) (unbroken-refuse item_breaches after_item left c.in_err-resolve_item.ensures.checked)
 
 pub loop-item-preserved : goal.loop-item-preserved
 loop-item-preserved c =
-    let here = ap (map view_item) (drop-item c.args.items.now c.loop-item.item-index c.item-item.result c.loop-item-test.true c.item-item.is) in
+    let here = ap (map view_item) (drop-item c.args.items.now c.loop-item.item-index c.item-item.result
+    c.loop-item-test.true c.item-item.is) in
     let one = c.in_ok-resolve_item.ensures in
     let rest = map view_item (drop (c.loop-item.item-index + 1) c.args.items.now) in
     record {
-      rules = rw one.in_scope (unbroken-step item_breaches after_item (rw here at c.loop-item.invariant.rules) one.checked);
-      functions = rw one.in_scope ((rw here at c.loop-item.invariant.functions) ∙ all_along-step after_item item_functions _ _ _ _ _ one.defined);
-      globals = rw one.declared (append_assoc c.loop-item.globals.items (globals_of (view_item c.item-item.result)) (flat_map globals_of rest) ∙ (rw here at c.loop-item.invariant.globals));
+      rules = rw one.in_scope (unbroken-step item_breaches after_item (rw here at c.loop-item.invariant.rules)
+          one.checked);
+      functions = rw one.in_scope ((rw here at c.loop-item.invariant.functions) ∙ all_along-step after_item
+          item_functions _ _ _ _ _ one.defined);
+      globals = rw one.declared (append_assoc c.loop-item.globals.items (globals_of (view_item c.item-item.result))
+          (flat_map globals_of rest) ∙ (rw here at c.loop-item.invariant.globals));
     }

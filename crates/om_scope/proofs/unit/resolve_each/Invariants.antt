@@ -17,6 +17,7 @@ invariant-loop-item l =
     let now = map view_resolved_function l.functions.items in
     record {
       rules : Unbroken item_breaches after_item l.fn.symbols all l.symbols left;
-      functions : made_and before (all_along item_functions after_item l.fn.symbols all) ≡ made_and now (all_along item_functions after_item l.symbols left);
+      functions : made_and before (all_along item_functions after_item l.fn.symbols all)
+          ≡ made_and now (all_along item_functions after_item l.symbols left);
       globals : l.globals.items ++ flat_map globals_of left ≡ l.fn.globals.items ++ flat_map globals_of all;
     }

@@ -10,4 +10,5 @@ returns-clause-resolved c =
     let found = c.in_ok-resolve_each.ensures in
     let begins = c.in_ok-begin_file.ensures ∙ ap (λ scopes. file_scope scopes.definitions) c.requires.is_empty in
     rw c.of.ensures
-    (whole_made (map view_item c.args.items.now) _ _ _ _ _ begins c.new-globals.ensures.items (ap (map view_resolved_function) c.new-functions.ensures.items) found.declared found.defined)
+    (whole_made (map view_item c.args.items.now) _ _ _ _ _ begins c.new-globals.ensures.items
+    (ap (map view_resolved_function) c.new-functions.ensures.items) found.declared found.defined)

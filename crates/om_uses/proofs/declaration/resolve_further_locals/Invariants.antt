@@ -15,5 +15,6 @@ invariant-loop-further l =
     let now = map view_resolved_declarator l.declared.items in
     record {
       rules : Unbroken local_breaches after_local l.fn.symbols all l.symbols left;
-      resolved : made_and before (resolved_declarators l.fn.symbols all) ≡ made_and now (resolved_declarators l.symbols left);
+      resolved : made_and before (resolved_declarators l.fn.symbols all)
+          ≡ made_and now (resolved_declarators l.symbols left);
     }

@@ -11,9 +11,12 @@ use Rattle.om_uses.proofs.directive.list_further_names.Goals as goal
 pub returns-in_err-add-clause-checked : goal.returns-in_err-add-clause-checked
 returns-in_err-add-clause-checked c =
     let p = err_from_is_err_and c.from_residual.result c.from_residual.ensures.1 in
-    let here = ap (map (λ further. further.1)) (drop-item c.args.rest.now c.loop-further.further-index c.further-item.result c.loop-further-test.true c.further-item.is) in
+    let here = ap (map (λ further. further.1)) (drop-item c.args.rest.now c.loop-further.further-index
+    c.further-item.result c.loop-further-test.true c.further-item.is) in
     let left = rw here at c.loop-further.invariant.rules in
-    rw (p.1, p.2) (unbroken-refuse (listed_breaches c.args.listing.now.symbols.now (sharing_of c.args.listing.now.kind)) (after_name (sharing_of c.args.listing.now.kind)) left (c.in_err-add.ensures.checked _ c.list_name-found.ensures.checked))
+    rw (p.1, p.2) (unbroken-refuse (listed_breaches c.args.listing.now.symbols.now
+    (sharing_of c.args.listing.now.kind)) (after_name (sharing_of c.args.listing.now.kind)) left
+    (c.in_err-add.ensures.checked _ c.list_name-found.ensures.checked))
 
 pub loop-further-preserved : goal.loop-further-preserved
 loop-further-preserved c =
@@ -25,12 +28,16 @@ loop-further-preserved c =
     let checked = rw added.1 at c.list_name-found.ensures.checked in
     let behind = rw added.1 at c.list_name-found.ensures.listed in
     let found = rw added.1 at c.list_name-found.ensures.resolved in
-    let here = ap (map (λ further. further.1)) (drop-item c.args.rest.now c.loop-further.further-index c.further-item.result c.loop-further-test.true c.further-item.is) in
+    let here = ap (map (λ further. further.1)) (drop-item c.args.rest.now c.loop-further.further-index
+    c.further-item.result c.loop-further-test.true c.further-item.is) in
     let pushed = ap (map view_resolved_clause) added.2 ∙ map-push view_resolved_clause made clause in
     record {
-      rules = rw behind (unbroken-step (listed_breaches c.args.listing.now.symbols.now (sharing_of c.args.listing.now.kind)) (after_name (sharing_of c.args.listing.now.kind)) (rw here at c.loop-further.invariant.rules) checked);
+      rules = rw behind (unbroken-step (listed_breaches c.args.listing.now.symbols.now
+          (sharing_of c.args.listing.now.kind)) (after_name (sharing_of c.args.listing.now.kind))
+          (rw here at c.loop-further.invariant.rules) checked);
       resolved =
           (rw here at c.loop-further.invariant.resolved)
-          ∙ each-step part c.further-item.result.1 rest (map view_resolved_clause made) (view_resolved_clause clause) found
+          ∙ each-step part c.further-item.result.1 rest (map view_resolved_clause made)
+          (view_resolved_clause clause) found
           ∙ ap (λ grown. made_and grown (each part rest)) (sym pushed);
     }

@@ -13,6 +13,8 @@ invariant-loop-further l =
     let before = map view_resolved_clause l.fn.clauses.items in
     let now = map view_resolved_clause l.clauses.items in
     record {
-      rules : Unbroken (listed_breaches l.listing.symbols.now (sharing_of l.listing.kind)) (after_name (sharing_of l.listing.kind)) l.fn.listed all l.listed left;
-      resolved : made_and before (each (resolved_listed l.listing.kind l.listing.symbols.now) all) ≡ made_and now (each (resolved_listed l.listing.kind l.listing.symbols.now) left);
+      rules : Unbroken (listed_breaches l.listing.symbols.now (sharing_of l.listing.kind))
+          (after_name (sharing_of l.listing.kind)) l.fn.listed all l.listed left;
+      resolved : made_and before (each (resolved_listed l.listing.kind l.listing.symbols.now) all)
+          ≡ made_and now (each (resolved_listed l.listing.kind l.listing.symbols.now) left);
     }

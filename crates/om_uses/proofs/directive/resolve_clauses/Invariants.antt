@@ -13,5 +13,6 @@ invariant-loop-item l =
     let left = map (map_item view_expression) (drop l.item-index l.items) in
     record {
       rules : Unbroken (item_breaches l.symbols) after_item nothing_listed all l.listed left;
-      resolved : resolved_clauses l.symbols all ≡ made_and (map view_resolved_clause l.clauses.items) (resolved_clauses l.symbols left);
+      resolved : resolved_clauses l.symbols all ≡ made_and (map view_resolved_clause l.clauses.items)
+          (resolved_clauses l.symbols left);
     }

@@ -12,5 +12,6 @@ invariant-loop-further l =
     let left = map (λ further. further.1) (drop l.further-index l.rest) in
     record {
       rules : flat_map (flushed_breaches l.symbols) left ≡ flat_map (flushed_breaches l.symbols) all;
-      resolved : made_and l.fn.variables.items (each (variable_named l.symbols) all) ≡ made_and l.variables.items (each (variable_named l.symbols) left);
+      resolved : made_and l.fn.variables.items (each (variable_named l.symbols) all) ≡ made_and l.variables.items
+          (each (variable_named l.symbols) left);
     }
