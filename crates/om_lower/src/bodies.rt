@@ -149,10 +149,10 @@ fn body_with(
     ensures { let tree = view_resolved whole.now.resolved.now in
         IfOk result (λ made. FitsBody tree (site_of site.now) made) }
 {
-    match frame_in(whole.alloc, extents, site, variables)? {
-        None => Ok(None),
-        Some(slots) => body_on(whole, site, variables, slots),
-    }
+    let Some(slots) = frame_in(whole.alloc, extents, site, variables)? else {
+        return Ok(None);
+    };
+    body_on(whole, site, variables, slots)
 }
 
 /// The same, where its slots are made.

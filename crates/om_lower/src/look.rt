@@ -20,10 +20,8 @@ pub fn line_of(program: &Program, body: u32, at: u32) -> u32
 pub fn global_named(program: &Program, name: &[u8]) -> Option<u32>
     ensures { result ≡ position (λ global. bytes_eq global.name name.now) program.now.globals }
 {
-    match index_of(program.globals(), name) {
-        Some(index) => Some(index as u32),
-        None => None,
-    }
+    let index = index_of(program.globals(), name)?;
+    Some(index as u32)
 }
 
 /// The index of the first global variable of this name.

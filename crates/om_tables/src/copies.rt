@@ -81,10 +81,10 @@ fn add_clause(copies: &mut Vec<FirstCopy>, clause: &ResolvedClause) -> Result<()
     ensures { let added = clause_first (view_resolved_clause clause.now) in
         OnOk result (first_copies_of copies.new.items ≡ first_copies_of copies.old.items ++ added) }
 {
-    match clause {
-        ResolvedClause::Value(_, _) | ResolvedClause::Shared(_) => Ok(()),
-        ResolvedClause::Copied(kind, original, copy) => add_copy(copies, *kind, *original, copy),
-    }
+    let ResolvedClause::Copied(kind, original, copy) = clause else {
+        return Ok(());
+    };
+    add_copy(copies, *kind, *original, copy)
 }
 
 /// Adds a copy that begins with its original's value.
@@ -97,16 +97,14 @@ fn add_copy(
     ensures { let added = copied_first kind original copy.now in
         OnOk result (first_copies_of copies.new.items ≡ first_copies_of copies.old.items ++ added) }
 {
-    match kind {
-        CopyKind::Private | CopyKind::Reduction(_) => Ok(()),
-        CopyKind::Firstprivate => add(
-            copies,
-            FirstCopy {
-                variable: copy.at,
-                original,
-            },
-        ),
-    }
+    let CopyKind::Firstprivate = kind else {
+        return Ok(());
+    };
+    let first = FirstCopy {
+        variable: copy.at,
+        original,
+    };
+    add(copies, first)
 }
 
 /// Adds a copy.
@@ -133,16 +131,14 @@ fn add_capture(copies: &mut Vec<FirstCopy>, capture: Capture) -> Result<(), Allo
     ensures { let added = capture_first capture in
         OnOk result (first_copies_of copies.new.items ≡ first_copies_of copies.old.items ++ added) }
 {
-    match capture.taking {
-        Taking::Shared => Ok(()),
-        Taking::Firstprivate => add(
-            copies,
-            FirstCopy {
-                variable: capture.variable,
-                original: Variable::Local(capture.variable),
-            },
-        ),
-    }
+    let Taking::Firstprivate = capture.taking else {
+        return Ok(());
+    };
+    let first = FirstCopy {
+        variable: capture.variable,
+        original: Variable::Local(capture.variable),
+    };
+    add(copies, first)
 }
 
 /// The copies by the slots of their variables.

@@ -80,10 +80,10 @@ fn note_perhaps(
     ensures { let tree = option_map view_resolved_expression expression.now in
         OnOk result (AreNoted (λ A m. perhaps_mentioned m tree) found.old found.new) }
 {
-    match expression {
-        None => Ok(()),
-        Some(expression) => note_value(found, alloc, expression),
-    }
+    let Some(expression) = expression else {
+        return Ok(());
+    };
+    note_value(found, alloc, expression)
 }
 
 /// How many cells a variable of this length has; a scalar has one.
@@ -148,10 +148,10 @@ fn note_clause(
     ensures { let tree = view_resolved_clause clause.now in
         OnOk result (AreNoted (λ A m. clause_mentioned m tree) found.old found.new) }
 {
-    match clause {
-        ResolvedClause::Value(_, value) => note_value(found, alloc, value),
-        ResolvedClause::Shared(_) | ResolvedClause::Copied(_, _, _) => Ok(()),
-    }
+    let ResolvedClause::Value(_, value) = clause else {
+        return Ok(());
+    };
+    note_value(found, alloc, value)
 }
 
 /// Notes clauses.
@@ -199,13 +199,12 @@ fn note_construct(
 ) -> Result<(), AllocError>
     ensures { OnOk result (AreNoted (λ A m. m.by_construct kind.now) found.old found.new) }
 {
-    match kind {
-        ConstructKind::Critical(None) => found.locks.note(alloc, &[]),
-        ConstructKind::Critical(Some(name)) => found.locks.note(alloc, name.as_slice()),
-        ConstructKind::Single(_)
-        | ConstructKind::Masked
-        | ConstructKind::Atomic
-        | ConstructKind::Taskgroup => Ok(()),
+    let ConstructKind::Critical(name) = kind else {
+        return Ok(());
+    };
+    match name {
+        None => found.locks.note(alloc, &[]),
+        Some(name) => found.locks.note(alloc, name.as_slice()),
     }
 }
 

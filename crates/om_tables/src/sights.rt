@@ -146,10 +146,10 @@ fn see_combined(
 ) -> Result<(), AllocError>
     ensures { OnOk result (variables.new ≡ sighted variables.old (combined_sights kind original)) }
 {
-    match kind {
-        CopyKind::Private | CopyKind::Firstprivate => Ok(()),
-        CopyKind::Reduction(_) => variables.sight(original),
-    }
+    let CopyKind::Reduction(_) = kind else {
+        return Ok(());
+    };
+    variables.sight(original)
 }
 
 /// Sees, in the body of a region, what is combined and then its copy.

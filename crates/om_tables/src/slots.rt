@@ -63,14 +63,7 @@ fn is_shared(captures: &[Capture], variable: u32) -> bool
 fn shares(variable: u32, capture: Capture) -> bool
     ensures { result ≡ shares variable capture }
 {
-    if capture.variable == variable {
-        match capture.taking {
-            Taking::Shared => true,
-            Taking::Firstprivate => false,
-        }
-    } else {
-        false
-    }
+    capture.variable == variable && matches!(capture.taking, Taking::Shared)
 }
 
 /// The slots of parameters.

@@ -82,10 +82,10 @@ pub(crate) fn take_perhaps(
         (variables.new ≡ sighted variables.old
         (perhaps_uses (option_map view_resolved_expression expression.now))) }
 {
-    match expression {
-        None => Ok(()),
-        Some(expression) => take_expression(variables, expression),
-    }
+    let Some(expression) = expression else {
+        return Ok(());
+    };
+    take_expression(variables, expression)
 }
 
 /// Notes the original of a copy, unless that is private.
@@ -96,10 +96,10 @@ pub(crate) fn take_original(
 ) -> Result<(), AllocError>
     ensures { OnOk result (variables.new ≡ sighted variables.old (copy_uses kind original)) }
 {
-    match kind {
-        CopyKind::Private => Ok(()),
-        CopyKind::Firstprivate | CopyKind::Reduction(_) => variables.sight(original),
+    if matches!(kind, CopyKind::Private) {
+        return Ok(());
     }
+    variables.sight(original)
 }
 
 /// Notes what a clause uses outside of its construct.
@@ -158,10 +158,10 @@ pub(crate) fn take_stand_alone(
 ) -> Result<(), AllocError>
     ensures { OnOk result (variables.new ≡ sighted variables.old (stand_alone_uses directive.now)) }
 {
-    match directive {
-        StandAlone::Barrier | StandAlone::Taskwait | StandAlone::Taskyield => Ok(()),
-        StandAlone::Flush(listed) => take_variables(variables, listed.as_slice()),
-    }
+    let StandAlone::Flush(listed) = directive else {
+        return Ok(());
+    };
+    take_variables(variables, listed.as_slice())
 }
 
 /// Notes what a team or a task uses: what its clauses do, and what it takes from outside.

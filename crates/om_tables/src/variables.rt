@@ -72,9 +72,9 @@ impl Variables {
         ensures { OnOk result
             (self.new ≡ fold (with_sight nat_eq) self.old (variable_uses variable)) }
     {
-        match variable {
-            Variable::Local(at) => self.add(at),
-            Variable::Global(_) => Ok(()),
-        }
+        let Variable::Local(at) = variable else {
+            return Ok(());
+        };
+        self.add(at)
     }
 }

@@ -94,10 +94,8 @@ fn innermost(scopes: &[Scope], at: Around, name: &[u8]) -> Option<Named>
 fn around_in(bodies: &[BodyNames], body: u32) -> Option<Around>
     ensures { result ≡ around_in (slice_get bodies.now body) }
 {
-    match bodies.get(body as usize) {
-        None => None,
-        Some(names) => names.around,
-    }
+    let names = bodies.get(body as usize)?;
+    names.around
 }
 
 /// What a name means in a body, or at the directive of that body, and so on, so many times.
@@ -113,13 +111,11 @@ fn meant(
     let Some(left) = steps.checked_sub(1) else {
         return None;
     };
-    match innermost(scopes, at, name) {
-        Some(named) => Some(named),
-        None => match around_in(bodies, at.body) {
-            None => None,
-            Some(around) => meant(scopes, bodies, left, around, name),
-        },
+    if let Some(named) = innermost(scopes, at, name) {
+        return Some(named);
     }
+    let around = around_in(bodies, at.body)?;
+    meant(scopes, bodies, left, around, name)
 }
 
 /// The slot of a variable.

@@ -209,10 +209,10 @@ pub(crate) fn pass_perhaps(
     ensures { OnOk result (place.new ≡ place.old + perhaps_size value_size
         (option_map view_resolved_expression expression.now)) }
 {
-    match expression {
-        None => Ok(()),
-        Some(expression) => pass_value(place, expression),
-    }
+    let Some(expression) = expression else {
+        return Ok(());
+    };
+    pass_value(place, expression)
 }
 
 /// Goes over the code of a test that may be left out.
@@ -223,13 +223,11 @@ pub(crate) fn pass_test(
     ensures { OnOk result (place.new ≡ place.old + perhaps_size test_size
         (option_map view_resolved_expression condition.now)) }
 {
-    match condition {
-        None => Ok(()),
-        Some(condition) => {
-            pass_value(place, condition)?;
-            pass(place, 1)
-        }
-    }
+    let Some(condition) = condition else {
+        return Ok(());
+    };
+    pass_value(place, condition)?;
+    pass(place, 1)
 }
 
 /// Goes over the code of a step that may be left out.
@@ -240,8 +238,8 @@ pub(crate) fn pass_step(
     ensures { OnOk result (place.new ≡ place.old + perhaps_size effect_size
         (option_map view_resolved_expression step.now)) }
 {
-    match step {
-        None => Ok(()),
-        Some(step) => pass_effect(place, step),
-    }
+    let Some(step) = step else {
+        return Ok(());
+    };
+    pass_effect(place, step)
 }

@@ -81,27 +81,10 @@ fn skip_assignment(walk: &mut Walk, statement: &ResolvedStatement) -> Result<(),
     ensures { OnOk result (Walked walk.old walk.new
         (assignment_size (view_resolved_statement statement.now)) (λ k. nothing)) }
 {
-    match statement {
-        ResolvedStatement::Expression(_, expression) => skip_effect(walk, expression),
-        ResolvedStatement::Declaration(_, _)
-        | ResolvedStatement::Block(_, _)
-        | ResolvedStatement::Empty(_)
-        | ResolvedStatement::If(_, _, _)
-        | ResolvedStatement::IfElse(_, _, _, _)
-        | ResolvedStatement::While(_, _, _)
-        | ResolvedStatement::Do(_, _, _)
-        | ResolvedStatement::For(_, _, _, _, _)
-        | ResolvedStatement::Return(_, _)
-        | ResolvedStatement::Break(_)
-        | ResolvedStatement::Continue(_)
-        | ResolvedStatement::Parallel(_, _, _, _)
-        | ResolvedStatement::Task(_, _, _, _)
-        | ResolvedStatement::Loop(_, _, _, _, _)
-        | ResolvedStatement::Sections(_, _, _, _)
-        | ResolvedStatement::Construct(_, _, _, _)
-        | ResolvedStatement::Update(_, _)
-        | ResolvedStatement::StandAlone(_, _) => Ok(()),
-    }
+    let ResolvedStatement::Expression(_, expression) = statement else {
+        return Ok(());
+    };
+    skip_effect(walk, expression)
 }
 
 /// Adds the names of a statement.

@@ -239,14 +239,12 @@ fn add_copy(walk: &mut Walk, clause: &ResolvedClause) -> Result<(), AllocError>
         (clause_start_size (view_resolved_clause clause.now))
         (λ k. opening (clause_copies walk.old.place (view_resolved_clause clause.now)))) }
 {
-    match clause {
-        ResolvedClause::Value(_, _) | ResolvedClause::Shared(_) => Ok(()),
-        ResolvedClause::Copied(kind, _, copy) => {
-            let from = walk.place;
-            open(walk, copy, from)?;
-            skip(walk, copy_start_own(*kind))
-        }
-    }
+    let ResolvedClause::Copied(kind, _, copy) = clause else {
+        return Ok(());
+    };
+    let from = walk.place;
+    open(walk, copy, from)?;
+    skip(walk, copy_start_own(*kind))
 }
 
 /// Adds the copies that clauses make in this body.
@@ -287,14 +285,12 @@ fn add_region_copy(walk: &mut Walk, clause: &ResolvedClause) -> Result<(), Alloc
         (clause_region_start (view_resolved_clause clause.now))
         (λ k. opening (clause_region_copies walk.old.place (view_resolved_clause clause.now)))) }
 {
-    match clause {
-        ResolvedClause::Value(_, _) | ResolvedClause::Shared(_) => Ok(()),
-        ResolvedClause::Copied(kind, _, copy) => {
-            let from = region_from(walk.place, *kind);
-            open(walk, copy, from)?;
-            skip(walk, region_start(*kind))
-        }
-    }
+    let ResolvedClause::Copied(kind, _, copy) = clause else {
+        return Ok(());
+    };
+    let from = region_from(walk.place, *kind);
+    open(walk, copy, from)?;
+    skip(walk, region_start(*kind))
 }
 
 /// Adds the copies that clauses make in the body of their region.
@@ -349,10 +345,10 @@ fn add_task_copy(walk: &mut Walk, clause: &ResolvedClause) -> Result<(), AllocEr
     ensures { OnOk result (Walked walk.old walk.new 0
         (λ k. opening (task_clause (view_resolved_clause clause.now)))) }
 {
-    match clause {
-        ResolvedClause::Value(_, _) | ResolvedClause::Shared(_) => Ok(()),
-        ResolvedClause::Copied(_, _, copy) => open(walk, copy, 0),
-    }
+    let ResolvedClause::Copied(_, _, copy) = clause else {
+        return Ok(());
+    };
+    open(walk, copy, 0)
 }
 
 /// Begins the body of a region that stands here.
