@@ -1,5 +1,6 @@
 -- The code of a body, once all of it is written.
-use Rattle.std.proofs.Common.{◌≡◌, ℕ, zero, suc, List, [], ◌∷◌, Some, Contains, get_or, map, length, refl, sym, ap, subst, ◌∙◌}
+use Rattle.std.proofs.Common.{◌≡◌, ℕ, zero, suc, List, [], ◌∷◌, Some, Contains, get_or, map, length, refl, sym, ap}
+use Rattle.std.proofs.Common.{subst, ◌∙◌}
 use Rattle.std.specs.Prelude.{slice_get}
 use Rattle.std.proofs.lemmas.List.{length-map}
 use Rattle.std.proofs.lemmas.Option.{slice_get_within}
@@ -36,7 +37,8 @@ settled_fits d picks stand = record {
   code = λ k x le e. get_map (settled (place_in d.places)) d.code k x e;
   places = λ l x e. ap known e;
   picks = λ k x e. stand (settled_list (place_in d.places) x)
-      (found (settled_lists d) k (settled_list (place_in d.places) x) (get_map (settled_list (place_in d.places)) d.picks k x e));
+      (found (settled_lists d) k (settled_list (place_in d.places) x) (get_map (settled_list (place_in d.places))
+      d.picks k x e));
 }
 
 stands_in : (names : Names) (n : Numbers) (f : ResolvedFunctionTree) (tree : BodyTree) (final : Written)

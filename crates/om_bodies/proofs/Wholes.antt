@@ -9,7 +9,8 @@ use Rattle.om_emit.specs.Emits.{Emits, EmitsRow, Finished, Goes, Part, site}
 use Rattle.om_emit.specs.Writing.{goes_end, goes_put}
 use Rattle.om_lexer.specs.declared.token.Span.{Span}
 use Rattle.om_resolved.specs.declared.resolved.Capture.{Capture}
-use Rattle.om_resolved.specs.ResolvedTree.{ResolvedClauseTree, ResolvedFunctionTree, ResolvedStatementTree, ResolvedStatementsTree}
+use Rattle.om_resolved.specs.ResolvedTree.{ResolvedClauseTree, ResolvedFunctionTree, ResolvedStatementTree}
+use Rattle.om_resolved.specs.ResolvedTree.{ResolvedStatementsTree}
 use Rattle.om_rows.specs.Bodies.{FunctionBody, ParallelBody, TaskBody}
 use Rattle.om_rows.specs.Code.{last_instruction}
 use Rattle.om_rows.specs.Rows.{end, ins, part}

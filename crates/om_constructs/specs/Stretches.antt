@@ -1,5 +1,6 @@
 -- Stretches of rows: what stands before the statement of a form, and what stands behind it.
-use Rattle.std.specs.Prelude.{◌≡◌, ◌≤◌, ◌<◌, ℕ, ◌+◌, pos, List, Option, Some, None, Bool, true, false, IfSome, length, slice_get}
+use Rattle.std.specs.Prelude.{◌≡◌, ◌≤◌, ◌<◌, ℕ, ◌+◌, pos, List, Option, Some, None, Bool, true, false, IfSome, length}
+use Rattle.std.specs.Prelude.{slice_get}
 use Rattle.om_code.specs.declared.instruction.Instr.{Instr}
 use Rattle.om_code.specs.declared.instruction.Instr.TheVariants as i
 use Rattle.om_code.specs.declared.instruction.Comparison.{Comparison}
@@ -14,13 +15,15 @@ use Rattle.om_resolved.specs.declared.resolved.ConstructKind.TheVariants as cons
 use Rattle.om_resolved.specs.declared.resolved.LocalVariable.{LocalVariable}
 use Rattle.om_resolved.specs.declared.resolved.Variable as variables
 use Rattle.om_resolved.specs.declared.resolved.Variable.TheVariants as named
-use Rattle.om_resolved.specs.ResolvedTree.{ResolvedExpressionTree, ResolvedClauseTree, ResolvedLoopTree, ResolvedStartTree}
+use Rattle.om_resolved.specs.ResolvedTree.{ResolvedExpressionTree, ResolvedClauseTree, ResolvedLoopTree}
+use Rattle.om_resolved.specs.ResolvedTree.{ResolvedStartTree}
 use Rattle.om_rows.specs.Coded.{ValueHasCode}
 use Rattle.om_rows.specs.Expressions.{value, effect}
 use Rattle.om_rows.specs.Operators.{comparison_of, form_with, identity_of}
 use Rattle.om_rows.specs.Rows.{Site, Row, end, never, ins, part, here, ◌▸◌, given, perhaps}
 use Rattle.om_rows.specs.Slots.{place, slot}
-use Rattle.om_rows.specs.Statements.{test, start, starts, filter_row, lock_number, reductions, worksharing_end, clause_value}
+use Rattle.om_rows.specs.Statements.{test, start, starts, filter_row, lock_number, reductions, worksharing_end}
+use Rattle.om_rows.specs.Statements.{clause_value}
 use Rattle.om_tables.specs.Names.{Names}
 
 -- ---- rows that name no label
@@ -50,7 +53,8 @@ original_start l original copy at =
 
 -- the bounds of a worksharing loop, and what its copies begin with
 abbrev pub bounds_row : ℕ → List ResolvedClauseTree → ResolvedLoopTree → Site → Row
-bounds_row l clauses loop at = part (value at loop.at.line loop.from) ▸ part (value at loop.at.line loop.to) ▸ starts at l clauses
+bounds_row l clauses loop at = part (value at loop.at.line loop.from) ▸ part (value at loop.at.line loop.to) ▸
+    starts at l clauses
 
 -- what stands behind a worksharing loop, or the parts of `sections`
 abbrev pub close_row : ℕ → List ResolvedClauseTree → (nowait : Bool) → Site → Row
@@ -125,34 +129,41 @@ do_begin labels done at = here (at labels.again) ▸ end
 -- C: c, JZ E, JMP L, E:
 abbrev pub do_end : Names → ℕ → TurnLabels → ResolvedExpressionTree → Part
 do_end names l labels c done at =
-    here (at labels.next) ▸ part (test (site names done) l (at labels.over) c) ▸ loop_end names l (loop_labels labels) done at
+    here (at labels.next) ▸ part (test (site names done) l (at labels.over) c) ▸ loop_end names l
+    (loop_labels labels) done at
 
 -- i, L: c, JZ E
 abbrev pub for_begin : Names → ℕ → ResolvedStartTree → Option ResolvedExpressionTree → TurnLabels → Part
 for_begin names l begin c labels done at =
-    part (start (site names done) l begin) ▸ here (at labels.again) ▸ perhaps (test (site names done) l (at labels.over)) c
+    part (start (site names done) l begin) ▸ here (at labels.again) ▸ perhaps
+    (test (site names done) l (at labels.over)) c
 
 -- C: p, JMP L, E:
 abbrev pub for_end : Names → ℕ → TurnLabels → Option ResolvedExpressionTree → Part
 for_end names l labels step done at =
-    here (at labels.next) ▸ part (perhaps (effect (site names done) l) step) ▸ loop_end names l (loop_labels labels) done at
+    here (at labels.next) ▸ part (perhaps (effect (site names done) l) step) ▸ loop_end names l (loop_labels labels)
+    done at
 
 -- bounds and starts, LOOP, G: GRAB E, I: ITER i G
-abbrev pub worksharing_rest : Names → ℕ → List ResolvedClauseTree → ResolvedLoopTree → LoopLabels → (chunk : ℕ) → Comparison → Part
+abbrev pub worksharing_rest : Names → ℕ → List ResolvedClauseTree → ResolvedLoopTree → LoopLabels → (chunk : ℕ)
+    → Comparison → Part
 worksharing_rest names l clauses loop labels chunk comparison done at =
     part (bounds_row l clauses loop (site names done)) ▸ ins (site names done) l (i.Loop (form_with loop comparison))
     ▸ here (at chunk) ▸ ins (site names done) l (i.Grab (at labels.over))
-    ▸ here (at labels.again) ▸ ins (site names done) l (i.Iterate (slot (site names done) loop.variable) (at chunk)) ▸ end
+    ▸ here (at labels.again) ▸ ins (site names done) l (i.Iterate (slot (site names done) loop.variable) (at chunk))
+    ▸ end
 
 abbrev pub worksharing_begin : Names → ℕ → List ResolvedClauseTree → ResolvedLoopTree → LoopLabels → Part
 worksharing_begin names l clauses loop labels done at = λ p q. (chunk : ℕ) ×
-    given (comparison_of loop.comparison) (λ comparison. worksharing_rest names l clauses loop labels chunk comparison done at) p q
+    given (comparison_of loop.comparison) (λ comparison. worksharing_rest names l clauses loop labels chunk
+    comparison done at) p q
 
 -- starts, SECT n, G: GRAB E, PICK
 abbrev pub sections_begin : Names → ℕ → List ResolvedClauseTree → Parts → LoopLabels → Part
 sections_begin names l clauses sections labels done at =
     part (starts (site names done) l clauses) ▸ ins (site names done) l (i.Sections sections.count)
-    ▸ here (at labels.again) ▸ ins (site names done) l (i.Grab (at labels.over)) ▸ ins (site names done) l (i.Pick sections.number) ▸ end
+    ▸ here (at labels.again) ▸ ins (site names done) l (i.Grab (at labels.over)) ▸ ins (site names done) l
+    (i.Pick sections.number) ▸ end
 
 -- what stands before the statement of a construct that is no `atomic`
 abbrev pub construct_begin : Names → ℕ → ConstructKind → List ResolvedClauseTree → (label : ℕ) → Part
@@ -168,7 +179,8 @@ construct_begin names l constructs.Taskgroup clauses label done at = ins (site n
 
 -- what stands behind it
 abbrev pub construct_end : Names → ℕ → ConstructKind → (label : ℕ) → Part
-construct_end names l (constructs.Single nowait) label done at = here (at label) ▸ worksharing_end (site names done) l nowait
+construct_end names l (constructs.Single nowait) label done at = here (at label) ▸ worksharing_end (site names done)
+    l nowait
 construct_end names l constructs.Masked label done at = ins (site names done) l i.EndMasked ▸ here (at label) ▸ end
 construct_end names l (constructs.Critical name) label done at =
     ins (site names done) l (i.LeaveCritical (lock_number (site names done) name)) ▸ end

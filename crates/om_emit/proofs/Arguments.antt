@@ -1,5 +1,6 @@
 -- The values of a call, one behind the other.
-use Rattle.std.proofs.Common.{◌≡◌, ◌≤◌, ◌<◌, ℕ, zero, suc, ◌+◌, ◌*◌, List, [], ◌∷◌, map, length, drop, get_or, drop-cons, add-one, refl, sym, ap, ◌∙◌, subst, arith}
+use Rattle.std.proofs.Common.{◌≡◌, ◌≤◌, ◌<◌, ℕ, zero, suc, ◌+◌, ◌*◌, List, [], ◌∷◌, map, length, drop, get_or}
+use Rattle.std.proofs.Common.{drop-cons, add-one, refl, sym, ap, ◌∙◌, subst, arith}
 use denote.Param.Weighed.{at_most, most}
 use Rattle.om_emit.specs.Drafts.{Written}
 use Rattle.om_emit.specs.Emits.{site, Goes, EmitsValue}

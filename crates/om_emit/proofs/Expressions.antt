@@ -7,13 +7,15 @@ use Rattle.om_emit.specs.declared.expression.Target.{Target}
 use Rattle.om_emit.specs.declared.single.Stepped.{Stepped}
 use Rattle.om_emit.specs.Drafts.{Written, moved, Puts}
 use Rattle.om_emit.specs.Emits.{Part, site, Emits, EmitsEffect, EmitsRow, EmitsValue, EmitsValues}
-use Rattle.om_emit.specs.Rests.{assignment, assignment_rest, binary_rest, call, element_rest, popped, postfix_rest, print, stepped_rest, unary_rest}
+use Rattle.om_emit.specs.Rests.{assignment, assignment_rest, binary_rest, call, element_rest, popped, postfix_rest}
+use Rattle.om_emit.specs.Rests.{print, stepped_rest, unary_rest}
 use Rattle.om_emit.specs.Writing.{goes_end, goes_put, goes_part, put_length}
 use Rattle.om_emit.proofs.Singles.{emits_one, emits_then, emits_as}
 use Rattle.om_resolved.specs.declared.resolved.UnaryOperator.{UnaryOperator}
 use Rattle.om_resolved.specs.declared.resolved.UnaryOperator.TheVariants as unaries
 use Rattle.om_resolved.specs.declared.resolved.Variable as variables
-use Rattle.om_resolved.specs.ResolvedTree.{ResolvedExpressionTree, Element, Call, Unary, Binary, PostfixElement, ValuesTree}
+use Rattle.om_resolved.specs.ResolvedTree.{ResolvedExpressionTree, Element, Call, Unary, Binary, PostfixElement}
+use Rattle.om_resolved.specs.ResolvedTree.{ValuesTree}
 use Rattle.om_rows.specs.Bodies.{called_body}
 use Rattle.om_rows.specs.Expressions.{assigned, binary_row, element_assigned, unary_row, value, values, value_count}
 use Rattle.om_rows.specs.Operators.{BinaryForm, Both, Either, Plain, form_of, compound_of}

@@ -4,7 +4,8 @@ use Rattle.om_code.specs.declared.instruction.Instr.TheVariants as i
 use Rattle.om_emit.specs.Drafts.{Written, Puts, Fresh, Defines}
 use Rattle.om_emit.specs.Emits.{Part, site, EmitsRow, EmitsValue}
 use Rattle.om_emit.specs.Rests.{binary_rest}
-use Rattle.om_emit.specs.Writing.{goes_end, goes_put, goes_part, goes_here, goes_fresh, goes_as, fresh_length, put_length, define_length}
+use Rattle.om_emit.specs.Writing.{goes_end, goes_put, goes_part, goes_here, goes_fresh, goes_as, fresh_length}
+use Rattle.om_emit.specs.Writing.{put_length, define_length}
 use Rattle.om_resolved.specs.ResolvedTree.{ResolvedExpressionTree, Conditional}
 use Rattle.om_rows.specs.Expressions.{value}
 use Rattle.om_rows.specs.Operators.{Both, Either}

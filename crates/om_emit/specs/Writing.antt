@@ -1,6 +1,7 @@
 -- How a row is written from the left, an item at a time: what is written first, and what whoever goes on
 -- writes behind it.
-use Rattle.std.proofs.Common.{◌≡◌, ℕ, zero, suc, ◌+◌, ◌<◌, ◌≤◌, List, [], ◌∷◌, ◌++◌, length, Some, None, refl, ap, ◌∙◌, subst, arith, length-append}
+use Rattle.std.proofs.Common.{◌≡◌, ℕ, zero, suc, ◌+◌, ◌<◌, ◌≤◌, List, [], ◌∷◌, ◌++◌, length, Some, None, refl, ap, ◌∙◌}
+use Rattle.std.proofs.Common.{subst, arith, length-append}
 use Rattle.std.specs.Prelude.{slice_get, slice_set}
 use Rattle.std.proofs.lemmas.Option.{slice_get_within}
 use Rattle.om_code.specs.declared.instruction.Instr.{Instr}

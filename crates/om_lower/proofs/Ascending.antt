@@ -1,11 +1,16 @@
 -- The lists of PICK of one body ascend, so there is a table in which each stands at its number.
-use Rattle.std.proofs.Common.{◌≡◌, ◌<◌, ◌≤◌, ◌+◌, ◌-◌, ℕ, zero, suc, List, [], ◌∷◌, ◌++◌, Some, length, map, refl, sym, ap, subst, ◌∙◌, arith, length-append}
+use Rattle.std.proofs.Common.{◌≡◌, ◌<◌, ◌≤◌, ◌+◌, ◌-◌, ℕ, zero, suc, List, [], ◌∷◌, ◌++◌, Some, length, map, refl, sym}
+use Rattle.std.proofs.Common.{ap, subst, ◌∙◌, arith, length-append}
 use Rattle.std.specs.Prelude.{slice_get}
 use Rattle.om_emit.specs.declared.draft.PickList.{PickList}
 use Rattle.om_emit.specs.Settled.{ListsStand, number_of}
 use Rattle.om_emit.specs.Writing.{get_left, get_seam}
-use Rattle.om_resolved.specs.ResolvedTree.{ResolvedStatementTree, Declaration, Block, Empty, Expression, If, IfElse, While, Do, For, Return, Break, Continue, Parallel, Task, Loop, Sections, Construct, Update, StandAlone, ResolvedStatementsTree, NoStatements, Statement, ResolvedPartsTree, NoParts, Part, ResolvedFunctionTree}
-use Rattle.om_rows.specs.Bodies.{BodyTree, FunctionBody, Numbers, ParallelBody, TaskBody, behind, behind_all, behind_parts, next_body, next_pick}
+use Rattle.om_resolved.specs.ResolvedTree.{ResolvedStatementTree, Declaration, Block, Empty, Expression, If, IfElse}
+use Rattle.om_resolved.specs.ResolvedTree.{While, Do, For, Return, Break, Continue, Parallel, Task, Loop, Sections}
+use Rattle.om_resolved.specs.ResolvedTree.{Construct, Update, StandAlone, ResolvedStatementsTree, NoStatements}
+use Rattle.om_resolved.specs.ResolvedTree.{Statement, ResolvedPartsTree, NoParts, Part, ResolvedFunctionTree}
+use Rattle.om_rows.specs.Bodies.{BodyTree, FunctionBody, Numbers, ParallelBody, TaskBody, behind, behind_all}
+use Rattle.om_rows.specs.Bodies.{behind_parts, next_body, next_pick}
 use Rattle.om_tables.specs.Picks.{all_own_picks, body_picks, own_picks, parts_own_picks}
 
 -- numbers from a on, each above the one before it, and all below b
@@ -42,8 +47,10 @@ mutual
   own_ascends (Return at value) n = omega arith
   own_ascends (Break at) n = omega arith
   own_ascends (Continue at) n = omega arith
-  own_ascends (Parallel at clauses captures s) n = ascends-bound n.picks (behind (next_body n) s).picks (own_picks (next_body n) s) (own_ascends s (next_body n))
-  own_ascends (Task at clauses captures s) n = ascends-bound n.picks (behind (next_body n) s).picks (own_picks (next_body n) s) (own_ascends s (next_body n))
+  own_ascends (Parallel at clauses captures s) n = ascends-bound n.picks (behind (next_body n) s).picks
+      (own_picks (next_body n) s) (own_ascends s (next_body n))
+  own_ascends (Task at clauses captures s) n = ascends-bound n.picks (behind (next_body n) s).picks
+      (own_picks (next_body n) s) (own_ascends s (next_body n))
   own_ascends (Loop at clauses nowait l s) n = own_ascends s n
   own_ascends (Sections at clauses nowait parts) n = (omega arith, parts_ascend parts (next_pick n))
   own_ascends (Construct at kind clauses s) n = own_ascends s n
@@ -116,8 +123,11 @@ tabled done (x ∷ rest) b up =
     }
 
 body_ascends : (n : Numbers) (f : ResolvedFunctionTree) (tree : BodyTree) → (b : ℕ) × Ascends 0 (body_picks n f tree) b
-body_ascends n f FunctionBody =
-    ((behind_all n f.body).picks, ascends-lower 0 n.picks (behind_all n f.body).picks (all_own_picks n f.body) (omega arith) (all_ascend f.body n))
+body_ascends n f FunctionBody = (
+  (behind_all n f.body).picks,
+  ascends-lower 0 n.picks (behind_all n f.body).picks (all_own_picks n f.body)
+      (omega arith) (all_ascend f.body n),
+)
 body_ascends n f (ParallelBody first clauses captures s) =
     ((behind n s).picks, ascends-lower 0 n.picks (behind n s).picks (own_picks n s) (omega arith) (own_ascends s n))
 body_ascends n f (TaskBody first clauses captures s) =

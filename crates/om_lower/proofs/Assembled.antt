@@ -1,5 +1,6 @@
 -- The program that is put together.
-use Rattle.std.proofs.Common.{◌≡◌, ◌<◌, ◌≤◌, ◌^◌, ℕ, zero, suc, take, true, List, [], ◌∷◌, All, length, map, refl, sym, ap, subst, ◌∙◌, arith}
+use Rattle.std.proofs.Common.{◌≡◌, ◌<◌, ◌≤◌, ◌^◌, ℕ, zero, suc, take, true, List, [], ◌∷◌, All, length, map, refl, sym}
+use Rattle.std.proofs.Common.{ap, subst, ◌∙◌, arith}
 use Rattle.std.proofs.lemmas.List.Elements.{All-nil, All-cons, All-head, All-tail, All-append}
 use Rattle.std.specs.List.{AllZip, flat_map}
 use Rattle.std.specs.Prelude.{OnOk, Result, Ok, Err}
@@ -15,13 +16,15 @@ use Rattle.om_lower.proofs.FunctionBodies.{side_by_side, within_functions}
 use Rattle.om_resolved.specs.Beside.{TreeCopiesBehind}
 use Rattle.om_resolved.specs.ResolvedTree.{ResolvedFunctionTree, ResolvedTree}
 use Rattle.om_resolved.specs.Whole.{IsWholeTree}
-use Rattle.om_rows.specs.Bodies.{BodySite, Numbers, behind_function, behind_functions, bodies_from, bodies_of, first_numbers, function_bodies, variables_of}
+use Rattle.om_rows.specs.Bodies.{BodySite, Numbers, behind_function, behind_functions, bodies_from, bodies_of}
+use Rattle.om_rows.specs.Bodies.{first_numbers, function_bodies, variables_of}
 use Rattle.om_rows.specs.Code.{IsBodyOf, IsCodeOf}
 use Rattle.om_rows.specs.Laws.{AreNumbered, BodyIsLevel, CodeIsValid}
 
 -- ---- levels
 
-level_bodies : (law : BodyIsLevel) (tree : ResolvedTree) (picked : List PickList) (picks : List (List ℕ)) (sites : List BodySite) (bodies : List Body)
+level_bodies : (law : BodyIsLevel) (tree : ResolvedTree) (picked : List PickList) (picks : List (List ℕ))
+    (sites : List BodySite) (bodies : List Body)
     → ListsStand picked picks → AreMade tree picked sites bodies → AreLevel picks bodies
 level_bodies law tree picked picks [] [] stand made = All-nil (λ body. IsLevelBody picks body)
 level_bodies law tree picked picks [] (body ∷ bodies) stand made = absurd made
@@ -32,7 +35,8 @@ level_bodies law tree picked picks (b ∷ sites) (body ∷ bodies) stand made =
     (record { level = law _ b.numbers b.function b.tree (one.code picks stand); short = one.short })
     (level_bodies law tree picked picks sites bodies stand made.1)
 
-pub level_functions : (law : BodyIsLevel) (tree : ResolvedTree) (picked : List PickList) (picks : List (List ℕ)) (n : Numbers)
+pub level_functions : (law : BodyIsLevel) (tree : ResolvedTree) (picked : List PickList) (picks : List (List ℕ))
+    (n : Numbers)
     (fs : List ResolvedFunctionTree) (lists : List (List Body))
     → ListsStand picked picks → AreFunctions tree picked n fs lists → All (λ bodies. AreLevel picks bodies) lists
 level_functions law tree picked picks n fs [] stand made = All-nil (λ bodies. AreLevel picks bodies)
@@ -82,7 +86,8 @@ numbered_slots tree picked (b ∷ sites) (body ∷ bodies) made =
 
 -- ---- the program
 
-pub side_by_side_in : (tree : ResolvedTree) (picked : List PickList) (raw : Raw) (sites : List BodySite) (bodies : List Body)
+pub side_by_side_in : (tree : ResolvedTree) (picked : List PickList) (raw : Raw) (sites : List BodySite)
+    (bodies : List Body)
     → ListsStand picked raw.picks → AreMade tree picked sites bodies → AllZip (IsBodyOf tree raw) sites bodies
 side_by_side_in tree picked raw [] [] stand made = tt
 side_by_side_in tree picked raw [] (body ∷ bodies) stand made = absurd made
@@ -100,16 +105,19 @@ take_all (x ∷ xs) zero same = cc
 take_all (x ∷ xs) (suc k) same =
     ap (λ rest. x ∷ rest) (take_all xs k (let less : k ≡ length xs = omega (arith, same) in less))
 
-pub made_bodies : (tree : ResolvedTree) (picks : List (List ℕ)) (lists : List (List Body)) → (lowered : IsLowered tree picks lists true)
+pub made_bodies : (tree : ResolvedTree) (picks : List (List ℕ)) (lists : List (List Body))
+    → (lowered : IsLowered tree picks lists true)
     → AreMade tree lowered.lists (bodies_of tree) (flat_map (λ bodies. bodies) lists)
 made_bodies tree picks lists lowered =
     side_by_side tree lowered.lists first_numbers tree.functions lists lowered.made lowered.stops
 
 -- the program has all lists
-pub all_lists : (tree : ResolvedTree) (picks : List (List ℕ)) (lists : List (List Body)) → IsLowered tree picks lists true
+pub all_lists : (tree : ResolvedTree) (picks : List (List ℕ)) (lists : List (List Body)) → IsLowered tree picks
+    lists true
     → length picks ≡ (behind_functions first_numbers tree.functions).picks
 all_lists tree picks lists lowered =
-    lowered.long ∙ ap (λ fs. (behind_functions first_numbers fs).picks) (take_all tree.functions (length lists) lowered.stops)
+    lowered.long ∙ ap (λ fs. (behind_functions first_numbers fs).picks) (take_all tree.functions (length lists)
+    lowered.stops)
 
 pub valid : (law : CodeIsValid) (tree : ResolvedTree) (raw : Raw) (picks : List (List ℕ)) (lists : List (List Body))
     → IsWholeTree tree → TreeCopiesBehind tree
@@ -117,7 +125,8 @@ pub valid : (law : CodeIsValid) (tree : ResolvedTree) (raw : Raw) (picks : List 
     → raw.bodies ≡ flat_map (λ bodies. bodies) lists → raw.picks ≡ picks → IsValid raw
 valid law tree raw picks lists whole copies lowered low code bodies same =
     let made : AreMade tree lowered.lists (bodies_of tree) raw.bodies =
-    subst (λ all. AreMade tree lowered.lists (bodies_of tree) all) (sym bodies) (made_bodies tree picks lists lowered) in
+    subst (λ all. AreMade tree lowered.lists (bodies_of tree) all) (sym bodies)
+    (made_bodies tree picks lists lowered) in
     let few : AreNumbered raw =
     record {
       code = numbered_code tree lowered.lists (bodies_of tree) raw.bodies made;
@@ -127,7 +136,8 @@ valid law tree raw picks lists whole copies lowered low code bodies same =
     law tree raw whole copies code few
     (subst (λ lists. AreLow lists raw.bodies) (sym same) flat)
 
-pub all_within : (tree : ResolvedTree) (picks : List (List ℕ)) (lists : List (List Body)) → IsLowered tree picks lists true
+pub all_within : (tree : ResolvedTree) (picks : List (List ℕ)) (lists : List (List Body)) → IsLowered tree picks
+    lists true
     → All (λ bodies. AreLow picks bodies) lists → AreWithin tree
 all_within tree picks lists lowered low =
     subst (λ fs. All (λ b. IsWithin tree b) (bodies_from first_numbers fs))

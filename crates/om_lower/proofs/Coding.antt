@@ -1,5 +1,6 @@
 -- A body, as it was emitted.
-use Rattle.std.proofs.Common.{◌≡◌, ◌<◌, ◌≤◌, inl, inr, ℕ, zero, suc, Bool, true, List, [], ◌∷◌, ◌++◌, Option, None, Some, Any, length, map, slice_get, take, ◌+◌, false, refl, sym, ap, subst, ◌∙◌, arith}
+use Rattle.std.proofs.Common.{◌≡◌, ◌<◌, ◌≤◌, inl, inr, ℕ, zero, suc, Bool, true, List, [], ◌∷◌, ◌++◌, Option, None}
+use Rattle.std.proofs.Common.{Some, Any, length, map, slice_get, take, ◌+◌, false, refl, sym, ap, subst, ◌∙◌, arith}
 use Rattle.std.proofs.lemmas.List.{append_assoc, append-nil, map-append}
 use Rattle.std.specs.List.{flat_map}
 use Rattle.om_bodies.specs.declared.emitted.Emitted.{Emitted}
@@ -11,7 +12,8 @@ use Rattle.om_code.specs.declared.raw.Line.{Line}
 use Rattle.om_code.specs.declared.raw.Slot.{Slot}
 use Rattle.om_lower.specs.Frames.{FitsFrame}
 use Rattle.om_lower.specs.Limits.{HasFewSlots, HasManySlots, IsCodeAt, IsOver, long, many_cells, many_slots}
-use Rattle.om_lower.specs.Made.{AddsBody, AddsFunction, AreFunctions, AreListsOf, AreMade, FitsBody, FitsCode, FitsFunction, IsGathered, IsMade}
+use Rattle.om_lower.specs.Made.{AddsBody, AddsFunction, AreFunctions, AreListsOf, AreMade, FitsBody, FitsCode}
+use Rattle.om_lower.specs.Made.{FitsFunction, IsGathered, IsMade}
 use Rattle.om_lower.specs.declared.bodies.Bodies.{Bodies}
 use Rattle.om_lower.specs.declared.bodies.LoweredBody.{LoweredBody}
 use Rattle.om_lower.specs.declared.functions.Lowered.{Lowered}
@@ -23,7 +25,8 @@ use Rattle.om_lower.proofs.FunctionBodies.{next_numbers, pushed, stand_behind, s
 use Rattle.om_resolved.specs.declared.resolved.Capture.{Capture}
 use Rattle.om_resolved.specs.ResolvedTree.{ResolvedFunctionTree, ResolvedTree}
 use Rattle.om_resolved.specs.Uses.{is_main_function}
-use Rattle.om_rows.specs.Bodies.{BodySite, Numbers, behind_function, behind_functions, bodies_from, first_numbers, function_bodies, variables_of}
+use Rattle.om_rows.specs.Bodies.{BodySite, Numbers, behind_function, behind_functions, bodies_from, first_numbers}
+use Rattle.om_rows.specs.Bodies.{function_bodies, variables_of}
 use Rattle.om_rows.specs.Code.{captures_of, given_of, slots_of}
 use Rattle.om_rows.specs.Mentions.{extents_of}
 use Rattle.om_rows.specs.Slots.{Extent, cells_in, slot_with}
@@ -79,9 +82,11 @@ pub over_code : (tree : ResolvedTree) (b : BodySite) → FitsCode tree b None �
 over_code tree b fits = long fits.0 fits.1 fits.2 fits.3
 
 -- or none does
-pub made_body : (tree : ResolvedTree) (b : BodySite) (made : Emitted) (body : LoweredBody) (slots : List Slot) (given : List ℕ)
+pub made_body : (tree : ResolvedTree) (b : BodySite) (made : Emitted) (body : LoweredBody) (slots : List Slot)
+    (given : List ℕ)
     → FitsFrame (variables_of b) (slots_of b) (Some slots) → FitsCode tree b (Some made)
-    → given ≡ given_of b → body.body ≡ record { code = made.code; slots = slots; given = given } → body.lists.items ≡ made.lists.items
+    → given ≡ given_of b → body.body ≡ record { code = made.code; slots = slots; given = given } → body.lists.items
+    ≡ made.lists.items
     → FitsBody tree b (Some body)
 made_body tree b made body slots given frame fits same is lists = (
   subst (λ all. IsMade tree all b body.body) (sym lists)
@@ -122,13 +127,15 @@ get_within (y ∷ xs) zero x at = omega arith
 get_within (y ∷ xs) (suc k) x at = let below = get_within xs k x at in omega (arith, below)
 
 -- behind k functions: their bodies, their lists, and the numbers behind them
-pub record IsBehind (tree : ResolvedTree) (lists : List PickList) (functions : List (List Body)) (k : ℕ) (n : Numbers) : Type 0 where
+pub record IsBehind (tree : ResolvedTree) (lists : List PickList) (functions : List (List Body)) (k : ℕ)
+    (n : Numbers) : Type 0 where
   pub made : AreFunctions tree lists first_numbers tree.functions functions
   pub count : length functions ≡ k
   pub numbers : n ≡ behind_functions first_numbers (take k tree.functions)
   pub listed : AreListsOf (bodies_from first_numbers (take k tree.functions)) lists
 
-pub stopped : (tree : ResolvedTree) (lists : List PickList) (functions : List (List Body)) (k : ℕ) (f : ResolvedFunctionTree)
+pub stopped : (tree : ResolvedTree) (lists : List PickList) (functions : List (List Body)) (k : ℕ)
+    (f : ResolvedFunctionTree)
     (n : Numbers) → IsBehind tree lists functions k n
     → slice_get tree.functions k ≡ Some f → FitsFunction tree n f None → IsGathered tree lists n.picks functions false
 stopped tree lists functions k f n h at fits =
@@ -155,7 +162,8 @@ gathered tree lists functions k n h whole = record {
   made = h.made;
   stops = h.count ∙ whole;
   listed = subst (λ i. AreListsOf (bodies_from first_numbers (take i tree.functions)) lists) (sym h.count) h.listed;
-  counted = ap (λ m. m.picks) (h.numbers ∙ ap (λ i. behind_functions first_numbers (take i tree.functions)) (sym h.count));
+  counted = ap (λ m. m.picks) (h.numbers ∙ ap (λ i. behind_functions first_numbers (take i tree.functions))
+      (sym h.count));
 }
 
 push_long : {A : Type 0} (xs : List A) (x : A) → length (xs ++ x ∷ []) ≡ length xs + 1
@@ -163,16 +171,19 @@ push_long [] x = refl
 push_long (y ∷ xs) x = let rest = push_long xs x in omega (arith, rest)
 
 -- the bodies of one function more
-bodies_next : (n : Numbers) (fs : List ResolvedFunctionTree) (k : ℕ) (f : ResolvedFunctionTree) → slice_get fs k ≡ Some f
+bodies_next : (n : Numbers) (fs : List ResolvedFunctionTree) (k : ℕ) (f : ResolvedFunctionTree) → slice_get fs k
+    ≡ Some f
     → bodies_from n (take (suc k) fs) ≡ bodies_from n (take k fs) ++ function_bodies (behind_functions n (take k fs)) f
 bodies_next n [] k f at = cc
 bodies_next n (g ∷ fs) zero f at =
     append-nil (function_bodies n g) ∙ ap (λ h. function_bodies n h) (let same : g ≡ f = cc in same)
 bodies_next n (g ∷ fs) (suc k) f at =
     ap (λ rest. function_bodies n g ++ rest) (bodies_next (behind_function n g) fs k f at)
-    ∙ sym (append_assoc (function_bodies n g) (bodies_from (behind_function n g) (take k fs)) (function_bodies (behind_functions (behind_function n g) (take k fs)) f))
+    ∙ sym (append_assoc (function_bodies n g) (bodies_from (behind_function n g) (take k fs))
+    (function_bodies (behind_functions (behind_function n g) (take k fs)) f))
 
-pub flat-append : (xs ys : List BodySite) → flat_map site_picks (xs ++ ys) ≡ flat_map site_picks xs ++ flat_map site_picks ys
+pub flat-append : (xs ys : List BodySite) → flat_map site_picks (xs ++ ys) ≡ flat_map site_picks xs
+    ++ flat_map site_picks ys
 flat-append [] ys = refl
 flat-append (x ∷ xs) ys =
     ap (λ rest. site_picks x ++ rest) (flat-append xs ys)
@@ -201,7 +212,8 @@ body_more tree sites k b lists grown bodies new body at added joined made listed
     let sites_next : take k sites ++ b ∷ [] ≡ take (k + 1) sites =
     sym (take_pushed sites k b at) ∙ ap (λ i. take i sites) next in (
       subst (λ ls. AreMade tree ls (take (k + 1) sites) new) (sym joined)
-          (zip_pushed (λ b body. IsMade tree (lists ++ more) b body) sites bodies new k b body.body at added before mine.0),
+          (zip_pushed (λ b body. IsMade tree (lists ++ more) b body) sites bodies new k b body.body at added before
+          mine.0),
       subst (λ ls. AreListsOf (take (k + 1) sites) ls) (sym joined)
           (subst (λ all. AreListsOf all (lists ++ more)) sites_next
           (listed_on (take k sites) (b ∷ []) lists more listed (fits.1 ∙ sym (append-nil (site_picks b))))),
@@ -216,7 +228,8 @@ pub body_added : (tree : ResolvedTree) (sites : List BodySite) (k : ℕ) (b : Bo
 body_added tree sites k b old new at made adds =
     body_more tree sites k b old.lists new.lists old.bodies new.bodies adds.0 at adds.2 adds.3 made.0 made.1 adds.1
 
-pub one_more : (tree : ResolvedTree) (lists grown : List PickList) (functions new : List (List Body)) (k : ℕ) (f : ResolvedFunctionTree)
+pub one_more : (tree : ResolvedTree) (lists grown : List PickList) (functions new : List (List Body)) (k : ℕ)
+    (f : ResolvedFunctionTree)
     (n m : Numbers) (bodies : Bodies) → IsBehind tree lists functions k n
     → slice_get tree.functions k ≡ Some f → FitsFunction tree n f (Some bodies) → new ≡ functions ++ bodies.bodies ∷ []
     → grown ≡ lists ++ bodies.lists → m ≡ behind_function n f
@@ -234,18 +247,22 @@ one_more tree lists grown functions new k f n m bodies h at fits added joined be
     let placed = subst (λ m. AreMade tree (lists ++ more) (function_bodies m f) bodies.bodies) here mine in
     let all = pushed tree (lists ++ more) first_numbers tree.functions functions f bodies.bodies before there placed in
     let next : suc k ≡ k + 1 = omega arith in
-    let sites : bodies_from first_numbers (take k tree.functions) ++ function_bodies n f ≡ bodies_from first_numbers (take (k + 1) tree.functions) =
+    let sites : bodies_from first_numbers (take k tree.functions) ++ function_bodies n f ≡ bodies_from first_numbers
+    (take (k + 1) tree.functions) =
     ap (λ z. bodies_from first_numbers (take k tree.functions) ++ function_bodies z f) h.numbers
-    ∙ sym (bodies_next first_numbers tree.functions k f at) ∙ ap (λ i. bodies_from first_numbers (take i tree.functions)) next in
+    ∙ sym (bodies_next first_numbers tree.functions k f at)
+    ∙ ap (λ i. bodies_from first_numbers (take i tree.functions)) next in
     record {
       made = subst (λ ls. AreFunctions tree ls first_numbers tree.functions new) (sym joined)
           (subst (λ all. AreFunctions tree (lists ++ more) first_numbers tree.functions all) (sym added) all);
       count = ap length added ∙ push_long functions bodies.bodies ∙ ap (λ i. i + 1) h.count;
-      numbers = behind ∙ ap (λ m. behind_function m f) h.numbers ∙ sym (next_numbers first_numbers tree.functions k f at)
+      numbers = behind ∙ ap (λ m. behind_function m f) h.numbers
+          ∙ sym (next_numbers first_numbers tree.functions k f at)
           ∙ ap (λ i. behind_functions first_numbers (take i tree.functions)) next;
       listed = subst (λ ls. AreListsOf (bodies_from first_numbers (take (k + 1) tree.functions)) ls) (sym joined)
           (subst (λ all. AreListsOf all (lists ++ more)) sites
-          (listed_on (bodies_from first_numbers (take k tree.functions)) (function_bodies n f) lists more h.listed fits.1));
+          (listed_on (bodies_from first_numbers (take k tree.functions)) (function_bodies n f) lists more h.listed
+          fits.1));
     }
 
 -- ---- as functions add them

@@ -1,6 +1,8 @@
 -- The bodies of functions, function by function.
-use Rattle.std.proofs.Common.{◌≡◌, ◌<◌, ℕ, zero, suc, List, [], ◌∷◌, ◌++◌, Some, All, Any, length, take, slice_get, slice_index_or, refl, sym, ap, subst, arith}
-use Rattle.std.proofs.lemmas.List.Elements.{All-nil, All-cons, All-head, All-tail, All-append, Contains-append_left, Contains-append_right}
+use Rattle.std.proofs.Common.{◌≡◌, ◌<◌, ℕ, zero, suc, List, [], ◌∷◌, ◌++◌, Some, All, Any, length, take, slice_get}
+use Rattle.std.proofs.Common.{slice_index_or, refl, sym, ap, subst, arith}
+use Rattle.std.proofs.lemmas.List.Elements.{All-nil, All-cons, All-head, All-tail, All-append, Contains-append_left}
+use Rattle.std.proofs.lemmas.List.Elements.{Contains-append_right}
 use Rattle.std.specs.List.{AllZip, flat_map}
 use Rattle.om_code.specs.declared.raw.Body.{Body}
 use Rattle.om_code.specs.Validity.{IsLow}
@@ -39,7 +41,8 @@ next_numbers n [] k f at = cc
 next_numbers n (g ∷ fs) zero f at = ap (λ h. behind_function n h) (some_same g f at)
 next_numbers n (g ∷ fs) (suc k) f at = next_numbers (behind_function n g) fs k f at
 
-pub pushed : (tree : ResolvedTree) (picked : List PickList) (n : Numbers) (fs : List ResolvedFunctionTree) (lists : List (List Body))
+pub pushed : (tree : ResolvedTree) (picked : List PickList) (n : Numbers) (fs : List ResolvedFunctionTree)
+    (lists : List (List Body))
     (f : ResolvedFunctionTree) (bodies : List Body)
     → AreFunctions tree picked n fs lists → slice_get fs (length lists) ≡ Some f
     → AreMade tree picked (function_bodies (behind_functions n (take (length lists) fs)) f) bodies
@@ -64,8 +67,10 @@ function_holds P n (g ∷ fs) (suc k) f all at =
 
 -- ---- what holds of them
 
-pub within_made : (tree : ResolvedTree) (picked : List PickList) (picks : List (List ℕ)) (sites : List BodySite) (bodies : List Body)
-    → ListsStand picked picks → AreMade tree picked sites bodies → AreLow picks bodies → All (λ b. IsWithin tree b) sites
+pub within_made : (tree : ResolvedTree) (picked : List PickList) (picks : List (List ℕ)) (sites : List BodySite)
+    (bodies : List Body)
+    → ListsStand picked picks → AreMade tree picked sites bodies → AreLow picks bodies → All (λ b. IsWithin tree b)
+    sites
 within_made tree picked picks [] [] stand made low = All-nil (λ b. IsWithin tree b)
 within_made tree picked picks [] (body ∷ bodies) stand made low = absurd made
 within_made tree picked picks (b ∷ sites) [] stand made low = absurd made
@@ -82,7 +87,8 @@ within_made tree picked picks (b ∷ sites) (body ∷ bodies) stand made low =
     })
     (within_made tree picked picks sites bodies stand made.1 (All-tail (λ x. IsLow picks x.code) body bodies low))
 
-pub within_functions : (tree : ResolvedTree) (picked : List PickList) (picks : List (List ℕ)) (n : Numbers) (fs : List ResolvedFunctionTree)
+pub within_functions : (tree : ResolvedTree) (picked : List PickList) (picks : List (List ℕ)) (n : Numbers)
+    (fs : List ResolvedFunctionTree)
     (lists : List (List Body)) → ListsStand picked picks → AreFunctions tree picked n fs lists
     → All (λ bodies. AreLow picks bodies) lists
     → All (λ b. IsWithin tree b) (bodies_from n (take (length lists) fs))
@@ -106,7 +112,8 @@ first_functions tree picked n [] (bodies ∷ lists) (suc k) made = absurd made
 first_functions tree picked n (f ∷ fs) (bodies ∷ lists) (suc k) made =
     (made.0, first_functions tree picked (behind_function n f) fs lists k made.1)
 
-pub made_at : (tree : ResolvedTree) (picked : List PickList) (n : Numbers) (fs : List ResolvedFunctionTree) (lists : List (List Body))
+pub made_at : (tree : ResolvedTree) (picked : List PickList) (n : Numbers) (fs : List ResolvedFunctionTree)
+    (lists : List (List Body))
     (k : ℕ) (f : ResolvedFunctionTree) (bodies : List Body)
     → AreFunctions tree picked n fs lists → slice_get lists k ≡ Some bodies → slice_get fs k ≡ Some f
     → AreMade tree picked (function_bodies (behind_functions n (take k fs)) f) bodies
@@ -118,7 +125,8 @@ made_at tree picked n (g ∷ fs) (first ∷ lists) zero f bodies made there at =
 made_at tree picked n (g ∷ fs) (first ∷ lists) (suc k) f bodies made there at =
     made_at tree picked (behind_function n g) fs lists k f bodies made.1 there at
 
-over_at : (tree : ResolvedTree) (picked : List PickList) (picks : List (List ℕ)) (sites : List BodySite) (bodies : List Body) (k : ℕ) (body : Body)
+over_at : (tree : ResolvedTree) (picked : List PickList) (picks : List (List ℕ)) (sites : List BodySite)
+    (bodies : List Body) (k : ℕ) (body : Body)
     → ListsStand picked picks → AreMade tree picked sites bodies
     → k < length bodies → slice_index_or bodies k body ≡ body → ¬ (IsLow picks body.code)
     → Any (λ b. IsOver tree b) sites
@@ -133,9 +141,11 @@ over_at tree picked picks (b ∷ sites) (first ∷ bodies) (suc k) body stand ma
     (over_at tree picked picks sites bodies k body stand made.1
     (let below : k < length bodies = omega (arith, lt) in below) at high_code)
 
-pub over_high : (tree : ResolvedTree) (picked : List PickList) (picks : List (List ℕ)) (sites : List BodySite) (bodies : List Body)
+pub over_high : (tree : ResolvedTree) (picked : List PickList) (picks : List (List ℕ)) (sites : List BodySite)
+    (bodies : List Body)
     → ListsStand picked picks → AreMade tree picked sites bodies → IsHigh picks bodies → Any (λ b. IsOver tree b) sites
-over_high tree picked picks sites bodies stand made any = over_at tree picked picks sites bodies any.0 any.1 stand made any.2 any.3 any.4
+over_high tree picked picks sites bodies stand made any = over_at tree picked picks sites bodies any.0 any.1 stand
+    made any.2 any.3 any.4
 
 -- ---- side by side
 

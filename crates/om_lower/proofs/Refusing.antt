@@ -1,5 +1,6 @@
 -- Which function is named where a limit is passed.
-use Rattle.std.proofs.Common.{◌≡◌, ◌<◌, ◌≤◌, inl, inr, ℕ, zero, suc, Bool, true, false, List, [], ◌∷◌, ◌++◌, Some, All, Any, length, take, drop, slice_get, refl, sym, ap, subst, ◌∙◌, arith}
+use Rattle.std.proofs.Common.{◌≡◌, ◌<◌, ◌≤◌, inl, inr, ℕ, zero, suc, Bool, true, false, List, [], ◌∷◌, ◌++◌, Some, All}
+use Rattle.std.proofs.Common.{Any, length, take, drop, slice_get, refl, sym, ap, subst, ◌∙◌, arith}
 use Rattle.om_code.specs.declared.raw.Body.{Body}
 use Rattle.om_emit.specs.declared.draft.PickList.{PickList}
 use Rattle.om_emit.specs.Settled.{ListsStand}
@@ -9,7 +10,8 @@ use Rattle.om_lower.specs.Made.{AreFunctions, IsLowered, IsOverAt, StopsUnless}
 use Rattle.om_lower.specs.Refusals.{too_many}
 use Rattle.om_lower.proofs.FunctionBodies.{first_functions, made_at, over_high, within_functions}
 use Rattle.om_resolved.specs.ResolvedTree.{ResolvedFunctionTree, ResolvedTree}
-use Rattle.om_rows.specs.Bodies.{Numbers, behind_function, behind_functions, bodies_from, first_numbers, function_bodies}
+use Rattle.om_rows.specs.Bodies.{Numbers, behind_function, behind_functions, bodies_from, first_numbers}
+use Rattle.om_rows.specs.Bodies.{function_bodies}
 
 parted : {A : Type 0} (xs : List A) (k : ℕ) (x : A) → slice_get xs k ≡ Some x
     → xs ≡ take k xs ++ x ∷ drop (suc k) xs
@@ -47,7 +49,8 @@ named tree k function at within over = record {
   is = refl;
 }
 
-by_height : (tree : ResolvedTree) (picked : List PickList) (picks : List (List ℕ)) (lists : List (List Body)) (index : ℕ) (function : ResolvedFunctionTree)
+by_height : (tree : ResolvedTree) (picked : List PickList) (picks : List (List ℕ)) (lists : List (List Body))
+    (index : ℕ) (function : ResolvedFunctionTree)
     → ListsStand picked picks → AreFunctions tree picked first_numbers tree.functions lists → IsFirst picks lists index
     → slice_get tree.functions index ≡ Some function
     → IsTooMany tree (too_many function)
@@ -61,9 +64,11 @@ by_height tree picked picks lists index function stand made first at =
     first.bodies stand (made_at tree picked first_numbers tree.functions lists index function first.bodies made
     first.there at) first.high)
 
-by_stop : (tree : ResolvedTree) (picked : List PickList) (picks : List (List ℕ)) (lists : List (List Body)) (is_whole : Bool) (index : ℕ)
+by_stop : (tree : ResolvedTree) (picked : List PickList) (picks : List (List ℕ)) (lists : List (List Body))
+    (is_whole : Bool) (index : ℕ)
     (function : ResolvedFunctionTree)
-    → ListsStand picked picks → AreFunctions tree picked first_numbers tree.functions lists → StopsUnless is_whole tree lists
+    → ListsStand picked picks → AreFunctions tree picked first_numbers tree.functions lists → StopsUnless is_whole
+    tree lists
     → is_whole ≡ false → index ≡ length lists
     → All (λ bodies. AreLow picks bodies) lists → slice_get tree.functions index ≡ Some function
     → IsTooMany tree (too_many function)
@@ -88,4 +93,5 @@ pub refused : (tree : ResolvedTree) (picks : List (List ℕ)) (lists : List (Lis
 refused tree picks lists is_whole index function lowered (inl first) at =
     by_height tree lowered.lists picks lists index function lowered.stand lowered.made first at
 refused tree picks lists is_whole index function lowered (inr stop) at =
-    by_stop tree lowered.lists picks lists is_whole index function lowered.stand lowered.made lowered.stops stop.0 stop.1 stop.2 at
+    by_stop tree lowered.lists picks lists is_whole index function lowered.stand lowered.made lowered.stops stop.0
+    stop.1 stop.2 at

@@ -9,7 +9,8 @@ use Rattle.om_lexer.specs.declared.fault.FaultCode.TheVariants.{TooMany}
 use Rattle.om_lexer.specs.declared.fault.SourceFault.{SourceFault}
 use Rattle.om_resolved.specs.ResolvedTree.{ResolvedFunctionTree, ResolvedTree}
 use Rattle.om_resolved.specs.Uses.{is_main_function}
-use Rattle.om_rows.specs.Bodies.{BodySite, behind_functions, bodies_from, bodies_of, first_numbers, function_bodies, variables_of}
+use Rattle.om_rows.specs.Bodies.{BodySite, behind_functions, bodies_from, bodies_of, first_numbers, function_bodies}
+use Rattle.om_rows.specs.Bodies.{variables_of}
 use Rattle.om_rows.specs.Code.{body_row, slots_of}
 use Rattle.om_tables.specs.Names.{names_in, site_with}
 

@@ -1,5 +1,6 @@
 -- Bodies that were made, before all of their program is.
-use Rattle.std.specs.Prelude.{◌≡◌, ◌≤◌, ◌<◌, ◌⊎◌, ℕ, List, [], ◌∷◌, ◌++◌, Option, None, Some, Bool, true, false, All, Any, length, map, slice_get, take}
+use Rattle.std.specs.Prelude.{◌≡◌, ◌≤◌, ◌<◌, ◌⊎◌, ℕ, List, [], ◌∷◌, ◌++◌, Option, None, Some, Bool, true, false, All}
+use Rattle.std.specs.Prelude.{Any, length, map, slice_get, take}
 use Rattle.std.specs.List.{AllZip, flat_map}
 use Rattle.om_bodies.specs.declared.emitted.Emitted.{Emitted}
 use Rattle.om_code.specs.declared.raw.Body.{Body}
@@ -13,7 +14,8 @@ use Rattle.om_lower.specs.Heights.{AreLow, IsFirst}
 use Rattle.om_lower.specs.Limits.{HasRoom, IsCodeAt, IsOver}
 use Rattle.om_picks.specs.Once.{site_picks}
 use Rattle.om_resolved.specs.ResolvedTree.{ResolvedFunctionTree, ResolvedTree}
-use Rattle.om_rows.specs.Bodies.{BodySite, Numbers, behind_function, behind_functions, bodies_from, first_numbers, function_bodies}
+use Rattle.om_rows.specs.Bodies.{BodySite, Numbers, behind_function, behind_functions, bodies_from, first_numbers}
+use Rattle.om_rows.specs.Bodies.{function_bodies}
 use Rattle.om_rows.specs.Code.{given_of, slots_of}
 
 -- a body of the tree, in every program that has these lists of PICK
@@ -42,7 +44,8 @@ AreFunctions tree lists n (f ∷ fs) (bodies ∷ rest) = AreMade tree lists (fun
 -- the code of a body, if it has at most 65,536 instructions
 abbrev pub FitsCode : ResolvedTree → BodySite → Option Emitted → Type 0
 FitsCode tree b None = (picks : List (List ℕ)) × (code : List Line) × IsCodeAt tree picks b code × (65536 < length code)
-FitsCode tree b (Some made) = ((picks : List (List ℕ)) → ListsStand made.lists.items picks → IsCodeAt tree picks b made.code)
+FitsCode tree b (Some made) = ((picks : List (List ℕ)) → ListsStand made.lists.items picks → IsCodeAt tree picks b
+    made.code)
     × (length made.code ≤ 65536) × (map number_of made.lists.items ≡ site_picks b)
 
 -- a body, if it passes no limit
@@ -90,14 +93,16 @@ abbrev pub functions_in : ResolvedTree → List (List Body) → List ResolvedFun
 functions_in tree functions = take (length functions) tree.functions
 
 -- the bodies of functions, with so many lists of PICK
-pub record IsGathered (tree : ResolvedTree) (lists : List PickList) (count : ℕ) (functions : List (List Body)) (is_whole : Bool) : Type 0 where
+pub record IsGathered (tree : ResolvedTree) (lists : List PickList) (count : ℕ) (functions : List (List Body))
+    (is_whole : Bool) : Type 0 where
   pub made : AreFunctions tree lists first_numbers tree.functions functions
   pub stops : StopsUnless is_whole tree functions
   pub listed : AreListsOf (bodies_from first_numbers (functions_in tree functions)) lists
   pub counted : count ≡ (behind_functions first_numbers (functions_in tree functions)).picks
 
 -- the bodies of functions, in a program with these lists of PICK
-pub record IsLowered (tree : ResolvedTree) (picks : List (List ℕ)) (functions : List (List Body)) (is_whole : Bool) : Type 0 where
+pub record IsLowered (tree : ResolvedTree) (picks : List (List ℕ)) (functions : List (List Body))
+    (is_whole : Bool) : Type 0 where
   pub lists : List PickList
   pub stand : ListsStand lists picks
   pub made : AreFunctions tree lists first_numbers tree.functions functions

@@ -2,8 +2,14 @@
 use Rattle.std.proofs.Common.{◌≡◌, ℕ, ◌+◌, List, [], ◌∷◌, ◌++◌, refl, arith}
 use Rattle.std.specs.List.{flat_map}
 use Rattle.std.proofs.lemmas.Bool.Decides.{nat_tests}
-use Rattle.om_resolved.specs.ResolvedTree.{ResolvedStatementTree, Declaration, Block, Empty, Expression, If, IfElse, While, Do, For, Return, Break, Continue, Parallel, Task, Loop, Sections, Construct, Update, StandAlone, ResolvedStatementsTree, NoStatements, Statement, ResolvedPartsTree, NoParts, Part, ResolvedFunctionTree}
-use Rattle.om_rows.specs.Bodies.{Numbers, next_body, next_pick, behind, behind_all, behind_parts, behind_function, behind_functions, first_numbers, BodySite, ParallelBody, TaskBody, FunctionBody, region_variables, function_variables, regions, all_regions, parts_regions, function_bodies, bodies_from}
+use Rattle.om_resolved.specs.ResolvedTree.{ResolvedStatementTree, Declaration, Block, Empty, Expression, If, IfElse}
+use Rattle.om_resolved.specs.ResolvedTree.{While, Do, For, Return, Break, Continue, Parallel, Task, Loop, Sections}
+use Rattle.om_resolved.specs.ResolvedTree.{Construct, Update, StandAlone, ResolvedStatementsTree, NoStatements}
+use Rattle.om_resolved.specs.ResolvedTree.{Statement, ResolvedPartsTree, NoParts, Part, ResolvedFunctionTree}
+use Rattle.om_rows.specs.Bodies.{Numbers, next_body, next_pick, behind, behind_all, behind_parts, behind_function}
+use Rattle.om_rows.specs.Bodies.{behind_functions, first_numbers, BodySite, ParallelBody, TaskBody, FunctionBody}
+use Rattle.om_rows.specs.Bodies.{region_variables, function_variables, regions, all_regions, parts_regions}
+use Rattle.om_rows.specs.Bodies.{function_bodies, bodies_from}
 use Rattle.om_tables.specs.Picks.{own_picks, all_own_picks, parts_own_picks}
 use Rattle.om_picks.specs.Once.{count, below, site_picks, PicksOfFunctions}
 

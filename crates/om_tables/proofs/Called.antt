@@ -6,7 +6,8 @@ use Rattle.om_rows.specs.Bodies.{Numbers, behind_function, behind_functions, cal
 use Rattle.om_tables.specs.Numbering.{function_numbers}
 
 pub called_at : (n : Numbers) (fs : List ResolvedFunctionTree) (k : ℕ)
-    → unwrap_or (slice_get (function_numbers n fs) k) (behind_functions n fs).bodies ≡ (behind_functions n (take k fs)).bodies
+    → unwrap_or (slice_get (function_numbers n fs) k) (behind_functions n fs).bodies
+    ≡ (behind_functions n (take k fs)).bodies
 called_at n [] zero = refl
 called_at n [] (suc k) = refl
 called_at n (f ∷ fs) zero = refl
@@ -17,4 +18,6 @@ pub called_in : (fs : List ResolvedFunctionTree) (k : ℕ) (numbers : List ℕ) 
     → numbers ≡ function_numbers first_numbers fs → behind ≡ (behind_functions first_numbers fs).bodies
     → unwrap_or (slice_get numbers k) behind ≡ called_body fs k
 called_in fs k numbers behind same last =
-    ap (λ found. unwrap_or (slice_get found k) behind) same ∙ ap (λ all. unwrap_or (slice_get (function_numbers first_numbers fs) k) all) last ∙ called_at first_numbers fs k
+    ap (λ found. unwrap_or (slice_get found k) behind) same
+    ∙ ap (λ all. unwrap_or (slice_get (function_numbers first_numbers fs) k) all) last ∙ called_at first_numbers
+    fs k

@@ -1,9 +1,13 @@
 -- The lists of PICK that a body has.
 use Rattle.std.specs.Prelude.{ℕ, List, [], ◌∷◌, ◌++◌}
-use Rattle.om_resolved.specs.ResolvedTree.{ResolvedStatementTree, Declaration, Block, Empty, Expression, If, IfElse, While, Do, For, Return, Break, Continue, Parallel, Task, Loop, Sections, Construct, Update, StandAlone, ResolvedStatementsTree, NoStatements, Statement, ResolvedPartsTree, NoParts, Part, ResolvedFunctionTree}
+use Rattle.om_resolved.specs.ResolvedTree.{ResolvedStatementTree, Declaration, Block, Empty, Expression, If, IfElse}
+use Rattle.om_resolved.specs.ResolvedTree.{While, Do, For, Return, Break, Continue, Parallel, Task, Loop, Sections}
+use Rattle.om_resolved.specs.ResolvedTree.{Construct, Update, StandAlone, ResolvedStatementsTree, NoStatements}
+use Rattle.om_resolved.specs.ResolvedTree.{Statement, ResolvedPartsTree, NoParts, Part, ResolvedFunctionTree}
 use Rattle.om_rows.specs.Bodies.{Numbers, BodyTree, FunctionBody, ParallelBody, TaskBody, behind, behind_all, next_pick}
 
--- the numbers of the lists of the `sections` in a part of a body, in the order of the text; regions in it are bodies of their own
+-- the numbers of the lists of the `sections` in a part of a body, in the order of the text; regions in it are
+-- bodies of their own
 abbrev mutual
   pub own_picks : Numbers → ResolvedStatementTree → List ℕ
   own_picks n (Declaration at ds) = []

@@ -1,5 +1,6 @@
 -- Which variable a name means at an instruction.
-use Rattle.std.specs.Prelude.{ℕ, List, [], ◌∷◌, Option, None, Some, Bool, ◌&&◌, length, nat_eq, nat_le, nat_lt, zero, suc, position, slice_get, if◌then◌else◌}
+use Rattle.std.specs.Prelude.{ℕ, List, [], ◌∷◌, Option, None, Some, Bool, ◌&&◌, length, nat_eq, nat_le, nat_lt, zero}
+use Rattle.std.specs.Prelude.{suc, position, slice_get, if◌then◌else◌}
 use Rattle.std.specs.Str.{bytes_eq}
 use Rattle.om_visible.specs.declared.walk.Around.{Around}
 use Rattle.om_visible.specs.declared.walk.BodyNames.{BodyNames}
@@ -34,7 +35,8 @@ abbrev pub meant_or : Option Named → Option Around → (Around → Option Name
 meant_or (Some variable) around outer = Some variable
 meant_or None around outer = around_meant around outer
 
--- the variable of a function that a name means in a body, or where the directive of the body stands in the one round it, and so on;
+-- the variable of a function that a name means in a body, or where the directive of the body stands in the
+-- one round it, and so on;
 -- each body stands in one of a lower number, so as many steps as there are bodies suffice
 abbrev pub meant : (steps : ℕ) → List Scope → List BodyNames → (body place : ℕ) → List ℕ → Option Named
 meant zero scopes bodies body place name = None

@@ -18,7 +18,8 @@ pub record Closes (height : ℕ) (old new : Walk) : Type 0 where
   pub place : new.place ≡ old.place
   pub body : new.body ≡ old.body
   pub opened : new.opened.items ≡ take height old.opened.items
-  pub closed : new.closed.items ≡ old.closed.items ++ map (closed_at old.body old.place) (reverse (drop height old.opened.items))
+  pub closed : new.closed.items ≡ old.closed.items ++ map (closed_at old.body old.place)
+      (reverse (drop height old.opened.items))
   pub bodies : new.bodies.items ≡ old.bodies.items
 
 -- the body of a region begins

@@ -7,10 +7,13 @@ use Rattle.om_bodies.proofs.bodies.function_body.Goals as goal
 
 pub returns-clause-row : goal.returns-clause-row
 returns-clause-row c =
-    row_stands (names_of c.args.scope.now) (numbers_of c.args.numbers) (view_resolved_function c.args.function.now) FunctionBody
-    _ _ c.in_ok-made.made c.new-draft.ensures c.in_ok-made.ensures.code c.in_ok-made.ensures.lists (c.in_ok-write_function.ensures)
+    row_stands (names_of c.args.scope.now) (numbers_of c.args.numbers) (view_resolved_function c.args.function.now)
+    FunctionBody
+    _ _ c.in_ok-made.made c.new-draft.ensures c.in_ok-made.ensures.code c.in_ok-made.ensures.lists
+    (c.in_ok-write_function.ensures)
 
 pub returns-clause-lists : goal.returns-clause-lists
 returns-clause-lists c =
-    lists_are (names_of c.args.scope.now) (numbers_of c.args.numbers) (view_resolved_function c.args.function.now) FunctionBody
+    lists_are (names_of c.args.scope.now) (numbers_of c.args.numbers) (view_resolved_function c.args.function.now)
+    FunctionBody
     _ _ c.in_ok-made.made c.new-draft.ensures c.in_ok-made.ensures.lists (c.in_ok-write_function.ensures)

@@ -7,7 +7,8 @@ use Rattle.om_bodies.proofs.bodies.parallel_body.Goals as goal
 pub returns-clause-row : goal.returns-clause-row
 returns-clause-row c = λ f.
     row_stands (names_of c.args.scope.now) (numbers_of c.args.numbers) f (parallel_tree c.args.region.now)
-    _ _ c.in_ok-made.made c.new-draft.ensures c.in_ok-made.ensures.code c.in_ok-made.ensures.lists (c.in_ok-write_parallel.ensures f)
+    _ _ c.in_ok-made.made c.new-draft.ensures c.in_ok-made.ensures.code c.in_ok-made.ensures.lists
+    (c.in_ok-write_parallel.ensures f)
 
 pub returns-clause-lists : goal.returns-clause-lists
 returns-clause-lists c = λ f.

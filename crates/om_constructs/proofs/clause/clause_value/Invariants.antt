@@ -5,4 +5,5 @@ use Rattle.om_constructs.proofs.clause.clause_value.Given as goal
 
 abbrev pub invariant-loop-clause : goal.invariant-loop-clause
 invariant-loop-clause l =
-    rows.clause_value (map view_resolved_clause (drop l.clause-index l.clauses)) ≡ rows.clause_value (map view_resolved_clause l.clauses)
+    rows.clause_value (map view_resolved_clause (drop l.clause-index l.clauses)) ≡ rows.clause_value
+    (map view_resolved_clause l.clauses)

@@ -6,7 +6,9 @@ pub loop-clause-init : goal.loop-clause-init
 loop-clause-init c = begin_each _ _ _ _ _
 
 pub loop-clause-preserved : goal.loop-clause-preserved
-loop-clause-preserved c = next_each _ _ _ _ _ _ _ _ _ _ c.loop-clause-test.true c.clause-item.is c.loop-clause.invariant c.in_ok-clause_reduction_start.ensures
+loop-clause-preserved c = next_each _ _ _ _ _ _ _ _ _ _ c.loop-clause-test.true c.clause-item.is
+    c.loop-clause.invariant c.in_ok-clause_reduction_start.ensures
 
 pub returns : goal.returns
-returns c = end_each _ _ _ _ _ _ _ _ (drop_all c.loop-clause.clause-index c.args.clauses.now c.loop-clause-test.false) c.loop-clause.invariant
+returns c = end_each _ _ _ _ _ _ _ _ (drop_all c.loop-clause.clause-index c.args.clauses.now
+    c.loop-clause-test.false) c.loop-clause.invariant

@@ -7,4 +7,5 @@ use Rattle.om_constructs.proofs.clause.starts.Given as goal
 
 abbrev pub invariant-loop-clause : goal.invariant-loop-clause
 invariant-loop-clause l =
-    GoesOn (length l.fn.draft.places) (names_of l.scope) (λ at. clause_start at l.line) view_resolved_clause l.clauses (drop l.clause-index l.clauses) l.fn.draft l.draft
+    GoesOn (length l.fn.draft.places) (names_of l.scope) (λ at. clause_start at l.line) view_resolved_clause
+    l.clauses (drop l.clause-index l.clauses) l.fn.draft l.draft

@@ -6,4 +6,5 @@ use Rattle.om_constructs.proofs.declaration.declarator.Goals as goal
 
 pub returns-in_ok-put-in-Some : goal.returns-in_ok-put-in-Some
 returns-in_ok-put-in-Some c = rw c.in-Some.is
-    (emits_then_one (names_of c.args.scope.now) _ _ _ _ _ _ c.in_ok-value-in-Some.ensures (puts_is _ _ _ _ _ (ap (λ z. i.Store z false) c.place-place.ensures) c.in_ok-put-in-Some.ensures))
+    (emits_then_one (names_of c.args.scope.now) _ _ _ _ _ _ c.in_ok-value-in-Some.ensures
+    (puts_is _ _ _ _ _ (ap (λ z. i.Store z false) c.place-place.ensures) c.in_ok-put-in-Some.ensures))

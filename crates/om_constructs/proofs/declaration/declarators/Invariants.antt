@@ -7,4 +7,5 @@ use Rattle.om_constructs.proofs.declaration.declarators.Given as goal
 
 abbrev pub invariant-loop-one : goal.invariant-loop-one
 invariant-loop-one l =
-    GoesOn (length l.fn.draft.places) (names_of l.scope) (λ at. declarator at l.line) view_resolved_declarator l.declared (drop l.one-index l.declared) l.fn.draft l.draft
+    GoesOn (length l.fn.draft.places) (names_of l.scope) (λ at. declarator at l.line) view_resolved_declarator
+    l.declared (drop l.one-index l.declared) l.fn.draft l.draft

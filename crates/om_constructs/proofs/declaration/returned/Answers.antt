@@ -6,8 +6,10 @@ use Rattle.om_constructs.proofs.declaration.returned.Goals as goal
 
 pub returns-in_ok-put-in-None : goal.returns-in_ok-put-in-None
 returns-in_ok-put-in-None c = rw c.in-None.is
-    (returned_none (names_of c.args.scope.now) _ _ _ _ _ (c.last_instruction-last.ensures ∙ ap (λ m. leaving m false) c.is_main-is_main.ensures) c.in_ok-put-in-None.ensures)
+    (returned_none (names_of c.args.scope.now) _ _ _ _ _ (c.last_instruction-last.ensures
+    ∙ ap (λ m. leaving m false) c.is_main-is_main.ensures) c.in_ok-put-in-None.ensures)
 
 pub returns-in_ok-put-in-Some : goal.returns-in_ok-put-in-Some
 returns-in_ok-put-in-Some c = rw c.in-Some.is
-    (returned_some (names_of c.args.scope.now) _ _ _ _ _ _ _ (c.last_instruction-last-in-Some.ensures ∙ ap (λ m. leaving m true) c.is_main-is_main.ensures) c.in_ok-value-in-Some.ensures c.in_ok-put-in-Some.ensures)
+    (returned_some (names_of c.args.scope.now) _ _ _ _ _ _ _ (c.last_instruction-last-in-Some.ensures
+    ∙ ap (λ m. leaving m true) c.is_main-is_main.ensures) c.in_ok-value-in-Some.ensures c.in_ok-put-in-Some.ensures)

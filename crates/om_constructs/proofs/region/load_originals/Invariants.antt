@@ -7,4 +7,5 @@ use Rattle.om_constructs.proofs.region.load_originals.Given as goal
 
 abbrev pub invariant-loop-copy : goal.invariant-loop-copy
 invariant-loop-copy l =
-    GoesOn (length l.fn.draft.places) (names_of l.scope) (λ at. load_original at l.line) first_copy l.copies (drop l.copy-index l.copies) l.fn.draft l.draft
+    GoesOn (length l.fn.draft.places) (names_of l.scope) (λ at. load_original at l.line) first_copy l.copies
+    (drop l.copy-index l.copies) l.fn.draft l.draft

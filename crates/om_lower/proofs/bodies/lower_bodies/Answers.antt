@@ -21,7 +21,8 @@ returns-then-not-branch c =
     any_at (λ b. IsOver tree b) (map site_of c.args.sites.now) c.loop-site.site-index b
     (item_at site_of c.args.sites.now c.loop-site.site-index c.site-item.result c.loop-site-test.true
     c.site-item.is)
-    (subst (λ fits. AddsBody tree b c.loop-site.made c.add_body.new.made fits) c.if-not-branch.true c.in_ok-add_body.ensures)
+    (subst (λ fits. AddsBody tree b c.loop-site.made c.add_body.new.made fits) c.if-not-branch.true
+    c.in_ok-add_body.ensures)
 
 pub loop-site-preserved : goal.loop-site-preserved
 loop-site-preserved c =
@@ -31,4 +32,5 @@ loop-site-preserved c =
     (item_at site_of c.args.sites.now c.loop-site.site-index c.site-item.result c.loop-site-test.true
     c.site-item.is)
     c.loop-site.invariant
-    (subst (λ fits. AddsBody tree b c.loop-site.made c.add_body.new.made fits) c.if-not-branch.false c.in_ok-add_body.ensures)
+    (subst (λ fits. AddsBody tree b c.loop-site.made c.add_body.new.made fits) c.if-not-branch.false
+    c.in_ok-add_body.ensures)

@@ -5,4 +5,5 @@ use Rattle.om_lower.proofs.functions.add_functions.Given as goal
 
 abbrev pub invariant-loop-function : goal.invariant-loop-function
 invariant-loop-function l =
-    IsBehind (view_resolved l.whole.resolved.now) l.lowered.lists l.lowered.functions l.function-index (numbers_of l.numbers)
+    IsBehind (view_resolved l.whole.resolved.now) l.lowered.lists l.lowered.functions l.function-index
+    (numbers_of l.numbers)

@@ -11,11 +11,13 @@ use Rattle.om_lower.proofs.program.raw_of.Goals as goal
 pub returns-clause-code : goal.returns-clause-code
 returns-clause-code c =
     let tree = view_resolved c.args.whole.now.resolved.now in
-    let made = subst (λ bodies. AreMade tree c.requires.lowered.lists (bodies_of tree) bodies) (sym c.in_ok-bodies.ensures)
+    let made = subst (λ bodies. AreMade tree c.requires.lowered.lists (bodies_of tree) bodies)
+    (sym c.in_ok-bodies.ensures)
     (made_bodies tree c.args.placed.picks c.args.placed.functions c.requires.lowered) in
     record {
       globals = c.in_ok-globals.ensures ∙ ap (λ globals. map global_of globals) c.as_slice.ensures;
-      bodies = side_by_side_in tree c.requires.lowered.lists _ (bodies_of tree) c.in_ok-bodies.bodies c.requires.lowered.stand made;
+      bodies = side_by_side_in tree c.requires.lowered.lists _ (bodies_of tree) c.in_ok-bodies.bodies
+          c.requires.lowered.stand made;
       main = c.main_body-main.ensures;
       texts = subst (λ formats.
           AllZip IsTextOf formats c.in_ok-texts.texts) c.requires.tables.formats c.in_ok-texts.ensures;

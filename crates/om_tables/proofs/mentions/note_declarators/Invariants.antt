@@ -9,4 +9,5 @@ abbrev pub invariant-loop-declarator : goal.invariant-loop-declarator
 invariant-loop-declarator l =
     let left = map view_resolved_declarator (drop l.declarator-index l.declarators) in
     let all = map view_resolved_declarator l.declarators in
-    AreLeft (λ A m. flat_map (declarator_mentioned m) left) (λ A m. flat_map (declarator_mentioned m) all) l.found l.fn.found
+    AreLeft (λ A m. flat_map (declarator_mentioned m) left) (λ A m. flat_map (declarator_mentioned m) all) l.found
+    l.fn.found

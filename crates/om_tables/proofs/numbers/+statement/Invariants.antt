@@ -7,7 +7,8 @@ use Rattle.om_tables.proofs.numbers.+statement.Given as goal
 
 abbrev pub invariant-behind_all-loop-item : goal.invariant-behind_all-loop-item
 invariant-behind_all-loop-item l =
-    bodies.behind_all (numbers_of l.numbers) (trees.statements (map view_resolved_statement (drop l.item-index l.items)))
+    bodies.behind_all (numbers_of l.numbers)
+    (trees.statements (map view_resolved_statement (drop l.item-index l.items)))
     ≡ bodies.behind_all (numbers_of l.fn.numbers) (trees.statements (map view_resolved_statement l.items))
 
 abbrev pub invariant-behind_parts-loop-part : goal.invariant-behind_parts-loop-part

@@ -7,4 +7,6 @@ use Rattle.om_tables.proofs.sights.see_declarators.Given as goal
 
 abbrev pub invariant-loop-declarator : goal.invariant-loop-declarator
 invariant-loop-declarator l =
-    sighted l.variables (flat_map declarator_sights (map view_resolved_declarator (drop l.declarator-index l.declarators))) ≡ sighted l.fn.variables (flat_map declarator_sights (map view_resolved_declarator l.declarators))
+    sighted l.variables (flat_map declarator_sights
+    (map view_resolved_declarator (drop l.declarator-index l.declarators))) ≡ sighted l.fn.variables
+    (flat_map declarator_sights (map view_resolved_declarator l.declarators))

@@ -5,5 +5,6 @@ use Rattle.om_tables.proofs.slots.copy_slots.Given as goal
 
 abbrev pub invariant-loop-copy : goal.invariant-loop-copy
 invariant-loop-copy l =
-    l.slots.items ++ map (slot_of l.variables) (map (λ copy. copy.variable) (first_copies_of (drop l.copy-index l.copies)))
+    l.slots.items ++ map (slot_of l.variables)
+    (map (λ copy. copy.variable) (first_copies_of (drop l.copy-index l.copies)))
     ≡ map (slot_of l.variables) (map (λ copy. copy.variable) (first_copies_of l.copies))

@@ -9,5 +9,7 @@ abbrev pub invariant-loop-function : goal.invariant-loop-function
 invariant-loop-function l =
     let left = map view_resolved_function (drop l.function-index l.functions) in
     let all = map view_resolved_function l.functions in
-    (noted l.found.formats (flat_map (function_mentioned format_mention) left) ≡ noted [] (flat_map (function_mentioned format_mention) all))
-    × (noted l.found.locks (flat_map (function_mentioned lock_mention) left) ≡ noted [] (flat_map (function_mentioned lock_mention) all))
+    (noted l.found.formats (flat_map (function_mentioned format_mention) left)
+    ≡ noted [] (flat_map (function_mentioned format_mention) all))
+    × (noted l.found.locks (flat_map (function_mentioned lock_mention) left)
+    ≡ noted [] (flat_map (function_mentioned lock_mention) all))

@@ -9,4 +9,5 @@ invariant-loop-function l =
     let left = map view_resolved_function (drop l.function-index l.functions) in
     let all = map view_resolved_function l.functions in
     (behind_functions (numbers_of l.numbers) left ≡ behind_functions first_numbers all)
-    × (l.numbered.items ++ function_numbers (numbers_of l.numbers) left ≡ l.fn.numbered.items ++ function_numbers first_numbers all)
+    × (l.numbered.items ++ function_numbers (numbers_of l.numbers) left ≡ l.fn.numbered.items ++ function_numbers
+    first_numbers all)

@@ -5,4 +5,5 @@ use Rattle.om_tables.proofs.uses.take_captures.Given as goal
 
 abbrev pub invariant-loop-capture : goal.invariant-loop-capture
 invariant-loop-capture l =
-    sighted l.variables (map captured_variable (drop l.capture-index l.captures)) ≡ sighted l.fn.variables (map captured_variable l.captures)
+    sighted l.variables (map captured_variable (drop l.capture-index l.captures)) ≡ sighted l.fn.variables
+    (map captured_variable l.captures)

@@ -6,4 +6,5 @@ use Rattle.om_tables.proofs.uses.take_variables.Given as goal
 
 abbrev pub invariant-loop-variable : goal.invariant-loop-variable
 invariant-loop-variable l =
-    sighted l.variables (flat_map variable_uses (drop l.variable-index l.listed)) ≡ sighted l.fn.variables (flat_map variable_uses l.listed)
+    sighted l.variables (flat_map variable_uses (drop l.variable-index l.listed)) ≡ sighted l.fn.variables
+    (flat_map variable_uses l.listed)

@@ -5,9 +5,11 @@ use Rattle.om_visible.proofs.names.add_parameters.Goals as goal
 
 pub loop-parameter-preserved : goal.loop-parameter-preserved
 loop-parameter-preserved c = λ d w.
-    let here = left_item c.args.parameters.now c.loop-parameter.parameter-index c.parameter-item.result c.loop-parameter-test.true c.parameter-item.is in
+    let here = left_item c.args.parameters.now c.loop-parameter.parameter-index c.parameter-item.result
+    c.loop-parameter-test.true c.parameter-item.is in
     let rest = drop (c.loop-parameter.parameter-index + 1) c.args.parameters.now in
-    c.loop-parameter.invariant d (rw here (walked_stay _ _ d _ _ (λ body p k. opening (map (opened_at 0) rest)) c.in_ok-open.ensures w))
+    c.loop-parameter.invariant d (rw here (walked_stay _ _ d _ _ (λ body p k. opening (map (opened_at 0) rest))
+    c.in_ok-open.ensures w))
 
 pub returns : goal.returns
 returns c =

@@ -7,4 +7,5 @@ use Rattle.om_visible.proofs.size.+expression.Given as goal
 -- what is behind the values passed so far, and what is left, are all
 abbrev pub invariant-pass_values-loop-value : goal.invariant-pass_values-loop-value
 invariant-pass_values-loop-value l =
-    l.place + values_size (trees.values (map view_resolved_expression (drop l.value-index l.values))) ≡ l.fn.place + values_size (trees.values (map view_resolved_expression l.values))
+    l.place + values_size (trees.values (map view_resolved_expression (drop l.value-index l.values)))
+    ≡ l.fn.place + values_size (trees.values (map view_resolved_expression l.values))

@@ -6,4 +6,5 @@ use Rattle.om_visible.proofs.statement.skip_size.Given as goal
 -- no value was passed
 abbrev pub invariant-loop-clause : goal.invariant-loop-clause
 invariant-loop-clause l =
-    (l.walk ≡ l.fn.walk) × (clause_value (map view_resolved_clause (drop l.clause-index l.clauses)) ≡ clause_value (map view_resolved_clause l.clauses))
+    (l.walk ≡ l.fn.walk) × (clause_value (map view_resolved_clause (drop l.clause-index l.clauses))
+    ≡ clause_value (map view_resolved_clause l.clauses))

@@ -9,5 +9,8 @@ use Rattle.om_visible.proofs.walk.add_declarators.Given as goal
 -- whoever walks over what is left has walked over all
 abbrev pub invariant-loop-declarator : goal.invariant-loop-declarator
 invariant-loop-declarator l = (c : Walk)
-    → Walked l.walk c (each_size declarator_size (map view_resolved_declarator (drop l.declarator-index l.declarators))) (λ k. opening (declared l.walk.place (map view_resolved_declarator (drop l.declarator-index l.declarators))))
-    → Walked l.fn.walk c (each_size declarator_size (map view_resolved_declarator l.declarators)) (λ k. opening (declared l.fn.walk.place (map view_resolved_declarator l.declarators)))
+    → Walked l.walk c (each_size declarator_size
+    (map view_resolved_declarator (drop l.declarator-index l.declarators)))
+    (λ k. opening (declared l.walk.place (map view_resolved_declarator (drop l.declarator-index l.declarators))))
+    → Walked l.fn.walk c (each_size declarator_size (map view_resolved_declarator l.declarators))
+    (λ k. opening (declared l.fn.walk.place (map view_resolved_declarator l.declarators)))

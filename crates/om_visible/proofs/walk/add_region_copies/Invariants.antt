@@ -9,5 +9,7 @@ use Rattle.om_visible.proofs.walk.add_region_copies.Given as goal
 -- whoever walks over what is left has walked over all
 abbrev pub invariant-loop-clause : goal.invariant-loop-clause
 invariant-loop-clause l = (c : Walk)
-    → Walked l.walk c (each_size clause_region_start (map view_resolved_clause (drop l.clause-index l.clauses))) (λ k. opening (region_copied l.walk.place (map view_resolved_clause (drop l.clause-index l.clauses))))
-    → Walked l.fn.walk c (each_size clause_region_start (map view_resolved_clause l.clauses)) (λ k. opening (region_copied l.fn.walk.place (map view_resolved_clause l.clauses)))
+    → Walked l.walk c (each_size clause_region_start (map view_resolved_clause (drop l.clause-index l.clauses)))
+    (λ k. opening (region_copied l.walk.place (map view_resolved_clause (drop l.clause-index l.clauses))))
+    → Walked l.fn.walk c (each_size clause_region_start (map view_resolved_clause l.clauses))
+    (λ k. opening (region_copied l.fn.walk.place (map view_resolved_clause l.clauses)))

@@ -8,7 +8,13 @@ loop-turn-init c = λ h. (refl, λ d e. e)
 pub loop-turn-preserved : goal.loop-turn-preserved
 loop-turn-preserved c = λ h.
     let left = (c.loop-turn.invariant h).0 in
-    let more : c.args.height < length c.loop-turn.walk.opened.items = omega (arith, left, c.loop-turn-test.true, c.len-turn-end.ensures, c.args.walk.now.opened.ok.0) in
+    let more : c.args.height < length c.loop-turn.walk.opened.items = omega (
+      arith,
+      left,
+      c.loop-turn-test.true,
+      c.len-turn-end.ensures,
+      c.args.walk.now.opened.ok.0,
+    ) in
     let one = c.in_ok-close_last.ensures (omega (arith, more)) in (
       omega (arith, left, ap length one.opened, length-append c.close_last.new.walk.opened.items (one.last ∷ [])),
       λ d e. (c.loop-turn.invariant h).1 d (closes_more _ _ d c.args.height more one e),
@@ -17,4 +23,13 @@ loop-turn-preserved c = λ h.
 pub returns : goal.returns
 returns c = λ h.
     let left = (c.loop-turn.invariant h).0 in
-    (c.loop-turn.invariant h).1 c.loop-turn.walk (closes_none c.loop-turn.walk c.args.height (omega (arith, left, h, c.loop-turn-test.false, c.len-turn-end.ensures, c.args.walk.now.opened.ok.0, c.loop-turn.auto._turn-end)))
+    (c.loop-turn.invariant h).1 c.loop-turn.walk (closes_none c.loop-turn.walk c.args.height
+    (omega (
+      arith,
+      left,
+      h,
+      c.loop-turn-test.false,
+      c.len-turn-end.ensures,
+      c.args.walk.now.opened.ok.0,
+      c.loop-turn.auto._turn-end,
+    )))

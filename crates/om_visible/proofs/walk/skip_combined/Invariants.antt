@@ -9,5 +9,6 @@ use Rattle.om_visible.proofs.walk.skip_combined.Given as goal
 -- whoever walks over what is left has walked over all
 abbrev pub invariant-loop-clause : goal.invariant-loop-clause
 invariant-loop-clause l = (c : Walk)
-    → Walked l.walk c (each_size clause_combined_size (map view_resolved_clause (drop l.clause-index l.clauses))) (λ k. nothing)
+    → Walked l.walk c (each_size clause_combined_size (map view_resolved_clause (drop l.clause-index l.clauses)))
+    (λ k. nothing)
     → Walked l.fn.walk c (each_size clause_combined_size (map view_resolved_clause l.clauses)) (λ k. nothing)

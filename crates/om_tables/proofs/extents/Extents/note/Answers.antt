@@ -13,7 +13,8 @@ returns-then-contains_key c =
     let extent : Extent = record { variable = c.args.variable; cells = c.args.cells } in
     let known : list_any (is_extent_of c.args.variable) (extents_in entries) ≡ true =
     there c.args.variable entries ∙ sym c.contains_key.ensures ∙ c.if-contains_key.true in
-    sym c.self.view_is ∙ noted_known (extents_in entries) extent known ∙ ap (λ extents. with_extent extents extent) c.self.view_is
+    sym c.self.view_is ∙ noted_known (extents_in entries) extent known ∙ ap (λ extents. with_extent extents extent)
+    c.self.view_is
 
 pub returns : goal.returns
 returns c =
@@ -22,7 +23,8 @@ returns c =
     let cells = c.args.cells in
     let unknown : list_any (is_extent_of variable) (extents_in entries) ≡ false =
     there variable entries ∙ sym c.contains_key.ensures ∙ c.if-contains_key.false in
-    let absent = none-is_some (lookup (nat_eq variable) entries) (sym c.contains_key.ensures ∙ c.if-contains_key.false) in
+    let absent = none-is_some (lookup (nat_eq variable) entries) (sym c.contains_key.ensures
+    ∙ c.if-contains_key.false) in
     ap extents_in (c.in_ok-insert.ensures.entries ∙ insert_entry-new _ c.self.inside.cells variable cells absent)
     ∙ noted_new entries variable cells unknown
     ∙ ap (λ extents. with_extent extents (record { variable = variable; cells = cells })) c.self.view_is

@@ -9,4 +9,5 @@ returns c =
     let scope = c.args.self.now in
     c.unwrap_or.ensures
     ∙ ap (λ found. unwrap_or found scope.tables.now.behind.bodies) c.number_at-number.ensures
-    ∙ called_in (map view_resolved_function scope.functions.now) c.args.function c.as_slice.result.now scope.tables.now.behind.bodies (c.as_slice.ensures.value ∙ scope.numbered) scope.behind
+    ∙ called_in (map view_resolved_function scope.functions.now) c.args.function c.as_slice.result.now
+    scope.tables.now.behind.bodies (c.as_slice.ensures.value ∙ scope.numbered) scope.behind
