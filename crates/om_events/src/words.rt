@@ -24,13 +24,11 @@ pub(crate) fn push_words(first: &[u8], words: &[Word], out: &mut Vec<u8>) -> Res
     ensures unchanged_on_error { OnErr result (out.new.items ≡ out.old.items) }
 {
     let before = out.len();
-    match push_parts(first, words, out) {
-        Ok(()) => Ok(()),
-        Err(error) => {
-            out.truncate(before);
-            Err(error)
-        }
-    }
+    let Err(error) = push_parts(first, words, out) else {
+        return Ok(());
+    };
+    out.truncate(before);
+    Err(error)
 }
 
 // Appends the same; when out of memory, some of it.

@@ -132,10 +132,10 @@ pub(crate) fn append(
     back.shrink_to_fit();
     make_all(store, made.footprint(), &mut back)?;
     made.set_back(Seq::of(back));
-    match records.push(made) {
-        Ok(()) => Ok(()),
-        Err(_) => unreachable!(),
-    }
+    let Ok(()) = records.push(made) else {
+        unreachable!();
+    };
+    Ok(())
 }
 
 /// Takes a record out, and takes its updates back. It takes no memory.
