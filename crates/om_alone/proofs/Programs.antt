@@ -1,6 +1,6 @@
 -- Functions and whole programs: what a worker does alone is what they mean.
-use Rattle.std.proofs.Common.{◌≡◌, ℕ, zero, suc, ◌<◌, ◌≤◌, ℤ, pos, Bool, true, false, List, [], ◌∷◌, Option, Some, None, refl, sym, ap, ◌∙◌, subst, ⊎_elim, slice_get, option_map, arith}
-use Rattle.std.specs.Prelude.{All, IsSome, IsSomeAnd, unwrap_or, slice_index_or}
+use Rattle.std.proofs.Common.{◌≡◌, ℕ, zero, suc, ◌<◌, ◌≤◌, ℤ, pos, Bool, true, false, List, [], ◌∷◌, Option, Some, None, refl, sym, ap, ◌∙◌, subst, ⊎_elim, length, slice_get, option_map, arith}
+use Rattle.std.specs.Prelude.{All, IsSome, IsSomeAnd, position, unwrap_or, slice_index_or}
 use Rattle.om_foot.specs.declared.object.Obj.TheVariants as obj
 use Rattle.om_code.specs.declared.frame.Fault.{Fault}
 use Rattle.om_code.specs.declared.frame.Operand.{Operand}
@@ -26,10 +26,11 @@ use Rattle.om_cells.specs.Values.{control_in}
 use Rattle.om_row.specs.Objects.{home_for, homes_for}
 use Rattle.std.proofs.lemmas.Bool.{cases_lt}
 use Rattle.std.proofs.lemmas.List.Elements.{All-head, All-tail}
+use Rattle.std.proofs.lemmas.List.Quantifiers.{position-Some}
+use Rattle.std.proofs.lemmas.Option.{get_or_from_slice_get}
 use Rattle.om_task.specs.Rules.{rules_of, further_in, outcome_of, first_context, start_of}
 use Rattle.om_resolved.specs.Uses.{is_main_function}
 use Rattle.om_rows.specs.Bodies.{called_body, function_variables}
-use Rattle.om_rows.proofs.TreeCode.{position_there}
 use Rattle.om_meaning.specs.Laws.{Agrees, Behaves, SerialMeaning, layout_of, IsOver}
 use Rattle.om_meaning.specs.Laws as meanings
 use Rattle.om_meaning.specs.Meaning as flows
@@ -380,6 +381,28 @@ module _ (program : Raw) (workers : ℕ) (valid : IsValid program) (body : Body)
         never_stuck = λ n stack s now ctl.
             never_stuck n stack s now ctl (run program body (suc n) (frame 0 [] begun)) refl (follows (suc n));
       }
+
+element_there : {A : Type 0} (xs : List A) (k : ℕ) → k < length xs → (x : A) × (slice_get xs k ≡ Some x)
+element_there [] k lt = absurd (omega (arith, lt))
+element_there (x ∷ xs) zero lt = (x, refl)
+element_there (x ∷ xs) (suc k) lt = element_there xs k (omega (arith, lt))
+
+-- where the first that passes is, one passes
+position_there : {A : Type 0} (test : A → Bool) (xs : List A) (k : ℕ) → position test xs ≡ Some k
+    → (x : A) × (slice_get xs k ≡ Some x) × (test x ≡ true)
+position_there {A} test xs k e = first xs refl e
+  where
+    -- a default of the type is at hand only where there is an element
+    first : (ys : List A) → xs ≡ ys → position test ys ≡ Some k
+        → (x : A) × (slice_get xs k ≡ Some x) × (test x ≡ true)
+    first [] same e = absurd cc
+    first (d ∷ ds) same e =
+        let at = position-Some test (d ∷ ds) k d e in
+        let x = element_there (d ∷ ds) k at.0 in (
+          x.0,
+          ap (λ z. slice_get z k) same ∙ x.1,
+          ap test (sym (get_or_from_slice_get (d ∷ ds) k x.0 d x.1)) ∙ at.1,
+        )
 
 pub programs_run : SerialMeaning → ProgramsRun
 programs_run meaning tree raw workers code valid k f at e serial =

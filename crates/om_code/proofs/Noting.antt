@@ -6,6 +6,7 @@ use Rattle.std.proofs.lemmas.List.{get_or-set_same, get_or-set_other}
 use Rattle.std.proofs.lemmas.List.Elements.{Contains-append_left, Contains-append_right, Contains-append_cases}
 use Rattle.om_code.specs.declared.fault.CodeFault.{CodeFault}
 use Rattle.om_code.specs.declared.instruction.Exits.{Exits}
+use Rattle.om_code.specs.Contained.{Contains-here, Contains-there}
 use Rattle.om_code.specs.Ways.{places}
 use Rattle.om_code.specs.Search.{height_of, unknown_count, AreWithin, Agrees, with_reached, Notes, FailsToNote}
 
@@ -16,12 +17,6 @@ Contains-one x y (suc k, lt, e) = absurd (omega arith)
 
 pub Contains-none : (y : ℕ) → Contains (let none : List ℕ = [] in none) y → ⊥
 Contains-none y (k, lt, e) = omega arith
-
-pub Contains-here : (x : ℕ) (xs : List ℕ) → Contains (x ∷ xs) x
-Contains-here x xs = (0, omega arith, refl)
-
-pub Contains-there : (x y : ℕ) (xs : List ℕ) → Contains xs y → Contains (x ∷ xs) y
-Contains-there x y xs (k, lt, e) = (suc k, omega (arith, lt), e)
 
 pub Contains-cases : (x y : ℕ) (xs : List ℕ) → Contains (x ∷ xs) y → (y ≡ x) ⊎ Contains xs y
 Contains-cases x y xs (zero, lt, e) = inl (sym e)

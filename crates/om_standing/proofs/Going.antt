@@ -1,6 +1,7 @@
 -- A frame that stands has its instruction, and stands again where that goes on.
 use Rattle.std.proofs.Common.{◌≡◌, refl, sym, ◌∙◌, ap, subst, ℕ, zero, suc, ◌+◌, ◌-◌, ◌<◌, ◌≤◌, arith, List, [], ◌∷◌, ◌++◌, Option, Some, length, drop, length-append, length-drop, option_map}
-use Rattle.std.specs.Prelude.{Contains, slice_get, option_to_list, option_and_then, unwrap_or}
+use Rattle.std.specs.Prelude.{All, Contains, slice_get, option_to_list, option_and_then, unwrap_or}
+use Rattle.std.proofs.lemmas.Option.{get_or_from_slice_get, slice_get_within}
 use Rattle.om_code.specs.declared.frame.Operand.{Operand}
 use Rattle.om_code.specs.declared.instruction.Instr.{Instr}
 use Rattle.om_code.specs.declared.raw.Body.{Body}
@@ -9,7 +10,6 @@ use Rattle.om_code.specs.declared.raw.Raw.{Raw}
 use Rattle.om_code.specs.Places.{at_place, instruction_at, slots_of}
 use Rattle.om_code.specs.Validity.{IsValid, IsValidBody, NamesKnown, StaysInside}
 use Rattle.om_code.specs.Ways.{pops, pushes, successors, Way, starts, follows}
-use Rattle.om_code.proofs.Valid.{body_valid, names_known}
 use Rattle.om_cells.specs.declared.control.Frame.{Frame}
 use Rattle.om_cells.specs.Edits.{frame_at}
 use Rattle.om_standing.specs.Standing.{Owned, FitHomes, StandsWith, IsStandingFrame}
@@ -39,6 +39,21 @@ line_there (line ∷ code) (suc at) lt = line_there code at (omega (arith, lt))
 
 left_over : (n m : ℕ) → m ≤ n → (rest : ℕ) × (n ≡ rest + m)
 left_over n m le = (n - m, omega (arith, le))
+
+-- an element that is found is one of all
+of_all : {X : Type 0} (P : X → Type 0) (xs : List X) (k : ℕ) (x : X) → All P xs → slice_get xs k ≡ Some x → P x
+of_all P xs k x all is = subst P (get_or_from_slice_get xs k x x is) (all k x (slice_get_within xs k x is))
+
+-- a body of valid code is valid
+body_valid : (raw : Raw) (number : ℕ) (body : Body) → IsValid raw → slice_get raw.bodies number ≡ Some body
+    → IsValidBody raw body
+body_valid raw number body valid is = of_all (λ (b : Body). IsValidBody raw b) raw.bodies number body valid.bodies is
+
+-- what an instruction of valid code names exists
+names_known : (raw : Raw) (body : Body) (at : ℕ) (line : Line) → IsValidBody raw body
+    → slice_get body.code at ≡ Some line → NamesKnown raw body.slots line.instruction
+names_known raw body at line valid is =
+    of_all (λ (l : Line). NamesKnown raw body.slots l.instruction) body.code at line valid.known.names is
 
 at_line : (program : Raw) (owned : Owned) (frame : Frame) (h : IsStandingFrame program owned frame) (line : Line)
     → IsValid program → slice_get h.body.code frame.next ≡ Some line → StandsAt program owned frame line.instruction

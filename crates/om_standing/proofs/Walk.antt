@@ -14,8 +14,8 @@ use Rattle.om_code.specs.Printing.{ints_on}
 use Rattle.om_code.specs.Validity.{IsValid, IsKnownBody}
 use Rattle.om_code.specs.Ways.{pops, pushes, exits, places, successors}
 use Rattle.om_code.specs.declared.instruction.Exits.TheVariants as leads_to
-use Rattle.om_code.proofs.Noting.{Contains-here, Contains-there}
-use Rattle.om_code.proofs.Rights.{act_right}
+use Rattle.om_code.specs.Contained.{Contains-here, Contains-there}
+use Rattle.om_code.specs.Rights.{act_right}
 use Rattle.om_cells.specs.declared.control.Stack.{Stack}
 use Rattle.om_cells.specs.declared.control.Control.TheVariants.{Running}
 use Rattle.om_cells.specs.declared.step.Choice.{Choice}

@@ -1,6 +1,6 @@
 use Rattle.std.proofs.Common.{subst, sym}
 use Rattle.om_code.specs.Frames.{IsRight}
-use Rattle.om_code.proofs.Rights.{act_right}
+use Rattle.om_code.specs.Rights.{act_right}
 use Rattle.om_code.proofs.serial.turn_of.Goals as goal
 
 pub returns-clause-right : goal.returns-clause-right

@@ -1,4 +1,4 @@
--- A turn of a serial instruction keeps a frame on a way of its body.
+-- A turn of a serial instruction keeps a frame on a way of its body: matter of proofs, for whoever goes on from it.
 use Rattle.std.proofs.Common.{◌≡◌, ℕ, ◌+◌, ◌≤◌, ℤ, pos, Bool, true, false, List, [], ◌∷◌, Option, Some, None, refl, sym, subst, arith, length, slice_get}
 use Rattle.std.specs.Ordering.{int_eq}
 use Rattle.std.specs.Prelude.{Contains, Result, Ok, Err, option_to_list}
@@ -19,7 +19,7 @@ use Rattle.om_code.specs.Ways.{pops, pushes, exits, places}
 use Rattle.om_code.specs.Arithmetic.{operate, operate_on_one, update}
 use Rattle.om_code.specs.Printing.{ints_on}
 use Rattle.om_code.specs.Frames.{Act, act, IsRight, decided, reads, writes, on_operand, on_int, on_ints, at_index, int_at, goes, gives, put, loaded, stored, updated, cells_in, index_in, used, jump_if, print}
-use Rattle.om_code.proofs.Noting.{Contains-here, Contains-there}
+use Rattle.om_code.specs.Contained.{Contains-here, Contains-there}
 
 -- an act whose every turn is right
 record RightAct (instr : Instr) (a : Act) : Type 0 where
