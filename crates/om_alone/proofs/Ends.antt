@@ -1,5 +1,6 @@
 -- The steps that end a frame: FIN ends the program, RET and RETN give a value to the frame that waits.
-use Rattle.std.proofs.Common.{◌≡◌, ℕ, zero, suc, ◌+◌, ◌<◌, ℤ, Bool, true, false, cond, List, [], ◌∷◌, ◌++◌, Option, Some, None, refl, sym, ap, ◌∙◌, subst, slice_get, option_map, arith}
+use Rattle.std.proofs.Common.{◌≡◌, ℕ, zero, suc, ◌+◌, ◌<◌, ℤ, Bool, true, false, cond, List, [], ◌∷◌, ◌++◌, Option}
+use Rattle.std.proofs.Common.{Some, None, refl, sym, ap, ◌∙◌, subst, slice_get, option_map, arith}
 use Rattle.std.specs.Prelude.{unwrap_or}
 use Rattle.std.specs.List.{AllByRecursion}
 use Rattle.om_foot.specs.declared.footprint.Access.{Access}
@@ -37,7 +38,8 @@ use Rattle.om_spawn.specs.Rows.{finished_row, finished}
 use Rattle.om_spawn.specs.Tasks.{is_zero}
 use Rattle.om_meaning.specs.Running.{world_of}
 use Rattle.om_alone.specs.Alone.{Shows, Keeps, OwnsCells, dead, next_of}
-use Rattle.om_alone.proofs.Showing.{each, events_put, keeps_on, beside_events, beside_cell, cells_from, all_written, slot_elsewhere, slot_there, stays}
+use Rattle.om_alone.proofs.Showing.{each, events_put, keeps_on, beside_events, beside_cell, cells_from, all_written}
+use Rattle.om_alone.proofs.Showing.{slot_elsewhere, slot_there, stays}
 use Rattle.om_alone.proofs.Turns.{Leaves, To, here, behind, behind_asked, to_control}
 
 same_both : (b : Bool) (v : Val) → cond b v v ≡ v

@@ -1,5 +1,6 @@
 -- Each instruction that stays in its frame fits: what it touches is inside, and only what it writes is put.
-use Rattle.std.proofs.Common.{◌≡◌, ℕ, zero, suc, ◌<◌, ◌≤◌, ℤ, pos, negsuc, Bool, true, false, List, [], ◌∷◌, Option, Some, None, length, refl, subst, slice_get, arith}
+use Rattle.std.proofs.Common.{◌≡◌, ℕ, zero, suc, ◌<◌, ◌≤◌, ℤ, pos, negsuc, Bool, true, false, List, [], ◌∷◌, Option}
+use Rattle.std.proofs.Common.{Some, None, length, refl, subst, slice_get, arith}
 use Rattle.std.specs.Prelude.{Result, Ok, Err, All, nat_lt, get_or, if◌then◌else◌, option_map, unwrap_or}
 use Rattle.std.specs.Ordering.{int_eq}
 use Rattle.std.proofs.lemmas.Bool.Decides.{Decides-ltb}
@@ -19,7 +20,8 @@ use Rattle.om_code.specs.declared.instruction.UnaryOperator.{UnaryOperator}
 use Rattle.om_code.specs.declared.raw.Raw.{Raw}
 use Rattle.om_code.specs.declared.raw.Slot.{Slot}
 use Rattle.om_code.specs.Arithmetic.{operate, operate_on_one, update}
-use Rattle.om_code.specs.Frames.{Act, act, decided, reads, writes, on_operand, on_int, on_ints, at_index, int_at, goes, gives, put, loaded, stored, updated, cells_in, index_in, left_by, kept, used, jump_if}
+use Rattle.om_code.specs.Frames.{Act, act, decided, reads, writes, on_operand, on_int, on_ints, at_index, int_at, goes}
+use Rattle.om_code.specs.Frames.{gives, put, loaded, stored, updated, cells_in, index_in, left_by, kept, used, jump_if}
 use Rattle.om_code.specs.Validity.{IsKnownPlace}
 use Rattle.om_alone.proofs.Turns.{IsOnward, IsStill, IsInside, Fits}
 

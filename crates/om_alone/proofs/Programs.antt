@@ -1,5 +1,6 @@
 -- Functions and whole programs: what a worker does alone is what they mean.
-use Rattle.std.proofs.Common.{◌≡◌, ℕ, zero, suc, ◌<◌, ◌≤◌, ℤ, pos, Bool, true, false, List, [], ◌∷◌, Option, Some, None, refl, sym, ap, ◌∙◌, subst, ⊎_elim, length, slice_get, option_map, arith}
+use Rattle.std.proofs.Common.{◌≡◌, ℕ, zero, suc, ◌<◌, ◌≤◌, ℤ, pos, Bool, true, false, List, [], ◌∷◌, Option, Some, None}
+use Rattle.std.proofs.Common.{refl, sym, ap, ◌∙◌, subst, ⊎_elim, length, slice_get, option_map, arith}
 use Rattle.std.specs.Prelude.{All, IsSome, IsSomeAnd, position, unwrap_or, slice_index_or}
 use Rattle.om_foot.specs.declared.object.Obj.TheVariants as obj
 use Rattle.om_code.specs.declared.frame.Fault.{Fault}
@@ -38,7 +39,8 @@ use Rattle.om_meaning.specs.Meaning.{Flow, Failed, OutOfTurns}
 use Rattle.om_meaning.specs.Running.{ended, frame, run, world_of}
 use Rattle.om_meaning.specs.Worlds.{World}
 use Rattle.om_alone.specs.Alone.{Shows, OwnsCells, dead, next_of, stack_at, stepped}
-use Rattle.om_alone.specs.Laws.{CanFinish, MayEnd, Leads, LeadsSoon, Follows, Does, Runs, FunctionsRun, ProgramsStart, ProgramsRun, alone, control_behind, world_behind, first_stack, first_world}
+use Rattle.om_alone.specs.Laws.{CanFinish, MayEnd, Leads, LeadsSoon, Follows, Does, Runs, FunctionsRun, ProgramsStart}
+use Rattle.om_alone.specs.Laws.{ProgramsRun, alone, control_behind, world_behind, first_stack, first_world}
 use Rattle.om_alone.proofs.Following.{of_all, follow}
 
 -- ---- a function

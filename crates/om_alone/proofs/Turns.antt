@@ -40,7 +40,8 @@ use Rattle.om_meaning.specs.Running.{world_of}
 use Rattle.om_meaning.specs.Worlds.{World, with_held}
 use Rattle.om_alone.specs.Alone.{Shows, Keeps, OwnsCells, dead, next_of, stack_at}
 use Rattle.om_alone.specs.Laws.{CanFinish, IsCalled}
-use Rattle.om_alone.proofs.Showing.{control_put, output_put, cell_put, keeps_cell, keeps_on, keeps_slot, slot_cleared, beside_control, beside_output, cells_from, own_object}
+use Rattle.om_alone.proofs.Showing.{control_put, output_put, cell_put, keeps_cell, keeps_on, keeps_slot, slot_cleared}
+use Rattle.om_alone.proofs.Showing.{beside_control, beside_output, cells_from, own_object}
 
 -- turns that stay in their frame, and those of them that put nothing
 abbrev pub IsOnward : Turn → Type 0

@@ -1,5 +1,6 @@
 -- What a worker that steps alone does by the rules of the machine: what its body means.
-use Rattle.std.specs.Prelude.{◌≡◌, ℕ, suc, ◌≤◌, IsSome, ℤ, pos, Bool, true, false, Option, None, Some, List, [], ◌∷◌, IsSomeAnd, replicate, slice_get, unwrap_or, position}
+use Rattle.std.specs.Prelude.{◌≡◌, ℕ, suc, ◌≤◌, IsSome, ℤ, pos, Bool, true, false, Option, None, Some, List, [], ◌∷◌}
+use Rattle.std.specs.Prelude.{IsSomeAnd, replicate, slice_get, unwrap_or, position}
 use Rattle.om_foot.specs.declared.object.Obj.TheVariants as obj
 use Rattle.om_code.specs.declared.frame.Cell.TheVariants as cell
 use Rattle.om_code.specs.declared.frame.Fault.{Fault}

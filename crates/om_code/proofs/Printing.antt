@@ -1,5 +1,6 @@
 -- What PRINT finds: its text, and as many ints as the text takes.
-use Rattle.std.proofs.Common.{◌≡◌, ℕ, suc, ℤ, Bool, true, false, List, [], ◌∷◌, length, get_or, take, reverse, Option, Some, None, refl, sym, ap, ◌∙◌, nat_le, slice_get, unwrap_or, option_map, if◌then◌else◌}
+use Rattle.std.proofs.Common.{◌≡◌, ℕ, suc, ℤ, Bool, true, false, List, [], ◌∷◌, length, get_or, take, reverse, Option}
+use Rattle.std.proofs.Common.{Some, None, refl, sym, ap, ◌∙◌, nat_le, slice_get, unwrap_or, option_map, if◌then◌else◌}
 use Rattle.std.specs.Prelude.{IsSomeAnd}
 use Rattle.std.proofs.lemmas.Bool.{leb-true}
 use Rattle.std.proofs.lemmas.List.{length-reverse, length-take-le}
@@ -13,13 +14,16 @@ use Rattle.om_code.specs.Printing.{printed, ints, ints_on}
 use Rattle.om_code.specs.Frames.{print_bytes}
 
 -- a text that is known is found
-pub text_known : (texts : List (List Piece)) (text n : ℕ) (pieces : List Piece) → IsKnownText texts text n → pieces ≡ get_or texts text pieces → (slice_get texts text ≡ Some pieces) × (value_count pieces ≡ n)
+pub text_known : (texts : List (List Piece)) (text n : ℕ) (pieces : List Piece) → IsKnownText texts text n → pieces
+    ≡ get_or texts text pieces → (slice_get texts text ≡ Some pieces) × (value_count pieces ≡ n)
 text_known texts text n pieces known is = found (slice_get texts text) refl known
   where
-    found : (o : Option (List Piece)) → slice_get texts text ≡ o → IsSomeAnd o (λ p. value_count p ≡ n) → (slice_get texts text ≡ Some pieces) × (value_count pieces ≡ n)
+    found : (o : Option (List Piece)) → slice_get texts text ≡ o → IsSomeAnd o (λ p. value_count p ≡ n)
+        → (slice_get texts text ≡ Some pieces) × (value_count pieces ≡ n)
     found None e h = absurd h
     found (Some p) e h =
-        let at : slice_get texts text ≡ Some pieces = slice_get-get_or texts text pieces (slice_get_within texts text p e) ∙ ap Some (sym is) in
+        let at : slice_get texts text ≡ Some pieces = slice_get-get_or texts text pieces
+        (slice_get_within texts text p e) ∙ ap Some (sym is) in
         let same : Some p ≡ Some pieces = sym e ∙ at in
         let q : p ≡ pieces = cc in
         (at, ap (λ x. value_count x) (sym q) ∙ h)
@@ -30,18 +34,23 @@ length-ints [] vs e = let f : [] ≡ vs = cc in ap length (sym f)
 length-ints (operand.NoValue ∷ s) vs e = cc
 length-ints (operand.Int v ∷ s) vs e = of (ints s) (λ ws was. length-ints s ws was) e
   where
-    of : (o : Option (List ℤ)) → ((ws : List ℤ) → o ≡ Some ws → length ws ≡ length s) → option_map (λ l. v ∷ l) o ≡ Some vs → length vs ≡ suc (length s)
+    of : (o : Option (List ℤ)) → ((ws : List ℤ) → o ≡ Some ws → length ws ≡ length s) → option_map (λ l. v ∷ l) o
+        ≡ Some vs → length vs ≡ suc (length s)
     of None h f = cc
     of (Some ws) h f = let g : v ∷ ws ≡ vs = cc in ap length (sym g) ∙ ap suc (h ws refl)
 
 pub length-ints_on : (n : ℕ) (s : List Operand) (vs : List ℤ) → ints_on n s ≡ Some vs → length vs ≡ n
 length-ints_on n s vs e = of (nat_le n (length s)) refl e
   where
-    of : (b : Bool) → nat_le n (length s) ≡ b → (if b then ints (reverse (take n s)) else None) ≡ Some vs → length vs ≡ n
+    of : (b : Bool) → nat_le n (length s) ≡ b → (if b then ints (reverse (take n s)) else None) ≡ Some vs
+        → length vs ≡ n
     of false was f = cc
-    of true was f = length-ints (reverse (take n s)) vs f ∙ length-reverse (take n s) ∙ length-take-le n s (leb-true n (length s) was)
+    of true was f = length-ints (reverse (take n s)) vs f ∙ length-reverse (take n s) ∙ length-take-le n s
+        (leb-true n (length s) was)
 
 -- the bytes of the text that is found, with the ints that are found
-pub bytes_are : (raw : Raw) (text n : ℕ) (s : List Operand) (pieces : List Piece) (vs : List ℤ) → slice_get raw.texts text ≡ Some pieces → ints_on n s ≡ Some vs → printed pieces vs ≡ print_bytes raw text n s
+pub bytes_are : (raw : Raw) (text n : ℕ) (s : List Operand) (pieces : List Piece) (vs : List ℤ)
+    → slice_get raw.texts text ≡ Some pieces → ints_on n s ≡ Some vs → printed pieces vs ≡ print_bytes raw text n s
 bytes_are raw text n s pieces vs found on =
-    ap (λ o. printed (unwrap_or o []) vs) (sym found) ∙ ap (λ o. printed (unwrap_or (slice_get raw.texts text) []) (unwrap_or o [])) (sym on)
+    ap (λ o. printed (unwrap_or o []) vs) (sym found) ∙ ap (λ o. printed (unwrap_or (slice_get raw.texts text) [])
+    (unwrap_or o [])) (sym on)

@@ -11,27 +11,34 @@ use Rattle.om_code.specs.declared.frame.Operand.TheVariants as operand
 use Rattle.om_code.specs.Arithmetic.{operate, operate_on_one}
 use Rattle.om_code.specs.Printing.{ints_on}
 use Rattle.om_code.specs.Validity.{NamesKnown}
-use Rattle.om_code.specs.Frames.{Act, act, IsThere, decided, reads, writes, on_operand, on_int, on_ints, at_index, int_at, goes, gives, loaded, stored, updated, cells_in, index_in, left_by, kept, used, jump_if, print}
+use Rattle.om_code.specs.Frames.{Act, act, IsThere, decided, reads, writes, on_operand, on_int, on_ints, at_index}
+use Rattle.om_code.specs.Frames.{int_at, goes, gives, loaded, stored, updated, cells_in, index_in, left_by, kept, used}
+use Rattle.om_code.specs.Frames.{jump_if, print}
 
 module _ (raw : Raw) (slots : List Slot) (s : List Operand) where
-  on_operand_there : (x : Option Operand) (row : Operand → Act) → ((a : Operand) → IsThere raw slots s (row a).touch) → IsThere raw slots s (on_operand x row).touch
+  on_operand_there : (x : Option Operand) (row : Operand → Act)
+      → ((a : Operand) → IsThere raw slots s (row a).touch) → IsThere raw slots s (on_operand x row).touch
   on_operand_there None row h = tt
   on_operand_there (Some a) row h = h a
 
-  on_int_there : (x : Option ℤ) (row : ℤ → Act) → ((a : ℤ) → IsThere raw slots s (row a).touch) → IsThere raw slots s (on_int x row).touch
+  on_int_there : (x : Option ℤ) (row : ℤ → Act) → ((a : ℤ) → IsThere raw slots s (row a).touch) → IsThere raw slots
+      s (on_int x row).touch
   on_int_there None row h = tt
   on_int_there (Some a) row h = h a
 
-  on_ints_there : (x y : Option ℤ) (row : ℤ → ℤ → Act) → ((a b : ℤ) → IsThere raw slots s (row a b).touch) → IsThere raw slots s (on_ints x y row).touch
+  on_ints_there : (x y : Option ℤ) (row : ℤ → ℤ → Act) → ((a b : ℤ) → IsThere raw slots s (row a b).touch)
+      → IsThere raw slots s (on_ints x y row).touch
   on_ints_there None y row h = tt
   on_ints_there (Some a) None row h = tt
   on_ints_there (Some a) (Some b) row h = h a b
 
-  at_index_there : (k : Option ℕ) (row : ℕ → Act) → ((n : ℕ) → IsThere raw slots s (row n).touch) → IsThere raw slots s (at_index k row).touch
+  at_index_there : (k : Option ℕ) (row : ℕ → Act) → ((n : ℕ) → IsThere raw slots s (row n).touch)
+      → IsThere raw slots s (at_index k row).touch
   at_index_there None row h = tt
   at_index_there (Some n) row h = h n
 
-  print_there : (text values : ℕ) (vs : Option (List ℤ)) → ints_on values s ≡ vs → NamesKnown raw slots (i.Print text values) → IsThere raw slots s (print text values vs).touch
+  print_there : (text values : ℕ) (vs : Option (List ℤ)) → ints_on values s ≡ vs → NamesKnown raw slots
+      (i.Print text values) → IsThere raw slots s (print text values vs).touch
   print_there text values None e known = tt
   print_there text values (Some vs) e known = (known, ap is_some e)
 
@@ -39,17 +46,29 @@ module _ (raw : Raw) (slots : List Slot) (s : List Operand) where
   touch_there i.Duplicate known = on_operand_there (slice_get s 0) (λ x. decided (goes 0 (Some x))) (λ x. tt)
   touch_there i.Pop known = on_operand_there (slice_get s 0) (λ x. decided (goes 1 None)) (λ x. tt)
   touch_there (i.Unary o) known = on_int_there (int_at 0 s) (λ a. decided (gives 1 (operate_on_one o a))) (λ a. tt)
-  touch_there (i.Binary o) known = on_ints_there (int_at 1 s) (int_at 0 s) (λ a b. decided (gives 2 (operate o a b))) (λ a b. tt)
-  touch_there (i.JumpIfZero target) known = on_int_there (int_at 0 s) (λ a. decided (jump_if (int_eq a (pos 0)) target)) (λ a. tt)
+  touch_there (i.Binary o) known = on_ints_there (int_at 1 s) (int_at 0 s)
+      (λ a b. decided (gives 2 (operate o a b))) (λ a b. tt)
+  touch_there (i.JumpIfZero target) known = on_int_there (int_at 0 s)
+      (λ a. decided (jump_if (int_eq a (pos 0)) target)) (λ a. tt)
   touch_there i.Use known = on_operand_there (slice_get s 0) (λ x. decided (used x)) (λ x. tt)
   touch_there (i.Load place) known = known
-  touch_there (i.Store place keeps) known = on_int_there (int_at 0 s) (λ a. writes place 0 (stored (left_by keeps) None a)) (λ a. known)
-  touch_there (i.LoadElement place) known = on_int_there (int_at 0 s) (λ n. at_index (index_in (cells_in raw slots place) n) (λ k. reads place k (loaded 1))) (λ n. at_index_there (index_in (cells_in raw slots place) n) (λ k. reads place k (loaded 1)) (λ k. known))
-  touch_there (i.StoreElement place keeps) known = on_ints_there (int_at 1 s) (int_at 0 s) (λ n a. at_index (index_in (cells_in raw slots place) n) (λ k. writes place k (stored 2 (kept keeps a) a))) (λ n a. at_index_there (index_in (cells_in raw slots place) n) (λ k. writes place k (stored 2 (kept keeps a) a)) (λ k. known))
+  touch_there (i.Store place keeps) known = on_int_there (int_at 0 s)
+      (λ a. writes place 0 (stored (left_by keeps) None a)) (λ a. known)
+  touch_there (i.LoadElement place) known = on_int_there (int_at 0 s)
+      (λ n. at_index (index_in (cells_in raw slots place) n) (λ k. reads place k (loaded 1)))
+      (λ n. at_index_there (index_in (cells_in raw slots place) n) (λ k. reads place k (loaded 1)) (λ k. known))
+  touch_there (i.StoreElement place keeps) known = on_ints_there (int_at 1 s) (int_at 0 s)
+      (λ n a. at_index (index_in (cells_in raw slots place) n) (λ k. writes place k (stored 2 (kept keeps a) a)))
+      (λ n a. at_index_there (index_in (cells_in raw slots place) n)
+      (λ k. writes place k (stored 2 (kept keeps a) a)) (λ k. known))
   touch_there (i.Clear slot) known = known
   touch_there (i.Print text values) known = print_there text values (ints_on values s) refl known
-  touch_there (i.Atomic o side place) known = on_int_there (int_at 0 s) (λ a. writes place 0 (updated 1 o side a)) (λ a. known)
-  touch_there (i.AtomicElement o side place) known = on_ints_there (int_at 1 s) (int_at 0 s) (λ n a. at_index (index_in (cells_in raw slots place) n) (λ k. writes place k (updated 2 o side a))) (λ n a. at_index_there (index_in (cells_in raw slots place) n) (λ k. writes place k (updated 2 o side a)) (λ k. known))
+  touch_there (i.Atomic o side place) known = on_int_there (int_at 0 s) (λ a. writes place 0 (updated 1 o side a))
+      (λ a. known)
+  touch_there (i.AtomicElement o side place) known = on_ints_there (int_at 1 s) (int_at 0 s)
+      (λ n a. at_index (index_in (cells_in raw slots place) n) (λ k. writes place k (updated 2 o side a)))
+      (λ n a. at_index_there (index_in (cells_in raw slots place) n) (λ k. writes place k (updated 2 o side a))
+      (λ k. known))
   touch_there i.Return known = on_int_there (int_at 0 s) (λ a. decided (Returns (operand.Int a))) (λ a. tt)
   touch_there (i.Finish true) known = on_int_there (int_at 0 s) (λ a. decided (Finishes a)) (λ a. tt)
   touch_there (i.Finish false) known = tt

@@ -1,5 +1,6 @@
 -- What valid code says of one body and of one instruction.
-use Rattle.std.proofs.Common.{◌≡◌, ℕ, get_or, ◌<◌, List, length, Option, Some, None, slice_get, subst, option_and_then, unwrap_or, option_map, [], sym, refl, ◌∙◌}
+use Rattle.std.proofs.Common.{◌≡◌, ℕ, get_or, ◌<◌, List, length, Option, Some, None, slice_get, subst, option_and_then}
+use Rattle.std.proofs.Common.{unwrap_or, option_map, [], sym, refl, ◌∙◌}
 use Rattle.std.specs.Prelude.{All}
 use Rattle.std.proofs.lemmas.Option.{slice_get-get_or, slice_get_within}
 use Rattle.om_code.specs.declared.raw.Body.{Body}
@@ -17,17 +18,24 @@ of_all P xs k x all is =
     subst P e (all k x lt)
 
 -- a body of valid code is valid
-pub body_valid : (raw : Raw) (number : ℕ) (body : Body) → IsValid raw → slice_get raw.bodies number ≡ Some body → IsValidBody raw body
+pub body_valid : (raw : Raw) (number : ℕ) (body : Body) → IsValid raw → slice_get raw.bodies number ≡ Some body
+    → IsValidBody raw body
 body_valid raw number body valid is = of_all (λ b. IsValidBody raw b) raw.bodies number body valid.bodies is
 
 -- what an instruction of valid code names exists
-pub names_known : (raw : Raw) (body : Body) (at : ℕ) (line : Line) → IsValidBody raw body → slice_get body.code at ≡ Some line → NamesKnown raw body.slots line.instruction
-names_known raw body at line valid is = of_all (λ l. NamesKnown raw body.slots l.instruction) body.code at line valid.known.names is
+pub names_known : (raw : Raw) (body : Body) (at : ℕ) (line : Line) → IsValidBody raw body → slice_get body.code at
+    ≡ Some line → NamesKnown raw body.slots line.instruction
+names_known raw body at line valid is = of_all (λ l. NamesKnown raw body.slots l.instruction) body.code at line
+    valid.known.names is
 
 -- what the instruction at a place names exists
-pub known_at : (raw : Raw) (number at : ℕ) (line : Line) → IsValid raw → at_place raw number at ≡ Some line → NamesKnown raw (slots_of raw number) line.instruction
-known_at raw number at line valid is = in_body (slice_get raw.bodies number) (λ body e. body_valid raw number body valid e) is
+pub known_at : (raw : Raw) (number at : ℕ) (line : Line) → IsValid raw → at_place raw number at ≡ Some line
+    → NamesKnown raw (slots_of raw number) line.instruction
+known_at raw number at line valid is = in_body (slice_get raw.bodies number) (λ body e. body_valid raw number body
+    valid e) is
   where
-    in_body : (found : Option Body) → ((body : Body) → found ≡ Some body → IsValidBody raw body) → option_and_then (λ b. slice_get b.code at) found ≡ Some line → NamesKnown raw (unwrap_or (option_map (λ b. b.slots) found) []) line.instruction
+    in_body : (found : Option Body) → ((body : Body) → found ≡ Some body → IsValidBody raw body) → option_and_then
+        (λ b. slice_get b.code at) found ≡ Some line → NamesKnown raw (unwrap_or (option_map (λ b. b.slots) found)
+        []) line.instruction
     in_body None valid' e = cc
     in_body (Some body) valid' e = names_known raw body at line (valid' body refl) e

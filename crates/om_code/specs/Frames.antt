@@ -1,5 +1,7 @@
 -- The frame machine: what each serial instruction touches, and what it makes of its frame.
-use Rattle.std.specs.Prelude.{◌≡◌, ◌≤◌, ◌<◌, IsSome, ℕ, ◌+◌, ℤ, pos, negsuc, Bool, true, false, ◌&&◌, nat_lt, nat_eq, Option, Some, None, option_map, unwrap_or, Result, Ok, Err, List, [], ◌∷◌, ◌++◌, drop, length, slice_get, option_to_list, Contains, if◌then◌else◌}
+use Rattle.std.specs.Prelude.{◌≡◌, ◌≤◌, ◌<◌, IsSome, ℕ, ◌+◌, ℤ, pos, negsuc, Bool, true, false, ◌&&◌, nat_lt, nat_eq}
+use Rattle.std.specs.Prelude.{Option, Some, None, option_map, unwrap_or, Result, Ok, Err, List, [], ◌∷◌, ◌++◌, drop}
+use Rattle.std.specs.Prelude.{length, slice_get, option_to_list, Contains, if◌then◌else◌}
 use Rattle.std.specs.Ordering.{int_eq}
 use Rattle.om_code.specs.declared.instruction.Instr.{Instr}
 use Rattle.om_code.specs.declared.instruction.Instr.TheVariants as i
@@ -228,7 +230,8 @@ pub record Frame : Type 0 where
   pub globals : ℕ → ℕ → Cell
   pub output : List ℕ
 
--- what an instruction leaves: the frame that goes on, or the last one and why it ended; stuck is valid code that lacks something
+-- what an instruction leaves: the frame that goes on, or the last one and why it ended; stuck is valid code
+-- that lacks something
 pub data FrameTurn : Type 0 where
   Onward : (frame : Frame) → FrameTurn
   Returned : (value : Operand) (frame : Frame) → FrameTurn

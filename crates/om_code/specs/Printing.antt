@@ -1,5 +1,6 @@
 -- What PRINT writes.
-use Rattle.std.specs.Prelude.{ℕ, ℤ, List, [], ◌∷◌, ◌++◌, Option, Some, None, option_map, length, take, reverse, nat_le, if◌then◌else◌}
+use Rattle.std.specs.Prelude.{ℕ, ℤ, List, [], ◌∷◌, ◌++◌, Option, Some, None, option_map, length, take, reverse, nat_le}
+use Rattle.std.specs.Prelude.{if◌then◌else◌}
 use Rattle.std.specs.Fmt.{signed_decimal}
 use Rattle.om_code.specs.declared.raw.Piece.{Piece}
 use Rattle.om_code.specs.declared.raw.Piece.TheVariants.{Bytes, Value}

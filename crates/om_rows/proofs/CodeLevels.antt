@@ -1,5 +1,6 @@
 -- The code of a tree keeps to its bodies and its levels.
-use Rattle.std.proofs.Common.{◌≡◌, ℕ, zero, suc, ◌+◌, ◌<◌, ◌≤◌, Bool, true, false, List, [], ◌∷◌, ◌++◌, length, Some, refl, sym, ap, ◌∙◌, subst, ⊎_elim, arith, length-append}
+use Rattle.std.proofs.Common.{◌≡◌, ℕ, zero, suc, ◌+◌, ◌<◌, ◌≤◌, Bool, true, false, List, [], ◌∷◌, ◌++◌, length, Some}
+use Rattle.std.proofs.Common.{refl, sym, ap, ◌∙◌, subst, ⊎_elim, arith, length-append}
 use Rattle.std.specs.Prelude.{slice_get, Contains, All}
 use Rattle.std.specs.List.{AllZip}
 use Rattle.std.proofs.lemmas.Bool.{cases_lt}
@@ -13,19 +14,28 @@ use Rattle.om_code.specs.declared.raw.Raw.{Raw}
 use Rattle.om_code.specs.Validity.{HasOneHeight}
 use Rattle.om_code.specs.Ways.{pops, pushes, successors, Way, starts, follows}
 use Rattle.om_resolved.specs.declared.resolved.ConstructKind.TheVariants as constructs
-use Rattle.om_resolved.specs.ResolvedTree.{ResolvedStatementTree, Declaration, Block, Empty, Expression, If, IfElse, While, Do, For, Return, Break, Continue, Parallel, Task, Loop, Sections, Construct, Update, StandAlone, ResolvedStatementsTree, NoStatements, Statement, ResolvedPartsTree, NoParts, Part, ResolvedFunctionTree, ResolvedTree}
-use Rattle.om_rows.specs.Bodies.{Numbers, next_pick, behind, behind_all, BodyTree, BodySite, FunctionBody, ParallelBody, TaskBody, bodies_of}
+use Rattle.om_resolved.specs.ResolvedTree.{ResolvedStatementTree, Declaration, Block, Empty, Expression, If, IfElse}
+use Rattle.om_resolved.specs.ResolvedTree.{While, Do, For, Return, Break, Continue, Parallel, Task, Loop, Sections}
+use Rattle.om_resolved.specs.ResolvedTree.{Construct, Update, StandAlone, ResolvedStatementsTree, NoStatements}
+use Rattle.om_resolved.specs.ResolvedTree.{Statement, ResolvedPartsTree, NoParts, Part, ResolvedFunctionTree}
+use Rattle.om_resolved.specs.ResolvedTree.{ResolvedTree}
+use Rattle.om_rows.specs.Bodies.{Numbers, next_pick, behind, behind_all, BodyTree, BodySite, FunctionBody, ParallelBody}
+use Rattle.om_rows.specs.Bodies.{TaskBody, bodies_of}
 use Rattle.om_rows.specs.Code.{body_row, last_instruction, site_of, IsBodyOf}
 use Rattle.om_rows.specs.Expressions.{effect}
 use Rattle.om_rows.specs.Laws.{CodeIsLevel, IsLevel}
 use Rattle.om_rows.specs.Operators.{comparison_of}
 use Rattle.om_rows.specs.Rows.{Site, Row, ins, part, here, ◌▸◌}
-use Rattle.om_rows.specs.Statements.{Jumps, nowhere, in_loop, in_iteration, test, clause_value, given_copies, loop_rest, with_place, no_place, statement, statements, parts}
-use Rattle.om_rows.proofs.Levels.{Levels, Each, HasAt, IsAt, IsFine, nothing, level_end, level_ins, level_next, level_either, level_jump, level_within, level_as, level_more, level_free, level_part, level_here, level_closed}
+use Rattle.om_rows.specs.Statements.{Jumps, nowhere, in_loop, in_iteration, test, clause_value, given_copies, loop_rest}
+use Rattle.om_rows.specs.Statements.{with_place, no_place, statement, statements, parts}
+use Rattle.om_rows.proofs.Levels.{Levels, Each, HasAt, IsAt, IsFine, nothing, level_end, level_ins, level_next}
+use Rattle.om_rows.proofs.Levels.{level_either, level_jump, level_within, level_as, level_more, level_free, level_part}
+use Rattle.om_rows.proofs.Levels.{level_here, level_closed}
 use Rattle.om_rows.proofs.StatementLevels as heads
 
 -- PICK goes to one of its places
-level_pick : {picks : List (List ℕ)} {code : List Line} {N G : List ℕ → Type 0} {R : Type 0} {p q h out l list : ℕ} (places : List ℕ)
+level_pick : {picks : List (List ℕ)} {code : List Line} {N G : List ℕ → Type 0} {R : Type 0} {p q h out l list : ℕ}
+    (places : List ℕ)
     → (slice_get code p ≡ Some (record { instruction = i.Pick list; line = l })) × R
     → slice_get picks list ≡ Some places
     → ((hs : List ℕ) → N hs → Each (λ to. IsAt hs to h) places)
@@ -33,7 +43,8 @@ level_pick : {picks : List (List ℕ)} {code : List Line} {N G : List ℕ → Ty
 level_pick {picks} {code} {N} {G} {R} {p} {q} {h} {out} {l} {list} places r is need k =
     let same : h ≡ h + 0 = omega arith in
     level_ins {next = h} h r (omega arith)
-    (λ hs n e. subst (λ z. Each (λ to. IsAt hs to (h + 0)) z) (sym (get_or_from_slice_get picks list places [] is)) (subst (λ z. Each (λ to. IsAt hs to z) places) same (need hs n)))
+    (λ hs n e. subst (λ z. Each (λ to. IsAt hs to (h + 0)) z) (sym (get_or_from_slice_get picks list places [] is))
+    (subst (λ z. Each (λ to. IsAt hs to z) places) same (need hs n)))
     k
 
 module _ (at : Site) where
@@ -53,12 +64,14 @@ module _ (at : Site) where
   no_place_levels grab (x ∷ xs) h p q r = absurd r
 
   with_place_levels : {N : ℕ → List ℕ → Type 0} (places : List ℕ) (row : ℕ → List ℕ → Row)
-      → ((x : ℕ) (xs : List ℕ) → heads.Steady at N (Begin (x ∷ xs)) (row x xs)) → heads.Steady at N (Begin places) (with_place places row)
+      → ((x : ℕ) (xs : List ℕ) → heads.Steady at N (Begin (x ∷ xs)) (row x xs)) → heads.Steady at N (Begin places)
+      (with_place places row)
   with_place_levels [] row f h p q r = absurd r
   with_place_levels (x ∷ xs) row f h p q r = f x xs h p q r
 
   mutual
-    pub statement_levels : (s : ResolvedStatementTree) (n : Numbers) (j : Jumps) → heads.Steady at (Room j) (heads.none at) (statement at n s j)
+    pub statement_levels : (s : ResolvedStatementTree) (n : Numbers) (j : Jumps) → heads.Steady at (Room j)
+        (heads.none at) (statement at n s j)
     statement_levels (Declaration first ds) n j h p q r = level_free (heads.declarators_levels at first.line ds h p q r)
     statement_levels (Block first items) n j h p q r = statements_levels items n j h p q r
     statement_levels (Empty first) n j h p q r = level_end r
@@ -99,23 +112,31 @@ module _ (at : Site) where
         level_closed {L = λ hs. IsAt hs r.0 h × IsAt hs r.1 h × IsAt hs r.2 h}
         (level_part r.3 (heads.start_levels at first.line begin h p) (λ m u.
         level_here u (λ u.
-        level_within u (λ hs k. k.1.2) (heads.perhaps_levels at {N = Label r.2} (test at first.line r.2) c (heads.test_levels at first.line r.2) h m) (λ m u.
+        level_within u (λ hs k. k.1.2) (heads.perhaps_levels at {N = Label r.2} (test at first.line r.2) c
+        (heads.test_levels at first.line r.2) h m) (λ m u.
         level_within u (λ hs k. (k.1.2, k.1.1)) (statement_levels s n (in_loop r.2 r.1) h m) (λ m u.
         level_here u (λ u.
-        level_part u (heads.perhaps_levels at {N = heads.none at} (effect at first.line) step (heads.effects at first.line) h m) (λ m u.
+        level_part u (heads.perhaps_levels at {N = heads.none at} (effect at first.line) step
+        (heads.effects at first.line) h m) (λ m u.
         level_jump {next = h} u refl (omega arith) (omega arith) (λ hs k. k.1.0) (λ u. level_here u level_end))))))))
         (λ hs g. (g.0, g.1.1.1.0, g.1.1.1.1.0)) (λ hs g. tt)
-    statement_levels (Return first e) n j h p q r = level_free (heads.returned_levels at first.line at.is_main e h p q r)
-    statement_levels (Break first) n j h p q r = level_more (heads.jump_levels at first.line j.over h p q r) (λ hs k. k.0)
-    statement_levels (Continue first) n j h p q r = level_more (heads.jump_levels at first.line j.next h p q r) (λ hs k. k.1)
+    statement_levels (Return first e) n j h p q r = level_free (heads.returned_levels at first.line at.is_main e h p
+        q r)
+    statement_levels (Break first) n j h p q r = level_more (heads.jump_levels at first.line j.over h p q r)
+        (λ hs k. k.0)
+    statement_levels (Continue first) n j h p q r = level_more (heads.jump_levels at first.line j.next h p q r)
+        (λ hs k. k.1)
     statement_levels (Parallel first clauses captures s) n j h p q r =
-        level_free (heads.parallel_levels at first.line n.bodies (clause_value clauses) (given_copies clauses captures s) h p q r)
+        level_free (heads.parallel_levels at first.line n.bodies (clause_value clauses)
+        (given_copies clauses captures s) h p q r)
     statement_levels (Task first clauses captures s) n j h p q r =
         level_free (heads.task_levels at first.line n.bodies (given_copies clauses captures s) h p q r)
     statement_levels (Loop first clauses nowait loop s) n j h p q r =
         level_free
-        (heads.given_levels at {N = heads.none at} {G = heads.none at} (loop_rest at first.line clauses nowait loop (λ next. statement at n s (in_iteration next))) (comparison_of loop.comparison)
-        (λ comparison. heads.loop_levels at first.line clauses nowait loop (λ next. statement at n s (in_iteration next)) comparison
+        (heads.given_levels at {N = heads.none at} {G = heads.none at} (loop_rest at first.line clauses nowait loop
+        (λ next. statement at n s (in_iteration next))) (comparison_of loop.comparison)
+        (λ comparison. heads.loop_levels at first.line clauses nowait loop
+        (λ next. statement at n s (in_iteration next)) comparison
         (λ next h p q r. level_more (statement_levels s n (in_iteration next) h p q r) (λ hs k. (tt, k))))
         h p q r)
     statement_levels (Sections first clauses nowait sections) n j h p q r =
@@ -125,39 +146,50 @@ module _ (at : Site) where
         level_here u (λ u.
         level_either {next = h} h u refl (omega arith) (omega arith) (λ hs k. k.1.1) (λ u.
         level_pick r.0 u r.3 (λ hs k. k.1.2) (λ u.
-        level_within u (λ hs k. k.1.0) (parts_levels sections (next_pick n) first.line r.1 r.0 h (m + 1 + 1 + 1)) (λ m u.
+        level_within u (λ hs k. k.1.0) (parts_levels sections (next_pick n) first.line r.1 r.0 h (m + 1 + 1 + 1))
+        (λ m u.
         level_here u (λ u.
         level_part u (heads.reductions_levels at first.line clauses h m) (λ m u.
         level_free (heads.end_levels at first.line nowait h m q u))))))))))
         (λ hs g. (g.0, g.1.1.0, g.1.0)) (λ hs g. tt)
     statement_levels (Construct first (constructs.Single nowait) clauses s) n j h p q r =
-        level_free (heads.single_levels at first.line nowait clauses (statement at n s nowhere) (λ h p q r. level_more (statement_levels s n nowhere h p q r) (λ hs k. (tt, tt))) h p q r)
+        level_free (heads.single_levels at first.line nowait clauses (statement at n s nowhere)
+        (λ h p q r. level_more (statement_levels s n nowhere h p q r) (λ hs k. (tt, tt))) h p q r)
     statement_levels (Construct first constructs.Masked clauses s) n j h p q r =
-        level_free (heads.masked_levels at first.line clauses (statement at n s nowhere) (λ h p q r. level_more (statement_levels s n nowhere h p q r) (λ hs k. (tt, tt))) h p q r)
+        level_free (heads.masked_levels at first.line clauses (statement at n s nowhere)
+        (λ h p q r. level_more (statement_levels s n nowhere h p q r) (λ hs k. (tt, tt))) h p q r)
     statement_levels (Construct first (constructs.Critical name) clauses s) n j h p q r =
-        level_free (heads.critical_levels at first.line name (statement at n s nowhere) (λ h p q r. level_more (statement_levels s n nowhere h p q r) (λ hs k. (tt, tt))) h p q r)
-    statement_levels (Construct first constructs.Atomic clauses s) n j h p q r = level_free (heads.assignment_levels at first.line s h p q r)
+        level_free (heads.critical_levels at first.line name (statement at n s nowhere)
+        (λ h p q r. level_more (statement_levels s n nowhere h p q r) (λ hs k. (tt, tt))) h p q r)
+    statement_levels (Construct first constructs.Atomic clauses s) n j h p q r = level_free
+        (heads.assignment_levels at first.line s h p q r)
     statement_levels (Construct first constructs.Taskgroup clauses s) n j h p q r =
-        level_free (heads.group_levels at first.line (statement at n s nowhere) (λ h p q r. level_more (statement_levels s n nowhere h p q r) (λ hs k. (tt, tt))) h p q r)
+        level_free (heads.group_levels at first.line (statement at n s nowhere)
+        (λ h p q r. level_more (statement_levels s n nowhere h p q r) (λ hs k. (tt, tt))) h p q r)
     statement_levels (Update first u) n j h p q r = level_free (heads.update_levels at first.line u h p q r)
-    statement_levels (StandAlone first directive) n j h p q r = level_free (heads.alone_levels at first.line directive h p q r)
+    statement_levels (StandAlone first directive) n j h p q r = level_free
+        (heads.alone_levels at first.line directive h p q r)
 
-    pub statements_levels : (items : ResolvedStatementsTree) (n : Numbers) (j : Jumps) → heads.Steady at (Room j) (heads.none at) (statements at n items j)
+    pub statements_levels : (items : ResolvedStatementsTree) (n : Numbers) (j : Jumps) → heads.Steady at (Room j)
+        (heads.none at) (statements at n items j)
     statements_levels NoStatements n j h p q r = level_end r
     statements_levels (Statement s rest) n j h p q r =
-        level_as (level_within r (λ hs k. k) (statement_levels s n j h p) (λ m r. statements_levels rest (behind n s) j h m q r)) (λ hs g. tt)
+        level_as (level_within r (λ hs k. k) (statement_levels s n j h p)
+        (λ m r. statements_levels rest (behind n s) j h m q r)) (λ hs g. tt)
 
     pub parts_levels : (sections : ResolvedPartsTree) (n : Numbers) (l grab : ℕ) (places : List ℕ)
         → heads.Steady at (Label grab) (Begin places) (parts at n l grab sections places)
     parts_levels NoParts n l grab places h p q r = no_place_levels grab places h p q r
     parts_levels (Part items rest) n l grab places h p q r =
         with_place_levels places
-        (λ x xs. here x ▸ part (statements at n items nowhere) ▸ ins at l (i.Jump grab) ▸ parts at (behind_all n items) l grab rest xs)
+        (λ x xs. here x ▸ part (statements at n items nowhere) ▸ ins at l (i.Jump grab) ▸ parts at
+        (behind_all n items) l grab rest xs)
         (λ x xs h p q r.
         level_as
         (level_here r (λ r.
         level_within r (λ hs k. (tt, tt)) (statements_levels items n nowhere h p) (λ m r.
-        level_jump {next = h} r refl (omega arith) (omega arith) (λ hs k. k) (λ r. parts_levels rest (behind_all n items) l grab xs h (m + 1) q r))))
+        level_jump {next = h} r refl (omega arith) (omega arith) (λ hs k. k)
+        (λ r. parts_levels rest (behind_all n items) l grab xs h (m + 1) q r))))
         (λ hs g. (g.0, g.1.1)))
         h p q r
 
@@ -189,32 +221,43 @@ module _ (picks : List (List ℕ)) (code : List Line) (known : HasHeights picks 
   way_known _ _ (follows at height rest to line way is enough next) =
       let f : IsFineAt at height line = known.fine at line height is (way_known at height way) in
       let same : f.rest + pushes line.instruction ≡ rest + pushes line.instruction = omega (arith, f.enough, enough) in
-      each_contains (λ z. IsAt known.hs z (f.rest + pushes line.instruction)) (successors picks at line.instruction) to f.leads next ∙ ap Some same
+      each_contains (λ z. IsAt known.hs z (f.rest + pushes line.instruction)) (successors picks at line.instruction)
+      to f.leads next ∙ ap Some same
 
   one_height : HasOneHeight picks code
   one_height = record {
     enough = λ at height line way is.
-        let f : IsFineAt at height line = known.fine at line height is (way_known at height way) in omega (arith, f.enough);
+        let f : IsFineAt at height line = known.fine at line height is (way_known at height way) in omega
+        (arith, f.enough);
     one = λ at height other way more.
         let same : Some height ≡ Some other = sym (way_known at height way) ∙ way_known at other more in cc same;
   }
 
-  goes_on : (at to : ℕ) (line : Line) → slice_get code at ≡ Some line → Contains (successors picks at line.instruction) to → to < length code
+  goes_on : (at to : ℕ) (line : Line) → slice_get code at ≡ Some line
+      → Contains (successors picks at line.instruction) to → to < length code
   goes_on at to line is next =
       let x = there known.hs at (omega (arith, slice_get_within code at line is, known.long)) in
       let f : IsFineAt at x.0 line = known.fine at line x.0 is x.1 in
-      let e = each_contains (λ z. IsAt known.hs z (f.rest + pushes line.instruction)) (successors picks at line.instruction) to f.leads next in
+      let e = each_contains (λ z. IsAt known.hs z (f.rest + pushes line.instruction))
+      (successors picks at line.instruction) to f.leads next in
       omega (arith, slice_get_within known.hs to (f.rest + pushes line.instruction) e, known.long)
 
   is_level : IsLevel picks code
   is_level = record {
     one_height = one_height;
-    inside = λ small. record { begins = omega (arith, slice_get_within known.hs 0 0 known.begins, known.long); goes_on = goes_on; numbered = small };
+    inside = λ small. record {
+      begins = omega (arith, slice_get_within known.hs 0 0 known.begins, known.long);
+      goes_on = goes_on;
+      numbered = small;
+    };
   }
 
 has_shift : (hs xs : List ℕ) (p y : ℕ) → HasAt hs p xs → HasAt (y ∷ hs) (p + 1) xs
 has_shift hs [] p y h = tt
-has_shift hs (x ∷ xs) p y h = let e : p + 1 ≡ suc p = omega arith in (ap (λ z. slice_get (y ∷ hs) z) e ∙ h.0, has_shift hs xs (p + 1) y h.1)
+has_shift hs (x ∷ xs) p y h = let e : p + 1 ≡ suc p = omega arith in (
+  ap (λ z. slice_get (y ∷ hs) z) e ∙ h.0,
+  has_shift hs xs (p + 1) y h.1,
+)
 
 has_self : (xs ys : List ℕ) → HasAt (xs ++ ys) 0 xs
 has_self [] ys = tt
@@ -226,7 +269,8 @@ last_at (x ∷ xs) y = last_at xs y
 
 -- heights up to the last instruction, which goes nowhere and needs nothing
 finished : (picks : List (List ℕ)) (code : List Line) (m l : ℕ) (last : Instr)
-    → Levels picks code nothing nothing 0 m 0 0 → slice_get code m ≡ Some (record { instruction = last; line = l }) → m + 1 ≡ length code
+    → Levels picks code nothing nothing 0 m 0 0 → slice_get code m ≡ Some (record { instruction = last; line = l })
+    → m + 1 ≡ length code
     → pops last ≡ 0 → successors picks m last ≡ [] → IsLevel picks code
 finished picks code m l last a is end enough ways =
     let hs : List ℕ = a.piece ++ 0 ∷ [] in
@@ -242,18 +286,30 @@ finished picks code m l last a is end enough ways =
           (λ (below : k < m). a.fine hs piece at_last tt k (omega arith) below line x line_is at)
           (λ (behind : m ≤ k).
           let here : k ≡ m = omega (arith, behind, end, slice_get_within code k line line_is) in
-          let same : record { instruction = last; line = l } ≡ line = cc (is, ap (λ z. slice_get code z) here, line_is) in
+          let same : record { instruction = last; line = l } ≡ line = cc (
+            is,
+            ap (λ z. slice_get code z) here,
+            line_is,
+          ) in
           let zero_is : 0 ≡ x = cc (at_last, ap (λ z. slice_get hs z) here, at) in
           let f : IsFine picks hs m 0 (record { instruction = last; line = l }) =
-          record { rest = 0; enough = omega (arith, enough); leads = subst (λ z. Each (λ to. IsAt hs to (0 + pushes last)) z) (sym ways) tt } in
-          subst (λ (z : ℕ). IsFine picks hs z x line) (sym here) (subst (λ (z : ℕ). IsFine picks hs m z line) zero_is (subst (λ (z : Line). IsFine picks hs m 0 z) same f)))
+          record {
+            rest = 0;
+            enough = omega (arith, enough);
+            leads = subst
+                (λ z. Each (λ to. IsAt hs to (0 + pushes last)) z) (sym ways) tt;
+          } in
+          subst (λ (z : ℕ). IsFine picks hs z x line) (sym here) (subst (λ (z : ℕ). IsFine picks hs m z line)
+          zero_is (subst (λ (z : Line). IsFine picks hs m 0 z) same f)))
           (cases_lt k m);
     })
 
 level_join : {picks : List (List ℕ)} {code : List Line} {p m q h mid out : ℕ}
-    → Levels picks code nothing nothing p m h mid → Levels picks code nothing nothing m q mid out → Levels picks code nothing nothing p q h out
+    → Levels picks code nothing nothing p m h mid → Levels picks code nothing nothing m q mid out
+    → Levels picks code nothing nothing p q h out
 level_join {picks} {code} {p} {m} {q} {h} {mid} {out} a b =
-    level_part {A = λ z. Levels picks code nothing nothing p z h mid} {R = λ z. Levels picks code nothing nothing z q mid out} (m, a, b) (λ m x. x) (λ m x. x)
+    level_part {A = λ z. Levels picks code nothing nothing p z h mid} {R = λ z. Levels picks code nothing nothing z
+    q mid out} (m, a, b) (λ m x. x) (λ m x. x)
 
 last_pops : (is_main : Bool) → pops (last_instruction is_main) ≡ 0
 last_pops true = refl
@@ -263,7 +319,8 @@ last_ways : (picks : List (List ℕ)) (m : ℕ) (is_main : Bool) → successors 
 last_ways picks m true = refl
 last_ways picks m false = refl
 
-pub body_levels : (at : Site) (n : Numbers) (f : ResolvedFunctionTree) (tree : BodyTree) → body_row at n f tree 0 (length at.code) → IsLevel at.picks at.code
+pub body_levels : (at : Site) (n : Numbers) (f : ResolvedFunctionTree) (tree : BodyTree) → body_row at n f tree 0
+    (length at.code) → IsLevel at.picks at.code
 body_levels at n f FunctionBody r =
     finished at.picks at.code r.0 f.closing_line (last_instruction at.is_main)
     (level_more (statements_levels at f.body n nowhere 0 0 r.0 r.1) (λ hs k. (tt, tt)))
@@ -283,7 +340,8 @@ body_levels at n f (TaskBody first clauses captures s) r =
     r.2.0 r.2.1 refl refl
 
 module _ (tree : ResolvedTree) (raw : Raw) where
-  bodies_levels : (bs : List BodySite) (xs : List Body) → AllZip (IsBodyOf tree raw) bs xs → All (λ body. IsLevel raw.picks body.code) xs
+  bodies_levels : (bs : List BodySite) (xs : List Body) → AllZip (IsBodyOf tree raw) bs xs
+      → All (λ body. IsLevel raw.picks body.code) xs
   bodies_levels [] [] a = λ k d lt. absurd (omega (arith, lt))
   bodies_levels [] (x ∷ xs) a = absurd a
   bodies_levels (b ∷ bs) [] a = absurd a

@@ -12,13 +12,20 @@ use Rattle.om_resolved.specs.declared.resolved.LocalVariable.{LocalVariable}
 use Rattle.om_resolved.specs.declared.resolved.StandAlone as alone
 use Rattle.om_resolved.specs.declared.resolved.StandAlone.TheVariants as alones
 use Rattle.om_resolved.specs.declared.resolved.Variable as variables
-use Rattle.om_resolved.specs.ResolvedTree.{ResolvedExpressionTree, ResolvedDeclaratorTree, ResolvedClauseTree, ClauseValue, Shared, Copied, ResolvedLoopTree, ResolvedUpdateTree, ResolvedStartTree, StartNothing, StartExpression, StartDeclaration}
+use Rattle.om_resolved.specs.ResolvedTree.{ResolvedExpressionTree, ResolvedDeclaratorTree, ResolvedClauseTree}
+use Rattle.om_resolved.specs.ResolvedTree.{ClauseValue, Shared, Copied, ResolvedLoopTree, ResolvedUpdateTree}
+use Rattle.om_resolved.specs.ResolvedTree.{ResolvedStartTree, StartNothing, StartExpression, StartDeclaration}
 use Rattle.om_rows.specs.Expressions.{value, effect}
 use Rattle.om_rows.specs.Operators.{side_of, update_of}
 use Rattle.om_rows.specs.Rows.{Site, Row, given, perhaps, each, unless}
 use Rattle.om_rows.specs.Slots.{FirstCopy, slot}
-use Rattle.om_rows.specs.Statements.{jump, declared, declarator, start, test, returned, copy_start, clause_start, starts, reduction_start, clause_reduction_start, reduction_starts, combined, clause_combined, reductions, clause_value, load_original, barrier, worksharing_end, alone_row, filter_row, single_row, masked_row, critical_row, updated, update_row, group_row, loop_rest, parallel_row, task_row}
-use Rattle.om_rows.proofs.Twins.{Alike, twin_end, twin_jump, twin_next, twin_within, twin_as, twin_more, twin_part, twin_here, twin_closed}
+use Rattle.om_rows.specs.Statements.{jump, declared, declarator, start, test, returned, copy_start, clause_start}
+use Rattle.om_rows.specs.Statements.{starts, reduction_start, clause_reduction_start, reduction_starts, combined}
+use Rattle.om_rows.specs.Statements.{clause_combined, reductions, clause_value, load_original, barrier, worksharing_end}
+use Rattle.om_rows.specs.Statements.{alone_row, filter_row, single_row, masked_row, critical_row, updated, update_row}
+use Rattle.om_rows.specs.Statements.{group_row, loop_rest, parallel_row, task_row}
+use Rattle.om_rows.proofs.Twins.{Alike, twin_end, twin_jump, twin_next, twin_within, twin_as, twin_more, twin_part}
+use Rattle.om_rows.proofs.Twins.{twin_here, twin_closed}
 use Rattle.om_rows.proofs.ExpressionTwins as expressions
 use Rattle.om_rows.proofs.ExpressionTwins.{with_code}
 
@@ -43,15 +50,19 @@ module _ (base : Site) (code code' : List Line) (picks picks' : List (List ℕ))
 
   -- ---- rows of several
 
-  pub each_twin : {A : Type 0} (row row' : A → Row) (xs : List A) → ((x : A) → Twin (row x) (row' x)) → Twin (each row xs) (each row' xs)
+  pub each_twin : {A : Type 0} (row row' : A → Row) (xs : List A) → ((x : A) → Twin (row x) (row' x))
+      → Twin (each row xs) (each row' xs)
   each_twin row row' [] h p p' q q' r t = twin_end r t
-  each_twin row row' (x ∷ xs) h p p' q q' r t = twin_part r t (h x p p') (λ m m' r t. each_twin row row' xs h m m' q q' r t)
+  each_twin row row' (x ∷ xs) h p p' q q' r t = twin_part r t (h x p p') (λ m m' r t. each_twin row row' xs h m m' q
+      q' r t)
 
-  pub perhaps_twin : {A N : Type 0} (row row' : A → Row) (x : Option A) → ((y : A) → Twins N (Unit {0}) (row y) (row' y)) → Twins N (Unit {0}) (perhaps row x) (perhaps row' x)
+  pub perhaps_twin : {A N : Type 0} (row row' : A → Row) (x : Option A)
+      → ((y : A) → Twins N (Unit {0}) (row y) (row' y)) → Twins N (Unit {0}) (perhaps row x) (perhaps row' x)
   perhaps_twin row row' None h p p' q q' r t = twin_end r t
   perhaps_twin row row' (Some x) h p p' q q' r t = h x p p' q q' r t
 
-  pub given_twin : {A N G : Type 0} (row row' : A → Row) (x : Option A) → ((y : A) → Twins N G (row y) (row' y)) → Twins N G (given x row) (given x row')
+  pub given_twin : {A N G : Type 0} (row row' : A → Row) (x : Option A) → ((y : A) → Twins N G (row y) (row' y))
+      → Twins N G (given x row) (given x row')
   given_twin row row' None h p p' q q' r t = absurd r
   given_twin row row' (Some x) h p p' q q' r t = h x p p' q q' r t
 
@@ -61,11 +72,13 @@ module _ (base : Site) (code code' : List Line) (picks picks' : List (List ℕ))
 
   -- ---- heads, clauses and ends
 
-  pub declared_twin : (l : ℕ) (x : LocalVariable) (e : Option ResolvedExpressionTree) → Twin (declared c l x e) (declared d l x e)
+  pub declared_twin : (l : ℕ) (x : LocalVariable) (e : Option ResolvedExpressionTree) → Twin (declared c l x e)
+      (declared d l x e)
   declared_twin l x None p p' q q' r t = twin_next r t twin_end
   declared_twin l x (Some e) p p' q q' r t = twin_part r t (value_twin l e p p') (λ m m' r t. twin_next r t twin_end)
 
-  pub declarators_twin : (l : ℕ) (ds : List ResolvedDeclaratorTree) → Twin (each (declarator c l) ds) (each (declarator d l) ds)
+  pub declarators_twin : (l : ℕ) (ds : List ResolvedDeclaratorTree) → Twin (each (declarator c l) ds)
+      (each (declarator d l) ds)
   declarators_twin l ds = each_twin (declarator c l) (declarator d l) ds (λ x. declared_twin l x.variable x.initial)
 
   pub start_twin : (l : ℕ) (s : ResolvedStartTree) → Twin (start c l s) (start d l s)
@@ -74,25 +87,30 @@ module _ (base : Site) (code code' : List Line) (picks picks' : List (List ℕ))
   start_twin l (StartDeclaration ds) p p' q q' r t = declarators_twin l ds p p' q q' r t
 
   pub test_twin : (l f f' : ℕ) (e : ResolvedExpressionTree) → Twins (f ≡ f') (Unit {0}) (test c l f e) (test d l f' e)
-  test_twin l f f' e p p' q q' r t = twin_part r t (value_twin l e p p') (λ m m' r t. twin_jump r t (λ k. ap i.JumpIfZero k) twin_end)
+  test_twin l f f' e p p' q q' r t = twin_part r t (value_twin l e p p')
+      (λ m m' r t. twin_jump r t (λ k. ap i.JumpIfZero k) twin_end)
 
-  pub returned_twin : (l : ℕ) (is_main : Bool) (e : Option ResolvedExpressionTree) → Twin (returned c l is_main e) (returned d l is_main e)
+  pub returned_twin : (l : ℕ) (is_main : Bool) (e : Option ResolvedExpressionTree) → Twin (returned c l is_main e)
+      (returned d l is_main e)
   returned_twin l true None p p' q q' r t = twin_next r t twin_end
   returned_twin l true (Some e) p p' q q' r t = twin_part r t (value_twin l e p p') (λ m m' r t. twin_next r t twin_end)
   returned_twin l false None p p' q q' r t = twin_next r t twin_end
-  returned_twin l false (Some e) p p' q q' r t = twin_part r t (value_twin l e p p') (λ m m' r t. twin_next r t twin_end)
+  returned_twin l false (Some e) p p' q q' r t = twin_part r t (value_twin l e p p')
+      (λ m m' r t. twin_next r t twin_end)
 
   pub jump_twin : (l : ℕ) (to to' : Option ℕ) → Twins (to ≡ to') (Unit {0}) (given to (jump c l)) (given to' (jump d l))
   jump_twin l None to' p p' q q' r t = absurd r
   jump_twin l (Some f) None p p' q q' r t = absurd t
   jump_twin l (Some f) (Some f') p p' q q' r t = twin_jump r t (λ k. ap i.Jump (cc k)) twin_end
 
-  pub copy_start_twin : (l : ℕ) (kind : CopyKind) (x : variables.Variable) (copy : LocalVariable) → Twin (copy_start c l kind x copy) (copy_start d l kind x copy)
+  pub copy_start_twin : (l : ℕ) (kind : CopyKind) (x : variables.Variable) (copy : LocalVariable)
+      → Twin (copy_start c l kind x copy) (copy_start d l kind x copy)
   copy_start_twin l copies.Private x copy p p' q q' r t = twin_next r t twin_end
   copy_start_twin l copies.Firstprivate x copy p p' q q' r t = twin_next r t (λ r t. twin_next r t twin_end)
   copy_start_twin l (copies.Reduction o) x copy p p' q q' r t = twin_next r t (λ r t. twin_next r t twin_end)
 
-  pub clause_start_twin : (l : ℕ) (clause : ResolvedClauseTree) → Twin (clause_start c l clause) (clause_start d l clause)
+  pub clause_start_twin : (l : ℕ) (clause : ResolvedClauseTree) → Twin (clause_start c l clause)
+      (clause_start d l clause)
   clause_start_twin l (ClauseValue kind e) p p' q q' r t = twin_end r t
   clause_start_twin l (Shared x) p p' q q' r t = twin_end r t
   clause_start_twin l (Copied kind x copy) p p' q q' r t = copy_start_twin l kind x copy p p' q q' r t
@@ -100,30 +118,37 @@ module _ (base : Site) (code code' : List Line) (picks picks' : List (List ℕ))
   pub starts_twin : (l : ℕ) (clauses : List ResolvedClauseTree) → Twin (starts c l clauses) (starts d l clauses)
   starts_twin l clauses = each_twin (clause_start c l) (clause_start d l) clauses (clause_start_twin l)
 
-  pub reduction_start_twin : (l : ℕ) (kind : CopyKind) (x : variables.Variable) (copy : LocalVariable) → Twin (reduction_start c l kind x copy) (reduction_start d l kind x copy)
+  pub reduction_start_twin : (l : ℕ) (kind : CopyKind) (x : variables.Variable) (copy : LocalVariable)
+      → Twin (reduction_start c l kind x copy) (reduction_start d l kind x copy)
   reduction_start_twin l copies.Private x copy p p' q q' r t = twin_end r t
   reduction_start_twin l copies.Firstprivate x copy p p' q q' r t = twin_end r t
   reduction_start_twin l (copies.Reduction o) x copy p p' q q' r t = twin_next r t (λ r t. twin_next r t twin_end)
 
-  pub clause_reduction_start_twin : (l : ℕ) (clause : ResolvedClauseTree) → Twin (clause_reduction_start c l clause) (clause_reduction_start d l clause)
+  pub clause_reduction_start_twin : (l : ℕ) (clause : ResolvedClauseTree) → Twin (clause_reduction_start c l clause)
+      (clause_reduction_start d l clause)
   clause_reduction_start_twin l (ClauseValue kind e) p p' q q' r t = twin_end r t
   clause_reduction_start_twin l (Shared x) p p' q q' r t = twin_end r t
   clause_reduction_start_twin l (Copied kind x copy) p p' q q' r t = reduction_start_twin l kind x copy p p' q q' r t
 
-  pub reduction_starts_twin : (l : ℕ) (clauses : List ResolvedClauseTree) → Twin (reduction_starts c l clauses) (reduction_starts d l clauses)
-  reduction_starts_twin l clauses = each_twin (clause_reduction_start c l) (clause_reduction_start d l) clauses (clause_reduction_start_twin l)
+  pub reduction_starts_twin : (l : ℕ) (clauses : List ResolvedClauseTree) → Twin (reduction_starts c l clauses)
+      (reduction_starts d l clauses)
+  reduction_starts_twin l clauses = each_twin (clause_reduction_start c l) (clause_reduction_start d l) clauses
+      (clause_reduction_start_twin l)
 
-  pub combined_twin : (l : ℕ) (kind : CopyKind) (x : variables.Variable) (copy : LocalVariable) → Twin (combined c l kind x copy) (combined d l kind x copy)
+  pub combined_twin : (l : ℕ) (kind : CopyKind) (x : variables.Variable) (copy : LocalVariable)
+      → Twin (combined c l kind x copy) (combined d l kind x copy)
   combined_twin l copies.Private x copy p p' q q' r t = twin_end r t
   combined_twin l copies.Firstprivate x copy p p' q q' r t = twin_end r t
   combined_twin l (copies.Reduction o) x copy p p' q q' r t = twin_next r t twin_end
 
-  pub clause_combined_twin : (l : ℕ) (clause : ResolvedClauseTree) → Twin (clause_combined c l clause) (clause_combined d l clause)
+  pub clause_combined_twin : (l : ℕ) (clause : ResolvedClauseTree) → Twin (clause_combined c l clause)
+      (clause_combined d l clause)
   clause_combined_twin l (ClauseValue kind e) p p' q q' r t = twin_end r t
   clause_combined_twin l (Shared x) p p' q q' r t = twin_end r t
   clause_combined_twin l (Copied kind x copy) p p' q q' r t = combined_twin l kind x copy p p' q q' r t
 
-  pub reductions_twin : (l : ℕ) (clauses : List ResolvedClauseTree) → Twin (reductions c l clauses) (reductions d l clauses)
+  pub reductions_twin : (l : ℕ) (clauses : List ResolvedClauseTree) → Twin (reductions c l clauses)
+      (reductions d l clauses)
   reductions_twin l clauses = each_twin (clause_combined c l) (clause_combined d l) clauses (clause_combined_twin l)
 
   pub loads_twin : (l : ℕ) (xs : List FirstCopy) → Twin (each (load_original c l) xs) (each (load_original d l) xs)
@@ -148,7 +173,8 @@ module _ (base : Site) (code code' : List Line) (picks picks' : List (List ℕ))
 
   -- ---- constructs
 
-  pub single_twin : {G : Type 0} (l : ℕ) (nowait : Bool) (clauses : List ResolvedClauseTree) (body body' : Row) → Twins (Unit {0}) G body body'
+  pub single_twin : {G : Type 0} (l : ℕ) (nowait : Bool) (clauses : List ResolvedClauseTree) (body body' : Row)
+      → Twins (Unit {0}) G body body'
       → Twins (Unit {0}) G (single_row c l nowait clauses body) (single_row d l nowait clauses body')
   single_twin l nowait clauses body body' h p p' q q' r t =
       twin_closed {L = r.0 ≡ t.0}
@@ -158,7 +184,8 @@ module _ (base : Site) (code code' : List Line) (picks picks' : List (List ℕ))
       twin_here r t (λ r t. twin_as (twin_more (end_twin l nowait m m' q q' r t) (λ n. tt)) (λ g. g))))))
       (λ g. g.1.0) (λ g. g.0)
 
-  pub masked_twin : {G : Type 0} (l : ℕ) (clauses : List ResolvedClauseTree) (body body' : Row) → Twins (Unit {0}) G body body'
+  pub masked_twin : {G : Type 0} (l : ℕ) (clauses : List ResolvedClauseTree) (body body' : Row) → Twins (Unit {0}) G
+      body body'
       → Twins (Unit {0}) G (masked_row c l clauses body) (masked_row d l clauses body')
   masked_twin l clauses body body' h p p' q q' r t =
       twin_closed {L = r.0 ≡ t.0}
@@ -176,13 +203,17 @@ module _ (base : Site) (code code' : List Line) (picks picks' : List (List ℕ))
       twin_within r t (λ n. tt) (h (p + 1 + 1) (p' + 1 + 1)) (λ m m' r t. twin_next r t twin_end))))
       (λ g. g.0)
 
-  pub group_twin : {G : Type 0} (l : ℕ) (body body' : Row) → Twins (Unit {0}) G body body' → Twins (Unit {0}) G (group_row c l body) (group_row d l body')
+  pub group_twin : {G : Type 0} (l : ℕ) (body body' : Row) → Twins (Unit {0}) G body body' → Twins (Unit {0}) G
+      (group_row c l body) (group_row d l body')
   group_twin l body body' h p p' q q' r t =
-      twin_as (twin_next r t (λ r t. twin_within r t (λ n. tt) (h (p + 1) (p' + 1)) (λ m m' r t. twin_next r t twin_end))) (λ g. g.0)
+      twin_as (twin_next r t (λ r t. twin_within r t (λ n. tt) (h (p + 1) (p' + 1))
+      (λ m m' r t. twin_next r t twin_end))) (λ g. g.0)
 
-  pub loop_twin : {G : Type 0} (l : ℕ) (clauses : List ResolvedClauseTree) (nowait : Bool) (loop : ResolvedLoopTree) (body body' : ℕ → Row) (comparison : Comparison)
+  pub loop_twin : {G : Type 0} (l : ℕ) (clauses : List ResolvedClauseTree) (nowait : Bool) (loop : ResolvedLoopTree)
+      (body body' : ℕ → Row) (comparison : Comparison)
       → ((next next' : ℕ) → Twins (next ≡ next') G (body next) (body' next'))
-      → Twins (Unit {0}) G (loop_rest c l clauses nowait loop body comparison) (loop_rest d l clauses nowait loop body' comparison)
+      → Twins (Unit {0}) G (loop_rest c l clauses nowait loop body comparison) (loop_rest d l clauses nowait loop
+      body' comparison)
   loop_twin l clauses nowait loop body body' comparison h p p' q q' r t =
       twin_closed {L = (r.0 ≡ t.0) × (r.1 ≡ t.1) × (r.2 ≡ t.2)}
       (twin_part r.3 t.3 (value_twin loop.at.line loop.from p p') (λ m m' u v.
@@ -200,18 +231,22 @@ module _ (base : Site) (code code' : List Line) (picks picks' : List (List ℕ))
       twin_more (end_twin l nowait m m' q q' u v) (λ n. tt))))))))))))))
       (λ g. (g.0, g.1.0, g.1.1.1.0)) (λ g. g.1.1.0)
 
-  updated_twin : (l : ℕ) (x : variables.Variable) (j : Option ResolvedExpressionTree) (o : AtomicOperator) (side : Side) (e : ResolvedExpressionTree)
+  updated_twin : (l : ℕ) (x : variables.Variable) (j : Option ResolvedExpressionTree) (o : AtomicOperator)
+      (side : Side) (e : ResolvedExpressionTree)
       → Twin (updated c l x j o side e) (updated d l x j o side e)
-  updated_twin l x None o side e p p' q q' r t = twin_part r t (value_twin l e p p') (λ m m' r t. twin_next r t twin_end)
+  updated_twin l x None o side e p p' q q' r t = twin_part r t (value_twin l e p p')
+      (λ m m' r t. twin_next r t twin_end)
   updated_twin l x (Some j) o side e p p' q q' r t =
-      twin_part r t (value_twin l j p p') (λ m m' r t. twin_part r t (value_twin l e m m') (λ m m' r t. twin_next r t twin_end))
+      twin_part r t (value_twin l j p p') (λ m m' r t. twin_part r t (value_twin l e m m')
+      (λ m m' r t. twin_next r t twin_end))
 
   pub update_twin : (l : ℕ) (u : ResolvedUpdateTree) → Twin (update_row c l u) (update_row d l u)
   update_twin l u = updated_twin l u.variable u.index (update_of u.operator) (side_of u.side) u.operand
 
   -- ---- regions
 
-  pub parallel_twin : (l body : ℕ) (size : Option ResolvedExpressionTree) (xs : List FirstCopy) → Twin (parallel_row c l body size xs) (parallel_row d l body size xs)
+  pub parallel_twin : (l body : ℕ) (size : Option ResolvedExpressionTree) (xs : List FirstCopy)
+      → Twin (parallel_row c l body size xs) (parallel_row d l body size xs)
   parallel_twin l body size xs p p' q q' r t =
       twin_part r t (perhaps_twin (value c l) (value d l) size (value_twin l) p p') (λ m m' r t.
       twin_part r t (loads_twin l xs m m') (λ m m' r t. twin_next r t twin_end))

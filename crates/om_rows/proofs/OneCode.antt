@@ -7,7 +7,9 @@ use Rattle.om_code.specs.declared.raw.Piece.{Piece}
 use Rattle.om_code.specs.declared.raw.Raw.{Raw}
 use Rattle.om_code.specs.declared.raw.Line.{Line}
 use Rattle.om_resolved.specs.ResolvedTree.{ResolvedFunctionTree, ResolvedTree}
-use Rattle.om_rows.specs.Bodies.{Numbers, next_body, BodyTree, BodySite, FunctionBody, ParallelBody, TaskBody, function_variables, function_bodies, behind_function, behind_functions, bodies_from, bodies_of, first_numbers}
+use Rattle.om_rows.specs.Bodies.{Numbers, next_body, BodyTree, BodySite, FunctionBody, ParallelBody, TaskBody}
+use Rattle.om_rows.specs.Bodies.{function_variables, function_bodies, behind_function, behind_functions, bodies_from}
+use Rattle.om_rows.specs.Bodies.{bodies_of, first_numbers}
 use Rattle.om_rows.specs.Code.{body_row, IsBodyOf}
 use Rattle.om_rows.specs.Laws.{OneCode}
 use Rattle.om_rows.specs.Mentions.{formats_of, locks_of, IsTextOf}
@@ -19,7 +21,8 @@ use Rattle.om_rows.proofs.StatementTwins as twins
 use Rattle.om_rows.proofs.Twins.{Alike, Agree, twin_end, twin_next, twin_within, twin_as, twin_part}
 
 -- lists with the same at each place
-same_by_places : {A : Type 0} (xs ys : List A) → length xs ≡ length ys → ((k : ℕ) → k < length xs → slice_get xs k ≡ slice_get ys k) → xs ≡ ys
+same_by_places : {A : Type 0} (xs ys : List A) → length xs ≡ length ys → ((k : ℕ) → k < length xs → slice_get xs k
+    ≡ slice_get ys k) → xs ≡ ys
 same_by_places [] [] l h = refl
 same_by_places [] (y ∷ ys) l h = absurd (omega (arith, l))
 same_by_places (x ∷ xs) [] l h = absurd (omega (arith, l))
@@ -38,13 +41,15 @@ module _ (functions : List ResolvedFunctionTree) (formats locks picks picks' : L
   HasCodes b = twins.HasCodes functions formats locks picks picks' b
 
   -- two codes of one body
-  body_agrees : (f : ResolvedFunctionTree) (tree : BodyTree) (n : Numbers) (base : Site) (code code' : List Line) (q q' : ℕ)
+  body_agrees : (f : ResolvedFunctionTree) (tree : BodyTree) (n : Numbers) (base : Site) (code code' : List Line)
+      (q q' : ℕ)
       → body_row (with_code base code picks) n f tree 0 q → body_row (with_code base code' picks') n f tree 0 q'
       → (q ≡ q') × Agree code code' 0 q
   body_agrees f FunctionBody n base code code' q q' r t =
       let a : Alike code code' (Unit {0}) (Unit {0}) 0 q 0 q' =
       twin_as
-      (twin_within r t (λ k. (refl, refl)) (twins.statements_twin functions formats locks picks picks' f f.body n (function_variables f) base code code' nowhere nowhere 0 0)
+      (twin_within r t (λ k. (refl, refl)) (twins.statements_twin functions formats locks picks picks' f f.body n
+      (function_variables f) base code code' nowhere nowhere 0 0)
       (λ m m' r t. twin_next r t twin_end))
       (λ g. tt) in
       (a.same refl, a.agree refl tt)
@@ -53,7 +58,8 @@ module _ (functions : List ResolvedFunctionTree) (formats locks picks picks' : L
       twin_as
       (twin_next r t (λ r t.
       twin_part r t (heads.reduction_starts_twin base code code' picks picks' first.line clauses 1 1) (λ m m' r t.
-      twin_within r t (λ k. (refl, refl)) (twins.statement_twin functions formats locks picks picks' f s n [] base code code' nowhere nowhere m m') (λ m m' r t.
+      twin_within r t (λ k. (refl, refl)) (twins.statement_twin functions formats locks picks picks' f s n [] base
+      code code' nowhere nowhere m m') (λ m m' r t.
       twin_part r t (heads.reductions_twin base code code' picks picks' first.line clauses m m') (λ m m' r t.
       twin_next r t (λ r t. twin_next r t twin_end))))))
       (λ g. tt) in
@@ -61,47 +67,68 @@ module _ (functions : List ResolvedFunctionTree) (formats locks picks picks' : L
   body_agrees f (TaskBody first clauses captures s) n base code code' q q' r t =
       let a : Alike code code' (Unit {0}) (Unit {0}) 0 q 0 q' =
       twin_as
-      (twin_within r t (λ k. (refl, refl)) (twins.statement_twin functions formats locks picks picks' f s n [] base code code' nowhere nowhere 0 0)
+      (twin_within r t (λ k. (refl, refl)) (twins.statement_twin functions formats locks picks picks' f s n [] base
+      code code' nowhere nowhere 0 0)
       (λ m m' r t. twin_next r t twin_end))
       (λ g. tt) in
       (a.same refl, a.agree refl tt)
 
   -- the lists of PICK of a function, and of functions
-  function_covers : (f : ResolvedFunctionTree) (n : Numbers) → HaveCodes (function_bodies n f) → Covered n.picks (behind_function n f).picks
+  function_covers : (f : ResolvedFunctionTree) (n : Numbers) → HaveCodes (function_bodies n f) → Covered n.picks
+      (behind_function n f).picks
   function_covers f n h =
       let r = h.0.one in let t = h.0.other in
-      let base = twins.base_of functions formats locks picks picks' (record { function = f; tree = FunctionBody; outer = []; numbers = next_body n }) in
-      (twins.statements_twin functions formats locks picks picks' f f.body (next_body n) (function_variables f) base h.0.code h.0.code' nowhere nowhere
+      let base = twins.base_of functions formats locks picks picks'
+      (record { function = f; tree = FunctionBody; outer = []; numbers = next_body n }) in
+      (twins.statements_twin functions formats locks picks picks' f f.body (next_body n) (function_variables f) base
+      h.0.code h.0.code' nowhere nowhere
       0 0 r.0 t.0 r.1 t.1).given refl h.1
 
-  functions_cover : (fs : List ResolvedFunctionTree) (n : Numbers) → HaveCodes (bodies_from n fs) → Covered n.picks (behind_functions n fs).picks
+  functions_cover : (fs : List ResolvedFunctionTree) (n : Numbers) → HaveCodes (bodies_from n fs) → Covered n.picks
+      (behind_functions n fs).picks
   functions_cover [] n h = twins.covers_none functions formats locks picks picks' n.picks
   functions_cover (f ∷ fs) n h =
-      twins.covers_join functions formats locks picks picks' n.picks (behind_function n f).picks (behind_functions (behind_function n f) fs).picks
-      (function_covers f n (twins.front functions formats locks picks picks' f (function_bodies n f) (bodies_from (behind_function n f) fs) h))
-      (functions_cover fs (behind_function n f) (twins.back functions formats locks picks picks' f (function_bodies n f) (bodies_from (behind_function n f) fs) h))
+      twins.covers_join functions formats locks picks picks' n.picks (behind_function n f).picks
+      (behind_functions (behind_function n f) fs).picks
+      (function_covers f n (twins.front functions formats locks picks picks' f (function_bodies n f)
+      (bodies_from (behind_function n f) fs) h))
+      (functions_cover fs (behind_function n f) (twins.back functions formats locks picks picks' f
+      (function_bodies n f) (bodies_from (behind_function n f) fs) h))
 
 module _ (tree : ResolvedTree) (raw other : Raw) where
-  codes : (bs : List BodySite) (xs ys : List Body) → AllZip (IsBodyOf tree raw) bs xs → AllZip (IsBodyOf tree other) bs ys
+  codes : (bs : List BodySite) (xs ys : List Body) → AllZip (IsBodyOf tree raw) bs xs → AllZip (IsBodyOf tree other)
+      bs ys
       → twins.HaveCodes tree.functions (formats_of tree) (locks_of tree) raw.picks other.picks bs
   codes [] [] [] a b = tt
   codes [] [] (y ∷ ys) a b = absurd b
   codes [] (x ∷ xs) ys a b = absurd a
   codes (c ∷ bs) [] ys a b = absurd a
   codes (c ∷ bs) (x ∷ xs) [] a b = absurd b
-  codes (c ∷ bs) (x ∷ xs) (y ∷ ys) a b =
-      (record { code = x.code; code' = y.code; end = length x.code; end' = length y.code; one = a.0.code; other = b.0.code }, codes bs xs ys a.1 b.1)
+  codes (c ∷ bs) (x ∷ xs) (y ∷ ys) a b = (
+    record {
+      code = x.code;
+      code' = y.code;
+      end = length x.code;
+      end' = length y.code;
+      one = a.0.code;
+      other =
+          b.0.code;
+    },
+    codes bs xs ys a.1 b.1,
+  )
 
   same_body : (c : BodySite) (x y : Body) → IsBodyOf tree raw c x → IsBodyOf tree other c y → x ≡ y
   same_body c x y a b =
       let base = twins.base_of tree.functions (formats_of tree) (locks_of tree) raw.picks other.picks c in
-      let e = body_agrees tree.functions (formats_of tree) (locks_of tree) raw.picks other.picks c.function c.tree c.numbers base x.code y.code (length x.code) (length y.code) a.code b.code in
+      let e = body_agrees tree.functions (formats_of tree) (locks_of tree) raw.picks other.picks c.function c.tree
+      c.numbers base x.code y.code (length x.code) (length y.code) a.code b.code in
       let code : x.code ≡ y.code = same_by_places x.code y.code e.0 (λ k lt. e.1.by k (omega arith) lt) in
       let slots = a.slots ∙ sym b.slots in
       let given = a.given ∙ sym b.given in
       λ i. record { code = code i; slots = slots i; given = given i }
 
-  same_bodies : (bs : List BodySite) (xs ys : List Body) → AllZip (IsBodyOf tree raw) bs xs → AllZip (IsBodyOf tree other) bs ys → xs ≡ ys
+  same_bodies : (bs : List BodySite) (xs ys : List Body) → AllZip (IsBodyOf tree raw) bs xs
+      → AllZip (IsBodyOf tree other) bs ys → xs ≡ ys
   same_bodies [] [] [] a b = refl
   same_bodies [] [] (y ∷ ys) a b = absurd b
   same_bodies [] (x ∷ xs) ys a b = absurd a
@@ -110,7 +137,8 @@ module _ (tree : ResolvedTree) (raw other : Raw) where
   same_bodies (c ∷ bs) (x ∷ xs) (y ∷ ys) a b =
       let first = same_body c x y a.0 b.0 in let rest = same_bodies bs xs ys a.1 b.1 in λ i. first i ∷ rest i
 
-same_texts : (formats : List (List ℕ)) (xs ys : List (List Piece)) → AllZip IsTextOf formats xs → AllZip IsTextOf formats ys → xs ≡ ys
+same_texts : (formats : List (List ℕ)) (xs ys : List (List Piece)) → AllZip IsTextOf formats xs → AllZip IsTextOf
+    formats ys → xs ≡ ys
 same_texts [] [] [] a b = refl
 same_texts [] [] (y ∷ ys) a b = absurd b
 same_texts [] (x ∷ xs) ys a b = absurd a
@@ -122,13 +150,23 @@ same_texts (f ∷ fs) (x ∷ xs) (y ∷ ys) a b =
 
 pub one_code : OneCode
 one_code tree raw other a b =
-    let covered = functions_cover tree.functions (formats_of tree) (locks_of tree) raw.picks other.picks tree.functions first_numbers
+    let covered = functions_cover tree.functions (formats_of tree) (locks_of tree) raw.picks other.picks
+    tree.functions first_numbers
     (codes tree raw other (bodies_of tree) raw.bodies other.bodies a.bodies b.bodies) in
     let globals = a.globals ∙ sym b.globals in
     let bodies = same_bodies tree raw other (bodies_of tree) raw.bodies other.bodies a.bodies b.bodies in
     let mains : Some raw.main ≡ Some other.main = sym a.main ∙ b.main in
     let main : raw.main ≡ other.main = cc mains in
     let texts = same_texts (formats_of tree) raw.texts other.texts a.texts b.texts in
-    let picks : raw.picks ≡ other.picks = same_by_places raw.picks other.picks (a.picks ∙ sym b.picks) (λ k lt. covered.by k (omega arith) (omega (arith, lt, a.picks))) in
+    let picks : raw.picks ≡ other.picks = same_by_places raw.picks other.picks (a.picks ∙ sym b.picks)
+    (λ k lt. covered.by k (omega arith) (omega (arith, lt, a.picks))) in
     let locks = a.locks ∙ sym b.locks in
-    λ i. record { globals = globals i; bodies = bodies i; main = main i; texts = texts i; picks = picks i; locks = locks i }
+    λ i. record {
+      globals = globals i;
+      bodies = bodies i;
+      main = main i;
+      texts = texts i;
+      picks = picks i;
+      locks =
+          locks i;
+    }

@@ -10,17 +10,26 @@ use Rattle.om_resolved.specs.declared.resolved.LocalVariable.{LocalVariable}
 use Rattle.om_resolved.specs.declared.resolved.StandAlone as alone
 use Rattle.om_resolved.specs.declared.resolved.StandAlone.TheVariants as alones
 use Rattle.om_resolved.specs.declared.resolved.Variable as variables
-use Rattle.om_resolved.specs.ResolvedTree.{ResolvedExpressionTree, ResolvedDeclaratorTree, ResolvedClauseTree, ClauseValue, Shared, Copied, ResolvedLoopTree, ResolvedUpdateTree, ResolvedStartTree, StartNothing, StartExpression, StartDeclaration, ResolvedStatementTree, Expression}
+use Rattle.om_resolved.specs.ResolvedTree.{ResolvedExpressionTree, ResolvedDeclaratorTree, ResolvedClauseTree}
+use Rattle.om_resolved.specs.ResolvedTree.{ClauseValue, Shared, Copied, ResolvedLoopTree, ResolvedUpdateTree}
+use Rattle.om_resolved.specs.ResolvedTree.{ResolvedStartTree, StartNothing, StartExpression, StartDeclaration}
+use Rattle.om_resolved.specs.ResolvedTree.{ResolvedStatementTree, Expression}
 use Rattle.om_rows.specs.Expressions.{value, effect}
 use Rattle.om_rows.specs.Operators.{side_of, update_of}
 use Rattle.om_rows.specs.Rows.{Site, Row, given, perhaps, each}
 use Rattle.om_rows.specs.Slots.{FirstCopy}
-use Rattle.om_rows.specs.Statements.{jump, declared, declarator, start, test, returned, copy_start, clause_start, starts, reduction_start, clause_reduction_start, reduction_starts, combined, clause_combined, reductions, clause_value, load_original, barrier, worksharing_end, alone_row, filter_row, single_row, masked_row, critical_row, updated, update_row, assignment_row, group_row, loop_rest, parallel_row, task_row}
-use Rattle.om_rows.proofs.Levels.{Levels, IsAt, nothing, level_end, level_out, level_next, level_either, level_jump, level_stop, level_within, level_free, level_part, level_here, level_closed}
+use Rattle.om_rows.specs.Statements.{jump, declared, declarator, start, test, returned, copy_start, clause_start}
+use Rattle.om_rows.specs.Statements.{starts, reduction_start, clause_reduction_start, reduction_starts, combined}
+use Rattle.om_rows.specs.Statements.{clause_combined, reductions, clause_value, load_original, barrier, worksharing_end}
+use Rattle.om_rows.specs.Statements.{alone_row, filter_row, single_row, masked_row, critical_row, updated, update_row}
+use Rattle.om_rows.specs.Statements.{assignment_row, group_row, loop_rest, parallel_row, task_row}
+use Rattle.om_rows.proofs.Levels.{Levels, IsAt, nothing, level_end, level_out, level_next, level_either, level_jump}
+use Rattle.om_rows.proofs.Levels.{level_stop, level_within, level_free, level_part, level_here, level_closed}
 use Rattle.om_rows.proofs.ExpressionLevels as expressions
 
 module _ (at : Site) where
-  -- a row that leaves as many operands as it finds, where labels have the heights that it needs at this height; it gives those of its own
+  -- a row that leaves as many operands as it finds, where labels have the heights that it needs at this
+  -- height; it gives those of its own
   abbrev pub Steady : (ℕ → List ℕ → Type 0) → (ℕ → List ℕ → Type 0) → Row → Type 0
   Steady needs gives r = (h p q : ℕ) → r p q → Levels at.picks at.code (needs h) (gives h) p q h h
 
@@ -44,11 +53,13 @@ module _ (at : Site) where
   each_levels row [] f h p q r = level_end r
   each_levels row (x ∷ xs) f h p q r = level_part r (f x h p) (λ m r. each_levels row xs f h m q r)
 
-  pub perhaps_levels : {A : Type 0} {N : ℕ → List ℕ → Type 0} (row : A → Row) (x : Option A) → ((y : A) → Steady N none (row y)) → Steady N none (perhaps row x)
+  pub perhaps_levels : {A : Type 0} {N : ℕ → List ℕ → Type 0} (row : A → Row) (x : Option A)
+      → ((y : A) → Steady N none (row y)) → Steady N none (perhaps row x)
   perhaps_levels row None f h p q r = level_end r
   perhaps_levels row (Some x) f h p q r = f x h p q r
 
-  pub given_levels : {A : Type 0} {N G : ℕ → List ℕ → Type 0} (row : A → Row) (x : Option A) → ((y : A) → Steady N G (row y)) → Steady N G (given x row)
+  pub given_levels : {A : Type 0} {N G : ℕ → List ℕ → Type 0} (row : A → Row) (x : Option A)
+      → ((y : A) → Steady N G (row y)) → Steady N G (given x row)
   given_levels row None f h p q r = absurd r
   given_levels row (Some x) f h p q r = f x h p q r
 
@@ -56,7 +67,8 @@ module _ (at : Site) where
 
   pub declared_levels : (l : ℕ) (x : LocalVariable) (e : Option ResolvedExpressionTree) → Keeps (declared at l x e)
   declared_levels l x None h p q r = level_next h r refl (omega arith) (omega arith) level_end
-  declared_levels l x (Some e) h p q r = level_part r (values l e h p) (λ m r. level_next h r refl (omega arith) (omega arith) level_end)
+  declared_levels l x (Some e) h p q r = level_part r (values l e h p) (λ m r. level_next h r refl (omega arith)
+      (omega arith) level_end)
 
   pub declarators_levels : (l : ℕ) (ds : List ResolvedDeclaratorTree) → Keeps (each (declarator at l) ds)
   declarators_levels l ds = each_levels (declarator at l) ds (λ d. declared_levels l d.variable d.initial)
@@ -67,13 +79,16 @@ module _ (at : Site) where
   start_levels l (StartDeclaration ds) h p q r = declarators_levels l ds h p q r
 
   pub test_levels : (l f : ℕ) (e : ResolvedExpressionTree) → Steady (Label f) none (test at l f e)
-  test_levels l f e h p q r = level_part r (values l e h p) (λ m r. level_either {next = h} h r refl (omega arith) (omega arith) (λ hs n. n) level_end)
+  test_levels l f e h p q r = level_part r (values l e h p) (λ m r. level_either {next = h} h r refl (omega arith)
+      (omega arith) (λ hs n. n) level_end)
 
   pub returned_levels : (l : ℕ) (is_main : Bool) (e : Option ResolvedExpressionTree) → Keeps (returned at l is_main e)
   returned_levels l true None h p q r = level_stop {next = h} h r refl (omega arith) level_end
-  returned_levels l true (Some e) h p q r = level_part r (values l e h p) (λ m r. level_stop {next = h} h r refl (omega arith) level_end)
+  returned_levels l true (Some e) h p q r = level_part r (values l e h p) (λ m r. level_stop {next = h} h r refl
+      (omega arith) level_end)
   returned_levels l false None h p q r = level_stop {next = h} h r refl (omega arith) level_end
-  returned_levels l false (Some e) h p q r = level_part r (values l e h p) (λ m r. level_stop {next = h} h r refl (omega arith) level_end)
+  returned_levels l false (Some e) h p q r = level_part r (values l e h p) (λ m r. level_stop {next = h} h r refl
+      (omega arith) level_end)
 
   -- where a jump goes is this height, if it goes anywhere
   abbrev pub Goal : Option ℕ → ℕ → List ℕ → Type 0
@@ -84,12 +99,15 @@ module _ (at : Site) where
   jump_levels l None h p q r = absurd r
   jump_levels l (Some f) h p q r = level_jump {next = h} r refl (omega arith) (omega arith) (λ hs n. n) level_end
 
-  pub copy_start_levels : (l : ℕ) (kind : CopyKind) (x : variables.Variable) (copy : LocalVariable) → Keeps (copy_start at l kind x copy)
+  pub copy_start_levels : (l : ℕ) (kind : CopyKind) (x : variables.Variable) (copy : LocalVariable)
+      → Keeps (copy_start at l kind x copy)
   copy_start_levels l copies.Private x copy h p q r = level_next h r refl (omega arith) (omega arith) level_end
   copy_start_levels l copies.Firstprivate x copy h p q r =
-      level_next {next = h + 1} h r refl (omega arith) (omega arith) (λ r. level_next h r refl (omega arith) (omega arith) level_end)
+      level_next {next = h + 1} h r refl (omega arith) (omega arith) (λ r. level_next h r refl (omega arith)
+      (omega arith) level_end)
   copy_start_levels l (copies.Reduction o) x copy h p q r =
-      level_next {next = h + 1} h r refl (omega arith) (omega arith) (λ r. level_next h r refl (omega arith) (omega arith) level_end)
+      level_next {next = h + 1} h r refl (omega arith) (omega arith) (λ r. level_next h r refl (omega arith)
+      (omega arith) level_end)
 
   pub clause_start_levels : (l : ℕ) (clause : ResolvedClauseTree) → Keeps (clause_start at l clause)
   clause_start_levels l (ClauseValue kind e) h p q r = level_end r
@@ -99,7 +117,8 @@ module _ (at : Site) where
   pub starts_levels : (l : ℕ) (clauses : List ResolvedClauseTree) → Keeps (starts at l clauses)
   starts_levels l clauses = each_levels (clause_start at l) clauses (clause_start_levels l)
 
-  pub reduction_start_levels : (l : ℕ) (kind : CopyKind) (x : variables.Variable) (copy : LocalVariable) → Keeps (reduction_start at l kind x copy)
+  pub reduction_start_levels : (l : ℕ) (kind : CopyKind) (x : variables.Variable) (copy : LocalVariable)
+      → Keeps (reduction_start at l kind x copy)
   reduction_start_levels l copies.Private x copy h p q r = level_end r
   reduction_start_levels l copies.Firstprivate x copy h p q r = level_end r
   reduction_start_levels l (copies.Reduction o) x copy h p q r = copy_start_levels l (copies.Reduction o) x copy h p q r
@@ -110,9 +129,11 @@ module _ (at : Site) where
   clause_reduction_start_levels l (Copied kind x copy) h p q r = reduction_start_levels l kind x copy h p q r
 
   pub reduction_starts_levels : (l : ℕ) (clauses : List ResolvedClauseTree) → Keeps (reduction_starts at l clauses)
-  reduction_starts_levels l clauses = each_levels (clause_reduction_start at l) clauses (clause_reduction_start_levels l)
+  reduction_starts_levels l clauses = each_levels (clause_reduction_start at l) clauses
+      (clause_reduction_start_levels l)
 
-  pub combined_levels : (l : ℕ) (kind : CopyKind) (x : variables.Variable) (copy : LocalVariable) → Keeps (combined at l kind x copy)
+  pub combined_levels : (l : ℕ) (kind : CopyKind) (x : variables.Variable) (copy : LocalVariable)
+      → Keeps (combined at l kind x copy)
   combined_levels l copies.Private x copy h p q r = level_end r
   combined_levels l copies.Firstprivate x copy h p q r = level_end r
   combined_levels l (copies.Reduction o) x copy h p q r = level_next h r refl (omega arith) (omega arith) level_end
@@ -126,27 +147,33 @@ module _ (at : Site) where
   reductions_levels l clauses = each_levels (clause_combined at l) clauses (clause_combined_levels l)
 
   -- loads leave one operand each
-  pub loads_levels : (l : ℕ) (xs : List FirstCopy) (h p q : ℕ) → each (load_original at l) xs p q → Levels at.picks at.code nothing nothing p q h (h + length xs)
+  pub loads_levels : (l : ℕ) (xs : List FirstCopy) (h p q : ℕ) → each (load_original at l) xs p q → Levels at.picks
+      at.code nothing nothing p q h (h + length xs)
   loads_levels l [] h p q r = level_out h (omega arith) (level_end r)
   loads_levels l (x ∷ xs) h p q r =
       level_out (h + 1 + length xs) (omega arith)
-      (level_part {mid = h + 1} r (λ m r. level_next h r refl (omega arith) (omega arith) level_end) (λ m r. loads_levels l xs (h + 1) m q r))
+      (level_part {mid = h + 1} r (λ m r. level_next h r refl (omega arith) (omega arith) level_end)
+      (λ m r. loads_levels l xs (h + 1) m q r))
 
   pub barrier_levels : (l : ℕ) (kind : Barrier) → Keeps (barrier at l kind)
   barrier_levels l kind h p q r =
-      level_next {next = h} h r refl (omega arith) (omega arith) (λ r. level_next h r refl (omega arith) (omega arith) level_end)
+      level_next {next = h} h r refl (omega arith) (omega arith) (λ r. level_next h r refl (omega arith)
+      (omega arith) level_end)
 
   pub end_levels : (l : ℕ) (nowait : Bool) → Keeps (worksharing_end at l nowait)
   end_levels l true h p q r = level_next {next = h} h r refl (omega arith) (omega arith) level_end
   end_levels l false h p q r =
       level_next {next = h} h r refl (omega arith) (omega arith) (λ r.
-      level_next {next = h} h r refl (omega arith) (omega arith) (λ r. level_next h r refl (omega arith) (omega arith) level_end))
+      level_next {next = h} h r refl (omega arith) (omega arith) (λ r. level_next h r refl (omega arith)
+      (omega arith) level_end))
 
   pub alone_levels : (l : ℕ) (directive : alone.StandAlone) → Keeps (alone_row at l directive)
   alone_levels l alones.Barrier h p q r =
-      level_next {next = h} h r refl (omega arith) (omega arith) (λ r. level_next h r refl (omega arith) (omega arith) level_end)
+      level_next {next = h} h r refl (omega arith) (omega arith) (λ r. level_next h r refl (omega arith)
+      (omega arith) level_end)
   alone_levels l alones.Taskwait h p q r =
-      level_next {next = h} h r refl (omega arith) (omega arith) (λ r. level_next h r refl (omega arith) (omega arith) level_end)
+      level_next {next = h} h r refl (omega arith) (omega arith) (λ r. level_next h r refl (omega arith)
+      (omega arith) level_end)
   alone_levels l alones.Taskyield h p q r = level_next h r refl (omega arith) (omega arith) level_end
   alone_levels l (alones.Flush vs) h p q r = level_next h r refl (omega arith) (omega arith) level_end
 
@@ -154,11 +181,14 @@ module _ (at : Site) where
   filter_levels l None h p q r = level_next h r refl (omega arith) (omega arith) level_end
   filter_levels l (Some e) h p q r = values l e h p q r
 
-  pub updated_levels : (l : ℕ) (x : variables.Variable) (j : Option ResolvedExpressionTree) (o : AtomicOperator) (side : Side) (e : ResolvedExpressionTree)
+  pub updated_levels : (l : ℕ) (x : variables.Variable) (j : Option ResolvedExpressionTree) (o : AtomicOperator)
+      (side : Side) (e : ResolvedExpressionTree)
       → Keeps (updated at l x j o side e)
-  updated_levels l x None o side e h p q r = level_part r (values l e h p) (λ m r. level_next h r refl (omega arith) (omega arith) level_end)
+  updated_levels l x None o side e h p q r = level_part r (values l e h p) (λ m r. level_next h r refl (omega arith)
+      (omega arith) level_end)
   updated_levels l x (Some j) o side e h p q r =
-      level_part r (values l j h p) (λ m r. level_part r (values l e (h + 1) m) (λ m r. level_next h r refl (omega arith) (omega arith) level_end))
+      level_part r (values l j h p) (λ m r. level_part r (values l e (h + 1) m)
+      (λ m r. level_next h r refl (omega arith) (omega arith) level_end))
 
   pub update_levels : (l : ℕ) (u : ResolvedUpdateTree) → Keeps (update_row at l u)
   update_levels l u = updated_levels l u.variable u.index (update_of u.operator) (side_of u.side) u.operand
@@ -169,7 +199,8 @@ module _ (at : Site) where
 
   -- ---- constructs
 
-  pub single_levels : (l : ℕ) (nowait : Bool) (clauses : List ResolvedClauseTree) (body : Row) → Keeps body → Keeps (single_row at l nowait clauses body)
+  pub single_levels : (l : ℕ) (nowait : Bool) (clauses : List ResolvedClauseTree) (body : Row) → Keeps body
+      → Keeps (single_row at l nowait clauses body)
   single_levels l nowait clauses body f h p q r =
       level_closed {L = λ hs. IsAt hs r.0 h}
       (level_either {next = h} h r.1 refl (omega arith) (omega arith) (λ hs n. n.1) (λ u.
@@ -178,7 +209,8 @@ module _ (at : Site) where
       level_here u (λ u. level_free (end_levels l nowait h m q u))))))
       (λ hs g. g.0) (λ hs g. tt)
 
-  pub masked_levels : (l : ℕ) (clauses : List ResolvedClauseTree) (body : Row) → Keeps body → Keeps (masked_row at l clauses body)
+  pub masked_levels : (l : ℕ) (clauses : List ResolvedClauseTree) (body : Row) → Keeps body
+      → Keeps (masked_row at l clauses body)
   masked_levels l clauses body f h p q r =
       level_closed {L = λ hs. IsAt hs r.0 h}
       (level_part r.1 (filter_levels l (clause_value clauses) h p) (λ m u.
@@ -198,7 +230,8 @@ module _ (at : Site) where
       level_next {next = h} h r refl (omega arith) (omega arith) (λ r.
       level_part r (f h (p + 1)) (λ m r. level_next h r refl (omega arith) (omega arith) level_end))
 
-  pub loop_levels : (l : ℕ) (clauses : List ResolvedClauseTree) (nowait : Bool) (loop : ResolvedLoopTree) (body : ℕ → Row) (comparison : Comparison)
+  pub loop_levels : (l : ℕ) (clauses : List ResolvedClauseTree) (nowait : Bool) (loop : ResolvedLoopTree)
+      (body : ℕ → Row) (comparison : Comparison)
       → ((next : ℕ) → Steady (Label next) none (body next)) → Keeps (loop_rest at l clauses nowait loop body comparison)
   loop_levels l clauses nowait loop body comparison f h p q r =
       level_closed {L = λ hs. IsAt hs r.0 h × IsAt hs r.1 h × IsAt hs r.2 h}
@@ -219,7 +252,8 @@ module _ (at : Site) where
 
   -- ---- regions
 
-  pub parallel_levels : (l body : ℕ) (size : Option ResolvedExpressionTree) (xs : List FirstCopy) → Keeps (parallel_row at l body size xs)
+  pub parallel_levels : (l body : ℕ) (size : Option ResolvedExpressionTree) (xs : List FirstCopy)
+      → Keeps (parallel_row at l body size xs)
   parallel_levels l body None xs h p q r =
       level_part r (λ m r. level_end r) (λ m r.
       level_part r (loads_levels l xs h m) (λ m r. level_next h r refl refl (omega arith) level_end))
@@ -228,4 +262,5 @@ module _ (at : Site) where
       level_part r (loads_levels l xs (h + 1) m) (λ m r. level_next h r refl (omega arith) (omega arith) level_end))
 
   pub task_levels : (l body : ℕ) (xs : List FirstCopy) → Keeps (task_row at l body xs)
-  task_levels l body xs h p q r = level_part r (loads_levels l xs h p) (λ m r. level_next h r refl refl (omega arith) level_end)
+  task_levels l body xs h p q r = level_part r (loads_levels l xs h p)
+      (λ m r. level_next h r refl refl (omega arith) level_end)

@@ -8,14 +8,22 @@ use Rattle.om_code.specs.declared.instruction.Instr.TheVariants as i
 use Rattle.om_code.specs.declared.raw.Line.{Line}
 use Rattle.om_resolved.specs.declared.resolved.Capture.{Capture}
 use Rattle.om_resolved.specs.declared.resolved.ConstructKind.TheVariants as constructs
-use Rattle.om_resolved.specs.ResolvedTree.{ResolvedClauseTree, ResolvedStatementTree, Declaration, Block, Empty, Expression, If, IfElse, While, Do, For, Return, Break, Continue, Parallel, Task, Loop, Sections, Construct, Update, StandAlone, ResolvedStatementsTree, NoStatements, Statement, ResolvedPartsTree, NoParts, Part, ResolvedFunctionTree}
-use Rattle.om_rows.specs.Bodies.{Numbers, next_body, next_pick, behind, behind_all, behind_parts, BodySite, ParallelBody, TaskBody, variables_of, region_variables, regions, all_regions, parts_regions}
+use Rattle.om_resolved.specs.ResolvedTree.{ResolvedClauseTree, ResolvedStatementTree, Declaration, Block, Empty}
+use Rattle.om_resolved.specs.ResolvedTree.{Expression, If, IfElse, While, Do, For, Return, Break, Continue, Parallel}
+use Rattle.om_resolved.specs.ResolvedTree.{Task, Loop, Sections, Construct, Update, StandAlone, ResolvedStatementsTree}
+use Rattle.om_resolved.specs.ResolvedTree.{NoStatements, Statement, ResolvedPartsTree, NoParts, Part}
+use Rattle.om_resolved.specs.ResolvedTree.{ResolvedFunctionTree}
+use Rattle.om_rows.specs.Bodies.{Numbers, next_body, next_pick, behind, behind_all, behind_parts, BodySite}
+use Rattle.om_rows.specs.Bodies.{ParallelBody, TaskBody, variables_of, region_variables, regions, all_regions}
+use Rattle.om_rows.specs.Bodies.{parts_regions}
 use Rattle.om_rows.specs.Code.{body_row}
 use Rattle.om_rows.specs.Expressions.{effect}
 use Rattle.om_rows.specs.Operators.{comparison_of}
 use Rattle.om_rows.specs.Rows.{Site, Row, ins, part, here, ◌▸◌}
-use Rattle.om_rows.specs.Statements.{Jumps, nowhere, in_loop, in_iteration, test, clause_value, given_copies, assignment_row, loop_rest, with_place, no_place, statement, statements, parts}
-use Rattle.om_rows.proofs.Twins.{Alike, twin_end, twin_jump, twin_next, twin_within, twin_as, twin_more, twin_free, twin_part, twin_here, twin_closed}
+use Rattle.om_rows.specs.Statements.{Jumps, nowhere, in_loop, in_iteration, test, clause_value, given_copies}
+use Rattle.om_rows.specs.Statements.{assignment_row, loop_rest, with_place, no_place, statement, statements, parts}
+use Rattle.om_rows.proofs.Twins.{Alike, twin_end, twin_jump, twin_next, twin_within, twin_as, twin_more, twin_free}
+use Rattle.om_rows.proofs.Twins.{twin_part, twin_here, twin_closed}
 use Rattle.om_rows.proofs.HeadTwins as heads
 use Rattle.om_rows.proofs.ExpressionTwins as expressions
 use Rattle.om_rows.proofs.ExpressionTwins.{with_code}
@@ -32,10 +40,16 @@ module _ (functions : List ResolvedFunctionTree) (formats locks picks picks' : L
   covers_none a = record { by = λ k le lt. absurd (omega arith) }
 
   pub covers_join : (a m b : ℕ) → Covered a m → Covered m b → Covered a b
-  covers_join a m b f g = record { by = λ k le lt. ⊎_elim (λ (below : k < m). f.by k le below) (λ (behind : m ≤ k). g.by k behind lt) (cases_lt k m) }
+  covers_join a m b f g = record {
+    by = λ k le lt. ⊎_elim (λ (below : k < m). f.by k le below)
+        (λ (behind : m ≤ k). g.by k behind lt) (cases_lt k m);
+  }
 
   covers_one : (a : ℕ) → slice_get picks a ≡ slice_get picks' a → Covered a (a + 1)
-  covers_one a e = record { by = λ k le lt. let at : k ≡ a = omega arith in ap (λ z. slice_get picks z) at ∙ e ∙ ap (λ z. slice_get picks' z) (sym at) }
+  covers_one a e = record {
+    by = λ k le lt. let at : k ≡ a = omega arith in ap (λ z. slice_get picks z) at ∙ e
+        ∙ ap (λ z. slice_get picks' z) (sym at);
+  }
 
   -- `break` and `continue` go to the same places
   abbrev pub Same : Jumps → Jumps → Type 0
@@ -89,7 +103,8 @@ module _ (functions : List ResolvedFunctionTree) (formats locks picks picks' : L
     abbrev pub Twins : List Line → List Line → Type 0 → Type 0 → Row → Row → Type 0
     Twins code code' needs gives r t = (p p' q q' : ℕ) → r p q → t p' q' → Alike code code' needs gives p q p' q'
 
-    no_place_twin : {N : Type 0} (code code' : List Line) (places places' : List ℕ) → Twins code code' N (places ≡ places') (no_place places) (no_place places')
+    no_place_twin : {N : Type 0} (code code' : List Line) (places places' : List ℕ) → Twins code code' N
+        (places ≡ places') (no_place places) (no_place places')
     no_place_twin code code' [] [] p p' q q' r t = twin_as (twin_end r t) (λ g. refl)
     no_place_twin code code' (x ∷ xs) places' p p' q q' r t = absurd r
     no_place_twin code code' [] (y ∷ ys) p p' q q' r t = absurd t
@@ -99,7 +114,8 @@ module _ (functions : List ResolvedFunctionTree) (formats locks picks picks' : L
         → Twins code code' N ((places ≡ places') × H) (with_place places row) (with_place places' row')
     with_place_twin code code' [] places' row row' h p p' q q' r t = absurd r
     with_place_twin code code' (x ∷ xs) [] row row' h p p' q q' r t = absurd t
-    with_place_twin code code' (x ∷ xs) (y ∷ ys) row row' h p p' q q' r t = twin_as (h x y xs ys p p' q q' r t) (λ g. (cc (g.0, g.1), g.2))
+    with_place_twin code code' (x ∷ xs) (y ∷ ys) row row' h p p' q q' r t = twin_as (h x y xs ys p p' q q' r t)
+        (λ g. (cc (g.0, g.1), g.2))
 
     -- the bodies of regions given, the lists of a statement, of statements, of parts
     abbrev pub Covers-in : List ℕ → Numbers → ResolvedStatementTree → Type 0
@@ -109,47 +125,70 @@ module _ (functions : List ResolvedFunctionTree) (formats locks picks picks' : L
     Covers-all outer n items = HaveCodes (all_regions f outer n items) → Covered n.picks (behind_all n items).picks
 
     abbrev pub Covers-parts : List ℕ → Numbers → ResolvedPartsTree → Type 0
-    Covers-parts outer n sections = HaveCodes (parts_regions f outer n sections) → Covered n.picks (behind_parts n sections).picks
+    Covers-parts outer n sections = HaveCodes (parts_regions f outer n sections) → Covered n.picks
+        (behind_parts n sections).picks
 
-    own : {N X : Type 0} {code code' : List Line} {p p' q q' : ℕ} (n : Numbers) → Alike code code' N (Unit {0}) p q p' q' → Alike code code' N (X → Covered n.picks n.picks) p q p' q'
+    own : {N X : Type 0} {code code' : List Line} {p p' q q' : ℕ} (n : Numbers) → Alike code code' N (Unit {0}) p q
+        p' q' → Alike code code' N (X → Covered n.picks n.picks) p q p' q'
     own n a = twin_as a (λ g h. covers_none n.picks)
 
-    assignment_twin : (l : ℕ) (s : ResolvedStatementTree) (n : Numbers) (outer : List ℕ) (base : Site) (code code' : List Line)
+    assignment_twin : (l : ℕ) (s : ResolvedStatementTree) (n : Numbers) (outer : List ℕ) (base : Site)
+        (code code' : List Line)
         → Twins code code' (Unit {0}) (Covers-in outer n s)
         (assignment_row (with_code base code picks) l s) (assignment_row (with_code base code' picks') l s)
-    assignment_twin l (Expression first e) n outer base code code' p p' q q' r t = own n (twin_free (expressions.effect_twin base code code' picks picks' l e p p' q q' r t))
+    assignment_twin l (Expression first e) n outer base code code' p p' q q' r t = own n
+        (twin_free (expressions.effect_twin base code code' picks picks' l e p p' q q' r t))
     assignment_twin l _ n outer base code code' p p' q q' r t = absurd r
 
     -- the lists of PICK in the body of a `parallel` or a `task`, by those of its statement
-    parallel_covers : (first : Span) (clauses : List ResolvedClauseTree) (captures : List Capture) (s : ResolvedStatementTree) (n : Numbers) (outer : List ℕ)
-        (h : HasCodes (record { function = f; tree = ParallelBody first clauses captures s; outer = outer; numbers = next_body n }))
+    parallel_covers : (first : Span) (clauses : List ResolvedClauseTree) (captures : List Capture)
+        (s : ResolvedStatementTree) (n : Numbers) (outer : List ℕ)
+        (h : HasCodes (record {
+          function = f;
+          tree = ParallelBody first clauses captures s;
+          outer = outer;
+          numbers =
+              next_body n;
+        }))
         → Twins h.code h.code' (Same nowhere nowhere) (Covers-in (region_variables clauses s) (next_body n) s)
         (statement (with_code (region_base clauses s) h.code picks) (next_body n) s nowhere)
         (statement (with_code (region_base clauses s) h.code' picks') (next_body n) s nowhere)
-        → HaveCodes (regions f (region_variables clauses s) (next_body n) s) → Covered n.picks (behind (next_body n) s).picks
+        → HaveCodes (regions f (region_variables clauses s) (next_body n) s) → Covered n.picks
+        (behind (next_body n) s).picks
     parallel_covers first clauses captures s n outer h twin inner =
         let r = h.one in let t = h.other in
-        let starts = heads.reduction_starts_twin (region_base clauses s) h.code h.code' picks picks' first.line clauses 1 1 r.1.0 t.1.0 r.1.1 t.1.1 in
+        let starts = heads.reduction_starts_twin (region_base clauses s) h.code h.code' picks picks' first.line
+        clauses 1 1 r.1.0 t.1.0 r.1.1 t.1.1 in
         (twin r.1.0 t.1.0 r.1.2.0 t.1.2.0 r.1.2.1 t.1.2.1).given (starts.same refl) inner
 
-    task_covers : (first : Span) (clauses : List ResolvedClauseTree) (captures : List Capture) (s : ResolvedStatementTree) (n : Numbers) (outer : List ℕ)
-        (h : HasCodes (record { function = f; tree = TaskBody first clauses captures s; outer = outer; numbers = next_body n }))
+    task_covers : (first : Span) (clauses : List ResolvedClauseTree) (captures : List Capture)
+        (s : ResolvedStatementTree) (n : Numbers) (outer : List ℕ)
+        (h : HasCodes (record {
+          function = f;
+          tree = TaskBody first clauses captures s;
+          outer = outer;
+          numbers =
+              next_body n;
+        }))
         → Twins h.code h.code' (Same nowhere nowhere) (Covers-in (region_variables clauses s) (next_body n) s)
         (statement (with_code (region_base clauses s) h.code picks) (next_body n) s nowhere)
         (statement (with_code (region_base clauses s) h.code' picks') (next_body n) s nowhere)
-        → HaveCodes (regions f (region_variables clauses s) (next_body n) s) → Covered n.picks (behind (next_body n) s).picks
+        → HaveCodes (regions f (region_variables clauses s) (next_body n) s) → Covered n.picks
+        (behind (next_body n) s).picks
     task_covers first clauses captures s n outer h twin inner =
         let r = h.one in let t = h.other in (twin 0 0 r.0 t.0 r.1 t.1).given refl inner
 
     mutual
       unfolding regions all_regions parts_regions
 
-      pub statement_twin : (s : ResolvedStatementTree) (n : Numbers) (outer : List ℕ) (base : Site) (code code' : List Line) (j j' : Jumps)
+      pub statement_twin : (s : ResolvedStatementTree) (n : Numbers) (outer : List ℕ) (base : Site)
+          (code code' : List Line) (j j' : Jumps)
           → Twins code code' (Same j j') (Covers-in outer n s)
           (statement (with_code base code picks) n s j) (statement (with_code base code' picks') n s j')
       statement_twin (Declaration first ds) n outer base code code' j j' p p' q q' r t =
           own n (twin_free (heads.declarators_twin base code code' picks picks' first.line ds p p' q q' r t))
-      statement_twin (Block first items) n outer base code code' j j' p p' q q' r t = statements_twin items n outer base code code' j j' p p' q q' r t
+      statement_twin (Block first items) n outer base code code' j j' p p' q q' r t = statements_twin items n outer
+          base code code' j j' p p' q q' r t
       statement_twin (Empty first) n outer base code code' j j' p p' q q' r t = own n (twin_end r t)
       statement_twin (Expression first e) n outer base code code' j j' p p' q q' r t =
           own n (twin_free (expressions.effect_twin base code code' picks picks' first.line e p p' q q' r t))
@@ -167,7 +206,8 @@ module _ (functions : List ResolvedFunctionTree) (formats locks picks picks' : L
           twin_within r t (λ k. k.0) (statement_twin s n outer base code code' j j' (m + 1) (m' + 1)) (λ m m' r t.
           twin_jump r t (λ k. ap i.Jump k.1.1) (λ r t.
           twin_here r t (λ r t.
-          twin_within r t (λ k. k.0) (statement_twin u (behind n s) outer base code code' j j' (m + 1) (m' + 1)) (λ m m' r t.
+          twin_within r t (λ k. k.0) (statement_twin u (behind n s) outer base code code' j j' (m + 1) (m' + 1))
+          (λ m m' r t.
           twin_here r t twin_end)))))))
           (λ g. (g.1.0, g.1.1.1.0)) (λ g h. covers_join n.picks (behind n s).picks (behind (behind n s) u).picks
           (g.0 (front (regions f outer n s) (regions f outer (behind n s) u) h))
@@ -177,14 +217,16 @@ module _ (functions : List ResolvedFunctionTree) (formats locks picks picks' : L
           (twin_here r.2 t.2 (λ u v.
           twin_part u v (expressions.value_twin base code code' picks picks' first.line c p p') (λ m m' u v.
           twin_jump u v (λ k. ap i.JumpIfZero k.1.1) (λ u v.
-          twin_within u v (λ k. (ap Some k.1.1, ap Some k.1.0)) (statement_twin s n outer base code code' (in_loop r.1 r.0) (in_loop t.1 t.0) (m + 1) (m' + 1)) (λ m m' u v.
+          twin_within u v (λ k. (ap Some k.1.1, ap Some k.1.0)) (statement_twin s n outer base code code'
+          (in_loop r.1 r.0) (in_loop t.1 t.0) (m + 1) (m' + 1)) (λ m m' u v.
           twin_jump u v (λ k. ap i.Jump k.1.0) (λ u v.
           twin_here u v twin_end))))))
           (λ g. (g.0, g.1.1.0)) (λ g. g.1.0)
       statement_twin (Do first s c) n outer base code code' j j' p p' q q' r t =
           twin_closed {L = (r.0 ≡ t.0) × (r.1 ≡ t.1) × (r.2 ≡ t.2)}
           (twin_here r.3 t.3 (λ u v.
-          twin_within u v (λ k. (ap Some k.1.2, ap Some k.1.1)) (statement_twin s n outer base code code' (in_loop r.2 r.1) (in_loop t.2 t.1) p p') (λ m m' u v.
+          twin_within u v (λ k. (ap Some k.1.2, ap Some k.1.1)) (statement_twin s n outer base code code'
+          (in_loop r.2 r.1) (in_loop t.2 t.1) p p') (λ m m' u v.
           twin_here u v (λ u v.
           twin_part u v (expressions.value_twin base code code' picks picks' first.line c m m') (λ m m' u v.
           twin_jump u v (λ k. ap i.JumpIfZero k.1.2) (λ u v.
@@ -196,12 +238,15 @@ module _ (functions : List ResolvedFunctionTree) (formats locks picks picks' : L
           (twin_part r.3 t.3 (heads.start_twin base code code' picks picks' first.line begin p p') (λ m m' u v.
           twin_here u v (λ u v.
           twin_within u v (λ k. k.1.2)
-          (heads.perhaps_twin base code code' picks picks' (test (with_code base code picks) first.line r.2) (test (with_code base code' picks') first.line t.2) c
+          (heads.perhaps_twin base code code' picks picks' (test (with_code base code picks) first.line r.2)
+          (test (with_code base code' picks') first.line t.2) c
           (heads.test_twin base code code' picks picks' first.line r.2 t.2) m m') (λ m m' u v.
-          twin_within u v (λ k. (ap Some k.1.2, ap Some k.1.1)) (statement_twin s n outer base code code' (in_loop r.2 r.1) (in_loop t.2 t.1) m m') (λ m m' u v.
+          twin_within u v (λ k. (ap Some k.1.2, ap Some k.1.1)) (statement_twin s n outer base code code'
+          (in_loop r.2 r.1) (in_loop t.2 t.1) m m') (λ m m' u v.
           twin_here u v (λ u v.
           twin_part u v
-          (heads.perhaps_twin base code code' picks picks' (effect (with_code base code picks) first.line) (effect (with_code base code' picks') first.line) step
+          (heads.perhaps_twin base code code' picks picks' (effect (with_code base code picks) first.line)
+          (effect (with_code base code' picks') first.line) step
           (expressions.effect_twin base code code' picks picks' first.line) m m') (λ m m' u v.
           twin_jump u v (λ k. ap i.Jump k.1.0) (λ u v.
           twin_here u v twin_end))))))))
@@ -209,28 +254,38 @@ module _ (functions : List ResolvedFunctionTree) (formats locks picks picks' : L
       statement_twin (Return first e) n outer base code code' j j' p p' q q' r t =
           own n (twin_free (heads.returned_twin base code code' picks picks' first.line base.is_main e p p' q q' r t))
       statement_twin (Break first) n outer base code code' j j' p p' q q' r t =
-          own n (twin_more (heads.jump_twin base code code' picks picks' first.line j.over j'.over p p' q q' r t) (λ k. k.0))
+          own n (twin_more (heads.jump_twin base code code' picks picks' first.line j.over j'.over p p' q q' r t)
+          (λ k. k.0))
       statement_twin (Continue first) n outer base code code' j j' p p' q q' r t =
-          own n (twin_more (heads.jump_twin base code code' picks picks' first.line j.next j'.next p p' q q' r t) (λ k. k.1))
+          own n (twin_more (heads.jump_twin base code code' picks picks' first.line j.next j'.next p p' q q' r t)
+          (λ k. k.1))
       statement_twin (Parallel first clauses captures s) n outer base code code' j j' p p' q q' r t =
           twin_as
-          (twin_more (heads.parallel_twin base code code' picks picks' first.line n.bodies (clause_value clauses) (given_copies clauses captures s) p p' q q' r t) (λ k. tt))
+          (twin_more (heads.parallel_twin base code code' picks picks' first.line n.bodies (clause_value clauses)
+          (given_copies clauses captures s) p p' q q' r t) (λ k. tt))
           (λ g h. parallel_covers first clauses captures s n outer h.0
-          (statement_twin s (next_body n) (region_variables clauses s) (region_base clauses s) h.0.code h.0.code' nowhere nowhere) h.1)
+          (statement_twin s (next_body n) (region_variables clauses s) (region_base clauses s) h.0.code h.0.code'
+          nowhere nowhere) h.1)
       statement_twin (Task first clauses captures s) n outer base code code' j j' p p' q q' r t =
           twin_as
-          (twin_more (heads.task_twin base code code' picks picks' first.line n.bodies (given_copies clauses captures s) p p' q q' r t) (λ k. tt))
+          (twin_more (heads.task_twin base code code' picks picks' first.line n.bodies
+          (given_copies clauses captures s) p p' q q' r t) (λ k. tt))
           (λ g h. task_covers first clauses captures s n outer h.0
-          (statement_twin s (next_body n) (region_variables clauses s) (region_base clauses s) h.0.code h.0.code' nowhere nowhere) h.1)
+          (statement_twin s (next_body n) (region_variables clauses s) (region_base clauses s) h.0.code h.0.code'
+          nowhere nowhere) h.1)
       statement_twin (Loop first clauses nowait loop s) n outer base code code' j j' p p' q q' r t =
           twin_more
           (heads.given_twin base code code' picks picks'
-          (loop_rest (with_code base code picks) first.line clauses nowait loop (λ next. statement (with_code base code picks) n s (in_iteration next)))
-          (loop_rest (with_code base code' picks') first.line clauses nowait loop (λ next. statement (with_code base code' picks') n s (in_iteration next)))
+          (loop_rest (with_code base code picks) first.line clauses nowait loop
+          (λ next. statement (with_code base code picks) n s (in_iteration next)))
+          (loop_rest (with_code base code' picks') first.line clauses nowait loop
+          (λ next. statement (with_code base code' picks') n s (in_iteration next)))
           (comparison_of loop.comparison)
           (λ comparison. heads.loop_twin base code code' picks picks' first.line clauses nowait loop
-          (λ next. statement (with_code base code picks) n s (in_iteration next)) (λ next. statement (with_code base code' picks') n s (in_iteration next)) comparison
-          (λ next next' p p' q q' r t. twin_more (statement_twin s n outer base code code' (in_iteration next) (in_iteration next') p p' q q' r t) (λ k. (refl, ap Some k))))
+          (λ next. statement (with_code base code picks) n s (in_iteration next))
+          (λ next. statement (with_code base code' picks') n s (in_iteration next)) comparison
+          (λ next next' p p' q q' r t. twin_more (statement_twin s n outer base code code' (in_iteration next)
+          (in_iteration next') p p' q q' r t) (λ k. (refl, ap Some k))))
           p p' q q' r t)
           (λ k. tt)
       statement_twin (Sections first clauses nowait sections) n outer base code code' j j' p p' q q' r t =
@@ -241,31 +296,36 @@ module _ (functions : List ResolvedFunctionTree) (formats locks picks picks' : L
           twin_jump u v (λ k. ap i.Grab k.1.2) (λ u v.
           twin_next u v (λ u v.
           twin_within u v (λ k. k.1.1)
-          (parts_twin sections (next_pick n) outer base code code' first.line r.1 t.1 r.0 t.0 (m + 1 + 1 + 1) (m' + 1 + 1 + 1)) (λ m m' u v.
+          (parts_twin sections (next_pick n) outer base code code' first.line r.1 t.1 r.0 t.0 (m + 1 + 1 + 1)
+          (m' + 1 + 1 + 1)) (λ m m' u v.
           twin_here u v (λ u v.
           twin_part u v (heads.reductions_twin base code code' picks picks' first.line clauses m m') (λ m m' u v.
           twin_more (heads.end_twin base code code' picks picks' first.line nowait m m' q q' u v) (λ k. tt))))))))))
           (λ g. (g.1.0.0, g.0, g.1.1.0))
-          (λ g h. covers_join n.picks (n.picks + 1) (behind_parts (next_pick n) sections).picks (covers_one n.picks (r.3 ∙ ap Some g.1.0.0 ∙ sym t.3)) (g.1.0.1 h))
+          (λ g h. covers_join n.picks (n.picks + 1) (behind_parts (next_pick n) sections).picks
+          (covers_one n.picks (r.3 ∙ ap Some g.1.0.0 ∙ sym t.3)) (g.1.0.1 h))
       statement_twin (Construct first (constructs.Single nowait) clauses s) n outer base code code' j j' p p' q q' r t =
           twin_more
           (heads.single_twin base code code' picks picks' first.line nowait clauses
           (statement (with_code base code picks) n s nowhere) (statement (with_code base code' picks') n s nowhere)
-          (λ p p' q q' r t. twin_more (statement_twin s n outer base code code' nowhere nowhere p p' q q' r t) (λ k. (refl, refl)))
+          (λ p p' q q' r t. twin_more (statement_twin s n outer base code code' nowhere nowhere p p' q q' r t)
+          (λ k. (refl, refl)))
           p p' q q' r t)
           (λ k. tt)
       statement_twin (Construct first constructs.Masked clauses s) n outer base code code' j j' p p' q q' r t =
           twin_more
           (heads.masked_twin base code code' picks picks' first.line clauses
           (statement (with_code base code picks) n s nowhere) (statement (with_code base code' picks') n s nowhere)
-          (λ p p' q q' r t. twin_more (statement_twin s n outer base code code' nowhere nowhere p p' q q' r t) (λ k. (refl, refl)))
+          (λ p p' q q' r t. twin_more (statement_twin s n outer base code code' nowhere nowhere p p' q q' r t)
+          (λ k. (refl, refl)))
           p p' q q' r t)
           (λ k. tt)
       statement_twin (Construct first (constructs.Critical name) clauses s) n outer base code code' j j' p p' q q' r t =
           twin_more
           (heads.critical_twin base code code' picks picks' first.line name
           (statement (with_code base code picks) n s nowhere) (statement (with_code base code' picks') n s nowhere)
-          (λ p p' q q' r t. twin_more (statement_twin s n outer base code code' nowhere nowhere p p' q q' r t) (λ k. (refl, refl)))
+          (λ p p' q q' r t. twin_more (statement_twin s n outer base code code' nowhere nowhere p p' q q' r t)
+          (λ k. (refl, refl)))
           p p' q q' r t)
           (λ k. tt)
       statement_twin (Construct first constructs.Atomic clauses s) n outer base code code' j j' p p' q q' r t =
@@ -274,7 +334,8 @@ module _ (functions : List ResolvedFunctionTree) (formats locks picks picks' : L
           twin_more
           (heads.group_twin base code code' picks picks' first.line
           (statement (with_code base code picks) n s nowhere) (statement (with_code base code' picks') n s nowhere)
-          (λ p p' q q' r t. twin_more (statement_twin s n outer base code code' nowhere nowhere p p' q q' r t) (λ k. (refl, refl)))
+          (λ p p' q q' r t. twin_more (statement_twin s n outer base code code' nowhere nowhere p p' q q' r t)
+          (λ k. (refl, refl)))
           p p' q q' r t)
           (λ k. tt)
       statement_twin (Update first u) n outer base code code' j j' p p' q q' r t =
@@ -282,7 +343,8 @@ module _ (functions : List ResolvedFunctionTree) (formats locks picks picks' : L
       statement_twin (StandAlone first directive) n outer base code code' j j' p p' q q' r t =
           own n (twin_free (heads.alone_twin base code code' picks picks' first.line directive p p' q q' r t))
 
-      pub statements_twin : (items : ResolvedStatementsTree) (n : Numbers) (outer : List ℕ) (base : Site) (code code' : List Line) (j j' : Jumps)
+      pub statements_twin : (items : ResolvedStatementsTree) (n : Numbers) (outer : List ℕ) (base : Site)
+          (code code' : List Line) (j j' : Jumps)
           → Twins code code' (Same j j') (Covers-all outer n items)
           (statements (with_code base code picks) n items j) (statements (with_code base code' picks') n items j')
       statements_twin NoStatements n outer base code code' j j' p p' q q' r t = own n (twin_end r t)
@@ -294,21 +356,26 @@ module _ (functions : List ResolvedFunctionTree) (formats locks picks picks' : L
           (g.0 (front (regions f outer n s) (all_regions f outer (behind n s) rest) h))
           (g.1 (back (regions f outer n s) (all_regions f outer (behind n s) rest) h)))
 
-      pub parts_twin : (sections : ResolvedPartsTree) (n : Numbers) (outer : List ℕ) (base : Site) (code code' : List Line) (l grab grab' : ℕ) (places places' : List ℕ)
+      pub parts_twin : (sections : ResolvedPartsTree) (n : Numbers) (outer : List ℕ) (base : Site)
+          (code code' : List Line) (l grab grab' : ℕ) (places places' : List ℕ)
           → Twins code code' (grab ≡ grab') ((places ≡ places') × Covers-parts outer n sections)
-          (parts (with_code base code picks) n l grab sections places) (parts (with_code base code' picks') n l grab' sections places')
+          (parts (with_code base code picks) n l grab sections places) (parts (with_code base code' picks') n l
+          grab' sections places')
       parts_twin NoParts n outer base code code' l grab grab' places places' p p' q q' r t =
           twin_as (no_place_twin code code' places places' p p' q q' r t) (λ g. (g, λ h. covers_none n.picks))
       parts_twin (Part items rest) n outer base code code' l grab grab' places places' p p' q q' r t =
           with_place_twin code code' places places'
-          (λ x xs. here x ▸ part (statements (with_code base code picks) n items nowhere) ▸ ins (with_code base code picks) l (i.Jump grab)
+          (λ x xs. here x ▸ part (statements (with_code base code picks) n items nowhere) ▸ ins
+          (with_code base code picks) l (i.Jump grab)
           ▸ parts (with_code base code picks) (behind_all n items) l grab rest xs)
-          (λ x xs. here x ▸ part (statements (with_code base code' picks') n items nowhere) ▸ ins (with_code base code' picks') l (i.Jump grab')
+          (λ x xs. here x ▸ part (statements (with_code base code' picks') n items nowhere) ▸ ins
+          (with_code base code' picks') l (i.Jump grab')
           ▸ parts (with_code base code' picks') (behind_all n items) l grab' rest xs)
           (λ x y xs ys p p' q q' r t.
           twin_as
           (twin_here r t (λ r t.
-          twin_within r t (λ k. (refl, refl)) (statements_twin items n outer base code code' nowhere nowhere p p') (λ m m' r t.
+          twin_within r t (λ k. (refl, refl)) (statements_twin items n outer base code code' nowhere nowhere p p')
+          (λ m m' r t.
           twin_jump r t (λ k. ap i.Jump k) (λ r t.
           parts_twin rest (behind_all n items) outer base code code' l grab grab' xs ys (m + 1) (m' + 1) q q' r t))))
           (λ g. (

@@ -1,5 +1,6 @@
 -- A whole tree has code, and a tree of which there is code has code.
-use Rattle.std.proofs.Common.{◌≡◌, ℕ, zero, suc, ◌<◌, Bool, true, List, [], ◌∷◌, ◌++◌, length, Option, Some, None, refl, sym, ap, ◌∙◌, arith}
+use Rattle.std.proofs.Common.{◌≡◌, ℕ, zero, suc, ◌<◌, Bool, true, List, [], ◌∷◌, ◌++◌, length, Option, Some, None, refl}
+use Rattle.std.proofs.Common.{sym, ap, ◌∙◌, arith}
 use Rattle.std.specs.Prelude.{All, Any, IsSome, IsSomeAnd, map, option_map, position, slice_get}
 use Rattle.std.specs.List.{AllZip}
 use Rattle.std.specs.Str.{bytes_eq}
@@ -10,14 +11,17 @@ use Rattle.om_code.specs.declared.raw.Body.{Body}
 use Rattle.om_code.specs.declared.raw.Piece as texts
 use Rattle.om_code.specs.declared.raw.Raw.{Raw}
 use Rattle.om_resolved.specs.Formats.{Piece, pieces_of, IsFormat, value_count}
-use Rattle.om_resolved.specs.ResolvedTree.{ResolvedExpressionTree, Constant, Variable, Element, Call, ThreadNumber, TeamSize, Print, Unary, Binary, Conditional, Assign, AssignElement, Postfix, PostfixElement, ValuesTree, NoValues, Value, ResolvedTree}
+use Rattle.om_resolved.specs.ResolvedTree.{ResolvedExpressionTree, Constant, Variable, Element, Call, ThreadNumber}
+use Rattle.om_resolved.specs.ResolvedTree.{TeamSize, Print, Unary, Binary, Conditional, Assign, AssignElement, Postfix}
+use Rattle.om_resolved.specs.ResolvedTree.{PostfixElement, ValuesTree, NoValues, Value, ResolvedTree}
 use Rattle.om_resolved.specs.Uses.{is_main_function}
 use Rattle.om_resolved.specs.Whole.{Around, IsWhole, AreWhole, count_of}
 use Rattle.om_rows.specs.Bodies.{BodySite, bodies_of, first_numbers, called_body}
 use Rattle.om_rows.specs.Code.{site_of, IsBodyOf}
 use Rattle.om_rows.specs.Coded.{BodyHasCode}
 use Rattle.om_rows.specs.Laws.{WholeHasCode, RowsHaveCode}
-use Rattle.om_rows.specs.Mentions.{expression_formats, values_formats, format_mention, formats_of, tree_mentioned, IsTextOf, text_piece}
+use Rattle.om_rows.specs.Mentions.{expression_formats, values_formats, format_mention, formats_of, tree_mentioned}
+use Rattle.om_rows.specs.Mentions.{IsTextOf, text_piece}
 use Rattle.om_rows.proofs.RowsCode.{body_says}
 use Rattle.om_rows.proofs.WholeCode.{whole_bodies}
 use Rattle.om_rows.proofs.WholeMentions.{table_all, functions_all}
@@ -35,7 +39,8 @@ format_cut format count w = cut (pieces_of format) w
 mutual
   unfolding expression_formats values_formats
 
-  expression_cut : (e : ResolvedExpressionTree) (around : Around) (used : Bool) → IsWhole around used e → All IsCut (expression_formats e)
+  expression_cut : (e : ResolvedExpressionTree) (around : Around) (used : Bool) → IsWhole around used e
+      → All IsCut (expression_formats e)
   expression_cut (Constant n) around used w = All-nil IsCut
   expression_cut (Variable x) around used w = All-nil IsCut
   expression_cut (Element a j) around used w = expression_cut j around true w.1
@@ -46,37 +51,45 @@ mutual
       All-cons IsCut format (values_formats es) (format_cut format (count_of es) w.1) (values_cut es around w.3)
   expression_cut (Unary o e) around used w = expression_cut e around true w
   expression_cut (Binary a o b) around used w =
-      All-append IsCut (expression_formats a) (expression_formats b) (expression_cut a around true w.0) (expression_cut b around true w.1)
+      All-append IsCut (expression_formats a) (expression_formats b) (expression_cut a around true w.0)
+      (expression_cut b around true w.1)
   expression_cut (Conditional c a b) around used w =
-      All-append IsCut (expression_formats c) (expression_formats a ++ expression_formats b) (expression_cut c around true w.0)
-      (All-append IsCut (expression_formats a) (expression_formats b) (expression_cut a around true w.1) (expression_cut b around true w.2))
+      All-append IsCut (expression_formats c) (expression_formats a ++ expression_formats b)
+      (expression_cut c around true w.0)
+      (All-append IsCut (expression_formats a) (expression_formats b) (expression_cut a around true w.1)
+      (expression_cut b around true w.2))
   expression_cut (Assign x o e) around used w = expression_cut e around true w.1
   expression_cut (AssignElement a j o e) around used w =
-      All-append IsCut (expression_formats j) (expression_formats e) (expression_cut j around true w.1) (expression_cut e around true w.2)
+      All-append IsCut (expression_formats j) (expression_formats e) (expression_cut j around true w.1)
+      (expression_cut e around true w.2)
   expression_cut (Postfix x o) around used w = All-nil IsCut
   expression_cut (PostfixElement a j o) around used w = expression_cut j around true w.1
 
   values_cut : (es : ValuesTree) (around : Around) → AreWhole around es → All IsCut (values_formats es)
   values_cut NoValues around w = All-nil IsCut
   values_cut (Value e rest) around w =
-      All-append IsCut (expression_formats e) (values_formats rest) (expression_cut e around true w.0) (values_cut rest around w.1)
+      All-append IsCut (expression_formats e) (values_formats rest) (expression_cut e around true w.0)
+      (values_cut rest around w.1)
 
 pub whole_has_code : WholeHasCode
 whole_has_code tree w a = record {
   bodies = whole_bodies tree.globals tree.functions tree.functions first_numbers w.functions a;
   formats = table_all IsCut bytes_eq (tree_mentioned format_mention tree) [] (All-nil IsCut)
-      (functions_all format_mention IsCut expression_cut (λ d w. All-nil IsCut) (λ kind. All-nil IsCut) tree.globals tree.functions tree.functions w.functions);
+      (functions_all format_mention IsCut expression_cut (λ d w. All-nil IsCut) (λ kind. All-nil IsCut) tree.globals
+      tree.functions tree.functions w.functions);
   main = (w.main.0, w.main.1, w.main.2, w.main.3, w.main.4.named);
 }
 
 -- ---- from code
 
 module _ (tree : ResolvedTree) (raw : Raw) where
-  bodies_say : (bs : List BodySite) (xs : List Body) → AllZip (IsBodyOf tree raw) bs xs → All (λ b. BodyHasCode b.function b.tree) bs
+  bodies_say : (bs : List BodySite) (xs : List Body) → AllZip (IsBodyOf tree raw) bs xs
+      → All (λ b. BodyHasCode b.function b.tree) bs
   bodies_say [] xs a = All-nil (λ b. BodyHasCode b.function b.tree)
   bodies_say (b ∷ bs) [] a = absurd a
   bodies_say (b ∷ bs) (x ∷ xs) a =
-      All-cons (λ b. BodyHasCode b.function b.tree) b bs (body_says (site_of tree raw b x) b.numbers b.function b.tree 0 _ a.0.code) (bodies_say bs xs a.1)
+      All-cons (λ b. BodyHasCode b.function b.tree) b bs (body_says (site_of tree raw b x) b.numbers b.function
+      b.tree 0 _ a.0.code) (bodies_say bs xs a.1)
 
 texts_say : (formats : List (List ℕ)) (xs : List (List texts.Piece)) → AllZip IsTextOf formats xs → All IsCut formats
 texts_say [] xs a = All-nil IsCut
@@ -93,7 +106,8 @@ element_there (x ∷ xs) zero lt = (x, refl)
 element_there (x ∷ xs) (suc k) lt = element_there xs k (omega (arith, lt))
 
 -- where the first that passes is, one passes
-pub position_there : {A : Type 0} (test : A → Bool) (xs : List A) (k : ℕ) → position test xs ≡ Some k → (x : A) × (slice_get xs k ≡ Some x) × (test x ≡ true)
+pub position_there : {A : Type 0} (test : A → Bool) (xs : List A) (k : ℕ) → position test xs ≡ Some k → (x : A)
+    × (slice_get xs k ≡ Some x) × (test x ≡ true)
 position_there {A} test xs k e = first xs refl e
   where
     -- a default of the type is at hand only where there is an element
@@ -104,11 +118,13 @@ position_there {A} test xs k e = first xs refl e
         let x = element_there (d ∷ ds) k at.0 in
         (x.0, ap (λ z. slice_get z k) same ∙ x.1, ap test (sym (get_or_from_slice_get (d ∷ ds) k x.0 d x.1)) ∙ at.1)
 
-pub mapped_there : {A B : Type 0} (f : A → B) (o : Option A) (y : B) → option_map f o ≡ Some y → (x : A) × (o ≡ Some x) × (f x ≡ y)
+pub mapped_there : {A B : Type 0} (f : A → B) (o : Option A) (y : B) → option_map f o ≡ Some y → (x : A)
+    × (o ≡ Some x) × (f x ≡ y)
 mapped_there f None y e = absurd cc
 mapped_there f (Some x) y e = (x, refl, cc e)
 
-main_says : (tree : ResolvedTree) (m : ℕ) → option_map (called_body tree.functions) (position is_main_function tree.functions) ≡ Some m
+main_says : (tree : ResolvedTree) (m : ℕ) → option_map (called_body tree.functions)
+    (position is_main_function tree.functions) ≡ Some m
     → Any (λ function. is_main_function function ≡ true) tree.functions
 main_says tree m e =
     let k = mapped_there (called_body tree.functions) (position is_main_function tree.functions) m e in

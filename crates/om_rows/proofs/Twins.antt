@@ -8,14 +8,16 @@ use Rattle.om_code.specs.declared.raw.Line.{Line}
 pub record Agree (code code' : List Line) (p q : ℕ) : Type 0 where
   pub by : (k : ℕ) → p ≤ k → k < q → slice_get code k ≡ slice_get code' k
 
--- one code from p to q, the other from p' to q': if they begin at one place they end at one, labels stand at the same places, and
+-- one code from p to q, the other from p' to q': if they begin at one place they end at one, labels stand at
+-- the same places, and
 -- where what they need is so, they agree
 pub record Alike (code code' : List Line) (needs gives : Type 0) (p q p' q' : ℕ) : Type 0 where
   pub same : p ≡ p' → q ≡ q'
   pub given : p ≡ p' → gives
   pub agree : p ≡ p' → needs → Agree code code' p q
 
-pub twin_end : {code code' : List Line} {N : Type 0} {p q p' q' : ℕ} → p ≡ q → p' ≡ q' → Alike code code' N (Unit {0}) p q p' q'
+pub twin_end : {code code' : List Line} {N : Type 0} {p q p' q' : ℕ} → p ≡ q → p' ≡ q' → Alike code code' N
+    (Unit {0}) p q p' q'
 twin_end {code} {code'} {N} {p} {q} r t = record {
   same = λ e. sym r ∙ e ∙ t;
   given = λ e. tt;
@@ -35,7 +37,8 @@ twin_jump {code} {code'} {N} {G} {R} {R'} {p} {q} {p'} {q'} {l} {x} {y} r t is k
             ⊎_elim
             (λ (below : k < p + 1).
             let here : k ≡ p = omega arith in
-            ap (λ z. slice_get code z) here ∙ r.0 ∙ ap (λ (z : Instr). Some (record { instruction = z; line = l })) (is n) ∙ sym t.0 ∙ ap (λ z. slice_get code' z) (sym e ∙ sym here))
+            ap (λ z. slice_get code z) here ∙ r.0 ∙ ap (λ (z : Instr). Some (record { instruction = z; line = l }))
+            (is n) ∙ sym t.0 ∙ ap (λ z. slice_get code' z) (sym e ∙ sym here))
             (λ (behind : p + 1 ≤ k). (rest.agree (ap (λ z. z + 1) e) n).by k behind lt)
             (cases_lt k (p + 1));
       };
@@ -50,33 +53,40 @@ twin_next r t k = twin_jump r t (λ n. refl) k
 -- a part whose code needs something, and gives something
 pub twin_within : {code code' : List Line} {N M G H : Type 0} {A A' R R' : ℕ → Type 0} {p q p' q' : ℕ}
     → (m : ℕ) × A m × R m → (m : ℕ) × A' m × R' m → (N → M)
-    → ((m m' : ℕ) → A m → A' m' → Alike code code' M H p m p' m') → ((m m' : ℕ) → R m → R' m' → Alike code code' N G m q m' q') → Alike code code' N (H × G) p q p' q'
+    → ((m m' : ℕ) → A m → A' m' → Alike code code' M H p m p' m')
+    → ((m m' : ℕ) → R m → R' m' → Alike code code' N G m q m' q') → Alike code code' N (H × G) p q p' q'
 twin_within {code} {code'} {N} {M} {G} {H} {A} {A'} {R} {R'} {p} {q} {p'} {q'} r t need first rest =
     let f = first r.0 t.0 r.1 t.1 in let g = rest r.0 t.0 r.2 t.2 in record {
       same = λ e. g.same (f.same e);
       given = λ e. (f.given e, g.given (f.same e));
       agree = λ e n. record {
         by = λ k le lt.
-            ⊎_elim (λ (below : k < r.0). (f.agree e (need n)).by k le below) (λ (behind : r.0 ≤ k). (g.agree (f.same e) n).by k behind lt) (cases_lt k r.0);
+            ⊎_elim (λ (below : k < r.0). (f.agree e (need n)).by k le below)
+            (λ (behind : r.0 ≤ k). (g.agree (f.same e) n).by k behind lt) (cases_lt k r.0);
       };
     }
 
-pub twin_as : {code code' : List Line} {N G H : Type 0} {p q p' q' : ℕ} → Alike code code' N G p q p' q' → (G → H) → Alike code code' N H p q p' q'
+pub twin_as : {code code' : List Line} {N G H : Type 0} {p q p' q' : ℕ} → Alike code code' N G p q p' q' → (G → H)
+    → Alike code code' N H p q p' q'
 twin_as a f = record { same = a.same; given = λ e. f (a.given e); agree = a.agree }
 
-pub twin_more : {code code' : List Line} {N M G : Type 0} {p q p' q' : ℕ} → Alike code code' N G p q p' q' → (M → N) → Alike code code' M G p q p' q'
+pub twin_more : {code code' : List Line} {N M G : Type 0} {p q p' q' : ℕ} → Alike code code' N G p q p' q' → (M → N)
+    → Alike code code' M G p q p' q'
 twin_more a f = record { same = a.same; given = a.given; agree = λ e n. a.agree e (f n) }
 
-pub twin_free : {code code' : List Line} {N G : Type 0} {p q p' q' : ℕ} → Alike code code' (Unit {0}) G p q p' q' → Alike code code' N G p q p' q'
+pub twin_free : {code code' : List Line} {N G : Type 0} {p q p' q' : ℕ} → Alike code code' (Unit {0}) G p q p' q'
+    → Alike code code' N G p q p' q'
 twin_free a = twin_more a (λ n. tt)
 
 -- a part that needs nothing
 pub twin_part : {code code' : List Line} {N G : Type 0} {A A' R R' : ℕ → Type 0} {p q p' q' : ℕ}
     → (m : ℕ) × A m × R m → (m : ℕ) × A' m × R' m
-    → ((m m' : ℕ) → A m → A' m' → Alike code code' (Unit {0}) (Unit {0}) p m p' m') → ((m m' : ℕ) → R m → R' m' → Alike code code' N G m q m' q') → Alike code code' N G p q p' q'
+    → ((m m' : ℕ) → A m → A' m' → Alike code code' (Unit {0}) (Unit {0}) p m p' m')
+    → ((m m' : ℕ) → R m → R' m' → Alike code code' N G m q m' q') → Alike code code' N G p q p' q'
 twin_part r t first rest = twin_as (twin_within r t (λ n. tt) first rest) (λ g. g.1)
 
-pub twin_here : {code code' : List Line} {N G R R' : Type 0} {p q p' q' f g : ℕ} → (f ≡ p) × R → (g ≡ p') × R' → (R → R' → Alike code code' N G p q p' q') → Alike code code' N ((f ≡ g) × G) p q p' q'
+pub twin_here : {code code' : List Line} {N G R R' : Type 0} {p q p' q' f g : ℕ} → (f ≡ p) × R → (g ≡ p') × R'
+    → (R → R' → Alike code code' N G p q p' q') → Alike code code' N ((f ≡ g) × G) p q p' q'
 twin_here r t k = let rest = k r.1 t.1 in record {
   same = rest.same;
   given = λ e. (r.0 ∙ e ∙ sym t.0, rest.given e);
@@ -84,7 +94,8 @@ twin_here r t k = let rest = k r.1 t.1 in record {
 }
 
 -- what the labels of a row need is what its labels give
-pub twin_closed : {code code' : List Line} {N L G H : Type 0} {p q p' q' : ℕ} → Alike code code' (N × L) G p q p' q' → (G → L) → (G → H) → Alike code code' N H p q p' q'
+pub twin_closed : {code code' : List Line} {N L G H : Type 0} {p q p' q' : ℕ} → Alike code code' (N × L) G p q p' q'
+    → (G → L) → (G → H) → Alike code code' N H p q p' q'
 twin_closed a labels out = record {
   same = a.same;
   given = λ e. out (a.given e);

@@ -1,9 +1,14 @@
--- The bodies of a program: those of functions, of `parallel` and of `task`, numbered together from 0 by the places where they begin.
+-- The bodies of a program: those of functions, of `parallel` and of `task`, numbered together from 0 by the
+-- places where they begin.
 use Rattle.std.specs.Prelude.{ℕ, ◌+◌, List, [], ◌∷◌, ◌++◌, map, take, nat_eq}
 use Rattle.std.specs.List.{flat_map}
 use Rattle.om_lexer.specs.declared.token.Span.{Span}
 use Rattle.om_resolved.specs.declared.resolved.Capture.{Capture}
-use Rattle.om_resolved.specs.ResolvedTree.{ResolvedClauseTree, ResolvedStatementTree, Declaration, Block, Empty, Expression, If, IfElse, While, Do, For, Return, Break, Continue, Parallel, Task, Loop, Sections, Construct, Update, StandAlone, ResolvedStatementsTree, NoStatements, Statement, ResolvedPartsTree, NoParts, Part, ResolvedFunctionTree, ResolvedTree}
+use Rattle.om_resolved.specs.ResolvedTree.{ResolvedClauseTree, ResolvedStatementTree, Declaration, Block, Empty}
+use Rattle.om_resolved.specs.ResolvedTree.{Expression, If, IfElse, While, Do, For, Return, Break, Continue, Parallel}
+use Rattle.om_resolved.specs.ResolvedTree.{Task, Loop, Sections, Construct, Update, StandAlone, ResolvedStatementsTree}
+use Rattle.om_resolved.specs.ResolvedTree.{NoStatements, Statement, ResolvedPartsTree, NoParts, Part}
+use Rattle.om_resolved.specs.ResolvedTree.{ResolvedFunctionTree, ResolvedTree}
 use Rattle.om_rows.specs.Slots.{parameter_sight, region_clause_sights, statement_sights, statements_sights}
 use Rattle.om_rows.specs.Tables.{table_of}
 
@@ -75,7 +80,8 @@ pub data BodyTree : Type 0 where
   ParallelBody : Span → List ResolvedClauseTree → List Capture → ResolvedStatementTree → BodyTree
   TaskBody : Span → List ResolvedClauseTree → List Capture → ResolvedStatementTree → BodyTree
 
--- a body, where it stands: in a function, in a body with these variables by their slots, and with these numbers at its begin
+-- a body, where it stands: in a function, in a body with these variables by their slots, and with these
+-- numbers at its begin
 pub record BodySite : Type 0 where
   pub function : ResolvedFunctionTree
   pub tree : BodyTree
@@ -131,7 +137,8 @@ unfoldable mutual
 
   pub parts_regions : ResolvedFunctionTree → List ℕ → Numbers → ResolvedPartsTree → List BodySite
   parts_regions f outer n NoParts = []
-  parts_regions f outer n (Part items rest) = all_regions f outer n items ++ parts_regions f outer (behind_all n items) rest
+  parts_regions f outer n (Part items rest) = all_regions f outer n items ++ parts_regions f outer
+      (behind_all n items) rest
 
 -- the body of a function, and those in it
 abbrev pub function_bodies : Numbers → ResolvedFunctionTree → List BodySite

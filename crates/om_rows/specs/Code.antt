@@ -12,7 +12,8 @@ use Rattle.om_resolved.specs.declared.resolved.Capture.{Capture}
 use Rattle.om_resolved.specs.declared.resolved.GlobalVariable.{GlobalVariable}
 use Rattle.om_resolved.specs.Uses.{is_main_function}
 use Rattle.om_resolved.specs.ResolvedTree.{ResolvedFunctionTree, ResolvedTree}
-use Rattle.om_rows.specs.Bodies.{Numbers, BodyTree, FunctionBody, ParallelBody, TaskBody, BodySite, variables_of, bodies_of, behind_functions, first_numbers, called_body}
+use Rattle.om_rows.specs.Bodies.{Numbers, BodyTree, FunctionBody, ParallelBody, TaskBody, BodySite, variables_of}
+use Rattle.om_rows.specs.Bodies.{bodies_of, behind_functions, first_numbers, called_body}
 use Rattle.om_rows.specs.Mentions.{extents_of, formats_of, locks_of, IsTextOf}
 use Rattle.om_rows.specs.Rows.{Site, Row, end, ins, part, ◌▸◌}
 use Rattle.om_rows.specs.Slots.{parameter_sight, slot_of, slot_with}
@@ -31,14 +32,16 @@ body_row at n f FunctionBody =
     part (statements at n f.body nowhere) ▸ ins at f.closing_line (last_instruction at.is_main) ▸ end
 body_row at n f (ParallelBody first clauses captures s) =
     ins at first.line i.Begin ▸ part (reduction_starts at first.line clauses) ▸ part (statement at n s nowhere)
-    ▸ part (reductions at first.line clauses) ▸ ins at first.line (i.Arrive barriers.Parallel) ▸ ins at first.line i.Leave ▸ end
+    ▸ part (reductions at first.line clauses) ▸ ins at first.line (i.Arrive barriers.Parallel) ▸ ins at first.line
+    i.Leave ▸ end
 body_row at n f (TaskBody first clauses captures s) =
     part (statement at n s nowhere) ▸ ins at first.line i.TaskEnd ▸ end
 
 -- the variables that the values go to with which a frame of a body begins
 abbrev pub given_variables : ResolvedFunctionTree → BodyTree → List ℕ
 given_variables f FunctionBody = map parameter_sight f.parameters
-given_variables f (ParallelBody first clauses captures s) = map (λ copy. copy.variable) (given_copies clauses captures s)
+given_variables f (ParallelBody first clauses captures s) = map (λ copy. copy.variable)
+    (given_copies clauses captures s)
 given_variables f (TaskBody first clauses captures s) = map (λ copy. copy.variable) (given_copies clauses captures s)
 
 -- what a body takes from the body round it

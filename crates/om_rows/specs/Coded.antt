@@ -5,7 +5,15 @@ use Rattle.std.specs.Prelude.{◌≡◌, Bool, true, false, All, Any, IfSome, Is
 use Rattle.om_resolved.specs.declared.resolved.ConstructKind.TheVariants as constructs
 use Rattle.om_resolved.specs.Formats.{pieces_of}
 use Rattle.om_resolved.specs.Uses.{is_main_function}
-use Rattle.om_resolved.specs.ResolvedTree.{ResolvedExpressionTree, Element, Call, Print, Unary, Binary, Conditional, Assign, AssignElement, PostfixElement, ValuesTree, NoValues, Value, ResolvedDeclaratorTree, ResolvedLoopTree, ResolvedUpdateTree, ResolvedStartTree, StartNothing, StartExpression, StartDeclaration, ResolvedStatementTree, Declaration, Block, Empty, Expression, If, IfElse, While, Do, For, Return, Break, Continue, Parallel, Task, Loop, Sections, Construct, Update, StandAlone, ResolvedStatementsTree, NoStatements, Statement, ResolvedPartsTree, NoParts, Part, ResolvedFunctionTree, ResolvedTree}
+use Rattle.om_resolved.specs.ResolvedTree.{ResolvedExpressionTree, Element, Call, Print, Unary, Binary, Conditional}
+use Rattle.om_resolved.specs.ResolvedTree.{Assign, AssignElement, PostfixElement, ValuesTree, NoValues, Value}
+use Rattle.om_resolved.specs.ResolvedTree.{ResolvedDeclaratorTree, ResolvedLoopTree, ResolvedUpdateTree}
+use Rattle.om_resolved.specs.ResolvedTree.{ResolvedStartTree, StartNothing, StartExpression, StartDeclaration}
+use Rattle.om_resolved.specs.ResolvedTree.{ResolvedStatementTree, Declaration, Block, Empty, Expression, If, IfElse}
+use Rattle.om_resolved.specs.ResolvedTree.{While, Do, For, Return, Break, Continue, Parallel, Task, Loop, Sections}
+use Rattle.om_resolved.specs.ResolvedTree.{Construct, Update, StandAlone, ResolvedStatementsTree, NoStatements}
+use Rattle.om_resolved.specs.ResolvedTree.{Statement, ResolvedPartsTree, NoParts, Part, ResolvedFunctionTree}
+use Rattle.om_resolved.specs.ResolvedTree.{ResolvedTree}
 use Rattle.om_rows.specs.Bodies.{BodyTree, FunctionBody, ParallelBody, TaskBody, bodies_of}
 use Rattle.om_rows.specs.Mentions.{formats_of}
 use Rattle.om_rows.specs.Operators.{comparison_of}

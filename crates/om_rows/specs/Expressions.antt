@@ -1,4 +1,5 @@
--- The code of expressions, row by row as the table of lowering has it. Their instructions have one line, that of the statement.
+-- The code of expressions, row by row as the table of lowering has it. Their instructions have one line, that
+-- of the statement.
 use Rattle.std.specs.Prelude.{ℕ, ◌+◌, ℤ, pos, List, Option, None, Some, Bool, true, false}
 use Rattle.std.specs.Str.{bytes_eq}
 use Rattle.om_code.specs.declared.instruction.BinaryOperator as machine
@@ -7,7 +8,9 @@ use Rattle.om_code.specs.declared.instruction.UnaryOperator.TheVariants as unary
 use Rattle.om_resolved.specs.declared.resolved.UnaryOperator.{UnaryOperator}
 use Rattle.om_resolved.specs.declared.resolved.UnaryOperator.TheVariants as unaries
 use Rattle.om_resolved.specs.declared.resolved.Variable as variables
-use Rattle.om_resolved.specs.ResolvedTree.{ResolvedExpressionTree, Constant, Variable, Element, Call, ThreadNumber, TeamSize, Print, Unary, Binary, Conditional, Assign, AssignElement, Postfix, PostfixElement, ValuesTree, NoValues, Value}
+use Rattle.om_resolved.specs.ResolvedTree.{ResolvedExpressionTree, Constant, Variable, Element, Call, ThreadNumber}
+use Rattle.om_resolved.specs.ResolvedTree.{TeamSize, Print, Unary, Binary, Conditional, Assign, AssignElement, Postfix}
+use Rattle.om_resolved.specs.ResolvedTree.{PostfixElement, ValuesTree, NoValues, Value}
 use Rattle.om_rows.specs.Bodies.{called_body}
 use Rattle.om_rows.specs.Operators.{BinaryForm, Both, Either, Plain, form_of, compound_of, step_of, undo_of}
 use Rattle.om_rows.specs.Rows.{Site, Row, end, never, ins, part, here, ◌▸◌}

@@ -1,5 +1,6 @@
 -- What the code of every tree is.
-use Rattle.std.specs.Prelude.{◌≡◌, ◌<◌, ◌≤◌, ◌^◌, ℕ, ◌+◌, List, [], true, Some, All, IsSomeAnd, length, is_some, slice_get}
+use Rattle.std.specs.Prelude.{◌≡◌, ◌<◌, ◌≤◌, ◌^◌, ℕ, ◌+◌, List, [], true, Some, All, IsSomeAnd, length, is_some}
+use Rattle.std.specs.Prelude.{slice_get}
 use Rattle.std.specs.List.{list_any}
 use Rattle.std.specs.Str.{bytes_eq}
 use Rattle.om_code.specs.declared.fault.CodeFault.{CodeFault}
@@ -8,7 +9,8 @@ use Rattle.om_code.specs.declared.raw.Line.{Line}
 use Rattle.om_code.specs.declared.raw.Raw.{Raw}
 use Rattle.om_code.specs.Validity.{HasOneHeight, StaysInside, IsLow, IsValid, Breaks}
 use Rattle.om_resolved.specs.Beside.{TreeAtomicsAssign, TreeCopiesBehind}
-use Rattle.om_resolved.specs.ResolvedTree.{ResolvedExpressionTree, ResolvedStatementTree, ResolvedFunctionTree, ResolvedTree}
+use Rattle.om_resolved.specs.ResolvedTree.{ResolvedExpressionTree, ResolvedStatementTree, ResolvedFunctionTree}
+use Rattle.om_resolved.specs.ResolvedTree.{ResolvedTree}
 use Rattle.om_resolved.specs.Whole.{IsWholeTree}
 use Rattle.om_rows.specs.Bodies.{Numbers, BodyTree, FunctionBody, called_body}
 use Rattle.om_rows.specs.Code.{body_row, IsBodyOf, IsCodeOf}

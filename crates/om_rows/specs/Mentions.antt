@@ -1,4 +1,5 @@
--- What a whole function mentions, its regions too, in the order of the text: formats, names of critical regions, declared variables.
+-- What a whole function mentions, its regions too, in the order of the text: formats, names of critical
+-- regions, declared variables.
 use Rattle.std.specs.Prelude.{◌≡◌, ℕ, List, [], ◌∷◌, ◌++◌, Option, None, Some, map, option_map}
 use Rattle.std.specs.List.{flat_map}
 use Rattle.std.specs.Str.{bytes_eq}
@@ -8,7 +9,16 @@ use Rattle.om_resolved.specs.declared.resolved.ConstructKind.{ConstructKind}
 use Rattle.om_resolved.specs.declared.resolved.ConstructKind.TheVariants as constructs
 use Rattle.om_resolved.specs.Formats.{Piece, Bytes, Value, pieces_of}
 use Rattle.om_resolved.specs.ResolvedTree as trees
-use Rattle.om_resolved.specs.ResolvedTree.{ResolvedExpressionTree, Constant, Variable, Element, Call, ThreadNumber, TeamSize, Print, Unary, Binary, Conditional, Assign, AssignElement, Postfix, PostfixElement, ValuesTree, NoValues, ResolvedDeclaratorTree, ResolvedClauseTree, ClauseValue, Shared, Copied, ResolvedLoopTree, ResolvedUpdateTree, ResolvedStartTree, StartNothing, StartExpression, StartDeclaration, ResolvedStatementTree, Declaration, Block, Empty, Expression, If, IfElse, While, Do, For, Return, Break, Continue, Parallel, Task, Loop, Sections, Construct, Update, StandAlone, ResolvedStatementsTree, NoStatements, Statement, ResolvedPartsTree, NoParts, Part, ResolvedFunctionTree, ResolvedTree}
+use Rattle.om_resolved.specs.ResolvedTree.{ResolvedExpressionTree, Constant, Variable, Element, Call, ThreadNumber}
+use Rattle.om_resolved.specs.ResolvedTree.{TeamSize, Print, Unary, Binary, Conditional, Assign, AssignElement, Postfix}
+use Rattle.om_resolved.specs.ResolvedTree.{PostfixElement, ValuesTree, NoValues, ResolvedDeclaratorTree}
+use Rattle.om_resolved.specs.ResolvedTree.{ResolvedClauseTree, ClauseValue, Shared, Copied, ResolvedLoopTree}
+use Rattle.om_resolved.specs.ResolvedTree.{ResolvedUpdateTree, ResolvedStartTree, StartNothing, StartExpression}
+use Rattle.om_resolved.specs.ResolvedTree.{StartDeclaration, ResolvedStatementTree, Declaration, Block, Empty}
+use Rattle.om_resolved.specs.ResolvedTree.{Expression, If, IfElse, While, Do, For, Return, Break, Continue, Parallel}
+use Rattle.om_resolved.specs.ResolvedTree.{Task, Loop, Sections, Construct, Update, StandAlone, ResolvedStatementsTree}
+use Rattle.om_resolved.specs.ResolvedTree.{NoStatements, Statement, ResolvedPartsTree, NoParts, Part}
+use Rattle.om_resolved.specs.ResolvedTree.{ResolvedFunctionTree, ResolvedTree}
 use Rattle.om_rows.specs.Slots.{Extent, extent_of}
 use Rattle.om_rows.specs.Tables.{table_of}
 
@@ -58,9 +68,11 @@ unfoldable mutual
   mentioned m (Continue at) = []
   mentioned m (Parallel at clauses captures s) = flat_map (clause_mentioned m) clauses ++ mentioned m s
   mentioned m (Task at clauses captures s) = flat_map (clause_mentioned m) clauses ++ mentioned m s
-  mentioned m (Loop at clauses nowait l s) = flat_map (clause_mentioned m) clauses ++ (loop_mentioned m l ++ mentioned m s)
+  mentioned m (Loop at clauses nowait l s) = flat_map (clause_mentioned m) clauses
+      ++ (loop_mentioned m l ++ mentioned m s)
   mentioned m (Sections at clauses nowait parts) = flat_map (clause_mentioned m) clauses ++ parts_mentioned m parts
-  mentioned m (Construct at kind clauses s) = m.by_construct kind ++ (flat_map (clause_mentioned m) clauses ++ mentioned m s)
+  mentioned m (Construct at kind clauses s) = m.by_construct kind ++ (flat_map (clause_mentioned m) clauses
+      ++ mentioned m s)
   mentioned m (Update at u) = update_mentioned m u
   mentioned m (StandAlone at directive) = []
 

@@ -9,7 +9,15 @@ use Rattle.om_resolved.specs.declared.resolved.StandAlone as alone
 use Rattle.om_resolved.specs.declared.resolved.StandAlone.TheVariants as alones
 use Rattle.om_resolved.specs.declared.resolved.UnaryOperator.{UnaryOperator}
 use Rattle.om_resolved.specs.declared.resolved.UnaryOperator.TheVariants as unaries
-use Rattle.om_resolved.specs.ResolvedTree.{ResolvedExpressionTree, Constant, Variable, Element, Call, ThreadNumber, TeamSize, Print, Unary, Binary, Conditional, Assign, AssignElement, Postfix, PostfixElement, ValuesTree, NoValues, Value, ResolvedDeclaratorTree, ResolvedClauseTree, ClauseValue, Shared, Copied, ResolvedLoopTree, ResolvedUpdateTree, ResolvedStartTree, StartNothing, StartExpression, StartDeclaration, ResolvedStatementTree, Declaration, Block, Empty, Expression, If, IfElse, While, Do, For, Return, Break, Continue, Parallel, Task, Loop, Sections, Construct, Update, StandAlone, ResolvedStatementsTree, NoStatements, Statement, ResolvedPartsTree, NoParts, Part}
+use Rattle.om_resolved.specs.ResolvedTree.{ResolvedExpressionTree, Constant, Variable, Element, Call, ThreadNumber}
+use Rattle.om_resolved.specs.ResolvedTree.{TeamSize, Print, Unary, Binary, Conditional, Assign, AssignElement, Postfix}
+use Rattle.om_resolved.specs.ResolvedTree.{PostfixElement, ValuesTree, NoValues, Value, ResolvedDeclaratorTree}
+use Rattle.om_resolved.specs.ResolvedTree.{ResolvedClauseTree, ClauseValue, Shared, Copied, ResolvedLoopTree}
+use Rattle.om_resolved.specs.ResolvedTree.{ResolvedUpdateTree, ResolvedStartTree, StartNothing, StartExpression}
+use Rattle.om_resolved.specs.ResolvedTree.{StartDeclaration, ResolvedStatementTree, Declaration, Block, Empty}
+use Rattle.om_resolved.specs.ResolvedTree.{Expression, If, IfElse, While, Do, For, Return, Break, Continue, Parallel}
+use Rattle.om_resolved.specs.ResolvedTree.{Task, Loop, Sections, Construct, Update, StandAlone, ResolvedStatementsTree}
+use Rattle.om_resolved.specs.ResolvedTree.{NoStatements, Statement, ResolvedPartsTree, NoParts, Part}
 use Rattle.om_rows.specs.Operators.{BinaryForm, Both, Either, Plain, form_of, compound_of}
 use Rattle.om_rows.specs.Statements.{clause_value, given_copies}
 
@@ -123,7 +131,8 @@ assignment_size _ = 0
 
 -- round a statement of so many
 abbrev pub construct_size : ConstructKind → List ResolvedClauseTree → ResolvedStatementTree → ℕ → ℕ
-construct_size (constructs.Single nowait) clauses s body = 1 + each_size clause_start_size clauses + body + end_size nowait
+construct_size (constructs.Single nowait) clauses s body = 1 + each_size clause_start_size clauses + body + end_size
+    nowait
 construct_size constructs.Masked clauses s body = filter_size (clause_value clauses) + body + 2
 construct_size (constructs.Critical name) clauses s body = body + 3
 construct_size constructs.Atomic clauses s body = assignment_size s
@@ -154,7 +163,8 @@ abbrev mutual
   statement_size (Task first clauses captures s) = length (given_copies clauses captures s) + 1
   statement_size (Loop first clauses nowait loop s) = loop_size clauses nowait loop (statement_size s)
   statement_size (Sections first clauses nowait parts) =
-      each_size clause_start_size clauses + 3 + parts_size parts + each_size clause_combined_size clauses + end_size nowait
+      each_size clause_start_size clauses + 3 + parts_size parts + each_size clause_combined_size clauses + end_size
+      nowait
   statement_size (Construct first kind clauses s) = construct_size kind clauses s (statement_size s)
   statement_size (Update first u) = update_size u
   statement_size (StandAlone first directive) = alone_size directive

@@ -1,7 +1,10 @@
--- The slots of a body. They are numbered as its text is read: parameters, then, at first sight, each declared name, each copy that a
--- clause, an iteration variable or a task makes, and in the body of a `parallel` or a `task` each variable of the function from
+-- The slots of a body. They are numbered as its text is read: parameters, then, at first sight, each declared
+-- name, each copy that a
+-- clause, an iteration variable or a task makes, and in the body of a `parallel` or a `task` each variable of
+-- the function from
 -- outside that it uses or combines. The data clauses of a `parallel` or a `task` belong to its body.
-use Rattle.std.specs.Prelude.{ℕ, List, [], ◌∷◌, ◌++◌, Option, None, Some, Bool, true, false, map, nat_eq, length, if◌then◌else◌}
+use Rattle.std.specs.Prelude.{ℕ, List, [], ◌∷◌, ◌++◌, Option, None, Some, Bool, true, false, map, nat_eq, length}
+use Rattle.std.specs.Prelude.{if◌then◌else◌}
 use Rattle.std.specs.List.{flat_map, list_any}
 use Rattle.om_code.specs.declared.instruction.Place.{Place}
 use Rattle.om_code.specs.declared.instruction.Place.TheVariants as places
@@ -16,8 +19,14 @@ use Rattle.om_resolved.specs.declared.resolved.Taking.{Taking}
 use Rattle.om_resolved.specs.declared.resolved.Taking.TheVariants as takings
 use Rattle.om_resolved.specs.declared.resolved.Variable as variables
 use Rattle.om_resolved.specs.declared.resolved.Variable.TheVariants as named
-use Rattle.om_resolved.specs.Captures.{variable_uses, expression_uses, perhaps_uses, clause_uses, captured_variable, stand_alone_uses, update_uses}
-use Rattle.om_resolved.specs.ResolvedTree.{ResolvedDeclaratorTree, ResolvedClauseTree, ClauseValue, Shared, Copied, ResolvedLoopTree, ResolvedStartTree, StartNothing, StartExpression, StartDeclaration, ResolvedStatementTree, Declaration, Block, Empty, Expression, If, IfElse, While, Do, For, Return, Break, Continue, Parallel, Task, Loop, Sections, Construct, Update, StandAlone, ResolvedStatementsTree, NoStatements, Statement, ResolvedPartsTree, NoParts, Part}
+use Rattle.om_resolved.specs.Captures.{variable_uses, expression_uses, perhaps_uses, clause_uses, captured_variable}
+use Rattle.om_resolved.specs.Captures.{stand_alone_uses, update_uses}
+use Rattle.om_resolved.specs.ResolvedTree.{ResolvedDeclaratorTree, ResolvedClauseTree, ClauseValue, Shared, Copied}
+use Rattle.om_resolved.specs.ResolvedTree.{ResolvedLoopTree, ResolvedStartTree, StartNothing, StartExpression}
+use Rattle.om_resolved.specs.ResolvedTree.{StartDeclaration, ResolvedStatementTree, Declaration, Block, Empty}
+use Rattle.om_resolved.specs.ResolvedTree.{Expression, If, IfElse, While, Do, For, Return, Break, Continue, Parallel}
+use Rattle.om_resolved.specs.ResolvedTree.{Task, Loop, Sections, Construct, Update, StandAlone, ResolvedStatementsTree}
+use Rattle.om_resolved.specs.ResolvedTree.{NoStatements, Statement, ResolvedPartsTree, NoParts, Part}
 use Rattle.om_rows.specs.Rows.{Site}
 use Rattle.om_rows.specs.Tables.{number_in}
 
@@ -43,7 +52,8 @@ clause_sights (ClauseValue kind e) = expression_uses e
 clause_sights (Shared v) = variable_uses v
 clause_sights (Copied kind original copy) = original_sights kind original ++ copy.at ∷ []
 
--- what a copy's original is in the body of its own `parallel` or `task`: the value of a firstprivate copy comes with the body
+-- what a copy's original is in the body of its own `parallel` or `task`: the value of a firstprivate copy
+-- comes with the body
 abbrev pub combined_sights : CopyKind → variables.Variable → List ℕ
 combined_sights copies.Private original = []
 combined_sights copies.Firstprivate original = []
@@ -73,13 +83,15 @@ unfoldable mutual
   statement_sights (IfElse at c s t) = expression_uses c ++ (statement_sights s ++ statement_sights t)
   statement_sights (While at c s) = expression_uses c ++ statement_sights s
   statement_sights (Do at s c) = statement_sights s ++ expression_uses c
-  statement_sights (For at start condition step s) = start_sights start ++ (perhaps_uses condition ++ (perhaps_uses step ++ statement_sights s))
+  statement_sights (For at start condition step s) = start_sights start
+      ++ (perhaps_uses condition ++ (perhaps_uses step ++ statement_sights s))
   statement_sights (Return at value) = perhaps_uses value
   statement_sights (Break at) = []
   statement_sights (Continue at) = []
   statement_sights (Parallel at clauses captures s) = region_uses clauses captures
   statement_sights (Task at clauses captures s) = region_uses clauses captures
-  statement_sights (Loop at clauses nowait l s) = flat_map clause_sights clauses ++ (loop_sights l ++ statement_sights s)
+  statement_sights (Loop at clauses nowait l s) = flat_map clause_sights clauses
+      ++ (loop_sights l ++ statement_sights s)
   statement_sights (Sections at clauses nowait parts) = flat_map clause_sights clauses ++ parts_sights parts
   statement_sights (Construct at kind clauses s) = flat_map clause_sights clauses ++ statement_sights s
   statement_sights (Update at u) = update_uses u
@@ -147,7 +159,11 @@ abbrev pub source_of : List ℕ → List Capture → ℕ → Source
 source_of outer captures variable = if list_any (shares variable) captures then Outer (slot_of outer variable) else Own
 
 abbrev pub slot_with : List Extent → List ℕ → List Capture → ℕ → Slot
-slot_with extents outer captures variable = record { cells = cells_in extents variable; source = source_of outer captures variable }
+slot_with extents outer captures variable = record {
+  cells = cells_in extents variable;
+  source = source_of outer
+      captures variable;
+}
 
 -- ---- firstprivate copies of a `parallel` or a `task`
 

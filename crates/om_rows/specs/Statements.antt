@@ -1,7 +1,10 @@
--- The code of statements and directives, row by row as the table of lowering has it. An instruction has the line of the first token of
--- its statement, or of its `if`, `while`, `do` or `for`, and those of a directive have the directive's, but for a loop's bounds. All those of
+-- The code of statements and directives, row by row as the table of lowering has it. An instruction has the
+-- line of the first token of
+-- its statement, or of its `if`, `while`, `do` or `for`, and those of a directive have the directive's, but
+-- for a loop's bounds. All those of
 -- an `atomic` have the directive's.
-use Rattle.std.specs.Prelude.{◌≡◌, ℕ, pos, List, [], ◌∷◌, Option, None, Some, Bool, true, false, length, is_some, slice_get}
+use Rattle.std.specs.Prelude.{◌≡◌, ℕ, pos, List, [], ◌∷◌, Option, None, Some, Bool, true, false, length, is_some}
+use Rattle.std.specs.Prelude.{slice_get}
 use Rattle.std.specs.Str.{bytes_eq}
 use Rattle.om_code.specs.declared.instruction.AtomicOperator.{AtomicOperator}
 use Rattle.om_code.specs.declared.instruction.Barrier.{Barrier}
@@ -19,7 +22,13 @@ use Rattle.om_resolved.specs.declared.resolved.StandAlone as alone
 use Rattle.om_resolved.specs.declared.resolved.StandAlone.TheVariants as alones
 use Rattle.om_resolved.specs.declared.resolved.Variable as variables
 use Rattle.om_resolved.specs.declared.resolved.Variable.TheVariants as named
-use Rattle.om_resolved.specs.ResolvedTree.{ResolvedExpressionTree, ResolvedDeclaratorTree, ResolvedClauseTree, ClauseValue, Shared, Copied, ResolvedLoopTree, ResolvedUpdateTree, ResolvedStartTree, StartNothing, StartExpression, StartDeclaration, ResolvedStatementTree, Declaration, Block, Empty, Expression, If, IfElse, While, Do, For, Return, Break, Continue, Parallel, Task, Loop, Sections, Construct, Update, StandAlone, ResolvedStatementsTree, NoStatements, Statement, ResolvedPartsTree, NoParts, Part}
+use Rattle.om_resolved.specs.ResolvedTree.{ResolvedExpressionTree, ResolvedDeclaratorTree, ResolvedClauseTree}
+use Rattle.om_resolved.specs.ResolvedTree.{ClauseValue, Shared, Copied, ResolvedLoopTree, ResolvedUpdateTree}
+use Rattle.om_resolved.specs.ResolvedTree.{ResolvedStartTree, StartNothing, StartExpression, StartDeclaration}
+use Rattle.om_resolved.specs.ResolvedTree.{ResolvedStatementTree, Declaration, Block, Empty, Expression, If, IfElse}
+use Rattle.om_resolved.specs.ResolvedTree.{While, Do, For, Return, Break, Continue, Parallel, Task, Loop, Sections}
+use Rattle.om_resolved.specs.ResolvedTree.{Construct, Update, StandAlone, ResolvedStatementsTree, NoStatements}
+use Rattle.om_resolved.specs.ResolvedTree.{Statement, ResolvedPartsTree, NoParts, Part}
 use Rattle.om_rows.specs.Bodies.{Numbers, next_pick, behind, behind_all, region_variables}
 use Rattle.om_rows.specs.Expressions.{constant, value, effect}
 use Rattle.om_rows.specs.Mentions.{lock_name}
@@ -90,7 +99,8 @@ clause_start at l (Copied kind x copy) = copy_start at l kind x copy
 abbrev pub starts : Site → ℕ → List ResolvedClauseTree → Row
 starts at l clauses = each (clause_start at l) clauses
 
--- those of the copies of a `parallel` that are combined: its frame is new, and FORK gives the firstprivate ones their values
+-- those of the copies of a `parallel` that are combined: its frame is new, and FORK gives the firstprivate
+-- ones their values
 abbrev pub reduction_start : Site → ℕ → CopyKind → variables.Variable → LocalVariable → Row
 reduction_start at l copies.Private x copy = end
 reduction_start at l copies.Firstprivate x copy = end
@@ -124,7 +134,8 @@ clause_value [] = None
 clause_value (ClauseValue kind e ∷ rest) = Some e
 clause_value (_ ∷ rest) = clause_value rest
 
--- the firstprivate copies of a `parallel` or a `task`, by their slots in its body, whose values are loaded in this order
+-- the firstprivate copies of a `parallel` or a `task`, by their slots in its body, whose values are loaded in
+-- this order
 abbrev pub given_copies : List ResolvedClauseTree → List Capture → ResolvedStatementTree → List FirstCopy
 given_copies clauses captures s = by_slots (region_variables clauses s) (first_copies clauses captures)
 
@@ -161,7 +172,8 @@ single_row at l nowait clauses body = λ p q. (e : ℕ) ×
 
 abbrev pub masked_row : Site → ℕ → List ResolvedClauseTree → Row → Row
 masked_row at l clauses body = λ p q. (e : ℕ) ×
-    (part (filter_row at l (clause_value clauses)) ▸ ins at l (i.Masked e) ▸ part body ▸ ins at l i.EndMasked ▸ here e ▸ end) p q
+    (part (filter_row at l (clause_value clauses)) ▸ ins at l (i.Masked e) ▸ part body ▸ ins at l i.EndMasked ▸ here
+    e ▸ end) p q
 
 abbrev pub lock_number : Site → Option (List ℕ) → ℕ
 lock_number at name = number_in (bytes_eq (lock_name name)) at.locks
@@ -172,7 +184,8 @@ critical_row at l name body =
     ▸ part body ▸ ins at l (i.LeaveCritical (lock_number at name)) ▸ end
 
 -- (index,) e, ATOM or ATOMX
-abbrev pub updated : Site → ℕ → variables.Variable → Option ResolvedExpressionTree → AtomicOperator → Side → ResolvedExpressionTree → Row
+abbrev pub updated : Site → ℕ → variables.Variable → Option ResolvedExpressionTree → AtomicOperator → Side
+    → ResolvedExpressionTree → Row
 updated at l x None operator side e = part (value at l e) ▸ ins at l (i.Atomic operator side (place at x)) ▸ end
 updated at l x (Some j) operator side e =
     part (value at l j) ▸ part (value at l e) ▸ ins at l (i.AtomicElement operator side (place at x)) ▸ end
@@ -198,7 +211,8 @@ construct_row at l constructs.Atomic clauses s body = assignment_row at l s
 construct_row at l constructs.Taskgroup clauses s body = group_row at l body
 
 -- lb, ub, starts, LOOP, G: GRAB E, I: ITER i G, body, JMP I, E: RED each, ENDW, ARRIVE, DEPART
-abbrev pub loop_rest : Site → ℕ → List ResolvedClauseTree → (nowait : Bool) → ResolvedLoopTree → (ℕ → Row) → Comparison → Row
+abbrev pub loop_rest : Site → ℕ → List ResolvedClauseTree → (nowait : Bool) → ResolvedLoopTree → (ℕ → Row)
+    → Comparison → Row
 loop_rest at l clauses nowait loop body comparison = λ p q. (chunk next over : ℕ) ×
     (part (value at loop.at.line loop.from) ▸ part (value at loop.at.line loop.to) ▸ part (starts at l clauses)
     ▸ ins at l (i.Loop (form_with loop comparison))
@@ -251,30 +265,38 @@ abbrev mutual
   statement at n (Empty first) jumps = end
   statement at n (Expression first e) jumps = effect at first.line e
   statement at n (If first c s) jumps = λ p q. (e : ℕ) ×
-      (part (value at first.line c) ▸ ins at first.line (i.JumpIfZero e) ▸ part (statement at n s jumps) ▸ here e ▸ end) p q
+      (part (value at first.line c) ▸ ins at first.line (i.JumpIfZero e) ▸ part (statement at n s jumps) ▸ here e ▸
+      end) p q
   statement at n (IfElse first c s t) jumps = λ p q. (l e : ℕ) ×
-      (part (value at first.line c) ▸ ins at first.line (i.JumpIfZero l) ▸ part (statement at n s jumps) ▸ ins at first.line (i.Jump e)
+      (part (value at first.line c) ▸ ins at first.line (i.JumpIfZero l) ▸ part (statement at n s jumps) ▸ ins at
+      first.line (i.Jump e)
       ▸ here l ▸ part (statement at (behind n s) t jumps) ▸ here e ▸ end) p q
   statement at n (While first c s) jumps = λ p q. (l e : ℕ) ×
-      (here l ▸ part (value at first.line c) ▸ ins at first.line (i.JumpIfZero e) ▸ part (statement at n s (in_loop e l))
+      (here l ▸ part (value at first.line c) ▸ ins at first.line (i.JumpIfZero e) ▸ part
+      (statement at n s (in_loop e l))
       ▸ ins at first.line (i.Jump l) ▸ here e ▸ end) p q
   statement at n (Do first s c) jumps = λ p q. (l next e : ℕ) ×
-      (here l ▸ part (statement at n s (in_loop e next)) ▸ here next ▸ part (value at first.line c) ▸ ins at first.line (i.JumpIfZero e)
+      (here l ▸ part (statement at n s (in_loop e next)) ▸ here next ▸ part (value at first.line c) ▸ ins at
+      first.line (i.JumpIfZero e)
       ▸ ins at first.line (i.Jump l) ▸ here e ▸ end) p q
   statement at n (For first begin c step s) jumps = λ p q. (l next e : ℕ) ×
-      (part (start at first.line begin) ▸ here l ▸ part (perhaps (test at first.line e) c) ▸ part (statement at n s (in_loop e next))
+      (part (start at first.line begin) ▸ here l ▸ part (perhaps (test at first.line e) c) ▸ part
+      (statement at n s (in_loop e next))
       ▸ here next ▸ part (perhaps (effect at first.line) step) ▸ ins at first.line (i.Jump l) ▸ here e ▸ end) p q
   statement at n (Return first e) jumps = returned at first.line at.is_main e
   statement at n (Break first) jumps = given jumps.over (jump at first.line)
   statement at n (Continue first) jumps = given jumps.next (jump at first.line)
   statement at n (Parallel first clauses captures s) jumps =
       parallel_row at first.line n.bodies (clause_value clauses) (given_copies clauses captures s)
-  statement at n (Task first clauses captures s) jumps = task_row at first.line n.bodies (given_copies clauses captures s)
+  statement at n (Task first clauses captures s) jumps = task_row at first.line n.bodies
+      (given_copies clauses captures s)
   statement at n (Loop first clauses nowait loop s) jumps =
       loop_row at first.line clauses nowait loop (λ next. statement at n s (in_iteration next))
   statement at n (Sections first clauses nowait sections) jumps =
-      sections_row at first.line n.picks clauses nowait (λ places grab. parts at (next_pick n) first.line grab sections places)
-  statement at n (Construct first kind clauses s) jumps = construct_row at first.line kind clauses s (statement at n s nowhere)
+      sections_row at first.line n.picks clauses nowait (λ places grab. parts at (next_pick n) first.line grab
+      sections places)
+  statement at n (Construct first kind clauses s) jumps = construct_row at first.line kind clauses s
+      (statement at n s nowhere)
   statement at n (Update first u) jumps = update_row at first.line u
   statement at n (StandAlone first directive) jumps = alone_row at first.line directive
 
@@ -288,4 +310,5 @@ abbrev mutual
   parts at n l grab NoParts places = no_place places
   parts at n l grab (Part items rest) places =
       with_place places (λ place places.
-      here place ▸ part (statements at n items nowhere) ▸ ins at l (i.Jump grab) ▸ parts at (behind_all n items) l grab rest places)
+      here place ▸ part (statements at n items nowhere) ▸ ins at l (i.Jump grab) ▸ parts at (behind_all n items) l
+      grab rest places)

@@ -1,4 +1,5 @@
--- Numbers by order of first sight: a table has each different thing of a list once, and a thing's number is how many stand before it.
+-- Numbers by order of first sight: a table has each different thing of a list once, and a thing's number is
+-- how many stand before it.
 use Rattle.std.specs.Prelude.{ℕ, ◌+◌, List, [], ◌∷◌, ◌++◌, Bool, fold, if◌then◌else◌}
 use Rattle.std.specs.List.{list_any}
 

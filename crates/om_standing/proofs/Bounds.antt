@@ -9,7 +9,9 @@ use Rattle.om_cells.specs.declared.control.Stack.{Stack}
 use Rattle.om_cells.specs.declared.control.Control as controls
 use Rattle.om_cells.specs.declared.control.Control.TheVariants.{Idle, Running, Faulted, Ended}
 use Rattle.om_cells.specs.declared.edit.Edit.{Edit}
-use Rattle.om_cells.specs.declared.edit.Edit.TheVariants.{Go, BeginFrame, EndFrame, BeginContext, EndContext, Open, Close, Replace, CountBirth, CountRegion, CountPhase, Fail, End}
+use Rattle.om_cells.specs.declared.edit.Edit.TheVariants.{Go, BeginFrame, EndFrame, BeginContext, EndContext, Open}
+use Rattle.om_cells.specs.declared.edit.Edit.TheVariants.{Close, Replace, CountBirth, CountRegion, CountPhase, Fail}
+use Rattle.om_cells.specs.declared.edit.Edit.TheVariants.{End}
 use Rattle.om_cells.specs.declared.step.Update.{Update}
 use Rattle.om_cells.specs.declared.step.Update.TheVariants.{Put}
 use Rattle.om_cells.specs.declared.value.Val.{Val}
@@ -17,7 +19,8 @@ use Rattle.om_cells.specs.Edits.{changed_by, changed, edited, context_ended, val
 use Rattle.om_row.specs.declared.row.Row.{Row}
 use Rattle.om_row.specs.declared.row.Row.TheVariants.{Goes}
 use Rattle.om_row.specs.Rows.{Asked}
-use Rattle.om_standing.specs.Standing.{Owned, AreWaiting, IsStandingContext, AreStanding, IsStandingControl, IsStandingValue}
+use Rattle.om_standing.specs.Standing.{Owned, AreWaiting, IsStandingContext, AreStanding, IsStandingControl}
+use Rattle.om_standing.specs.Standing.{IsStandingValue}
 
 -- an edit that leaves frames where they are, or begins a context that stands
 abbrev pub Keeps : Raw → Owned → Edit → Type 0

@@ -1,5 +1,6 @@
 -- A frame that stands has its instruction, and stands again where that goes on.
-use Rattle.std.proofs.Common.{◌≡◌, refl, sym, ◌∙◌, ap, subst, ℕ, zero, suc, ◌+◌, ◌-◌, ◌<◌, ◌≤◌, arith, List, [], ◌∷◌, ◌++◌, Option, Some, length, drop, length-append, length-drop, option_map}
+use Rattle.std.proofs.Common.{◌≡◌, refl, sym, ◌∙◌, ap, subst, ℕ, zero, suc, ◌+◌, ◌-◌, ◌<◌, ◌≤◌, arith, List, [], ◌∷◌}
+use Rattle.std.proofs.Common.{◌++◌, Option, Some, length, drop, length-append, length-drop, option_map}
 use Rattle.std.specs.Prelude.{All, Contains, slice_get, option_to_list, option_and_then, unwrap_or}
 use Rattle.std.proofs.lemmas.Option.{get_or_from_slice_get, slice_get_within}
 use Rattle.om_code.specs.declared.frame.Operand.{Operand}

@@ -1,5 +1,6 @@
 -- A worker that stands ends only where its instruction may lack something.
-use Rattle.std.proofs.Common.{◌≡◌, inl, inr, refl, sym, ap, subst, ℕ, ◌+◌, ◌≤◌, arith, Bool, true, false, List, ◌∷◌, Option, None, Some, length, option_map}
+use Rattle.std.proofs.Common.{◌≡◌, inl, inr, refl, sym, ap, subst, ℕ, ◌+◌, ◌≤◌, arith, Bool, true, false, List, ◌∷◌}
+use Rattle.std.proofs.Common.{Option, None, Some, length, option_map}
 use Rattle.std.specs.Prelude.{ℤ}
 use Rattle.om_foot.specs.declared.object.Obj.TheVariants as obj
 use Rattle.om_code.specs.declared.frame.Operand.TheVariants.{Int, NoValue}
@@ -34,7 +35,11 @@ use Rattle.om_task.specs.Table.{row_of}
 use Rattle.om_standing.specs.Reasons.{HasNoValue, MayLack}
 use Rattle.om_standing.proofs.Operands.{no_int, no_ints, no_ints_below}
 use Rattle.om_standing.proofs.Reasons.{Only, serial_only}
-use Rattle.om_standing.proofs.RowReasons.{call_only, return_only, reduce_only, fork_only, arrive_only, depart_only, leave_only, loop_only, sections_only, grab_only, single_only, masked_only, end_masked_only, enter_critical_only, leave_critical_only, spawn_only, task_end_only, wait_end_only, group_begin_only, group_end_only, finish_only, start_only, iterate_only, pick_only, end_worksharing_only}
+use Rattle.om_standing.proofs.RowReasons.{call_only, return_only, reduce_only, fork_only, arrive_only, depart_only}
+use Rattle.om_standing.proofs.RowReasons.{leave_only, loop_only, sections_only, grab_only, single_only, masked_only}
+use Rattle.om_standing.proofs.RowReasons.{end_masked_only, enter_critical_only, leave_critical_only, spawn_only}
+use Rattle.om_standing.proofs.RowReasons.{task_end_only, wait_end_only, group_begin_only, group_end_only, finish_only}
+use Rattle.om_standing.proofs.RowReasons.{start_only, iterate_only, pick_only, end_worksharing_only}
 
 no_operand : (o : Option ℤ) → option_map Int o ≡ None → o ≡ None
 no_operand None e = refl

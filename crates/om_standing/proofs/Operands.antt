@@ -1,5 +1,7 @@
 -- Where operands are there and yet not all ints, one of them is no value.
-use Rattle.std.proofs.Common.{◌≡◌, refl, sym, ◌∙◌, subst, ℕ, zero, suc, ◌+◌, ◌-◌, ◌<◌, ◌≤◌, ℤ, arith, Bool, true, false, if◌then◌else◌, List, [], ◌∷◌, Option, None, Some, length, take, reverse, option_map, nat_le}
+use Rattle.std.proofs.Common.{◌≡◌, refl, sym, ◌∙◌, subst, ℕ, zero, suc, ◌+◌, ◌-◌, ◌<◌, ◌≤◌, ℤ, arith, Bool, true, false}
+use Rattle.std.proofs.Common.{if◌then◌else◌, List, [], ◌∷◌, Option, None, Some, length, take, reverse, option_map}
+use Rattle.std.proofs.Common.{nat_le}
 use Rattle.std.specs.Prelude.{Contains}
 use Rattle.std.proofs.lemmas.Bool.{le-leb}
 use Rattle.std.proofs.lemmas.List.{length-reverse, get_or-reverse}

@@ -1,5 +1,6 @@
 -- A row of valid code lacks something for its own reason alone.
-use Rattle.std.proofs.Common.{◌≡◌, refl, ℕ, ◌+◌, ◌≤◌, ℤ, pos, arith, Bool, true, false, List, [], ◌∷◌, Option, None, Some, length}
+use Rattle.std.proofs.Common.{◌≡◌, refl, ℕ, ◌+◌, ◌≤◌, ℤ, pos, arith, Bool, true, false, List, [], ◌∷◌, Option, None}
+use Rattle.std.proofs.Common.{Some, length}
 use Rattle.std.specs.Ordering.{int_eq}
 use Rattle.std.specs.Prelude.{Result, Ok, Err, slice_get}
 use Rattle.om_code.specs.declared.frame.Cell as cells
@@ -18,7 +19,8 @@ use Rattle.om_code.specs.declared.serial.Touch.TheVariants as touch
 use Rattle.om_code.specs.declared.serial.Turn.{Turn}
 use Rattle.om_code.specs.declared.serial.Turn.TheVariants as turn
 use Rattle.om_code.specs.Arithmetic.{operate, operate_on_one, update}
-use Rattle.om_code.specs.Frames.{Act, act, on_operand, on_int, on_ints, at_index, int_at, gives, put, loaded, stored, updated, cells_in, index_in, used, jump_if, left_by, kept, print}
+use Rattle.om_code.specs.Frames.{Act, act, on_operand, on_int, on_ints, at_index, int_at, gives, put, loaded, stored}
+use Rattle.om_code.specs.Frames.{updated, cells_in, index_in, used, jump_if, left_by, kept, print}
 use Rattle.om_code.specs.Printing.{ints_on}
 use Rattle.om_code.specs.Ways.{pops}
 use Rattle.om_row.specs.declared.row.Row.{Row}

@@ -1,5 +1,6 @@
 -- The other rows lack something for their reasons alone.
-use Rattle.std.proofs.Common.{◌≡◌, inl, inr, refl, ℕ, zero, suc, ◌+◌, ◌-◌, ℤ, pos, negsuc, Bool, true, false, if◌then◌else◌, List, [], ◌∷◌, Option, None, Some, length}
+use Rattle.std.proofs.Common.{◌≡◌, inl, inr, refl, ℕ, zero, suc, ◌+◌, ◌-◌, ℤ, pos, negsuc, Bool, true, false}
+use Rattle.std.proofs.Common.{if◌then◌else◌, List, [], ◌∷◌, Option, None, Some, length}
 use Rattle.std.specs.Ordering.{int_eq}
 use Rattle.std.specs.Prelude.{◌≢◌, Result, Ok, Err, slice_get, nat_lt, nat_le, nat_eq}
 use Rattle.om_foot.specs.Names.{parent_of}
@@ -37,14 +38,21 @@ use Rattle.om_row.specs.Objects.{own_cells, homes_in, is_misplaced}
 use Rattle.om_serial.specs.Rows.{call_row, return_row, combined, reduced, reduce_row}
 use Rattle.om_fork.specs.Barriers.{is_open}
 use Rattle.om_fork.specs.Teams.{first_frame, first_busy}
-use Rattle.om_fork.specs.Rows.{forked, team_of, named_row, sized_row, fork_row, is_misplaced_barrier, arrive_row, departed, depart_row, left, leave_row}
+use Rattle.om_fork.specs.Rows.{forked, team_of, named_row, sized_row, fork_row, is_misplaced_barrier, arrive_row}
+use Rattle.om_fork.specs.Rows.{departed, depart_row, left, leave_row}
 use Rattle.om_share.specs.declared.chunk.Chunk.{Chunk}
 use Rattle.om_share.specs.Chunks.{static_chunk, chunk_within, value_of}
-use Rattle.om_share.specs.Rows.{open_row, loop_row, sections_row, taken_row, given_row as chunk_given_row, static_row, chunk_row, grab_row, value_row, int_of, iteration_row, iterate_row, section_row, is_section, is_loop, is_member, is_masked, is_critical, is_right_form, pick_row, chosen_row, single_row, end_worksharing_row, filtered_row, masked_row, end_masked_row, lock_row, enter_critical_row, leave_critical_row}
+use Rattle.om_share.specs.Rows.{open_row, loop_row, sections_row, taken_row, given_row as chunk_given_row, static_row}
+use Rattle.om_share.specs.Rows.{chunk_row, grab_row, value_row, int_of, iteration_row, iterate_row, section_row}
+use Rattle.om_share.specs.Rows.{is_section, is_loop, is_member, is_masked, is_critical, is_right_form, pick_row}
+use Rattle.om_share.specs.Rows.{chosen_row, single_row, end_worksharing_row, filtered_row, masked_row, end_masked_row}
+use Rattle.om_share.specs.Rows.{lock_row, enter_critical_row, leave_critical_row}
 use Rattle.om_spawn.specs.declared.start.Starting.{Starting}
 use Rattle.om_spawn.specs.declared.task.Making.{Making}
 use Rattle.om_spawn.specs.Tasks.{is_zero, born}
-use Rattle.om_spawn.specs.Rows.{made_row, given_row, spawn_row, ended_row, end_row_of, task_end_row, waited, wait_end_row, opened_row, group_begin_row, closed, closed_row, finished, finished_row, ready_for, started, started_row, start_row}
+use Rattle.om_spawn.specs.Rows.{made_row, given_row, spawn_row, ended_row, end_row_of, task_end_row, waited}
+use Rattle.om_spawn.specs.Rows.{wait_end_row, opened_row, group_begin_row, closed, closed_row, finished, finished_row}
+use Rattle.om_spawn.specs.Rows.{ready_for, started, started_row, start_row}
 use Rattle.om_standing.specs.Reasons.{HasNoIteration, HasNoSection, is_worksharing}
 use Rattle.om_standing.proofs.Reasons.{Only}
 

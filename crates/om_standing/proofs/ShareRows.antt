@@ -17,7 +17,11 @@ use Rattle.om_row.specs.Rows.{first_of}
 use Rattle.om_row.specs.Objects.{is_misplaced}
 use Rattle.om_share.specs.declared.chunk.Chunk.{Chunk}
 use Rattle.om_share.specs.Chunks.{static_chunk, chunk_within, value_of}
-use Rattle.om_share.specs.Rows.{open_row, loop_row, loop_of, sections_row, taken_row, given_row, static_row, chunk_row, grab_row, value_row, int_of, iteration_row, iterate_row, section_row, is_section, is_loop, is_member, is_masked, is_critical, is_right_form, pick_row, chosen_row, single_row, end_worksharing_row, filtered_row, masked_row, end_masked_row, ask_critical_row, lock_row, enter_critical_row, leave_critical_row}
+use Rattle.om_share.specs.Rows.{open_row, loop_row, loop_of, sections_row, taken_row, given_row, static_row, chunk_row}
+use Rattle.om_share.specs.Rows.{grab_row, value_row, int_of, iteration_row, iterate_row, section_row, is_section}
+use Rattle.om_share.specs.Rows.{is_loop, is_member, is_masked, is_critical, is_right_form, pick_row, chosen_row}
+use Rattle.om_share.specs.Rows.{single_row, end_worksharing_row, filtered_row, masked_row, end_masked_row}
+use Rattle.om_share.specs.Rows.{ask_critical_row, lock_row, enter_critical_row, leave_critical_row}
 use Rattle.om_standing.specs.Standing.{Owned}
 use Rattle.om_standing.proofs.Bounds.{RowStands, AskedStands, Leads, if_row, if_asked}
 

@@ -1,6 +1,7 @@
 -- The rows of serial instructions, calls, parallel regions, barriers and tasks lead from a stack that stands to one
 -- that does.
-use Rattle.std.proofs.Common.{◌≡◌, refl, subst, ℕ, zero, suc, ◌+◌, ◌-◌, ℤ, pos, negsuc, Bool, true, false, if◌then◌else◌, List, [], ◌∷◌, ◌++◌, Option, None, Some, length, replicate}
+use Rattle.std.proofs.Common.{◌≡◌, refl, subst, ℕ, zero, suc, ◌+◌, ◌-◌, ℤ, pos, negsuc, Bool, true, false}
+use Rattle.std.proofs.Common.{if◌then◌else◌, List, [], ◌∷◌, ◌++◌, Option, None, Some, length, replicate}
 use Rattle.std.specs.Prelude.{Result, Ok, Err, nat_lt, nat_le, nat_eq, unwrap_or}
 use Rattle.std.specs.Cmp.Lexicographic.{pointwise}
 use Rattle.om_foot.specs.Names.{parent_of}
@@ -44,16 +45,23 @@ use Rattle.om_cells.specs.Values.{cell_in, task_in, count_in}
 use Rattle.om_row.specs.declared.row.Launch.{Launch}
 use Rattle.om_row.specs.Rows.{first_of, rest_of}
 use Rattle.om_row.specs.Objects.{own_cells, deaths, puts, homes_in, innermost}
-use Rattle.om_serial.specs.Rows.{put_of, row_of, unsets, cells_of_slot, touch_row, serial_row, slots_in, call_row, return_row, combined, reduced, reduce_row}
+use Rattle.om_serial.specs.Rows.{put_of, row_of, unsets, cells_of_slot, touch_row, serial_row, slots_in, call_row}
+use Rattle.om_serial.specs.Rows.{return_row, combined, reduced, reduce_row}
 use Rattle.om_fork.specs.Barriers.{is_open}
 use Rattle.om_fork.specs.Teams.{first_frame, first_busy, member, member_controls, member_puts}
-use Rattle.om_fork.specs.Rows.{forked, team_of, named_row, sized_row, fork_row, begin_row, is_misplaced_barrier, arrive_row, kept, departed, depart_row, left, leave_row}
+use Rattle.om_fork.specs.Rows.{forked, team_of, named_row, sized_row, fork_row, begin_row, is_misplaced_barrier}
+use Rattle.om_fork.specs.Rows.{arrive_row, kept, departed, depart_row, left, leave_row}
 use Rattle.om_spawn.specs.declared.start.Starting.{Starting}
 use Rattle.om_spawn.specs.declared.task.Making.{Making}
 use Rattle.om_spawn.specs.Tasks.{is_zero, born, group_of, innermost_group, additions, ready_of}
-use Rattle.om_spawn.specs.Rows.{made_row, given_row, spawn_row, ended_row, end_row_of, task_end_row, wait_begin_row, waited, wait_end_row, opened_row, group_begin_row, closed, closed_row, group_end_row, value_of, finished, finished_row, finish_row, ready_for, started, started_row, start_row}
-use Rattle.om_standing.specs.Standing.{Owned, IsStandingFrame, IsStandingContext, IsStandingControl, IsStandingTask, IsStandingValue}
-use Rattle.om_standing.proofs.Bounds.{AllPutStanding, ValuesStand, RowStands, AskedStands, Leads, changed_stands, if_asked, puts_append}
+use Rattle.om_spawn.specs.Rows.{made_row, given_row, spawn_row, ended_row, end_row_of, task_end_row, wait_begin_row}
+use Rattle.om_spawn.specs.Rows.{waited, wait_end_row, opened_row, group_begin_row, closed, closed_row, group_end_row}
+use Rattle.om_spawn.specs.Rows.{value_of, finished, finished_row, finish_row, ready_for, started, started_row}
+use Rattle.om_spawn.specs.Rows.{start_row}
+use Rattle.om_standing.specs.Standing.{Owned, IsStandingFrame, IsStandingContext, IsStandingControl, IsStandingTask}
+use Rattle.om_standing.specs.Standing.{IsStandingValue}
+use Rattle.om_standing.proofs.Bounds.{AllPutStanding, ValuesStand, RowStands, AskedStands, Leads, changed_stands}
+use Rattle.om_standing.proofs.Bounds.{if_asked, puts_append}
 
 -- ---- what is put
 

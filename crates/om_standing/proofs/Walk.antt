@@ -1,5 +1,6 @@
 -- The row of each choice leads from a stack that stands to one that does.
-use Rattle.std.proofs.Common.{◌≡◌, refl, subst, sym, ℕ, ◌+◌, ◌≤◌, arith, Bool, true, false, List, [], ◌∷◌, Option, None, Some, length, option_map}
+use Rattle.std.proofs.Common.{◌≡◌, refl, subst, sym, ℕ, ◌+◌, ◌≤◌, arith, Bool, true, false, List, [], ◌∷◌, Option, None}
+use Rattle.std.proofs.Common.{Some, length, option_map}
 use Rattle.std.specs.Prelude.{Contains, slice_get, slice_index_or, option_to_list, unwrap_or, pos}
 use Rattle.std.proofs.lemmas.Option.{slice_get_within, get_or_from_slice_get, unwrap_or-slice_get}
 use Rattle.om_code.specs.declared.frame.Operand.{Operand}
@@ -32,8 +33,13 @@ use Rattle.om_standing.specs.Standing.{Owned, IsStandingFrame, IsStandingControl
 use Rattle.om_standing.proofs.Homes.{HasOwn, around, around_none, begins, begun_frame}
 use Rattle.om_standing.proofs.Going.{StandsAt, stands_at, found_slots, goes_on}
 use Rattle.om_standing.proofs.Bounds.{ValuesStand, RowStands, AskedStands, Leads}
-use Rattle.om_standing.proofs.ShareRows.{loop_stands, sections_stand, grab_stands, iterate_stands, pick_stands, single_stands, end_worksharing_stands, masked_stands, end_masked_stands, ask_critical_stands, enter_critical_stands, leave_critical_stands}
-use Rattle.om_standing.proofs.TaskRows.{TurnLeads, serial_stands, call_stands, return_stands, reduce_stands, fork_stands, begin_stands, arrive_stands, depart_stands, leave_stands, spawn_stands, task_end_stands, wait_begin_stands, wait_end_stands, group_begin_stands, group_end_stands, finish_stands, start_stands}
+use Rattle.om_standing.proofs.ShareRows.{loop_stands, sections_stand, grab_stands, iterate_stands, pick_stands}
+use Rattle.om_standing.proofs.ShareRows.{single_stands, end_worksharing_stands, masked_stands, end_masked_stands}
+use Rattle.om_standing.proofs.ShareRows.{ask_critical_stands, enter_critical_stands, leave_critical_stands}
+use Rattle.om_standing.proofs.TaskRows.{TurnLeads, serial_stands, call_stands, return_stands, reduce_stands}
+use Rattle.om_standing.proofs.TaskRows.{fork_stands, begin_stands, arrive_stands, depart_stands, leave_stands}
+use Rattle.om_standing.proofs.TaskRows.{spawn_stands, task_end_stands, wait_begin_stands, wait_end_stands}
+use Rattle.om_standing.proofs.TaskRows.{group_begin_stands, group_end_stands, finish_stands, start_stands}
 use Rattle.om_code.specs.Places.{slots_of}
 
 module _ (owned : Owned) where

@@ -1,5 +1,6 @@
 -- Why an instruction of valid code may still lack what it needs: no operand, place or name is missing then.
-use Rattle.std.specs.Prelude.{◌≡◌, ◌≢◌, ◌⊎◌, ℕ, Bool, true, false, Option, None, Some, List, [], slice_get, take, Contains}
+use Rattle.std.specs.Prelude.{◌≡◌, ◌≢◌, ◌⊎◌, ℕ, Bool, true, false, Option, None, Some, List, [], slice_get, take}
+use Rattle.std.specs.Prelude.{Contains}
 use Rattle.om_foot.specs.Names.{parent_of}
 use Rattle.om_code.specs.declared.frame.Operand.{Operand}
 use Rattle.om_code.specs.declared.frame.Operand.TheVariants.{NoValue}

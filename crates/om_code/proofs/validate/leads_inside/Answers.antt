@@ -20,4 +20,5 @@ pub returns-in-OneOf : goal.returns-in-OneOf
 returns-in-OneOf c =
     let all = c.are_within.ensures in
     let within = all_within c.args.length c.targets.result.now in
-    where_exits _ _ _ _ _ c.in-OneOf.is (subst (λ l. IsTrue c.are_within.result ↔ AreWithin c.args.length l) c.targets.ensures ((λ t. within.0 (all.0 t)), λ h. all.1 (within.1 h)))
+    where_exits _ _ _ _ _ c.in-OneOf.is (subst (λ l. IsTrue c.are_within.result ↔ AreWithin c.args.length l)
+    c.targets.ensures ((λ t. within.0 (all.0 t)), λ h. all.1 (within.1 h)))
