@@ -7,7 +7,7 @@ use Rattle.om_view.specs.declared.debuggee.Debuggee.{Debuggee}
 use Rattle.om_view.specs.declared.debugger.Debugger.{Debugger}
 use Rattle.om_view.specs.Freed.{FreeRun}
 use Rattle.om_view.specs.Views.{Answer, answered, opened}
-use Rattle.om_view.proofs.Answering.{answered_same, none_behind}
+use Rattle.om_view.specs.Answering.{answered_same, none_behind}
 use Rattle.om_shell.specs.Laws.{AsksNoFreeRun}
 use Rattle.om_shell.specs.Script.{transcript_of}
 use Rattle.om_shell.specs.Sessions.{after_answer, session}

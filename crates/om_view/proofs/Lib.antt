@@ -1,2 +1,1 @@
 mod Bounded
-pub mod Answering

@@ -8,3 +8,4 @@ pub mod Runs
 pub mod Freed
 pub mod Marked
 pub mod Views
+pub mod Answering

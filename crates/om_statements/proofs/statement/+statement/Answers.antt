@@ -5,9 +5,7 @@ use Rattle.std.specs.Prelude.{is_some}
 use Rattle.om_rows.specs.Statements.{clause_value}
 use Rattle.om_tables.specs.Copies.{first_copies_of}
 use Rattle.om_resolved.specs.declared.resolved.ResolvedPart.{out-ResolvedPart}
-use Rattle.om_resolved.proofs.resolved.ResolvedPart.TheLaws.{the_size}
-use Rattle.om_resolved.proofs.resolved.ResolvedStatement.TheLaws.{the_size as statement_size}
-use Rattle.om_resolved.specs.declared.resolved.ResolvedStatement.TheViews.{sized-Sections}
+use Rattle.om_resolved.specs.declared.resolved.ResolvedStatement.TheViews.{size-ResolvedPart, size-ResolvedStatement, sized-Sections}
 use Rattle.om_resolved.specs.ResolvedTree as trees
 use Rattle.om_resolved.specs.ResolvedView.{view_resolved_clause, view_resolved_expression, view_resolved_loop, view_resolved_part, view_resolved_start, view_resolved_statement}
 use Rattle.om_rows.specs.Bodies as rows
@@ -206,9 +204,9 @@ statement-parts-requires t c =
     let seen = ap view_resolved_statement c.in-Sections.is ∙ view_sections c.in-Sections.at c.in-Sections.clauses c.in-Sections.nowait c.in-Sections.sections in
     let opened = c.in_ok-inside-in-Sections.ensures in
     let same = ap length (c.as_slice-in-Sections-2.ensures.value ∙ sym c.as_slice-in-Sections-3.ensures.value) in (
-      (let h1 = ap statement_size c.in-Sections.is in
+      (let h1 = ap size-ResolvedStatement c.in-Sections.is in
           let h2 = sized-Sections c.in-Sections.at c.in-Sections.clauses c.in-Sections.nowait c.in-Sections.sections in
-          let h3 = ap (most the_size) c.as_slice-in-Sections-3.ensures.value in
+          let h3 = ap (most size-ResolvedPart) c.as_slice-in-Sections-3.ensures.value in
           omega (arith, h1, h2, h3, c.decreases)),
       (
         subst (λ xs. PartsHaveCode (trees.parts (map view_resolved_part xs))) (sym c.as_slice-in-Sections-3.ensures.value)

@@ -2,7 +2,7 @@ use Rattle.std.proofs.Common.{◌≡◌, ◌∙◌, ◌∷◌, [], rules}
 use Rattle.om_command.specs.Commands.{request_of}
 use Rattle.om_view.specs.Freed.{free_said, no_run}
 use Rattle.om_view.specs.Views.{answer_to}
-use Rattle.om_view.proofs.Answering.{answered_free, answered_plain}
+use Rattle.om_view.specs.Answering.{answered_free, answered_plain}
 use Rattle.om_view.proofs.debugger.Debugger.answer.Goals as goal
 
 pub returns-in-Some : goal.returns-in-Some

@@ -1,4 +1,4 @@
--- What a line is answered, by whether it asks for a free run.
+-- What a line is answered, by whether it asks for a free run: matter of proofs, for whoever goes through lines.
 use Rattle.std.specs.Prelude.{◌≡◌, ℕ, false, List, [], ◌∷◌, Option, None, Some, refl}
 use Rattle.std.proofs.Common.{◌∙◌, ap, sym}
 use Rattle.om_command.specs.Commands.{request_of}
