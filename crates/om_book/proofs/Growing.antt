@@ -9,7 +9,8 @@ use Rattle.om_cells.specs.declared.step.Outcome.TheVariants as outcome
 use Rattle.om_cells.specs.Rules.{step_at}
 use Rattle.om_history.specs.declared.reply.UndoReply.{UndoReply}
 use Rattle.om_history.specs.declared.reply.UndoReply.TheVariants.{Undone, Conflict, Nothing}
-use Rattle.om_history.specs.Runs.{History, Place, entry_for, history_with, history_without, last_place, reply_to_undo, state_of_entries}
+use Rattle.om_history.specs.Runs.{History, Place, entry_for, history_with, history_without, last_place, reply_to_undo}
+use Rattle.om_history.specs.Runs.{state_of_entries}
 use Rattle.om_undo.specs.Machines.{MachineView, rules_for}
 use Rattle.om_book.specs.declared.command.Command.{Command}
 use Rattle.om_book.specs.declared.command.Command.TheVariants as command
@@ -36,7 +37,11 @@ made_after m (command.Step worker choice) =
     let d : Step = step_at (rules_for m) (state_of_entries (rules_for m) m.history.entries) l in
     made_with m.history (entry_for m.history.made l d) d.outcome
 made_after m (command.Undo worker) =
-    omega (arith, made_without m.history (last_place worker m.history.entries) (reply_to_undo (rules_for m) m.history worker))
+    omega (
+      arith,
+      made_without m.history (last_place worker m.history.entries)
+          (reply_to_undo (rules_for m) m.history worker),
+    )
 made_after m (command.Roll serial) = omega arith
 made_after m (command.Look question) = omega arith
 
@@ -50,8 +55,10 @@ pub IsLegal-snoc : (m : MachineView) (rs : List JournalRecord) (r : JournalRecor
 IsLegal-snoc m [] r h is = (is, tt)
 IsLegal-snoc m (x ∷ xs) r h is = (h.0, IsLegal-snoc (after m x.command) xs r h.1 is)
 
-sound_snoc : (m start : MachineView) (before : ℕ) (rs : List JournalRecord) (r : JournalRecord) → IsSound m start before rs
-    → before + length rs < 200000 → IsReply m r.command r.reply → IsSound (after m r.command) start before (rs ++ r ∷ [])
+sound_snoc : (m start : MachineView) (before : ℕ) (rs : List JournalRecord) (r : JournalRecord) → IsSound m start
+    before rs
+    → before + length rs < 200000 → IsReply m r.command r.reply → IsSound (after m r.command) start before
+    (rs ++ r ∷ [])
 sound_snoc m start before rs r h room is = record {
   legal = IsLegal-snoc start rs r h.legal (subst (λ p. IsReply p r.command r.reply) h.left is);
   left = ap (λ p. after p r.command) h.left ∙ sym (left_by-snoc start rs r);
@@ -62,7 +69,8 @@ sound_snoc m start before rs r h room is = record {
 }
 
 -- the book stays sound where a command is done and its reply recorded
-pub sound_next : (m next start : MachineView) (before : ℕ) (rs js : List JournalRecord) (seat : ℕ) (c : Command) (x : Reply)
+pub sound_next : (m next start : MachineView) (before : ℕ) (rs js : List JournalRecord) (seat : ℕ) (c : Command)
+    (x : Reply)
     → IsSound m start before rs → before + length rs < 200000 → next ≡ after m c → IsReply m c x
     → js ≡ rs ++ record { seat = seat; command = c; reply = x } ∷ [] → IsSound next start before js
 sound_next m next start before rs js seat c x h room is answered grows =

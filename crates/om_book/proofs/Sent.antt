@@ -16,8 +16,10 @@ use Rattle.om_book.specs.contracts.session.Session as session
 book_send : IsSend book.the_row
 book_send = search (machine.the_send, kept.the_send, crosses, sendable) depth 40
 
-desk_send : (L : RattleType) (g : sitting.Ghosts L.Denot) (l : ledger.Ghosts L.Denot) → IsSend L → IsSync L → IsSend (desk.the_row L g l)
+desk_send : (L : RattleType) (g : sitting.Ghosts L.Denot) (l : ledger.Ghosts L.Denot) → IsSend L → IsSync L
+    → IsSend (desk.the_row L g l)
 desk_send L g l s y = search (book_send, calls.the_send, share.the_send, crosses, sendable) depth 40
 
-pub session_sync : (L : RattleType) (g : sitting.Ghosts L.Denot) (l : ledger.Ghosts L.Denot) → IsSend L → IsSync L → IsSync (session.the_row L g l)
+pub session_sync : (L : RattleType) (g : sitting.Ghosts L.Denot) (l : ledger.Ghosts L.Denot) → IsSend L → IsSync L
+    → IsSync (session.the_row L g l)
 session_sync L g l s y = search (desk_send, crosses, sendable) depth 40

@@ -1,5 +1,6 @@
 -- Receipts that stand in a journal.
-use Rattle.std.specs.Prelude.{◌≡◌, ◌≢◌, ◌⊎◌, ◌≤◌, ◌+◌, ℕ, All, List, [], ◌∷◌, length, drop, slice_get, Some, cond, nat_eq}
+use Rattle.std.specs.Prelude.{◌≡◌, ◌≢◌, ◌⊎◌, ◌≤◌, ◌+◌, ℕ, All, List, [], ◌∷◌, length, drop, slice_get, Some, cond}
+use Rattle.std.specs.Prelude.{nat_eq}
 use Rattle.std.specs.List.{AllByRecursion}
 use Rattle.om_book.specs.declared.book.JournalRecord.{JournalRecord}
 use Rattle.om_book.specs.declared.receipt.Receipt.{Receipt}

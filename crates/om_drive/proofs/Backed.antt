@@ -12,8 +12,10 @@ use Rattle.om_drive.specs.Backing.{Has, MadeFrom, IsMade}
 pub has_at : {A : Type 0} (xs : List A) (i : ℕ) (x : A) → i < length xs → x ≡ get_or xs i x → Has xs x
 has_at xs i x within is = (i, slice_get_read xs (length xs) i x refl within is)
 
-pub is_made_at : {V : Type 0} (items : V → List Order) (seats : List SeatView) (lists : List V) (number place : ℕ) (x : Reply) (i : ℕ) (s : SeatView) (v : V)
-    → i < length seats → s ≡ get_or seats i s → i < length lists → v ≡ get_or lists i v → MadeFrom (items v) s.receipts number place x
+pub is_made_at : {V : Type 0} (items : V → List Order) (seats : List SeatView) (lists : List V) (number place : ℕ)
+    (x : Reply) (i : ℕ) (s : SeatView) (v : V)
+    → i < length seats → s ≡ get_or seats i s → i < length lists → v ≡ get_or lists i v → MadeFrom (items v)
+    s.receipts number place x
     → IsMade items seats lists number place x
 is_made_at items seats lists number place x i s v within is inside lies made = record {
   at = i;
@@ -25,7 +27,8 @@ is_made_at items seats lists number place x i s v within is inside lies made = r
 }
 
 -- one more has it
-pub all_more : {A : Type 0} (P : A → Type 0) (xs : List A) (i : ℕ) (x : A) → i < length xs → x ≡ get_or xs i x → All P (take i xs) → P x → All P (take (i + 1) xs)
+pub all_more : {A : Type 0} (P : A → Type 0) (xs : List A) (i : ℕ) (x : A) → i < length xs → x ≡ get_or xs i x
+    → All P (take i xs) → P x → All P (take (i + 1) xs)
 all_more P xs i x within is h p = All-more P xs i x within h (subst P is p)
 
 -- at the end all have it

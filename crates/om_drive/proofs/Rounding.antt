@@ -1,12 +1,14 @@
 -- A round, one seat after the other.
-use Rattle.std.specs.Prelude.{◌≡◌, ◌<◌, ◌+◌, ℕ, suc, ◌-◌, List, [], ◌∷◌, ◌++◌, length, map, take, slice_get, refl, Result, Ok, Err, OnErr}
+use Rattle.std.specs.Prelude.{◌≡◌, ◌<◌, ◌+◌, ℕ, suc, ◌-◌, List, [], ◌∷◌, ◌++◌, length, map, take, slice_get, refl}
+use Rattle.std.specs.Prelude.{Result, Ok, Err, OnErr}
 use Rattle.std.proofs.Common.{sym, ◌∙◌, ap, arith, add-one, drop, get_or, drop-cons, append_assoc, append-nil}
 use Rattle.std.proofs.lemmas.List.{take-append-drop, map-append}
 use Rattle.om_drive.specs.declared.order.Answer.{Answer}
 use Rattle.om_drive.specs.Rounds.{answer_number, listed, round_at, rounds, Part, Begins}
 use Rattle.om_drive.specs.declared.order.Order.{Order}
 
-pub round_next : {V : Type 0} (items : V → List Order) (k : ℕ) (vs : List V) (i : ℕ) (v : V) → i < length vs → v ≡ get_or vs i v
+pub round_next : {V : Type 0} (items : V → List Order) (k : ℕ) (vs : List V) (i : ℕ) (v : V) → i < length vs → v
+    ≡ get_or vs i v
     → round_at items k (drop i vs) ≡ listed (slice_get (items v) k) ++ round_at items k (drop (i + 1) vs)
 round_next items k vs i v within is =
     let e : drop i vs ≡ v ∷ drop (i + 1) vs = drop-cons vs i v within ∙ (λ j. sym is j ∷ drop (sym (add-one i) j) vs) in
@@ -15,25 +17,34 @@ round_next items k vs i v within is =
 abbrev pub part_none : (old due : List ℕ) → Part old old due due
 part_none old due = record { text = []; added = sym (append-nil old); left = refl }
 
-abbrev pub part_more : (old new more due ns rest : List ℕ) → Part old new due (ns ++ rest) → more ≡ new ++ ns → Part old more due rest
+abbrev pub part_more : (old new more due ns rest : List ℕ) → Part old new due (ns ++ rest) → more ≡ new ++ ns
+    → Part old more due rest
 part_more old new more due ns rest p e =
-    record { text = p.text ++ ns; added = e ∙ ap (λ xs. xs ++ ns) p.added ∙ append_assoc old p.text ns; left = p.left ∙ sym (append_assoc p.text ns rest) }
+    record {
+      text = p.text ++ ns;
+      added = e ∙ ap (λ xs. xs ++ ns) p.added ∙ append_assoc old p.text ns;
+      left =
+          p.left ∙ sym (append_assoc p.text ns rest);
+    }
 
 -- a beginning of what was left is one of all
-pub part_begins : (old new more due ns rest : List ℕ) → Part old new due (ns ++ rest) → Begins new more ns → Begins old more due
+pub part_begins : (old new more due ns rest : List ℕ) → Part old new due (ns ++ rest) → Begins new more ns
+    → Begins old more due
 part_begins old new more due ns rest p b = (
   b.0 ++ rest,
   record {
     text = p.text ++ b.1.text;
     added = b.1.added ∙ ap (λ xs. xs ++ b.1.text) p.added ∙ append_assoc old p.text b.1.text;
-    left = p.left ∙ ap (λ xs. p.text ++ (xs ++ rest)) b.1.left ∙ ap (λ xs. p.text ++ xs) (append_assoc b.1.text b.0 rest) ∙ sym (append_assoc p.text b.1.text (b.0 ++ rest));
+    left = p.left ∙ ap (λ xs. p.text ++ (xs ++ rest)) b.1.left ∙ ap (λ xs. p.text ++ xs)
+        (append_assoc b.1.text b.0 rest) ∙ sym (append_assoc p.text b.1.text (b.0 ++ rest));
   },
 )
 
 pub begins_same : (old new more due rest : List ℕ) → Part old new due rest → more ≡ new → Begins old more due
 begins_same old new more due rest p e = (rest, record { text = p.text; added = e ∙ p.added; left = p.left })
 
-pub rounds_next : {V : Type 0} (items : V → List Order) (k n : ℕ) (vs : List V) → k < n → rounds items k (n - k) vs ≡ round_at items k vs ++ rounds items (k + 1) (n - (k + 1)) vs
+pub rounds_next : {V : Type 0} (items : V → List Order) (k n : ℕ) (vs : List V) → k < n → rounds items k (n - k) vs
+    ≡ round_at items k vs ++ rounds items (k + 1) (n - (k + 1)) vs
 rounds_next items k n vs h = let e : n - k ≡ suc (n - (k + 1)) = omega arith in ap (λ m. rounds items k m vs) e
 
 pub on_err : {A B : Type 0} (r : Result A B) (P : Type 0) → P → OnErr r P
@@ -50,11 +61,13 @@ pub begins_same_yet : (old new due : List ℕ) → new ≡ old → Begins old ne
 begins_same_yet old new due e = (due, record { text = []; added = e ∙ sym (append-nil old); left = refl })
 
 -- what is left of the answers is a beginning too
-pub begins_taken : (old new : List Answer) (due : List ℕ) (n : ℕ) → new ≡ take n old → Begins [] (map answer_number old) due → Begins [] (map answer_number new) due
+pub begins_taken : (old new : List Answer) (due : List ℕ) (n : ℕ) → new ≡ take n old
+    → Begins [] (map answer_number old) due → Begins [] (map answer_number new) due
 begins_taken old new due n e b =
     let rest = map answer_number (drop n old) in
     let parted : map answer_number old ≡ map answer_number new ++ rest =
-    ap (λ xs. map answer_number xs) (sym (take-append-drop n old)) ∙ map-append answer_number (take n old) (drop n old) ∙ ap (λ xs. map answer_number xs ++ rest) (sym e) in (
+    ap (λ xs. map answer_number xs) (sym (take-append-drop n old)) ∙ map-append answer_number (take n old)
+    (drop n old) ∙ ap (λ xs. map answer_number xs ++ rest) (sym e) in (
       rest ++ b.0,
       record {
         text = map answer_number new;

@@ -17,23 +17,30 @@ added : (made : Bool) (n k m : ℕ) → n ≡ k + m → cond made (suc n) n ≡ 
 added true n k m e = omega (arith, e)
 added false n k m e = e
 
-steps_next : (rs : List Receipt) (r : Receipt) → steps_in (rs ++ r ∷ []) ≡ steps_in rs + cond (makes_step r.command r.reply) 1 0
+steps_next : (rs : List Receipt) (r : Receipt) → steps_in (rs ++ r ∷ []) ≡ steps_in rs + cond
+    (makes_step r.command r.reply) 1 0
 steps_next [] r = one_more (makes_step r.command r.reply)
-steps_next (x ∷ rs) r = added (makes_step x.command x.reply) (steps_in (rs ++ r ∷ [])) (steps_in rs) (cond (makes_step r.command r.reply) 1 0) (steps_next rs r)
+steps_next (x ∷ rs) r = added (makes_step x.command x.reply) (steps_in (rs ++ r ∷ [])) (steps_in rs)
+    (cond (makes_step r.command r.reply) 1 0) (steps_next rs r)
 
-pub steps_behind : (now before : List Receipt) (r : Receipt) → now ≡ before ++ r ∷ [] → steps_in now ≡ steps_in before + cond (makes_step r.command r.reply) 1 0
+pub steps_behind : (now before : List Receipt) (r : Receipt) → now ≡ before ++ r ∷ [] → steps_in now
+    ≡ steps_in before + cond (makes_step r.command r.reply) 1 0
 steps_behind now before r e = ap steps_in e ∙ steps_next before r
 
 -- a question makes no step
-pub looks_behind : (now before : List Receipt) (at : ℕ) (q : Query) (x : Reply) → now ≡ before ++ record { place = at; command = command.Look q; reply = x } ∷ [] → steps_in now ≡ steps_in before
-looks_behind now before at q x e = steps_behind now before (record { place = at; command = command.Look q; reply = x }) e ∙ omega arith
+pub looks_behind : (now before : List Receipt) (at : ℕ) (q : Query) (x : Reply) → now ≡ before
+    ++ record { place = at; command = command.Look q; reply = x } ∷ [] → steps_in now ≡ steps_in before
+looks_behind now before at q x e = steps_behind now before
+    (record { place = at; command = command.Look q; reply = x }) e ∙ omega arith
 
 -- a sum with one more
-pub sum_last : {A : Type 0} (f : A → ℕ) (all xs : List A) (x : A) → all ≡ xs ++ x ∷ [] → sum_by f all ≡ sum_by f xs + f x
+pub sum_last : {A : Type 0} (f : A → ℕ) (all xs : List A) (x : A) → all ≡ xs ++ x ∷ [] → sum_by f all
+    ≡ sum_by f xs + f x
 sum_last f all xs x e = ap (sum_by f) e ∙ sum_by-append f xs (x ∷ []) ∙ omega arith
 
 -- the steps of those that sit are those of their seats
-pub seated_steps : {S : Type 0} (seat : S → SeatView) (ss : List S) → sum_by (λ s. steps_in (seat s).receipts) ss ≡ sum_by steps_of (map seat ss)
+pub seated_steps : {S : Type 0} (seat : S → SeatView) (ss : List S) → sum_by (λ s. steps_in (seat s).receipts) ss
+    ≡ sum_by steps_of (map seat ss)
 seated_steps seat [] = refl
 seated_steps seat (s ∷ ss) =
     sum_by-cons (λ s. steps_in (seat s).receipts) s ss ∙ ap (λ n. steps_in (seat s).receipts + n) (seated_steps seat ss)

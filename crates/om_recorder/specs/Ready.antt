@@ -43,8 +43,10 @@ inserted name (other ∷ names) = placed (slice_cmp nat_cmp name other) name oth
 -- those of the names that are ready, ascending
 abbrev pub ready_among : State → List (List ℕ) → List (List ℕ)
 ready_among s [] = []
-ready_among s (name ∷ names) = cond (is_ready (task_in (s (object.Task name)))) (inserted name (ready_among s names)) (ready_among s names)
+ready_among s (name ∷ names) = cond (is_ready (task_in (s (object.Task name))))
+    (inserted name (ready_among s names)) (ready_among s names)
 
 -- the names of all tasks that are ready, ascending: no step makes a task ready that it doesn't touch
 unfoldable pub ready_names : MachineView → List (List ℕ)
-ready_names m = ready_among (state_in m) (tasks_of (steps_from (rules_for m) (rules_for m).start (map label_of m.history.entries)))
+ready_names m = ready_among (state_in m)
+    (tasks_of (steps_from (rules_for m) (rules_for m).start (map label_of m.history.entries)))

@@ -17,7 +17,10 @@ pub record Recorded : Type 0 where
 
 -- a machine at the start of a program, without records
 abbrev pub started : Raw → ℕ → Recorded
-started program workers = record { machine = record { program = program; workers = workers; history = no_history }; records = 0 }
+started program workers = record {
+  machine = record { program = program; workers = workers; history = no_history };
+  records = 0;
+}
 
 -- there is no room for one more record
 abbrev pub is_full : Recorded → Bool

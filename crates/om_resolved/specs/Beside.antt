@@ -1,8 +1,13 @@
--- Two facts of a resolved tree beside that it is whole: what the statement of an `atomic` is, and where the copies of regions stand.
+-- Two facts of a resolved tree beside that it is whole: what the statement of an `atomic` is, and where the
+-- copies of regions stand.
 use Rattle.std.specs.Prelude.{◌≤◌, ℕ, List, All}
 use Rattle.om_resolved.specs.declared.resolved.ConstructKind.{ConstructKind}
 use Rattle.om_resolved.specs.declared.resolved.ConstructKind.TheVariants as constructs
-use Rattle.om_resolved.specs.ResolvedTree.{ResolvedExpressionTree, Assign, AssignElement, ResolvedClauseTree, Copied, ResolvedStatementTree, Block, Expression, If, IfElse, While, Do, For, Parallel, Task, Loop, Sections, Construct, ResolvedStatementsTree, NoStatements, Statement, ResolvedPartsTree, NoParts, Part, ResolvedFunctionTree, ResolvedTree}
+use Rattle.om_resolved.specs.ResolvedTree.{ResolvedExpressionTree, Assign, AssignElement, ResolvedClauseTree, Copied}
+use Rattle.om_resolved.specs.ResolvedTree.{ResolvedStatementTree, Block, Expression, If, IfElse, While, Do, For}
+use Rattle.om_resolved.specs.ResolvedTree.{Parallel, Task, Loop, Sections, Construct, ResolvedStatementsTree}
+use Rattle.om_resolved.specs.ResolvedTree.{NoStatements, Statement, ResolvedPartsTree, NoParts, Part}
+use Rattle.om_resolved.specs.ResolvedTree.{ResolvedFunctionTree, ResolvedTree}
 
 -- P of a statement, and of each one in it
 abbrev mutual

@@ -1,5 +1,6 @@
 -- Which variables of its function a region takes from outside, and how (OpenMP API 5.2, section 5.1).
-use Rattle.std.specs.Prelude.{ℕ, List, [], ◌∷◌, ◌++◌, Option, None, Some, Bool, false, fold, map, nat_lt, nat_eq, not, ◌&&◌, ◌||◌, if◌then◌else◌}
+use Rattle.std.specs.Prelude.{ℕ, List, [], ◌∷◌, ◌++◌, Option, None, Some, Bool, false, fold, map, nat_lt, nat_eq, not}
+use Rattle.std.specs.Prelude.{◌&&◌, ◌||◌, if◌then◌else◌}
 use Rattle.std.specs.List.{flat_map, list_any}
 use Rattle.om_resolved.specs.declared.resolved.Capture.{Capture}
 use Rattle.om_resolved.specs.declared.resolved.CopyKind.{CopyKind}
@@ -10,7 +11,15 @@ use Rattle.om_resolved.specs.declared.resolved.Taking.{Taking}
 use Rattle.om_resolved.specs.declared.resolved.Taking.TheVariants as takings
 use Rattle.om_resolved.specs.declared.resolved.Variable as variables
 use Rattle.om_resolved.specs.declared.resolved.Variable.TheVariants as named
-use Rattle.om_resolved.specs.ResolvedTree.{ResolvedExpressionTree, Constant, Variable, Element, Call, ThreadNumber, TeamSize, Print, Unary, Binary, Conditional, Assign, AssignElement, Postfix, PostfixElement, ValuesTree, NoValues, Value, ResolvedDeclaratorTree, ResolvedClauseTree, ClauseValue, Shared, Copied, ResolvedStartTree, StartNothing, StartExpression, StartDeclaration, ResolvedUpdateTree, ResolvedStatementTree, Declaration, Block, Empty, Expression, If, IfElse, While, Do, For, Return, Break, Continue, Parallel, Task, Loop, Sections, Construct, Update, StandAlone, ResolvedStatementsTree, NoStatements, Statement, ResolvedPartsTree, NoParts, Part}
+use Rattle.om_resolved.specs.ResolvedTree.{ResolvedExpressionTree, Constant, Variable, Element, Call, ThreadNumber}
+use Rattle.om_resolved.specs.ResolvedTree.{TeamSize, Print, Unary, Binary, Conditional, Assign, AssignElement, Postfix}
+use Rattle.om_resolved.specs.ResolvedTree.{PostfixElement, ValuesTree, NoValues, Value, ResolvedDeclaratorTree}
+use Rattle.om_resolved.specs.ResolvedTree.{ResolvedClauseTree, ClauseValue, Shared, Copied, ResolvedStartTree}
+use Rattle.om_resolved.specs.ResolvedTree.{StartNothing, StartExpression, StartDeclaration, ResolvedUpdateTree}
+use Rattle.om_resolved.specs.ResolvedTree.{ResolvedStatementTree, Declaration, Block, Empty, Expression, If, IfElse}
+use Rattle.om_resolved.specs.ResolvedTree.{While, Do, For, Return, Break, Continue, Parallel, Task, Loop, Sections}
+use Rattle.om_resolved.specs.ResolvedTree.{Construct, Update, StandAlone, ResolvedStatementsTree, NoStatements}
+use Rattle.om_resolved.specs.ResolvedTree.{Statement, ResolvedPartsTree, NoParts, Part}
 
 -- ---- the variables of the function that a part uses, in the order of the text
 
@@ -87,13 +96,15 @@ unfoldable mutual
   statement_uses (IfElse at c s t) = expression_uses c ++ (statement_uses s ++ statement_uses t)
   statement_uses (While at c s) = expression_uses c ++ statement_uses s
   statement_uses (Do at s c) = statement_uses s ++ expression_uses c
-  statement_uses (For at start condition step s) = start_uses start ++ (perhaps_uses condition ++ (perhaps_uses step ++ statement_uses s))
+  statement_uses (For at start condition step s) = start_uses start
+      ++ (perhaps_uses condition ++ (perhaps_uses step ++ statement_uses s))
   statement_uses (Return at value) = perhaps_uses value
   statement_uses (Break at) = []
   statement_uses (Continue at) = []
   statement_uses (Parallel at clauses captures s) = flat_map clause_uses clauses ++ map captured_variable captures
   statement_uses (Task at clauses captures s) = flat_map clause_uses clauses ++ map captured_variable captures
-  statement_uses (Loop at clauses nowait l s) = flat_map clause_uses clauses ++ (expression_uses l.from ++ (expression_uses l.to ++ statement_uses s))
+  statement_uses (Loop at clauses nowait l s) = flat_map clause_uses clauses
+      ++ (expression_uses l.from ++ (expression_uses l.to ++ statement_uses s))
   statement_uses (Sections at clauses nowait parts) = flat_map clause_uses clauses ++ parts_uses parts
   statement_uses (Construct at kind clauses s) = flat_map clause_uses clauses ++ statement_uses s
   statement_uses (Update at u) = update_uses u
@@ -152,7 +163,9 @@ abbrev pub is_before : Option ℕ → ℕ → Bool
 is_before None variable = false
 is_before (Some parallel) variable = nat_lt variable parallel
 
--- a `task` shares what `default` tells it to, what its clauses list, and what all implicit tasks of the `parallel` round it share
+-- a `task` shares what `default` tells it to, what its clauses list, and what all implicit tasks of the
+-- `parallel` round it share
 abbrev pub taken_by_task : (has_default : Bool) → (parallel : Option ℕ) → (listed : List ℕ) → ℕ → Taking
 taken_by_task has_default parallel listed variable =
-    if has_default || list_any (nat_eq variable) listed || is_before parallel variable then takings.Shared else takings.Firstprivate
+    if has_default || list_any (nat_eq variable) listed || is_before parallel variable then takings.Shared else
+    takings.Firstprivate

@@ -1,5 +1,6 @@
 -- The formats of `printf` (C17 7.21.6.1): `%d` writes a value, `%%` a percent sign, and there is no other conversion.
-use Rattle.std.specs.Prelude.{ℕ, ◌+◌, ◌==◌, ◌≡◌, IsSomeAnd, List, [], ◌∷◌, Option, None, Some, option_map, if◌then◌else◌}
+use Rattle.std.specs.Prelude.{ℕ, ◌+◌, ◌==◌, ◌≡◌, IsSomeAnd, List, [], ◌∷◌, Option, None, Some, option_map}
+use Rattle.std.specs.Prelude.{if◌then◌else◌}
 
 -- a piece of a format: these bytes are written, at least one of them, or a value in decimal digits
 pub data Piece : Type 0 where

@@ -31,7 +31,8 @@ mutual
     Binary : ResolvedExpressionTree → BinaryOperator → ResolvedExpressionTree → ResolvedExpressionTree
     Conditional : ResolvedExpressionTree → ResolvedExpressionTree → ResolvedExpressionTree → ResolvedExpressionTree
     Assign : variables.Variable → AssignOperator → ResolvedExpressionTree → ResolvedExpressionTree
-    AssignElement : variables.Variable → (index : ResolvedExpressionTree) → AssignOperator → ResolvedExpressionTree → ResolvedExpressionTree
+    AssignElement : variables.Variable → (index : ResolvedExpressionTree) → AssignOperator → ResolvedExpressionTree
+        → ResolvedExpressionTree
     Postfix : variables.Variable → PostfixOperator → ResolvedExpressionTree
     PostfixElement : variables.Variable → (index : ResolvedExpressionTree) → PostfixOperator → ResolvedExpressionTree
 
@@ -95,13 +96,15 @@ mutual
     IfElse : Span → ResolvedExpressionTree → ResolvedStatementTree → ResolvedStatementTree → ResolvedStatementTree
     While : Span → ResolvedExpressionTree → ResolvedStatementTree → ResolvedStatementTree
     Do : Span → ResolvedStatementTree → ResolvedExpressionTree → ResolvedStatementTree
-    For : Span → ResolvedStartTree → (condition : Option ResolvedExpressionTree) → (step : Option ResolvedExpressionTree) → ResolvedStatementTree → ResolvedStatementTree
+    For : Span → ResolvedStartTree → (condition : Option ResolvedExpressionTree)
+        → (step : Option ResolvedExpressionTree) → ResolvedStatementTree → ResolvedStatementTree
     Return : Span → Option ResolvedExpressionTree → ResolvedStatementTree
     Break : Span → ResolvedStatementTree
     Continue : Span → ResolvedStatementTree
     Parallel : Span → List ResolvedClauseTree → List Capture → ResolvedStatementTree → ResolvedStatementTree
     Task : Span → List ResolvedClauseTree → List Capture → ResolvedStatementTree → ResolvedStatementTree
-    Loop : Span → List ResolvedClauseTree → (nowait : Bool) → ResolvedLoopTree → ResolvedStatementTree → ResolvedStatementTree
+    Loop : Span → List ResolvedClauseTree → (nowait : Bool) → ResolvedLoopTree → ResolvedStatementTree
+        → ResolvedStatementTree
     Sections : Span → List ResolvedClauseTree → (nowait : Bool) → ResolvedPartsTree → ResolvedStatementTree
     Construct : Span → ConstructKind → List ResolvedClauseTree → ResolvedStatementTree → ResolvedStatementTree
     Update : Span → ResolvedUpdateTree → ResolvedStatementTree
@@ -127,7 +130,8 @@ abbrev pub parts : List ResolvedStatementsTree → ResolvedPartsTree
 parts [] = NoParts
 parts (items ∷ rest) = Part items (parts rest)
 
--- a function (C17 6.9.1), with the byte of its name, its first token, whether it returns an `int`, and the line of its closing brace
+-- a function (C17 6.9.1), with the byte of its name, its first token, whether it returns an `int`, and the
+-- line of its closing brace
 pub record ResolvedFunctionTree : Type 0 where
   pub name : List ℕ
   pub name_at : ℕ

@@ -15,7 +15,10 @@ use Rattle.om_resolved.specs.declared.resolved.ResolvedStart.TheVariants as star
 use Rattle.om_resolved.specs.declared.resolved.ResolvedStatement.{ResolvedStatement, fold-ResolvedStatement}
 use Rattle.om_resolved.specs.declared.resolved.ResolvedStatement.TheOpen.{ResolvedStatement-F}
 use Rattle.om_resolved.specs.ResolvedTree as trees
-use Rattle.om_resolved.specs.ResolvedTree.{ResolvedExpressionTree, ResolvedDeclaratorTree, ResolvedClauseTree, ResolvedLoopTree, ResolvedUpdateTree, ResolvedStartTree, ResolvedStatementTree, ResolvedStatementsTree, ResolvedFunctionTree, ResolvedTree}
+use Rattle.om_resolved.specs.ResolvedTree.{ResolvedExpressionTree, ResolvedDeclaratorTree, ResolvedClauseTree}
+use Rattle.om_resolved.specs.ResolvedTree.{ResolvedLoopTree, ResolvedUpdateTree, ResolvedStartTree}
+use Rattle.om_resolved.specs.ResolvedTree.{ResolvedStatementTree, ResolvedStatementsTree, ResolvedFunctionTree}
+use Rattle.om_resolved.specs.ResolvedTree.{ResolvedTree}
 
 -- one layer of an expression, whose parts are trees already
 abbrev pub expression_layer : ResolvedExpression-F ResolvedExpressionTree → ResolvedExpressionTree
@@ -39,7 +42,12 @@ abbrev pub view_resolved_expression : ResolvedExpression → ResolvedExpressionT
 view_resolved_expression = fold-ResolvedExpression ResolvedExpressionTree expression_layer
 
 abbrev pub view_resolved_declarator : ResolvedDeclarator → ResolvedDeclaratorTree
-view_resolved_declarator d = record { variable = d.variable; length = d.length; initial = option_map view_resolved_expression d.initial }
+view_resolved_declarator d = record {
+  variable = d.variable;
+  length = d.length;
+  initial = option_map
+      view_resolved_expression d.initial;
+}
 
 abbrev pub view_resolved_clause : ResolvedClause → ResolvedClauseTree
 view_resolved_clause (clauses.Value kind e) = trees.ClauseValue kind (view_resolved_expression e)
@@ -83,15 +91,21 @@ statement_layer (ResolvedStatement-F.IfElse at c s t) = trees.IfElse at (view_re
 statement_layer (ResolvedStatement-F.While at c s) = trees.While at (view_resolved_expression c) s.value
 statement_layer (ResolvedStatement-F.Do at s c) = trees.Do at s.value (view_resolved_expression c)
 statement_layer (ResolvedStatement-F.For at start condition step s) =
-    trees.For at (view_resolved_start start) (option_map view_resolved_expression condition) (option_map view_resolved_expression step) s.value
+    trees.For at (view_resolved_start start) (option_map view_resolved_expression condition)
+    (option_map view_resolved_expression step) s.value
 statement_layer (ResolvedStatement-F.Return at value) = trees.Return at (option_map view_resolved_expression value)
 statement_layer (ResolvedStatement-F.Break at) = trees.Break at
 statement_layer (ResolvedStatement-F.Continue at) = trees.Continue at
-statement_layer (ResolvedStatement-F.Parallel at clauses captures s) = trees.Parallel at (map view_resolved_clause clauses.items) captures s.value
-statement_layer (ResolvedStatement-F.Task at clauses captures s) = trees.Task at (map view_resolved_clause clauses.items) captures s.value
-statement_layer (ResolvedStatement-F.Loop at clauses nowait l s) = trees.Loop at (map view_resolved_clause clauses.items) nowait (view_resolved_loop l) s.value
-statement_layer (ResolvedStatement-F.Sections at clauses nowait parts) = trees.Sections at (map view_resolved_clause clauses.items) nowait (trees.parts parts.items)
-statement_layer (ResolvedStatement-F.Construct at kind clauses s) = trees.Construct at kind (map view_resolved_clause clauses.items) s.value
+statement_layer (ResolvedStatement-F.Parallel at clauses captures s) = trees.Parallel at
+    (map view_resolved_clause clauses.items) captures s.value
+statement_layer (ResolvedStatement-F.Task at clauses captures s) = trees.Task at
+    (map view_resolved_clause clauses.items) captures s.value
+statement_layer (ResolvedStatement-F.Loop at clauses nowait l s) = trees.Loop at
+    (map view_resolved_clause clauses.items) nowait (view_resolved_loop l) s.value
+statement_layer (ResolvedStatement-F.Sections at clauses nowait parts) = trees.Sections at
+    (map view_resolved_clause clauses.items) nowait (trees.parts parts.items)
+statement_layer (ResolvedStatement-F.Construct at kind clauses s) = trees.Construct at kind
+    (map view_resolved_clause clauses.items) s.value
 statement_layer (ResolvedStatement-F.Update at u) = trees.Update at (view_resolved_update u)
 statement_layer (ResolvedStatement-F.StandAlone at directive) = trees.StandAlone at directive
 

@@ -5,7 +5,16 @@ use Rattle.om_resolved.specs.declared.resolved.StandAlone as alone
 use Rattle.om_resolved.specs.declared.resolved.StandAlone.TheVariants as alones
 use Rattle.om_resolved.specs.declared.resolved.Variable as variables
 use Rattle.om_resolved.specs.declared.resolved.Variable.TheVariants as named
-use Rattle.om_resolved.specs.ResolvedTree.{ResolvedExpressionTree, Constant, Variable, Element, Call, ThreadNumber, TeamSize, Print, Unary, Binary, Conditional, Assign, AssignElement, Postfix, PostfixElement, ValuesTree, NoValues, Value, ResolvedDeclaratorTree, ResolvedClauseTree, ClauseValue, Shared, Copied, ResolvedStartTree, StartNothing, StartExpression, StartDeclaration, ResolvedUpdateTree, ResolvedStatementTree, Declaration, Block, Empty, Expression, If, IfElse, While, Do, For, Return, Break, Continue, Parallel, Task, Loop, Sections, Construct, Update, StandAlone, ResolvedStatementsTree, NoStatements, Statement, ResolvedPartsTree, NoParts, Part, ResolvedFunctionTree, ResolvedTree}
+use Rattle.om_resolved.specs.ResolvedTree.{ResolvedExpressionTree, Constant, Variable, Element, Call, ThreadNumber}
+use Rattle.om_resolved.specs.ResolvedTree.{TeamSize, Print, Unary, Binary, Conditional, Assign, AssignElement, Postfix}
+use Rattle.om_resolved.specs.ResolvedTree.{PostfixElement, ValuesTree, NoValues, Value, ResolvedDeclaratorTree}
+use Rattle.om_resolved.specs.ResolvedTree.{ResolvedClauseTree, ClauseValue, Shared, Copied, ResolvedStartTree}
+use Rattle.om_resolved.specs.ResolvedTree.{StartNothing, StartExpression, StartDeclaration, ResolvedUpdateTree}
+use Rattle.om_resolved.specs.ResolvedTree.{ResolvedStatementTree, Declaration, Block, Empty, Expression, If, IfElse}
+use Rattle.om_resolved.specs.ResolvedTree.{While, Do, For, Return, Break, Continue, Parallel, Task, Loop, Sections}
+use Rattle.om_resolved.specs.ResolvedTree.{Construct, Update, StandAlone, ResolvedStatementsTree, NoStatements}
+use Rattle.om_resolved.specs.ResolvedTree.{Statement, ResolvedPartsTree, NoParts, Part, ResolvedFunctionTree}
+use Rattle.om_resolved.specs.ResolvedTree.{ResolvedTree}
 
 -- a global is one of so many
 abbrev pub IsVariable : ℕ → variables.Variable → Type 0
@@ -23,9 +32,11 @@ abbrev mutual
   UsesVariables globals (Print format values) = ValuesUseVariables globals values
   UsesVariables globals (Unary o e) = UsesVariables globals e
   UsesVariables globals (Binary a o b) = UsesVariables globals a × UsesVariables globals b
-  UsesVariables globals (Conditional c a b) = UsesVariables globals c × UsesVariables globals a × UsesVariables globals b
+  UsesVariables globals (Conditional c a b) = UsesVariables globals c × UsesVariables globals a
+      × UsesVariables globals b
   UsesVariables globals (Assign v o e) = IsVariable globals v × UsesVariables globals e
-  UsesVariables globals (AssignElement v index o e) = IsVariable globals v × UsesVariables globals index × UsesVariables globals e
+  UsesVariables globals (AssignElement v index o e) = IsVariable globals v × UsesVariables globals index
+      × UsesVariables globals e
   UsesVariables globals (Postfix v o) = IsVariable globals v
   UsesVariables globals (PostfixElement v index o) = IsVariable globals v × UsesVariables globals index
 
@@ -54,7 +65,8 @@ abbrev pub ClausesUseVariables : ℕ → List ResolvedClauseTree → Type 0
 ClausesUseVariables globals clauses = All (λ clause. ClauseUsesVariables globals clause) clauses
 
 abbrev pub UpdateUsesVariables : ℕ → ResolvedUpdateTree → Type 0
-UpdateUsesVariables globals u = IsVariable globals u.variable × PerhapsUsesVariables globals u.index × UsesVariables globals u.operand
+UpdateUsesVariables globals u = IsVariable globals u.variable × PerhapsUsesVariables globals u.index
+    × UsesVariables globals u.operand
 
 abbrev pub StandAloneUsesVariables : ℕ → alone.StandAlone → Type 0
 StandAloneUsesVariables globals alones.Barrier = Unit {0}
@@ -69,26 +81,34 @@ abbrev mutual
   StatementUsesVariables globals (Empty at) = Unit {0}
   StatementUsesVariables globals (Expression at e) = UsesVariables globals e
   StatementUsesVariables globals (If at c s) = UsesVariables globals c × StatementUsesVariables globals s
-  StatementUsesVariables globals (IfElse at c s t) = UsesVariables globals c × StatementUsesVariables globals s × StatementUsesVariables globals t
+  StatementUsesVariables globals (IfElse at c s t) = UsesVariables globals c × StatementUsesVariables globals s
+      × StatementUsesVariables globals t
   StatementUsesVariables globals (While at c s) = UsesVariables globals c × StatementUsesVariables globals s
   StatementUsesVariables globals (Do at s c) = StatementUsesVariables globals s × UsesVariables globals c
   StatementUsesVariables globals (For at start condition step s) =
-      StartUsesVariables globals start × PerhapsUsesVariables globals condition × PerhapsUsesVariables globals step × StatementUsesVariables globals s
+      StartUsesVariables globals start × PerhapsUsesVariables globals condition × PerhapsUsesVariables globals step
+      × StatementUsesVariables globals s
   StatementUsesVariables globals (Return at value) = PerhapsUsesVariables globals value
   StatementUsesVariables globals (Break at) = Unit {0}
   StatementUsesVariables globals (Continue at) = Unit {0}
-  StatementUsesVariables globals (Parallel at clauses captures s) = ClausesUseVariables globals clauses × StatementUsesVariables globals s
-  StatementUsesVariables globals (Task at clauses captures s) = ClausesUseVariables globals clauses × StatementUsesVariables globals s
+  StatementUsesVariables globals (Parallel at clauses captures s) = ClausesUseVariables globals clauses
+      × StatementUsesVariables globals s
+  StatementUsesVariables globals (Task at clauses captures s) = ClausesUseVariables globals clauses
+      × StatementUsesVariables globals s
   StatementUsesVariables globals (Loop at clauses nowait l s) =
-      ClausesUseVariables globals clauses × UsesVariables globals l.from × UsesVariables globals l.to × StatementUsesVariables globals s
-  StatementUsesVariables globals (Sections at clauses nowait parts) = ClausesUseVariables globals clauses × PartsUseVariables globals parts
-  StatementUsesVariables globals (Construct at kind clauses s) = ClausesUseVariables globals clauses × StatementUsesVariables globals s
+      ClausesUseVariables globals clauses × UsesVariables globals l.from × UsesVariables globals l.to
+      × StatementUsesVariables globals s
+  StatementUsesVariables globals (Sections at clauses nowait parts) = ClausesUseVariables globals clauses
+      × PartsUseVariables globals parts
+  StatementUsesVariables globals (Construct at kind clauses s) = ClausesUseVariables globals clauses
+      × StatementUsesVariables globals s
   StatementUsesVariables globals (Update at u) = UpdateUsesVariables globals u
   StatementUsesVariables globals (StandAlone at directive) = StandAloneUsesVariables globals directive
 
   pub StatementsUseVariables : ℕ → ResolvedStatementsTree → Type 0
   StatementsUseVariables globals NoStatements = Unit {0}
-  StatementsUseVariables globals (Statement s rest) = StatementUsesVariables globals s × StatementsUseVariables globals rest
+  StatementsUseVariables globals (Statement s rest) = StatementUsesVariables globals s × StatementsUseVariables
+      globals rest
 
   pub PartsUseVariables : ℕ → ResolvedPartsTree → Type 0
   PartsUseVariables globals NoParts = Unit {0}
@@ -100,7 +120,8 @@ FunctionUsesVariables globals function = StatementsUseVariables globals function
 abbrev pub is_main_function : ResolvedFunctionTree → Bool
 is_main_function function = bytes_eq function.name (codes "main")
 
--- every global that is used is one of the globals, there is a `main`, and there are at most 65,536 globals and 256 functions
+-- every global that is used is one of the globals, there is a `main`, and there are at most 65,536 globals
+-- and 256 functions
 pub record IsResolved (tree : ResolvedTree) : Type 0 where
   pub globals : length tree.globals ≤ 65536
   pub functions : length tree.functions ≤ 256

@@ -1,6 +1,9 @@
--- Which resolved trees are whole: what each part names is there and is of the kind that the part needs, and jumps, clauses and values
+-- Which resolved trees are whole: what each part names is there and is of the kind that the part needs, and
+-- jumps, clauses and values
 -- stand only where they may.
-use Rattle.std.specs.Prelude.{◌≡◌, ◌≤◌, ◌⊎◌, ◌<ℤ◌, ℕ, ◌+◌, ℤ, pos, List, [], ◌∷◌, ◌++◌, Option, None, Some, Bool, true, false, All, Any, Contains, IsSomeAnd, IfSome, codes, length, map, option_map, slice_get, sum_by}
+use Rattle.std.specs.Prelude.{◌≡◌, ◌≤◌, ◌⊎◌, ◌<ℤ◌, ℕ, ◌+◌, ℤ, pos, List, [], ◌∷◌, ◌++◌, Option, None, Some, Bool, true}
+use Rattle.std.specs.Prelude.{false, All, Any, Contains, IsSomeAnd, IfSome, codes, length, map, option_map, slice_get}
+use Rattle.std.specs.Prelude.{sum_by}
 use Rattle.std.specs.List.{IsDistinct, flat_map}
 use Rattle.std.specs.Str.{bytes_eq}
 use Rattle.om_tree.specs.declared.tree.BinaryOperator.{BinaryOperator}
@@ -22,7 +25,16 @@ use Rattle.om_resolved.specs.declared.resolved.Variable as variables
 use Rattle.om_resolved.specs.declared.resolved.Variable.TheVariants as named
 use Rattle.om_resolved.specs.Captures.{captured_variable, taken_variables}
 use Rattle.om_resolved.specs.Formats.{IsFormat}
-use Rattle.om_resolved.specs.ResolvedTree.{ResolvedExpressionTree, Constant, Variable, Element, Call, ThreadNumber, TeamSize, Print, Unary, Binary, Conditional, Assign, AssignElement, Postfix, PostfixElement, ValuesTree, NoValues, Value, ResolvedDeclaratorTree, ResolvedClauseTree, ClauseValue, Shared, Copied, ResolvedLoopTree, ResolvedStartTree, StartNothing, StartExpression, StartDeclaration, ResolvedUpdateTree, ResolvedStatementTree, Declaration, Block, Empty, Expression, If, IfElse, While, Do, For, Return, Break, Continue, Parallel, Task, Loop, Sections, Construct, Update, StandAlone, ResolvedStatementsTree, NoStatements, Statement, ResolvedPartsTree, NoParts, Part, ResolvedFunctionTree, ResolvedTree}
+use Rattle.om_resolved.specs.ResolvedTree.{ResolvedExpressionTree, Constant, Variable, Element, Call, ThreadNumber}
+use Rattle.om_resolved.specs.ResolvedTree.{TeamSize, Print, Unary, Binary, Conditional, Assign, AssignElement, Postfix}
+use Rattle.om_resolved.specs.ResolvedTree.{PostfixElement, ValuesTree, NoValues, Value, ResolvedDeclaratorTree}
+use Rattle.om_resolved.specs.ResolvedTree.{ResolvedClauseTree, ClauseValue, Shared, Copied, ResolvedLoopTree}
+use Rattle.om_resolved.specs.ResolvedTree.{ResolvedStartTree, StartNothing, StartExpression, StartDeclaration}
+use Rattle.om_resolved.specs.ResolvedTree.{ResolvedUpdateTree, ResolvedStatementTree, Declaration, Block, Empty}
+use Rattle.om_resolved.specs.ResolvedTree.{Expression, If, IfElse, While, Do, For, Return, Break, Continue, Parallel}
+use Rattle.om_resolved.specs.ResolvedTree.{Task, Loop, Sections, Construct, Update, StandAlone, ResolvedStatementsTree}
+use Rattle.om_resolved.specs.ResolvedTree.{NoStatements, Statement, ResolvedPartsTree, NoParts, Part}
+use Rattle.om_resolved.specs.ResolvedTree.{ResolvedFunctionTree, ResolvedTree}
 
 -- ---- what stands round a part
 
@@ -89,7 +101,8 @@ constructed for_loop around = record {
 
 -- a variable of this shape, among these
 abbrev pub IsAmong : List GlobalVariable → List Local → Shape → variables.Variable → Type 0
-IsAmong globals locals shape (named.Global number) = option_map (λ global. shape_of global.length) (slice_get globals number) ≡ Some shape
+IsAmong globals locals shape (named.Global number) = option_map (λ global. shape_of global.length)
+    (slice_get globals number) ≡ Some shape
 IsAmong globals locals shape (named.Local at) = Contains locals (at, shape)
 
 abbrev pub IsInScope : Around → Shape → variables.Variable → Type 0
@@ -104,7 +117,8 @@ count_of (Value e rest) = count_of rest + 1
 abbrev pub is_main : ResolvedFunctionTree → Bool
 is_main function = bytes_eq function.name (codes "main")
 
--- a function that is called with so many values, for its own value or not (C17 6.5.2.2p2); `main` is called by no program (C17 5.1.2.2.1)
+-- a function that is called with so many values, for its own value or not (C17 6.5.2.2p2); `main` is called
+-- by no program (C17 5.1.2.2.1)
 pub record IsCalled (is_used : Bool) (count : ℕ) (function : ResolvedFunctionTree) : Type 0 where
   pub parameters : length function.parameters ≡ count
   pub returns : is_used ≡ true → function.returns ≡ true
@@ -116,15 +130,18 @@ abbrev mutual
   IsWhole around is_used (Constant value) = Unit {0}
   IsWhole around is_used (Variable v) = IsInScope around shapes.Scalar v
   IsWhole around is_used (Element v index) = IsInScope around shapes.Array v × IsWhole around true index
-  IsWhole around is_used (Call function values) = IsSomeAnd (slice_get around.functions function) (IsCalled is_used (count_of values)) × AreWhole around values
+  IsWhole around is_used (Call function values) = IsSomeAnd (slice_get around.functions function)
+      (IsCalled is_used (count_of values)) × AreWhole around values
   IsWhole around is_used ThreadNumber = Unit {0}
   IsWhole around is_used TeamSize = Unit {0}
-  IsWhole around is_used (Print format values) = (is_used ≡ false) × IsFormat format (count_of values) × (count_of values ≤ 16) × AreWhole around values
+  IsWhole around is_used (Print format values) = (is_used ≡ false) × IsFormat format (count_of values)
+      × (count_of values ≤ 16) × AreWhole around values
   IsWhole around is_used (Unary o e) = IsWhole around true e
   IsWhole around is_used (Binary a o b) = IsWhole around true a × IsWhole around true b
   IsWhole around is_used (Conditional c a b) = IsWhole around true c × IsWhole around true a × IsWhole around true b
   IsWhole around is_used (Assign v o e) = IsInScope around shapes.Scalar v × IsWhole around true e
-  IsWhole around is_used (AssignElement v index o e) = IsInScope around shapes.Array v × IsWhole around true index × IsWhole around true e
+  IsWhole around is_used (AssignElement v index o e) = IsInScope around shapes.Array v × IsWhole around true index
+      × IsWhole around true e
   IsWhole around is_used (Postfix v o) = IsInScope around shapes.Scalar v
   IsWhole around is_used (PostfixElement v index o) = IsInScope around shapes.Array v × IsWhole around true index
 
@@ -148,7 +165,8 @@ declared around d = with_locals around (local_of d ∷ [])
 -- an array has an element (C17 6.7.6.2p1); a variable is in scope in its own initializer (C17 6.2.1p7)
 abbrev pub AreWholeDeclarators : Around → List ResolvedDeclaratorTree → Type 0
 AreWholeDeclarators around [] = Unit {0}
-AreWholeDeclarators around (d ∷ ds) = IfSome d.length (λ length. 1 ≤ length) × IsWholeIfAny (declared around d) true d.initial × AreWholeDeclarators (declared around d) ds
+AreWholeDeclarators around (d ∷ ds) = IfSome d.length (λ length. 1 ≤ length) × IsWholeIfAny (declared around d) true
+    d.initial × AreWholeDeclarators (declared around d) ds
 
 abbrev pub after_declarators : Around → List ResolvedDeclaratorTree → Around
 after_declarators around [] = around
@@ -179,7 +197,13 @@ nothing = record { value = None; shared = false; copies = false; reductions = fa
 
 abbrev pub of_construct : ConstructKind → Admitted
 of_construct (constructs.Single nowait) = record { value = None; shared = false; copies = true; reductions = false }
-of_construct constructs.Masked = record { value = Some values.Filter; shared = false; copies = false; reductions = false }
+of_construct constructs.Masked = record {
+  value = Some values.Filter;
+  shared = false;
+  copies = false;
+  reductions =
+      false;
+}
 of_construct (constructs.Critical name) = nothing
 of_construct constructs.Atomic = nothing
 of_construct constructs.Taskgroup = nothing
@@ -203,7 +227,8 @@ IsShared around v = IsInScope around shapes.Scalar v ⊎ IsInScope around shapes
 abbrev pub IsWholeClause : Around → Admitted → ResolvedClauseTree → Type 0
 IsWholeClause around admitted (ClauseValue kind e) = (admitted.value ≡ Some kind) × IsWhole around true e
 IsWholeClause around admitted (Shared v) = (admitted.shared ≡ true) × IsShared around v
-IsWholeClause around admitted (Copied kind original copy) = IsAdmittedCopy admitted kind × IsWholeCopy around kind original
+IsWholeClause around admitted (Copied kind original copy) = IsAdmittedCopy admitted kind × IsWholeCopy around kind
+    original
 
 abbrev pub AreWholeClauses : Around → Admitted → List ResolvedClauseTree → Type 0
 AreWholeClauses around admitted clauses = All (IsWholeClause around admitted) clauses
@@ -219,9 +244,11 @@ within around clauses = constructed false (with_locals around (flat_map copies_i
 
 -- ---- regions
 
--- A `parallel` or a `task` takes the variables that it uses and that are declared before it begins, each once and in the order of
+-- A `parallel` or a `task` takes the variables that it uses and that are declared before it begins, each once
+-- and in the order of
 -- first sight. A variable is known by the byte where it is declared.
-pub record IsRegion (start : ℕ) (clauses : List ResolvedClauseTree) (captures : List Capture) (body : ResolvedStatementTree) : Type 0 where
+pub record IsRegion (start : ℕ) (clauses : List ResolvedClauseTree) (captures : List Capture)
+    (body : ResolvedStatementTree) : Type 0 where
   pub taken : map captured_variable captures ≡ taken_variables start clauses body
 
 -- ---- canonical loops (OpenMP API 5.2, section 4.4.1)
@@ -298,7 +325,8 @@ abbrev mutual
   IsWholeStatement around (Empty at) = Unit {0}
   IsWholeStatement around (Expression at e) = IsWhole around false e
   IsWholeStatement around (If at c s) = IsWhole around true c × IsWholeStatement around s
-  IsWholeStatement around (IfElse at c s t) = IsWhole around true c × IsWholeStatement around s × IsWholeStatement around t
+  IsWholeStatement around (IfElse at c s t) = IsWhole around true c × IsWholeStatement around s × IsWholeStatement
+      around t
   IsWholeStatement around (While at c s) = IsWhole around true c × IsWholeStatement (repeated around) s
   IsWholeStatement around (Do at s c) = IsWholeStatement (repeated around) s × IsWhole around true c
   IsWholeStatement around (For at start condition step s) =
@@ -310,14 +338,19 @@ abbrev mutual
   IsWholeStatement around (Break at) = around.breaks ≡ true
   IsWholeStatement around (Continue at) = around.continues ≡ true
   IsWholeStatement around (Parallel at clauses captures s) =
-      AreWholeClauses around of_parallel clauses × IsRegion at.start clauses captures s × IsWholeStatement (within around clauses) s
+      AreWholeClauses around of_parallel clauses × IsRegion at.start clauses captures s × IsWholeStatement
+      (within around clauses) s
   IsWholeStatement around (Task at clauses captures s) =
-      AreWholeClauses around of_task clauses × IsRegion at.start clauses captures s × IsWholeStatement (within around clauses) s
+      AreWholeClauses around of_task clauses × IsRegion at.start clauses captures s × IsWholeStatement
+      (within around clauses) s
   IsWholeStatement around (Loop at clauses nowait l s) =
-      AreWholeClauses around of_worksharing clauses × IsWholeLoop around l × IsWholeStatement (iterated around clauses l) s
+      AreWholeClauses around of_worksharing clauses × IsWholeLoop around l × IsWholeStatement
+      (iterated around clauses l) s
   IsWholeStatement around (Sections at clauses nowait parts) =
-      AreWholeClauses around of_worksharing clauses × (1 ≤ part_count parts) × (part_count parts ≤ 256) × AreWholeParts (within around clauses) parts
-  IsWholeStatement around (Construct at kind clauses s) = AreWholeClauses around (of_construct kind) clauses × IsWholeStatement (within around clauses) s
+      AreWholeClauses around of_worksharing clauses × (1 ≤ part_count parts) × (part_count parts ≤ 256)
+      × AreWholeParts (within around clauses) parts
+  IsWholeStatement around (Construct at kind clauses s) = AreWholeClauses around (of_construct kind) clauses
+      × IsWholeStatement (within around clauses) s
   IsWholeStatement around (Update at u) = IsWholeUpdate (within around []) u
   IsWholeStatement around (StandAlone at directive) = IsWholeAlone around directive
 
@@ -345,7 +378,8 @@ at_function globals functions function = record {
   in_construct = false;
 }
 
-pub record IsWholeFunction (globals : List GlobalVariable) (functions : List ResolvedFunctionTree) (function : ResolvedFunctionTree) : Type 0 where
+pub record IsWholeFunction (globals : List GlobalVariable) (functions : List ResolvedFunctionTree)
+    (function : ResolvedFunctionTree) : Type 0 where
   pub parameters : length function.parameters ≤ 16
   pub body : AreWholeItems (at_function globals functions function) function.body
 

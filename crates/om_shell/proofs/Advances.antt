@@ -1,5 +1,6 @@
 -- How steps of a run compose.
-use Rattle.std.proofs.Common.{◌≡◌, ◌≢◌, ℕ, List, [], ◌∷◌, ◌++◌, Option, take, drop, refl, sym, ap, subst, ◌∙◌, append_assoc, append-nil, inl, inr, take-append-drop}
+use Rattle.std.proofs.Common.{◌≡◌, ◌≢◌, ℕ, List, [], ◌∷◌, ◌++◌, Option, take, drop, refl, sym, ap, subst, ◌∙◌}
+use Rattle.std.proofs.Common.{append_assoc, append-nil, inl, inr, take-append-drop}
 use Rattle.std.specs.Io.KnownBytes.{Appends, Consumes, IsAtEnd}
 use Rattle.std.proofs.KnownBytes.{Appends-nil, Appends-trans, Consumes-nil, Consumes-trans}
 use Rattle.om_shell.specs.declared.fault.ShellFault.{ShellFault}
@@ -13,13 +14,15 @@ pub AreWholeLines-append : (xs ys : List ℕ) → AreWholeLines xs → AreWholeL
 AreWholeLines-append xs ys p (inl none) = subst AreWholeLines (sym (ap (λ l. xs ++ l) none ∙ append-nil xs)) p
 AreWholeLines-append xs ys p (inr q) = inr (xs ++ q.0, ap (λ l. xs ++ l) q.1 ∙ sym (append_assoc xs q.0 (10 ∷ [])))
 
-pub after_text-append : {M : Type 0} (xs ys : List ℕ) (t : Transcript M) → after_text (xs ++ ys) t ≡ after_text xs (after_text ys t)
+pub after_text-append : {M : Type 0} (xs ys : List ℕ) (t : Transcript M) → after_text (xs ++ ys) t
+    ≡ after_text xs (after_text ys t)
 after_text-append xs ys t = ap (λ text. record { text = text; view = t.view }) (append_assoc xs ys t.text)
 
 after_text-nil : {M : Type 0} (xs : List ℕ) (m : Option M) → (after_text xs (record { text = []; view = m })).text ≡ xs
 after_text-nil xs m = append-nil xs
 
-pub Advance_none : {M : Type 0} (r w : Option (List ℕ)) (pending : List ℕ) (due : List ℕ → Transcript M) → Advance r r w w pending pending due due
+pub Advance_none : {M : Type 0} (r w : Option (List ℕ)) (pending : List ℕ) (due : List ℕ → Transcript M)
+    → Advance r r w w pending pending due due
 Advance_none r w pending due = record {
   taken = [];
   handled = [];
@@ -31,7 +34,8 @@ Advance_none r w pending due = record {
   is = λ future. refl;
 }
 
-pub Advance_trans : {M : Type 0} (ra rb rc wa wb wc : Option (List ℕ)) (pa pb pc : List ℕ) (la lb lc : List ℕ → Transcript M)
+pub Advance_trans : {M : Type 0} (ra rb rc wa wb wc : Option (List ℕ)) (pa pb pc : List ℕ) (la lb lc : List ℕ
+    → Transcript M)
     → Advance ra rb wa wb pa pb la lb → Advance rb rc wb wc pb pc lb lc → Advance ra rc wa wc pa pc la lc
 Advance_trans ra rb rc wa wb wc pa pb pc la lb lc p q = record {
   taken = p.taken ++ q.taken;
@@ -42,12 +46,14 @@ Advance_trans ra rb rc wa wb wc pa pb pc la lb lc p q = record {
   whole = AreWholeLines-append p.handled q.handled p.whole q.whole;
   consumes = Consumes-trans _ _ _ _ _ p.consumes q.consumes;
   appends = Appends-trans _ _ _ _ _ p.appends q.appends;
-  is = λ future. ap la (append_assoc p.handled q.handled future) ∙ p.is (q.handled ++ future) ∙ ap (λ l. after_text p.text l) (q.is future)
+  is = λ future. ap la (append_assoc p.handled q.handled future) ∙ p.is (q.handled ++ future)
+      ∙ ap (λ l. after_text p.text l) (q.is future)
       ∙ sym (after_text-append p.text q.text (lc future));
 }
 
 -- a read
-pub Advance_read : {M : Type 0} (ra rb w : Option (List ℕ)) (pa pb bytes : List ℕ) (due : List ℕ → Transcript M) → Consumes ra rb bytes → pb ≡ pa ++ bytes → Advance ra rb w w pa pb due due
+pub Advance_read : {M : Type 0} (ra rb w : Option (List ℕ)) (pa pb bytes : List ℕ) (due : List ℕ → Transcript M)
+    → Consumes ra rb bytes → pb ≡ pa ++ bytes → Advance ra rb w w pa pb due due
 Advance_read ra rb w pa pb bytes due p e = record {
   taken = bytes;
   handled = [];
@@ -60,7 +66,8 @@ Advance_read ra rb w pa pb bytes due p e = record {
 }
 
 -- whole lines that are answered
-pub Advance_answers : {M : Type 0} (r wa wb : Option (List ℕ)) (pa pb : List ℕ) (used : ℕ) (la lb : List ℕ → Transcript M)
+pub Advance_answers : {M : Type 0} (r wa wb : Option (List ℕ)) (pa pb : List ℕ) (used : ℕ)
+    (la lb : List ℕ → Transcript M)
     → Answers wa wb pa used la lb → pb ≡ drop used pa → Advance r r wa wb pa pb la lb
 Advance_answers r wa wb pa pb used la lb p e = record {
   taken = [];
@@ -74,8 +81,10 @@ Advance_answers r wa wb pa pb used la lb p e = record {
 }
 
 -- at the end of the input
-pub Done_at_end : {M : Type 0} (ra rb wa wb wc : Option (List ℕ)) (pa pb : List ℕ) (la lb : List ℕ → Transcript M) (last : Transcript M) (view : Option M)
-    → Advance ra rb wa wb pa pb la lb → IsAtEnd rb → lb pb ≡ last → Appends wb wc last.text → view ≡ last.view → IsDone ra rb wa wc pa la view
+pub Done_at_end : {M : Type 0} (ra rb wa wb wc : Option (List ℕ)) (pa pb : List ℕ) (la lb : List ℕ → Transcript M)
+    (last : Transcript M) (view : Option M)
+    → Advance ra rb wa wb pa pb la lb → IsAtEnd rb → lb pb ≡ last → Appends wb wc last.text → view ≡ last.view
+    → IsDone ra rb wa wc pa la view
 Done_at_end ra rb wa wb wc pa pb la lb last view p end same wrote left =
     let all : la (pa ++ p.taken) ≡ after_text p.text last = ap la p.bytes ∙ p.is pb ∙ ap (after_text p.text) same in
     record {
@@ -87,7 +96,8 @@ Done_at_end ra rb wa wb wc pa pb la lb last view p end same wrote left =
     }
 
 -- where nothing more is due, whatever comes
-pub Done_settled : {M : Type 0} (ra rb wa wb : Option (List ℕ)) (pa pb : List ℕ) (la : List ℕ → Transcript M) (view : Option M)
+pub Done_settled : {M : Type 0} (ra rb wa wb : Option (List ℕ)) (pa pb : List ℕ) (la : List ℕ → Transcript M)
+    (view : Option M)
     → Advance ra rb wa wb pa pb la (λ _. record { text = []; view = view }) → IsDone ra rb wa wb pa la view
 Done_settled ra rb wa wb pa pb la view p =
     let now : la (pa ++ p.taken) ≡ after_text p.text (record { text = []; view = view }) = ap la p.bytes ∙ p.is pb in
@@ -96,15 +106,19 @@ Done_settled ra rb wa wb pa pb la view p =
       consumes = p.consumes;
       appends = subst (Appends wa wb) (sym (ap (λ (t : Transcript _). t.text) now ∙ append-nil p.text)) p.appends;
       left = sym (ap (λ (t : Transcript _). t.view) now);
-      stops = inr (λ future. ap (λ l. la (l ++ future)) p.bytes ∙ ap la (append_assoc p.handled pb future) ∙ p.is (pb ++ future) ∙ sym now);
+      stops = inr (λ future. ap (λ l. la (l ++ future)) p.bytes ∙ ap la (append_assoc p.handled pb future)
+          ∙ p.is (pb ++ future) ∙ sym now);
     }
 
 -- after a fault that is no read's
-pub Breaks_after : {M : Type 0} (ra rb rc wa wb wc : Option (List ℕ)) (pa pb bytes text : List ℕ) (la lb : List ℕ → Transcript M) (fault : ShellFault)
-    → Advance ra rb wa wb pa pb la lb → Consumes rb rc bytes → Appends wb wc text → IsBeginning text (lb (pb ++ bytes)).text → fault ≢ Read → BreaksOff ra rc wa wc pa la fault
+pub Breaks_after : {M : Type 0} (ra rb rc wa wb wc : Option (List ℕ)) (pa pb bytes text : List ℕ)
+    (la lb : List ℕ → Transcript M) (fault : ShellFault)
+    → Advance ra rb wa wb pa pb la lb → Consumes rb rc bytes → Appends wb wc text → IsBeginning text
+    (lb (pb ++ bytes)).text → fault ≢ Read → BreaksOff ra rc wa wc pa la fault
 Breaks_after ra rb rc wa wb wc pa pb bytes text la lb fault p read wrote begins other =
     let all : la (pa ++ (p.taken ++ bytes)) ≡ after_text p.text (lb (pb ++ bytes)) =
-    ap la (sym (append_assoc pa p.taken bytes) ∙ ap (λ l. l ++ bytes) p.bytes ∙ append_assoc p.handled pb bytes) ∙ p.is (pb ++ bytes) in
+    ap la (sym (append_assoc pa p.taken bytes) ∙ ap (λ l. l ++ bytes) p.bytes ∙ append_assoc p.handled pb bytes)
+    ∙ p.is (pb ++ bytes) in
     record {
       taken = p.taken ++ bytes;
       text = p.text ++ text;
@@ -112,18 +126,23 @@ Breaks_after ra rb rc wa wb wc pa pb bytes text la lb fault p read wrote begins 
       appends = Appends-trans _ _ _ _ _ p.appends wrote;
       begins = record {
         rest = begins.rest;
-        is = ap (λ (t : Transcript _). t.text) all ∙ ap (λ l. p.text ++ l) begins.is ∙ sym (append_assoc p.text text begins.rest);
+        is = ap (λ (t : Transcript _). t.text) all ∙ ap (λ l. p.text ++ l) begins.is
+            ∙ sym (append_assoc p.text text begins.rest);
       };
       answered = λ read. absurd (other read);
     }
 
 -- where a read fails behind whole lines
-pub Breaks_at_read : {M : Type 0} (ra rb rc wa wb : Option (List ℕ)) (pa pb bytes : List ℕ) (la lb : List ℕ → Transcript M) (fault : ShellFault)
-    → Advance ra rb wa wb pa pb la lb → Consumes rb rc bytes → (fault ≡ Read → bytes ≡ []) → HasNoLineEnd pb → (lb []).text ≡ [] → BreaksOff ra rc wa wb pa la fault
+pub Breaks_at_read : {M : Type 0} (ra rb rc wa wb : Option (List ℕ)) (pa pb bytes : List ℕ)
+    (la lb : List ℕ → Transcript M) (fault : ShellFault)
+    → Advance ra rb wa wb pa pb la lb → Consumes rb rc bytes → (fault ≡ Read → bytes ≡ []) → HasNoLineEnd pb
+    → (lb []).text ≡ [] → BreaksOff ra rc wa wb pa la fault
 Breaks_at_read ra rb rc wa wb pa pb bytes la lb fault p read none unended nothing =
     let all : la (pa ++ (p.taken ++ bytes)) ≡ after_text p.text (lb (pb ++ bytes)) =
-    ap la (sym (append_assoc pa p.taken bytes) ∙ ap (λ l. l ++ bytes) p.bytes ∙ append_assoc p.handled pb bytes) ∙ p.is (pb ++ bytes) in
-    let whole : (la p.handled).text ≡ p.text = ap (λ l. (la l).text) (sym (append-nil p.handled)) ∙ ap (λ (t : Transcript _). t.text) (p.is []) ∙ ap (λ l. p.text ++ l) nothing ∙ append-nil p.text in
+    ap la (sym (append_assoc pa p.taken bytes) ∙ ap (λ l. l ++ bytes) p.bytes ∙ append_assoc p.handled pb bytes)
+    ∙ p.is (pb ++ bytes) in
+    let whole : (la p.handled).text ≡ p.text = ap (λ l. (la l).text) (sym (append-nil p.handled))
+    ∙ ap (λ (t : Transcript _). t.text) (p.is []) ∙ ap (λ l. p.text ++ l) nothing ∙ append-nil p.text in
     record {
       taken = p.taken ++ bytes;
       text = p.text;
@@ -141,7 +160,9 @@ Breaks_at_read ra rb rc wa wb pa pb bytes la lb fault p read none unended nothin
     }
 
 -- nothing was read, and what was written is due whatever comes
-pub Done_unread : {M : Type 0} (r wa wb : Option (List ℕ)) (pending : List ℕ) (transcript : Transcript M) (due : List ℕ → Transcript M) → ((bytes : List ℕ) → due bytes ≡ transcript) → Appends wa wb transcript.text → IsDone r r wa wb pending due transcript.view
+pub Done_unread : {M : Type 0} (r wa wb : Option (List ℕ)) (pending : List ℕ) (transcript : Transcript M)
+    (due : List ℕ → Transcript M) → ((bytes : List ℕ) → due bytes ≡ transcript) → Appends wa wb transcript.text
+    → IsDone r r wa wb pending due transcript.view
 Done_unread r wa wb pending transcript due same wrote = record {
   taken = [];
   consumes = Consumes-nil r;
@@ -150,27 +171,39 @@ Done_unread r wa wb pending transcript due same wrote = record {
   stops = inr (λ future. same (pending ++ [] ++ future) ∙ sym (same (pending ++ [])));
 }
 
-abbrev pub Done_then : {M : Type 0} (ra rb rc wa wb wc : Option (List ℕ)) (pa pb : List ℕ) (la lb : List ℕ → Transcript M) (view : Option M)
+abbrev pub Done_then : {M : Type 0} (ra rb rc wa wb wc : Option (List ℕ)) (pa pb : List ℕ)
+    (la lb : List ℕ → Transcript M) (view : Option M)
     → Advance ra rb wa wb pa pb la lb → IsDone rb rc wb wc pb lb view → IsDone ra rc wa wc pa la view
 Done_then ra rb rc wa wb wc pa pb la lb view p q =
-    let all : (future : List ℕ) → la ((pa ++ (p.taken ++ q.taken)) ++ future) ≡ after_text p.text (lb ((pb ++ q.taken) ++ future)) =
-    λ future. ap la (ap (λ l. l ++ future) (sym (append_assoc pa p.taken q.taken) ∙ ap (λ l. l ++ q.taken) p.bytes ∙ append_assoc p.handled pb q.taken)
+    let all : (future : List ℕ) → la ((pa ++ (p.taken ++ q.taken)) ++ future) ≡ after_text p.text
+    (lb ((pb ++ q.taken) ++ future)) =
+    λ future. ap la (ap (λ l. l ++ future) (sym (append_assoc pa p.taken q.taken) ∙ ap (λ l. l ++ q.taken) p.bytes
+    ∙ append_assoc p.handled pb q.taken)
     ∙ append_assoc p.handled (pb ++ q.taken) future) ∙ p.is ((pb ++ q.taken) ++ future) in
     let now : la (pa ++ (p.taken ++ q.taken)) ≡ after_text p.text (lb (pb ++ q.taken)) =
-    ap la (sym (append-nil (pa ++ (p.taken ++ q.taken)))) ∙ all [] ∙ ap (λ l. after_text p.text (lb l)) (append-nil (pb ++ q.taken)) in
+    ap la (sym (append-nil (pa ++ (p.taken ++ q.taken)))) ∙ all [] ∙ ap (λ l. after_text p.text (lb l))
+    (append-nil (pb ++ q.taken)) in
     record {
       taken = p.taken ++ q.taken;
       consumes = Consumes-trans _ _ _ _ _ p.consumes q.consumes;
-      appends = subst (λ (t : Transcript _). Appends wa wc t.text) (sym now) (Appends-trans _ _ _ _ _ p.appends q.appends);
+      appends = subst (λ (t : Transcript _). Appends wa wc t.text) (sym now) (Appends-trans _ _ _ _ _ p.appends
+          q.appends);
       left = q.left ∙ sym (ap (λ (t : Transcript _). t.view) now);
-      stops = elim q.stops [ inl end ↦ inl end | inr same ↦ inr (λ future. all future ∙ ap (λ l. after_text p.text l) (same future) ∙ sym now) ];
+      stops = elim q.stops [
+        | inl end ↦ inl end
+        | inr same ↦ inr (λ future. all future
+            ∙ ap (λ l. after_text p.text l) (same future) ∙ sym now)
+      ];
     }
 
-abbrev pub Breaks_then : {M : Type 0} (ra rb rc wa wb wc : Option (List ℕ)) (pa pb : List ℕ) (la lb : List ℕ → Transcript M) (fault : ShellFault)
+abbrev pub Breaks_then : {M : Type 0} (ra rb rc wa wb wc : Option (List ℕ)) (pa pb : List ℕ)
+    (la lb : List ℕ → Transcript M) (fault : ShellFault)
     → Advance ra rb wa wb pa pb la lb → BreaksOff rb rc wb wc pb lb fault → BreaksOff ra rc wa wc pa la fault
 Breaks_then ra rb rc wa wb wc pa pb la lb fault p q =
-    let joined : pa ++ (p.taken ++ q.taken) ≡ p.handled ++ (pb ++ q.taken) = sym (append_assoc pa p.taken q.taken) ∙ ap (λ l. l ++ q.taken) p.bytes ∙ append_assoc p.handled pb q.taken in
-    let all : la (pa ++ (p.taken ++ q.taken)) ≡ after_text p.text (lb (pb ++ q.taken)) = ap la joined ∙ p.is (pb ++ q.taken) in
+    let joined : pa ++ (p.taken ++ q.taken) ≡ p.handled ++ (pb ++ q.taken) = sym (append_assoc pa p.taken q.taken)
+    ∙ ap (λ l. l ++ q.taken) p.bytes ∙ append_assoc p.handled pb q.taken in
+    let all : la (pa ++ (p.taken ++ q.taken)) ≡ after_text p.text (lb (pb ++ q.taken)) = ap la joined
+    ∙ p.is (pb ++ q.taken) in
     record {
       taken = p.taken ++ q.taken;
       text = p.text ++ q.text;
@@ -178,7 +211,8 @@ Breaks_then ra rb rc wa wb wc pa pb la lb fault p q =
       appends = Appends-trans _ _ _ _ _ p.appends q.appends;
       begins = record {
         rest = q.begins.rest;
-        is = ap (λ (t : Transcript _). t.text) all ∙ ap (λ l. p.text ++ l) q.begins.is ∙ sym (append_assoc p.text q.text q.begins.rest);
+        is = ap (λ (t : Transcript _). t.text) all ∙ ap (λ l. p.text ++ l) q.begins.is
+            ∙ sym (append_assoc p.text q.text q.begins.rest);
       };
       answered = λ read. let a = q.answered read in record {
         whole = p.handled ++ a.whole;

@@ -13,7 +13,8 @@ use Rattle.om_shell.specs.Script.{transcript_of}
 use Rattle.om_shell.specs.Sessions.{after_answer, session}
 use Rattle.om_shell.specs.Transcript.{Transcript}
 
-session_same : (d : Debugger) (runs : List FreeRun) (lines : List (List ℕ)) → AllByRecursion AsksNoFreeRun lines → session d runs lines ≡ session d [] lines
+session_same : (d : Debugger) (runs : List FreeRun) (lines : List (List ℕ)) → AllByRecursion AsksNoFreeRun lines
+    → session d runs lines ≡ session d [] lines
 session_same d runs [] h = refl
 session_same d runs (line ∷ more) h =
     let a = answered d [] line in
@@ -22,7 +23,8 @@ session_same d runs (line ∷ more) h =
     ∙ ap (λ (t : Transcript Debugger). after_answer a t) (session_same a.view runs more h.1)
     ∙ ap (λ (rs : List FreeRun). after_answer a (session a.view rs more)) (sym (none_behind d line plain))
 
-pub one_transcript : (verdict : Result Debuggee SourceFault) (workers : ℕ) (runs : List FreeRun) (source : List ℕ) (lines : List (List ℕ)) → AllByRecursion AsksNoFreeRun lines
+pub one_transcript : (verdict : Result Debuggee SourceFault) (workers : ℕ) (runs : List FreeRun) (source : List ℕ)
+    (lines : List (List ℕ)) → AllByRecursion AsksNoFreeRun lines
     → transcript_of verdict workers runs source lines ≡ transcript_of verdict workers [] source lines
 one_transcript (Ok debuggee) workers runs source lines h = session_same (opened debuggee workers) runs lines h
 one_transcript (Err fault) workers runs source lines h = refl

@@ -13,7 +13,8 @@ use Rattle.om_rules.specs.Breaches.{breaches_of}
 use Rattle.om_rules.specs.Faults.{first_of}
 use Rattle.om_resolved.specs.ResolvedTree.{ResolvedTree}
 use Rattle.om_lower.specs.Limits.{IsTooMany}
-use Rattle.om_shell.specs.Verdict.{IsTreeOfSource, IsResolutionOfSource, IsRefused, by_lexer, by_parser, by_names, by_code}
+use Rattle.om_shell.specs.Verdict.{IsTreeOfSource, IsResolutionOfSource, IsRefused, by_lexer, by_parser, by_names}
+use Rattle.om_shell.specs.Verdict.{by_code}
 
 abbrev pub Refuses : List ℕ → SourceFault → Type 0
 Refuses source fault = fault ≢ no_memory → IsRefused source fault
@@ -22,26 +23,34 @@ pub lexer_refuses : (source : List ℕ) (fault : SourceFault) → IsRefusal sour
 lexer_refuses source fault (inl none) other = absurd (other none)
 lexer_refuses source fault (inr p) other = by_lexer p
 
-pub parser_refuses : {X : Type 0} (source : List ℕ) (tokens : List Token) (r : Result X SourceFault) → IsTokens source tokens
+pub parser_refuses : {X : Type 0} (source : List ℕ) (tokens : List Token) (r : Result X SourceFault)
+    → IsTokens source tokens
     → IfErr r (λ fault. fault.code ≡ Syntax → (tree : UnitTree) → ¬ IsTreeOf tokens tree)
     → IfErr r (λ fault. fault.code ≡ TooDeep → IsLimitPassed tokens fault.at)
     → IfErr r (λ fault. fault.code ≡ UnknownDirective → IsRefusedLine tokens fault)
     → IfErr r (λ fault. fault.code ≡ BadClause → IsRefusedLine tokens fault ⊎ IsBadAtomic tokens fault.at)
-    → IfErr r (λ fault. (fault ≡ no_memory) ⊎ (fault.code ≡ Syntax) ⊎ (fault.code ≡ TooDeep) ⊎ (fault.code ≡ UnknownDirective) ⊎ (fault.code ≡ BadClause))
+    → IfErr r (λ fault. (fault ≡ no_memory) ⊎ (fault.code ≡ Syntax) ⊎ (fault.code ≡ TooDeep)
+    ⊎ (fault.code ≡ UnknownDirective) ⊎ (fault.code ≡ BadClause))
     → IfErr r (Refuses source)
 parser_refuses source tokens (Ok x) lexed syntax deep unknown bad other = tt
 parser_refuses source tokens (Err fault) lexed syntax deep unknown bad (inl none) = λ memory. absurd (memory none)
-parser_refuses source tokens (Err fault) lexed syntax deep unknown bad (inr (inl e)) = λ memory. by_parser tokens lexed (inl (e, syntax e))
-parser_refuses source tokens (Err fault) lexed syntax deep unknown bad (inr (inr (inl e))) = λ memory. by_parser tokens lexed (inr (inl (e, deep e)))
-parser_refuses source tokens (Err fault) lexed syntax deep unknown bad (inr (inr (inr (inl e)))) = λ memory. by_parser tokens lexed (inr (inr (inl (e, unknown e))))
-parser_refuses source tokens (Err fault) lexed syntax deep unknown bad (inr (inr (inr (inr e)))) = λ memory. by_parser tokens lexed (inr (inr (inr (e, bad e))))
+parser_refuses source tokens (Err fault) lexed syntax deep unknown bad (inr (inl e)) = λ memory. by_parser tokens
+    lexed (inl (e, syntax e))
+parser_refuses source tokens (Err fault) lexed syntax deep unknown bad (inr (inr (inl e))) = λ memory. by_parser
+    tokens lexed (inr (inl (e, deep e)))
+parser_refuses source tokens (Err fault) lexed syntax deep unknown bad (inr (inr (inr (inl e)))) = λ memory.
+    by_parser tokens lexed (inr (inr (inl (e, unknown e))))
+parser_refuses source tokens (Err fault) lexed syntax deep unknown bad (inr (inr (inr (inr e)))) = λ memory.
+    by_parser tokens lexed (inr (inr (inr (e, bad e))))
 
-pub names_refuse : {X : Type 0} (source : List ℕ) (tree : UnitTree) (r : Result X SourceFault) → IsTreeOfSource source tree
+pub names_refuse : {X : Type 0} (source : List ℕ) (tree : UnitTree) (r : Result X SourceFault)
+    → IsTreeOfSource source tree
     → IfErr r (λ fault. fault ≢ no_memory → first_of (breaches_of tree) ≡ Some fault) → IfErr r (Refuses source)
 names_refuse source tree (Ok x) has_tree first = tt
 names_refuse source tree (Err fault) has_tree first = λ memory. by_names tree has_tree (first memory)
 
-pub code_refuses : {X : Type 0} (source : List ℕ) (resolved : ResolvedTree) (r : Result X SourceFault) → IsResolutionOfSource source resolved
+pub code_refuses : {X : Type 0} (source : List ℕ) (resolved : ResolvedTree) (r : Result X SourceFault)
+    → IsResolutionOfSource source resolved
     → IfErr r (λ fault. fault ≢ no_memory → IsTooMany resolved fault) → IfErr r (Refuses source)
 code_refuses source resolved (Ok x) has_resolution first = tt
 code_refuses source resolved (Err fault) has_resolution first = λ memory. by_code resolved has_resolution (first memory)

@@ -1,5 +1,6 @@
 -- A whole run, from its parts.
-use Rattle.std.proofs.Common.{◌≡◌, ◌≢◌, ◌⊎◌, inl, inr, ℕ, List, [], ◌++◌, Option, None, Some, IfSome, take, drop, refl, sym, ap, subst, ◌∙◌, append_assoc, append-nil, take-append-drop, Result, Ok, Err, IfErr}
+use Rattle.std.proofs.Common.{◌≡◌, ◌≢◌, ◌⊎◌, inl, inr, ℕ, List, [], ◌++◌, Option, None, Some, IfSome, take, drop, refl}
+use Rattle.std.proofs.Common.{sym, ap, subst, ◌∙◌, append_assoc, append-nil, take-append-drop, Result, Ok, Err, IfErr}
 use Rattle.std.specs.Io.KnownBytes.{Appends, Consumes, IsAtEnd}
 use Rattle.std.proofs.KnownBytes.{Appends-nil, Consumes-trans}
 use Rattle.om_lexer.specs.declared.fault.SourceFault.{SourceFault}
@@ -19,8 +20,10 @@ use Rattle.om_shell.specs.Verdict.{IsVerdict}
 use Rattle.om_shell.proofs.Advances.{Done_then, Breaks_then}
 
 -- reading a source up to behind the mark's line
-abbrev pub Marked_advance : (ra rb w : Option (List ℕ)) (pending source rest : List ℕ) (at after workers : ℕ) (verdict : Result Debuggee SourceFault) (runs : List FreeRun) → Consumes ra rb pending → IsMarked pending at after
-    → source ≡ take at pending → rest ≡ drop after pending → Advance ra rb w w [] rest (script_by verdict workers runs None) (due_for verdict workers runs source)
+abbrev pub Marked_advance : (ra rb w : Option (List ℕ)) (pending source rest : List ℕ) (at after workers : ℕ)
+    (verdict : Result Debuggee SourceFault) (runs : List FreeRun) → Consumes ra rb pending → IsMarked pending at after
+    → source ≡ take at pending → rest ≡ drop after pending → Advance ra rb w w [] rest
+    (script_by verdict workers runs None) (due_for verdict workers runs source)
 Marked_advance ra rb w pending source rest at after workers verdict runs read p e d = record {
   taken = pending;
   handled = take after pending;
@@ -29,21 +32,29 @@ Marked_advance ra rb w pending source rest at after workers verdict runs read p 
   whole = p.whole;
   consumes = read;
   appends = Appends-nil w;
-  is = λ future. ap (λ l. transcript_of verdict workers runs l (commands_in (parts_of (take after pending ++ future)))) (p.source future ∙ sym e) ∙ ap (λ l. transcript_of verdict workers runs source l) (p.commands future);
+  is = λ future. ap (λ l. transcript_of verdict workers runs l
+      (commands_in (parts_of (take after pending ++ future)))) (p.source future ∙ sym e)
+      ∙ ap (λ l. transcript_of verdict workers runs source l) (p.commands future);
 }
 
 -- whatever follows the mark's line, the source stays
-marked_source : (pending source more : List ℕ) (at after : ℕ) → IsMarked pending at after → source ≡ take at pending → source_in (parts_of (pending ++ more)) ≡ source
+marked_source : (pending source more : List ℕ) (at after : ℕ) → IsMarked pending at after → source ≡ take at pending
+    → source_in (parts_of (pending ++ more)) ≡ source
 marked_source pending source more at after p e =
-    ap (λ l. source_in (parts_of l)) (ap (λ l. l ++ more) (sym (take-append-drop after pending)) ∙ append_assoc (take after pending) (drop after pending) more)
+    ap (λ l. source_in (parts_of l)) (ap (λ l. l ++ more) (sym (take-append-drop after pending))
+    ∙ append_assoc (take after pending) (drop after pending) more)
     ∙ p.source (drop after pending ++ more) ∙ sym e
 
-pub Runs_marked : (ra rb rc w wc : Option (List ℕ)) (pending source rest : List ℕ) (at after workers status : ℕ) (view : Option Debugger) → Consumes ra rb pending → IsMarked pending at after
-    → source ≡ take at pending → rest ≡ drop after pending → Serves rb rc w wc rest workers source status view → RunsToEnd ra rc w wc workers None status view
+pub Runs_marked : (ra rb rc w wc : Option (List ℕ)) (pending source rest : List ℕ) (at after workers status : ℕ)
+    (view : Option Debugger) → Consumes ra rb pending → IsMarked pending at after
+    → source ≡ take at pending → rest ≡ drop after pending → Serves rb rc w wc rest workers source status view
+    → RunsToEnd ra rc w wc workers None status view
 Runs_marked ra rb rc w wc pending source rest at after workers status view read p e d q =
     let verdict = q.verdict in
     let runs = q.runs in
-    let done = Done_then ra rb rc w w wc [] rest (script_by verdict workers runs None) (due_for verdict workers runs source) view (Marked_advance ra rb w pending source rest at after workers verdict runs read p e d) q.done in
+    let done = Done_then ra rb rc w w wc [] rest (script_by verdict workers runs None)
+    (due_for verdict workers runs source) view (Marked_advance ra rb w pending source rest at after workers
+    verdict runs read p e d) q.done in
     let same = marked_source pending source q.done.taken at after p e in
     record {
       taken = pending ++ q.done.taken;
@@ -57,20 +68,24 @@ Runs_marked ra rb rc w wc pending source rest at after workers status view read 
       stops = elim done.stops [
         | inl end ↦ inl end
         | inr settled ↦ inr (record {
-          source = λ future. ap (λ l. source_in (parts_of l)) (append_assoc pending q.done.taken future) ∙ marked_source pending source (q.done.taken ++ future) at after p e ∙ sym same;
+          source = λ future. ap (λ l. source_in (parts_of l)) (append_assoc pending q.done.taken future)
+              ∙ marked_source pending source (q.done.taken ++ future) at after p e ∙ sym same;
           script = settled;
         })
       ];
     }
 
-pub Runs_unmarked : (ra rb wa wb : Option (List ℕ)) (pending source : List ℕ) (at workers status : ℕ) (view : Option Debugger) → Consumes ra rb pending → IsAtEnd rb → IsUnmarked pending at
-    → source ≡ take at pending → ServesAlone wa wb workers source status view → RunsToEnd ra rb wa wb workers None status view
+pub Runs_unmarked : (ra rb wa wb : Option (List ℕ)) (pending source : List ℕ) (at workers status : ℕ)
+    (view : Option Debugger) → Consumes ra rb pending → IsAtEnd rb → IsUnmarked pending at
+    → source ≡ take at pending → ServesAlone wa wb workers source status view → RunsToEnd ra rb wa wb workers None
+    status view
 Runs_unmarked ra rb wa wb pending source at workers status view read end p e q =
     let verdict = q.verdict in
     let runs : List FreeRun = [] in
     let same : source_in (parts_of pending) ≡ source = p.source ∙ sym e in
     let all : script_by verdict workers runs None pending ≡ transcript_of verdict workers runs source [] =
-    ap (λ l. transcript_of verdict workers runs l (commands_in (parts_of pending))) same ∙ ap (λ l. transcript_of verdict workers runs source l) p.commands in
+    ap (λ l. transcript_of verdict workers runs l (commands_in (parts_of pending))) same
+    ∙ ap (λ l. transcript_of verdict workers runs source l) p.commands in
     record {
       taken = pending;
       verdict = verdict;
@@ -83,7 +98,8 @@ Runs_unmarked ra rb wa wb pending source at workers status view read end p e q =
       stops = inl end;
     }
 
-pub Runs_given : (ra rb wa wb : Option (List ℕ)) (source : List ℕ) (workers status : ℕ) (view : Option Debugger) → Serves ra rb wa wb [] workers source status view
+pub Runs_given : (ra rb wa wb : Option (List ℕ)) (source : List ℕ) (workers status : ℕ) (view : Option Debugger)
+    → Serves ra rb wa wb [] workers source status view
     → RunsToEnd ra rb wa wb workers (Some source) status view
 Runs_given ra rb wa wb source workers status view q = record {
   taken = q.done.taken;
@@ -94,18 +110,34 @@ Runs_given ra rb wa wb source workers status view q = record {
   appends = q.done.appends;
   view_is = q.done.left;
   status_is = q.status_is;
-  stops = elim q.done.stops [ inl end ↦ inl end | inr settled ↦ inr (record { source = λ future. refl; script = settled }) ];
+  stops = elim q.done.stops [
+    | inl end ↦ inl end
+    | inr settled ↦ inr
+        (record { source = λ future. refl; script = settled })
+  ];
 }
 
 -- nothing was written, and it was no read that failed
-unwritten : (ra rb wa wb : Option (List ℕ)) (taken : List ℕ) (workers : ℕ) (given : Option (List ℕ)) (fault : ShellFault) → Consumes ra rb taken → Appends wa wb [] → fault ≢ Read
+unwritten : (ra rb wa wb : Option (List ℕ)) (taken : List ℕ) (workers : ℕ) (given : Option (List ℕ))
+    (fault : ShellFault) → Consumes ra rb taken → Appends wa wb [] → fault ≢ Read
     → BreaksOffRun ra rb wa wb workers given fault
-unwritten ra rb wa wb taken workers given fault read wrote other = record { taken = taken; text = []; consumes = read; appends = wrote; begins = inl refl; answered = λ is_read. absurd (other is_read) }
+unwritten ra rb wa wb taken workers given fault read wrote other = record {
+  taken = taken;
+  text = [];
+  consumes =
+      read;
+  appends = wrote;
+  begins = inl refl;
+  answered = λ is_read. absurd (other is_read);
+}
 
-pub Breaks_for_memory : (ra rb w : Option (List ℕ)) (taken : List ℕ) (workers : ℕ) (given : Option (List ℕ)) (fault : ShellFault) → Consumes ra rb taken → fault ≡ Memory → BreaksOffRun ra rb w w workers given fault
-Breaks_for_memory ra rb w taken workers given fault read is_memory = unwritten ra rb w w taken workers given fault read (Appends-nil w) (λ is_read. cc)
+pub Breaks_for_memory : (ra rb w : Option (List ℕ)) (taken : List ℕ) (workers : ℕ) (given : Option (List ℕ))
+    (fault : ShellFault) → Consumes ra rb taken → fault ≡ Memory → BreaksOffRun ra rb w w workers given fault
+Breaks_for_memory ra rb w taken workers given fault read is_memory = unwritten ra rb w w taken workers given fault
+    read (Appends-nil w) (λ is_read. cc)
 
-pub Breaks_reading : (ra rb w : Option (List ℕ)) (workers : ℕ) (fault : ShellFault) → ReadsNoMark ra rb fault → BreaksOffRun ra rb w w workers None fault
+pub Breaks_reading : (ra rb w : Option (List ℕ)) (workers : ℕ) (fault : ShellFault) → ReadsNoMark ra rb fault
+    → BreaksOffRun ra rb w w workers None fault
 Breaks_reading ra rb w workers fault p = record {
   taken = p.taken;
   text = [];
@@ -116,37 +148,57 @@ Breaks_reading ra rb w workers fault p = record {
 }
 
 -- a part of a script that has a verdict
-begun : (ra rb wa wb : Option (List ℕ)) (workers : ℕ) (given : Option (List ℕ)) (fault : ShellFault) (verdict : Result Debuggee SourceFault) (runs : List FreeRun)
-    → (part : BreaksOff ra rb wa wb [] (script_by verdict workers runs given) fault) → IsVerdict (source_of given part.taken) verdict → BreaksOffRun ra rb wa wb workers given fault
+begun : (ra rb wa wb : Option (List ℕ)) (workers : ℕ) (given : Option (List ℕ)) (fault : ShellFault)
+    (verdict : Result Debuggee SourceFault) (runs : List FreeRun)
+    → (part : BreaksOff ra rb wa wb [] (script_by verdict workers runs given) fault)
+    → IsVerdict (source_of given part.taken) verdict → BreaksOffRun ra rb wa wb workers given fault
 begun ra rb wa wb workers given fault verdict runs part judged = record {
   taken = part.taken;
   text = part.text;
   consumes = part.consumes;
   appends = part.appends;
   begins = inr (record { verdict = verdict; judged = judged; runs = runs; begins = part.begins });
-  answered = λ is_read. inr (record { verdict = verdict; judged = judged; runs = runs; answers = part.answered is_read });
+  answered = λ is_read. inr (record {
+    verdict = verdict;
+    judged = judged;
+    runs = runs;
+    answers = part.answered
+        is_read;
+  });
 }
 
-pub Breaks_marked : (ra rb rc w wc : Option (List ℕ)) (pending source rest : List ℕ) (at after workers : ℕ) (fault : ShellFault) → Consumes ra rb pending → IsMarked pending at after
-    → source ≡ take at pending → rest ≡ drop after pending → BreaksOffServing rb rc w wc rest workers source fault → BreaksOffRun ra rc w wc workers None fault
+pub Breaks_marked : (ra rb rc w wc : Option (List ℕ)) (pending source rest : List ℕ) (at after workers : ℕ)
+    (fault : ShellFault) → Consumes ra rb pending → IsMarked pending at after
+    → source ≡ take at pending → rest ≡ drop after pending → BreaksOffServing rb rc w wc rest workers source fault
+    → BreaksOffRun ra rc w wc workers None fault
 Breaks_marked ra rb rc w wc pending source rest at after workers fault read p e d (inl q) =
-    unwritten ra rc w wc (pending ++ []) workers None fault (Consumes-trans _ _ _ _ _ read q.consumes) q.appends q.no_read
+    unwritten ra rc w wc (pending ++ []) workers None fault (Consumes-trans _ _ _ _ _ read q.consumes) q.appends
+    q.no_read
 Breaks_marked ra rb rc w wc pending source rest at after workers fault read p e d (inr q) =
     begun ra rc w wc workers None fault q.verdict q.runs
-    (Breaks_then ra rb rc w w wc [] rest (script_by q.verdict workers q.runs None) (due_for q.verdict workers q.runs source) fault (Marked_advance ra rb w pending source rest at after workers q.verdict q.runs read p e d) q.part)
+    (Breaks_then ra rb rc w w wc [] rest (script_by q.verdict workers q.runs None)
+    (due_for q.verdict workers q.runs source) fault (Marked_advance ra rb w pending source rest at after workers
+    q.verdict q.runs read p e d) q.part)
     (subst (λ l. IsVerdict l q.verdict) (sym (marked_source pending source q.part.taken at after p e)) q.judged)
 
-pub Breaks_given : (ra rb wa wb : Option (List ℕ)) (source : List ℕ) (workers : ℕ) (fault : ShellFault) → BreaksOffServing ra rb wa wb [] workers source fault → BreaksOffRun ra rb wa wb workers (Some source) fault
-Breaks_given ra rb wa wb source workers fault (inl q) = unwritten ra rb wa wb [] workers (Some source) fault q.consumes q.appends q.no_read
-Breaks_given ra rb wa wb source workers fault (inr q) = begun ra rb wa wb workers (Some source) fault q.verdict q.runs q.part q.judged
+pub Breaks_given : (ra rb wa wb : Option (List ℕ)) (source : List ℕ) (workers : ℕ) (fault : ShellFault)
+    → BreaksOffServing ra rb wa wb [] workers source fault → BreaksOffRun ra rb wa wb workers (Some source) fault
+Breaks_given ra rb wa wb source workers fault (inl q) = unwritten ra rb wa wb [] workers (Some source) fault
+    q.consumes q.appends q.no_read
+Breaks_given ra rb wa wb source workers fault (inr q) = begun ra rb wa wb workers (Some source) fault q.verdict
+    q.runs q.part q.judged
 
-alone : (ra rb wa wb : Option (List ℕ)) (pending source : List ℕ) (at workers : ℕ) (fault : ShellFault) → Consumes ra rb pending → IsUnmarked pending at
-    → source ≡ take at pending → fault ≢ Read → Appends wa wb [] ⊎ ServesAlonePart wa wb workers source → BreaksOffRun ra rb wa wb workers None fault
-alone ra rb wa wb pending source at workers fault read p e other (inl wrote) = unwritten ra rb wa wb pending workers None fault read wrote other
+alone : (ra rb wa wb : Option (List ℕ)) (pending source : List ℕ) (at workers : ℕ) (fault : ShellFault)
+    → Consumes ra rb pending → IsUnmarked pending at
+    → source ≡ take at pending → fault ≢ Read → Appends wa wb [] ⊎ ServesAlonePart wa wb workers source
+    → BreaksOffRun ra rb wa wb workers None fault
+alone ra rb wa wb pending source at workers fault read p e other (inl wrote) = unwritten ra rb wa wb pending workers
+    None fault read wrote other
 alone ra rb wa wb pending source at workers fault read p e other (inr q) =
     let same : source_in (parts_of pending) ≡ source = p.source ∙ sym e in
     let all : script_by q.verdict workers [] None pending ≡ transcript_of q.verdict workers [] source [] =
-    ap (λ l. transcript_of q.verdict workers [] l (commands_in (parts_of pending))) same ∙ ap (λ l. transcript_of q.verdict workers [] source l) p.commands in
+    ap (λ l. transcript_of q.verdict workers [] l (commands_in (parts_of pending))) same
+    ∙ ap (λ l. transcript_of q.verdict workers [] source l) p.commands in
     record {
       taken = pending;
       text = q.part.sent;
@@ -156,17 +208,27 @@ alone ra rb wa wb pending source at workers fault read p e other (inr q) =
         verdict = q.verdict;
         judged = subst (λ l. IsVerdict l q.verdict) (sym same) q.judged;
         runs = [];
-        begins = record { rest = q.part.begins.rest; is = ap (λ (t : Transcript Debugger). t.text) all ∙ q.part.begins.is };
+        begins = record {
+          rest = q.part.begins.rest;
+          is = ap (λ (t : Transcript Debugger). t.text) all
+              ∙ q.part.begins.is;
+        };
       });
       answered = λ is_read. absurd (other is_read);
     }
 
-pub Breaks_unmarked : (ra rb wa wb : Option (List ℕ)) (pending source : List ℕ) (at workers : ℕ) (fault : ShellFault) → Consumes ra rb pending → IsUnmarked pending at
+pub Breaks_unmarked : (ra rb wa wb : Option (List ℕ)) (pending source : List ℕ) (at workers : ℕ)
+    (fault : ShellFault) → Consumes ra rb pending → IsUnmarked pending at
     → source ≡ take at pending → BreaksOffAlone wa wb workers source fault → BreaksOffRun ra rb wa wb workers None fault
-Breaks_unmarked ra rb wa wb pending source at workers fault read p e q = alone ra rb wa wb pending source at workers fault read p e q.no_read q.part
+Breaks_unmarked ra rb wa wb pending source at workers fault read p e q = alone ra rb wa wb pending source at workers
+    fault read p e q.no_read q.part
 
-whole_of : (wa wb : Option (List ℕ)) (workers : ℕ) (given : Option (List ℕ)) (input taken rest : List ℕ) (verdict : Result Debuggee SourceFault) (runs : List FreeRun) → input ≡ taken ++ rest → IsVerdict (source_of given taken) verdict
-    → Appends wa wb (script_by verdict workers runs given taken).text → source_of given (taken ++ rest) ≡ source_of given taken → script_by verdict workers runs given (taken ++ rest) ≡ script_by verdict workers runs given taken
+whole_of : (wa wb : Option (List ℕ)) (workers : ℕ) (given : Option (List ℕ)) (input taken rest : List ℕ)
+    (verdict : Result Debuggee SourceFault) (runs : List FreeRun) → input ≡ taken ++ rest
+    → IsVerdict (source_of given taken) verdict
+    → Appends wa wb (script_by verdict workers runs given taken).text → source_of given (taken ++ rest)
+    ≡ source_of given taken → script_by verdict workers runs given (taken ++ rest) ≡ script_by verdict workers
+    runs given taken
     → WritesScript wa wb workers given input
 whole_of wa wb workers given input taken rest verdict runs e judged wrote same_source same_script = record {
   script = script_by verdict workers runs given taken;
@@ -180,15 +242,19 @@ whole_of wa wb workers given input taken rest verdict runs e judged wrote same_s
 }
 
 -- what was written is the script of all that the reader had
-pub Runs_whole : (ra rb wa wb : Option (List ℕ)) (workers : ℕ) (given : Option (List ℕ)) (status : ℕ) (view : Option Debugger) → RunsToEnd ra rb wa wb workers given status view
+pub Runs_whole : (ra rb wa wb : Option (List ℕ)) (workers : ℕ) (given : Option (List ℕ)) (status : ℕ)
+    (view : Option Debugger) → RunsToEnd ra rb wa wb workers given status view
     → IfSome ra (λ input. WritesScript wa wb workers given input)
 Runs_whole None rb wa wb workers given status view p = tt
 Runs_whole (Some input) None wa wb workers given status view p = absurd p.consumes
 Runs_whole (Some input) (Some rest) wa wb workers given status view p =
     elim p.stops [
       | inl end ↦ whole_of wa wb workers given input p.taken rest p.verdict p.runs p.consumes p.judged p.appends
-          (ap (λ l. source_of given (p.taken ++ l)) end ∙ ap (source_of given) (append-nil p.taken)) (ap (λ l. script_by p.verdict workers p.runs given (p.taken ++ l)) end ∙ ap (script_by p.verdict workers p.runs given) (append-nil p.taken))
-      | inr settled ↦ whole_of wa wb workers given input p.taken rest p.verdict p.runs p.consumes p.judged p.appends (settled.source rest) (settled.script rest)
+          (ap (λ l. source_of given (p.taken ++ l)) end ∙ ap (source_of given) (append-nil p.taken))
+          (ap (λ l. script_by p.verdict workers p.runs given (p.taken ++ l)) end
+          ∙ ap (script_by p.verdict workers p.runs given) (append-nil p.taken))
+      | inr settled ↦ whole_of wa wb workers given input p.taken rest p.verdict p.runs p.consumes p.judged p.appends
+          (settled.source rest) (settled.script rest)
     ]
 
 pub IfErr_weaker : {T E : Type 0} (r : Result T E) (P Q : E → Type 0) → ((e : E) → P e → Q e) → IfErr r P → IfErr r Q

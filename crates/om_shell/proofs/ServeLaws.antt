@@ -18,7 +18,8 @@ use Rattle.om_shell.specs.Verdict.{IsDebuggeeOf, IsRefused}
 use Rattle.om_shell.specs.Serving.{due_for, Serves, ServesPart, IsUntouched, ServesAlone, BreaksOffAlone}
 use Rattle.om_shell.proofs.Advances.{Advance_none, Breaks_after, Done_unread}
 
-pub is_refused : (source : List ℕ) (fault : SourceFault) → (fault ≢ no_memory → IsRefused source fault) → fault.code ≢ Memory → IsRefused source fault
+pub is_refused : (source : List ℕ) (fault : SourceFault) → (fault ≢ no_memory → IsRefused source fault)
+    → fault.code ≢ Memory → IsRefused source fault
 is_refused source fault refuses other = refuses (λ e. other (ap (λ (f : SourceFault). f.code) e))
 
 -- nothing was read or written
@@ -37,41 +38,61 @@ Breaks_unread r w pending d fault other = (
 )
 
 -- the line of a refusal is all that is due, whatever follows
-pub Serves_refused : (r wa wb : Option (List ℕ)) (pending : List ℕ) (workers : ℕ) (source : List ℕ) (fault : SourceFault) → IsRefused source fault
+pub Serves_refused : (r wa wb : Option (List ℕ)) (pending : List ℕ) (workers : ℕ) (source : List ℕ)
+    (fault : SourceFault) → IsRefused source fault
     → Appends wa wb (refusal_text source fault) → Serves r r wa wb pending workers source 1 None
 Serves_refused r wa wb pending workers source fault refused wrote = record {
   verdict = Err fault;
   judged = refused;
   status_is = refl;
   runs = [];
-  done = Done_unread r wa wb pending (record { text = refusal_text source fault; view = None }) (due_for (Err fault) workers [] source) (λ bytes. refl) wrote;
+  done = Done_unread r wa wb pending (record { text = refusal_text source fault; view = None })
+      (due_for (Err fault) workers [] source) (λ bytes. refl) wrote;
 }
 
-pub ServesPart_refused : (r wa wb : Option (List ℕ)) (pending : List ℕ) (workers : ℕ) (source : List ℕ) (fault : SourceFault) (e : ShellFault) → IsRefused source fault
+pub ServesPart_refused : (r wa wb : Option (List ℕ)) (pending : List ℕ) (workers : ℕ) (source : List ℕ)
+    (fault : SourceFault) (e : ShellFault) → IsRefused source fault
     → e ≢ Read → AppendsPart wa wb (refusal_text source fault) → ServesPart r r wa wb pending workers source e
 ServesPart_refused r wa wb pending workers source fault e refused other part = record {
   verdict = Err fault;
   judged = refused;
   runs = [];
-  part = Breaks_after r r r wa wa wb pending pending [] part.sent (due_for (Err fault) workers [] source) (due_for (Err fault) workers [] source) e
-      (Advance_none r wa pending (due_for (Err fault) workers [] source)) (Consumes-nil r) part.appends part.begins other;
+  part = Breaks_after r r r wa wa wb pending pending [] part.sent (due_for (Err fault) workers [] source)
+      (due_for (Err fault) workers [] source) e
+      (Advance_none r wa pending (due_for (Err fault) workers [] source)) (Consumes-nil r) part.appends part.begins
+      other;
 }
 
-pub Serves_accepted : (ra rb wa wb : Option (List ℕ)) (pending : List ℕ) (workers : ℕ) (source : List ℕ) (debuggee : Debuggee) (status : ℕ) (view : Option Debugger) → IsDebuggeeOf source debuggee
-    → status ≡ 0 → ((runs : List FreeRun) × IsDone ra rb wa wb pending (due (opened debuggee workers) runs) view) → Serves ra rb wa wb pending workers source status view
-Serves_accepted ra rb wa wb pending workers source debuggee status view accepted e done = record { verdict = Ok debuggee; judged = accepted; status_is = e; runs = done.0; done = done.1 }
+pub Serves_accepted : (ra rb wa wb : Option (List ℕ)) (pending : List ℕ) (workers : ℕ) (source : List ℕ)
+    (debuggee : Debuggee) (status : ℕ) (view : Option Debugger) → IsDebuggeeOf source debuggee
+    → status ≡ 0 → ((runs : List FreeRun) × IsDone ra rb wa wb pending (due (opened debuggee workers) runs) view)
+    → Serves ra rb wa wb pending workers source status view
+Serves_accepted ra rb wa wb pending workers source debuggee status view accepted e done = record
+    { verdict = Ok debuggee; judged = accepted; status_is = e; runs = done.0; done = done.1 }
 
-pub ServesPart_accepted : (ra rb wa wb : Option (List ℕ)) (pending : List ℕ) (workers : ℕ) (source : List ℕ) (debuggee : Debuggee) (fault : ShellFault) → IsDebuggeeOf source debuggee
-    → ((runs : List FreeRun) × BreaksOff ra rb wa wb pending (due (opened debuggee workers) runs) fault) → ServesPart ra rb wa wb pending workers source fault
-ServesPart_accepted ra rb wa wb pending workers source debuggee fault accepted part = record { verdict = Ok debuggee; judged = accepted; runs = part.0; part = part.1 }
+pub ServesPart_accepted : (ra rb wa wb : Option (List ℕ)) (pending : List ℕ) (workers : ℕ) (source : List ℕ)
+    (debuggee : Debuggee) (fault : ShellFault) → IsDebuggeeOf source debuggee
+    → ((runs : List FreeRun) × BreaksOff ra rb wa wb pending (due (opened debuggee workers) runs) fault)
+    → ServesPart ra rb wa wb pending workers source fault
+ServesPart_accepted ra rb wa wb pending workers source debuggee fault accepted part = record
+    { verdict = Ok debuggee; judged = accepted; runs = part.0; part = part.1 }
 
 pub untouched : (r w : Option (List ℕ)) (fault : ShellFault) → fault ≢ Read → IsUntouched r r w w fault
 untouched r w fault other = record { consumes = Consumes-nil r; appends = Appends-nil w; no_read = other }
 
-pub ServesAlone_refused : (wa wb : Option (List ℕ)) (workers : ℕ) (source : List ℕ) (fault : SourceFault) → IsRefused source fault
+pub ServesAlone_refused : (wa wb : Option (List ℕ)) (workers : ℕ) (source : List ℕ) (fault : SourceFault)
+    → IsRefused source fault
     → Appends wa wb (refusal_text source fault) → ServesAlone wa wb workers source 1 None
-ServesAlone_refused wa wb workers source fault refused wrote = record { verdict = Err fault; judged = refused; status_is = refl; appends = wrote; view_is = refl }
+ServesAlone_refused wa wb workers source fault refused wrote = record {
+  verdict = Err fault;
+  judged = refused;
+  status_is = refl;
+  appends = wrote;
+  view_is = refl;
+}
 
-pub BreaksOffAlone_refused : (wa wb : Option (List ℕ)) (workers : ℕ) (source : List ℕ) (fault : SourceFault) (e : ShellFault) → IsRefused source fault
+pub BreaksOffAlone_refused : (wa wb : Option (List ℕ)) (workers : ℕ) (source : List ℕ) (fault : SourceFault)
+    (e : ShellFault) → IsRefused source fault
     → e ≢ Read → AppendsPart wa wb (refusal_text source fault) → BreaksOffAlone wa wb workers source e
-BreaksOffAlone_refused wa wb workers source fault e refused other part = record { no_read = other; part = inr (record { verdict = Err fault; judged = refused; part = part }) }
+BreaksOffAlone_refused wa wb workers source fault e refused other part = record
+    { no_read = other; part = inr (record { verdict = Err fault; judged = refused; part = part }) }

@@ -1,5 +1,7 @@
 -- A session, a line at a time.
-use Rattle.std.proofs.Common.{◌≡◌, ◌≢◌, ℕ, ◌+◌, ◌<◌, ◌≤◌, Bool, true, false, cond, nat_eq, List, [], ◌∷◌, ◌++◌, ◌==◌, Option, Some, length, take, drop, refl, sym, ap, subst, ◌∙◌, arith, inl, inr, append_assoc, append-nil, take-add, length-drop, take-append-drop}
+use Rattle.std.proofs.Common.{◌≡◌, ◌≢◌, ℕ, ◌+◌, ◌<◌, ◌≤◌, Bool, true, false, cond, nat_eq, List, [], ◌∷◌, ◌++◌, ◌==◌}
+use Rattle.std.proofs.Common.{Option, Some, length, take, drop, refl, sym, ap, subst, ◌∙◌, arith, inl, inr}
+use Rattle.std.proofs.Common.{append_assoc, append-nil, take-add, length-drop, take-append-drop}
 use Rattle.std.proofs.lemmas.Bool.Decides.{nat_tests}
 use Rattle.std.specs.List.{position_or_len}
 use Rattle.std.specs.Str.Lines.{lines, lines_of_parts, strip_carriage_return}
@@ -26,35 +28,50 @@ rest_due : (quits : Bool) (after : Debugger) (later : List FreeRun) (future : Li
 rest_due true after later future = refl
 rest_due false after later future = refl
 
-session_begins : (d : Debugger) (runs : List FreeRun) (line : List ℕ) (more : List (List ℕ)) → IsBeginning (answered d runs line).text (session d runs (line ∷ more)).text
+session_begins : (d : Debugger) (runs : List FreeRun) (line : List ℕ) (more : List (List ℕ))
+    → IsBeginning (answered d runs line).text (session d runs (line ∷ more)).text
 session_begins d runs line more = record { rest = _; is = refl }
 
 pub beginning_of_beginning : (xs ys zs : List ℕ) → IsBeginning xs ys → IsBeginning ys zs → IsBeginning xs zs
-beginning_of_beginning xs ys zs p q = record { rest = p.rest ++ q.rest; is = q.is ∙ ap (λ l. l ++ q.rest) p.is ∙ append_assoc xs p.rest q.rest }
+beginning_of_beginning xs ys zs p q = record {
+  rest = p.rest ++ q.rest;
+  is = q.is ∙ ap (λ l. l ++ q.rest) p.is
+      ∙ append_assoc xs p.rest q.rest;
+}
 
 pub after_beginning : (text front all : List ℕ) → IsBeginning front all → IsBeginning (text ++ front) (text ++ all)
-after_beginning text front all p = record { rest = p.rest; is = ap (λ l. text ++ l) p.is ∙ sym (append_assoc text front p.rest) }
+after_beginning text front all p = record {
+  rest = p.rest;
+  is = ap (λ l. text ++ l) p.is
+      ∙ sym (append_assoc text front p.rest);
+}
 
 pub nothing_begins : (text : List ℕ) → IsBeginning [] text
 nothing_begins text = record { rest = text; is = refl }
 
 -- the bytes up to the end of the next line are one more line
-next_line : (bytes : List ℕ) (at n : ℕ) (text future : List ℕ) (la : List ℕ → Transcript Debugger) (d : Debugger) (now : List FreeRun)
+next_line : (bytes : List ℕ) (at n : ℕ) (text future : List ℕ) (la : List ℕ → Transcript Debugger) (d : Debugger)
+    (now : List FreeRun)
     → n ≡ position_or_len (λ byte. byte == 10) (drop at bytes) → n < length (drop at bytes)
     → ((future : List ℕ) → la (take at bytes ++ future) ≡ after_text text (due d now future))
-    → la (take (at + (n + 1)) bytes ++ future) ≡ after_text text (session d now (strip_carriage_return (take n (drop at bytes)) ∷ lines future))
+    → la (take (at + (n + 1)) bytes ++ future) ≡ after_text text
+    (session d now (strip_carriage_return (take n (drop at bytes)) ∷ lines future))
 next_line bytes at n text future la d now e bound is =
     let cut : take (at + (n + 1)) bytes ++ future ≡ take at bytes ++ (take (n + 1) (drop at bytes) ++ future) =
-    ap (λ l. l ++ future) (take-add at (n + 1) bytes) ∙ append_assoc (take at bytes) (take (n + 1) (drop at bytes)) future in
-    let line : lines (take (n + 1) (drop at bytes) ++ future) ≡ strip_carriage_return (take n (drop at bytes)) ∷ lines future =
+    ap (λ l. l ++ future) (take-add at (n + 1) bytes) ∙ append_assoc (take at bytes) (take (n + 1) (drop at bytes))
+    future in
+    let line : lines (take (n + 1) (drop at bytes) ++ future) ≡ strip_carriage_return (take n (drop at bytes))
+    ∷ lines future =
     rw e (lines_first (drop at bytes) future (omega arith)) in
     ap la cut ∙ is (take (n + 1) (drop at bytes) ++ future) ∙ ap (λ l. after_text text (session d now l)) line
 
-pub within_next : (bytes : List ℕ) (at n : ℕ) → at ≤ length bytes → n < length (drop at bytes) → at + (n + 1) ≤ length bytes
+pub within_next : (bytes : List ℕ) (at n : ℕ) → at ≤ length bytes → n < length (drop at bytes)
+    → at + (n + 1) ≤ length bytes
 within_next bytes at n h bound = omega (arith, length-drop at bytes)
 
 -- whole lines, and a further one
-whole_next : (bytes : List ℕ) (at n : ℕ) → n ≡ position_or_len (λ byte. byte == 10) (drop at bytes) → n < length (drop at bytes) → AreWholeLines (take (at + (n + 1)) bytes)
+whole_next : (bytes : List ℕ) (at n : ℕ) → n ≡ position_or_len (λ byte. byte == 10) (drop at bytes)
+    → n < length (drop at bytes) → AreWholeLines (take (at + (n + 1)) bytes)
 whole_next bytes at n e bound =
     inr (
       take at bytes ++ take n (drop at bytes),
@@ -63,7 +80,8 @@ whole_next bytes at n e bound =
     )
 
 -- a further line is answered
-Answers_next : (a b c : Option (List ℕ)) (bytes line : List ℕ) (at n : ℕ) (la : List ℕ → Transcript Debugger) (d after : Debugger) (now later : List FreeRun) (text : List ℕ) (quits : Bool)
+Answers_next : (a b c : Option (List ℕ)) (bytes line : List ℕ) (at n : ℕ) (la : List ℕ → Transcript Debugger)
+    (d after : Debugger) (now later : List FreeRun) (text : List ℕ) (quits : Bool)
     → Answers a b bytes at la (due d now)
     → n ≡ position_or_len (λ byte. byte == 10) (drop at bytes) → n < length (drop at bytes)
     → line ≡ strip_carriage_return (take n (drop at bytes))
@@ -81,10 +99,22 @@ Answers_next a b c bytes line at n la d after now later text quits so_far e boun
       ∙ sym (after_text-append so_far.text text (due_behind quits after later future));
 }
 
-pub Batch_none : (a : Option (List ℕ)) (bytes : List ℕ) (d : Debugger) → Appends a a [] → AnswersBatch a a bytes 0 d false d
-Batch_none a bytes d kept = ([], λ later. record { text = []; appends = kept; within = omega arith; whole = inl refl; is = λ future. refl })
+pub Batch_none : (a : Option (List ℕ)) (bytes : List ℕ) (d : Debugger) → Appends a a [] → AnswersBatch a a bytes 0 d
+    false d
+Batch_none a bytes d kept = (
+  [],
+  λ later. record {
+    text = [];
+    appends = kept;
+    within = omega arith;
+    whole =
+        inl refl;
+    is = λ future. refl;
+  },
+)
 
-pub Batch_next : (a b c : Option (List ℕ)) (bytes line : List ℕ) (at n : ℕ) (before d after : Debugger) (text : List ℕ) (quits : Bool)
+pub Batch_next : (a b c : Option (List ℕ)) (bytes line : List ℕ) (at n : ℕ) (before d after : Debugger)
+    (text : List ℕ) (quits : Bool)
     → AnswersBatch a b bytes at before false d
     → n ≡ position_or_len (λ byte. byte == 10) (drop at bytes) → n < length (drop at bytes)
     → line ≡ strip_carriage_return (take n (drop at bytes))
@@ -92,12 +122,15 @@ pub Batch_next : (a b c : Option (List ℕ)) (bytes line : List ℕ) (at n : ℕ
     → AnswersBatch a c bytes (at + (n + 1)) before quits after
 Batch_next a b c bytes line at n before d after text quits p e bound same q more = (
   p.0 ++ q.runs,
-  λ later. Answers_next a b c bytes line at n (due before ((p.0 ++ q.runs) ++ later)) d after (q.runs ++ later) later text quits
-      (subst (λ (rs : List FreeRun). Answers a b bytes at (due before rs) (due d (q.runs ++ later))) (sym (append_assoc p.0 q.runs later)) (p.1 (q.runs ++ later)))
+  λ later. Answers_next a b c bytes line at n (due before ((p.0 ++ q.runs) ++ later)) d after (q.runs ++ later)
+      later text quits
+      (subst (λ (rs : List FreeRun). Answers a b bytes at (due before rs) (due d (q.runs ++ later)))
+      (sym (append_assoc p.0 q.runs later)) (p.1 (q.runs ++ later)))
       e bound same (q.is later) more,
 )
 
-Answers_fault : (a b c : Option (List ℕ)) (bytes line : List ℕ) (at n : ℕ) (la : List ℕ → Transcript Debugger) (d : Debugger) (now : List FreeRun) (fault : ShellFault)
+Answers_fault : (a b c : Option (List ℕ)) (bytes line : List ℕ) (at n : ℕ) (la : List ℕ → Transcript Debugger)
+    (d : Debugger) (now : List FreeRun) (fault : ShellFault)
     → Answers a b bytes at la (due d now)
     → n ≡ position_or_len (λ byte. byte == 10) (drop at bytes) → n < length (drop at bytes)
     → line ≡ strip_carriage_return (take n (drop at bytes))
@@ -109,10 +142,12 @@ Answers_fault a b c bytes line at n la d now fault so_far e bound same part othe
   begins = λ future.
       let more = drop (at + (n + 1)) bytes ++ future in
       let whole : la (bytes ++ future) ≡ after_text so_far.text (session d now (line ∷ lines more)) =
-      ap la (ap (λ l. l ++ future) (sym (take-append-drop (at + (n + 1)) bytes)) ∙ append_assoc (take (at + (n + 1)) bytes) (drop (at + (n + 1)) bytes) future)
+      ap la (ap (λ l. l ++ future) (sym (take-append-drop (at + (n + 1)) bytes))
+      ∙ append_assoc (take (at + (n + 1)) bytes) (drop (at + (n + 1)) bytes) future)
       ∙ next_line bytes at n so_far.text more la d now e bound so_far.is
       ∙ ap (λ l. after_text so_far.text (session d now (l ∷ lines more))) (sym same) in
-      let begun = after_beginning so_far.text _ _ (beginning_of_beginning _ _ _ part.begins (session_begins d now line (lines more))) in
+      let begun = after_beginning so_far.text _ _ (beginning_of_beginning _ _ _ part.begins
+      (session_begins d now line (lines more))) in
       record { rest = begun.rest; is = ap (λ (t : Transcript Debugger). t.text) whole ∙ begun.is };
   no_read = other;
 }
@@ -123,8 +158,11 @@ pub Batch_fault : (a b c : Option (List ℕ)) (bytes line : List ℕ) (at n : �
     → line ≡ strip_carriage_return (take n (drop at bytes))
     → ((runs : List FreeRun) × AppendsPart b c (answered d runs line).text) → fault ≢ Read
     → (runs : List FreeRun) × AnswersPart a c bytes (due before runs) fault
-Batch_fault a b c bytes line at n before d fault p e bound same part other =
-    (p.0 ++ part.0, Answers_fault a b c bytes line at n (due before (p.0 ++ part.0)) d part.0 fault (p.1 part.0) e bound same part.1 other)
+Batch_fault a b c bytes line at n before d fault p e bound same part other = (
+  p.0 ++ part.0,
+  Answers_fault a b c bytes line at n (due before (p.0 ++ part.0)) d part.0 fault (p.1 part.0) e
+      bound same part.1 other,
+)
 
 -- the transcript of one answer, and none behind it
 abbrev only_answer : Answer → Transcript Debugger
@@ -138,31 +176,42 @@ no_line : (d : Debugger) (runs : List FreeRun) → over d ≡ only_answer (answe
 unfolding answered request_of
 no_line d runs = refl
 
-last_lines : (d : Debugger) (runs : List FreeRun) (bytes : List ℕ) → session d runs (lines_of_parts (bytes ∷ [])) ≡ only_answer (answered d runs bytes)
+last_lines : (d : Debugger) (runs : List FreeRun) (bytes : List ℕ) → session d runs (lines_of_parts (bytes ∷ []))
+    ≡ only_answer (answered d runs bytes)
 last_lines d runs [] = no_line d runs
 last_lines d runs (byte ∷ bytes) =
     let some : nat_eq (length (byte ∷ bytes)) 0 ≡ false = grind (arith, nat_tests) in
     rw some (either_way (answered d runs (byte ∷ bytes)) (answered d runs (byte ∷ bytes)).quits)
 
 -- what is left at the end of the input is the last line
-last_line : (d : Debugger) (runs : List FreeRun) (bytes : List ℕ) → HasNoLineEnd bytes → due d runs bytes ≡ only_answer (answered d runs bytes)
-last_line d runs bytes h = ap (λ parts. session d runs (lines_of_parts parts)) (only_part (λ byte. byte == 10) bytes h) ∙ last_lines d runs bytes
+last_line : (d : Debugger) (runs : List FreeRun) (bytes : List ℕ) → HasNoLineEnd bytes → due d runs bytes
+    ≡ only_answer (answered d runs bytes)
+last_line d runs bytes h = ap (λ parts. session d runs (lines_of_parts parts)) (only_part (λ byte. byte == 10) bytes
+    h) ∙ last_lines d runs bytes
 
 pub last_answered : (d after : Debugger) (now : List FreeRun) (bytes text : List ℕ) (quits : Bool) → HasNoLineEnd bytes
     → answered d now bytes ≡ record { text = text; view = after; quits = quits; runs = [] }
     → due d now bytes ≡ record { text = text; view = Some after }
 last_answered d after now bytes text quits h told = last_line d now bytes h ∙ ap only_answer told
 
-pub last_begins : (d : Debugger) (runs : List FreeRun) (front bytes : List ℕ) → HasNoLineEnd bytes → IsBeginning front (answered d runs bytes).text → IsBeginning front (due d runs (bytes ++ [])).text
+pub last_begins : (d : Debugger) (runs : List FreeRun) (front bytes : List ℕ) → HasNoLineEnd bytes
+    → IsBeginning front (answered d runs bytes).text → IsBeginning front (due d runs (bytes ++ [])).text
 last_begins d runs front bytes h p =
-    record { rest = p.rest; is = ap (λ l. (due d runs l).text) (append-nil bytes) ∙ ap (λ (t : Transcript Debugger). t.text) (last_line d runs bytes h) ∙ p.is }
+    record {
+      rest = p.rest;
+      is = ap (λ l. (due d runs l).text) (append-nil bytes)
+          ∙ ap (λ (t : Transcript Debugger). t.text) (last_line d runs bytes h) ∙ p.is;
+    }
 
 -- a part of an answer was written, or nothing
-pub part_of : (a b : Option (List ℕ)) (d after : Debugger) (line text : List ℕ) (quits : Bool) → IsAnswered d line text after quits → AppendsPart a b text
+pub part_of : (a b : Option (List ℕ)) (d after : Debugger) (line text : List ℕ) (quits : Bool) → IsAnswered d line
+    text after quits → AppendsPart a b text
     → (runs : List FreeRun) × AppendsPart a b (answered d runs line).text
-part_of a b d after line text quits p part = (p.runs ++ [], subst (AppendsPart a b) (sym (ap (λ (x : Answer). x.text) (p.is []))) part)
+part_of a b d after line text quits p part =
+    (p.runs ++ [], subst (AppendsPart a b) (sym (ap (λ (x : Answer). x.text) (p.is []))) part)
 
-pub no_part : (a : Option (List ℕ)) (d : Debugger) (line : List ℕ) → (runs : List FreeRun) × AppendsPart a a (answered d runs line).text
+pub no_part : (a : Option (List ℕ)) (d : Debugger) (line : List ℕ) → (runs : List FreeRun) × AppendsPart a a
+    (answered d runs line).text
 no_part a d line = ([], record { sent = []; begins = nothing_begins _; appends = Appends-nil a })
 
 -- advances, by what the free runs do
@@ -173,11 +222,13 @@ pub Advances_trans : (ra rb rc wa wb wc : Option (List ℕ)) (pa pb pc : List �
     → AdvancesTo ra rb wa wb pa pb d e → AdvancesTo rb rc wb wc pb pc e f → AdvancesTo ra rc wa wc pa pc d f
 Advances_trans ra rb rc wa wb wc pa pb pc d e f p q = (
   p.0 ++ q.0,
-  λ later. subst (λ (rs : List FreeRun). Advance ra rc wa wc pa pc (due d rs) (due f later)) (sym (append_assoc p.0 q.0 later))
+  λ later. subst (λ (rs : List FreeRun). Advance ra rc wa wc pa pc (due d rs) (due f later))
+      (sym (append_assoc p.0 q.0 later))
       (Advance_trans ra rb rc wa wb wc pa pb pc _ _ _ (p.1 (q.0 ++ later)) (q.1 later)),
 )
 
-pub Advances_read : (ra rb w : Option (List ℕ)) (pa pb bytes : List ℕ) (d : Debugger) → Consumes ra rb bytes → pb ≡ pa ++ bytes → AdvancesTo ra rb w w pa pb d d
+pub Advances_read : (ra rb w : Option (List ℕ)) (pa pb bytes : List ℕ) (d : Debugger) → Consumes ra rb bytes → pb
+    ≡ pa ++ bytes → AdvancesTo ra rb w w pa pb d d
 Advances_read ra rb w pa pb bytes d p e = ([], λ later. Advance_read ra rb w pa pb bytes (due d later) p e)
 
 pub Advances_answers : (r wa wb : Option (List ℕ)) (pa pb : List ℕ) (used : ℕ) (d after : Debugger)

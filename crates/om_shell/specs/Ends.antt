@@ -19,13 +19,16 @@ status_of (Ok debuggee) = 0
 status_of (Err fault) = 1
 
 -- nothing that could follow changes the source or the script
-pub record IsSettled (verdict : Result Debuggee SourceFault) (workers : ℕ) (runs : List FreeRun) (given : Option (List ℕ)) (taken : List ℕ) : Type 0 where
+pub record IsSettled (verdict : Result Debuggee SourceFault) (workers : ℕ) (runs : List FreeRun)
+    (given : Option (List ℕ)) (taken : List ℕ) : Type 0 where
   pub source : (future : List ℕ) → source_of given (taken ++ future) ≡ source_of given taken
-  pub script : (future : List ℕ) → script_by verdict workers runs given (taken ++ future) ≡ script_by verdict workers runs given taken
+  pub script : (future : List ℕ) → script_by verdict workers runs given (taken ++ future) ≡ script_by verdict
+      workers runs given taken
 
 -- A run that came to its end: it wrote the script of the bytes that it took and nothing else, and left its view;
 -- and the input has ended, or nothing that could follow changes the script.
-pub record RunsToEnd (left_before left_after held_before held_after : Option (List ℕ)) (workers : ℕ) (given : Option (List ℕ)) (status : ℕ) (view : Option Debugger) : Type 0 where
+pub record RunsToEnd (left_before left_after held_before held_after : Option (List ℕ)) (workers : ℕ)
+    (given : Option (List ℕ)) (status : ℕ) (view : Option Debugger) : Type 0 where
   pub taken : List ℕ
   pub verdict : Result Debuggee SourceFault
   pub judged : IsVerdict (source_of given taken) verdict
@@ -57,7 +60,8 @@ pub record AnswersLines (workers : ℕ) (given : Option (List ℕ)) (taken text 
 
 -- A run that a fault broke off: nothing was written, or a beginning of the script of the bytes that were taken. Where
 -- a read failed, all whole lines before it were answered; none is while the source is still read.
-pub record BreaksOffRun (left_before left_after held_before held_after : Option (List ℕ)) (workers : ℕ) (given : Option (List ℕ)) (fault : ShellFault) : Type 0 where
+pub record BreaksOffRun (left_before left_after held_before held_after : Option (List ℕ)) (workers : ℕ)
+    (given : Option (List ℕ)) (fault : ShellFault) : Type 0 where
   pub taken : List ℕ
   pub text : List ℕ
   pub consumes : Consumes left_before left_after taken
@@ -66,7 +70,8 @@ pub record BreaksOffRun (left_before left_after held_before held_after : Option 
   pub answered : fault ≡ Read → (HasOpenSource given taken × (text ≡ [])) ⊎ AnswersLines workers given taken text
 
 -- what was written is a script of the whole input
-pub record WritesScript (held_before held_after : Option (List ℕ)) (workers : ℕ) (given : Option (List ℕ)) (input : List ℕ) : Type 0 where
+pub record WritesScript (held_before held_after : Option (List ℕ)) (workers : ℕ) (given : Option (List ℕ))
+    (input : List ℕ) : Type 0 where
   pub script : Transcript Debugger
   pub is_script : IsScript workers given input script
   pub appends : Appends held_before held_after script.text

@@ -14,6 +14,7 @@ AsksNoFreeRun line = (workers : ℕ) → rounds_asked (request_of workers line) 
 
 -- where no command is a free run, an input has one script: the list of free runs changes nothing
 abbrev pub OneScript : Type 0
-OneScript = (verdict : Result Debuggee SourceFault) (workers : ℕ) (runs : List FreeRun) (given : Option (List ℕ)) (input : List ℕ)
+OneScript = (verdict : Result Debuggee SourceFault) (workers : ℕ) (runs : List FreeRun) (given : Option (List ℕ))
+    (input : List ℕ)
     → AllByRecursion AsksNoFreeRun (commands_of given input)
     → script_by verdict workers runs given input ≡ script_by verdict workers [] given input

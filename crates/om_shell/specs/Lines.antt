@@ -20,13 +20,15 @@ is_mark line = bytes_eq line (codes "%%")
 abbrev pub source_in : List (List ℕ) → List ℕ
 source_in [] = []
 source_in (part ∷ []) = if is_mark part then [] else part
-source_in (part ∷ (next ∷ more)) = if is_mark (strip_carriage_return part) then [] else part ++ 10 ∷ source_in (next ∷ more)
+source_in (part ∷ (next ∷ more)) = if is_mark (strip_carriage_return part) then [] else part ++ 10
+    ∷ source_in (next ∷ more)
 
 -- the lines after it
 abbrev pub commands_in : List (List ℕ) → List (List ℕ)
 commands_in [] = []
 commands_in (part ∷ []) = []
-commands_in (part ∷ (next ∷ more)) = if is_mark (strip_carriage_return part) then lines_of_parts (next ∷ more) else commands_in (next ∷ more)
+commands_in (part ∷ (next ∷ more)) = if is_mark (strip_carriage_return part) then lines_of_parts (next ∷ more) else
+    commands_in (next ∷ more)
 
 -- whether a whole line, one that a line feed ends, is the mark
 abbrev pub has_mark : List (List ℕ) → Bool

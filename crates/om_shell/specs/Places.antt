@@ -16,4 +16,5 @@ column_after front = fold (λ column byte. if byte == 10 then 1 else column + 1)
 unfoldable pub refusal_text : List ℕ → SourceFault → List ℕ
 refusal_text source fault =
     let front = take fault.at source in
-    codes "refused S" ++ decimal (number_of fault.code) ++ codes " line " ++ decimal (line_after front) ++ codes " column " ++ decimal (column_after front) ++ codes "\n"
+    codes "refused S" ++ decimal (number_of fault.code) ++ codes " line " ++ decimal (line_after front)
+    ++ codes " column " ++ decimal (column_after front) ++ codes "\n"

@@ -29,7 +29,8 @@ AreWholeLines bytes = (bytes ≡ []) ⊎ ((front : List ℕ) × (bytes ≡ front
 -- What some calls did, from one moment to a later one: the bytes that were pending, and those that were taken, are
 -- those that were handled, in whole lines, and those that are pending now. Whatever bytes come after the handled ones,
 -- what was due for all of them is what was written, and then what is now due for the rest.
-pub record Advance {M : Type 0} (left_before left_after held_before held_after : Option (List ℕ)) (pending_before pending_after : List ℕ) (due_before due_after : List ℕ → Transcript M) : Type 0 where
+pub record Advance {M : Type 0} (left_before left_after held_before held_after : Option (List ℕ))
+    (pending_before pending_after : List ℕ) (due_before due_after : List ℕ → Transcript M) : Type 0 where
   pub taken : List ℕ
   pub handled : List ℕ
   pub text : List ℕ
@@ -50,7 +51,8 @@ pub record AnswersWholeLines {M : Type 0} (bytes text : List ℕ) (due : List �
 
 -- What was written is a beginning of what is due for the bytes that were pending or taken; and where a read failed,
 -- every whole line before it was answered.
-pub record BreaksOff {M : Type 0} (left_before left_after held_before held_after : Option (List ℕ)) (pending : List ℕ) (due : List ℕ → Transcript M) (fault : ShellFault) : Type 0 where
+pub record BreaksOff {M : Type 0} (left_before left_after held_before held_after : Option (List ℕ))
+    (pending : List ℕ) (due : List ℕ → Transcript M) (fault : ShellFault) : Type 0 where
   pub taken : List ℕ
   pub text : List ℕ
   pub consumes : Consumes left_before left_after taken
@@ -60,7 +62,8 @@ pub record BreaksOff {M : Type 0} (left_before left_after held_before held_after
 
 -- What was written, and the view, are those that are due for the bytes that were pending or taken; and the input
 -- has ended, or nothing that follows could change what is due.
-pub record IsDone {M : Type 0} (left_before left_after held_before held_after : Option (List ℕ)) (pending : List ℕ) (due : List ℕ → Transcript M) (view : Option M) : Type 0 where
+pub record IsDone {M : Type 0} (left_before left_after held_before held_after : Option (List ℕ)) (pending : List ℕ)
+    (due : List ℕ → Transcript M) (view : Option M) : Type 0 where
   pub taken : List ℕ
   pub consumes : Consumes left_before left_after taken
   pub appends : Appends held_before held_after (due (pending ++ taken)).text

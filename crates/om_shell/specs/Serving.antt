@@ -19,7 +19,8 @@ abbrev pub due_for : Result Debuggee SourceFault → ℕ → List FreeRun → Li
 due_for verdict workers runs source bytes = transcript_of verdict workers runs source (lines bytes)
 
 -- by a verdict on the source, all that was due is done
-pub record Serves (left_before left_after held_before held_after : Option (List ℕ)) (pending : List ℕ) (workers : ℕ) (source : List ℕ) (status : ℕ) (view : Option Debugger) : Type 0 where
+pub record Serves (left_before left_after held_before held_after : Option (List ℕ)) (pending : List ℕ) (workers : ℕ)
+    (source : List ℕ) (status : ℕ) (view : Option Debugger) : Type 0 where
   pub verdict : Result Debuggee SourceFault
   pub judged : IsVerdict source verdict
   pub status_is : status ≡ status_of verdict
@@ -27,24 +28,29 @@ pub record Serves (left_before left_after held_before held_after : Option (List 
   pub done : IsDone left_before left_after held_before held_after pending (due_for verdict workers runs source) view
 
 -- by a verdict on the source, a part of what was due is done
-pub record ServesPart (left_before left_after held_before held_after : Option (List ℕ)) (pending : List ℕ) (workers : ℕ) (source : List ℕ) (fault : ShellFault) : Type 0 where
+pub record ServesPart (left_before left_after held_before held_after : Option (List ℕ)) (pending : List ℕ)
+    (workers : ℕ) (source : List ℕ) (fault : ShellFault) : Type 0 where
   pub verdict : Result Debuggee SourceFault
   pub judged : IsVerdict source verdict
   pub runs : List FreeRun
   pub part : BreaksOff left_before left_after held_before held_after pending (due_for verdict workers runs source) fault
 
 -- no read failed, and nothing was taken or written
-pub record IsUntouched (left_before left_after held_before held_after : Option (List ℕ)) (fault : ShellFault) : Type 0 where
+pub record IsUntouched (left_before left_after held_before held_after : Option (List ℕ)) (fault : ShellFault) : Type
+    0 where
   pub consumes : Consumes left_before left_after []
   pub appends : Appends held_before held_after []
   pub no_read : fault ≢ Read
 
-abbrev pub BreaksOffServing : Option (List ℕ) → Option (List ℕ) → Option (List ℕ) → Option (List ℕ) → List ℕ → ℕ → List ℕ → ShellFault → Type 0
+abbrev pub BreaksOffServing : Option (List ℕ) → Option (List ℕ) → Option (List ℕ) → Option (List ℕ) → List ℕ → ℕ
+    → List ℕ → ShellFault → Type 0
 BreaksOffServing left_before left_after held_before held_after pending workers source fault =
-    IsUntouched left_before left_after held_before held_after fault ⊎ ServesPart left_before left_after held_before held_after pending workers source fault
+    IsUntouched left_before left_after held_before held_after fault ⊎ ServesPart left_before left_after held_before
+    held_after pending workers source fault
 
 -- a source that no command follows
-pub record ServesAlone (held_before held_after : Option (List ℕ)) (workers : ℕ) (source : List ℕ) (status : ℕ) (view : Option Debugger) : Type 0 where
+pub record ServesAlone (held_before held_after : Option (List ℕ)) (workers : ℕ) (source : List ℕ) (status : ℕ)
+    (view : Option Debugger) : Type 0 where
   pub verdict : Result Debuggee SourceFault
   pub judged : IsVerdict source verdict
   pub status_is : status ≡ status_of verdict
@@ -56,6 +62,7 @@ pub record ServesAlonePart (held_before held_after : Option (List ℕ)) (workers
   pub judged : IsVerdict source verdict
   pub part : AppendsPart held_before held_after (transcript_of verdict workers [] source []).text
 
-pub record BreaksOffAlone (held_before held_after : Option (List ℕ)) (workers : ℕ) (source : List ℕ) (fault : ShellFault) : Type 0 where
+pub record BreaksOffAlone (held_before held_after : Option (List ℕ)) (workers : ℕ) (source : List ℕ)
+    (fault : ShellFault) : Type 0 where
   pub no_read : fault ≢ Read
   pub part : Appends held_before held_after [] ⊎ ServesAlonePart held_before held_after workers source

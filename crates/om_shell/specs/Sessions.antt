@@ -34,10 +34,13 @@ due_behind true d runs bytes = over d
 -- Whole lines are answered, by the free runs among them; and whatever runs follow, this is what is due then.
 abbrev pub AnswersBatch : Option (List ℕ) → Option (List ℕ) → List ℕ → ℕ → Debugger → Bool → Debugger → Type 0
 AnswersBatch old new bytes used d quits after =
-    (runs : List FreeRun) × ((later : List FreeRun) → Answers old new bytes used (due d (runs ++ later)) (due_behind quits after later))
+    (runs : List FreeRun) × ((later : List FreeRun) → Answers old new bytes used (due d (runs ++ later))
+    (due_behind quits after later))
 
 -- Some calls were made, with free runs among them; and whatever runs follow, this is what is due then.
-abbrev pub AdvancesTo : Option (List ℕ) → Option (List ℕ) → Option (List ℕ) → Option (List ℕ) → List ℕ → List ℕ → Debugger → Debugger → Type 0
+abbrev pub AdvancesTo : Option (List ℕ) → Option (List ℕ) → Option (List ℕ) → Option (List ℕ) → List ℕ → List ℕ
+    → Debugger → Debugger → Type 0
 AdvancesTo left_before left_after held_before held_after pending_before pending_after d after =
     (runs : List FreeRun)
-    × ((later : List FreeRun) → Advance left_before left_after held_before held_after pending_before pending_after (due d (runs ++ later)) (due after later))
+    × ((later : List FreeRun) → Advance left_before left_after held_before held_after pending_before pending_after
+    (due d (runs ++ later)) (due after later))

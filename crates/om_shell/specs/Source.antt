@@ -10,7 +10,8 @@ use Rattle.om_shell.specs.Lines.{parts_of, source_in, commands_in, has_mark}
 -- The first `at` bytes are whole lines of the source.
 pub record Scanned (bytes : List ℕ) (at : ℕ) : Type 0 where
   pub within : at ≤ length bytes
-  pub source : (future : List ℕ) → source_in (parts_of (take at bytes ++ future)) ≡ take at bytes ++ source_in (parts_of future)
+  pub source : (future : List ℕ) → source_in (parts_of (take at bytes ++ future)) ≡ take at bytes
+      ++ source_in (parts_of future)
   pub commands : (future : List ℕ) → commands_in (parts_of (take at bytes ++ future)) ≡ commands_in (parts_of future)
   pub unmarked : (future : List ℕ) → has_mark (parts_of (take at bytes ++ future)) ≡ has_mark (parts_of future)
 

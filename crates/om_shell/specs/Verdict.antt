@@ -52,8 +52,10 @@ IsSyntaxFault tokens fault = ((fault.code ≡ Syntax) × ((tree : UnitTree) → 
 pub data IsRefused (source : List ℕ) (fault : SourceFault) : Type 0 where
   by_lexer : IsFault source fault.code fault.at → IsRefused source fault
   by_parser : (tokens : List Token) → IsTokens source tokens → IsSyntaxFault tokens fault → IsRefused source fault
-  by_names : (tree : UnitTree) → IsTreeOfSource source tree → first_of (breaches_of tree) ≡ Some fault → IsRefused source fault
-  by_code : (resolved : ResolvedTree) → IsResolutionOfSource source resolved → IsTooMany resolved fault → IsRefused source fault
+  by_names : (tree : UnitTree) → IsTreeOfSource source tree → first_of (breaches_of tree) ≡ Some fault
+      → IsRefused source fault
+  by_code : (resolved : ResolvedTree) → IsResolutionOfSource source resolved → IsTooMany resolved fault
+      → IsRefused source fault
 
 -- what a source comes to
 abbrev pub IsVerdict : List ℕ → Result Debuggee SourceFault → Type 0

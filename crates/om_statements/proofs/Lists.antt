@@ -1,5 +1,6 @@
 -- Statements one behind the other.
-use Rattle.std.proofs.Common.{◌≡◌, refl, Bool, ℕ, suc, ◌+◌, ◌<◌, ◌≤◌, List, ◌∷◌, map, get_or, drop, drop-cons, add-one, length, sym, ap, ◌∙◌, subst, arith}
+use Rattle.std.proofs.Common.{◌≡◌, refl, Bool, ℕ, suc, ◌+◌, ◌<◌, ◌≤◌, List, ◌∷◌, map, get_or, drop, drop-cons, add-one}
+use Rattle.std.proofs.Common.{length, sym, ap, ◌∙◌, subst, arith}
 use Rattle.om_emit.specs.Drafts.{Written}
 use Rattle.om_emit.specs.Emits.{site}
 use Rattle.om_emit.specs.Writing.{goes_end}
@@ -23,69 +24,92 @@ use Rattle.om_tables.specs.Picks.{own_picks, all_own_picks}
 use Rattle.om_tables.specs.Names.{Names}
 
 -- whoever writes what is left, with the numbers there, has written all
-unfoldable pub Onward : (k : ℕ) → Names → JumpLabels → (first now : Numbers) → (all left : ResolvedStatementsTree) → (begun so_far : Written) → Type 0
+unfoldable pub Onward : (k : ℕ) → Names → JumpLabels → (first now : Numbers) → (all left : ResolvedStatementsTree)
+    → (begun so_far : Written) → Type 0
 Onward k names jumps first now all left begun so_far = (k ≤ length so_far.places) × ((c : Written)
-    → GoesWith k (all_own_picks now left) (λ done at. statements (site names done) now left (jumps_at at jumps)) so_far c
-    → GoesWith k (all_own_picks first all) (λ done at. statements (site names done) first all (jumps_at at jumps)) begun c)
+    → GoesWith k (all_own_picks now left) (λ done at. statements (site names done) now left (jumps_at at jumps))
+    so_far c
+    → GoesWith k (all_own_picks first all) (λ done at. statements (site names done) first all (jumps_at at jumps))
+    begun c)
 
-pub onward_begin : (names : Names) (jumps : JumpLabels) (n : Numbers) (all : ResolvedStatementsTree) (a : Written) → Onward (length a.places) names jumps n n all all a a
+pub onward_begin : (names : Names) (jumps : JumpLabels) (n : Numbers) (all : ResolvedStatementsTree) (a : Written)
+    → Onward (length a.places) names jumps n n all all a a
 unfolding Onward
 onward_begin names jumps n all a = (omega arith, λ c g. g)
 
-pub onward_next : (k : ℕ) (names : Names) (jumps : JumpLabels) (first now after : Numbers) (all rest : ResolvedStatementsTree) (s : ResolvedStatementTree) (begun a b : Written)
-    → after ≡ behind now s → Onward k names jumps first now all (Statement s rest) begun a → EmitsStatement names now s jumps a b
+pub onward_next : (k : ℕ) (names : Names) (jumps : JumpLabels) (first now after : Numbers)
+    (all rest : ResolvedStatementsTree) (s : ResolvedStatementTree) (begun a b : Written)
+    → after ≡ behind now s → Onward k names jumps first now all (Statement s rest) begun a → EmitsStatement names
+    now s jumps a b
     → Onward k names jumps first after all rest begun b
 unfolding Onward
 onward_next k names jumps first now after all rest s begun a b is g e = (
   omega (arith, g.0, e.more),
   λ c h. g.1 c
       (then_with k (length a.places) k (own_picks now s) (all_own_picks (behind now s) rest)
-      (λ done at. statement (site names done) now s (jumps_at at jumps)) (λ done at. statements (site names done) (behind now s) rest (jumps_at at jumps)) a b c g.0 (omega arith) e
-      (subst (λ m. GoesWith k (all_own_picks m rest) (λ done at. statements (site names done) m rest (jumps_at at jumps)) b c) is h)),
+      (λ done at. statement (site names done) now s (jumps_at at jumps)) (λ done at. statements (site names done)
+      (behind now s) rest (jumps_at at jumps)) a b c g.0 (omega arith) e
+      (subst (λ m. GoesWith k (all_own_picks m rest) (λ done at. statements (site names done) m rest
+      (jumps_at at jumps)) b c) is h)),
 )
 
-pub onward_end : (k : ℕ) (names : Names) (jumps : JumpLabels) (first now : Numbers) (all : ResolvedStatementsTree) (begun a : Written)
-    → Onward k names jumps first now all NoStatements begun a → GoesWith k (all_own_picks first all) (λ done at. statements (site names done) first all (jumps_at at jumps)) begun a
+pub onward_end : (k : ℕ) (names : Names) (jumps : JumpLabels) (first now : Numbers) (all : ResolvedStatementsTree)
+    (begun a : Written)
+    → Onward k names jumps first now all NoStatements begun a → GoesWith k (all_own_picks first all)
+    (λ done at. statements (site names done) first all (jumps_at at jumps)) begun a
 unfolding Onward
 onward_end k names jumps first now all begun a g = g.1 a (with_none k (λ done at. end) a a (goes_end k a))
 
 -- what is left begins with the item that is met
-pub left_item : (items : List ResolvedStatement) (k : ℕ) (x : ResolvedStatement) → k < length items → x ≡ get_or items k x
-    → trees.statements (map view_resolved_statement (drop k items)) ≡ Statement (view_resolved_statement x) (trees.statements (map view_resolved_statement (drop (k + 1) items)))
+pub left_item : (items : List ResolvedStatement) (k : ℕ) (x : ResolvedStatement) → k < length items → x
+    ≡ get_or items k x
+    → trees.statements (map view_resolved_statement (drop k items)) ≡ Statement (view_resolved_statement x)
+    (trees.statements (map view_resolved_statement (drop (k + 1) items)))
 left_item items k x lt is =
     ap (λ xs. trees.statements (map view_resolved_statement xs))
     (drop-cons items k x lt ∙ ap (λ y. y ∷ drop (suc k) items) (sym is) ∙ ap (λ j. x ∷ drop j items) (sym (add-one k)))
 
 -- what is left has code, its numbers lead to those behind all, and whoever writes it has written all
-pub left_next : (breaks continues : Bool) (k : ℕ) (names : Names) (jumps : JumpLabels) (first now after : Numbers) (all left rest : ResolvedStatementsTree) (s : ResolvedStatementTree) (begun a b : Written)
+pub left_next : (breaks continues : Bool) (k : ℕ) (names : Names) (jumps : JumpLabels) (first now after : Numbers)
+    (all left rest : ResolvedStatementsTree) (s : ResolvedStatementTree) (begun a b : Written)
     → left ≡ Statement s rest → after ≡ behind now s → EmitsStatement names now s jumps a b
-    → StatementsHaveCode breaks continues left → behind_all now left ≡ behind_all first all → Onward k names jumps first now all left begun a
-    → StatementsHaveCode breaks continues rest × (behind_all after rest ≡ behind_all first all) × Onward k names jumps first after all rest begun b
+    → StatementsHaveCode breaks continues left → behind_all now left ≡ behind_all first all → Onward k names jumps
+    first now all left begun a
+    → StatementsHaveCode breaks continues rest × (behind_all after rest ≡ behind_all first all)
+    × Onward k names jumps first after all rest begun b
 left_next breaks continues k names jumps first now after all left rest s begun a b here is e code numbers onward =
-    let code2 : StatementsHaveCode breaks continues (Statement s rest) = subst (λ z. StatementsHaveCode breaks continues z) here code in
-    let numbers2 : behind_all (behind now s) rest ≡ behind_all first all = subst (λ z. behind_all now z ≡ behind_all first all) here numbers in (
+    let code2 : StatementsHaveCode breaks continues (Statement s rest) = subst
+    (λ z. StatementsHaveCode breaks continues z) here code in
+    let numbers2 : behind_all (behind now s) rest ≡ behind_all first all = subst (λ z. behind_all now z
+    ≡ behind_all first all) here numbers in (
       code2.1,
       ap (λ m. behind_all m rest) is ∙ numbers2,
-      onward_next k names jumps first now after all rest s begun a b is (subst (λ z. Onward k names jumps first now all z begun a) here onward) e,
+      onward_next k names jumps first now after all rest s begun a b is
+          (subst (λ z. Onward k names jumps first now all z begun a) here onward) e,
     )
 
-pub onward_done : (k : ℕ) (names : Names) (jumps : JumpLabels) (first now : Numbers) (all left : ResolvedStatementsTree) (begun a : Written)
-    → left ≡ NoStatements → Onward k names jumps first now all left begun a → GoesWith k (all_own_picks first all) (λ done at. statements (site names done) first all (jumps_at at jumps)) begun a
+pub onward_done : (k : ℕ) (names : Names) (jumps : JumpLabels) (first now : Numbers)
+    (all left : ResolvedStatementsTree) (begun a : Written)
+    → left ≡ NoStatements → Onward k names jumps first now all left begun a → GoesWith k (all_own_picks first all)
+    (λ done at. statements (site names done) first all (jumps_at at jumps)) begun a
 onward_done k names jumps first now all left begun a none g =
     onward_end k names jumps first now all begun a (subst (λ z. Onward k names jumps first now all z begun a) none g)
 
 -- the same spot
 pub spot_is : (names : Names) (s : ResolvedStatementTree) (x y : Spot) (a b : Written) → x ≡ y
-    → EmitsStatement names (numbers_of x.numbers) s x.jumps a b → EmitsStatement names (numbers_of y.numbers) s y.jumps a b
+    → EmitsStatement names (numbers_of x.numbers) s x.jumps a b → EmitsStatement names (numbers_of y.numbers) s
+    y.jumps a b
 spot_is names s x y a b e h = subst (λ z. EmitsStatement names (numbers_of z.numbers) s z.jumps a b) e h
 
 -- the same statement
-pub statement_is : (names : Names) (n : Numbers) (x y : ResolvedStatementTree) (jumps : JumpLabels) (a b : Written) → x ≡ y
+pub statement_is : (names : Names) (n : Numbers) (x y : ResolvedStatementTree) (jumps : JumpLabels) (a b : Written)
+    → x ≡ y
     → EmitsStatement names n x jumps a b → EmitsStatement names n y jumps a b
 statement_is names n x y jumps a b e h = subst (λ z. EmitsStatement names n z jumps a b) e h
 
 -- the same numbers
-pub numbers_are : (names : Names) (n m : Numbers) (s : ResolvedStatementTree) (jumps : JumpLabels) (a b : Written) → n ≡ m
+pub numbers_are : (names : Names) (n m : Numbers) (s : ResolvedStatementTree) (jumps : JumpLabels) (a b : Written)
+    → n ≡ m
     → EmitsStatement names n s jumps a b → EmitsStatement names m s jumps a b
 numbers_are names n m s jumps a b e h = subst (λ z. EmitsStatement names z s jumps a b) e h
 

@@ -1,5 +1,6 @@
 -- A `sections`: its begin with its list of PICK, its parts, and its end.
-use Rattle.std.proofs.Common.{◌≡◌, ℕ, zero, suc, ◌+◌, ◌<◌, ◌≤◌, List, [], ◌∷◌, ◌++◌, Some, None, Bool, length, map, refl, sym, ap, ◌∙◌, subst, arith, length-append}
+use Rattle.std.proofs.Common.{◌≡◌, ℕ, zero, suc, ◌+◌, ◌<◌, ◌≤◌, List, [], ◌∷◌, ◌++◌, Some, None, Bool, length, map}
+use Rattle.std.proofs.Common.{refl, sym, ap, ◌∙◌, subst, arith, length-append}
 use Rattle.std.specs.Prelude.{slice_get}
 use Rattle.std.proofs.lemmas.List.{length-map, map-append}
 use Rattle.std.proofs.lemmas.Option.{slice_get_within}
@@ -21,7 +22,8 @@ use Rattle.om_rows.specs.Statements.{parts}
 use Rattle.om_statements.specs.declared.sections.PartsSpot.{PartsSpot}
 use Rattle.om_statements.specs.declared.spot.JumpLabels.{JumpLabels}
 use Rattle.om_statements.specs.Emits.{EmitsStatement, GoesWith, pick_number}
-use Rattle.om_statements.specs.Parts.{AreFree, EmitsParts, GoesParts, OpensParts, PartHead, head_row, part_head, part_labels}
+use Rattle.om_statements.specs.Parts.{AreFree, EmitsParts, GoesParts, OpensParts, PartHead, head_row, part_head}
+use Rattle.om_statements.specs.Parts.{part_labels}
 use Rattle.om_statements.specs.Going.{free_within, goes_place, goes_then, then_with, with_as, with_behind}
 use Rattle.om_tables.specs.declared.numbers.Numbers as tables
 use Rattle.om_tables.specs.Names.{Names}
@@ -60,7 +62,8 @@ grows_listed number first count a b h = record {
   places = λ l x e. ap (λ s. slice_get s l) h.places
       ∙ get_left a.places (unplaced count) l (slice_get_within a.places l (Some x) e) ∙ e;
   picks = λ k x e. ap (λ s. slice_get s k) h.picks
-      ∙ get_left a.picks (record { number = number; labels = labels_from first count } ∷ []) k (slice_get_within a.picks k x e) ∙ e;
+      ∙ get_left a.picks (record { number = number; labels = labels_from first count } ∷ []) k
+      (slice_get_within a.picks k x e) ∙ e;
 }
 
 listed_free : (number first count label : ℕ) (a b : Written) → FreshList number first count a b
@@ -76,8 +79,10 @@ part_free number first count a b h k lt =
     ∙ unplaced_at count k lt
 
 pub opens_parts : (names : Names) (head : PartHead) (labels : LoopLabels) (spot : PartsSpot) (a b c : Written)
-    → spot.again ≡ labels.again → spot.over ≡ labels.over → spot.line ≡ head.line → numbers_of spot.numbers ≡ next_pick head.numbers
-    → Begins labels.over (sections_begin names head.line head.clauses (record { number = head.numbers.picks; count = head.count }) labels) a b
+    → spot.again ≡ labels.again → spot.over ≡ labels.over → spot.line ≡ head.line → numbers_of spot.numbers
+    ≡ next_pick head.numbers
+    → Begins labels.over (sections_begin names head.line head.clauses
+    (record { number = head.numbers.picks; count = head.count }) labels) a b
     → FreshList head.numbers.picks spot.first head.count b c
     → OpensParts names head spot a c
 opens_parts names head labels spot a b c again over line numbers g h = record {
@@ -102,7 +107,8 @@ opens_parts names head labels spot a b c again over line numbers g h = record {
   numbers = numbers;
   above = omega (arith, over, g.above);
   below = omega (arith, over, h.is, free_within labels.over b g.free);
-  over = ap (λ l. slice_get c.places l) over ∙ listed_free head.numbers.picks spot.first head.count labels.over b c h g.free;
+  over = ap (λ l. slice_get c.places l) over ∙ listed_free head.numbers.picks spot.first head.count labels.over b c
+      h g.free;
   free = part_free head.numbers.picks spot.first head.count b c h;
   fit = h.fit;
 }
@@ -120,16 +126,21 @@ opens_parts names head labels spot a b c again over line numbers g h = record {
     begin x = sections_begin names head.line head.clauses (record { number = head.numbers.picks; count = head.count }) x
 
     same_labels : labels ≡ record { again = spot.again; over = spot.over }
-    same_labels = ap (λ l. record labels { again = l }) (sym again) ∙ ap (λ l. record labels { again = spot.again; over = l }) (sym over)
+    same_labels = ap (λ l. record labels { again = l }) (sym again)
+        ∙ ap (λ l. record labels { again = spot.again; over = l }) (sym over)
 
 -- the same count
-pub opens_counted : (names : Names) (l : ℕ) (numbers : tables.Numbers) (clauses : List ResolvedClauseTree) (count n : ℕ) (spot : PartsSpot) (a b : Written) → count ≡ n
-    → OpensParts names (part_head l numbers clauses count) spot a b → OpensParts names (part_head l numbers clauses n) spot a b
-opens_counted names l numbers clauses count n spot a b e h = subst (λ z. OpensParts names (part_head l numbers clauses z) spot a b) e h
+pub opens_counted : (names : Names) (l : ℕ) (numbers : tables.Numbers) (clauses : List ResolvedClauseTree)
+    (count n : ℕ) (spot : PartsSpot) (a b : Written) → count ≡ n
+    → OpensParts names (part_head l numbers clauses count) spot a b → OpensParts names
+    (part_head l numbers clauses n) spot a b
+opens_counted names l numbers clauses count n spot a b e h = subst
+    (λ z. OpensParts names (part_head l numbers clauses z) spot a b) e h
 
 -- ---- the whole
 
-pub emits_sections : (names : Names) (n : Numbers) (first : Span) (clauses : List ResolvedClauseTree) (nowait : Bool) (all : ResolvedPartsTree) (jumps : JumpLabels) (count : ℕ)
+pub emits_sections : (names : Names) (n : Numbers) (first : Span) (clauses : List ResolvedClauseTree)
+    (nowait : Bool) (all : ResolvedPartsTree) (jumps : JumpLabels) (count : ℕ)
     → (spot : PartsSpot) (a b c d e : Written)
     → labels_from spot.first count ≡ part_labels spot.first all
     → OpensParts names (record { line = first.line; numbers = n; clauses = clauses; count = count }) spot a b
@@ -173,8 +184,10 @@ emits_sections names n first clauses nowait all jumps count spot a b c d e label
       ),
     ))
     (then_with k k k (n.picks ∷ []) (parts_own_picks (next_pick n) all) _ _ a b e (omega arith) (omega arith) h1.goes
-    (with_behind k spot.first k (parts_own_picks (next_pick n) all) written _ b c e (omega (arith, h1.above, h1.below)) (omega arith) body
-    (goes_then k spot.over (length d.places) _ _ c d e h1.above (omega (arith, h1.goes.more, h2.more, placed.keeps.more)) placed h4)))
+    (with_behind k spot.first k (parts_own_picks (next_pick n) all) written _ b c e
+    (omega (arith, h1.above, h1.below)) (omega arith) body
+    (goes_then k spot.over (length d.places) _ _ c d e h1.above
+    (omega (arith, h1.goes.more, h2.more, placed.keeps.more)) placed h4)))
   where
     k : ℕ
     k = length a.places
@@ -186,15 +199,18 @@ emits_sections names n first clauses nowait all jumps count spot a b c d e label
     counted at = length-map (labels_from spot.first count) at ∙ labels_length spot.first count
 
     written : Finished → Labels → ℕ → ℕ → Type 0
-    written done at = parts (site names done) (next_pick n) first.line (at spot.again) all (map at (labels_from spot.first count))
+    written done at = parts (site names done) (next_pick n) first.line (at spot.again) all
+        (map at (labels_from spot.first count))
 
     body : GoesWith spot.first (parts_own_picks (next_pick n) all) written b c
     body =
         let one = subst (λ m. GoesParts spot.first names m all spot spot.first b c) h1.numbers h2 in
         let two = subst (λ l. GoesWith spot.first (parts_own_picks (next_pick n) all)
-        (λ done at. parts (site names done) (next_pick n) l (at spot.again) all (map at (part_labels spot.first all))) b c) h1.line one in
+        (λ done at. parts (site names done) (next_pick n) l (at spot.again) all
+        (map at (part_labels spot.first all))) b c) h1.line one in
         subst (λ ls. GoesWith spot.first (parts_own_picks (next_pick n) all)
-        (λ done at. parts (site names done) (next_pick n) first.line (at spot.again) all (map at ls)) b c) (sym labels) two
+        (λ done at. parts (site names done) (next_pick n) first.line (at spot.again) all (map at ls)) b c)
+        (sym labels) two
 
     placed : Goes spot.over (λ done at. here (at spot.over) end) c d
     placed = goes_place spot.over c d h3

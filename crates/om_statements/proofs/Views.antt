@@ -5,64 +5,105 @@ use Rattle.om_resolved.specs.declared.resolved.ResolvedStatement.TheOpen.{Resolv
 use Rattle.om_resolved.specs.declared.resolved.ResolvedStatement.TheVariants as v
 use Rattle.om_resolved.specs.ResolvedTree as trees
 use Rattle.om_resolved.specs.ResolvedTree.{ResolvedStatementTree, ResolvedStatementsTree}
-use Rattle.om_resolved.specs.ResolvedView.{part_layer, statement_layer, view_resolved_clause, view_resolved_declarator, view_resolved_expression, view_resolved_loop, view_resolved_part, view_resolved_start, view_resolved_statement, view_resolved_update}
+use Rattle.om_resolved.specs.ResolvedView.{part_layer, statement_layer, view_resolved_clause, view_resolved_declarator}
+use Rattle.om_resolved.specs.ResolvedView.{view_resolved_expression, view_resolved_loop, view_resolved_part}
+use Rattle.om_resolved.specs.ResolvedView.{view_resolved_start, view_resolved_statement, view_resolved_update}
 
-pub view_if : (at : _) (c : _) (s : _) → view_resolved_statement (v.If at c s) ≡ trees.If at (view_resolved_expression c) (view_resolved_statement s.value)
-view_if at c s = ap view_resolved_statement (sym (v.rolls-If at c s)) ∙ fold-roll-ResolvedStatement ResolvedStatementTree ResolvedStatementsTree statement_layer part_layer (ResolvedStatement-F.If at c s)
+pub view_if : (at : _) (c : _) (s : _) → view_resolved_statement (v.If at c s)
+    ≡ trees.If at (view_resolved_expression c) (view_resolved_statement s.value)
+view_if at c s = ap view_resolved_statement (sym (v.rolls-If at c s)) ∙ fold-roll-ResolvedStatement
+    ResolvedStatementTree ResolvedStatementsTree statement_layer part_layer (ResolvedStatement-F.If at c s)
 
-pub view_if_else : (at : _) (c : _) (s : _) (t : _) → view_resolved_statement (v.IfElse at c s t) ≡ trees.IfElse at (view_resolved_expression c) (view_resolved_statement s.value) (view_resolved_statement t.value)
-view_if_else at c s t = ap view_resolved_statement (sym (v.rolls-IfElse at c s t)) ∙ fold-roll-ResolvedStatement ResolvedStatementTree ResolvedStatementsTree statement_layer part_layer (ResolvedStatement-F.IfElse at c s t)
+pub view_if_else : (at : _) (c : _) (s : _) (t : _) → view_resolved_statement (v.IfElse at c s t) ≡ trees.IfElse at
+    (view_resolved_expression c) (view_resolved_statement s.value) (view_resolved_statement t.value)
+view_if_else at c s t = ap view_resolved_statement (sym (v.rolls-IfElse at c s t)) ∙ fold-roll-ResolvedStatement
+    ResolvedStatementTree ResolvedStatementsTree statement_layer part_layer (ResolvedStatement-F.IfElse at c s t)
 
-pub view_while : (at : _) (c : _) (s : _) → view_resolved_statement (v.While at c s) ≡ trees.While at (view_resolved_expression c) (view_resolved_statement s.value)
-view_while at c s = ap view_resolved_statement (sym (v.rolls-While at c s)) ∙ fold-roll-ResolvedStatement ResolvedStatementTree ResolvedStatementsTree statement_layer part_layer (ResolvedStatement-F.While at c s)
+pub view_while : (at : _) (c : _) (s : _) → view_resolved_statement (v.While at c s)
+    ≡ trees.While at (view_resolved_expression c) (view_resolved_statement s.value)
+view_while at c s = ap view_resolved_statement (sym (v.rolls-While at c s)) ∙ fold-roll-ResolvedStatement
+    ResolvedStatementTree ResolvedStatementsTree statement_layer part_layer (ResolvedStatement-F.While at c s)
 
-pub view_do : (at : _) (s : _) (c : _) → view_resolved_statement (v.Do at s c) ≡ trees.Do at (view_resolved_statement s.value) (view_resolved_expression c)
-view_do at s c = ap view_resolved_statement (sym (v.rolls-Do at s c)) ∙ fold-roll-ResolvedStatement ResolvedStatementTree ResolvedStatementsTree statement_layer part_layer (ResolvedStatement-F.Do at s c)
+pub view_do : (at : _) (s : _) (c : _) → view_resolved_statement (v.Do at s c)
+    ≡ trees.Do at (view_resolved_statement s.value) (view_resolved_expression c)
+view_do at s c = ap view_resolved_statement (sym (v.rolls-Do at s c)) ∙ fold-roll-ResolvedStatement
+    ResolvedStatementTree ResolvedStatementsTree statement_layer part_layer (ResolvedStatement-F.Do at s c)
 
 pub view_for : (at : _) (start : _) (c : _) (step : _) (s : _) → view_resolved_statement (v.For at start c step s)
-    ≡ trees.For at (view_resolved_start start) (option_map view_resolved_expression c) (option_map view_resolved_expression step) (view_resolved_statement s.value)
-view_for at start c step s = ap view_resolved_statement (sym (v.rolls-For at start c step s)) ∙ fold-roll-ResolvedStatement ResolvedStatementTree ResolvedStatementsTree statement_layer part_layer (ResolvedStatement-F.For at start c step s)
+    ≡ trees.For at (view_resolved_start start) (option_map view_resolved_expression c)
+    (option_map view_resolved_expression step) (view_resolved_statement s.value)
+view_for at start c step s = ap view_resolved_statement (sym (v.rolls-For at start c step s))
+    ∙ fold-roll-ResolvedStatement ResolvedStatementTree ResolvedStatementsTree statement_layer part_layer
+    (ResolvedStatement-F.For at start c step s)
 
-pub view_loop : (at : _) (clauses : _) (nowait : _) (l : _) (s : _) → view_resolved_statement (v.Loop at clauses nowait l s)
-    ≡ trees.Loop at (map view_resolved_clause clauses.items) nowait (view_resolved_loop l) (view_resolved_statement s.value)
-view_loop at clauses nowait l s = ap view_resolved_statement (sym (v.rolls-Loop at clauses nowait l s)) ∙ fold-roll-ResolvedStatement ResolvedStatementTree ResolvedStatementsTree statement_layer part_layer (ResolvedStatement-F.Loop at clauses nowait l s)
+pub view_loop : (at : _) (clauses : _) (nowait : _) (l : _) (s : _) → view_resolved_statement
+    (v.Loop at clauses nowait l s)
+    ≡ trees.Loop at (map view_resolved_clause clauses.items) nowait (view_resolved_loop l)
+    (view_resolved_statement s.value)
+view_loop at clauses nowait l s = ap view_resolved_statement (sym (v.rolls-Loop at clauses nowait l s))
+    ∙ fold-roll-ResolvedStatement ResolvedStatementTree ResolvedStatementsTree statement_layer part_layer
+    (ResolvedStatement-F.Loop at clauses nowait l s)
 
 pub view_construct : (at : _) (kind : _) (clauses : _) (s : _) → view_resolved_statement (v.Construct at kind clauses s)
     ≡ trees.Construct at kind (map view_resolved_clause clauses.items) (view_resolved_statement s.value)
-view_construct at kind clauses s = ap view_resolved_statement (sym (v.rolls-Construct at kind clauses s)) ∙ fold-roll-ResolvedStatement ResolvedStatementTree ResolvedStatementsTree statement_layer part_layer (ResolvedStatement-F.Construct at kind clauses s)
+view_construct at kind clauses s = ap view_resolved_statement (sym (v.rolls-Construct at kind clauses s))
+    ∙ fold-roll-ResolvedStatement ResolvedStatementTree ResolvedStatementsTree statement_layer part_layer
+    (ResolvedStatement-F.Construct at kind clauses s)
 
 pub view_break : (at : _) → view_resolved_statement (v.Break at) ≡ trees.Break at
-view_break at = ap view_resolved_statement (sym (v.rolls-Break at)) ∙ fold-roll-ResolvedStatement ResolvedStatementTree ResolvedStatementsTree statement_layer part_layer (ResolvedStatement-F.Break at)
+view_break at = ap view_resolved_statement (sym (v.rolls-Break at)) ∙ fold-roll-ResolvedStatement
+    ResolvedStatementTree ResolvedStatementsTree statement_layer part_layer (ResolvedStatement-F.Break at)
 
 pub view_continue : (at : _) → view_resolved_statement (v.Continue at) ≡ trees.Continue at
-view_continue at = ap view_resolved_statement (sym (v.rolls-Continue at)) ∙ fold-roll-ResolvedStatement ResolvedStatementTree ResolvedStatementsTree statement_layer part_layer (ResolvedStatement-F.Continue at)
+view_continue at = ap view_resolved_statement (sym (v.rolls-Continue at)) ∙ fold-roll-ResolvedStatement
+    ResolvedStatementTree ResolvedStatementsTree statement_layer part_layer (ResolvedStatement-F.Continue at)
 
-pub view_stand_alone : (at : _) (directive : _) → view_resolved_statement (v.StandAlone at directive) ≡ trees.StandAlone at directive
-view_stand_alone at directive = ap view_resolved_statement (sym (v.rolls-StandAlone at directive)) ∙ fold-roll-ResolvedStatement ResolvedStatementTree ResolvedStatementsTree statement_layer part_layer (ResolvedStatement-F.StandAlone at directive)
+pub view_stand_alone : (at : _) (directive : _) → view_resolved_statement (v.StandAlone at directive)
+    ≡ trees.StandAlone at directive
+view_stand_alone at directive = ap view_resolved_statement (sym (v.rolls-StandAlone at directive))
+    ∙ fold-roll-ResolvedStatement ResolvedStatementTree ResolvedStatementsTree statement_layer part_layer
+    (ResolvedStatement-F.StandAlone at directive)
 
-pub view_parallel : (at : _) (clauses : _) (captures : _) (s : _) → view_resolved_statement (v.Parallel at clauses captures s)
+pub view_parallel : (at : _) (clauses : _) (captures : _) (s : _) → view_resolved_statement
+    (v.Parallel at clauses captures s)
     ≡ trees.Parallel at (map view_resolved_clause clauses.items) captures (view_resolved_statement s.value)
-view_parallel at clauses captures s = ap view_resolved_statement (sym (v.rolls-Parallel at clauses captures s)) ∙ fold-roll-ResolvedStatement ResolvedStatementTree ResolvedStatementsTree statement_layer part_layer (ResolvedStatement-F.Parallel at clauses captures s)
+view_parallel at clauses captures s = ap view_resolved_statement (sym (v.rolls-Parallel at clauses captures s))
+    ∙ fold-roll-ResolvedStatement ResolvedStatementTree ResolvedStatementsTree statement_layer part_layer
+    (ResolvedStatement-F.Parallel at clauses captures s)
 
 pub view_task : (at : _) (clauses : _) (captures : _) (s : _) → view_resolved_statement (v.Task at clauses captures s)
     ≡ trees.Task at (map view_resolved_clause clauses.items) captures (view_resolved_statement s.value)
-view_task at clauses captures s = ap view_resolved_statement (sym (v.rolls-Task at clauses captures s)) ∙ fold-roll-ResolvedStatement ResolvedStatementTree ResolvedStatementsTree statement_layer part_layer (ResolvedStatement-F.Task at clauses captures s)
+view_task at clauses captures s = ap view_resolved_statement (sym (v.rolls-Task at clauses captures s))
+    ∙ fold-roll-ResolvedStatement ResolvedStatementTree ResolvedStatementsTree statement_layer part_layer
+    (ResolvedStatement-F.Task at clauses captures s)
 
-pub view_sections : (at : _) (clauses : _) (nowait : _) (parts : _) → view_resolved_statement (v.Sections at clauses nowait parts)
-    ≡ trees.Sections at (map view_resolved_clause clauses.items) nowait (trees.parts (map view_resolved_part parts.items))
-view_sections at clauses nowait parts = ap view_resolved_statement (sym (v.rolls-Sections at clauses nowait parts)) ∙ fold-roll-ResolvedStatement ResolvedStatementTree ResolvedStatementsTree statement_layer part_layer (ResolvedStatement-F.Sections at clauses nowait parts)
+pub view_sections : (at : _) (clauses : _) (nowait : _) (parts : _) → view_resolved_statement
+    (v.Sections at clauses nowait parts)
+    ≡ trees.Sections at (map view_resolved_clause clauses.items) nowait
+    (trees.parts (map view_resolved_part parts.items))
+view_sections at clauses nowait parts = ap view_resolved_statement (sym (v.rolls-Sections at clauses nowait parts))
+    ∙ fold-roll-ResolvedStatement ResolvedStatementTree ResolvedStatementsTree statement_layer part_layer
+    (ResolvedStatement-F.Sections at clauses nowait parts)
 
-pub view_declaration : (at : _) (ds : _) → view_resolved_statement (v.Declaration at ds) ≡ trees.Declaration at (map view_resolved_declarator ds.items)
-view_declaration at ds = ap view_resolved_statement (sym (v.rolls-Declaration at ds)) ∙ fold-roll-ResolvedStatement ResolvedStatementTree ResolvedStatementsTree statement_layer part_layer (ResolvedStatement-F.Declaration at ds)
+pub view_declaration : (at : _) (ds : _) → view_resolved_statement (v.Declaration at ds) ≡ trees.Declaration at
+    (map view_resolved_declarator ds.items)
+view_declaration at ds = ap view_resolved_statement (sym (v.rolls-Declaration at ds)) ∙ fold-roll-ResolvedStatement
+    ResolvedStatementTree ResolvedStatementsTree statement_layer part_layer (ResolvedStatement-F.Declaration at ds)
 
 pub view_empty : (at : _) → view_resolved_statement (v.Empty at) ≡ trees.Empty at
-view_empty at = ap view_resolved_statement (sym (v.rolls-Empty at)) ∙ fold-roll-ResolvedStatement ResolvedStatementTree ResolvedStatementsTree statement_layer part_layer (ResolvedStatement-F.Empty at)
+view_empty at = ap view_resolved_statement (sym (v.rolls-Empty at)) ∙ fold-roll-ResolvedStatement
+    ResolvedStatementTree ResolvedStatementsTree statement_layer part_layer (ResolvedStatement-F.Empty at)
 
-pub view_expression : (at : _) (e : _) → view_resolved_statement (v.Expression at e) ≡ trees.Expression at (view_resolved_expression e)
-view_expression at e = ap view_resolved_statement (sym (v.rolls-Expression at e)) ∙ fold-roll-ResolvedStatement ResolvedStatementTree ResolvedStatementsTree statement_layer part_layer (ResolvedStatement-F.Expression at e)
+pub view_expression : (at : _) (e : _) → view_resolved_statement (v.Expression at e) ≡ trees.Expression at
+    (view_resolved_expression e)
+view_expression at e = ap view_resolved_statement (sym (v.rolls-Expression at e)) ∙ fold-roll-ResolvedStatement
+    ResolvedStatementTree ResolvedStatementsTree statement_layer part_layer (ResolvedStatement-F.Expression at e)
 
-pub view_return : (at : _) (e : _) → view_resolved_statement (v.Return at e) ≡ trees.Return at (option_map view_resolved_expression e)
-view_return at e = ap view_resolved_statement (sym (v.rolls-Return at e)) ∙ fold-roll-ResolvedStatement ResolvedStatementTree ResolvedStatementsTree statement_layer part_layer (ResolvedStatement-F.Return at e)
+pub view_return : (at : _) (e : _) → view_resolved_statement (v.Return at e) ≡ trees.Return at
+    (option_map view_resolved_expression e)
+view_return at e = ap view_resolved_statement (sym (v.rolls-Return at e)) ∙ fold-roll-ResolvedStatement
+    ResolvedStatementTree ResolvedStatementsTree statement_layer part_layer (ResolvedStatement-F.Return at e)
 
 pub view_update : (at : _) (u : _) → view_resolved_statement (v.Update at u) ≡ trees.Update at (view_resolved_update u)
-view_update at u = ap view_resolved_statement (sym (v.rolls-Update at u)) ∙ fold-roll-ResolvedStatement ResolvedStatementTree ResolvedStatementsTree statement_layer part_layer (ResolvedStatement-F.Update at u)
+view_update at u = ap view_resolved_statement (sym (v.rolls-Update at u)) ∙ fold-roll-ResolvedStatement
+    ResolvedStatementTree ResolvedStatementsTree statement_layer part_layer (ResolvedStatement-F.Update at u)

@@ -16,7 +16,8 @@ abbrev pub jumps_at : Labels → JumpLabels → Jumps
 jumps_at at jumps = record { over = option_map at jumps.over; next = option_map at jumps.next }
 
 abbrev pub EmitsJump : ℕ → Option ℕ → Written → Written → Type 0
-EmitsJump l label old new = (names : Names) → Emits (λ done at. given (option_map at label) (jump (site names done) l)) old new
+EmitsJump l label old new = (names : Names)
+    → Emits (λ done at. given (option_map at label) (jump (site names done) l)) old new
 
 -- ---- code with lists of PICK
 

@@ -9,7 +9,8 @@ use Rattle.om_emit.specs.Writing.{fits_back, fits_from, goes_end, goes_here, gro
 use Rattle.om_rows.specs.Rows.{end, part, here}
 use Rattle.om_statements.specs.Emits.{EmitsWith, GoesWith, pick_number}
 
-pub writes_then : (r s : Part) (a b c : Written) → Writes r a b → Writes s b c → Writes (λ done at. part (r done at) (s done at)) a c
+pub writes_then : (r s : Part) (a b c : Written) → Writes r a b → Writes s b c
+    → Writes (λ done at. part (r done at) (s done at)) a c
 writes_then r s a b c e g = record {
   grows = grows_on a b c e.grows g.grows;
   stands = λ done at f. (
@@ -20,7 +21,8 @@ writes_then r s a b c e g = record {
 }
 
 -- both keep the labels below n
-pub goes_then : (n m j : ℕ) (r s : Part) (a b c : Written) → n ≤ m → n ≤ j → Goes m r a b → Goes j s b c → Goes n (λ done at. part (r done at) (s done at)) a c
+pub goes_then : (n m j : ℕ) (r s : Part) (a b c : Written) → n ≤ m → n ≤ j → Goes m r a b → Goes j s b c
+    → Goes n (λ done at. part (r done at) (s done at)) a c
 goes_then n m j r s a b c le lj e g = record {
   writes = writes_then r s a b c e.writes g.writes;
   keeps = record {
@@ -45,7 +47,8 @@ with_none n r a b g = record {
 }
 
 -- the lists of both
-pub then_with : (n m j : ℕ) (xs ys : List ℕ) (r s : Part) (a b c : Written) → n ≤ m → n ≤ j → GoesWith m xs r a b → GoesWith j ys s b c
+pub then_with : (n m j : ℕ) (xs ys : List ℕ) (r s : Part) (a b c : Written) → n ≤ m → n ≤ j → GoesWith m xs r a b
+    → GoesWith j ys s b c
     → GoesWith n (xs ++ ys) (λ done at. part (r done at) (s done at)) a c
 then_with n m j xs ys r s a b c le lj e g = record {
   writes = writes_then r s a b c e.writes g.writes;
@@ -55,18 +58,21 @@ then_with n m j xs ys r s a b c le lj e g = record {
 }
 
 -- those of the second alone, and those of the first alone
-pub before_with : (n m j : ℕ) (ys : List ℕ) (r s : Part) (a b c : Written) → n ≤ m → n ≤ j → Goes m r a b → GoesWith j ys s b c
+pub before_with : (n m j : ℕ) (ys : List ℕ) (r s : Part) (a b c : Written) → n ≤ m → n ≤ j → Goes m r a b
+    → GoesWith j ys s b c
     → GoesWith n ys (λ done at. part (r done at) (s done at)) a c
 before_with n m j ys r s a b c le lj e g = then_with n m j [] ys r s a b c le lj (with_none m r a b e) g
 
-pub with_behind : (n m j : ℕ) (xs : List ℕ) (r s : Part) (a b c : Written) → n ≤ m → n ≤ j → GoesWith m xs r a b → Goes j s b c
+pub with_behind : (n m j : ℕ) (xs : List ℕ) (r s : Part) (a b c : Written) → n ≤ m → n ≤ j → GoesWith m xs r a b
+    → Goes j s b c
     → GoesWith n xs (λ done at. part (r done at) (s done at)) a c
 with_behind n m j xs r s a b c le lj e g =
     subst (λ z. GoesWith n z (λ done at. part (r done at) (s done at)) a c) (append-nil xs)
     (then_with n m j xs [] r s a b c le lj e (with_none j s b c g))
 
 -- another form of the row, as with names for its labels
-pub with_as : (n : ℕ) (xs : List ℕ) (r s : Part) (a c : Written) → ((done : Finished) (at : Labels) (p q : ℕ) → r done at p q → s done at p q)
+pub with_as : (n : ℕ) (xs : List ℕ) (r s : Part) (a c : Written) → ((done : Finished) (at : Labels) (p q : ℕ)
+    → r done at p q → s done at p q)
     → GoesWith n xs r a c → GoesWith n xs s a c
 with_as n xs r s a c f g = record {
   writes = record { grows = g.writes.grows; stands = λ done at h. f done at _ _ (g.writes.stands done at h) };
@@ -81,11 +87,14 @@ with_as n xs r s a c f g = record {
 pub free_within : (label : ℕ) (a : Written) → slice_get a.places label ≡ Some None → label < length a.places
 free_within label a h = slice_get_within a.places label None h
 
-pub free_goes : (label n : ℕ) (xs : List ℕ) (r : Part) (a b : Written) → slice_get a.places label ≡ Some None → label < n → GoesWith n xs r a b → slice_get b.places label ≡ Some None
+pub free_goes : (label n : ℕ) (xs : List ℕ) (r : Part) (a b : Written) → slice_get a.places label ≡ Some None
+    → label < n → GoesWith n xs r a b → slice_get b.places label ≡ Some None
 free_goes label n xs r a b f lt g = g.same label lt ∙ f
 
-pub free_emits : (label : ℕ) (r : Part) (a b : Written) → slice_get a.places label ≡ Some None → Emits r a b → slice_get b.places label ≡ Some None
+pub free_emits : (label : ℕ) (r : Part) (a b : Written) → slice_get a.places label ≡ Some None → Emits r a b
+    → slice_get b.places label ≡ Some None
 free_emits label r a b f e = e.keeps.same label (free_within label a f) ∙ f
 
-pub free_with : (label : ℕ) (xs : List ℕ) (r : Part) (a b : Written) → slice_get a.places label ≡ Some None → EmitsWith xs r a b → slice_get b.places label ≡ Some None
+pub free_with : (label : ℕ) (xs : List ℕ) (r : Part) (a b : Written) → slice_get a.places label ≡ Some None
+    → EmitsWith xs r a b → slice_get b.places label ≡ Some None
 free_with label xs r a b f e = free_goes label (length a.places) xs r a b f (free_within label a f) e

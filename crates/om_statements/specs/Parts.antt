@@ -57,7 +57,8 @@ part_labels first NoParts = []
 part_labels first (Part items rest) = first ∷ part_labels (first + 1) rest
 
 -- parts are written from the label of the first one on
-abbrev pub GoesParts : (lowest : ℕ) → Names → Numbers → ResolvedPartsTree → PartsSpot → (first : ℕ) → Written → Written → Type 0
+abbrev pub GoesParts : (lowest : ℕ) → Names → Numbers → ResolvedPartsTree → PartsSpot → (first : ℕ) → Written
+    → Written → Type 0
 GoesParts lowest names n all spot first =
     GoesWith lowest (parts_own_picks n all)
     (λ done at. parts (site names done) n spot.line (at spot.again) all (map at (part_labels first all)))

@@ -16,7 +16,8 @@ use Rattle.om_task.specs.Laws.{IsCalm}
 use Rattle.om_history.specs.Bounds.{IsSmall, is_addition, adds_to, IsSteadyAt, AreSteady, IsSteady}
 use Rattle.om_task.specs.Steps.{is_add, adds_at, AddOnce, IsNoCount, IsModest, AreModest}
 
-none_further : (here same more rest added : Bool) → (here ≡ true → added ≡ true) → cond added (cond same true more) more ≡ false → (more ≡ false → rest ≡ false) → cond here (cond same true rest) rest ≡ false
+none_further : (here same more rest added : Bool) → (here ≡ true → added ≡ true) → cond added (cond same true more)
+    more ≡ false → (more ≡ false → rest ≡ false) → cond here (cond same true rest) rest ≡ false
 none_further true true more rest true h e k = cc
 none_further true false more rest true h e k = k e
 none_further true same more rest false h e k = cc (h refl)
@@ -30,10 +31,12 @@ is_added mode.Read u h = cc
 is_added mode.Write u h = cc
 
 -- where no access adds at an object, no update does
-not_added : (accesses : List Access) (us : List Update) (q : Obj) → adds_at accesses q ≡ false → adds_to accesses us q ≡ false
+not_added : (accesses : List Access) (us : List Update) (q : Obj) → adds_at accesses q ≡ false → adds_to accesses us
+    q ≡ false
 not_added [] us q h = refl
 not_added (a ∷ rest) [] q h = refl
-not_added (a ∷ rest) (u ∷ us) q h = none_further (is_addition a.mode u) (obj_eq a.object q) (adds_at rest q) (adds_to rest us q) (is_add a.mode) (is_added a.mode u) h (not_added rest us q)
+not_added (a ∷ rest) (u ∷ us) q h = none_further (is_addition a.mode u) (obj_eq a.object q) (adds_at rest q)
+    (adds_to rest us q) (is_add a.mode) (is_added a.mode u) h (not_added rest us q)
 
 no_count : (v : Val) → IsNoCount v → IsSmall 0 v
 no_count (value.Count n) h = absurd h
@@ -45,7 +48,8 @@ no_count (value.Lock k) h = tt
 no_count (value.Output k) h = tt
 no_count (value.Events k) h = tt
 
-steady_at : (m : Mode) (u : Update) (again : Bool) → IsModest u → (is_add m ≡ true → again ≡ false) → IsSteadyAt 0 m u again
+steady_at : (m : Mode) (u : Update) (again : Bool) → IsModest u → (is_add m ≡ true → again ≡ false)
+    → IsSteadyAt 0 m u again
 steady_at mode.Write (update.Put v) again h k = no_count v h
 steady_at mode.Write (update.Add d) again h k = tt
 steady_at mode.Write update.Keep again h k = tt
@@ -61,7 +65,11 @@ steady_at mode.Read u again h k = tt
 all_steady : (accesses : List Access) (us : List Update) → AddOnce accesses → AreModest us → AreSteady 0 accesses us
 all_steady [] us h k = tt
 all_steady (a ∷ rest) [] h k = tt
-all_steady (a ∷ rest) (u ∷ us) h k = (steady_at a.mode u (adds_to rest us a.object) k.0 (λ e. not_added rest us a.object (h.0 e)), all_steady rest us h.1 k.1)
+all_steady (a ∷ rest) (u ∷ us) h k = (
+  steady_at a.mode u (adds_to rest us a.object) k.0
+      (λ e. not_added rest us a.object (h.0 e)),
+  all_steady rest us h.1 k.1,
+)
 
 small_start : (v : Val) → ((n : ℤ) → v ≡ value.Count n → n ≡ pos 0) → IsSmall 0 v
 small_start (value.Count n) h = let e : n ≡ pos 0 = h n refl in (omega (arith, ints, e), omega (arith, ints, e))
@@ -76,5 +84,6 @@ small_start (value.Events k) h = tt
 pub steady_rules : (r : Rules) → IsCalm r → IsSteady r
 steady_rules r h = record {
   start = λ q. small_start (r.start q) (λ n e. h.start q n e);
-  steps = λ l control read us e. all_steady (control_access l ∷ r.further l control) us (h.once l control) (h.modest l (control ∷ read) us e);
+  steps = λ l control read us e. all_steady (control_access l ∷ r.further l control) us (h.once l control)
+      (h.modest l (control ∷ read) us e);
 }

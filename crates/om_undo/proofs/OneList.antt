@@ -7,7 +7,8 @@ use Rattle.std.specs.List.Sorted.{IsStrictlySortedBy}
 use Rattle.std.specs.Ordering.{ordering_reverse}
 use Rattle.std.specs.declared.cmp.Ordering.{Ordering}
 use Rattle.std.specs.declared.cmp.Ordering.TheVariants.{Less}
-use Rattle.std.proofs.lemmas.List.Elements.{Contains-append_left, Contains-append_right, Contains-append_cases, Contains-push, Contains-push_cases}
+use Rattle.std.proofs.lemmas.List.Elements.{Contains-append_left, Contains-append_right, Contains-append_cases}
+use Rattle.std.proofs.lemmas.List.Elements.{Contains-push, Contains-push_cases}
 
 -- what a list contains, by its first element, and without one
 
@@ -27,7 +28,8 @@ Contains-rest x xs y h = Contains-append_right (x ∷ []) xs y h
 
 module _ {K : Type 0} {R : K → K → Ordering} (order : IsTotalOrder R) where
   not_below_itself : (x : K) → R x x ≡ Less → ⊥
-  not_below_itself x e = let both : Less ≡ ordering_reverse Less = sym e ∙ order.antisymm x x ∙ ap ordering_reverse e in cc
+  not_below_itself x e = let both : Less ≡ ordering_reverse Less = sym e ∙ order.antisymm x x ∙ ap ordering_reverse
+      e in cc
 
   not_both_below : (x y : K) → R x y ≡ Less → R y x ≡ Less → ⊥
   not_both_below x y e f = not_below_itself x (order.trans x y x e f)
@@ -59,7 +61,8 @@ module _ {K : Type 0} {R : K → K → Ordering} (order : IsTotalOrder R) where
   one_list [] (y ∷ ys) s t same = absurd (Contains-none y ((same y).1 (Contains-first y ys)))
   one_list (x ∷ xs) [] s t same = absurd (Contains-none x ((same x).0 (Contains-first x xs)))
   one_list (x ∷ xs) (y ∷ ys) s t same =
-      let heads : x ≡ y = same_heads x xs y ys s.0 t.0 ((same x).0 (Contains-first x xs)) ((same y).1 (Contains-first y ys)) in
+      let heads : x ≡ y = same_heads x xs y ys s.0 t.0 ((same x).0 (Contains-first x xs))
+      ((same y).1 (Contains-first y ys)) in
       let rest : xs ≡ ys = one_list xs ys s.1 t.1 (λ k. (
         λ at. later_member x xs y ys k heads s.0 at ((same k).0 (Contains-rest x xs k at)),
         λ at. later_member y ys x xs k (sym heads) t.0 at ((same k).1 (Contains-rest y ys k at)),

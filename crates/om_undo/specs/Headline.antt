@@ -24,7 +24,8 @@ pub record Headline (program : Raw) (workers : ℕ) : Type 0 where
   pub undo_takes_the_step_back : (commands : List Command) (label : Label) (serial line : ℕ) (fault : Option Fault)
       → let r = rules_of program workers in let before = history_after program workers commands in
       reply_to_step r before label ≡ Done serial line fault → Undoes r before label serial line
-  -- an undo is refused exactly where a later entry conflicts with the worker's last one, and the refusal names the first
+  -- an undo is refused exactly where a later entry conflicts with the worker's last one, and the refusal
+  -- names the first
   pub undo_is_refused_exactly_at_conflicts : (commands : List Command) (worker : ℕ)
       → UndoReplies (rules_of program workers) (history_after program workers commands) worker
 

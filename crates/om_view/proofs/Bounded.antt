@@ -1,5 +1,6 @@
 -- Commands of many steps, one step at a time.
-use Rattle.std.proofs.Common.{◌≡◌, refl, sym, ap, ◌∙◌, ◌<◌, ◌≤◌, ◌-◌, ◌+◌, zero, suc, true, false, None, Some, ℕ, List, [], ◌∷◌, ◌++◌, length, drop, get_or, append_assoc, arith}
+use Rattle.std.proofs.Common.{◌≡◌, refl, sym, ap, ◌∙◌, ◌<◌, ◌≤◌, ◌-◌, ◌+◌, zero, suc, true, false, None, Some, ℕ, List}
+use Rattle.std.proofs.Common.{[], ◌∷◌, ◌++◌, length, drop, get_or, append_assoc, arith}
 use Rattle.om_cells.specs.declared.step.Choice.{Choice}
 use Rattle.om_cells.specs.declared.step.Choice.TheVariants.{Next, Start}
 use Rattle.om_replies.specs.Steps.{full_text, step_text, undo_text}
@@ -9,8 +10,10 @@ use Rattle.om_undo.specs.Machines.{MachineView}
 use Rattle.om_view.specs.declared.marks.Marks.{Marks}
 use Rattle.om_view.specs.declared.runs.Moved.{Moved}
 use Rattle.om_view.specs.Moves.{goes_on, steps_within, undoes_within, next_within, back_within}
-use Rattle.om_recorder.specs.Recorded.{Recorded, is_full, label_of, recorded_step, recorded_undo, step_reply_of, undo_reply_of}
-use Rattle.om_view.specs.Runs.{after_move, can_step, move_among, move_of, moved_of, ran, run_within, said_by, start_among}
+use Rattle.om_recorder.specs.Recorded.{Recorded, is_full, label_of, recorded_step, recorded_undo, step_reply_of}
+use Rattle.om_recorder.specs.Recorded.{undo_reply_of}
+use Rattle.om_view.specs.Runs.{after_move, can_step, move_among, move_of, moved_of, ran, run_within, said_by}
+use Rattle.om_view.specs.Runs.{start_among}
 use Rattle.om_view.specs.Said.{Said}
 
 abbrev full : Recorded → Said
@@ -24,15 +27,20 @@ next_full zero line worker r e = rw e refl
 next_full (suc n) line worker r e = rw e refl
 
 abbrev stepped_once : ℕ → Recorded → Said
-stepped_once worker r = record { text = step_text worker (step_reply_of r.machine (label_of worker Next)); recorded = recorded_step r (label_of worker Next) }
+stepped_once worker r = record {
+  text = step_text worker (step_reply_of r.machine (label_of worker Next));
+  recorded = recorded_step r (label_of worker Next);
+}
 
-pub next_stops : (further line worker : ℕ) (r : Recorded) → is_full r ≡ false → goes_on further (steps_within line worker r) ≡ false
+pub next_stops : (further line worker : ℕ) (r : Recorded) → is_full r ≡ false → goes_on further
+    (steps_within line worker r) ≡ false
     → next_within further line worker r ≡ stepped_once worker r
 unfolding next_within
 next_stops zero line worker r e h = rw e refl
 next_stops (suc n) line worker r e h = rw (e, h) refl
 
-pub next_goes_on : (further line worker : ℕ) (r : Recorded) → is_full r ≡ false → goes_on further (steps_within line worker r) ≡ true
+pub next_goes_on : (further line worker : ℕ) (r : Recorded) → is_full r ≡ false → goes_on further
+    (steps_within line worker r) ≡ true
     → next_within (further - 1) line worker (recorded_step r (label_of worker Next)) ≡ next_within further line worker r
 unfolding next_within
 next_goes_on zero line worker r e h = cc
@@ -46,15 +54,20 @@ back_full zero line worker r e = rw e refl
 back_full (suc n) line worker r e = rw e refl
 
 abbrev undone_once : ℕ → Recorded → Said
-undone_once worker r = record { text = undo_text r.machine.program worker (undo_reply_of r.machine worker); recorded = recorded_undo r worker }
+undone_once worker r = record {
+  text = undo_text r.machine.program worker (undo_reply_of r.machine worker);
+  recorded = recorded_undo r worker;
+}
 
-pub back_stops : (further line worker : ℕ) (r : Recorded) → is_full r ≡ false → goes_on further (undoes_within line worker r) ≡ false
+pub back_stops : (further line worker : ℕ) (r : Recorded) → is_full r ≡ false → goes_on further
+    (undoes_within line worker r) ≡ false
     → back_within further line worker r ≡ undone_once worker r
 unfolding back_within
 back_stops zero line worker r e h = rw e refl
 back_stops (suc n) line worker r e h = rw (e, h) refl
 
-pub back_goes_on : (further line worker : ℕ) (r : Recorded) → is_full r ≡ false → goes_on further (undoes_within line worker r) ≡ true
+pub back_goes_on : (further line worker : ℕ) (r : Recorded) → is_full r ≡ false → goes_on further
+    (undoes_within line worker r) ≡ true
     → back_within (further - 1) line worker (recorded_undo r worker) ≡ back_within further line worker r
 unfolding back_within
 back_goes_on zero line worker r e h = cc
@@ -67,7 +80,8 @@ unfolding move_among
 no_worker_left m zero p = refl
 no_worker_left m (suc n) p = absurd (omega (arith, p))
 
-pub worker_moves : (m : MachineView) (last : ℕ) (choice : Choice) → 0 < last → move_of m (m.workers - last) ≡ Some choice
+pub worker_moves : (m : MachineView) (last : ℕ) (choice : Choice) → 0 < last → move_of m (m.workers - last)
+    ≡ Some choice
     → move_among m last ≡ Some (label_of (m.workers - last) choice)
 unfolding move_among
 worker_moves m zero choice p e = absurd (omega (arith, p))
@@ -79,40 +93,47 @@ unfolding move_among
 worker_rests m zero p e = absurd (omega (arith, p))
 worker_rests m (suc n) p e = let same : suc n - 1 ≡ n = omega arith in rw (same, e) refl
 
-pub run_ends : (left made : ℕ) (marks : Marks) (r : Recorded) → left ≤ 0 → run_within left made marks r ≡ ran r made stop.Limit
+pub run_ends : (left made : ℕ) (marks : Marks) (r : Recorded) → left ≤ 0 → run_within left made marks r
+    ≡ ran r made stop.Limit
 unfolding run_within
 run_ends zero made marks r p = refl
 run_ends (suc n) made marks r p = absurd (omega (arith, p))
 
 pub run_came : (left made : ℕ) (marks : Marks) (r : Recorded) (came : Moved) → 0 < left → moved_of marks r ≡ came
-    → run_within left made marks r ≡ said_by came made (after_move r) (run_within (left - 1) (made + 1) marks (after_move r))
+    → run_within left made marks r ≡ said_by came made (after_move r) (run_within (left - 1) (made + 1) marks
+    (after_move r))
 unfolding run_within
 run_came zero made marks r came p e = absurd (omega (arith, p))
 run_came (suc n) made marks r came p e =
     let same : suc n - 1 ≡ n = omega arith in
     rw same (ap (λ m. said_by m made (after_move r) (run_within n (made + 1) marks (after_move r))) e)
 
-pub start_here : (m : MachineView) (worker : ℕ) (name : List ℕ) (names : List (List ℕ)) → can_step m worker (Start name) ≡ true
+pub start_here : (m : MachineView) (worker : ℕ) (name : List ℕ) (names : List (List ℕ)) → can_step m worker
+    (Start name) ≡ true
     → start_among m worker (name ∷ names) ≡ Some (Start name)
 start_here m worker name names e = rw e refl
 
-pub start_behind : (m : MachineView) (worker : ℕ) (name : List ℕ) (names : List (List ℕ)) → can_step m worker (Start name) ≡ false
+pub start_behind : (m : MachineView) (worker : ℕ) (name : List ℕ) (names : List (List ℕ)) → can_step m worker
+    (Start name) ≡ false
     → start_among m worker (name ∷ names) ≡ start_among m worker names
 start_behind m worker name names e = rw e refl
 
 -- lists, an item at a time
 
-drop_here : {A : Type 0} (xs : List A) (k : ℕ) (x : A) → k < length xs → x ≡ get_or xs k x → drop k xs ≡ x ∷ drop (suc k) xs
+drop_here : {A : Type 0} (xs : List A) (k : ℕ) (x : A) → k < length xs → x ≡ get_or xs k x → drop k xs ≡ x
+    ∷ drop (suc k) xs
 drop_here [] k x within is = absurd (omega (arith, within))
 drop_here (y ∷ ys) zero x within is = ap (λ v. v ∷ ys) (sym is)
 drop_here (y ∷ ys) (suc n) x within is = drop_here ys n x (omega (arith, within)) is
 
-pub drop_next : {A : Type 0} (xs : List A) (k : ℕ) (x : A) → k < length xs → x ≡ get_or xs k x → drop k xs ≡ x ∷ drop (k + 1) xs
+pub drop_next : {A : Type 0} (xs : List A) (k : ℕ) (x : A) → k < length xs → x ≡ get_or xs k x → drop k xs ≡ x
+    ∷ drop (k + 1) xs
 drop_next xs k x within is =
     let one_more : suc k ≡ k + 1 = omega arith in
     drop_here xs k x within is ∙ ap (λ n. x ∷ drop n xs) one_more
 
-pub joined_next : {A : Type 0} (text : A → List ℕ) (now more all : List ℕ) (xs : List A) (k : ℕ) (x : A) → k < length xs → x ≡ get_or xs k x
+pub joined_next : {A : Type 0} (text : A → List ℕ) (now more all : List ℕ) (xs : List A) (k : ℕ) (x : A)
+    → k < length xs → x ≡ get_or xs k x
     → now ++ joined text (drop k xs) ≡ all → more ≡ now ++ text x → more ++ joined text (drop (k + 1) xs) ≡ all
 joined_next text now more all xs k x within is h added =
     ap (λ t. t ++ joined text (drop (k + 1) xs)) added ∙ append_assoc now (text x) (joined text (drop (k + 1) xs))

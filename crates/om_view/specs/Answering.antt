@@ -25,7 +25,8 @@ free_answer d run later = record {
   runs = later;
 }
 
-free_command : (d : Debugger) (c : Command) (rounds : ℕ) (run : FreeRun) (later : List FreeRun) → rounds_asked (request.Command c) ≡ Some rounds
+free_command : (d : Debugger) (c : Command) (rounds : ℕ) (run : FreeRun) (later : List FreeRun)
+    → rounds_asked (request.Command c) ≡ Some rounds
     → answer_by d (run ∷ later) (request.Command c) ≡ free_answer d run later
 free_command d (command.Step w) rounds run later e = absurd (no_rounds rounds e)
 free_command d (command.Start w t) rounds run later e = absurd (no_rounds rounds e)
@@ -47,7 +48,8 @@ free_command d (command.Free k) rounds run later e = refl
 free_command d (command.Roll n) rounds run later e = absurd (no_rounds rounds e)
 free_command d command.Quit rounds run later e = absurd (no_rounds rounds e)
 
-free_request : (d : Debugger) (asked : Request) (rounds : ℕ) (run : FreeRun) (later : List FreeRun) → rounds_asked asked ≡ Some rounds
+free_request : (d : Debugger) (asked : Request) (rounds : ℕ) (run : FreeRun) (later : List FreeRun)
+    → rounds_asked asked ≡ Some rounds
     → answer_by d (run ∷ later) asked ≡ free_answer d run later
 free_request d request.Nothing rounds run later e = absurd (no_rounds rounds e)
 free_request d (request.Command c) rounds run later e = free_command d c rounds run later e
@@ -83,7 +85,8 @@ plain_command d (command.Free k) runs e = absurd (rounds_none k e)
 plain_command d (command.Roll n) runs e = refl
 plain_command d command.Quit runs e = refl
 
-plain_request : (d : Debugger) (asked : Request) (runs : List FreeRun) → rounds_asked asked ≡ None → answer_by d runs asked ≡ plain_answer d asked runs
+plain_request : (d : Debugger) (asked : Request) (runs : List FreeRun) → rounds_asked asked ≡ None
+    → answer_by d runs asked ≡ plain_answer d asked runs
 plain_request d request.Nothing runs e = refl
 plain_request d (request.Command c) runs e = plain_command d c runs e
 plain_request d (request.Fault fault) runs e = refl
@@ -93,7 +96,8 @@ pub answered_free : (d : Debugger) (line : List ℕ) (asked : Request) (rounds :
     → asked ≡ request_of d.recorder.machine.workers line → rounds_asked asked ≡ Some rounds
     → answered d (run ∷ later) line ≡ free_answer d run later
 unfolding answered
-answered_free d line asked rounds run later e free = ap (λ a. answer_by d (run ∷ later) a) (sym e) ∙ free_request d asked rounds run later free
+answered_free d line asked rounds run later e free = ap (λ a. answer_by d (run ∷ later) a) (sym e)
+    ∙ free_request d asked rounds run later free
 
 -- any other line
 pub answered_plain : (d : Debugger) (line : List ℕ) (asked : Request) (runs : List FreeRun)
@@ -103,7 +107,8 @@ unfolding answered
 answered_plain d line asked runs e plain = ap (λ a. answer_by d runs a) (sym e) ∙ plain_request d asked runs plain
 
 -- so where none is asked for, the free runs that are to come change nothing
-pub answered_same : (d : Debugger) (line : List ℕ) (runs : List FreeRun) → rounds_asked (request_of d.recorder.machine.workers line) ≡ None
+pub answered_same : (d : Debugger) (line : List ℕ) (runs : List FreeRun)
+    → rounds_asked (request_of d.recorder.machine.workers line) ≡ None
     → answered d runs line ≡ record {
       text = (answered d [] line).text;
       view = (answered d [] line).view;
@@ -113,7 +118,10 @@ pub answered_same : (d : Debugger) (line : List ℕ) (runs : List FreeRun) → r
 answered_same d line runs plain =
     let asked = request_of d.recorder.machine.workers line in
     answered_plain d line asked runs refl plain
-    ∙ sym (ap (λ (a : Answer). record { text = a.text; view = a.view; quits = a.quits; runs = runs }) (answered_plain d line asked [] refl plain))
+    ∙ sym (ap (λ (a : Answer). record { text = a.text; view = a.view; quits = a.quits; runs = runs })
+    (answered_plain d line asked [] refl plain))
 
-pub none_behind : (d : Debugger) (line : List ℕ) → rounds_asked (request_of d.recorder.machine.workers line) ≡ None → (answered d [] line).runs ≡ []
-none_behind d line plain = ap (λ (a : Answer). a.runs) (answered_plain d line (request_of d.recorder.machine.workers line) [] refl plain)
+pub none_behind : (d : Debugger) (line : List ℕ) → rounds_asked (request_of d.recorder.machine.workers line) ≡ None
+    → (answered d [] line).runs ≡ []
+none_behind d line plain = ap (λ (a : Answer). a.runs)
+    (answered_plain d line (request_of d.recorder.machine.workers line) [] refl plain)

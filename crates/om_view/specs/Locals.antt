@@ -26,7 +26,8 @@ local_seen context index (locals.At slot length) = cell_seen context slot (eleme
 
 -- by the names at the next instruction of the running frame
 abbrev pub seen_in : Found → Variable → Context → Seen
-seen_in names variable context = local_seen context variable.index (local_at names context.frame.body context.frame.next variable.name)
+seen_in names variable context = local_seen context variable.index (local_at names context.frame.body
+    context.frame.next variable.name)
 
 -- a worker without a task sees globals alone; one that met a fault stands where it met it
 abbrev pub seen_by : Found → Variable → controls.Control → Seen

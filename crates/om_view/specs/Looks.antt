@@ -23,7 +23,8 @@ looked r text = unless_full r (record { text = text; recorded = after_look r })
 
 -- `print VAR`
 abbrev pub print_said : GlobalCell → Recorded → Said
-print_said cell r = looked r (print_text r.machine.program cell (state_in r.machine (object.Global cell.variable cell.index)))
+print_said cell r = looked r (print_text r.machine.program cell
+    (state_in r.machine (object.Global cell.variable cell.index)))
 
 -- `print W VAR`, where the worker sees a cell
 abbrev pub local_said : Variable → Obj → Recorded → Said
@@ -35,7 +36,8 @@ line_at m worker = line_in m.program (control_in (state_in m (object.Control wor
 
 -- `where W`
 abbrev pub where_said : ℕ → Recorded → Said
-where_said worker r = looked r (where_text worker (control_in (state_in r.machine (object.Control worker))) (line_at r.machine worker))
+where_said worker r = looked r (where_text worker (control_in (state_in r.machine (object.Control worker)))
+    (line_at r.machine worker))
 
 -- `history`
 abbrev pub history_said : Recorded → Said

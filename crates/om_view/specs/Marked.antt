@@ -6,15 +6,24 @@ use Rattle.om_view.specs.Stops.{has_line}
 
 -- a break is set once
 abbrev pub with_break : ℕ → Marks → Marks
-with_break line marks = record { breaks = cond (has_line marks.breaks line) marks.breaks (marks.breaks ++ line ∷ []); watches = marks.watches }
+with_break line marks = record {
+  breaks = cond (has_line marks.breaks line) marks.breaks (marks.breaks ++ line
+      ∷ []);
+  watches = marks.watches;
+}
 
 abbrev pub has_cell : List GlobalCell → GlobalCell → Bool
 has_cell [] cell = false
-has_cell (other ∷ cells) cell = cond (nat_eq other.variable cell.variable && nat_eq other.index cell.index) true (has_cell cells cell)
+has_cell (other ∷ cells) cell = cond (nat_eq other.variable cell.variable && nat_eq other.index cell.index) true
+    (has_cell cells cell)
 
 -- a watch that is set twice keeps its first place
 abbrev pub with_watch : GlobalCell → Marks → Marks
-with_watch cell marks = record { breaks = marks.breaks; watches = cond (has_cell marks.watches cell) marks.watches (marks.watches ++ cell ∷ []) }
+with_watch cell marks = record {
+  breaks = marks.breaks;
+  watches = cond (has_cell marks.watches cell) marks.watches
+      (marks.watches ++ cell ∷ []);
+}
 
 abbrev pub without : ℕ → List ℕ → List ℕ
 without line [] = []

@@ -27,7 +27,8 @@ can_step m worker choice = is_done (step_reply_of m (label_of worker choice))
 -- the start of the first of the names with which a worker can begin
 abbrev pub start_among : MachineView → ℕ → List (List ℕ) → Option Choice
 start_among m worker [] = None
-start_among m worker (name ∷ names) = cond (can_step m worker (Start name)) (Some (Start name)) (start_among m worker names)
+start_among m worker (name ∷ names) = cond (can_step m worker (Start name)) (Some (Start name))
+    (start_among m worker names)
 
 -- a worker's move: its next step where it can make it, else the start of the least ready task that it can begin
 abbrev pub move_of : MachineView → ℕ → Option Choice
@@ -88,4 +89,5 @@ said_by moved.GoesOn made after rest = rest
 -- a run of so many further steps at most, behind those that it made
 unfoldable pub run_within : ℕ → ℕ → Marks → Recorded → Said
 run_within zero made marks r = ran r made stop.Limit
-run_within (suc left) made marks r = said_by (moved_of marks r) made (after_move r) (run_within left (made + 1) marks (after_move r))
+run_within (suc left) made marks r = said_by (moved_of marks r) made (after_move r)
+    (run_within left (made + 1) marks (after_move r))

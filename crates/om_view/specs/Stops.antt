@@ -34,7 +34,8 @@ has_line (other ∷ lines) line = cond (nat_eq other line) true (has_line lines 
 
 -- the worker came from another line to one at which there is a break
 abbrev pub break_stop : List ℕ → ℕ → ℕ → ℕ → Option Stop
-break_stop breaks before after worker = cond (nat_eq before after) None (cond (has_line breaks after) (Some (stop.Break after worker)) None)
+break_stop breaks before after worker = cond (nat_eq before after) None
+    (cond (has_line breaks after) (Some (stop.Break after worker)) None)
 
 abbrev pub cell_eq : Cell → Cell → Bool
 cell_eq (cell.Int a) (cell.Int b) = int_eq a b
@@ -52,7 +53,8 @@ watched s global = record { cell = global; held = value_of s global }
 -- the first of the cells that no longer holds what it held
 abbrev pub watch_stop : List Watched → State → ℕ → Option Stop
 watch_stop [] after worker = None
-watch_stop (w ∷ ws) after worker = cond (cell_eq w.held (value_of after w.cell)) (watch_stop ws after worker) (Some (stop.Watch w.cell worker))
+watch_stop (w ∷ ws) after worker = cond (cell_eq w.held (value_of after w.cell)) (watch_stop ws after worker)
+    (Some (stop.Watch w.cell worker))
 
 -- why a run stops behind a step of a machine, if it does: a fault, a break, or a changed value of a watched cell, of
 -- several the one set first

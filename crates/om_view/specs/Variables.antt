@@ -18,8 +18,10 @@ element_at (Some length) (Some index) = if nat_lt index length then Some index e
 element_at _ _ = None
 
 abbrev pub cell_at : ℕ → Option ℕ → Option ℕ → Option GlobalCell
-cell_at variable length index = option_map (λ element. record { variable = variable; index = element }) (element_at length index)
+cell_at variable length index = option_map (λ element. record { variable = variable; index = element })
+    (element_at length index)
 
 -- the cell that a variable names, where there is one
 abbrev pub cell_of : Raw → Variable → Option GlobalCell
-cell_of program variable = option_and_then (λ number. cell_at number (length_of program number) variable.index) (global_named program variable.name)
+cell_of program variable = option_and_then (λ number. cell_at number (length_of program number) variable.index)
+    (global_named program variable.name)

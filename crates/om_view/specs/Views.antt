@@ -45,7 +45,12 @@ pub record Answer : Type 0 where
 
 -- at the start of a program nothing is marked
 abbrev pub opened : Debuggee → ℕ → Debugger
-opened debuggee workers = record { recorder = started debuggee.program workers; names = debuggee.names; marks = record { breaks = []; watches = [] } }
+opened debuggee workers = record {
+  recorder = started debuggee.program workers;
+  names = debuggee.names;
+  marks =
+      record { breaks = []; watches = [] };
+}
 
 -- a text that changes nothing
 abbrev pub told : Debugger → List ℕ → Told
@@ -69,7 +74,8 @@ by_cell d (Some cell) answer = answer cell
 
 -- `print VAR`
 abbrev pub global_told : Debugger → Variable → Told
-global_told d variable = by_cell d (cell_of d.recorder.machine.program variable) (λ cell. called d (print_said cell d.recorder))
+global_told d variable = by_cell d (cell_of d.recorder.machine.program variable)
+    (λ cell. called d (print_said cell d.recorder))
 
 -- `print W VAR`, by what the worker sees: the global of that name where no variable of its function is in scope
 abbrev pub local_told : Debugger → Variable → Seen → Told
@@ -95,7 +101,8 @@ obeyed d run command.Tasks = called d (tasks_said d.recorder)
 obeyed d run (command.Break line) = marked d (break_text line) (with_break line d.marks)
 obeyed d run (command.Watch variable) = by_cell d (cell_of d.recorder.machine.program variable)
     (λ cell. marked d (watch_text d.recorder.machine.program cell) (with_watch cell d.marks))
-obeyed d run (command.Delete line) = marked d (deleted_text line (has_line d.marks.breaks line)) (without_break line d.marks)
+obeyed d run (command.Delete line) = marked d (deleted_text line (has_line d.marks.breaks line))
+    (without_break line d.marks)
 obeyed d run (command.Run steps) = called d (run_within steps 0 d.marks d.recorder)
 obeyed d run (command.Free rounds) = called d (free_said run d.recorder)
 obeyed d run (command.Roll serial) = called d (roll_said serial d.recorder)
@@ -146,4 +153,5 @@ answered d runs line = answer_by d runs (request_of d.recorder.machine.workers l
 -- the free runs that a line has; and whatever runs follow these, this is what it is answered
 pub record IsAnswered (d : Debugger) (line text : List ℕ) (view : Debugger) (quits : Bool) : Type 0 where
   pub runs : List FreeRun
-  pub is : (later : List FreeRun) → answered d (runs ++ later) line ≡ record { text = text; view = view; quits = quits; runs = later }
+  pub is : (later : List FreeRun) → answered d (runs ++ later) line
+      ≡ record { text = text; view = view; quits = quits; runs = later }

@@ -15,14 +15,22 @@ loop-receipt-preserved c = record {
       elim c.if-stands.branch [
         | then-stands w ↦
             subst P (omega (arith, w.standing-is))
-            (c.loop-receipt.invariant.counts (m + 1) (stands_next journal seat c.args.opened c.loop-receipt.low m c.args.receipts.now c.loop-receipt.receipt-index x c.loop-receipt-test.true c.receipt-item.is (c.stands.ensures.0 w.if-stands.true) next))
+            (c.loop-receipt.invariant.counts (m + 1) (stands_next journal seat c.args.opened c.loop-receipt.low m
+            c.args.receipts.now c.loop-receipt.receipt-index x c.loop-receipt-test.true c.receipt-item.is
+            (c.stands.ensures.0 w.if-stands.true) next))
         | else-stands w ↦
             subst P (omega (arith, w.standing-is))
-            (c.loop-receipt.invariant.counts m (falls_next journal seat c.args.opened c.loop-receipt.low m c.args.receipts.now c.loop-receipt.receipt-index x c.loop-receipt-test.true c.receipt-item.is (λ s. let t = c.stands.ensures.1 s in let u = w.if-stands.false in cc) next))
+            (c.loop-receipt.invariant.counts m (falls_next journal seat c.args.opened c.loop-receipt.low m
+            c.args.receipts.now c.loop-receipt.receipt-index x c.loop-receipt-test.true c.receipt-item.is
+            (λ s. let t = c.stands.ensures.1 s in let u = w.if-stands.false in cc) next))
       ];
-  most = elim c.if-stands.branch [ then-stands w ↦ omega (arith, w.standing-is, c.loop-receipt.invariant.most) | else-stands w ↦ omega (arith, w.standing-is, c.loop-receipt.invariant.most) ];
+  most = elim c.if-stands.branch [
+    | then-stands w ↦ omega (arith, w.standing-is, c.loop-receipt.invariant.most)
+    | else-stands w ↦ omega (arith, w.standing-is, c.loop-receipt.invariant.most)
+  ];
 }
 
 pub returns-clause-counts : goal.returns-clause-counts
 returns-clause-counts c =
-    counts_end c.args.journal.now c.args.seat c.args.opened c.loop-receipt.low c.args.receipts.now c.loop-receipt.receipt-index c.loop-receipt.standing c.loop-receipt-test.false c.loop-receipt.invariant.counts
+    counts_end c.args.journal.now c.args.seat c.args.opened c.loop-receipt.low c.args.receipts.now
+    c.loop-receipt.receipt-index c.loop-receipt.standing c.loop-receipt-test.false c.loop-receipt.invariant.counts

@@ -17,10 +17,12 @@ loop-i-preserved g c =
     let is : c.index.result.now ≡ get_or xs c.loop-i.i c.index.result.now = search rules in
     let yes : IsTrue c.is_backed.result = search rules in record {
       same = c.loop-i.invariant.same;
-      backed = all_more P xs c.loop-i.i c.index.result.now within is c.loop-i.invariant.backed (c.is_backed.ensures yes);
+      backed = all_more P xs c.loop-i.i c.index.result.now within is c.loop-i.invariant.backed
+          (c.is_backed.ensures yes);
     }
 
 pub returns-clause-backed : goal.returns-clause-backed
 returns-clause-backed g c =
     let P : Answer → Type 0 = λ a. IsBacked (λ o. o.items) c.args.rows.now.seats.now c.args.rows.now.orders.now a in
-    let past : length c.loop-i.answers.items ≤ c.loop-i.i = search rules in all_of P c.loop-i.answers.items c.loop-i.i past c.loop-i.invariant.backed
+    let past : length c.loop-i.answers.items ≤ c.loop-i.i = search rules in all_of P c.loop-i.answers.items
+    c.loop-i.i past c.loop-i.invariant.backed

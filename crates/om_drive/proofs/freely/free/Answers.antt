@@ -20,8 +20,10 @@ returns-clause-back g c =
     let w = g.L.Sitting.workers in
     let sat = c.free_over-sitters.result.0.items in
     let here = c.args.crew.debuggees.items in
-    let up = c.stand_up.ensures.seats ∙ ap (λ xs. map (place_of w) xs ++ map (λ s. place_of w s.seat) sat) c.sit_down.ensures.empty in
-    let down = c.sit_down.ensures.sitters ∙ ap (λ xs. map (λ s. place_of w s.seat) xs ++ map (place_of w) here) c.in-Ok.ensures.items in
+    let up = c.stand_up.ensures.seats ∙ ap (λ xs. map (place_of w) xs ++ map (λ s. place_of w s.seat) sat)
+    c.sit_down.ensures.empty in
+    let down = c.sit_down.ensures.sitters ∙ ap (λ xs. map (λ s. place_of w s.seat) xs ++ map (place_of w) here)
+    c.in-Ok.ensures.items in
     numbers_same w c.stand_up.new.seats.items here (up ∙ c.free_over-sitters.ensures.back ∙ down)
 
 pub returns-clause-done : goal.returns-clause-done

@@ -3,4 +3,8 @@ use Rattle.om_drive.specs.Rounds.{answer_number}
 use Rattle.om_drive.proofs.rounds.gather.Given as goal
 
 abbrev pub invariant-loop-i : goal.invariant-loop-i
-invariant-loop-i g l = record { many : vec_len l.answers ≡ l.i; numbers : map answer_number l.answers.items ≡ take l.i l.numbers }
+invariant-loop-i g l = record {
+  many : vec_len l.answers ≡ l.i;
+  numbers : map answer_number l.answers.items
+      ≡ take l.i l.numbers;
+}

@@ -3,4 +3,5 @@ use Rattle.om_drive.specs.Rounds.{longest}
 use Rattle.om_drive.proofs.rounds.most_rounds.Given as goal
 
 abbrev pub invariant-loop-list : goal.invariant-loop-list
-invariant-loop-list l = max l.most (longest (λ o. o.items) (drop l.list-index l.orders)) ≡ longest (λ o. o.items) l.orders
+invariant-loop-list l = max l.most (longest (λ o. o.items) (drop l.list-index l.orders)) ≡ longest (λ o. o.items)
+    l.orders

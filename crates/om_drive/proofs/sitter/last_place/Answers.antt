@@ -7,4 +7,5 @@ pub returns-in-Some : goal.returns-in-Some
 returns-in-Some c =
     let rs = c.args.receipts.now in
     let got : slice_get rs (length rs - 1) ≡ Some c.in-Some.receipt.now = sym c.in-Some.ensures.value in
-    sym (last_at rs (length rs - 1) c.in-Some.receipt.now (omega (arith, slice_get_within rs (length rs - 1) c.in-Some.receipt.now got)) got)
+    sym (last_at rs (length rs - 1) c.in-Some.receipt.now
+    (omega (arith, slice_get_within rs (length rs - 1) c.in-Some.receipt.now got)) got)

@@ -6,8 +6,11 @@ use Rattle.om_resolved.proofs.found.+statement.Given as goal
 
 abbrev pub invariant-take_statements-loop-item : goal.invariant-take_statements-loop-item
 invariant-take_statements-loop-item l =
-    fold (with_use l.start) l.found (statements_uses (trees.statements (map view_resolved_statement (drop l.item-index l.items)))) ≡ fold (with_use l.start) l.fn.found (statements_uses (trees.statements (map view_resolved_statement l.items)))
+    fold (with_use l.start) l.found
+    (statements_uses (trees.statements (map view_resolved_statement (drop l.item-index l.items))))
+    ≡ fold (with_use l.start) l.fn.found (statements_uses (trees.statements (map view_resolved_statement l.items)))
 
 abbrev pub invariant-take_parts-loop-part : goal.invariant-take_parts-loop-part
 invariant-take_parts-loop-part l =
-    fold (with_use l.start) l.found (parts_uses (trees.parts (map view_resolved_part (drop l.part-index l.parts)))) ≡ fold (with_use l.start) l.fn.found (parts_uses (trees.parts (map view_resolved_part l.parts)))
+    fold (with_use l.start) l.found (parts_uses (trees.parts (map view_resolved_part (drop l.part-index l.parts))))
+    ≡ fold (with_use l.start) l.fn.found (parts_uses (trees.parts (map view_resolved_part l.parts)))

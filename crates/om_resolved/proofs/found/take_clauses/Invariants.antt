@@ -6,4 +6,6 @@ use Rattle.om_resolved.proofs.found.take_clauses.Given as goal
 
 abbrev pub invariant-loop-clause : goal.invariant-loop-clause
 invariant-loop-clause l =
-    fold (with_use l.start) l.found (flat_map clause_uses (map view_resolved_clause (drop l.clause-index l.clauses))) ≡ fold (with_use l.start) l.fn.found (flat_map clause_uses (map view_resolved_clause l.clauses))
+    fold (with_use l.start) l.found
+    (flat_map clause_uses (map view_resolved_clause (drop l.clause-index l.clauses))) ≡ fold (with_use l.start)
+    l.fn.found (flat_map clause_uses (map view_resolved_clause l.clauses))

@@ -6,4 +6,6 @@ use Rattle.om_resolved.proofs.found.take_declarators.Given as goal
 
 abbrev pub invariant-loop-declarator : goal.invariant-loop-declarator
 invariant-loop-declarator l =
-    fold (with_use l.start) l.found (flat_map declarator_uses (map view_resolved_declarator (drop l.declarator-index l.declarators))) ≡ fold (with_use l.start) l.fn.found (flat_map declarator_uses (map view_resolved_declarator l.declarators))
+    fold (with_use l.start) l.found
+    (flat_map declarator_uses (map view_resolved_declarator (drop l.declarator-index l.declarators)))
+    ≡ fold (with_use l.start) l.fn.found (flat_map declarator_uses (map view_resolved_declarator l.declarators))

@@ -8,10 +8,17 @@ use Rattle.om_shell.proofs.SessionLaws.{Batch_none, Batch_next, Batch_fault, wit
 use Rattle.om_shell.proofs.conversation.answer_lines.Goals as goal
 
 pub lines-init : goal.lines-init
-lines-init g c = record { answered = Batch_none _ _ _ (Appends-nil _); at_most = omega arith; within = c.requires.within; known = c.requires.known }
+lines-init g c = record {
+  answered = Batch_none _ _ _ (Appends-nil _);
+  at_most = omega arith;
+  within =
+      c.requires.within;
+  known = c.requires.known;
+}
 
 pub line_end-requires : goal.line_end-requires
-line_end-requires g c = rw (slice_to_end c.args.bytes.now c.lines.at) (record { within = c.lines.invariant.within; known = c.lines.invariant.known })
+line_end-requires g c = rw (slice_to_end c.args.bytes.now c.lines.at)
+    (record { within = c.lines.invariant.within; known = c.lines.invariant.known })
 
 pub lines-preserved : goal.lines-preserved
 lines-preserved g c =
@@ -23,7 +30,8 @@ lines-preserved g c =
     let line = c.without_carriage_return-line.ensures ∙ ap (λ k. strip_carriage_return (take k (drop at bytes))) cut in
     let said = rw c.if-quits.false at c.in_ok-quits.ensures.answered in
     record {
-      answered = Batch_next _ _ _ bytes c.without_carriage_return-line.result.now at n _ c.lines.session.debugger _ _ _ c.lines.invariant.answered found.0 found.1 line said.2 said.1;
+      answered = Batch_next _ _ _ bytes c.without_carriage_return-line.result.now at n _ c.lines.session.debugger _
+          _ _ c.lines.invariant.answered found.0 found.1 line said.2 said.1;
       at_most = within_next bytes at n c.lines.invariant.at_most found.1;
       within = omega arith;
       known = refl;
@@ -38,7 +46,8 @@ returns-then-quits-clause-answered g c =
     let cut : at + n - at ≡ n = omega arith in
     let line = c.without_carriage_return-line.ensures ∙ ap (λ k. strip_carriage_return (take k (drop at bytes))) cut in
     let said = rw c.if-quits.true at c.in_ok-quits.ensures.answered in
-    Batch_next _ _ _ bytes c.without_carriage_return-line.result.now at n _ c.lines.session.debugger _ _ _ c.lines.invariant.answered found.0 found.1 line said.2 said.1
+    Batch_next _ _ _ bytes c.without_carriage_return-line.result.now at n _ c.lines.session.debugger _ _ _
+    c.lines.invariant.answered found.0 found.1 line said.2 said.1
 
 pub returns-in_err-quits-clause-begun_on_error : goal.returns-in_err-quits-clause-begun_on_error
 returns-in_err-quits-clause-begun_on_error g c =
@@ -50,7 +59,8 @@ returns-in_err-quits-clause-begun_on_error g c =
     let line = c.without_carriage_return-line.ensures ∙ ap (λ k. strip_carriage_return (take k (drop at bytes))) cut in
     let p = err_from_is_err_and c.from_residual.result c.from_residual.ensures.1 in
     let fault = c.in_err-quits.ensures.begun_on_error in
-    rw (p.1, p.2) (Batch_fault _ _ _ bytes c.without_carriage_return-line.result.now at n _ c.lines.session.debugger _ c.lines.invariant.answered found.0 found.1 line fault.1 fault.0)
+    rw (p.1, p.2) (Batch_fault _ _ _ bytes c.without_carriage_return-line.result.now at n _ c.lines.session.debugger
+    _ c.lines.invariant.answered found.0 found.1 line fault.1 fault.0)
 
 pub returns-clause-left : goal.returns-clause-left
 returns-clause-left g c = λ _. position_none _ _ (rw (slice_to_end c.args.bytes.now c.lines.at) at c.in_default.ensures)

@@ -5,7 +5,8 @@ use Rattle.om_shell.proofs.conversation.answer_lines.Given as goal
 
 abbrev pub invariant-lines : goal.invariant-lines
 invariant-lines g l = record {
-  answered : AnswersBatch (g.W.Write.contents l.initial.writer) (g.W.Write.contents l.writer) l.bytes l.at l.initial.session.debugger false l.session.debugger;
+  answered : AnswersBatch (g.W.Write.contents l.initial.writer) (g.W.Write.contents l.writer) l.bytes l.at
+      l.initial.session.debugger false l.session.debugger;
   at_most : l.at ≤ length l.bytes;
   within : l.searched ≤ length (drop l.at l.bytes);
   known : HasNoLineEnd (take l.searched (drop l.at l.bytes));

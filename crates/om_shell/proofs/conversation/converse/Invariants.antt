@@ -5,7 +5,8 @@ use Rattle.om_shell.proofs.conversation.converse.Given as goal
 
 abbrev pub invariant-reads : goal.invariant-reads
 invariant-reads g l = record {
-  advance : AdvancesTo (g.R.Read.remaining l.initial.reader) (g.R.Read.remaining l.reader) (g.W.Write.contents l.initial.writer) (g.W.Write.contents l.writer)
+  advance : AdvancesTo (g.R.Read.remaining l.initial.reader) (g.R.Read.remaining l.reader)
+      (g.W.Write.contents l.initial.writer) (g.W.Write.contents l.writer)
       l.initial.input.pending.items l.input.pending.items l.initial.session.debugger l.session.debugger;
   within : l.searched ≤ length l.input.pending.items;
   known : HasNoLineEnd (take l.searched l.input.pending.items);

@@ -17,5 +17,9 @@ writes-preserved g c =
             within = omega (arith, inv.within, bound, length-drop sent all);
             taken = Appends_more _ _ _ _ _ _ inv.taken bytes;
           })
-      | in-Err+else-ne w ↦ rw w.sent-is (record { within = inv.within; taken = Appends-kept _ _ _ _ inv.taken w.in-Err.ensures.bytes })
+      | in-Err+else-ne w ↦ rw w.sent-is (record {
+        within = inv.within;
+        taken = Appends-kept _ _ _ _ inv.taken
+            w.in-Err.ensures.bytes;
+      })
     ]

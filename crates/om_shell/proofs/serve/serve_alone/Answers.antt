@@ -6,12 +6,15 @@ use Rattle.om_shell.proofs.serve.serve_alone.Goals as goal
 
 pub returns-in_err-tell-in-Err-clause-broken_off : goal.returns-in_err-tell-in-Err-clause-broken_off
 returns-in_err-tell-in-Err-clause-broken_off g c =
-    let p = err_from_is_err_and c.from_residual-in_err-tell-in-Err.result c.from_residual-in_err-tell-in-Err.ensures.1 in
+    let p = err_from_is_err_and c.from_residual-in_err-tell-in-Err.result
+    c.from_residual-in_err-tell-in-Err.ensures.1 in
     let other : c.in-Err.fault.code ≢ Memory = search rules in
     let part = c.in_err-tell-in-Err.ensures.begun_on_error in
-    rw (p.1, p.2) (BreaksOffAlone_refused _ _ _ _ c.in-Err.fault _ (is_refused _ _ c.in-Err.ensures.refused other) part.0 part.1)
+    rw (p.1, p.2) (BreaksOffAlone_refused _ _ _ _ c.in-Err.fault _ (is_refused _ _ c.in-Err.ensures.refused other)
+    part.0 part.1)
 
 pub returns-in_ok-tell-in-Err-clause-served : goal.returns-in_ok-tell-in-Err-clause-served
 returns-in_ok-tell-in-Err-clause-served g c =
     let other : c.in-Err.fault.code ≢ Memory = search rules in
-    rw (c.refused.ensures.status, c.refused.ensures.debugger) (ServesAlone_refused _ _ _ _ c.in-Err.fault (is_refused _ _ c.in-Err.ensures.refused other) c.in_ok-tell-in-Err.ensures.told)
+    rw (c.refused.ensures.status, c.refused.ensures.debugger) (ServesAlone_refused _ _ _ _ c.in-Err.fault
+    (is_refused _ _ c.in-Err.ensures.refused other) c.in_ok-tell-in-Err.ensures.told)

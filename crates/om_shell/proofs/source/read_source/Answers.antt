@@ -34,5 +34,7 @@ returns-in_err-read_more-clause-failed g c =
     rw (p.1, p.2) (record {
       taken = before ++ fails.bytes;
       consumes = Consumes-trans _ _ _ _ _ c.reads.invariant.read fails.consumes;
-      unmarked = λ read. ap (λ l. has_mark (parts_of (before ++ l))) (fails.none read) ∙ ap (λ l. has_mark (parts_of l)) (append-nil before) ∙ unmarked_yet before c.scan-line.result.0 scanned unended;
+      unmarked = λ read. ap (λ l. has_mark (parts_of (before ++ l))) (fails.none read)
+          ∙ ap (λ l. has_mark (parts_of l)) (append-nil before) ∙ unmarked_yet before c.scan-line.result.0 scanned
+          unended;
     })

@@ -7,7 +7,8 @@ use Rattle.om_shell.proofs.SourceLaws.{Scanned_more, Marked_here}
 use Rattle.om_shell.proofs.source.scan.Goals as goal
 
 pub line_end-requires : goal.line_end-requires
-line_end-requires c = rw (slice_to_end c.args.bytes.now c.lines.at) (record { within = c.lines.invariant.within; known = c.lines.invariant.known })
+line_end-requires c = rw (slice_to_end c.args.bytes.now c.lines.at)
+    (record { within = c.lines.invariant.within; known = c.lines.invariant.known })
 
 pub lines-preserved : goal.lines-preserved
 lines-preserved c =
@@ -18,7 +19,8 @@ lines-preserved c =
     let cut : at + n - at ≡ n = omega arith in
     let line = c.without_carriage_return-line.ensures ∙ ap (λ k. strip_carriage_return (take k (drop at bytes))) cut in
     record {
-      scanned = Scanned_more bytes at n c.lines.invariant.scanned found.0 found.1 (ap is_mark (sym line) ∙ sym c.eq.ensures ∙ c.if-eq.false);
+      scanned = Scanned_more bytes at n c.lines.invariant.scanned found.0 found.1 (ap is_mark (sym line)
+          ∙ sym c.eq.ensures ∙ c.if-eq.false);
       within = omega arith;
       known = refl;
     }
@@ -31,7 +33,9 @@ returns-then-eq-clause-marked c =
     let found = position_some _ _ _ (rw (slice_to_end bytes at) at c.in-Some.ensures) in
     let cut : at + n - at ≡ n = omega arith in
     let line = c.without_carriage_return-line.ensures ∙ ap (λ k. strip_carriage_return (take k (drop at bytes))) cut in
-    Marked_here bytes at n c.lines.invariant.scanned found.0 found.1 (ap is_mark (sym line) ∙ sym c.eq.ensures ∙ c.if-eq.true)
+    Marked_here bytes at n c.lines.invariant.scanned found.0 found.1 (ap is_mark (sym line) ∙ sym c.eq.ensures
+    ∙ c.if-eq.true)
 
 pub returns-clause-unended : goal.returns-clause-unended
-returns-clause-unended c = λ _. position_none _ _ (rw (slice_to_end c.args.bytes.now c.lines.at) at c.in_default.ensures)
+returns-clause-unended c = λ _. position_none _ _ (rw (slice_to_end c.args.bytes.now c.lines.at) at
+    c.in_default.ensures)

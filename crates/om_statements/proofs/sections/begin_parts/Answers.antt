@@ -10,5 +10,6 @@ returns c =
     let clauses = map view_resolved_clause c.args.head.now.clauses.now in
     let same : c.in-Ok.count ≡ length c.args.parts.now = search rules in
     opens_counted (names_of c.args.scope.now) c.args.head.now.line c.args.head.now.numbers clauses _ _ _ _ _ same
-    (opens_parts (names_of c.args.scope.now) (part_head c.args.head.now.line c.args.head.now.numbers clauses c.in-Ok.count)
+    (opens_parts (names_of c.args.scope.now) (part_head c.args.head.now.line c.args.head.now.numbers clauses
+    c.in-Ok.count)
     c.in_ok-labels.labels _ _ _ _ refl refl refl c.in_ok-numbers.ensures c.in_ok-labels.ensures c.in_ok-first.ensures)

@@ -5,18 +5,26 @@ use Rattle.std.specs.Prelude.{is_some}
 use Rattle.om_rows.specs.Statements.{clause_value}
 use Rattle.om_tables.specs.Copies.{first_copies_of}
 use Rattle.om_resolved.specs.declared.resolved.ResolvedPart.{out-ResolvedPart}
-use Rattle.om_resolved.specs.declared.resolved.ResolvedStatement.TheViews.{size-ResolvedPart, size-ResolvedStatement, sized-Sections}
+use Rattle.om_resolved.specs.declared.resolved.ResolvedStatement.TheViews.{size-ResolvedPart, size-ResolvedStatement}
+use Rattle.om_resolved.specs.declared.resolved.ResolvedStatement.TheViews.{sized-Sections}
 use Rattle.om_resolved.specs.ResolvedTree as trees
-use Rattle.om_resolved.specs.ResolvedView.{view_resolved_clause, view_resolved_expression, view_resolved_loop, view_resolved_part, view_resolved_start, view_resolved_statement}
+use Rattle.om_resolved.specs.ResolvedView.{view_resolved_clause, view_resolved_expression, view_resolved_loop}
+use Rattle.om_resolved.specs.ResolvedView.{view_resolved_part, view_resolved_start, view_resolved_statement}
 use Rattle.om_rows.specs.Bodies as rows
 use Rattle.om_rows.specs.Coded.{PartsHaveCode, StatementHasCode}
 use Rattle.om_tables.specs.Numbering.{numbers_of}
 use Rattle.om_tables.specs.Scopes.{names_of}
 use Rattle.om_statements.specs.Going.{free_with, with_none}
-use Rattle.om_statements.proofs.Lists.{left_item, left_next, no_atomic, numbers_are, onward_begin, onward_done, spot_is, statement_is}
-use Rattle.om_statements.proofs.Views.{view_break, view_construct, view_continue, view_do, view_for, view_if, view_if_else, view_loop, view_parallel, view_sections, view_stand_alone, view_task, view_while}
-use Rattle.om_statements.proofs.Forms.{close_clauses_are, construct_clauses_are, emits_construct, emits_do, emits_for, emits_if, emits_if_else, emits_loop, emits_while, loop_clauses_are, size_clauses_are}
-use Rattle.om_statements.proofs.PartLists.{free_first, free_start, items_are, left_count, left_part, onward_parts_begin, onward_parts_done, opens_are, parts_are, parts_next}
+use Rattle.om_statements.proofs.Lists.{left_item, left_next, no_atomic, numbers_are, onward_begin, onward_done, spot_is}
+use Rattle.om_statements.proofs.Lists.{statement_is}
+use Rattle.om_statements.proofs.Views.{view_break, view_construct, view_continue, view_do, view_for, view_if}
+use Rattle.om_statements.proofs.Views.{view_if_else, view_loop, view_parallel, view_sections, view_stand_alone}
+use Rattle.om_statements.proofs.Views.{view_task, view_while}
+use Rattle.om_statements.proofs.Forms.{close_clauses_are, construct_clauses_are, emits_construct, emits_do, emits_for}
+use Rattle.om_statements.proofs.Forms.{emits_if, emits_if_else, emits_loop, emits_while, loop_clauses_are}
+use Rattle.om_statements.proofs.Forms.{size_clauses_are}
+use Rattle.om_statements.proofs.PartLists.{free_first, free_start, items_are, left_count, left_part, onward_parts_begin}
+use Rattle.om_statements.proofs.PartLists.{onward_parts_done, opens_are, parts_are, parts_next}
 use Rattle.om_statements.proofs.SectionsRow.{emits_sections, labels_are}
 use Rattle.om_statements.specs.Parts.{AreFree}
 use Rattle.om_statements.proofs.Regions.{emits_parallel, emits_task}
@@ -24,7 +32,8 @@ use Rattle.om_statements.proofs.statement.+statement.Goals as goal
 
 pub statement-define-requires-in-IfElse : goal.statement-define-requires-in-IfElse
 statement-define-requires-in-IfElse t c =
-    free_with _ _ _ _ _ (c.in_ok-end-in-IfElse.ensures (names_of c.args.scope.now)).free c.in_ok-after-in-IfElse.ensures.emitted
+    free_with _ _ _ _ _ (c.in_ok-end-in-IfElse.ensures (names_of c.args.scope.now)).free
+    c.in_ok-after-in-IfElse.ensures.emitted
 
 pub statement-end_loop-requires : goal.statement-end_loop-requires
 statement-end_loop-requires t c =
@@ -60,72 +69,138 @@ statement-end_construct-requires t c =
 pub statement-returns-in_ok-after-in-If-clause-emitted : goal.statement-returns-in_ok-after-in-If-clause-emitted
 statement-returns-in_ok-after-in-If-clause-emitted t c =
     statement_is (names_of c.args.scope.now) (numbers_of c.args.spot.numbers) _ _ c.args.spot.jumps _ _
-    (ap (λ z. trees.If c.in-If.at (view_resolved_expression c.in-If.condition) (view_resolved_statement z)) c.deref.ensures ∙ sym (ap view_resolved_statement c.in-If.is ∙ view_if c.in-If.at c.in-If.condition c.in-If.then))
-    (emits_if (names_of c.args.scope.now) (numbers_of c.args.spot.numbers) c.in-If.at (view_resolved_expression c.in-If.condition) (view_resolved_statement c.deref.result.now) c.args.spot.jumps c.in_ok-end-in-If.end _ _ _ _
+    (ap (λ z. trees.If c.in-If.at (view_resolved_expression c.in-If.condition) (view_resolved_statement z))
+    c.deref.ensures ∙ sym (ap view_resolved_statement c.in-If.is ∙ view_if c.in-If.at c.in-If.condition
+    c.in-If.then))
+    (emits_if (names_of c.args.scope.now) (numbers_of c.args.spot.numbers) c.in-If.at
+    (view_resolved_expression c.in-If.condition) (view_resolved_statement c.deref.result.now) c.args.spot.jumps
+    c.in_ok-end-in-If.end _ _ _ _
     c.in_ok-end-in-If.ensures c.in_ok-after-in-If.ensures.emitted c.define.ensures)
 
 pub statement-returns-in_ok-after-in-IfElse-clause-emitted : goal.statement-returns-in_ok-after-in-IfElse-clause-emitted
 statement-returns-in_ok-after-in-IfElse-clause-emitted t c =
     statement_is (names_of c.args.scope.now) (numbers_of c.args.spot.numbers) _ _ c.args.spot.jumps _ _
-    (ap (λ z. trees.IfElse c.in-IfElse.at (view_resolved_expression c.in-IfElse.condition) (view_resolved_statement z) (view_resolved_statement c.deref-in-IfElse-2.result.now)) c.deref-in-IfElse.ensures
-    ∙ ap (λ z. trees.IfElse c.in-IfElse.at (view_resolved_expression c.in-IfElse.condition) (view_resolved_statement c.in-IfElse.then.value) (view_resolved_statement z)) c.deref-in-IfElse-2.ensures
-    ∙ sym (ap view_resolved_statement c.in-IfElse.is ∙ view_if_else c.in-IfElse.at c.in-IfElse.condition c.in-IfElse.then c.in-IfElse.other))
-    (emits_if_else (names_of c.args.scope.now) (numbers_of c.args.spot.numbers) c.in-IfElse.at (view_resolved_expression c.in-IfElse.condition) (view_resolved_statement c.deref-in-IfElse.result.now) (view_resolved_statement c.deref-in-IfElse-2.result.now) c.args.spot.jumps c.in_ok-head-in-IfElse.head c.in_ok-end-in-IfElse.end _ _ _ _ _ _
-    c.in_ok-head-in-IfElse.ensures c.in_ok-between-in-IfElse.ensures.emitted (c.in_ok-end-in-IfElse.ensures (names_of c.args.scope.now))
-    (numbers_are (names_of c.args.scope.now) _ _ (view_resolved_statement c.deref-in-IfElse-2.result.now) c.args.spot.jumps _ _ c.in_ok-between-in-IfElse.ensures.behind (spot_is (names_of c.args.scope.now) (view_resolved_statement c.deref-in-IfElse-2.result.now) _ _ _ _ c.behind.ensures c.in_ok-after-in-IfElse.ensures.emitted))
+    (ap (λ z. trees.IfElse c.in-IfElse.at (view_resolved_expression c.in-IfElse.condition)
+    (view_resolved_statement z) (view_resolved_statement c.deref-in-IfElse-2.result.now)) c.deref-in-IfElse.ensures
+    ∙ ap (λ z. trees.IfElse c.in-IfElse.at (view_resolved_expression c.in-IfElse.condition)
+    (view_resolved_statement c.in-IfElse.then.value) (view_resolved_statement z)) c.deref-in-IfElse-2.ensures
+    ∙ sym (ap view_resolved_statement c.in-IfElse.is ∙ view_if_else c.in-IfElse.at c.in-IfElse.condition
+    c.in-IfElse.then c.in-IfElse.other))
+    (emits_if_else (names_of c.args.scope.now) (numbers_of c.args.spot.numbers) c.in-IfElse.at
+    (view_resolved_expression c.in-IfElse.condition) (view_resolved_statement c.deref-in-IfElse.result.now)
+    (view_resolved_statement c.deref-in-IfElse-2.result.now) c.args.spot.jumps c.in_ok-head-in-IfElse.head
+    c.in_ok-end-in-IfElse.end _ _ _ _ _ _
+    c.in_ok-head-in-IfElse.ensures c.in_ok-between-in-IfElse.ensures.emitted
+    (c.in_ok-end-in-IfElse.ensures (names_of c.args.scope.now))
+    (numbers_are (names_of c.args.scope.now) _ _ (view_resolved_statement c.deref-in-IfElse-2.result.now)
+    c.args.spot.jumps _ _ c.in_ok-between-in-IfElse.ensures.behind (spot_is (names_of c.args.scope.now)
+    (view_resolved_statement c.deref-in-IfElse-2.result.now) _ _ _ _ c.behind.ensures
+    c.in_ok-after-in-IfElse.ensures.emitted))
     c.define-in-IfElse.ensures)
 
-pub statement-returns-in_ok-end_loop-in-While-clause-emitted : goal.statement-returns-in_ok-end_loop-in-While-clause-emitted
+pub statement-returns-in_ok-end_loop-in-While-clause-emitted :
+    goal.statement-returns-in_ok-end_loop-in-While-clause-emitted
 statement-returns-in_ok-end_loop-in-While-clause-emitted t c =
     statement_is (names_of c.args.scope.now) (numbers_of c.args.spot.numbers) _ _ c.args.spot.jumps _ _
-    (ap (λ z. trees.While c.in-While.at (view_resolved_expression c.in-While.condition) (view_resolved_statement z)) c.deref-in-While.ensures ∙ sym (ap view_resolved_statement c.in-While.is ∙ view_while c.in-While.at c.in-While.condition c.in-While.body))
-    (emits_while (names_of c.args.scope.now) (numbers_of c.args.spot.numbers) c.in-While.at (view_resolved_expression c.in-While.condition) (view_resolved_statement c.deref-in-While.result.now) c.args.spot.jumps c.in_ok-labels-in-While.labels _ _ _ _
-    c.in_ok-labels-in-While.ensures (spot_is (names_of c.args.scope.now) (view_resolved_statement c.deref-in-While.result.now) _ _ _ _ c.in_loop-inside.ensures c.in_ok-after-in-While.ensures.emitted) (c.in_ok-end_loop-in-While.ensures (names_of c.args.scope.now)))
+    (ap (λ z. trees.While c.in-While.at (view_resolved_expression c.in-While.condition) (view_resolved_statement z))
+    c.deref-in-While.ensures ∙ sym (ap view_resolved_statement c.in-While.is ∙ view_while c.in-While.at
+    c.in-While.condition c.in-While.body))
+    (emits_while (names_of c.args.scope.now) (numbers_of c.args.spot.numbers) c.in-While.at
+    (view_resolved_expression c.in-While.condition) (view_resolved_statement c.deref-in-While.result.now)
+    c.args.spot.jumps c.in_ok-labels-in-While.labels _ _ _ _
+    c.in_ok-labels-in-While.ensures (spot_is (names_of c.args.scope.now)
+    (view_resolved_statement c.deref-in-While.result.now) _ _ _ _ c.in_loop-inside.ensures
+    c.in_ok-after-in-While.ensures.emitted) (c.in_ok-end_loop-in-While.ensures (names_of c.args.scope.now)))
 
 pub statement-returns-in_ok-end_do-in-Do-clause-emitted : goal.statement-returns-in_ok-end_do-in-Do-clause-emitted
 statement-returns-in_ok-end_do-in-Do-clause-emitted t c =
     statement_is (names_of c.args.scope.now) (numbers_of c.args.spot.numbers) _ _ c.args.spot.jumps _ _
-    (ap (λ z. trees.Do c.in-Do.at (view_resolved_statement z) (view_resolved_expression c.in-Do.condition)) c.deref-in-Do.ensures ∙ sym (ap view_resolved_statement c.in-Do.is ∙ view_do c.in-Do.at c.in-Do.body c.in-Do.condition))
-    (emits_do (names_of c.args.scope.now) (numbers_of c.args.spot.numbers) c.in-Do.at (view_resolved_expression c.in-Do.condition) (view_resolved_statement c.deref-in-Do.result.now) c.args.spot.jumps c.in_ok-labels-in-Do.labels _ _ _ _
-    c.in_ok-labels-in-Do.ensures (spot_is (names_of c.args.scope.now) (view_resolved_statement c.deref-in-Do.result.now) _ _ _ _ c.in_loop-inside-in-Do.ensures c.in_ok-after-in-Do.ensures.emitted) c.in_ok-end_do-in-Do.ensures)
+    (ap (λ z. trees.Do c.in-Do.at (view_resolved_statement z) (view_resolved_expression c.in-Do.condition))
+    c.deref-in-Do.ensures ∙ sym (ap view_resolved_statement c.in-Do.is ∙ view_do c.in-Do.at c.in-Do.body
+    c.in-Do.condition))
+    (emits_do (names_of c.args.scope.now) (numbers_of c.args.spot.numbers) c.in-Do.at
+    (view_resolved_expression c.in-Do.condition) (view_resolved_statement c.deref-in-Do.result.now)
+    c.args.spot.jumps c.in_ok-labels-in-Do.labels _ _ _ _
+    c.in_ok-labels-in-Do.ensures (spot_is (names_of c.args.scope.now)
+    (view_resolved_statement c.deref-in-Do.result.now) _ _ _ _ c.in_loop-inside-in-Do.ensures
+    c.in_ok-after-in-Do.ensures.emitted) c.in_ok-end_do-in-Do.ensures)
 
 pub statement-returns-in_ok-end_for-in-For-clause-emitted : goal.statement-returns-in_ok-end_for-in-For-clause-emitted
 statement-returns-in_ok-end_for-in-For-clause-emitted t c =
     statement_is (names_of c.args.scope.now) (numbers_of c.args.spot.numbers) _ _ c.args.spot.jumps _ _
-    (ap (λ z. trees.For c.in-For.at (view_resolved_start c.in-For.begin) (option_map view_resolved_expression c.in-For.condition) (option_map view_resolved_expression c.in-For.step) (view_resolved_statement z)) c.deref-in-For.ensures ∙ sym (ap view_resolved_statement c.in-For.is ∙ view_for c.in-For.at c.in-For.begin c.in-For.condition c.in-For.step c.in-For.body))
-    (emits_for (names_of c.args.scope.now) (numbers_of c.args.spot.numbers) c.in-For.at (view_resolved_start c.in-For.begin) (option_map view_resolved_expression c.in-For.condition) (option_map view_resolved_expression c.in-For.step) (view_resolved_statement c.deref-in-For.result.now) c.args.spot.jumps c.in_ok-labels-in-For.labels _ _ _ _
-    c.in_ok-labels-in-For.ensures (spot_is (names_of c.args.scope.now) (view_resolved_statement c.deref-in-For.result.now) _ _ _ _ c.in_loop-inside-in-For.ensures c.in_ok-after-in-For.ensures.emitted) c.in_ok-end_for-in-For.ensures)
+    (ap (λ z. trees.For c.in-For.at (view_resolved_start c.in-For.begin) (option_map view_resolved_expression
+    c.in-For.condition) (option_map view_resolved_expression c.in-For.step) (view_resolved_statement z))
+    c.deref-in-For.ensures ∙ sym (ap view_resolved_statement c.in-For.is ∙ view_for c.in-For.at c.in-For.begin
+    c.in-For.condition c.in-For.step c.in-For.body))
+    (emits_for (names_of c.args.scope.now) (numbers_of c.args.spot.numbers) c.in-For.at
+    (view_resolved_start c.in-For.begin) (option_map view_resolved_expression c.in-For.condition)
+    (option_map view_resolved_expression c.in-For.step) (view_resolved_statement c.deref-in-For.result.now)
+    c.args.spot.jumps c.in_ok-labels-in-For.labels _ _ _ _
+    c.in_ok-labels-in-For.ensures (spot_is (names_of c.args.scope.now)
+    (view_resolved_statement c.deref-in-For.result.now) _ _ _ _ c.in_loop-inside-in-For.ensures
+    c.in_ok-after-in-For.ensures.emitted) c.in_ok-end_for-in-For.ensures)
 
 pub statement-returns-in_ok-jump-in-Break-clause-emitted : goal.statement-returns-in_ok-jump-in-Break-clause-emitted
 statement-returns-in_ok-jump-in-Break-clause-emitted t c =
-    statement_is (names_of c.args.scope.now) (numbers_of c.args.spot.numbers) _ _ c.args.spot.jumps _ _ (sym (ap view_resolved_statement c.in-Break.is ∙ view_break c.in-Break.at)) (with_none _ _ _ _ (c.in_ok-jump-in-Break.ensures (names_of c.args.scope.now)))
+    statement_is (names_of c.args.scope.now) (numbers_of c.args.spot.numbers) _ _ c.args.spot.jumps _ _
+    (sym (ap view_resolved_statement c.in-Break.is ∙ view_break c.in-Break.at))
+    (with_none _ _ _ _ (c.in_ok-jump-in-Break.ensures (names_of c.args.scope.now)))
 
-pub statement-returns-in_ok-jump-in-Continue-clause-emitted : goal.statement-returns-in_ok-jump-in-Continue-clause-emitted
+pub statement-returns-in_ok-jump-in-Continue-clause-emitted :
+    goal.statement-returns-in_ok-jump-in-Continue-clause-emitted
 statement-returns-in_ok-jump-in-Continue-clause-emitted t c =
-    statement_is (names_of c.args.scope.now) (numbers_of c.args.spot.numbers) _ _ c.args.spot.jumps _ _ (sym (ap view_resolved_statement c.in-Continue.is ∙ view_continue c.in-Continue.at)) (with_none _ _ _ _ (c.in_ok-jump-in-Continue.ensures (names_of c.args.scope.now)))
+    statement_is (names_of c.args.scope.now) (numbers_of c.args.spot.numbers) _ _ c.args.spot.jumps _ _
+    (sym (ap view_resolved_statement c.in-Continue.is ∙ view_continue c.in-Continue.at))
+    (with_none _ _ _ _ (c.in_ok-jump-in-Continue.ensures (names_of c.args.scope.now)))
 
-pub statement-returns-in_ok-stand_alone-in-StandAlone-clause-emitted : goal.statement-returns-in_ok-stand_alone-in-StandAlone-clause-emitted
+pub statement-returns-in_ok-stand_alone-in-StandAlone-clause-emitted :
+    goal.statement-returns-in_ok-stand_alone-in-StandAlone-clause-emitted
 statement-returns-in_ok-stand_alone-in-StandAlone-clause-emitted t c =
-    statement_is (names_of c.args.scope.now) (numbers_of c.args.spot.numbers) _ _ c.args.spot.jumps _ _ (sym (ap view_resolved_statement c.in-StandAlone.is ∙ view_stand_alone c.in-StandAlone.at c.in-StandAlone.directive)) (with_none _ _ _ _ (c.in_ok-stand_alone-in-StandAlone.ensures (names_of c.args.scope.now)))
+    statement_is (names_of c.args.scope.now) (numbers_of c.args.spot.numbers) _ _ c.args.spot.jumps _ _
+    (sym (ap view_resolved_statement c.in-StandAlone.is ∙ view_stand_alone c.in-StandAlone.at
+    c.in-StandAlone.directive))
+    (with_none _ _ _ _ (c.in_ok-stand_alone-in-StandAlone.ensures (names_of c.args.scope.now)))
 
-pub statement-returns-in_ok-end_worksharing-in-Loop-clause-emitted : goal.statement-returns-in_ok-end_worksharing-in-Loop-clause-emitted
+pub statement-returns-in_ok-end_worksharing-in-Loop-clause-emitted :
+    goal.statement-returns-in_ok-end_worksharing-in-Loop-clause-emitted
 statement-returns-in_ok-end_worksharing-in-Loop-clause-emitted t c =
     statement_is (names_of c.args.scope.now) (numbers_of c.args.spot.numbers) _ _ c.args.spot.jumps _ _
-    (ap (λ z. trees.Loop c.in-Loop.at (map view_resolved_clause c.in-Loop.clauses.items) c.in-Loop.nowait (view_resolved_loop c.in-Loop.repeated) (view_resolved_statement z)) c.deref-in-Loop.ensures ∙ sym (ap view_resolved_statement c.in-Loop.is ∙ view_loop c.in-Loop.at c.in-Loop.clauses c.in-Loop.nowait c.in-Loop.repeated c.in-Loop.body))
-    (emits_loop (names_of c.args.scope.now) (numbers_of c.args.spot.numbers) c.in-Loop.at (map view_resolved_clause c.in-Loop.clauses.items) c.in-Loop.nowait (view_resolved_loop c.in-Loop.repeated) (view_resolved_statement c.deref-in-Loop.result.now) c.args.spot.jumps c.in_ok-labels-in-Loop.labels _ _ _ _ _
-    (loop_clauses_are (names_of c.args.scope.now) c.in-Loop.at.line (view_resolved_loop c.in-Loop.repeated) c.in_ok-labels-in-Loop.labels _ _ _ _ c.as_slice-in-Loop.ensures.value c.in_ok-labels-in-Loop.ensures)
-    (spot_is (names_of c.args.scope.now) (view_resolved_statement c.deref-in-Loop.result.now) _ _ _ _ c.in_iteration-inside.ensures c.in_ok-after-in-Loop.ensures.emitted) (c.in_ok-end_loop-in-Loop.ensures (names_of c.args.scope.now))
-    (close_clauses_are (names_of c.args.scope.now) c.in-Loop.at.line c.in-Loop.nowait _ _ _ _ c.as_slice-in-Loop-2.ensures.value c.in_ok-end_worksharing-in-Loop.ensures))
+    (ap (λ z. trees.Loop c.in-Loop.at (map view_resolved_clause c.in-Loop.clauses.items) c.in-Loop.nowait
+    (view_resolved_loop c.in-Loop.repeated) (view_resolved_statement z)) c.deref-in-Loop.ensures
+    ∙ sym (ap view_resolved_statement c.in-Loop.is ∙ view_loop c.in-Loop.at c.in-Loop.clauses c.in-Loop.nowait
+    c.in-Loop.repeated c.in-Loop.body))
+    (emits_loop (names_of c.args.scope.now) (numbers_of c.args.spot.numbers) c.in-Loop.at
+    (map view_resolved_clause c.in-Loop.clauses.items) c.in-Loop.nowait (view_resolved_loop c.in-Loop.repeated)
+    (view_resolved_statement c.deref-in-Loop.result.now) c.args.spot.jumps c.in_ok-labels-in-Loop.labels _ _ _ _ _
+    (loop_clauses_are (names_of c.args.scope.now) c.in-Loop.at.line (view_resolved_loop c.in-Loop.repeated)
+    c.in_ok-labels-in-Loop.labels _ _ _ _ c.as_slice-in-Loop.ensures.value c.in_ok-labels-in-Loop.ensures)
+    (spot_is (names_of c.args.scope.now) (view_resolved_statement c.deref-in-Loop.result.now) _ _ _ _
+    c.in_iteration-inside.ensures c.in_ok-after-in-Loop.ensures.emitted)
+    (c.in_ok-end_loop-in-Loop.ensures (names_of c.args.scope.now))
+    (close_clauses_are (names_of c.args.scope.now) c.in-Loop.at.line c.in-Loop.nowait _ _ _ _
+    c.as_slice-in-Loop-2.ensures.value c.in_ok-end_worksharing-in-Loop.ensures))
 
 pub statement-returns-in_ok-end_construct-in-Construct : goal.statement-returns-in_ok-end_construct-in-Construct
 statement-returns-in_ok-end_construct-in-Construct t c =
-    let seen = (ap (λ z. trees.Construct c.in-Construct.at c.in-Construct.kind (map view_resolved_clause c.in-Construct.clauses.items) (view_resolved_statement z)) c.deref-in-Construct.ensures ∙ sym (ap view_resolved_statement c.in-Construct.is ∙ view_construct c.in-Construct.at c.in-Construct.kind c.in-Construct.clauses c.in-Construct.body)) in
+    let seen = (ap (λ z. trees.Construct c.in-Construct.at c.in-Construct.kind
+    (map view_resolved_clause c.in-Construct.clauses.items) (view_resolved_statement z))
+    c.deref-in-Construct.ensures ∙ sym (ap view_resolved_statement c.in-Construct.is
+    ∙ view_construct c.in-Construct.at c.in-Construct.kind c.in-Construct.clauses c.in-Construct.body)) in
     record {
-      behind = c.in_ok-after-in-Construct-2.ensures.behind ∙ ap (λ x. rows.behind (numbers_of x.numbers) (view_resolved_statement c.deref-in-Construct.result.now)) c.outside-inside.ensures ∙ ap (λ z. rows.behind (numbers_of c.args.spot.numbers) z) seen;
+      behind = c.in_ok-after-in-Construct-2.ensures.behind
+          ∙ ap (λ x. rows.behind (numbers_of x.numbers) (view_resolved_statement c.deref-in-Construct.result.now))
+          c.outside-inside.ensures ∙ ap (λ z. rows.behind (numbers_of c.args.spot.numbers) z) seen;
       emitted = statement_is (names_of c.args.scope.now) (numbers_of c.args.spot.numbers) _ _ c.args.spot.jumps _ _ seen
-          (emits_construct (names_of c.args.scope.now) (numbers_of c.args.spot.numbers) c.in-Construct.at c.in-Construct.kind (map view_resolved_clause c.in-Construct.clauses.items) (view_resolved_statement c.deref-in-Construct.result.now) c.args.spot.jumps c.in_ok-label-in-Construct.label _ _ _ _
-          (construct_clauses_are (names_of c.args.scope.now) c.in-Construct.at.line c.in-Construct.kind c.in_ok-label-in-Construct.label _ _ _ _ c.as_slice-in-Construct.ensures.value c.in_ok-label-in-Construct.ensures)
-          (spot_is (names_of c.args.scope.now) (view_resolved_statement c.deref-in-Construct.result.now) _ _ _ _ c.outside-inside.ensures c.in_ok-after-in-Construct-2.ensures.emitted) c.in_ok-end_construct-in-Construct.ensures);
+          (emits_construct (names_of c.args.scope.now) (numbers_of c.args.spot.numbers) c.in-Construct.at
+          c.in-Construct.kind (map view_resolved_clause c.in-Construct.clauses.items)
+          (view_resolved_statement c.deref-in-Construct.result.now) c.args.spot.jumps
+          c.in_ok-label-in-Construct.label _ _ _ _
+          (construct_clauses_are (names_of c.args.scope.now) c.in-Construct.at.line c.in-Construct.kind
+          c.in_ok-label-in-Construct.label _ _ _ _ c.as_slice-in-Construct.ensures.value
+          c.in_ok-label-in-Construct.ensures)
+          (spot_is (names_of c.args.scope.now) (view_resolved_statement c.deref-in-Construct.result.now) _ _ _ _
+          c.outside-inside.ensures c.in_ok-after-in-Construct-2.ensures.emitted)
+          c.in_ok-end_construct-in-Construct.ensures);
     }
 
 pub statements-loop-item-init : goal.statements-loop-item-init
@@ -134,33 +209,67 @@ statements-loop-item-init t c =
 
 pub statements-loop-item-preserved : goal.statements-loop-item-preserved
 statements-loop-item-preserved t c =
-    let here = left_item c.args.items.now c.loop-item.item-index c.item-item.result c.loop-item-test.true c.item-item.is in
+    let here = left_item c.args.items.now c.loop-item.item-index c.item-item.result c.loop-item-test.true
+    c.item-item.is in
     let next = left_next _ _ _ (names_of c.args.scope.now) c.args.spot.jumps _ _ _ _ _ _ _ _ _ _ here
-    (c.in_ok-after.ensures.behind ∙ ap (λ x. rows.behind (numbers_of x.numbers) (view_resolved_statement c.item-item.result)) c.behind-here.ensures)
-    (spot_is (names_of c.args.scope.now) _ _ _ _ _ c.behind-here.ensures c.in_ok-after.ensures.emitted) c.loop-item.invariant.0 c.loop-item.invariant.1 c.loop-item.invariant.2 in
+    (c.in_ok-after.ensures.behind
+    ∙ ap (λ x. rows.behind (numbers_of x.numbers) (view_resolved_statement c.item-item.result))
+    c.behind-here.ensures)
+    (spot_is (names_of c.args.scope.now) _ _ _ _ _ c.behind-here.ensures c.in_ok-after.ensures.emitted)
+    c.loop-item.invariant.0 c.loop-item.invariant.1 c.loop-item.invariant.2 in
     (next.0, next.1, next.2)
 
 pub statements-returns-clause-emitted : goal.statements-returns-clause-emitted
 statements-returns-clause-emitted t c =
-    onward_done _ (names_of c.args.scope.now) c.args.spot.jumps _ _ _ _ _ _ (ap (λ xs. trees.statements (map view_resolved_statement xs)) (drop_all c.loop-item.item-index c.args.items.now c.loop-item-test.false)) c.loop-item.invariant.2
+    onward_done _ (names_of c.args.scope.now) c.args.spot.jumps _ _ _ _ _ _
+    (ap (λ xs. trees.statements (map view_resolved_statement xs))
+    (drop_all c.loop-item.item-index c.args.items.now c.loop-item-test.false)) c.loop-item.invariant.2
 
-pub statement-returns-in_ok-after-in-Parallel-clause-emitted : goal.statement-returns-in_ok-after-in-Parallel-clause-emitted
+pub statement-returns-in_ok-after-in-Parallel-clause-emitted :
+    goal.statement-returns-in_ok-after-in-Parallel-clause-emitted
 statement-returns-in_ok-after-in-Parallel-clause-emitted t c =
     statement_is (names_of c.args.scope.now) (numbers_of c.args.spot.numbers) _ _ c.args.spot.jumps _ _
-    (ap (λ x. trees.Parallel c.in-Parallel.at (map view_resolved_clause x) c.as_slice-in-Parallel-2.result.now (view_resolved_statement c.deref-in-Parallel.result.now)) c.as_slice-in-Parallel.ensures.value
-    ∙ ap (λ x. trees.Parallel c.in-Parallel.at (map view_resolved_clause c.in-Parallel.clauses.items) x (view_resolved_statement c.deref-in-Parallel.result.now)) c.as_slice-in-Parallel-2.ensures
-    ∙ ap (λ z. trees.Parallel c.in-Parallel.at (map view_resolved_clause c.in-Parallel.clauses.items) c.in-Parallel.captures (view_resolved_statement z)) c.deref-in-Parallel.ensures
-    ∙ sym (ap view_resolved_statement c.in-Parallel.is ∙ view_parallel c.in-Parallel.at c.in-Parallel.clauses c.in-Parallel.captures c.in-Parallel.body))
-    (emits_parallel (names_of c.args.scope.now) (numbers_of c.args.spot.numbers) c.in-Parallel.at (map view_resolved_clause c.as_slice-in-Parallel.result.now) c.as_slice-in-Parallel-2.result.now (view_resolved_statement c.deref-in-Parallel.result.now) c.args.spot.jumps c.as_slice-in-Parallel-4.result.now _ _ _ _ _ _ (ap first_copies_of c.as_slice-in-Parallel-4.ensures.value ∙ c.in_ok-copies-in-Parallel.ensures) (omega (arith, c.len.ensures, c.as_slice-in-Parallel-4.ensures.len, c.in_ok-copies-in-Parallel.copies.ok.0)) (c.in_ok-sized-in-Parallel.ensures.sized ∙ ap (λ x. is_some (clause_value (map view_resolved_clause x))) (c.as_slice-in-Parallel-3.ensures.value ∙ sym c.as_slice-in-Parallel.ensures.value)) (size_clauses_are (names_of c.args.scope.now) c.in-Parallel.at.line _ _ _ _ (c.as_slice-in-Parallel-3.ensures.value ∙ sym c.as_slice-in-Parallel.ensures.value) c.in_ok-sized-in-Parallel.ensures.emitted) c.in_ok-load_originals-in-Parallel.ensures (c.in_ok-fork-in-Parallel.ensures (names_of c.args.scope.now)))
+    (ap (λ x. trees.Parallel c.in-Parallel.at (map view_resolved_clause x) c.as_slice-in-Parallel-2.result.now
+    (view_resolved_statement c.deref-in-Parallel.result.now)) c.as_slice-in-Parallel.ensures.value
+    ∙ ap (λ x. trees.Parallel c.in-Parallel.at (map view_resolved_clause c.in-Parallel.clauses.items) x
+    (view_resolved_statement c.deref-in-Parallel.result.now)) c.as_slice-in-Parallel-2.ensures
+    ∙ ap (λ z. trees.Parallel c.in-Parallel.at (map view_resolved_clause c.in-Parallel.clauses.items)
+    c.in-Parallel.captures (view_resolved_statement z)) c.deref-in-Parallel.ensures
+    ∙ sym (ap view_resolved_statement c.in-Parallel.is ∙ view_parallel c.in-Parallel.at c.in-Parallel.clauses
+    c.in-Parallel.captures c.in-Parallel.body))
+    (emits_parallel (names_of c.args.scope.now) (numbers_of c.args.spot.numbers) c.in-Parallel.at
+    (map view_resolved_clause c.as_slice-in-Parallel.result.now) c.as_slice-in-Parallel-2.result.now
+    (view_resolved_statement c.deref-in-Parallel.result.now) c.args.spot.jumps
+    c.as_slice-in-Parallel-4.result.now _ _ _ _ _ _ (ap first_copies_of c.as_slice-in-Parallel-4.ensures.value
+    ∙ c.in_ok-copies-in-Parallel.ensures) (omega (
+      arith,
+      c.len.ensures,
+      c.as_slice-in-Parallel-4.ensures.len,
+      c.in_ok-copies-in-Parallel.copies.ok.0,
+    )) (c.in_ok-sized-in-Parallel.ensures.sized
+    ∙ ap (λ x. is_some (clause_value (map view_resolved_clause x))) (c.as_slice-in-Parallel-3.ensures.value
+    ∙ sym c.as_slice-in-Parallel.ensures.value)) (size_clauses_are (names_of c.args.scope.now)
+    c.in-Parallel.at.line _ _ _ _ (c.as_slice-in-Parallel-3.ensures.value
+    ∙ sym c.as_slice-in-Parallel.ensures.value) c.in_ok-sized-in-Parallel.ensures.emitted)
+    c.in_ok-load_originals-in-Parallel.ensures (c.in_ok-fork-in-Parallel.ensures (names_of c.args.scope.now)))
 
 pub statement-returns-in_ok-after-in-Task-clause-emitted : goal.statement-returns-in_ok-after-in-Task-clause-emitted
 statement-returns-in_ok-after-in-Task-clause-emitted t c =
     statement_is (names_of c.args.scope.now) (numbers_of c.args.spot.numbers) _ _ c.args.spot.jumps _ _
-    (ap (λ x. trees.Task c.in-Task.at (map view_resolved_clause x) c.as_slice-in-Task-2.result.now (view_resolved_statement c.deref-in-Task.result.now)) c.as_slice-in-Task.ensures.value
-    ∙ ap (λ x. trees.Task c.in-Task.at (map view_resolved_clause c.in-Task.clauses.items) x (view_resolved_statement c.deref-in-Task.result.now)) c.as_slice-in-Task-2.ensures
-    ∙ ap (λ z. trees.Task c.in-Task.at (map view_resolved_clause c.in-Task.clauses.items) c.in-Task.captures (view_resolved_statement z)) c.deref-in-Task.ensures
-    ∙ sym (ap view_resolved_statement c.in-Task.is ∙ view_task c.in-Task.at c.in-Task.clauses c.in-Task.captures c.in-Task.body))
-    (emits_task (names_of c.args.scope.now) (numbers_of c.args.spot.numbers) c.in-Task.at (map view_resolved_clause c.as_slice-in-Task.result.now) c.as_slice-in-Task-2.result.now (view_resolved_statement c.deref-in-Task.result.now) c.args.spot.jumps c.as_slice-in-Task-3.result.now _ _ _ _ (ap first_copies_of c.as_slice-in-Task-3.ensures.value ∙ c.in_ok-copies-in-Task.ensures) (omega (arith, c.len-in-Task.ensures, c.as_slice-in-Task-3.ensures.len, c.in_ok-copies-in-Task.copies.ok.0)) c.in_ok-load_originals-in-Task.ensures (c.in_ok-spawn-in-Task.ensures (names_of c.args.scope.now)))
+    (ap (λ x. trees.Task c.in-Task.at (map view_resolved_clause x) c.as_slice-in-Task-2.result.now
+    (view_resolved_statement c.deref-in-Task.result.now)) c.as_slice-in-Task.ensures.value
+    ∙ ap (λ x. trees.Task c.in-Task.at (map view_resolved_clause c.in-Task.clauses.items) x
+    (view_resolved_statement c.deref-in-Task.result.now)) c.as_slice-in-Task-2.ensures
+    ∙ ap (λ z. trees.Task c.in-Task.at (map view_resolved_clause c.in-Task.clauses.items) c.in-Task.captures
+    (view_resolved_statement z)) c.deref-in-Task.ensures
+    ∙ sym (ap view_resolved_statement c.in-Task.is ∙ view_task c.in-Task.at c.in-Task.clauses c.in-Task.captures
+    c.in-Task.body))
+    (emits_task (names_of c.args.scope.now) (numbers_of c.args.spot.numbers) c.in-Task.at
+    (map view_resolved_clause c.as_slice-in-Task.result.now) c.as_slice-in-Task-2.result.now
+    (view_resolved_statement c.deref-in-Task.result.now) c.args.spot.jumps c.as_slice-in-Task-3.result.now _ _ _
+    _ (ap first_copies_of c.as_slice-in-Task-3.ensures.value ∙ c.in_ok-copies-in-Task.ensures)
+    (omega (arith, c.len-in-Task.ensures, c.as_slice-in-Task-3.ensures.len, c.in_ok-copies-in-Task.copies.ok.0))
+    c.in_ok-load_originals-in-Task.ensures (c.in_ok-spawn-in-Task.ensures (names_of c.args.scope.now)))
 
 pub parts-loop-index-init : goal.parts-loop-index-init
 parts-loop-index-init t c =
@@ -168,40 +277,50 @@ parts-loop-index-init t c =
       c.requires.code,
       refl,
       free_start c.args.spot.first (length c.args.sections.now) c.args.draft.now c.requires.free,
-      onward_parts_begin (names_of c.args.scope.now) c.args.spot (numbers_of c.args.spot.numbers) all (c.args.spot.first + 0) c.args.draft.now (omega arith),
+      onward_parts_begin (names_of c.args.scope.now) c.args.spot (numbers_of c.args.spot.numbers) all
+          (c.args.spot.first + 0) c.args.draft.now (omega arith),
     )
 
 pub parts-define-requires : goal.parts-define-requires
 parts-define-requires t c =
     let left = left_count c.args.sections.now c.loop-index.index c.index-sections-index.result c.loop-index-test.true in
-    free_first (c.args.spot.first + c.loop-index.index) (length (drop c.loop-index.index c.args.sections.now)) _ c.loop-index.draft refl (omega (arith, left)) c.loop-index.invariant.2
+    free_first (c.args.spot.first + c.loop-index.index) (length (drop c.loop-index.index c.args.sections.now)) _
+    c.loop-index.draft refl (omega (arith, left)) c.loop-index.invariant.2
 
 pub parts-loop-index-preserved : goal.parts-loop-index-preserved
 parts-loop-index-preserved t c =
-    let here = left_part c.args.sections.now c.loop-index.index c.index-sections-index.result c.loop-index-test.true c.index-sections-index.is in
+    let here = left_part c.args.sections.now c.loop-index.index c.index-sections-index.result c.loop-index-test.true
+    c.index-sections-index.is in
     let left = left_count c.args.sections.now c.loop-index.index c.index-sections-index.result c.loop-index-test.true in
     let label = c.args.spot.first + c.loop-index.index in
     let next = c.args.spot.first + (c.loop-index.index + 1) in
     let items = (out-ResolvedPart c.index-sections-index.result).items.items in
     let seen = trees.statements (map view_resolved_statement items) in
-    parts_next (names_of c.args.scope.now) c.args.spot (numbers_of c.args.spot.numbers) (numbers_of c.loop-index.numbers) (numbers_of c.in_ok-after.after) _ _ _ seen
+    parts_next (names_of c.args.scope.now) c.args.spot (numbers_of c.args.spot.numbers)
+    (numbers_of c.loop-index.numbers) (numbers_of c.in_ok-after.after) _ _ _ seen
     label next (length (drop (c.loop-index.index + 1) c.args.sections.now)) _ _ _ _ _ here
     (c.in_ok-after.ensures.behind
-    ∙ ap (λ x. rows.behind_all (numbers_of x.numbers) (trees.statements (map view_resolved_statement c.as_slice.result.now))) c.outside-inside.ensures
-    ∙ ap (λ xs. rows.behind_all (numbers_of c.loop-index.numbers) (trees.statements (map view_resolved_statement xs))) c.as_slice.ensures.value)
+    ∙ ap (λ x. rows.behind_all (numbers_of x.numbers)
+    (trees.statements (map view_resolved_statement c.as_slice.result.now))) c.outside-inside.ensures
+    ∙ ap (λ xs. rows.behind_all (numbers_of c.loop-index.numbers)
+    (trees.statements (map view_resolved_statement xs))) c.as_slice.ensures.value)
     (omega arith) (omega arith) c.define.ensures
-    (items_are (names_of c.args.scope.now) _ _ _ items _ _ c.outside-inside.ensures c.as_slice.ensures.value c.in_ok-after.ensures.emitted)
+    (items_are (names_of c.args.scope.now) _ _ _ items _ _ c.outside-inside.ensures c.as_slice.ensures.value
+    c.in_ok-after.ensures.emitted)
     c.in_ok-put.ensures c.loop-index.invariant.0 c.loop-index.invariant.1
     (subst (λ n. AreFree label n c.loop-index.draft) left c.loop-index.invariant.2) c.loop-index.invariant.3
 
 pub parts-returns-clause-emitted : goal.parts-returns-clause-emitted
 parts-returns-clause-emitted t c =
-    onward_parts_done (names_of c.args.scope.now) c.args.spot (numbers_of c.args.spot.numbers) (numbers_of c.loop-index.numbers) _ _ _ _ _
-    (ap (λ xs. trees.parts (map view_resolved_part xs)) (drop_all c.loop-index.index c.args.sections.now c.loop-index-test.false)) c.loop-index.invariant.3
+    onward_parts_done (names_of c.args.scope.now) c.args.spot (numbers_of c.args.spot.numbers)
+    (numbers_of c.loop-index.numbers) _ _ _ _ _
+    (ap (λ xs. trees.parts (map view_resolved_part xs)) (drop_all c.loop-index.index c.args.sections.now
+    c.loop-index-test.false)) c.loop-index.invariant.3
 
 pub statement-parts-requires : goal.statement-parts-requires
 statement-parts-requires t c =
-    let seen = ap view_resolved_statement c.in-Sections.is ∙ view_sections c.in-Sections.at c.in-Sections.clauses c.in-Sections.nowait c.in-Sections.sections in
+    let seen = ap view_resolved_statement c.in-Sections.is ∙ view_sections c.in-Sections.at c.in-Sections.clauses
+    c.in-Sections.nowait c.in-Sections.sections in
     let opened = c.in_ok-inside-in-Sections.ensures in
     let same = ap length (c.as_slice-in-Sections-2.ensures.value ∙ sym c.as_slice-in-Sections-3.ensures.value) in (
       (let h1 = ap size-ResolvedStatement c.in-Sections.is in
@@ -209,8 +328,10 @@ statement-parts-requires t c =
           let h3 = ap (most size-ResolvedPart) c.as_slice-in-Sections-3.ensures.value in
           omega (arith, h1, h2, h3, c.decreases)),
       (
-        subst (λ xs. PartsHaveCode (trees.parts (map view_resolved_part xs))) (sym c.as_slice-in-Sections-3.ensures.value)
-            (subst (λ z. StatementHasCode (is_some c.args.spot.jumps.over) (is_some c.args.spot.jumps.next) z) seen c.requires.code),
+        subst (λ xs. PartsHaveCode (trees.parts (map view_resolved_part xs)))
+            (sym c.as_slice-in-Sections-3.ensures.value)
+            (subst (λ z. StatementHasCode (is_some c.args.spot.jumps.over) (is_some c.args.spot.jumps.next) z) seen
+            c.requires.code),
         (
           subst (λ n. AreFree c.in_ok-inside-in-Sections.inside.first n c.begin_parts.new.draft) same opened.free,
           subst (λ n. c.in_ok-inside-in-Sections.inside.first + n ≤ 2 ^ 32) same opened.fit,
@@ -218,16 +339,22 @@ statement-parts-requires t c =
       ),
     )
 
-pub statement-returns-in_ok-end_worksharing-in-Sections-clause-emitted : goal.statement-returns-in_ok-end_worksharing-in-Sections-clause-emitted
+pub statement-returns-in_ok-end_worksharing-in-Sections-clause-emitted :
+    goal.statement-returns-in_ok-end_worksharing-in-Sections-clause-emitted
 statement-returns-in_ok-end_worksharing-in-Sections-clause-emitted t c =
     let parts = c.in-Sections.sections.items in
     let inside = c.in_ok-inside-in-Sections.inside in
     let all = trees.parts (map view_resolved_part parts) in
     statement_is (names_of c.args.scope.now) (numbers_of c.args.spot.numbers) _ _ c.args.spot.jumps _ _
-    (sym (ap view_resolved_statement c.in-Sections.is ∙ view_sections c.in-Sections.at c.in-Sections.clauses c.in-Sections.nowait c.in-Sections.sections))
-    (emits_sections (names_of c.args.scope.now) (numbers_of c.args.spot.numbers) c.in-Sections.at (map view_resolved_clause c.in-Sections.clauses.items) c.in-Sections.nowait all c.args.spot.jumps (length parts)
+    (sym (ap view_resolved_statement c.in-Sections.is ∙ view_sections c.in-Sections.at c.in-Sections.clauses
+    c.in-Sections.nowait c.in-Sections.sections))
+    (emits_sections (names_of c.args.scope.now) (numbers_of c.args.spot.numbers) c.in-Sections.at
+    (map view_resolved_clause c.in-Sections.clauses.items) c.in-Sections.nowait all c.args.spot.jumps (length parts)
     inside _ _ _ _ _ (labels_are inside.first parts)
-    (opens_are (names_of c.args.scope.now) c.in-Sections.at.line c.args.spot.numbers inside _ _ _ _ _ _ c.as_slice-in-Sections.ensures.value c.as_slice-in-Sections-2.ensures.value c.in_ok-inside-in-Sections.ensures)
-    (parts_are (names_of c.args.scope.now) (numbers_of inside.numbers) inside _ _ _ _ c.as_slice-in-Sections-3.ensures.value c.in_ok-after-in-Sections.ensures.emitted)
+    (opens_are (names_of c.args.scope.now) c.in-Sections.at.line c.args.spot.numbers inside _ _ _ _ _ _
+    c.as_slice-in-Sections.ensures.value c.as_slice-in-Sections-2.ensures.value c.in_ok-inside-in-Sections.ensures)
+    (parts_are (names_of c.args.scope.now) (numbers_of inside.numbers) inside _ _ _ _
+    c.as_slice-in-Sections-3.ensures.value c.in_ok-after-in-Sections.ensures.emitted)
     c.define-in-Sections.ensures
-    (close_clauses_are (names_of c.args.scope.now) c.in-Sections.at.line c.in-Sections.nowait _ _ _ _ c.as_slice-in-Sections-4.ensures.value c.in_ok-end_worksharing-in-Sections.ensures))
+    (close_clauses_are (names_of c.args.scope.now) c.in-Sections.at.line c.in-Sections.nowait _ _ _ _
+    c.as_slice-in-Sections-4.ensures.value c.in_ok-end_worksharing-in-Sections.ensures))

@@ -18,7 +18,8 @@ invariant-statements-loop-item l =
     let left = trees.statements (map view_resolved_statement (drop l.item-index l.items)) in
     StatementsHaveCode (is_some l.spot.jumps.over) (is_some l.spot.jumps.next) left
     × (rows.behind_all (numbers_of l.numbers) left ≡ rows.behind_all (numbers_of l.spot.numbers) all)
-    × Onward (length l.fn.draft.places) (names_of l.scope) l.spot.jumps (numbers_of l.spot.numbers) (numbers_of l.numbers) all left l.fn.draft l.draft
+    × Onward (length l.fn.draft.places) (names_of l.scope) l.spot.jumps (numbers_of l.spot.numbers)
+    (numbers_of l.numbers) all left l.fn.draft l.draft
 
 -- the same of the parts of a `sections`, whose labels are free
 abbrev pub invariant-parts-loop-index : goal.invariant-parts-loop-index
@@ -28,4 +29,5 @@ invariant-parts-loop-index l =
     PartsHaveCode left
     × (rows.behind_parts (numbers_of l.numbers) left ≡ rows.behind_parts (numbers_of l.spot.numbers) all)
     × AreFree (l.spot.first + l.index) (length (drop l.index l.sections)) l.draft
-    × OnwardParts (names_of l.scope) l.spot (numbers_of l.spot.numbers) (numbers_of l.numbers) all left (l.spot.first + l.index) l.fn.draft l.draft
+    × OnwardParts (names_of l.scope) l.spot (numbers_of l.spot.numbers) (numbers_of l.numbers) all left
+    (l.spot.first + l.index) l.fn.draft l.draft

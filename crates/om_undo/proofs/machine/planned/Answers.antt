@@ -16,4 +16,11 @@ plan-requires c =
     let es : List Entry = (history_in c.args.history.now).entries in
     c.low_counters.ensures c.args.program.now c.args.workers (2 ^ 63) (map label_of es) (state_of c.store.result.now)
     (c.store.ensures.replayed (rules_of c.args.program.now c.args.workers) c.requires)
-    (omega (arith, c.requires.past.few, c.requires.few_made, length-map es label_of, length-map records (λ (k : UndoRecord). k.entry)))
+    (omega (
+      arith,
+      c.requires.past.few,
+      c.requires.few_made,
+      length-map es label_of,
+      length-map records
+          (λ (k : UndoRecord). k.entry),
+    ))

@@ -4,4 +4,10 @@ use Rattle.om_view.proofs.looks.print.Goals as goal
 pub returns-clause-text : goal.returns-clause-text
 returns-clause-text c =
     rw (sym c.is_full.ensures ∙ c.if-is_full.false)
-    (rw (c.program.ensures, c.machine.ensures, c.in_ok-value.ensures.after, c.in_ok-value.ensures.value, c.object.ensures) at c.push_print.ensures)
+    (rw (
+      c.program.ensures,
+      c.machine.ensures,
+      c.in_ok-value.ensures.after,
+      c.in_ok-value.ensures.value,
+      c.object.ensures,
+    ) at c.push_print.ensures)

@@ -7,4 +7,5 @@ use Rattle.om_view.proofs.looks.push_all_ready.Given as goal
 -- the lines so far and those of what is left are all
 abbrev pub invariant-loop-name : goal.invariant-loop-name
 invariant-loop-name l =
-    l.text.items ++ joined (ready_line (state_in l.machine)) (drop l.name-index l.names) ≡ l.initial.text.items ++ joined (ready_line (state_in l.machine)) l.names
+    l.text.items ++ joined (ready_line (state_in l.machine)) (drop l.name-index l.names) ≡ l.initial.text.items
+    ++ joined (ready_line (state_in l.machine)) l.names

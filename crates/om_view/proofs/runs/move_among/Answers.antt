@@ -5,7 +5,8 @@ use Rattle.om_view.proofs.runs.move_among.Goals as goal
 pub returns-in-Some-clause-moved : goal.returns-in-Some-clause-moved
 returns-in-Some-clause-moved c =
     let chosen = rw c.workers-in-workers.ensures.same at (sym c.in_ok-choice.ensures ∙ c.in-Some.is) in
-    rw c.workers-in-workers.ensures.same (sym (worker_moves _ _ _ c.workers-test.true chosen) ∙ c.workers.invariant.same)
+    rw c.workers-in-workers.ensures.same (sym (worker_moves _ _ _ c.workers-test.true chosen)
+    ∙ c.workers.invariant.same)
 
 pub workers-preserved : goal.workers-preserved
 workers-preserved c =

@@ -7,7 +7,8 @@ pub returns-in-NoMove-clause-text : goal.returns-in-NoMove-clause-text
 returns-in-NoMove-clause-text c =
     let came = sym c.in_ok-advance.ensures.moved ∙ c.in-NoMove.is in
     let said = sym c.steps.invariant.said ∙ run_came _ _ _ _ _ c.steps-test.true came in
-    rw said (rw (c.machine.ensures, c.in_ok-advance.ensures.after, c.steps.invariant.text) at c.push_without_move.ensures)
+    rw said (rw (c.machine.ensures, c.in_ok-advance.ensures.after, c.steps.invariant.text) at
+    c.push_without_move.ensures)
 
 pub returns-in-NoMove-clause-after : goal.returns-in-NoMove-clause-after
 returns-in-NoMove-clause-after c =
@@ -31,7 +32,12 @@ pub returns-in-Stopped-clause-text : goal.returns-in-Stopped-clause-text
 returns-in-Stopped-clause-text c =
     let came = sym c.in_ok-advance.ensures.moved ∙ c.in-Stopped.is in
     let said = sym c.steps.invariant.said ∙ run_came _ _ _ _ _ c.steps-test.true came in
-    rw said (rw (c.program.ensures, c.machine-in-Stopped.ensures, c.in_ok-advance.ensures.after, c.steps.invariant.text) at c.push_ran.ensures)
+    rw said (rw (
+      c.program.ensures,
+      c.machine-in-Stopped.ensures,
+      c.in_ok-advance.ensures.after,
+      c.steps.invariant.text,
+    ) at c.push_ran.ensures)
 
 pub returns-in-Stopped-clause-after : goal.returns-in-Stopped-clause-after
 returns-in-Stopped-clause-after c =

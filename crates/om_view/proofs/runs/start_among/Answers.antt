@@ -5,12 +5,16 @@ use Rattle.om_view.proofs.runs.start_among.Goals as goal
 
 pub returns-then-branch : goal.returns-then-branch
 returns-then-branch c =
-    let here = drop_next c.args.names.now c.loop-name.name-index c.name-item.result c.loop-name-test.true c.name-item.is in
-    sym (start_here c.args.machine.now c.args.worker c.name-item.result _ (sym c.in_ok-can_step.ensures ∙ c.if-branch.true))
+    let here = drop_next c.args.names.now c.loop-name.name-index c.name-item.result c.loop-name-test.true
+    c.name-item.is in
+    sym (start_here c.args.machine.now c.args.worker c.name-item.result _ (sym c.in_ok-can_step.ensures
+    ∙ c.if-branch.true))
     ∙ ap (start_among c.args.machine.now c.args.worker) (sym here) ∙ c.loop-name.invariant
 
 pub loop-name-preserved : goal.loop-name-preserved
 loop-name-preserved c =
-    let here = drop_next c.args.names.now c.loop-name.name-index c.name-item.result c.loop-name-test.true c.name-item.is in
-    sym (start_behind c.args.machine.now c.args.worker c.name-item.result _ (sym c.in_ok-can_step.ensures ∙ c.if-branch.false))
+    let here = drop_next c.args.names.now c.loop-name.name-index c.name-item.result c.loop-name-test.true
+    c.name-item.is in
+    sym (start_behind c.args.machine.now c.args.worker c.name-item.result _ (sym c.in_ok-can_step.ensures
+    ∙ c.if-branch.false))
     ∙ ap (start_among c.args.machine.now c.args.worker) (sym here) ∙ c.loop-name.invariant

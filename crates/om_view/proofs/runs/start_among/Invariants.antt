@@ -3,4 +3,5 @@ use Rattle.om_view.specs.Runs.{start_among}
 use Rattle.om_view.proofs.runs.start_among.Given as goal
 
 abbrev pub invariant-loop-name : goal.invariant-loop-name
-invariant-loop-name l = start_among l.machine l.worker (drop l.name-index l.names) ≡ start_among l.machine l.worker l.names
+invariant-loop-name l = start_among l.machine l.worker (drop l.name-index l.names) ≡ start_among l.machine l.worker
+    l.names

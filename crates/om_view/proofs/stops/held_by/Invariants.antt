@@ -4,4 +4,5 @@ use Rattle.om_view.specs.Stops.{watched}
 use Rattle.om_view.proofs.stops.held_by.Given as goal
 
 abbrev pub invariant-loop-cell : goal.invariant-loop-cell
-invariant-loop-cell l = l.all.items ++ map (watched (state_in l.machine)) (drop l.cell-index l.cells) ≡ map (watched (state_in l.machine)) l.cells
+invariant-loop-cell l = l.all.items ++ map (watched (state_in l.machine)) (drop l.cell-index l.cells)
+    ≡ map (watched (state_in l.machine)) l.cells

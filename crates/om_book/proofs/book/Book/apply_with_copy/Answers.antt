@@ -11,7 +11,8 @@ invariant_of-self c =
     elim c.match-append.branch [
       | in-Ok w ↦
           let room : before + length journal < 200000 = grind (arith, common_steps) in
-          sound_next c.self.inside.machine _ _ before journal _ c.args.seat c.args.command w.in-Ok.replies.0 c.self.invariant room
+          sound_next c.self.inside.machine _ _ before journal _ c.args.seat c.args.command w.in-Ok.replies.0
+          c.self.invariant room
           (search rules) (search rules) (search rules)
       | in-Err w ↦ sound_same c.self.inside.machine _ _ before journal _ c.self.invariant (search rules) (search rules)
     ]

@@ -12,5 +12,6 @@ returns-clause-covers g c = λ same.
     let calls = length c.journal-2.result.now - c.self.inside.opened in
     let long : length journal ≡ opened + calls = grind (arith, common_steps) in
     let counted : calls ≡ sum_by receipts_in c.args.seats.items = grind (arith, common_steps) in
-    let stand : CountsAll journal opened c.args.seats.items c.standing_in_all-standing.result = grind (arith, common_steps) in
+    let stand : CountsAll journal opened c.args.seats.items c.standing_in_all-standing.result = grind
+    (arith, common_steps) in
     covers journal opened calls c.standing_in_all-standing.result c.args.seats.items c.requires long counted stand same

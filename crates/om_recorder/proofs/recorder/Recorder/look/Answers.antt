@@ -4,4 +4,5 @@ use Rattle.om_recorder.specs.Recorded.{Recorded}
 use Rattle.om_recorder.proofs.recorder.Recorder.look.Goals as goal
 
 pub returns-clause-value : goal.returns-clause-value
-returns-clause-value c = c.in_ok-value.ensures ∙ ap (λ (r : Recorded). state_in r.machine c.args.object.now) c.self.view_is
+returns-clause-value c = c.in_ok-value.ensures ∙ ap (λ (r : Recorded). state_in r.machine c.args.object.now)
+    c.self.view_is

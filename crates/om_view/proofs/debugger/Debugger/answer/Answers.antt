@@ -14,7 +14,8 @@ returns-in-Some g c =
       search rules,
       record {
         runs = run ∷ [];
-        is = λ later. answered_free d c.args.line.now c.in_ok-request.request c.in-Some.rounds run later asked (search rules) ∙ search rules;
+        is = λ later. answered_free d c.args.line.now c.in_ok-request.request c.in-Some.rounds run later asked
+            (search rules) ∙ search rules;
       },
     )
 
@@ -26,6 +27,7 @@ returns g c =
       search rules,
       record {
         runs = [];
-        is = λ later. answered_plain d c.args.line.now c.in_ok-request.request later asked (search rules) ∙ search rules;
+        is = λ later. answered_plain d c.args.line.now c.in_ok-request.request later asked (search rules)
+            ∙ search rules;
       },
     )

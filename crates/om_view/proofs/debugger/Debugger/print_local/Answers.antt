@@ -21,4 +21,6 @@ pub returns-in-Cell-clause-view : goal.returns-in-Cell-clause-view
 returns-in-Cell-clause-view c =
     let seen = rw c.machine-machine.ensures at c.in_ok-worker_sees.ensures in
     rw (sym seen ∙ c.in-Cell.is)
-    (on_ok_weaker c.print_local.result (λ e. ap (λ r. record { recorder = r; names = c.args.self.now.names; marks = c.args.self.now.marks }) e) c.print_local.ensures.after)
+    (on_ok_weaker c.print_local.result
+    (λ e. ap (λ r. record { recorder = r; names = c.args.self.now.names; marks = c.args.self.now.marks }) e)
+    c.print_local.ensures.after)
