@@ -97,13 +97,31 @@ fn look(alloc: Global, machine: &Machine, query: &Query) -> Result<Replies, Allo
     ensures same { IfOk result (λ x. (x.receipt ≡ x.answer) × (x.kept ≡ x.answer)) }
 {
     let answer = looked(alloc, machine, query)?;
-    let receipt = answer.copy(alloc)?;
-    let kept = answer.copy(alloc)?;
-    Ok(Replies {
-        answer,
-        receipt,
-        kept,
-    })
+    match two_copies(alloc, &answer) {
+        Ok((receipt, kept)) => Ok(Replies {
+            answer,
+            receipt,
+            kept,
+        }),
+        Err(error) => {
+            drop(answer);
+            Err(error)
+        }
+    }
+}
+
+/// A reply twice. The only error is out of memory.
+fn two_copies(alloc: Global, reply: &Reply) -> Result<(Reply, Reply), AllocError>
+    ensures { IfOk result (λ copies. (copies.0 ≡ reply.now) × (copies.1 ≡ reply.now)) }
+{
+    let one = reply.copy(alloc)?;
+    match reply.copy(alloc) {
+        Ok(other) => Ok((one, other)),
+        Err(error) => {
+            drop(one);
+            Err(error)
+        }
+    }
 }
 
 /// Answers a question.

@@ -1,6 +1,6 @@
 //! Rounds: in each, every list that still has an order gets its next one asked and answered.
 
-ghost use Rattle.std.specs.Prelude.{◌≡◌, ℕ, ◌≤◌, ◌+◌, ◌++◌, ◌∷◌, [], IfOk, OnOk, OnErr, None, Some, length, vec_len, map, take, drop, slice_get};
+ghost use Rattle.std.specs.Prelude.{◌≡◌, ℕ, ◌<◌, ◌≤◌, ◌+◌, ◌++◌, ◌∷◌, [], IfOk, OnOk, OnErr, None, Some, length, vec_len, vec_capacity, map, take, drop, slice_get};
 ghost use Rattle.om_drive.specs.Rounds.{answer_number, listed, round_at, longest, in_rounds, Begins};
 
 use crate::order::{Answer, Fault, Order};
@@ -65,13 +65,22 @@ fn await_one<R: Wait>(
         return Err(Fault::Closed);
     };
     if answer.number != number {
+        drop(answer);
         return Err(Fault::Strange);
     }
-    match answers.push(answer) {
-        Ok(()) => {}
-        Err(_) => unreachable!(),
-    }
+    push_within(answers, answer);
     Ok(())
+}
+
+/// Adds an item where there is room for it.
+fn push_within<T: Drop>(items: &mut Vec<T>, item: T)
+    requires { vec_len items.old < vec_capacity items.old }
+    ensures items { items.new.items ≡ items.old.items ++ item ∷ [] }
+    ensures one_more { vec_len items.new ≡ vec_len items.old + 1 }
+{
+    let Ok(()) = items.push(item) else {
+        unreachable!();
+    };
 }
 
 /// Takes the answer of an order, where there is one.

@@ -94,5 +94,7 @@ pub(crate) fn worker_sees(
         (control_in (state_in machine.now (object.Control worker)))) }
 {
     let value = machine.look(alloc, &Obj::Control(worker))?;
-    seen_at(names, variable, &value)
+    let seen = seen_at(names, variable, &value);
+    drop(value);
+    seen
 }

@@ -36,7 +36,9 @@ pub(crate) fn print(
         return push_full(text);
     }
     let value = recorder.look(alloc, &cell.object())?;
-    push_print(text, recorder.machine().program(), cell, &value)
+    let pushed = push_print(text, recorder.machine().program(), cell, &value);
+    drop(value);
+    pushed
 }
 
 /// Answers `print W VAR`, where the worker sees a cell.
@@ -56,7 +58,9 @@ pub(crate) fn print_local(
         return push_full(text);
     }
     let value = recorder.look(alloc, cell)?;
-    push_local(text, variable, &value)
+    let pushed = push_local(text, variable, &value);
+    drop(value);
+    pushed
 }
 
 // What a worker is doing, by the value of its control.
@@ -94,7 +98,9 @@ pub(crate) fn place(
         return push_full(text);
     }
     let value = recorder.look(alloc, &Obj::Control(worker))?;
-    push_control(text, recorder.machine(), worker, &value)
+    let pushed = push_control(text, recorder.machine(), worker, &value);
+    drop(value);
+    pushed
 }
 
 /// Answers `history`.
@@ -129,7 +135,9 @@ pub(crate) fn events(
         return push_full(text);
     }
     let value = recorder.look(alloc, &Obj::Events(worker))?;
-    push_events(text, value.records())
+    let pushed = push_events(text, value.records());
+    drop(value);
+    pushed
 }
 
 /// Answers `output`.
@@ -146,7 +154,9 @@ pub(crate) fn output(
         return push_full(text);
     }
     let value = recorder.look(alloc, &Obj::Output)?;
-    push_output(text, value.bytes())
+    let pushed = push_output(text, value.bytes());
+    drop(value);
+    pushed
 }
 
 // The line of the directive of a task that is ready; 0 for another one.
@@ -170,7 +180,9 @@ fn push_ready(
         (text.new.items ≡ text.old.items ++ ready_line (state_in machine.now) name.now) }
 {
     let value = machine.look(alloc, &Obj::Task(*name))?;
-    push_task(text, name, directive_line(value.task()))
+    let line = directive_line(value.task());
+    drop(value);
+    push_task(text, name, line)
 }
 
 // Tasks that are ready, each on a line.

@@ -116,7 +116,9 @@ fn stop_without_move(alloc: Global, machine: &Machine) -> Result<Stop, AllocErro
     ensures { IfOk result (λ stop. stop ≡ stop_without_move machine.now) }
 {
     let value = machine.look(alloc, &Obj::Control(0))?;
-    Ok(stop_of(&value))
+    let stop = stop_of(&value);
+    drop(value);
+    Ok(stop)
 }
 
 // Tells that a run stops where no worker has a move.

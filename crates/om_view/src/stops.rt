@@ -63,7 +63,10 @@ fn is_same_cell(a: Cell, b: Cell) -> bool
 fn value_of(alloc: Global, machine: &Machine, cell: GlobalCell) -> Result<Cell, AllocError>
     ensures { IfOk result (λ value. value ≡ value_of (state_in machine.now) cell) }
 {
-    Ok(machine.look(alloc, &cell.object())?.cell())
+    let value = machine.look(alloc, &cell.object())?;
+    let held = value.cell();
+    drop(value);
+    Ok(held)
 }
 
 // A watched cell, and what it held before a step.

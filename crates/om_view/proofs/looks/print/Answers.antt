@@ -10,4 +10,4 @@ returns-clause-text c =
       c.in_ok-value.ensures.after,
       c.in_ok-value.ensures.value,
       c.object.ensures,
-    ) at c.push_print.ensures)
+    ) at c.push_print-pushed.ensures)
