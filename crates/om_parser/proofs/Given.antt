@@ -1,11 +1,11 @@
--- What is known of the parts of statements and of declarations at file scope.
-use Rattle.om_parts.specs.Laws.{PartsAreSound, PartsAreReadAgain, PartsStopSo, GlobalsAreSound, GlobalsAreReadAgain}
-use Rattle.om_parts.specs.Laws.{GlobalsStopAtSyntax}
+-- What is known of the blocks of functions and of declarations at file scope.
+use Rattle.om_phrases.specs.Laws.{BlocksAreSound, BlocksAreReadAgain, BlocksStopSo}
+use Rattle.om_parts.specs.Laws.{GlobalsAreSound, GlobalsAreReadAgain, GlobalsStopAtSyntax}
 
-pub record PartLaws : Type 0 where
-  pub sound : PartsAreSound
-  pub again : PartsAreReadAgain
-  pub stop : PartsStopSo
+pub record ReadingLaws : Type 0 where
+  pub sound : BlocksAreSound
+  pub again : BlocksAreReadAgain
+  pub stop : BlocksStopSo
   pub globals_sound : GlobalsAreSound
   pub globals_again : GlobalsAreReadAgain
   pub globals_stop : GlobalsStopAtSyntax

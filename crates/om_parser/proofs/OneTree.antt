@@ -7,9 +7,10 @@ use Rattle.om_tree.specs.Sizes.{longest_of, brackets_of, blocks_of, height_of, H
 use Rattle.om_tree.specs.Spelling.{unit_spelling}
 use Rattle.om_tree.specs.Tree.{ItemTree, Declaration, Prototype, Function, UnitTree, statements}
 use Rattle.om_parser.specs.UnitReading.{unit_at}
-use Rattle.om_parts.specs.Laws.{PartsAreReadAgain, GlobalsAreReadAgain}
-use Rattle.om_parser.proofs.Outcomes.{ok, ok_is}
-use Rattle.om_parser.proofs.Forms.{IsKeptItem, no_forms_of}
+use Rattle.om_parts.specs.Laws.{GlobalsAreReadAgain}
+use Rattle.om_phrases.specs.Laws.{BlocksAreReadAgain, UncheckedHaveForms}
+use Rattle.om_phrases.specs.Outcomes.{ok, ok_is}
+use Rattle.om_parser.proofs.Forms.{IsKeptItem}
 use Rattle.om_parser.proofs.UnitComplete.{unit_again}
 
 -- limits that both keep, where no `atomic` is checked
@@ -50,21 +51,22 @@ record IsWider (l m : Limits) : Type 0 where
   statements : l.statements ≤ m.statements
   checked : m.checked ≡ false
 
-item_wider : (l m : Limits) → IsWider l m → (i : ItemTree) → IsKeptItem l i → IsKeptItem m i
-item_wider l m w (Declaration d) g = (tt, tt)
-item_wider l m w (Prototype h semicolon) g = (tt, tt)
-item_wider l m w (Function f) g = (
+item_wider : UncheckedHaveForms → (l m : Limits) → IsWider l m → (i : ItemTree) → IsKeptItem l i → IsKeptItem m i
+item_wider unchecked l m w (Declaration d) g = (tt, tt)
+item_wider unchecked l m w (Prototype h semicolon) g = (tt, tt)
+item_wider unchecked l m w (Function f) g = (
   record {
     high = omega (arith, g.0.high, w.statements);
     deep = omega (arith, g.0.deep, w.blocks);
     nested = omega (arith, g.0.nested, w.nested);
     long = omega (arith, g.0.long, w.tokens);
   },
-  subst (λ c. HaveForms c (statements f.body.items)) (sym w.checked) (no_forms_of (statements f.body.items)),
+  subst (λ c. HaveForms c (statements f.body.items)) (sym w.checked) (unchecked (statements f.body.items)),
 )
 
-wider : (l m : Limits) → IsWider l m → (items : List ItemTree) → All (IsKeptItem l) items → All (IsKeptItem m) items
-wider l m w items g = All-weaker (IsKeptItem l) (IsKeptItem m) (λ i h. item_wider l m w i h) items g
+wider : UncheckedHaveForms → (l m : Limits) → IsWider l m → (items : List ItemTree) → All (IsKeptItem l) items
+    → All (IsKeptItem m) items
+wider unchecked l m w items g = All-weaker (IsKeptItem l) (IsKeptItem m) (λ i h. item_wider unchecked l m w i h) items g
 
 first_wider : (l m : Limits) → IsWider l (both l m)
 first_wider l m = record {
@@ -86,45 +88,48 @@ second_wider l m = record {
   checked = refl;
 }
 
-own_limits : (i : ItemTree) → IsKeptItem (limits_of i) i
-own_limits (Declaration d) = (tt, tt)
-own_limits (Prototype h semicolon) = (tt, tt)
-own_limits (Function f) = (
+own_limits : UncheckedHaveForms → (i : ItemTree) → IsKeptItem (limits_of i) i
+own_limits unchecked (Declaration d) = (tt, tt)
+own_limits unchecked (Prototype h semicolon) = (tt, tt)
+own_limits unchecked (Function f) = (
   record {
     high = omega arith;
     deep = omega arith;
     nested = omega arith;
     long = omega arith;
   },
-  no_forms_of (statements f.body.items),
+  unchecked (statements f.body.items),
 )
 
-large_enough : (items : List ItemTree) → All (IsKeptItem (large items)) items
-large_enough [] = All-nil (IsKeptItem (large []))
-large_enough (i ∷ items) =
-    All-cons (IsKeptItem (large (i ∷ items))) i items (item_wider (limits_of i) (large (i ∷ items))
-    (first_wider (limits_of i) (large items)) i (own_limits i))
-    (wider (large items) (large (i ∷ items)) (second_wider (limits_of i) (large items)) items (large_enough items))
+large_enough : UncheckedHaveForms → (items : List ItemTree) → All (IsKeptItem (large items)) items
+large_enough unchecked [] = All-nil (IsKeptItem (large []))
+large_enough unchecked (i ∷ items) =
+    All-cons (IsKeptItem (large (i ∷ items))) i items (item_wider unchecked (limits_of i) (large (i ∷ items))
+    (first_wider (limits_of i) (large items)) i (own_limits unchecked i))
+    (wider unchecked (large items) (large (i ∷ items)) (second_wider (limits_of i) (large items)) items
+    (large_enough unchecked items))
 
 some_nested : (items : List ItemTree) → 1 ≤ (large items).nested
 some_nested [] = omega arith
 some_nested (i ∷ items) = let le = some_nested items in omega (arith, le)
 
-read_whole : PartsAreReadAgain → GlobalsAreReadAgain → (l : Limits) → 1 ≤ l.nested → (u : UnitTree) → IsUnit u
+read_whole : BlocksAreReadAgain → GlobalsAreReadAgain → (l : Limits) → 1 ≤ l.nested → (u : UnitTree) → IsUnit u
     → All (IsKeptItem l) u.items → unit_at l (unit_spelling u) ≡ ok u
 read_whole again globals l one u f w = elim (unit_again again globals l one u f) [
   | inl e ↦ e
   | inr (stop, e, never) ↦ absurd (never w)
 ]
 
-pub same_unit : PartsAreReadAgain → GlobalsAreReadAgain → (t u : UnitTree) → IsUnit t → IsUnit u → unit_spelling t
-    ≡ unit_spelling u → t ≡ u
-same_unit again globals t u f g e =
+pub same_unit : UncheckedHaveForms → BlocksAreReadAgain → GlobalsAreReadAgain → (t u : UnitTree) → IsUnit t
+    → IsUnit u → unit_spelling t ≡ unit_spelling u → t ≡ u
+same_unit unchecked again globals t u f g e =
     let a = large t.items in
     let b = large u.items in
     let l : Limits = both a b in
     let some = some_nested t.items in
     let one : 1 ≤ l.nested = omega (arith, some) in
-    let x = read_whole again globals l one t f (wider a l (first_wider a b) t.items (large_enough t.items)) in
-    let y = read_whole again globals l one u g (wider b l (second_wider a b) u.items (large_enough u.items)) in
+    let x = read_whole again globals l one t f
+    (wider unchecked a l (first_wider a b) t.items (large_enough unchecked t.items)) in
+    let y = read_whole again globals l one u g
+    (wider unchecked b l (second_wider a b) u.items (large_enough unchecked u.items)) in
     ok_is t u (sym x ∙ ap (unit_at l) e ∙ y)

@@ -16,10 +16,10 @@ use Rattle.om_parts.specs.Reading.{Reads}
 use Rattle.om_tree.specs.Tree.{UnitTree}
 use Rattle.om_parser.specs.UnitReading.{unit_at}
 use Rattle.om_tree.specs.View.{view_unit}
-use Rattle.om_parser.proofs.Outcomes.{ok, ok_is, err_is}
+use Rattle.om_phrases.specs.Outcomes.{ok, ok_is, err_is}
 use Rattle.om_parts.specs.Laws.{IsAnswer}
 use Rattle.om_parser.proofs.Forms.{IsKeptItem}
-use Rattle.om_parser.proofs.Given.{PartLaws}
+use Rattle.om_parser.proofs.Given.{ReadingLaws}
 use Rattle.om_parser.proofs.UnitSound.{unit_sound}
 use Rattle.om_parser.proofs.UnitComplete.{unit_again}
 use Rattle.om_parser.proofs.UnitRefusals.{unit_refuses, too_deep_unit, unknown_in_unit, bad_in_unit}
@@ -27,7 +27,7 @@ use Rattle.om_parser.proofs.UnitRefusals.{unit_refuses, too_deep_unit, unknown_i
 memory_only : (f : SourceFault) → f ≡ no_memory → f.code ≡ codes.Memory
 memory_only f e = ap (λ (g : SourceFault). g.code) e
 
-module _ (laws : PartLaws) (ts : List Token) where
+module _ (laws : ReadingLaws) (ts : List Token) where
   pub is_found : (r : Result units.Unit SourceFault) → Reads view_unit r (unit_at accepted ts)
       → IfOk r (λ unit. IsTreeOf ts (view_unit unit))
   is_found (Ok u) h = let s = unit_sound laws.sound laws.globals_sound accepted (omega arith) ts (view_unit u) h in

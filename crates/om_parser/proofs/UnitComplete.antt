@@ -14,20 +14,19 @@ use Rattle.om_parts.specs.Reading.{take, same_mark, take_mark}
 use Rattle.om_parts.specs.Repetition.{until}
 use Rattle.om_tree.specs.Spelling.{token, mark, name, block_spelling, declarator_spelling, declaration_spelling}
 use Rattle.om_tree.specs.Spelling.{parameters_spelling, head_spelling, item_spelling, unit_spelling}
-use Rattle.om_parts.specs.PartReading.{parts}
-use Rattle.om_parser.specs.StatementReading.{block_at}
+use Rattle.om_phrases.specs.StatementReading.{block_at}
 use Rattle.om_tree.specs.Tree.{DeclarationTree, HeadTree, FunctionTree, ItemTree, Declaration, Prototype, Function}
 use Rattle.om_tree.specs.Tree.{UnitTree}
 use Rattle.om_parser.specs.UnitReading.{function_after, prototype_after, void_after, int_after, item_at, take_end}
 use Rattle.om_parser.specs.UnitReading.{unit_at}
-use Rattle.om_parser.proofs.Again.{take_mark_again, take_word_again, mark_again, word_again, name_again, bind_answer}
-use Rattle.om_parts.specs.Laws.{IsAnswer, PartsAreReadAgain, GlobalsAreReadAgain}
-use Rattle.om_parser.proofs.Outcomes.{ok}
-use Rattle.om_parser.proofs.ItemsComplete.{AreAgain, until_again}
+use Rattle.om_phrases.specs.Again.{take_mark_again, take_word_again, mark_again, word_again, name_again, bind_answer}
+use Rattle.om_parts.specs.Laws.{IsAnswer, GlobalsAreReadAgain}
+use Rattle.om_phrases.specs.Laws.{BlocksAreReadAgain}
+use Rattle.om_phrases.specs.Outcomes.{ok}
+use Rattle.om_phrases.specs.ItemsComplete.{AreAgain, until_again}
 use Rattle.om_parser.proofs.Forms.{IsKeptItem}
 use Rattle.om_parser.proofs.FunctionSound.{is_named}
 use Rattle.om_parser.proofs.FunctionComplete.{head_again, int_is_no_void}
-use Rattle.om_parser.proofs.StatementComplete.{function_block_again}
 use Rattle.om_parser.proofs.UnitSound.{item_some}
 
 no_semicolon : (s : Span) (ts : List Token) → take_mark punctuators.Semicolon (mark punctuators.OpenBrace s ∷ ts) ≡ None
@@ -56,7 +55,7 @@ head_unended h rest = go h.result
     go (results.Int at) = refl
     go (results.Void at) = refl
 
-module _ (again : PartsAreReadAgain) (globals : GlobalsAreReadAgain) (l : Limits) (one : 1 ≤ l.nested) where
+module _ (again : BlocksAreReadAgain) (globals : GlobalsAreReadAgain) (l : Limits) (one : 1 ≤ l.nested) where
   abbrev IsSmallItem : ItemTree → Type 0
   IsSmallItem i = IsKeptItem l i
 
@@ -124,12 +123,12 @@ module _ (again : PartsAreReadAgain) (globals : GlobalsAreReadAgain) (l : Limits
 
   function_answer : (f : FunctionTree) (rest : List Token) → IsFunction f → IsAnswer (IsSmallItem (Function f))
       (function_after l f.head (block_spelling f.body ++ rest)) (Function f, rest)
-  unfolding function_after IsFunction block_at
+  unfolding function_after IsFunction
   function_answer f rest formed =
       let body : List Token = block_spelling f.body ++ rest in
       rw (not_prototype f rest, is_named f.head.parameters formed.0)
       (bind_answer ((block_at l) body) _ (f.body, rest) (Function f, rest) (λ w. w)
-      (function_block_again (parts l) l (again l one) l.statements l.blocks f.body rest formed.1) (inl refl))
+      (again l one f.body rest formed.1) (inl refl))
 
   item_again : (i : ItemTree) (rest : List Token) → IsItem i → IsAnswer (IsSmallItem i)
       ((item_at l) (item_spelling i ++ rest)) (i, rest)

@@ -14,13 +14,13 @@ use Rattle.om_lexer.specs.declared.token.TokenKind.TheVariants as kinds
 use Rattle.om_pragma.specs.declared.name.Name as names
 use Rattle.om_tree.specs.declared.tree.ResultType.{ResultType}
 use Rattle.om_tree.specs.declared.tree.ResultType.TheVariants as results
-use Rattle.om_parser.specs.Faults.{IsStopped}
+use Rattle.om_phrases.specs.Faults.{IsStopped}
 use Rattle.om_tree.specs.Formed.{IsFunction, IsItem, IsUnit}
 use Rattle.om_parser.specs.FunctionReading.{are_named, head_after}
 use Rattle.om_tree.specs.Limits.{Limits}
-use Rattle.om_parts.specs.PartReading.{parts, global_at}
-use Rattle.om_parser.proofs.Given.{PartLaws}
-use Rattle.om_parser.specs.StatementReading.{block_at}
+use Rattle.om_parts.specs.PartReading.{global_at}
+use Rattle.om_parser.proofs.Given.{ReadingLaws}
+use Rattle.om_phrases.specs.StatementReading.{block_at}
 use Rattle.om_tree.specs.Places.{IsOverInItem, IsOverInUnitItems, IsOverInUnit}
 use Rattle.om_parts.specs.Reading.{take_mark, take_word, mark_at, word_at, name_at}
 use Rattle.om_parts.specs.Repetition.{until}
@@ -29,22 +29,21 @@ use Rattle.om_tree.specs.Spelling.{item_spelling, unit_spelling}
 use Rattle.om_tree.specs.Tree.{HeadTree, Function}
 use Rattle.om_parser.specs.UnitReading.{function_after, prototype_after, void_after, int_after, item_at, take_end}
 use Rattle.om_parser.specs.UnitReading.{unit_at}
-use Rattle.om_parser.proofs.Outcomes.{bind_err, choose_cases}
-use Rattle.om_parser.proofs.Taken.{take_mark_is, take_word_is, mark_at_is, word_at_is, name_at_is}
+use Rattle.om_phrases.specs.Outcomes.{bind_err, choose_cases}
+use Rattle.om_phrases.specs.Taken.{take_mark_is, take_word_is, mark_at_is, word_at_is, name_at_is}
 use Rattle.om_parser.proofs.FunctionSound.{head_sound, named_is}
 use Rattle.om_parser.proofs.UnitSound.{or_else, item_sound}
 use Rattle.om_parts.specs.Laws.{Stops}
-use Rattle.om_parser.proofs.Stopped.{IsPlain, syntax_plain, known_plain, bind_plain, within_larger}
+use Rattle.om_phrases.specs.Stopped.{IsPlain, syntax_plain, known_plain, bind_plain, within_larger}
 use Rattle.om_parser.proofs.FunctionPlain.{head_plain}
-use Rattle.om_parser.proofs.StatementCut.{function_block_cut}
 
-module _ (laws : PartLaws) (l : Limits) (one : 1 ≤ l.nested) where
+module _ (laws : ReadingLaws) (l : Limits) (one : 1 ≤ l.nested) where
   abbrev IsItemCut : List Token → SourceFault → Type 0
   IsItemCut ts f = IsStopped item_spelling IsItem (IsOverInItem l) l ts f
 
   function_cut : (h : HeadTree) (ts : List Token) (f : SourceFault) → function_after l h ts ≡ Err f → Stops f
       → IsItemCut (head_spelling h ++ ts) f
-  unfolding function_after item_spelling IsItem IsFunction block_at
+  unfolding function_after item_spelling IsItem IsFunction
   function_cut h ts f e stops = elim (choose_cases (take_mark punctuators.Semicolon ts) _ _ (Err f) e) [
     | inl (s, taken, no_err) ↦ absurd cc
     | inr (none, g) ↦
@@ -55,7 +54,7 @@ module _ (laws : PartLaws) (l : Limits) (one : 1 ≤ l.nested) where
               (λ b. Function (record { head = h; body = b })) (head_spelling h ++ ts) ts f
               (λ b is. (named_is h.parameters named.0, is)) (λ b. ap (λ w. head_spelling h ++ w)
               (sym (append-nil (block_spelling b)))) (λ b before t over. (before, refl, over)) refl
-              (function_block_cut (parts l) l one (laws.sound l one) (laws.stop l one) ts f d stops)
+              (laws.stop l one ts f d stops)
         ]
   ]
 

@@ -9,11 +9,12 @@ use Rattle.om_parser.specs.Faults.{IsBadAtomic}
 use Rattle.om_tree.specs.Formed.{IsUnit}
 use Rattle.om_tree.specs.Limits.{Limits}
 use Rattle.om_parts.specs.WrongLines.{IsWrongLine}
-use Rattle.om_parser.specs.LineFaults.{IsLineFault, IsPassedInLine, IsRefusedLine}
+use Rattle.om_phrases.specs.LineFaults.{IsLineFault}
+use Rattle.om_parser.specs.LineFaults.{IsPassedInLine, IsRefusedLine}
 use Rattle.om_tree.specs.Places.{IsOverInUnit, IsPassed}
 use Rattle.om_tree.specs.Spelling.{unit_spelling}
 use Rattle.om_parser.specs.UnitReading.{unit_at}
-use Rattle.om_parser.proofs.Given.{PartLaws}
+use Rattle.om_parser.proofs.Given.{ReadingLaws}
 use Rattle.om_parser.proofs.UnitCut.{unit_cut}
 
 -- the codes by which a unit is refused
@@ -35,7 +36,7 @@ syntax_or_not : (code : FaultCode) → (code ≡ codes.Syntax) ⊎ (code ≡ cod
 syntax_or_not codes.Syntax = inl refl
 syntax_or_not _ = inr (λ e. absurd cc)
 
-module _ (laws : PartLaws) (l : Limits) (one : 1 ≤ l.nested) (ts : List Token) (f : SourceFault)
+module _ (laws : ReadingLaws) (l : Limits) (one : 1 ≤ l.nested) (ts : List Token) (f : SourceFault)
     (fails : unit_at l ts ≡ Err f) where
   pub unit_refuses : IsUnitRefusal f
   unit_refuses = elim (syntax_or_not f.code) [

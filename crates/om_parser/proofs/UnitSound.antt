@@ -21,18 +21,18 @@ use Rattle.om_parts.specs.Reading.{Reader, Outcome, take_mark, take_word, mark_a
 use Rattle.om_parts.specs.Repetition.{until}
 use Rattle.om_tree.specs.Spelling.{token, mark, word, name, result_spelling, block_spelling, declaration_spelling}
 use Rattle.om_tree.specs.Spelling.{head_spelling, item_spelling, unit_spelling}
-use Rattle.om_parts.specs.PartReading.{parts, global_at}
-use Rattle.om_parser.specs.StatementReading.{block_at}
+use Rattle.om_parts.specs.PartReading.{global_at}
+use Rattle.om_phrases.specs.StatementReading.{block_at}
 use Rattle.om_tree.specs.Tree.{HeadTree, ItemTree, Declaration, Prototype, Function, UnitTree}
 use Rattle.om_parser.specs.UnitReading.{function_after, prototype_after, void_after, int_after, item_at, end_of}
 use Rattle.om_parser.specs.UnitReading.{take_end, unit_at}
-use Rattle.om_parser.proofs.Outcomes.{ok, ok_is, some, some_is, bind_ok, choose_cases, after_front}
-use Rattle.om_parser.proofs.Taken.{take_mark_is, take_word_is, mark_at_is, word_at_is, name_at_is}
-use Rattle.om_parts.specs.Laws.{IsRead, IsSound, PartsAreSound, GlobalsAreSound}
-use Rattle.om_parser.proofs.ItemsSound.{until_sound}
+use Rattle.om_phrases.specs.Outcomes.{ok, ok_is, some, some_is, bind_ok, choose_cases, after_front}
+use Rattle.om_phrases.specs.Taken.{take_mark_is, take_word_is, mark_at_is, word_at_is, name_at_is}
+use Rattle.om_parts.specs.Laws.{IsRead, IsSound, GlobalsAreSound}
+use Rattle.om_phrases.specs.Laws.{BlocksAreSound}
+use Rattle.om_phrases.specs.ItemsSound.{until_sound}
 use Rattle.om_parser.proofs.Forms.{IsKeptItem}
 use Rattle.om_parser.proofs.FunctionSound.{head_sound, named_is}
-use Rattle.om_parser.proofs.StatementSound.{function_block_sound}
 
 pub take_end_is : (ts : List Token) (s : Span) (us : List Token) → take_end ts ≡ some (s, us)
     → (ts ≡ token kinds.End s ∷ us) × (us ≡ [])
@@ -73,13 +73,13 @@ pub or_else : {A : Type 0} (b : Bool) (first other : Outcome A) (f : SourceFault
 or_else true first other f h never = (refl, h)
 or_else false first other f h never = absurd (never h)
 
-module _ (sound : PartsAreSound) (globals : GlobalsAreSound) (l : Limits) (one : 1 ≤ l.nested) where
+module _ (sound : BlocksAreSound) (globals : GlobalsAreSound) (l : Limits) (one : 1 ≤ l.nested) where
   abbrev pub IsGoodItem : ItemTree → Type 0
   IsGoodItem i = IsItem i × IsKeptItem l i
 
   function_sound : (h : HeadTree) (ts : List Token) (x : ItemTree × List Token) → function_after l h ts ≡ ok x
       → IsRead item_spelling IsGoodItem (head_spelling h ++ ts) x
-  unfolding function_after item_spelling IsItem IsFunction block_at
+  unfolding function_after item_spelling IsItem IsFunction
   function_sound h ts x e = elim (choose_cases (take_mark punctuators.Semicolon ts) _ _ (ok x) e) [
     | inl s ↦ subst (IsRead item_spelling IsGoodItem (head_spelling h ++ ts)) (ok_is (Prototype h s.0.0, s.0.1) x
         s.2) (record {
@@ -90,7 +90,7 @@ module _ (sound : PartsAreSound) (globals : GlobalsAreSound) (l : Limits) (one :
     | inr g ↦
         let named = only_if (are_named h.parameters) _ _ x g.1 (λ y d. absurd cc) in
         let b = bind_ok (block_at l ts) _ x named.1 in
-        let body = function_block_sound (parts l) l one (sound l one) l.statements l.blocks ts b.0 b.1 in
+        let body = sound l one ts b.0 b.1 in
         subst (IsRead item_spelling IsGoodItem (head_spelling h ++ ts))
         (ok_is (Function (record { head = h; body = b.0.0 }), b.0.1) x b.2) (record {
           parts = after_front (head_spelling h ++ ts) (head_spelling h) ts (block_spelling b.0.0) b.0.1 refl body.parts;
@@ -179,7 +179,7 @@ item_some (Function f) = head_some f.head (block_spelling f.body)
 pub end_shorter : (ts : List Token) (s : Span) (us : List Token) → take_end ts ≡ some (s, us) → length us < length ts
 end_shorter ts s us e = omega (arith, ap length (take_end_is ts s us e).0)
 
-pub item_shorter : PartsAreSound → GlobalsAreSound → (l : Limits) → 1 ≤ l.nested → (ts : List Token) (i : ItemTree)
+pub item_shorter : BlocksAreSound → GlobalsAreSound → (l : Limits) → 1 ≤ l.nested → (ts : List Token) (i : ItemTree)
     (us : List Token) → (item_at l) ts ≡ ok (i, us) → length us < length ts
 item_shorter sound globals l one ts i us e = let r = item_sound sound globals l one ts (i, us) e in omega
     (arith, ap length r.parts, length-append (item_spelling i) us, item_some i)

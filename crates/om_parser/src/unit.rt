@@ -17,11 +17,12 @@ ghost use Rattle.om_parser.specs.UnitReading.{function_after, prototype_after, v
 ghost use Rattle.om_tree.specs.View.{view_head, view_item, view_unit};
 
 use crate::function::{are_named, head_after};
-use crate::statement::block;
 use om_lexer::{Keyword, Punctuator, SourceFault, Span, Token, TokenKind};
 use om_parts::front::{mark, name, syntax, take_mark, take_word, word};
-use om_parts::laws::{globals, parts_are_read_again, parts_are_sound, parts_stop_so};
+use om_parts::laws::globals;
 use om_parts::part::global_declaration;
+use om_phrases::block;
+use om_phrases::laws::{blocks_are_read_again, blocks_are_sound, blocks_stop_so};
 use om_pragma::Name;
 use om_tree::{Function, FunctionHead, Item, ResultType, Unit};
 use std::alloc::Global;
@@ -77,9 +78,9 @@ pub fn parse(alloc: Global, tokens: &[Token]) -> Result<Unit, SourceFault>
     ensures no_other_refusal { IfErr result (λ fault. (fault ≡ no_memory) ⊎ (fault.code ≡ Syntax)
         ⊎ (fault.code ≡ TooDeep) ⊎ (fault.code ≡ UnknownDirective) ⊎ (fault.code ≡ BadClause)) }
 {
-    parts_are_sound();
-    parts_are_read_again();
-    parts_stop_so();
+    blocks_are_sound();
+    blocks_are_read_again();
+    blocks_stop_so();
     globals();
     unit(alloc, tokens)
 }
@@ -89,7 +90,7 @@ pub fn one_tree()
     ensures { (unit other : UnitTree) → IsUnit unit → IsUnit other → unit_spelling unit
         ≡ unit_spelling other → unit ≡ other }
 {
-    parts_are_read_again();
+    blocks_are_read_again();
     globals();
 }
 
@@ -107,7 +108,7 @@ fn items(alloc: Global, tokens: &[Token]) -> Result<(Vec<Item>, Span), SourceFau
     ensures { Reads (λ x. (map view_item x.0.items, x.1, [])) result
         (until take_end (item_at accepted) (length tokens.now) tokens.now) }
 {
-    parts_are_sound();
+    blocks_are_sound();
     globals();
     let mut items = Vec::new(alloc);
     let mut rest = tokens;

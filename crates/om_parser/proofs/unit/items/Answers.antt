@@ -5,7 +5,7 @@ use Rattle.om_tree.specs.Limits.{accepted}
 use Rattle.om_parts.specs.Repetition.{until}
 use Rattle.om_parser.specs.UnitReading.{take_end, item_at}
 use Rattle.om_tree.specs.View.{view_item}
-use Rattle.om_parser.proofs.Loops.{until_begins, until_ends, until_fails, until_goes_on}
+use Rattle.om_phrases.specs.Loops.{until_begins, until_ends, until_fails, until_goes_on}
 use Rattle.om_parser.proofs.UnitSound.{end_shorter, item_shorter}
 use Rattle.om_parser.proofs.unit.items.Goals as goal
 
@@ -25,7 +25,7 @@ returns-in_err-next c =
     (sym c.in_default.ensures) c.in_err-next.ensures c.items.invariant)
 
 pub items-smaller : goal.items-smaller
-items-smaller c = item_shorter c.parts_are_sound.ensures c.globals.ensures.sound accepted (omega arith)
+items-smaller c = item_shorter c.blocks_are_sound.ensures c.globals.ensures.sound accepted (omega arith)
     c.items.rest.now (view_item c.in_ok-next.next) c.in_ok-next.after.now c.in_ok-next.ensures
 
 pub items-preserved : goal.items-preserved
@@ -36,5 +36,5 @@ items-preserved c =
     rw pushed (until_goes_on take_end (item_at accepted) (map view_item c.items.items.items) c.items.rest.now
     (until take_end (item_at accepted) (length c.args.tokens.now) c.args.tokens.now)
     (view_item c.in_ok-next.next) c.in_ok-next.after.now (sym c.in_default.ensures) c.in_ok-next.ensures
-    (item_shorter c.parts_are_sound.ensures c.globals.ensures.sound accepted (omega arith) c.items.rest.now
+    (item_shorter c.blocks_are_sound.ensures c.globals.ensures.sound accepted (omega arith) c.items.rest.now
     (view_item c.in_ok-next.next) c.in_ok-next.after.now c.in_ok-next.ensures) c.items.invariant)

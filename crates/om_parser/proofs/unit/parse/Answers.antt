@@ -5,10 +5,10 @@ use Rattle.om_parser.proofs.unit.parse.Goals as goal
 pub returns-clause-found : goal.returns-clause-found
 returns-clause-found c = is_found
     (record {
-      sound = c.parts_are_sound.ensures;
-      again = c.parts_are_read_again.ensures;
+      sound = c.blocks_are_sound.ensures;
+      again = c.blocks_are_read_again.ensures.read_again;
       stop =
-          c.parts_stop_so.ensures;
+          c.blocks_stop_so.ensures;
       globals_sound = c.globals.ensures.sound;
       globals_again = c.globals.ensures.read_again;
       globals_stop = c.globals.ensures.stop_at_syntax;
@@ -17,10 +17,10 @@ returns-clause-found c = is_found
 pub returns-clause-found_within_limits : goal.returns-clause-found_within_limits
 returns-clause-found_within_limits c = is_within
     (record {
-      sound = c.parts_are_sound.ensures;
-      again = c.parts_are_read_again.ensures;
+      sound = c.blocks_are_sound.ensures;
+      again = c.blocks_are_read_again.ensures.read_again;
       stop =
-          c.parts_stop_so.ensures;
+          c.blocks_stop_so.ensures;
       globals_sound = c.globals.ensures.sound;
       globals_again = c.globals.ensures.read_again;
       globals_stop = c.globals.ensures.stop_at_syntax;
@@ -29,10 +29,10 @@ returns-clause-found_within_limits c = is_within
 pub returns-clause-atomics_have_forms : goal.returns-clause-atomics_have_forms
 returns-clause-atomics_have_forms c = has_forms
     (record {
-      sound = c.parts_are_sound.ensures;
-      again = c.parts_are_read_again.ensures;
+      sound = c.blocks_are_sound.ensures;
+      again = c.blocks_are_read_again.ensures.read_again;
       stop =
-          c.parts_stop_so.ensures;
+          c.blocks_stop_so.ensures;
       globals_sound = c.globals.ensures.sound;
       globals_again = c.globals.ensures.read_again;
       globals_stop = c.globals.ensures.stop_at_syntax;
@@ -41,10 +41,10 @@ returns-clause-atomics_have_forms c = has_forms
 pub returns-clause-every_tree_is_found : goal.returns-clause-every_tree_is_found
 returns-clause-every_tree_is_found c = is_only
     (record {
-      sound = c.parts_are_sound.ensures;
-      again = c.parts_are_read_again.ensures;
+      sound = c.blocks_are_sound.ensures;
+      again = c.blocks_are_read_again.ensures.read_again;
       stop =
-          c.parts_stop_so.ensures;
+          c.blocks_stop_so.ensures;
       globals_sound = c.globals.ensures.sound;
       globals_again = c.globals.ensures.read_again;
       globals_stop = c.globals.ensures.stop_at_syntax;
@@ -53,10 +53,10 @@ returns-clause-every_tree_is_found c = is_only
 pub returns-clause-syntax_has_no_tree : goal.returns-clause-syntax_has_no_tree
 returns-clause-syntax_has_no_tree c = is_syntax
     (record {
-      sound = c.parts_are_sound.ensures;
-      again = c.parts_are_read_again.ensures;
+      sound = c.blocks_are_sound.ensures;
+      again = c.blocks_are_read_again.ensures.read_again;
       stop =
-          c.parts_stop_so.ensures;
+          c.blocks_stop_so.ensures;
       globals_sound = c.globals.ensures.sound;
       globals_again = c.globals.ensures.read_again;
       globals_stop = c.globals.ensures.stop_at_syntax;
@@ -65,10 +65,10 @@ returns-clause-syntax_has_no_tree c = is_syntax
 pub returns-clause-too_deep_passes_a_limit : goal.returns-clause-too_deep_passes_a_limit
 returns-clause-too_deep_passes_a_limit c = is_too_deep
     (record {
-      sound = c.parts_are_sound.ensures;
-      again = c.parts_are_read_again.ensures;
+      sound = c.blocks_are_sound.ensures;
+      again = c.blocks_are_read_again.ensures.read_again;
       stop =
-          c.parts_stop_so.ensures;
+          c.blocks_stop_so.ensures;
       globals_sound = c.globals.ensures.sound;
       globals_again = c.globals.ensures.read_again;
       globals_stop = c.globals.ensures.stop_at_syntax;
@@ -77,10 +77,10 @@ returns-clause-too_deep_passes_a_limit c = is_too_deep
 pub returns-clause-unknown_word : goal.returns-clause-unknown_word
 returns-clause-unknown_word c = is_unknown
     (record {
-      sound = c.parts_are_sound.ensures;
-      again = c.parts_are_read_again.ensures;
+      sound = c.blocks_are_sound.ensures;
+      again = c.blocks_are_read_again.ensures.read_again;
       stop =
-          c.parts_stop_so.ensures;
+          c.blocks_stop_so.ensures;
       globals_sound = c.globals.ensures.sound;
       globals_again = c.globals.ensures.read_again;
       globals_stop = c.globals.ensures.stop_at_syntax;
@@ -89,10 +89,10 @@ returns-clause-unknown_word c = is_unknown
 pub returns-clause-bad_clause : goal.returns-clause-bad_clause
 returns-clause-bad_clause c = is_bad_clause
     (record {
-      sound = c.parts_are_sound.ensures;
-      again = c.parts_are_read_again.ensures;
+      sound = c.blocks_are_sound.ensures;
+      again = c.blocks_are_read_again.ensures.read_again;
       stop =
-          c.parts_stop_so.ensures;
+          c.blocks_stop_so.ensures;
       globals_sound = c.globals.ensures.sound;
       globals_again = c.globals.ensures.read_again;
       globals_stop = c.globals.ensures.stop_at_syntax;
@@ -101,10 +101,10 @@ returns-clause-bad_clause c = is_bad_clause
 pub returns-clause-no_other_refusal : goal.returns-clause-no_other_refusal
 returns-clause-no_other_refusal c = is_no_other
     (record {
-      sound = c.parts_are_sound.ensures;
-      again = c.parts_are_read_again.ensures;
+      sound = c.blocks_are_sound.ensures;
+      again = c.blocks_are_read_again.ensures.read_again;
       stop =
-          c.parts_stop_so.ensures;
+          c.blocks_stop_so.ensures;
       globals_sound = c.globals.ensures.sound;
       globals_again = c.globals.ensures.read_again;
       globals_stop = c.globals.ensures.stop_at_syntax;

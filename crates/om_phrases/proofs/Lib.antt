@@ -1,0 +1,16 @@
+mod LineStarts
+mod Begins
+mod StatementParts
+mod ItemSound
+mod StatementSound
+mod AtomicKinds
+mod Shorter
+mod Started
+mod Forms
+mod StatementTokens
+mod ProductionsComplete
+mod StatementComplete
+mod ConstructCut
+mod ItemsStopped
+mod StatementCut
+mod Blocks

@@ -1,0 +1,314 @@
+-- What statements are made of, as it is read.
+use Rattle.std.proofs.Common.{◌≡◌, ℕ, ◌+◌, ◌≤◌, List, [], ◌∷◌, ◌++◌, Option, None, Err, Bool, true, false, refl, sym}
+use Rattle.std.proofs.Common.{ap, ◌∙◌, arith, inl, inr, ◌⊎◌, cond, All}
+use Rattle.std.specs.List.{flat_map}
+use Rattle.std.proofs.lemmas.List.Elements.{All-head, All-tail}
+use Rattle.om_lexer.specs.declared.fault.SourceFault.{SourceFault}
+use Rattle.om_lexer.specs.declared.token.Keyword.{Keyword}
+use Rattle.om_lexer.specs.declared.token.Keyword.TheVariants as keywords
+use Rattle.om_lexer.specs.declared.token.Punctuator.{Punctuator}
+use Rattle.om_lexer.specs.declared.token.Punctuator.TheVariants as punctuators
+use Rattle.om_lexer.specs.declared.token.Span.{Span}
+use Rattle.om_lexer.specs.declared.token.Token.{Token}
+use Rattle.om_lexer.specs.declared.token.TokenKind.{TokenKind}
+use Rattle.om_lexer.specs.declared.token.TokenKind.TheVariants as kinds
+use Rattle.om_pragma.specs.declared.tree.Directive.{Directive}
+use Rattle.om_pragma.specs.Questions.{is_stand_alone, is_section}
+use Rattle.om_pragma.specs.Spelling.{directive_spelling}
+use Rattle.om_phrases.specs.declared.construct.LineStart.{LineStart}
+use Rattle.om_phrases.specs.declared.construct.LineStart.TheVariants as lines
+use Rattle.om_phrases.specs.declared.statement.Inside.{Inside}
+use Rattle.om_phrases.specs.declared.statement.Inside.TheVariants as insides
+use Rattle.om_phrases.specs.declared.start.Start.{Start}
+use Rattle.om_phrases.specs.declared.start.Start.TheVariants as starts
+use Rattle.om_phrases.specs.ConstructReading.{line_start, PartsReader}
+use Rattle.om_parts.specs.Reading.{Outcome, Reader, take_word}
+use Rattle.om_tree.specs.Spelling.{token, mark, word, perhaps, expression_spelling, condition_spelling}
+use Rattle.om_tree.specs.Spelling.{for_head_spelling, statement_spelling, statements_spelling}
+use Rattle.om_tree.specs.Formed.{IsOptional, IsForStart, ends_open, IsBody, IsBlockItem, IsSectionItem, IsPartItem}
+use Rattle.om_tree.specs.Formed.{AreSome, IsStatement, AreStatements, AreSectionItems}
+use Rattle.om_tree.specs.Limits.{Limits}
+use Rattle.om_tree.specs.Sizes.{longest_of, brackets_of, blocks_of, height_of, HasForms, HaveForms, HasRoom, HaveRoom}
+use Rattle.om_tree.specs.Sizes.{optional_extent, optional_nesting, for_start_extent, for_start_nesting}
+use Rattle.om_phrases.specs.StatementReading.{start_of, OpeningTree, OpensIf, OpensWhile, OpensFor}
+use Rattle.om_tree.specs.Tree.{ExpressionTree, ForStartTree, ForHeadTree, StatementTree, StatementsTree}
+use Rattle.om_tree.specs.Tree.{LocalDeclaration, Section, statements}
+use Rattle.om_parts.specs.Laws.{IsSound, IsWhole}
+use Rattle.om_phrases.specs.Outcomes.{ok}
+use Rattle.om_phrases.proofs.LineStarts.{line_start_is, start_of_directive}
+
+-- ---- what a first token is
+
+-- the token that begins such a statement, where there is only one
+abbrev pub IsOf : Start → TokenKind → Type 0
+IsOf starts.Block k = k ≡ kinds.Punctuator punctuators.OpenBrace
+IsOf starts.Empty k = k ≡ kinds.Punctuator punctuators.Semicolon
+IsOf starts.If k = k ≡ kinds.Keyword keywords.If
+IsOf starts.While k = k ≡ kinds.Keyword keywords.While
+IsOf starts.Do k = k ≡ kinds.Keyword keywords.Do
+IsOf starts.For k = k ≡ kinds.Keyword keywords.For
+IsOf starts.Return k = k ≡ kinds.Keyword keywords.Return
+IsOf starts.Break k = k ≡ kinds.Keyword keywords.Break
+IsOf starts.Continue k = k ≡ kinds.Keyword keywords.Continue
+IsOf starts.Directive k = k ≡ kinds.DirectiveBegin
+IsOf starts.Expression k = Unit {0}
+IsOf starts.Nothing k = Unit {0}
+
+mark_of_start : (p : Punctuator) → IsOf (start_of (kinds.Punctuator p)) (kinds.Punctuator p)
+mark_of_start punctuators.OpenBrace = refl
+mark_of_start punctuators.Semicolon = refl
+mark_of_start _ = tt
+
+word_of_start : (k : Keyword) → IsOf (start_of (kinds.Keyword k)) (kinds.Keyword k)
+word_of_start keywords.If = refl
+word_of_start keywords.While = refl
+word_of_start keywords.Do = refl
+word_of_start keywords.For = refl
+word_of_start keywords.Return = refl
+word_of_start keywords.Break = refl
+word_of_start keywords.Continue = refl
+word_of_start _ = tt
+
+pub is_of_start : (k : TokenKind) → IsOf (start_of k) k
+is_of_start (kinds.Punctuator p) = mark_of_start p
+is_of_start (kinds.Keyword k) = word_of_start k
+is_of_start kinds.DirectiveBegin = refl
+is_of_start _ = tt
+
+-- ---- the parts
+
+-- an expression that may be left out, within the limits
+pub record IsWholeOptional (l : Limits) (round : ℕ) (e : Option ExpressionTree) : Type 0 where
+  pub formed : IsOptional e
+  pub nested : optional_nesting e + round ≤ l.nested
+  pub long : optional_extent e ≤ l.tokens
+
+-- what a `for` begins with, within the limits
+pub record IsWholeStart (l : Limits) (s : ForStartTree) : Type 0 where
+  pub formed : IsForStart s
+  pub nested : for_start_nesting s + 1 ≤ l.nested
+  pub long : for_start_extent s ≤ l.tokens
+
+pub record IsWholeHead (l : Limits) (h : ForHeadTree) : Type 0 where
+  pub start : IsWholeStart l h.start
+  pub condition : IsWholeOptional l 1 h.condition
+  pub step : IsWholeOptional l 1 h.step
+
+abbrev pub optional_spelling : Punctuator → Option ExpressionTree × Span → List Token
+optional_spelling p e = perhaps expression_spelling e.0 ++ mark p e.1 ∷ []
+
+abbrev pub opening_spelling : OpeningTree → List Token
+opening_spelling (OpensIf at c) = word keywords.If at ∷ condition_spelling c
+opening_spelling (OpensWhile at c) = word keywords.While at ∷ condition_spelling c
+opening_spelling (OpensFor h) = for_head_spelling h
+
+abbrev pub IsWholeOpening : Limits → OpeningTree → Type 0
+IsWholeOpening l (OpensIf at c) = IsWhole l 1 c.value
+IsWholeOpening l (OpensWhile at c) = IsWhole l 1 c.value
+IsWholeOpening l (OpensFor h) = IsWholeHead l h
+
+-- a well-formed statement that keeps the limits
+pub record IsGood (l : Limits) (checked : Bool) (room blocks_left : ℕ) (s : StatementTree) : Type 0 where
+  pub formed : IsStatement s
+  pub room_for : HasRoom l checked room blocks_left s
+
+-- the same of one that may be a part of another
+pub record IsGoodBody (l : Limits) (checked : Bool) (room blocks_left : ℕ) (s : StatementTree) : Type 0 where
+  pub good : IsGood l checked room blocks_left s
+  pub body : IsBody s
+
+-- it may stand in such braces
+abbrev pub StandsInside : Inside → StatementTree → Type 0
+StandsInside insides.Block s = IsBlockItem s
+StandsInside insides.Sections s = IsSectionItem s
+
+-- they are well-formed items of such braces
+abbrev pub AreInside : Inside → StatementsTree → Type 0
+AreInside insides.Block items = AreStatements items
+AreInside insides.Sections items = AreSectionItems items
+
+-- the same of one that may stand in such braces
+pub record IsGoodItem (i : Inside) (l : Limits) (checked : Bool) (room blocks_left : ℕ) (s : StatementTree) : Type 0
+  where
+    pub formed : IsStatement s
+    pub room_for : HasRoom l checked room blocks_left s
+    pub inside : StandsInside i s
+
+-- the same of one that may stand behind `section`
+pub record IsGoodPart (l : Limits) (checked : Bool) (room blocks_left : ℕ) (s : StatementTree) : Type 0 where
+  pub formed : IsStatement s
+  pub room_for : HasRoom l checked room blocks_left s
+  pub part : IsPartItem s
+
+pub record AreGood (i : Inside) (l : Limits) (checked : Bool) (room blocks_left : ℕ)
+    (items : List StatementTree) : Type 0 where
+  pub formed : AreInside i (statements items)
+  pub room_for : HaveRoom l checked room blocks_left (statements items)
+
+none_inside : (i : Inside) → AreInside i (statements [])
+unfolding IsStatement
+none_inside insides.Block = tt
+none_inside insides.Sections = tt
+
+one_more_inside : (i : Inside) (s : StatementTree) (rest : List StatementTree) → IsStatement s → StandsInside i s
+    → AreInside i (statements rest) → AreInside i (statements (s ∷ rest))
+unfolding IsStatement
+one_more_inside insides.Block s rest formed inside others = (formed, inside, others)
+one_more_inside insides.Sections s rest formed inside others = (formed, inside, others)
+
+pub are_good : (i : Inside) (l : Limits) (checked : Bool) (room blocks_left : ℕ) (items : List StatementTree)
+    → All (IsGoodItem i l checked room blocks_left) items → AreGood i l checked room blocks_left items
+unfolding HasForms
+are_good i l checked room blocks_left [] h = record {
+  formed = none_inside i;
+  room_for = record
+      { high = omega arith; deep = omega arith; nested = omega arith; long = omega arith; forms = tt };
+}
+are_good i l checked room blocks_left (s ∷ rest) h =
+    let first = All-head (IsGoodItem i l checked room blocks_left) s rest h in
+    let others = are_good i l checked room blocks_left rest (All-tail (IsGoodItem i l checked room blocks_left) s
+    rest h) in
+    record {
+      formed = one_more_inside i s rest first.formed first.inside others.formed;
+      room_for = record {
+        high = omega (arith, first.room_for.high, others.room_for.high);
+        deep = omega (arith, first.room_for.deep, others.room_for.deep);
+        nested = omega (arith, first.room_for.nested, others.room_for.nested);
+        long = omega (arith, first.room_for.long, others.room_for.long);
+        forms = (first.room_for.forms, others.room_for.forms);
+      };
+    }
+
+-- what may be a part of another statement may stand behind `section`, and what stands there in any braces
+pub body_is_part : (s : StatementTree) → IsBody s → IsPartItem s
+body_is_part (LocalDeclaration d) body = absurd body
+body_is_part (Section d s) body = absurd body
+body_is_part _ body = tt
+
+pub part_inside : (i : Inside) (s : StatementTree) → IsPartItem s → StandsInside i s
+part_inside i (LocalDeclaration d) part = absurd part
+part_inside i (Section d s) part = absurd part
+part_inside insides.Block _ part = tt
+part_inside insides.Sections _ part = tt
+
+pub statements_flat : (items : List StatementTree) → statements_spelling (statements items)
+    ≡ flat_map statement_spelling items
+unfolding statement_spelling
+statements_flat [] = refl
+statements_flat (s ∷ rest) = ap (λ w. statement_spelling s ++ w) (statements_flat rest)
+
+-- a well-formed statement that stands at the front, as far as it can
+pub record IsStatementRead (l : Limits) (checked : Bool) (room blocks_left : ℕ) (ts : List Token) (x : StatementTree
+    × List Token) : Type 0 where
+  pub parts : ts ≡ statement_spelling x.0 ++ x.1
+  pub good : IsGoodBody l checked room blocks_left x.0
+  pub nearest : ends_open x.0 ≡ true → take_word keywords.Else x.1 ≡ None
+
+abbrev pub IsStatementSound : (l : Limits) (checked : Bool) (room blocks_left : ℕ) → Reader StatementTree → Type 0
+IsStatementSound l checked room blocks_left r = (ts : List Token) (x : StatementTree × List Token) → r ts ≡ ok x
+    → IsStatementRead l checked room blocks_left ts x
+
+-- the items of a block that are read behind its left brace
+pub record AreItemsRead (l : Limits) (checked : Bool) (room blocks_left : ℕ) (ts : List Token)
+    (x : List StatementTree × Span × List Token) : Type 0 where
+  pub parts : ts ≡ (statements_spelling (statements x.0) ++ mark punctuators.CloseBrace x.1 ∷ []) ++ x.2
+  pub formed : AreStatements (statements x.0)
+  pub high : height_of (statements x.0) ≤ room
+  pub deep : blocks_of (statements x.0) + 1 ≤ blocks_left
+  pub nested : brackets_of (statements x.0) ≤ l.nested
+  pub long : longest_of (statements x.0) ≤ l.tokens
+  pub forms : HaveForms checked (statements x.0)
+
+-- the items of such braces that are read behind the left one
+pub record AreItemsInside (i : Inside) (l : Limits) (checked : Bool) (room blocks_left : ℕ) (ts : List Token)
+    (x : List StatementTree × Span × List Token) : Type 0 where
+  pub parts : ts ≡ (statements_spelling (statements x.0) ++ mark punctuators.CloseBrace x.1 ∷ []) ++ x.2
+  pub good : AreGood i l checked room blocks_left x.0
+
+-- the braces of `sections`, with what stands in them
+abbrev pub braces_spelling : Span × StatementsTree × Span → List Token
+braces_spelling x = mark punctuators.OpenBrace x.0 ∷ (statements_spelling x.1 ++ mark punctuators.CloseBrace x.2 ∷ [])
+
+-- well-formed items in the braces of `sections` that keep the limits; the braces are a statement and a block
+pub record AreGoodBraces (l : Limits) (checked : Bool) (room blocks_left : ℕ) (x : Span × StatementsTree
+    × Span) : Type 0 where
+  pub one_stands : AreSome x.1
+  pub formed : AreSectionItems x.1
+  pub high : height_of x.1 + 1 ≤ room
+  pub deep : blocks_of x.1 + 1 ≤ blocks_left
+  pub nested : brackets_of x.1 ≤ l.nested
+  pub long : longest_of x.1 ≤ l.tokens
+  pub forms : HaveForms checked x.1
+
+abbrev pub AreBracesSound : (l : Limits) (checked : Bool) (room blocks_left : ℕ) → PartsReader → Type 0
+AreBracesSound l checked room blocks_left r = IsSound braces_spelling (AreGoodBraces l checked room blocks_left) r
+
+-- what begins with such a first token
+abbrev pub Whole : Start → Span → List Token → List Token
+Whole starts.Block at ts = mark punctuators.OpenBrace at ∷ ts
+Whole starts.Empty at ts = mark punctuators.Semicolon at ∷ ts
+Whole starts.If at ts = word keywords.If at ∷ ts
+Whole starts.While at ts = word keywords.While at ∷ ts
+Whole starts.Do at ts = word keywords.Do at ∷ ts
+Whole starts.For at ts = word keywords.For at ∷ ts
+Whole starts.Return at ts = word keywords.Return at ∷ ts
+Whole starts.Break at ts = word keywords.Break at ∷ ts
+Whole starts.Continue at ts = word keywords.Continue at ∷ ts
+Whole starts.Directive at ts = token kinds.DirectiveBegin at ∷ ts
+Whole starts.Expression at ts = []
+Whole starts.Nothing at ts = []
+
+-- ---- the names of lines
+
+-- what a line begins whose directive is of these kinds
+abbrev start_of_kinds : (alone section : Bool) → LineStart
+start_of_kinds alone section = cond alone lines.StandAlone (cond section lines.Section lines.Construct)
+
+alone_of_kinds : (alone section : Bool) → start_of_kinds alone section ≡ lines.StandAlone → alone ≡ true
+alone_of_kinds true section e = refl
+alone_of_kinds false true e = absurd cc
+alone_of_kinds false false e = absurd cc
+
+section_of_kinds : (alone section : Bool) → start_of_kinds alone section ≡ lines.Section → section ≡ true
+section_of_kinds true section e = absurd cc
+section_of_kinds false true e = refl
+section_of_kinds false false e = absurd cc
+
+construct_of_kinds : (alone section : Bool) → start_of_kinds alone section ≡ lines.Construct → (alone ≡ false)
+    × (section ≡ false)
+construct_of_kinds true section e = absurd cc
+construct_of_kinds false true e = absurd cc
+construct_of_kinds false false e = (refl, refl)
+
+-- what the line that stands first begins is what its name says
+pub line_named : (ts : List Token) (d : Directive ExpressionTree) (us : List Token) (start : LineStart)
+    → line_start ts ≡ start → ts ≡ directive_spelling expression_spelling d ++ us → start_of_directive d.name ≡ start
+line_named ts d us start is parts = sym (line_start_is d us) ∙ ap line_start (sym parts) ∙ is
+
+pub alone_named : (ts : List Token) (d : Directive ExpressionTree) (us : List Token) → line_start ts
+    ≡ lines.StandAlone → ts ≡ directive_spelling expression_spelling d ++ us → is_stand_alone d.name ≡ true
+alone_named ts d us is parts = alone_of_kinds (is_stand_alone d.name) (is_section d.name)
+    (line_named ts d us lines.StandAlone is parts)
+
+pub section_named : (ts : List Token) (d : Directive ExpressionTree) (us : List Token) → line_start ts
+    ≡ lines.Section → ts ≡ directive_spelling expression_spelling d ++ us → is_section d.name ≡ true
+section_named ts d us is parts = section_of_kinds (is_stand_alone d.name) (is_section d.name)
+    (line_named ts d us lines.Section is parts)
+
+pub construct_named : (ts : List Token) (d : Directive ExpressionTree) (us : List Token) → line_start ts
+    ≡ lines.Construct → ts ≡ directive_spelling expression_spelling d ++ us → (is_stand_alone d.name ≡ false)
+    × (is_section d.name ≡ false)
+construct_named ts d us is parts = construct_of_kinds (is_stand_alone d.name) (is_section d.name)
+    (line_named ts d us lines.Construct is parts)
+
+-- one of two outcomes, by a test
+pub either_way : {A : Type 0} (b : Bool) (first other x : A) → cond b first other ≡ x → ((b ≡ true) × (first ≡ x))
+    ⊎ ((b ≡ false) × (other ≡ x))
+either_way true first other x h = inl (refl, h)
+either_way false first other x h = inr (refl, h)
+
+-- an outcome that is good only where a test holds
+pub only_where : {A : Type 0} (b : Bool) (first : Outcome A) (f : SourceFault) (x : A) → cond b first (Err f) ≡ ok x
+    → (b ≡ true) × (first ≡ ok x)
+only_where true first f x h = (refl, h)
+only_where false first f x h = absurd cc

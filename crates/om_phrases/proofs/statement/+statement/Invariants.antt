@@ -1,0 +1,75 @@
+use Rattle.std.proofs.Common.{◌+◌, ◌*◌, length, map}
+use Rattle.om_lexer.specs.declared.token.Punctuator.TheVariants.{CloseBrace}
+use Rattle.om_tree.specs.Limits.{accepted}
+use Rattle.om_parts.specs.PartReading.{parts}
+use Rattle.om_parts.specs.Reading.{take_mark}
+use Rattle.om_parts.specs.Repetition.{until}
+use Rattle.om_phrases.specs.StatementReading.{item_at, statement_at}
+use Rattle.om_tree.specs.View.{view_statement}
+use Rattle.om_phrases.specs.Loops.{GoesOn}
+use Rattle.om_phrases.proofs.statement.+statement.Given as goal
+
+abbrev pub decreases-statement : goal.decreases-statement
+decreases-statement l = 8 * l.room.statements
+
+abbrev pub decreases-behind_body : goal.decreases-behind_body
+decreases-behind_body l = 8 * l.room.statements + 1
+
+abbrev pub decreases-headed : goal.decreases-headed
+decreases-headed l = 8 * l.room.statements + 2
+
+abbrev pub decreases-do_after : goal.decreases-do_after
+decreases-do_after l = 8 * l.room.statements + 1
+
+abbrev pub decreases-part_item : goal.decreases-part_item
+decreases-part_item l = 8 * l.room.statements + 1
+
+abbrev pub decreases-block_item : goal.decreases-block_item
+decreases-block_item l = 8 * l.room.statements + 2
+
+abbrev pub decreases-section : goal.decreases-section
+decreases-section l = 8 * l.room.statements + 2
+
+abbrev pub decreases-section_item : goal.decreases-section_item
+decreases-section_item l = 8 * l.room.statements + 3
+
+abbrev pub decreases-item : goal.decreases-item
+decreases-item l = 8 * l.room.statements + 4
+
+abbrev pub decreases-items : goal.decreases-items
+decreases-items l = 8 * l.room.statements + 5
+
+abbrev pub decreases-section_items : goal.decreases-section_items
+decreases-section_items l = 8 * l.room.statements + 6
+
+abbrev pub decreases-block_after : goal.decreases-block_after
+decreases-block_after l = 8 * l.room.statements + 6
+
+abbrev pub decreases-constructed : goal.decreases-constructed
+decreases-constructed l = 8 * l.room.statements + 1
+
+abbrev pub decreases-atomic : goal.decreases-atomic
+decreases-atomic l = 8 * l.room.statements + 1
+
+abbrev pub decreases-braces : goal.decreases-braces
+decreases-braces l = 8 * l.room.statements + 1
+
+abbrev pub decreases-sections : goal.decreases-sections
+decreases-sections l = 8 * l.room.statements + 2
+
+abbrev pub decreases-construct : goal.decreases-construct
+decreases-construct l = 8 * l.room.statements + 3
+
+abbrev pub decreases-directive : goal.decreases-directive
+decreases-directive l = 8 * l.room.statements + 4
+
+-- what was read before, and what is still to be read, make the whole
+abbrev pub invariant-items-items : goal.invariant-items-items
+invariant-items-items l =
+    let item = item_at l.kind (parts accepted) (statement_at (parts accepted) l.room.checked l.room.statements
+    l.room.blocks) in
+    GoesOn (take_mark CloseBrace) item (map view_statement l.items.items) l.rest (until (take_mark CloseBrace) item
+    (length l.tokens) l.tokens)
+
+abbrev pub decreases-items-items : goal.decreases-items-items
+decreases-items-items l = length l.rest

@@ -1,0 +1,13 @@
+pub mod ConstructReading
+pub mod StatementReading
+pub mod StatementView
+pub mod LineFaults
+pub mod Faults
+pub mod Laws
+pub mod Outcomes
+pub mod Taken
+pub mod Again
+pub mod Loops
+pub mod ItemsSound
+pub mod ItemsComplete
+pub mod Stopped
