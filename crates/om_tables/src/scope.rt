@@ -119,5 +119,6 @@ impl<'a> Scope<'a> {
 fn number_at(numbers: &[u32], index: usize) -> Option<u32>
     ensures { result ≡ slice_get numbers.now index }
 {
-    numbers.get(index).copied()
+    let number = numbers.get(index)?;
+    Some(*number)
 }
