@@ -1,6 +1,3 @@
 pub mod Growing
 pub mod Rolls
-pub mod Counting
-pub mod Pigeons
 pub mod Answering
-pub mod Sent

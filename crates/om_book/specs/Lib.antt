@@ -1,5 +1,3 @@
 pub mod Runs
 pub mod Journals
 pub mod Books
-pub mod Seats
-pub mod Standing

@@ -153,7 +153,8 @@ impl Book {
         ensures full { IfErr result (λ e. e ≡ CallError.Full ↔ 200000 ≤ records_of self.old) }
         ensures room { OnOk result (records_of self.old < 200000) }
     {
-        let (reply, _) = self.apply_with_copy(alloc, seat, command)?;
+        let (reply, copy) = self.apply_with_copy(alloc, seat, command)?;
+        drop(copy);
         Ok(reply)
     }
 

@@ -4,7 +4,7 @@ use Rattle.std.proofs.Common.{get_or, subst}
 use Rattle.std.proofs.lemmas.List.{take_all}
 use Rattle.std.proofs.lemmas.List.Elements.{All-more}
 use Rattle.std.proofs.lemmas.Option.{slice_get_read}
-use Rattle.om_book.specs.Seats.{SeatView}
+use Rattle.om_session.specs.Seats.{SeatView}
 use Rattle.om_book.specs.declared.reply.Reply.{Reply}
 use Rattle.om_drive.specs.declared.order.Order.{Order}
 use Rattle.om_drive.specs.Backing.{Has, MadeFrom, IsMade}

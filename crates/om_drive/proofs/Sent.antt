@@ -3,15 +3,9 @@ use denote.RattleType.{RattleType}
 use denote.Ref.{NamedLft}
 use denote.Param.Send.{IsSend, IsSync, sendable}
 use Rattle.std.specs.declared.sync.ledger.Ledger as ledger
-use Rattle.om_book.specs.declared.session.Sitting as sitting
-use Rattle.om_book.proofs.Sent.{session_sync}
-use Rattle.om_book.specs.contracts.session.Seat as seat
-use Rattle.om_book.proofs.session.Seat.TheSendSync as seated
+use Rattle.om_session.specs.declared.session.Sitting as sitting
+use Rattle.om_session.specs.Crossing.{session_sync, seat_send}
 use Rattle.om_drive.specs.contracts.sitter.Sitter as sitter
-
-seat_send : (L : RattleType) (g : sitting.Ghosts L.Denot) (l : ledger.Ghosts L.Denot) → IsSend L → IsSync L
-    → IsSend (seat.the_row L g l)
-seat_send L g l a b = search (seated.the_send, sendable) depth 40
 
 pub sitter_send : (s : NamedLft) (L : RattleType) (g : sitting.Ghosts L.Denot) (l : ledger.Ghosts L.Denot)
     → IsSend L → IsSync L → IsSend (sitter.the_row s L g l)

@@ -2,10 +2,10 @@
 use Rattle.std.specs.Prelude.{◌≡◌, ◌+◌, ℕ, suc, Bool, true, false, cond, List, [], ◌∷◌, ◌++◌, map, sum_by, refl}
 use Rattle.std.proofs.Common.{◌∙◌, ap, arith, sym}
 use Rattle.std.proofs.lemmas.List.Sums.{sum_by-append, sum_by-cons}
-use Rattle.om_book.specs.Seats.{SeatView}
+use Rattle.om_session.specs.Seats.{SeatView}
 use Rattle.om_book.specs.declared.command.Command.TheVariants as command
 use Rattle.om_book.specs.declared.command.Query.{Query}
-use Rattle.om_book.specs.declared.receipt.Receipt.{Receipt}
+use Rattle.om_session.specs.declared.receipt.Receipt.{Receipt}
 use Rattle.om_book.specs.declared.reply.Reply.{Reply}
 use Rattle.om_drive.specs.Steps.{makes_step, steps_in, steps_of}
 

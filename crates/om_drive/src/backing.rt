@@ -4,7 +4,8 @@ ghost use Rattle.std.specs.Prelude.{◌≡◌, ◌≤◌, ℕ, IsTrue, All, leng
 ghost use Rattle.om_drive.specs.Backing.{Has, MadeFrom, IsMade, IsBacked};
 
 use crate::order::{Answer, Order};
-use om_book::{Command, Receipt, Reply, Seat, Sitting};
+use om_book::{Command, Reply};
+use om_session::{Receipt, Seat, Sitting};
 
 /// Whether the receipt of a call is among these.
 #[tactic(auto, using(crate::proofs::Backed::has_at))]

@@ -4,7 +4,8 @@ ghost use Rattle.std.specs.Prelude.{◌≡◌, ◌≤◌, ◌+◌, ◌++◌, [],
 ghost use Rattle.om_drive.specs.Calls.{place_of, last_place_in};
 
 use crate::worker::Debuggee;
-use om_book::{CallError, Command, Receipt, Reply, Seat, Session, Sitting};
+use om_book::{CallError, Command, Reply};
+use om_session::{Receipt, Seat, Session, Sitting};
 use std::alloc::Global;
 use std::sync::Wait;
 

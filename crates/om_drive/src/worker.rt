@@ -2,7 +2,7 @@
 
 ghost use Rattle.std.specs.Prelude.{◌≡◌, ℕ, ◌++◌, ◌∷◌, [], List, IfOk, OnErr, None, Some};
 ghost use Rattle.om_book.specs.Runs.{IsInRange};
-ghost use Rattle.om_book.specs.declared.receipt.Receipt.{Receipt};
+ghost use Rattle.om_session.specs.declared.receipt.Receipt.{Receipt};
 ghost use Rattle.om_drive.specs.Calls.{Place, last_place_in};
 
 use crate::order::{Answer, Order};

@@ -7,8 +7,8 @@ use Rattle.om_book.specs.Runs.{IsAnswer, IsReply, after}
 use Rattle.om_book.specs.Runs as runs
 use Rattle.om_book.specs.Journals as journals
 use Rattle.om_book.specs.Books.{BookView, machine_of, records_of}
-use Rattle.om_book.specs.Seats.{SeatView, seats_below}
-use Rattle.om_book.specs.Standing.{AllDiffer, number_of}
+use Rattle.om_session.specs.Seats.{SeatView, seats_below}
+use Rattle.om_session.specs.Standing.{AllDiffer, number_of}
 use Rattle.om_book.specs.declared.book.JournalRecord.{JournalRecord}
 use Rattle.om_book.specs.declared.command.Command.{Command}
 use Rattle.om_book.specs.declared.command.Command.TheVariants as command

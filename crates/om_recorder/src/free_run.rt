@@ -2,8 +2,9 @@
 
 ghost use Rattle.std.specs.Prelude.{◌≡◌, ◌≤◌, IfOk, vec_len};
 
-use om_book::{Blank, Book, Closed, NotOpened, Session, Sitting};
+use om_book::Book;
 use om_drive::{Crew, Freed, Gate, free};
+use om_session::{Blank, Closed, NotOpened, Session, Sitting};
 use std::alloc::{AllocError, Global};
 use std::sync::Wait;
 use std::thread::Threads;

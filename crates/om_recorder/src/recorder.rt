@@ -10,10 +10,11 @@ ghost use Rattle.om_undo.specs.Machines.{rules_for, state_in};
 
 use crate::free_run::{Count, Errand, open_gates, run_through};
 use core::mem::replace_with;
-use om_book::{Blank, Book};
+use om_book::Book;
 use om_cells::{Choice, Entry, Val};
 use om_code::program::Program;
 use om_foot::{Name, Obj};
+use om_session::Blank;
 use om_undo::laws::one_ready_list;
 use om_undo::{Machine, RollReply, StepReply, UndoReply};
 use std::alloc::{AllocError, Global};

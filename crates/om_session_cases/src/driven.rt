@@ -4,8 +4,9 @@ ghost use Rattle.std.specs.Prelude.{◌≡◌, IfOk, length, vec_len};
 
 use crate::orders::steps_of;
 use anyhow::Result;
-use om_book::{Blank, Book, Closed, Session, Sitting};
+use om_book::Book;
 use om_drive::{Crew, Driven, Gate, Order, drive};
+use om_session::{Blank, Closed, Session, Sitting};
 use om_shell::debuggee_of;
 use om_view::Debuggee;
 use std::alloc::{AllocError, Global};

@@ -1,6 +1,6 @@
 use Rattle.std.proofs.Common.{◌≡◌, ◌∙◌, ◌+◌, ◌++◌, List, map, sum_by, ap, sym}
 use denote.Param.Send.{sendable}
-use Rattle.om_book.specs.Seats.{SeatView}
+use Rattle.om_session.specs.Seats.{SeatView}
 use Rattle.om_drive.specs.Calls.{place_of}
 use Rattle.om_drive.specs.Steps.{steps_of}
 use Rattle.om_drive.proofs.Places.{numbers_same}

@@ -1,6 +1,6 @@
 use Rattle.std.proofs.Common.{rules, ◌≡◌, ◌∙◌, ◌++◌, [], List, All, map, ap, subst}
 use denote.Param.Send.{sendable}
-use Rattle.om_book.specs.Seats.{SeatView}
+use Rattle.om_session.specs.Seats.{SeatView}
 use Rattle.om_drive.specs.Calls.{place_of}
 use Rattle.om_drive.specs.Rounds.{in_rounds}
 use Rattle.om_drive.specs.Backing.{IsBacked}

@@ -1,9 +1,9 @@
 use Rattle.std.proofs.Common.{◌≡◌, ◌+◌, ◌-◌, length, sum_by, arith}
 use Rattle.std.proofs.lemmas.Grind.{common_steps}
 use Rattle.om_book.specs.Books.{calls_in}
-use Rattle.om_book.specs.Standing.{CountsAll, receipts_in}
-use Rattle.om_book.proofs.Pigeons.{covers}
-use Rattle.om_book.proofs.session.Session.close.Goals as goal
+use Rattle.om_session.specs.Standing.{CountsAll, receipts_in}
+use Rattle.om_session.proofs.Pigeons.{covers}
+use Rattle.om_session.proofs.session.Session.close.Goals as goal
 
 pub returns-clause-covers : goal.returns-clause-covers
 returns-clause-covers g c = λ same.

@@ -1,6 +1,6 @@
 use Rattle.std.proofs.Common.{ℕ, ◌≤◌, ◌+◌, drop}
-use Rattle.om_book.specs.Standing.{Counts}
-use Rattle.om_book.proofs.receipt.standing.Given as goal
+use Rattle.om_session.specs.Standing.{Counts}
+use Rattle.om_session.proofs.receipt.standing.Given as goal
 
 abbrev pub invariant-loop-receipt : goal.invariant-loop-receipt
 invariant-loop-receipt l = record {

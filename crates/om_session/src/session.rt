@@ -1,17 +1,15 @@
 //! Sessions: seats that call one book, which lies under one lock.
 
-ghost use Rattle.std.specs.Prelude.{◌≡◌, ℕ, ◌<◌, ◌≤◌, ◌+◌, [], ◌↔◌, IfOk, IfErr, OnErr, IsOk, length, vec_len, sum_by, ◌^◌};
+ghost use Rattle.std.specs.Prelude.{◌≡◌, ℕ, ◌<◌, ◌≤◌, ◌+◌, [], ◌↔◌, IfOk, IfErr, OnOk, OnErr, IsOk, length, vec_len, sum_by, ◌^◌};
 ghost use Rattle.om_book.specs.Runs.{IsInRange, IsReply};
 ghost use Rattle.om_undo.specs.Machines.{MachineView};
 ghost use Rattle.om_book.specs.Books.{BookView, calls_in, machine_of, with_record, IsGrown};
-ghost use Rattle.om_book.specs.Seats.{seats_below, with_receipt};
-ghost use Rattle.om_book.specs.Standing.{CountsAll, Covers, AllDiffer, receipts_in};
+ghost use Rattle.om_session.specs.Seats.{seats_below, with_receipt};
+ghost use Rattle.om_session.specs.Standing.{CountsAll, Covers, AllDiffer, receipts_in};
 
-use crate::book::{Book, CallError, JournalRecord};
-use crate::command::Command;
 use crate::receipt::{Receipt, standing};
-use crate::reply::Reply;
-use std::alloc::Global;
+use om_book::{Book, CallError, Command, JournalRecord, Reply};
+use std::alloc::{AllocError, Global};
 use std::marker::{Brand, Model};
 use std::sync::ledger::{Ledger, Share};
 use std::sync::{Mutex, Wait, ledger};
@@ -84,7 +82,7 @@ pub struct Seat<L: Sitting> {
 
 impl<L: Sitting> Model for Seat<L> {
     ghost use Rattle.std.specs.Prelude.{◌≡◌, length};
-    ghost use Rattle.om_book.specs.Seats.{SeatView};
+    ghost use Rattle.om_session.specs.Seats.{SeatView};
 
     ghost Value = { SeatView };
 
@@ -147,7 +145,7 @@ impl<L: Sitting> Desk<L> {
         if seat.receipts.reserve(1).is_err() {
             return Err(CallError::OutOfMemory);
         }
-        let asked = command.again();
+        let asked = again(&command);
         let (reply, copy) = book.apply_with_copy(alloc, seat.number, command)?;
         calls.add(&mut seat.share, 1);
         match seat.receipts.push(Receipt {
@@ -159,6 +157,13 @@ impl<L: Sitting> Desk<L> {
             Err(_) => unreachable!(),
         }
     }
+}
+
+/// The same command once more.
+fn again(command: &Command) -> Command
+    ensures { result ≡ command.now }
+{
+    *command
 }
 
 /// A book that threads call through seats, one call at a time.
@@ -175,7 +180,7 @@ pub struct Session<L: Sitting> {
 impl<L: Sitting> Model for Session<L> {
     ghost use Rattle.std.specs.Prelude.{◌≡◌};
     ghost use Rattle.om_book.specs.Books.{calls_in};
-    ghost use Rattle.om_book.specs.Seats.{SessionView};
+    ghost use Rattle.om_session.specs.Seats.{SessionView};
 
     ghost Value = { SessionView };
 
@@ -212,7 +217,6 @@ pub struct Unclosed<L: Sitting> {
 impl<L: Sitting> Session<L> {
     /// Opens a session over a book. Its seats are numbered from 0, in their order. It is refused
     /// only for memory.
-    #[tactic(auto, using(crate::proofs::Counting::seats_below_next))]
     pub fn new(
         alloc: Global,
         blank: Blank,
@@ -231,14 +235,8 @@ impl<L: Sitting> Session<L> {
         } = blank;
         let (calls, mut rest) = ledger.open::<L>();
         let mut seats = Vec::new(alloc);
-        if seats.reserve(usize::from(count)).is_err() {
+        if seat_all(alloc, count, &mut rest, &mut seats).is_err() {
             return Err(NotOpened { book });
-        }
-        for number in 0..count {
-            let share = rest.split_off(1, 0);
-            if seats.push(Seat::new(alloc, number, share)).is_err() {
-                return Err(NotOpened { book });
-            }
         }
         let workers = book.machine().workers();
         let opened = book.journal().len();
@@ -331,6 +329,32 @@ impl<L: Sitting> Session<L> {
             standing,
         })
     }
+}
+
+/// Makes so many seats, numbered from 0, each with one part of a share. When out of memory, some of
+/// them are made.
+#[tactic(auto, using(crate::proofs::Counting::seats_below_next))]
+fn seat_all<L: Sitting>(
+    alloc: Global,
+    count: u8,
+    rest: &mut Share<L>,
+    seats: &mut Vec<Seat<L>>,
+) -> Result<(), AllocError>
+    requires parts { rest.old.parts ≡ count }
+    requires amount { rest.old.amount ≡ 0 }
+    requires none { seats.old.items ≡ [] }
+    ensures seats { OnOk result (seats.new.items ≡ seats_below count) }
+    ensures no_part { OnOk result (rest.new.parts ≡ 0) }
+    ensures no_amount { OnOk result (rest.new.amount ≡ 0) }
+{
+    seats.reserve(usize::from(count))?;
+    for number in 0..count {
+        let share = rest.split_off(1, 0);
+        if seats.push(Seat::new(alloc, number, share)).is_err() {
+            return Err(AllocError);
+        }
+    }
+    Ok(())
 }
 
 /// With all parts together, the seats' receipts are the total of the calls. Changes nothing.

@@ -1,11 +1,9 @@
 //! Receipts: what a seat remembers of its calls, and which receipts stand in a journal.
 
 ghost use Rattle.std.specs.Prelude.{◌≡◌, ◌≤◌, ◌↔◌, IsTrue, length};
-ghost use Rattle.om_book.specs.Standing.{Stands, Counts};
+ghost use Rattle.om_session.specs.Standing.{Stands, Counts};
 
-use crate::book::JournalRecord;
-use crate::command::Command;
-use crate::reply::Reply;
+use om_book::{Command, JournalRecord, Reply};
 use om_same::Same;
 
 /// A call of a seat that was answered.

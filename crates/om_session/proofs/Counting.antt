@@ -2,10 +2,10 @@
 use Rattle.std.specs.Prelude.{◌≡◌, ◌≤◌, ◌<◌, ◌+◌, ℕ, List, [], ◌∷◌, ◌++◌, length, refl}
 use Rattle.std.proofs.Common.{sym, ◌∙◌, ap, subst, inl, inr, arith, add-one, drop, get_or, drop-cons}
 use Rattle.std.proofs.lemmas.Grind.{common_steps}
-use Rattle.om_book.specs.Seats.{seats_below}
-use Rattle.om_book.specs.Standing.{Stands, Counts}
+use Rattle.om_session.specs.Seats.{seats_below}
+use Rattle.om_session.specs.Standing.{Stands, Counts}
 use Rattle.om_book.specs.declared.book.JournalRecord.{JournalRecord}
-use Rattle.om_book.specs.declared.receipt.Receipt.{Receipt}
+use Rattle.om_session.specs.declared.receipt.Receipt.{Receipt}
 
 pub seats_below_next : (n : ℕ) → seats_below (n + 1) ≡ seats_below n ++ record { number = n; receipts = [] } ∷ []
 seats_below_next n = ap seats_below (add-one n)

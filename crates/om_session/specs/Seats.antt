@@ -2,7 +2,7 @@
 use Rattle.std.specs.Prelude.{ℕ, zero, suc, List, [], ◌∷◌, ◌++◌}
 use Rattle.om_book.specs.declared.command.Command.{Command}
 use Rattle.om_book.specs.declared.reply.Reply.{Reply}
-use Rattle.om_book.specs.declared.receipt.Receipt.{Receipt}
+use Rattle.om_session.specs.declared.receipt.Receipt.{Receipt}
 
 pub record SeatView : Type 0 where
   pub number : ℕ

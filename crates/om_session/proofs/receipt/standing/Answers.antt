@@ -1,8 +1,8 @@
 use Rattle.std.proofs.Common.{ℕ, ◌+◌, arith, subst}
-use Rattle.om_book.specs.Standing.{Counts}
-use Rattle.om_book.proofs.Counting.{stands_next, falls_next, counts_end}
-use Rattle.om_book.proofs.receipt.standing.Goals.{then-stands, else-stands}
-use Rattle.om_book.proofs.receipt.standing.Goals as goal
+use Rattle.om_session.specs.Standing.{Counts}
+use Rattle.om_session.proofs.Counting.{stands_next, falls_next, counts_end}
+use Rattle.om_session.proofs.receipt.standing.Goals.{then-stands, else-stands}
+use Rattle.om_session.proofs.receipt.standing.Goals as goal
 
 pub loop-receipt-preserved : goal.loop-receipt-preserved
 loop-receipt-preserved c = record {

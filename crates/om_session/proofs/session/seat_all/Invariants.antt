@@ -1,6 +1,6 @@
 use Rattle.std.proofs.Common.{◌≡◌, ◌+◌}
-use Rattle.om_book.specs.Seats.{seats_below}
-use Rattle.om_book.proofs.session.Session.new.Given as goal
+use Rattle.om_session.specs.Seats.{seats_below}
+use Rattle.om_session.proofs.session.seat_all.Given as goal
 
 abbrev pub invariant-loop-number : goal.invariant-loop-number
 invariant-loop-number g l = record {

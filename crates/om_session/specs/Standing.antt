@@ -3,8 +3,8 @@ use Rattle.std.specs.Prelude.{◌≡◌, ◌≢◌, ◌⊎◌, ◌≤◌, ◌+�
 use Rattle.std.specs.Prelude.{nat_eq}
 use Rattle.std.specs.List.{AllByRecursion}
 use Rattle.om_book.specs.declared.book.JournalRecord.{JournalRecord}
-use Rattle.om_book.specs.declared.receipt.Receipt.{Receipt}
-use Rattle.om_book.specs.Seats.{SeatView}
+use Rattle.om_session.specs.declared.receipt.Receipt.{Receipt}
+use Rattle.om_session.specs.Seats.{SeatView}
 
 -- the receipt's place is not below the opening nor below `low`, and the seat's call with this reply is recorded there
 abbrev pub Stands : List JournalRecord → ℕ → ℕ → ℕ → Receipt → Type 0

@@ -7,10 +7,10 @@ use Rattle.std.proofs.lemmas.Grind.{common_steps}
 use Rattle.std.proofs.lemmas.Option.{slice_get_within}
 use Rattle.std.proofs.lemmas.List.Sums.{sum_by-cons}
 use Rattle.std.specs.List.{AllByRecursion}
-use Rattle.om_book.specs.Seats.{SeatView}
-use Rattle.om_book.specs.Standing.{Counts, CountsAll, calls_of, receipts_in, AllDiffer, IsSeat, Covers}
+use Rattle.om_session.specs.Seats.{SeatView}
+use Rattle.om_session.specs.Standing.{Counts, CountsAll, calls_of, receipts_in, AllDiffer, IsSeat, Covers}
 use Rattle.om_book.specs.declared.book.JournalRecord.{JournalRecord}
-use Rattle.om_book.specs.declared.receipt.Receipt.{Receipt}
+use Rattle.om_session.specs.declared.receipt.Receipt.{Receipt}
 
 -- each receipt stands, from a place on
 abbrev pub AllStand : List JournalRecord → ℕ → ℕ → List Receipt → Type 0

@@ -1,0 +1,24 @@
+-- Matter of proofs: a machine may cross threads.
+use Rattle.std.proofs.Crossing.{crosses}
+use Rattle.std.proofs.MapsCrossingOver.{crosses as maps}
+use denote.Param.Send.{IsSend, sendable}
+use Rattle.om_cells.specs.contracts.store.Store as store
+use Rattle.om_history.specs.contracts.history.History as history
+use Rattle.om_history.specs.contracts.kept.Kept as kept
+use Rattle.om_undo.specs.contracts.machine.Machine as machine
+use Rattle.om_crossing.specs.Lists.{seq_send}
+use Rattle.om_crossing.specs.Names.{name_send, object_send, access_send}
+use Rattle.om_crossing.specs.Programs.{program_send}
+use Rattle.om_crossing.specs.Values.{value_send, update_send}
+
+store_send : IsSend store.the_field.row
+store_send = search (object_send, value_send, maps, crosses, sendable) depth 40
+
+kept_send : IsSend kept.the_row
+kept_send = search (name_send, access_send, update_send, seq_send, crosses, sendable) depth 40
+
+history_send : IsSend history.the_field.row
+history_send = search (store_send, kept_send, crosses, sendable) depth 40
+
+pub machine_send : IsSend machine.the_row
+machine_send = search (program_send, history_send, sendable) depth 40

@@ -1,0 +1,28 @@
+-- Matter of proofs: what a machine answers may cross threads.
+use denote.Param.Send.{IsSend, sendable}
+use Rattle.om_seq.specs.contracts.Seq as seq
+use Rattle.om_foot.specs.contracts.name.Name as name
+use Rattle.om_cells.specs.contracts.step.Entry as entry
+use Rattle.om_history.specs.contracts.reply.RollReply as roll
+use Rattle.om_history.specs.contracts.reply.StepReply as step
+use Rattle.om_history.specs.contracts.reply.UndoReply as undo
+use Rattle.om_crossing.specs.Lists.{seq_send}
+use Rattle.om_crossing.specs.Names.{name_send, object_send}
+
+pub step_send : IsSend step.the_field.row
+step_send = search sendable depth 40 fits 20000
+
+pub undo_send : IsSend undo.the_field.row
+undo_send = search (object_send, sendable) depth 40
+
+pub roll_send : IsSend roll.the_field.row
+roll_send = search (seq_send, sendable) depth 40
+
+entry_send : IsSend entry.the_row
+entry_send = search (name_send, sendable) depth 40
+
+pub names_send : IsSend (seq.the_row name.the_row)
+names_send = seq_send _ name_send
+
+pub entries_send : IsSend (seq.the_row entry.the_row)
+entries_send = seq_send _ entry_send

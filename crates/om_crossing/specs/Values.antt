@@ -1,0 +1,115 @@
+-- Matter of proofs: what an object holds may cross threads, and an update of it.
+use denote.Param.Send.{IsSend, IsSync, sendable}
+use Rattle.std.specs.contracts.option.Option as option
+use Rattle.om_seq.specs.contracts.Seq as seq
+use Rattle.om_foot.specs.contracts.name.Name as name
+use Rattle.om_events.specs.contracts.event.Record as event
+use Rattle.om_cells.specs.contracts.control.Construct as construct
+use Rattle.om_cells.specs.contracts.control.Context as context
+use Rattle.om_cells.specs.contracts.control.Control as control
+use Rattle.om_cells.specs.contracts.control.Frame as frame
+use Rattle.om_cells.specs.contracts.control.Home as home
+use Rattle.om_cells.specs.contracts.control.Team as team
+use Rattle.om_cells.specs.contracts.shared.Shared as shared
+use Rattle.om_cells.specs.contracts.shared_pile.SharedPile as stack
+use Rattle.om_cells.specs.contracts.step.Update as update
+use Rattle.om_cells.specs.contracts.value.Ready as ready
+use Rattle.om_cells.specs.contracts.value.Val as value
+use Rattle.om_crossing.specs.Lists.{seq_send, seq_sync, pile_send, pile_sync}
+use Rattle.om_crossing.specs.Names.{name_send, name_sync}
+use Rattle.om_crossing.specs.Shared.{shared_send, shared_sync, stack_send, stack_sync}
+
+event_send : IsSend event.the_row
+event_send = search (name_send, seq_send, sendable) depth 60 fits 20000
+
+-- ---- what contexts and tasks share
+home_send : IsSend home.the_row
+home_send = search (name_send, sendable) depth 40
+
+home_sync : IsSync home.the_row
+home_sync = search (name_sync, sendable) depth 40
+
+homes_send : IsSend (shared.the_row (seq.the_row home.the_row))
+homes_send = shared_send _ (seq_send _ home_send) (seq_sync _ home_sync)
+
+homes_sync : IsSync (shared.the_row (seq.the_row home.the_row))
+homes_sync = shared_sync _ (seq_send _ home_send) (seq_sync _ home_sync)
+
+names_send : IsSend (shared.the_row name.the_row)
+names_send = shared_send _ name_send name_sync
+
+names_sync : IsSync (shared.the_row name.the_row)
+names_sync = shared_sync _ name_send name_sync
+
+team_send : IsSend team.the_row
+team_send = search (name_send, sendable) depth 40
+
+team_sync : IsSync team.the_row
+team_sync = search (name_sync, sendable) depth 40
+
+teams_send : IsSend (shared.the_row team.the_row)
+teams_send = shared_send _ team_send team_sync
+
+teams_sync : IsSync (shared.the_row team.the_row)
+teams_sync = shared_sync _ team_send team_sync
+
+group_send : IsSend (option.the_row name.the_row)
+group_send = search (name_send, sendable) depth 20
+
+group_sync : IsSync (option.the_row name.the_row)
+group_sync = search (name_sync, sendable) depth 20
+
+groups_send : IsSend (shared.the_row (option.the_row name.the_row))
+groups_send = shared_send _ group_send group_sync
+
+groups_sync : IsSync (shared.the_row (option.the_row name.the_row))
+groups_sync = shared_sync _ group_send group_sync
+
+-- ---- what a worker works on
+construct_send : IsSend construct.the_row
+construct_send = search (name_send, sendable) depth 40 fits 20000
+
+construct_sync : IsSync construct.the_row
+construct_sync = search (name_sync, sendable) depth 40 fits 20000
+
+constructs_send : IsSend (stack.the_row construct.the_row)
+constructs_send = stack_send _ construct_send construct_sync
+
+constructs_sync : IsSync (stack.the_row construct.the_row)
+constructs_sync = stack_sync _ construct_send construct_sync
+
+frame_send : IsSend frame.the_field.row
+frame_send = search (homes_send, pile_send, sendable) depth 40
+
+frame_sync : IsSync frame.the_field.row
+frame_sync = search (homes_sync, pile_sync, sendable) depth 40
+
+callers_send : IsSend (stack.the_row frame.the_row)
+callers_send = stack_send frame.the_row (search (frame_send, sendable)) (search (frame_sync, sendable))
+
+callers_sync : IsSync (stack.the_row frame.the_row)
+callers_sync = stack_sync frame.the_row (search (frame_send, sendable)) (search (frame_sync, sendable))
+
+context_send : IsSend context.the_field.row
+context_send =
+    search (names_send, teams_send, groups_send, constructs_send, frame_send, callers_send, sendable) depth 40
+
+context_sync : IsSync context.the_field.row
+context_sync =
+    search (names_sync, teams_sync, groups_sync, constructs_sync, frame_sync, callers_sync, sendable) depth 40
+
+below_send : IsSend (stack.the_row context.the_row)
+below_send = stack_send context.the_row (search (context_send, sendable)) (search (context_sync, sendable))
+
+control_send : IsSend control.the_field.row
+control_send = search (context_send, below_send, sendable) depth 40
+
+-- ---- what any object holds
+ready_send : IsSend ready.the_field.row
+ready_send = search (homes_send, names_send, groups_send, sendable) depth 40
+
+pub value_send : IsSend value.the_field.row
+value_send = search (control_send, ready_send, event_send, seq_send, sendable) depth 40
+
+pub update_send : IsSend update.the_row
+update_send = search (value_send, event_send, seq_send, sendable) depth 40
