@@ -12,7 +12,7 @@ ghost use Rattle.om_resolved.specs.ResolvedView.{view_resolved_function, view_re
 ghost use Rattle.om_rules.specs.UnitResolution.{named_parameter, parameter_variable, resolved_function, resolved_inside};
 ghost use Rattle.om_rules.specs.UnitRules.{body_breaches, definition_breaches, flow_of, function_breaches, head_breaches, is_other_main, is_redeclared, next_parameter, parameter_breaches, parameter_name_breaches, parameters_breaches, prototype_breaches};
 
-use crate::statement::resolve_statements;
+use om_blocks::resolve_statements;
 use om_forms::head_first;
 use om_lexer::{FaultCode, SourceFault, Span};
 use om_names::Symbols;

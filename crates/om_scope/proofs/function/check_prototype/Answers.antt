@@ -3,7 +3,7 @@ use Rattle.om_tree.specs.View.{view_head}
 use Rattle.om_rules.specs.Scopes.{after_parameters, outside, parameters_of}
 use Rattle.std.proofs.lemmas.Result.{err_from_is_err_and}
 use Rattle.om_rules.specs.InRow.{first_of_left}
-use Rattle.om_scope.proofs.Blocks.{prototype_outside}
+use Rattle.om_scope.proofs.Parameters.{prototype_outside}
 use Rattle.om_scope.proofs.function.check_prototype.Goals as goal
 
 pub returns-clause-in_scope : goal.returns-clause-in_scope

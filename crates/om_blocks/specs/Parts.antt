@@ -1,20 +1,17 @@
 -- Parts of statements that have a function of their own.
-use Rattle.std.specs.Prelude.{List, Option, Some, if◌then◌else◌}
+use Rattle.std.specs.Prelude.{Option, Some, if◌then◌else◌}
 use Rattle.om_lexer.specs.declared.token.Span.{Span}
 use Rattle.om_tree.specs.Tree.{ExpressionTree, DeclarationTree}
-use Rattle.om_scope.specs.declared.assembly.Around.{Around}
-use Rattle.om_scope.specs.declared.assembly.Around.TheVariants as arounds
 use Rattle.om_rules.specs.declared.region.RegionKind.{RegionKind}
 use Rattle.om_rules.specs.DirectiveRules.{Listed, in_kind}
 use Rattle.om_rules.specs.Perhaps.{◌>>=◌}
 use Rattle.om_rules.specs.Places.{expression_first}
 use Rattle.om_rules.specs.Resolution.{resolved_expression}
 use Rattle.om_resolved.specs.ResolvedTree as resolved
-use Rattle.om_resolved.specs.ResolvedTree.{ResolvedClauseTree, ResolvedStatementTree}
+use Rattle.om_resolved.specs.ResolvedTree.{ResolvedStatementTree}
 use Rattle.om_rules.specs.Scopes.{Scopes, declarators_of}
 use Rattle.om_rules.specs.Sharing.{is_parallel}
-use Rattle.om_rules.specs.StatementResolution.{resolved_declarators, resolved_perhaps, with_update}
-use Rattle.om_rules.specs.Updates.{update_of}
+use Rattle.om_rules.specs.StatementResolution.{resolved_declarators, resolved_perhaps}
 
 -- of a declaration in a block
 abbrev pub resolved_declaration : Scopes → DeclarationTree → Option ResolvedStatementTree
@@ -28,14 +25,6 @@ resolved_effect scopes e = resolved_expression scopes e >>= λ x. Some (resolved
 -- of a `return`
 abbrev pub resolved_return : Scopes → Span → Option ExpressionTree → Option ResolvedStatementTree
 resolved_return scopes at value = resolved_perhaps scopes value >>= λ x. Some (resolved.Return at x)
-
--- a statement with what a construct puts round it
-abbrev pub with_around : Around → Span → List ResolvedClauseTree → ResolvedStatementTree → ResolvedStatementTree
-with_around (arounds.Parallel captures) at cs body = resolved.Parallel at cs captures body
-with_around (arounds.Task captures) at cs body = resolved.Task at cs captures body
-with_around (arounds.Construct kind) at cs body = resolved.Construct at kind cs body
-with_around (arounds.Update side) at cs body = with_update at (update_of side body)
-with_around arounds.Nothing at cs body = body
 
 -- the scopes of the bounds of a loop whose construct is of this kind, and whose clauses say this
 abbrev pub round_listed : RegionKind → Listed → Scopes → Scopes

@@ -1,5 +1,5 @@
 use Rattle.std.proofs.Common.{rules, sym}
-use Rattle.om_scope.proofs.grouping.add_item.Goals as goal
+use Rattle.om_regions.proofs.grouping.add_item.Goals as goal
 
 pub returns-in_ok-begin-clause-added : goal.returns-in_ok-begin-clause-added
 returns-in_ok-begin-clause-added c = (

@@ -9,14 +9,15 @@ use Rattle.om_rules.specs.Grouping.{with_item}
 use Rattle.om_rules.specs.Scopes.{outside}
 use Rattle.om_rules.specs.StatementResolution.{resolved_statement}
 use Rattle.om_rules.specs.StatementRules.{after_for_start, after_statement, after_statements}
-use Rattle.om_scope.proofs.Blocks.{block_outside, body_outside, construct_outside, for_outside, parts_refuse}
-use Rattle.om_scope.proofs.Blocks.{parts_step, statements_made, statements_refuse, statements_step, statements_whole}
-use Rattle.om_scope.proofs.Constructs.{view_construct}
-use Rattle.om_scope.proofs.Founds.{ok_anyway, ok_then}
-use Rattle.om_scope.proofs.Fronts.{bounds_refuse}
-use Rattle.om_scope.proofs.MadeParts.{grouped_count, grouped_step, grouped_whole}
-use Rattle.om_scope.proofs.Items.{drop-item, length-map, map-push}
-use Rattle.om_scope.proofs.statement.+statement.Goals as goal
+use Rattle.om_blocks.proofs.Blocks.{block_outside, body_outside, construct_outside, for_outside, parts_refuse}
+use Rattle.om_blocks.proofs.Blocks.{parts_step, statements_made, statements_refuse, statements_step, statements_whole}
+use Rattle.om_blocks.proofs.Constructs.{view_construct}
+use Rattle.om_blocks.proofs.Founds.{ok_anyway, ok_then}
+use Rattle.om_blocks.proofs.Fronts.{bounds_refuse}
+use Rattle.om_blocks.proofs.MadeParts.{grouped_count, grouped_step, grouped_whole}
+use Rattle.om_blocks.specs.Items.{drop-item, length-map}
+use Rattle.om_regions.specs.Pushes.{map-push}
+use Rattle.om_blocks.proofs.statement.+statement.Goals as goal
 
 pub resolve_statement-returns-in-Construct-clause-resolved : goal.resolve_statement-returns-in-Construct-clause-resolved
 unfolding resolved_statement

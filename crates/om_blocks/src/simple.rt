@@ -9,7 +9,7 @@ ghost use Rattle.om_rules.specs.ExpressionRules.{expression_breaches};
 ghost use Rattle.om_rules.specs.Scopes.{after_locals, declarators_of};
 ghost use Rattle.om_rules.specs.StatementResolution.{resolved_alone, resolved_perhaps};
 ghost use Rattle.om_rules.specs.StatementRules.{jump_breaches, locals_breaches, return_breaches, stand_alone_breaches};
-ghost use Rattle.om_scope.specs.Parts.{resolved_declaration, resolved_effect, resolved_return};
+ghost use Rattle.om_blocks.specs.Parts.{resolved_declaration, resolved_effect, resolved_return};
 
 use om_forms::expression_first;
 use om_lexer::{FaultCode, SourceFault, Span};

@@ -12,7 +12,7 @@ use Rattle.om_resolved.specs.ResolvedTree as resolved
 use Rattle.om_resolved.specs.ResolvedTree.{ResolvedStatementTree, ResolvedStatementsTree, statements}
 use Rattle.om_resolved.specs.ResolvedView.{part_layer, statement_layer, view_resolved_part, view_resolved_statement}
 use Rattle.om_rules.specs.Grouping.{with_item, with_last}
-use Rattle.om_scope.proofs.Items.{map-push}
+use Rattle.om_regions.specs.Pushes.{map-push}
 
 last_pushed : (s : ResolvedStatementTree) (items : List ResolvedStatementTree) → statements (items ++ s ∷ [])
     ≡ with_last s (statements items)

@@ -13,9 +13,7 @@ ghost use Rattle.om_rules.specs.Scopes.{inside};
 ghost use Rattle.om_rules.specs.StatementResolution.{resolved_construct, resolved_for, resolved_loop_construct, resolved_parts, resolved_plain_construct, resolved_repeated, resolved_sections, resolved_statement, resolved_statements};
 ghost use Rattle.om_rules.specs.StatementRules.{after_statement, after_statements, body_breaches, construct_breaches, continuing, for_breaches, in_loop, loop_construct_breaches, looping, part_breaches, plain_construct_breaches, sections_breaches, sections_construct_breaches, statement_breaches, statements_breaches};
 
-use crate::assembly::{Setting, construct_of, loop_construct_of, sections_construct_of};
 use crate::entering::{enter_construct, enter_loop_construct};
-use crate::grouping::{add_item, begins_part};
 use crate::head::{for_of, resolve_for_head};
 use crate::simple::{
     check_jump, resolve_declaration, resolve_effect, resolve_return, resolve_stand_alone,
@@ -24,6 +22,9 @@ use om_forms::{Loop, loop_in, statement_side, statement_start};
 use om_lexer::{FaultCode, SourceFault};
 use om_names::{Symbols, constructing, traits_of};
 use om_pragma::Directive;
+use om_regions::{
+    Setting, add_item, begins_part, construct_of, loop_construct_of, sections_construct_of,
+};
 use om_resolved::{ResolvedPart, ResolvedStatement};
 use om_rules::{Flow, SECTION_LIMIT};
 use om_tree::{Expression, ForHead, Statement};

@@ -6,7 +6,7 @@ ghost use Rattle.om_tree.specs.View.{view_directive, view_expression};
 ghost use Rattle.om_pragma.specs.Expressions.{map_clause, map_item};
 ghost use Rattle.om_pragma.specs.Questions.{atomic_kind};
 ghost use Rattle.om_rules.specs.Checks.{Checks};
-ghost use Rattle.om_scope.specs.Parts.{with_around};
+ghost use Rattle.om_regions.specs.Arounds.{with_around};
 ghost use Rattle.om_resolved.specs.ResolvedTree as resolved;
 ghost use Rattle.om_resolved.specs.ResolvedTree.{ResolvedClauseTree, ResolvedStatementTree};
 ghost use Rattle.om_resolved.specs.ResolvedView.{view_resolved_clause, view_resolved_loop, view_resolved_part, view_resolved_statement};

@@ -4,9 +4,9 @@ use Rattle.om_tree.specs.View.{view_statement}
 use Rattle.om_resolved.specs.ResolvedView.{view_resolved_part, view_resolved_statement}
 use Rattle.om_rules.specs.StatementResolution.{resolved_parts, resolved_statements}
 use Rattle.om_rules.specs.StatementRules.{after_statements, sections_breaches, statements_breaches}
-use Rattle.om_scope.proofs.MadeParts.{MadeParts}
-use Rattle.om_scope.proofs.Statements.{Made}
-use Rattle.om_scope.proofs.statement.+statement.Given as goal
+use Rattle.om_blocks.proofs.MadeParts.{MadeParts}
+use Rattle.om_blocks.proofs.Statements.{Made}
+use Rattle.om_blocks.proofs.statement.+statement.Given as goal
 
 -- those that are left have all the breaches, and make what is not made yet
 abbrev pub invariant-resolve_statements-loop-item : goal.invariant-resolve_statements-loop-item

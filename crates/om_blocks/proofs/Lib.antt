@@ -1,0 +1,6 @@
+pub mod Fronts
+pub mod MadeParts
+pub mod Statements
+pub mod Blocks
+pub mod Founds
+pub mod Constructs

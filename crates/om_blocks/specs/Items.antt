@@ -1,0 +1,14 @@
+-- Matter of proofs: the item of a slice where a loop stands, for this crate and those above it.
+use Rattle.std.proofs.Common.{◌≡◌, ℕ, suc, ◌+◌, ◌<◌, List, [], ◌∷◌, map, length, drop, get_or, refl}
+use Rattle.std.proofs.Common.{sym, ap, ◌∙◌, add-one}
+use Rattle.std.proofs.Math.Seq.{drop-cons}
+
+pub length-map : {X Y : Type 0} (f : X → Y) (xs : List X) → length (map f xs) ≡ length xs
+length-map f [] = refl
+length-map f (x ∷ xs) = ap suc (length-map f xs)
+
+-- what is left begins with it
+pub drop-item : {X : Type 0} (xs : List X) (i : ℕ) (x : X) → i < length xs → x ≡ get_or xs i x → drop i xs ≡ x
+    ∷ drop (i + 1) xs
+drop-item xs i x lt is = drop-cons xs i x lt ∙ ap (λ item. item ∷ drop (suc i) xs) (sym is)
+    ∙ ap (λ n. x ∷ drop n xs) (sym (add-one i))

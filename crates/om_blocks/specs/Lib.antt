@@ -1,0 +1,3 @@
+pub mod Parts
+pub mod Within
+pub mod Items

@@ -1,0 +1,9 @@
+//! Resolving statements: the rules that they keep to, and the variables of their names.
+#![tactic(auto)]
+
+mod entering;
+mod head;
+mod simple;
+mod statement;
+
+pub use statement::resolve_statements;

@@ -1,0 +1,2 @@
+pub mod Arounds
+pub mod Pushes
