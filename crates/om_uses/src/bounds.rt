@@ -12,11 +12,9 @@ ghost use Rattle.om_rules.specs.StatementRules.{found_breaches, values_breaches,
 
 use crate::declaration::local_of;
 use crate::expression::boxed_expression;
-use crate::fault::refuse_if;
-use crate::name::{check_declared, is_scalar};
 use om_forms::Loop;
 use om_lexer::{FaultCode, SourceFault};
-use om_names::Symbols;
+use om_names::{Symbols, check_declared, is_scalar, refuse_if};
 use om_resolved::{ResolvedExpression, ResolvedLoop, ResolvedSchedule, Shape};
 use om_tree::Name;
 use std::alloc::{AllocError, Global};

@@ -9,9 +9,8 @@ ghost use Rattle.om_rules.specs.StatementResolution.{length_of, local_of, resolv
 ghost use Rattle.om_rules.specs.StatementRules.{array_size_breaches, initializer_breaches, is_empty_array, local_breaches, locals_breaches, redeclared_breaches};
 
 use crate::expression::{boxed_expression, unboxed};
-use crate::fault::refuse_if;
 use om_lexer::{FaultCode, SourceFault, Span};
-use om_names::Symbols;
+use om_names::{Symbols, refuse_if};
 use om_resolved::{LocalVariable, ResolvedDeclarator, ResolvedExpression, Shape};
 use om_seq::Seq;
 use om_tree::{ArrayLength, Declaration, Declarator, Initializer, Name};

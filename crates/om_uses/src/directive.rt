@@ -14,11 +14,9 @@ ghost use Rattle.om_rules.specs.StatementResolution.{clause_of, flushed, kind_of
 
 use crate::declaration::local_of;
 use crate::expression::boxed_expression;
-use crate::fault::refuse_if;
 use crate::kept::add;
-use crate::name::{check_declared, is_copied_array, is_scalar};
 use om_lexer::{FaultCode, SourceFault, Span};
-use om_names::{Listed, Symbols, traits_of};
+use om_names::{Listed, Symbols, check_declared, is_copied_array, is_scalar, refuse_if, traits_of};
 use om_pragma::{Clause, ClauseItem, DataSharing, Directive, DirectiveName, NameList};
 use om_resolved::{CopyKind, ResolvedClause, Variable};
 use om_rules::{Flow, Meaning};

@@ -1,23 +1,12 @@
 //! Refusals at a place.
 
-ghost use Rattle.std.specs.Prelude.{◌≡◌, List, [], ◌∷◌, true, OnOk, IfOk, IfErr, Some, Ok};
-ghost use Rattle.om_rules.specs.Checks.{Checks, ChecksExactly};
-ghost use Rattle.om_rules.specs.Faults.{answered_among, breach_if, first_of, goes_first, perhaps_with, with_breach};
+ghost use Rattle.std.specs.Prelude.{◌≡◌, List, IfOk, Ok};
+ghost use Rattle.om_rules.specs.Checks.{Checks};
+ghost use Rattle.om_rules.specs.Faults.{answered_among, goes_first, perhaps_with, with_breach};
 ghost use Rattle.om_rules.specs.Outcomes.{Refuses};
 
 use om_lexer::{FaultCode, SourceFault};
 use om_resolved::ResolvedExpression;
-
-/// A refusal with this code at a byte, where a rule is broken.
-pub fn refuse_if(broken: bool, code: FaultCode, at: u32) -> Result<(), SourceFault>
-    ensures kept { OnOk result (breach_if broken code at ≡ []) }
-    ensures refused { IfErr result (λ fault. first_of (breach_if broken code at) ≡ Some fault) }
-{
-    if broken {
-        return Err(SourceFault { code, at });
-    }
-    Ok(())
-}
 
 /// Whether a refusal is answered before another one: it stands before it, or at the same place and
 /// has the lower number.

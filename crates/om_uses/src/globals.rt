@@ -10,10 +10,9 @@ ghost use Rattle.om_rules.specs.UnitRules.{global_breaches, global_name_breaches
 
 use crate::declaration::{cells_of, check_new, check_size, copy_of, length_of, shape_of};
 use crate::expression::constant_of;
-use crate::fault::refuse_if;
 use om_forms::{expression_start, signed_constant};
 use om_lexer::{FaultCode, SourceFault, Span};
-use om_names::Symbols;
+use om_names::{Symbols, refuse_if};
 use om_resolved::GlobalVariable;
 use om_rules::GLOBAL_CELL_LIMIT;
 use om_tree::{Declaration, Declarator, Initializer, Number};

@@ -10,14 +10,14 @@ mod expression;
 mod fault;
 mod globals;
 mod kept;
-mod name;
 mod target;
 
 pub use bounds::{enter_loop, resolve_loop};
 pub use declaration::{check_new, copy_of, local_of, resolve_locals};
 pub use directive::{resolve_directive, resolve_flush};
 pub use expression::{boxed_expression, unboxed};
-pub use fault::{loop_fault, refuse_if};
+pub use fault::loop_fault;
 pub use globals::declare_globals;
 pub use kept::{add, boxed};
+pub use om_names::refuse_if;
 pub use target::misplaced;

@@ -9,10 +9,9 @@ ghost use Rattle.om_rules.specs.Faults.{first_of};
 ghost use Rattle.om_rules.specs.Resolution.{assigned, stepped};
 ghost use Rattle.om_uses.specs.TargetViews.{view_target};
 
-use crate::name::{check_declared, misuse};
 use om_forms::expression_start;
 use om_lexer::SourceFault;
-use om_names::Symbols;
+use om_names::{Symbols, check_declared, misuse};
 use om_resolved::{ResolvedExpression, Variable};
 use om_tree::{AssignOperator, Expression, PostfixOperator};
 

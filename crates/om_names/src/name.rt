@@ -5,9 +5,9 @@ ghost use Rattle.om_rules.specs.Checks.{ChecksExactly};
 ghost use Rattle.om_rules.specs.ExpressionRules.{array_breaches, call_breaches, is_array, is_copied_array, is_miscalled, is_printf, is_scalar, is_undeclared, misused_array_breaches, misused_scalar_breaches, scalar_breaches, undeclared_breaches, unlisted_breaches};
 ghost use Rattle.om_rules.specs.Resolution.{callee_named, variable_named, variable_of};
 
-use crate::fault::refuse_if;
+use crate::refusal::refuse_if;
+use crate::symbols::Symbols;
 use om_lexer::{FaultCode, SourceFault};
-use om_names::Symbols;
 use om_resolved::{Shape, Variable};
 use om_rules::Meaning;
 use om_tree::Name;
