@@ -21,7 +21,7 @@ use Rattle.om_rows.specs.Expressions.{value}
 use Rattle.om_rows.specs.Operators.{comparison_of}
 use Rattle.om_rows.specs.Rows.{Row, end, part, here, given, perhaps}
 use Rattle.om_rows.specs.Statements.{clause_value, statement, construct_row, loop_rest, in_iteration}
-use Rattle.om_statements.specs.declared.spot.JumpLabels.{JumpLabels}
+use Rattle.om_constructs.specs.declared.labels.JumpLabels.{JumpLabels}
 use Rattle.om_statements.specs.Emits.{jumps_at, EmitsStatement}
 use Rattle.om_statements.specs.Going.{before_with, goes_place, goes_then, then_with, with_as, with_behind}
 use Rattle.om_tables.specs.Picks.{own_picks}

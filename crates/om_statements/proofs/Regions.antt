@@ -12,7 +12,7 @@ use Rattle.om_rows.specs.Bodies.{Numbers}
 use Rattle.om_rows.specs.Expressions.{value}
 use Rattle.om_rows.specs.Rows.{each, perhaps}
 use Rattle.om_rows.specs.Statements.{clause_value, given_copies, load_original}
-use Rattle.om_statements.specs.declared.spot.JumpLabels.{JumpLabels}
+use Rattle.om_constructs.specs.declared.labels.JumpLabels.{JumpLabels}
 use Rattle.om_statements.specs.Emits.{EmitsStatement}
 use Rattle.om_statements.specs.Going.{goes_then, with_none}
 use Rattle.om_tables.specs.declared.copies.FirstCopy.{FirstCopy}

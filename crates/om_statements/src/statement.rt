@@ -10,16 +10,16 @@ ghost use Rattle.om_statements.specs.Parts.{AreFree, EmitsParts};
 ghost use Rattle.om_tables.specs.Numbering.{numbers_of};
 ghost use Rattle.om_tables.specs.Scopes.{names_of};
 
-use crate::jump::jump;
 use crate::sections::{PartsSpot, SectionsHead, begin_parts};
-use crate::spot::Spot;
 use om_code::instruction::Instr;
 use om_constructs::alone::{assignment, stand_alone, update};
 use om_constructs::branch::{begin_else, begin_if};
 use om_constructs::construct::{begin_construct, end_construct};
 use om_constructs::declaration::{declarators, returned};
+use om_constructs::jump::{go_on, leave_loop};
 use om_constructs::region::{fork, load_originals, spawn, team_size};
 use om_constructs::repeated::{begin_do, begin_for, begin_while, end_do, end_for, end_loop};
+use om_constructs::spot::Spot;
 use om_constructs::worksharing::{begin_worksharing, end_worksharing};
 use om_emit::draft::Draft;
 use om_emit::effect;
@@ -103,11 +103,11 @@ pub fn statement(
             Ok(numbers)
         }
         ResolvedStatement::Break(at) => {
-            jump(draft, at.line, spot.jumps.over)?;
+            leave_loop(draft, at.line, spot.jumps)?;
             Ok(numbers)
         }
         ResolvedStatement::Continue(at) => {
-            jump(draft, at.line, spot.jumps.next)?;
+            go_on(draft, at.line, spot.jumps)?;
             Ok(numbers)
         }
         ResolvedStatement::Parallel(at, clauses, captures, body) => {
