@@ -39,7 +39,8 @@ pub(crate) fn parallel(
     numbers: Numbers,
     region: &RegionHead<'_>,
 ) -> Result<Numbers, AllocError>
-    requires { IfSome (clause_value (map view_resolved_clause region.now.clauses.now)) ValueHasCode }
+    requires { IfSome (clause_value (map view_resolved_clause region.now.clauses.now))
+        ValueHasCode }
     ensures behind { let body = view_resolved_statement region.now.statement.now in
         IfOk result
         (λ after. numbers_of after ≡ rows.behind (rows.next_body (numbers_of numbers)) body) }

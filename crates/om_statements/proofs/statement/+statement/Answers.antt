@@ -136,7 +136,8 @@ statement-returns-in_ok-end_for-in-For-clause-emitted t c =
     (view_resolved_statement c.deref-in-For.result.now) _ _ _ _ c.in_loop-inside-in-For.ensures
     c.in_ok-after-in-For.ensures.emitted) c.in_ok-end_for-in-For.ensures)
 
-pub statement-returns-in_ok-leave_loop-in-Break-clause-emitted : goal.statement-returns-in_ok-leave_loop-in-Break-clause-emitted
+pub statement-returns-in_ok-leave_loop-in-Break-clause-emitted :
+    goal.statement-returns-in_ok-leave_loop-in-Break-clause-emitted
 statement-returns-in_ok-leave_loop-in-Break-clause-emitted t c =
     statement_is (names_of c.args.scope.now) (numbers_of c.args.spot.numbers) _ _ c.args.spot.jumps _ _
     (sym (ap view_resolved_statement c.in-Break.is ∙ view_break c.in-Break.at))
