@@ -1,6 +1,6 @@
 -- Stretches of rows: what stands before the statement of a form, and what stands behind it.
 use Rattle.std.specs.Prelude.{◌≡◌, ◌≤◌, ◌<◌, ℕ, ◌+◌, pos, List, Option, Some, None, Bool, true, false, IfSome, length}
-use Rattle.std.specs.Prelude.{slice_get}
+use Rattle.std.specs.Prelude.{option_map, slice_get}
 use Rattle.om_code.specs.declared.instruction.Instr.{Instr}
 use Rattle.om_code.specs.declared.instruction.Instr.TheVariants as i
 use Rattle.om_code.specs.declared.instruction.Comparison.{Comparison}
@@ -23,7 +23,7 @@ use Rattle.om_rows.specs.Operators.{comparison_of, form_with, identity_of}
 use Rattle.om_rows.specs.Rows.{Site, Row, end, never, ins, part, here, ◌▸◌, given, perhaps}
 use Rattle.om_rows.specs.Slots.{place, slot}
 use Rattle.om_rows.specs.Statements.{test, start, starts, filter_row, lock_number, reductions, worksharing_end}
-use Rattle.om_rows.specs.Statements.{clause_value}
+use Rattle.om_rows.specs.Statements.{clause_value, jump}
 use Rattle.om_tables.specs.Names.{Names}
 
 -- ---- rows that name no label
@@ -106,6 +106,11 @@ EmitsTest names l otherwise c = Emits (test_at names l otherwise c)
 
 abbrev pub EmitsPerhapsTest : Names → ℕ → (otherwise : ℕ) → Option ResolvedExpressionTree → Written → Written → Type 0
 EmitsPerhapsTest names l otherwise c = Emits (λ done at. perhaps (test (site names done) l (at otherwise)) c)
+
+-- `break` and `continue`: JMP to a label that is there
+abbrev pub EmitsJump : ℕ → Option ℕ → Written → Written → Type 0
+EmitsJump l label old new = (names : Names)
+    → Emits (λ done at. given (option_map at label) (jump (site names done) l)) old new
 
 -- JMP E, L:
 abbrev pub else_begin : Names → ℕ → (head behind : ℕ) → Part

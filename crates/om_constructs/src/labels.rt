@@ -19,3 +19,10 @@ pub struct TurnLabels {
     /// Behind it.
     pub over: u32,
 }
+
+/// The labels that `break` and `continue` go to; outside of a loop there are none.
+#[derive(Clone, Copy)]
+pub struct JumpLabels {
+    pub over: Option<u32>,
+    pub next: Option<u32>,
+}

@@ -17,11 +17,10 @@ use Rattle.om_resolved.specs.ResolvedTree.{ResolvedExpressionTree, ResolvedClaus
 use Rattle.om_resolved.specs.ResolvedTree.{ResolvedStartTree, ResolvedStatementTree, If, IfElse, While, Do, For, Loop}
 use Rattle.om_resolved.specs.ResolvedTree.{Construct}
 use Rattle.om_rows.specs.Bodies.{Numbers, behind}
-use Rattle.om_rows.specs.Expressions.{value}
 use Rattle.om_rows.specs.Operators.{comparison_of}
-use Rattle.om_rows.specs.Rows.{Row, end, part, here, given, perhaps}
-use Rattle.om_rows.specs.Statements.{clause_value, statement, construct_row, loop_rest, in_iteration}
-use Rattle.om_statements.specs.declared.spot.JumpLabels.{JumpLabels}
+use Rattle.om_rows.specs.Rows.{Row, end, part, here, given}
+use Rattle.om_rows.specs.Statements.{statement, construct_row, loop_rest, in_iteration}
+use Rattle.om_constructs.specs.declared.labels.JumpLabels.{JumpLabels}
 use Rattle.om_statements.specs.Emits.{jumps_at, EmitsStatement}
 use Rattle.om_statements.specs.Going.{before_with, goes_place, goes_then, then_with, with_as, with_behind}
 use Rattle.om_tables.specs.Picks.{own_picks}
@@ -346,9 +345,3 @@ pub construct_clauses_are : (names : Names) (l : ℕ) (kind : ConstructKind) (la
     → Begins label (construct_begin names l kind (map view_resolved_clause ys) label) a b
 construct_clauses_are names l kind label xs ys a b e h = subst
     (λ z. Begins label (construct_begin names l kind (map view_resolved_clause z) label) a b) e h
-
-pub size_clauses_are : (names : Names) (l : ℕ) (xs ys : List ResolvedClause) (a b : Written) → xs ≡ ys
-    → Emits (λ done at. perhaps (value (site names done) l) (clause_value (map view_resolved_clause xs))) a b
-    → Emits (λ done at. perhaps (value (site names done) l) (clause_value (map view_resolved_clause ys))) a b
-size_clauses_are names l xs ys a b e h = subst
-    (λ z. Emits (λ done at. perhaps (value (site names done) l) (clause_value (map view_resolved_clause z))) a b) e h

@@ -11,49 +11,50 @@ use Rattle.om_resolved.specs.ResolvedTree.{ResolvedClauseTree, ResolvedStatement
 use Rattle.om_rows.specs.Bodies.{Numbers}
 use Rattle.om_rows.specs.Expressions.{value}
 use Rattle.om_rows.specs.Rows.{each, perhaps}
+use Rattle.om_rows.specs.Slots as rows
 use Rattle.om_rows.specs.Statements.{clause_value, given_copies, load_original}
-use Rattle.om_statements.specs.declared.spot.JumpLabels.{JumpLabels}
+use Rattle.om_constructs.specs.declared.labels.JumpLabels.{JumpLabels}
 use Rattle.om_statements.specs.Emits.{EmitsStatement}
 use Rattle.om_statements.specs.Going.{goes_then, with_none}
 use Rattle.om_tables.specs.declared.copies.FirstCopy.{FirstCopy}
 use Rattle.om_tables.specs.Copies.{first_copies_of, first_copy}
 use Rattle.om_tables.specs.Names.{Names}
 
-counted : (copies : List FirstCopy) (clauses : List ResolvedClauseTree) (captures : List Capture)
-    (s : ResolvedStatementTree) (values : ℕ)
-    → first_copies_of copies ≡ given_copies clauses captures s → values ≡ length copies → values
-    ≡ length (given_copies clauses captures s)
-counted copies clauses captures s values is count = count ∙ sym (length-map copies first_copy) ∙ ap length is
+-- how many copies were loaded
+pub counted : (copies : List FirstCopy) (given : List rows.FirstCopy) (values : ℕ) → first_copies_of copies ≡ given
+    → values ≡ length copies → values ≡ length given
+counted copies given values is count = count ∙ sym (length-map copies first_copy) ∙ ap length is
+
+-- and that they are those of the region
+pub given_loaded : (names : Names) (l : ℕ) (loaded given : List rows.FirstCopy) (a b : Written) → loaded ≡ given
+    → EmitsRow names (λ at. each (load_original at l) loaded) a b
+    → EmitsRow names (λ at. each (load_original at l) given) a b
+given_loaded names l loaded given a b is h = subst (λ z. EmitsRow names (λ at. each (load_original at l) z) a b) is h
 
 pub emits_task : (names : Names) (n : Numbers) (first : Span) (clauses : List ResolvedClauseTree)
     (captures : List Capture) (s : ResolvedStatementTree) (jumps : JumpLabels)
-    → (copies : List FirstCopy) (values : ℕ) (a b c : Written)
-    → first_copies_of copies ≡ given_copies clauses captures s → values ≡ length copies
-    → EmitsRow names (λ at. each (load_original at first.line) (first_copies_of copies)) a b
+    → (values : ℕ) (a b c : Written)
+    → values ≡ length (given_copies clauses captures s)
+    → EmitsRow names (λ at. each (load_original at first.line) (given_copies clauses captures s)) a b
     → EmitsRow names (spawn_row first.line n.bodies values) b c
     → EmitsStatement names n (Task first clauses captures s) jumps a c
-emits_task names n first clauses captures s jumps copies values a b c is count h1 h2 =
-    let e1 = subst (λ z. EmitsRow names (λ at. each (load_original at first.line) z) a b) is h1 in
-    let e2 = subst (λ z. EmitsRow names (spawn_row first.line n.bodies z) b c) (counted copies clauses captures s
-    values is count) h2 in
+emits_task names n first clauses captures s jumps values a b c count h1 h2 =
+    let e2 = subst (λ z. EmitsRow names (spawn_row first.line n.bodies z) b c) count h2 in
     with_none _ _ a c (goes_then _ _ _ (λ done at. each (load_original (site names done) first.line)
     (given_copies clauses captures s))
     (λ done at. spawn_row first.line n.bodies (length (given_copies clauses captures s)) (site names done)) a b c
-    (omega arith) e1.keeps.more e1 e2)
+    (omega arith) h1.keeps.more h1 e2)
 
 pub emits_parallel : (names : Names) (n : Numbers) (first : Span) (clauses : List ResolvedClauseTree)
     (captures : List Capture) (s : ResolvedStatementTree) (jumps : JumpLabels)
-    → (copies : List FirstCopy) (sized : Bool) (values : ℕ) (a b c d : Written)
-    → first_copies_of copies ≡ given_copies clauses captures s → values ≡ length copies → sized
-    ≡ is_some (clause_value clauses)
+    → (sized : Bool) (values : ℕ) (a b c d : Written)
+    → values ≡ length (given_copies clauses captures s) → sized ≡ is_some (clause_value clauses)
     → EmitsRow names (λ at. perhaps (value at first.line) (clause_value clauses)) a b
-    → EmitsRow names (λ at. each (load_original at first.line) (first_copies_of copies)) b c
+    → EmitsRow names (λ at. each (load_original at first.line) (given_copies clauses captures s)) b c
     → EmitsRow names (fork_row first.line n.bodies sized values) c d
     → EmitsStatement names n (Parallel first clauses captures s) jumps a d
-emits_parallel names n first clauses captures s jumps copies sized values a b c d is count size h1 h2 h3 =
-    let e2 = subst (λ z. EmitsRow names (λ at. each (load_original at first.line) z) b c) is h2 in
-    let e3 = subst (λ z. EmitsRow names (fork_row first.line n.bodies (is_some (clause_value clauses)) z) c d)
-    (counted copies clauses captures s values is count)
+emits_parallel names n first clauses captures s jumps sized values a b c d count size h1 h2 h3 =
+    let e3 = subst (λ z. EmitsRow names (fork_row first.line n.bodies (is_some (clause_value clauses)) z) c d) count
     (subst (λ z. EmitsRow names (fork_row first.line n.bodies z values) c d) size h3) in
     with_none _ _ a d (goes_then _ _ _ (λ done at. perhaps (value (site names done) first.line)
     (clause_value clauses)) _ a b d (omega arith) (omega arith) h1
@@ -61,4 +62,4 @@ emits_parallel names n first clauses captures s jumps copies sized values a b c 
     (given_copies clauses captures s))
     (λ done at. fork_row first.line n.bodies (is_some (clause_value clauses))
     (length (given_copies clauses captures s)) (site names done)) b c d
-    h1.keeps.more (omega (arith, h1.keeps.more, e2.keeps.more)) e2 e3))
+    h1.keeps.more (omega (arith, h1.keeps.more, h2.keeps.more)) h2 e3))

@@ -1,23 +1,18 @@
 -- What is promised of the code of statements.
-use Rattle.std.specs.Prelude.{◌≡◌, ◌<◌, ◌≤◌, ℕ, List, ◌++◌, Option, length, map, option_map, slice_get}
+use Rattle.std.specs.Prelude.{◌≡◌, ◌<◌, ◌≤◌, ℕ, List, ◌++◌, length, map, option_map, slice_get}
 use Rattle.om_emit.specs.declared.draft.Pick.{Pick}
 use Rattle.om_emit.specs.Drafts.{Labels, Written}
-use Rattle.om_emit.specs.Emits.{Part, Writes, site, Emits}
+use Rattle.om_emit.specs.Emits.{Part, Writes, site}
 use Rattle.om_resolved.specs.ResolvedTree.{ResolvedStatementTree, ResolvedStatementsTree}
 use Rattle.om_rows.specs.Bodies.{Numbers}
-use Rattle.om_rows.specs.Rows.{given}
-use Rattle.om_rows.specs.Statements.{Jumps, jump, statement, statements}
-use Rattle.om_statements.specs.declared.spot.JumpLabels.{JumpLabels}
+use Rattle.om_rows.specs.Statements.{Jumps, statement, statements}
+use Rattle.om_constructs.specs.declared.labels.JumpLabels.{JumpLabels}
 use Rattle.om_tables.specs.Names.{Names}
 use Rattle.om_tables.specs.Picks.{own_picks, all_own_picks}
 
 -- where `break` and `continue` go, by the places of their labels
 abbrev pub jumps_at : Labels → JumpLabels → Jumps
 jumps_at at jumps = record { over = option_map at jumps.over; next = option_map at jumps.next }
-
-abbrev pub EmitsJump : ℕ → Option ℕ → Written → Written → Type 0
-EmitsJump l label old new = (names : Names)
-    → Emits (λ done at. given (option_map at label) (jump (site names done) l)) old new
 
 -- ---- code with lists of PICK
 

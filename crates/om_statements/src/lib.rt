@@ -1,7 +1,6 @@
 //! Writes the code of statements and of whole bodies.
 #![tactic(auto)]
 
-pub mod jump;
+mod region;
 pub mod sections;
-pub mod spot;
 pub mod statement;

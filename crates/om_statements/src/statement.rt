@@ -10,21 +10,21 @@ ghost use Rattle.om_statements.specs.Parts.{AreFree, EmitsParts};
 ghost use Rattle.om_tables.specs.Numbering.{numbers_of};
 ghost use Rattle.om_tables.specs.Scopes.{names_of};
 
-use crate::jump::jump;
+use crate::region::{RegionHead, parallel, task};
 use crate::sections::{PartsSpot, SectionsHead, begin_parts};
-use crate::spot::Spot;
 use om_code::instruction::Instr;
 use om_constructs::alone::{assignment, stand_alone, update};
 use om_constructs::branch::{begin_else, begin_if};
 use om_constructs::construct::{begin_construct, end_construct};
 use om_constructs::declaration::{declarators, returned};
-use om_constructs::region::{fork, load_originals, spawn, team_size};
+use om_constructs::jump::{go_on, leave_loop};
 use om_constructs::repeated::{begin_do, begin_for, begin_while, end_do, end_for, end_loop};
+use om_constructs::spot::Spot;
 use om_constructs::worksharing::{begin_worksharing, end_worksharing};
 use om_emit::draft::Draft;
 use om_emit::effect;
 use om_resolved::{ConstructKind, ResolvedPart, ResolvedStatement};
-use om_tables::{Numbers, Scope, behind, given_copies};
+use om_tables::{Numbers, Scope, behind};
 use std::alloc::{AllocError, Global};
 
 /// Writes the code of a statement, and gives the numbers behind it.
@@ -103,28 +103,31 @@ pub fn statement(
             Ok(numbers)
         }
         ResolvedStatement::Break(at) => {
-            jump(draft, at.line, spot.jumps.over)?;
+            leave_loop(draft, at.line, spot.jumps)?;
             Ok(numbers)
         }
         ResolvedStatement::Continue(at) => {
-            jump(draft, at.line, spot.jumps.next)?;
+            go_on(draft, at.line, spot.jumps)?;
             Ok(numbers)
         }
         ResolvedStatement::Parallel(at, clauses, captures, body) => {
-            let copies = given_copies(alloc, clauses.as_slice(), captures.as_slice(), body)?;
-            let sized = team_size(draft, scope, at.line, clauses.as_slice())?;
-            load_originals(draft, scope, at.line, copies.as_slice())?;
-            fork(draft, at.line, numbers.bodies, sized, copies.len())?;
-            let inner = numbers.next_body()?;
-            let after = behind(inner, body)?;
+            let region = RegionHead {
+                at: *at,
+                clauses: clauses.as_slice(),
+                captures: captures.as_slice(),
+                statement: body,
+            };
+            let after = parallel(alloc, draft, scope, numbers, &region)?;
             Ok(after)
         }
         ResolvedStatement::Task(at, clauses, captures, body) => {
-            let copies = given_copies(alloc, clauses.as_slice(), captures.as_slice(), body)?;
-            load_originals(draft, scope, at.line, copies.as_slice())?;
-            spawn(draft, at.line, numbers.bodies, copies.len())?;
-            let inner = numbers.next_body()?;
-            let after = behind(inner, body)?;
+            let region = RegionHead {
+                at: *at,
+                clauses: clauses.as_slice(),
+                captures: captures.as_slice(),
+                statement: body,
+            };
+            let after = task(alloc, draft, scope, numbers, &region)?;
             Ok(after)
         }
         ResolvedStatement::Loop(at, clauses, nowait, repeated, body) => {

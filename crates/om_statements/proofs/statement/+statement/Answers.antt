@@ -2,8 +2,6 @@ use Rattle.std.proofs.Common.{◌≤◌, ◌+◌, ◌^◌, arith, drop, refl, le
 use denote.Param.Weighed.{most}
 use Rattle.std.proofs.lemmas.List.{drop_all}
 use Rattle.std.specs.Prelude.{is_some}
-use Rattle.om_rows.specs.Statements.{clause_value}
-use Rattle.om_tables.specs.Copies.{first_copies_of}
 use Rattle.om_resolved.specs.declared.resolved.ResolvedPart.{out-ResolvedPart}
 use Rattle.om_resolved.specs.declared.resolved.ResolvedStatement.TheViews.{size-ResolvedPart, size-ResolvedStatement}
 use Rattle.om_resolved.specs.declared.resolved.ResolvedStatement.TheViews.{sized-Sections}
@@ -22,12 +20,10 @@ use Rattle.om_statements.proofs.Views.{view_if_else, view_loop, view_parallel, v
 use Rattle.om_statements.proofs.Views.{view_task, view_while}
 use Rattle.om_statements.proofs.Forms.{close_clauses_are, construct_clauses_are, emits_construct, emits_do, emits_for}
 use Rattle.om_statements.proofs.Forms.{emits_if, emits_if_else, emits_loop, emits_while, loop_clauses_are}
-use Rattle.om_statements.proofs.Forms.{size_clauses_are}
 use Rattle.om_statements.proofs.PartLists.{free_first, free_start, items_are, left_count, left_part, onward_parts_begin}
 use Rattle.om_statements.proofs.PartLists.{onward_parts_done, opens_are, parts_are, parts_next}
 use Rattle.om_statements.proofs.SectionsRow.{emits_sections, labels_are}
 use Rattle.om_statements.specs.Parts.{AreFree}
-use Rattle.om_statements.proofs.Regions.{emits_parallel, emits_task}
 use Rattle.om_statements.proofs.statement.+statement.Goals as goal
 
 pub statement-define-requires-in-IfElse : goal.statement-define-requires-in-IfElse
@@ -140,18 +136,19 @@ statement-returns-in_ok-end_for-in-For-clause-emitted t c =
     (view_resolved_statement c.deref-in-For.result.now) _ _ _ _ c.in_loop-inside-in-For.ensures
     c.in_ok-after-in-For.ensures.emitted) c.in_ok-end_for-in-For.ensures)
 
-pub statement-returns-in_ok-jump-in-Break-clause-emitted : goal.statement-returns-in_ok-jump-in-Break-clause-emitted
-statement-returns-in_ok-jump-in-Break-clause-emitted t c =
+pub statement-returns-in_ok-leave_loop-in-Break-clause-emitted :
+    goal.statement-returns-in_ok-leave_loop-in-Break-clause-emitted
+statement-returns-in_ok-leave_loop-in-Break-clause-emitted t c =
     statement_is (names_of c.args.scope.now) (numbers_of c.args.spot.numbers) _ _ c.args.spot.jumps _ _
     (sym (ap view_resolved_statement c.in-Break.is ∙ view_break c.in-Break.at))
-    (with_none _ _ _ _ (c.in_ok-jump-in-Break.ensures (names_of c.args.scope.now)))
+    (with_none _ _ _ _ (c.in_ok-leave_loop-in-Break.ensures (names_of c.args.scope.now)))
 
-pub statement-returns-in_ok-jump-in-Continue-clause-emitted :
-    goal.statement-returns-in_ok-jump-in-Continue-clause-emitted
-statement-returns-in_ok-jump-in-Continue-clause-emitted t c =
+pub statement-returns-in_ok-go_on-in-Continue-clause-emitted :
+    goal.statement-returns-in_ok-go_on-in-Continue-clause-emitted
+statement-returns-in_ok-go_on-in-Continue-clause-emitted t c =
     statement_is (names_of c.args.scope.now) (numbers_of c.args.spot.numbers) _ _ c.args.spot.jumps _ _
     (sym (ap view_resolved_statement c.in-Continue.is ∙ view_continue c.in-Continue.at))
-    (with_none _ _ _ _ (c.in_ok-jump-in-Continue.ensures (names_of c.args.scope.now)))
+    (with_none _ _ _ _ (c.in_ok-go_on-in-Continue.ensures (names_of c.args.scope.now)))
 
 pub statement-returns-in_ok-stand_alone-in-StandAlone-clause-emitted :
     goal.statement-returns-in_ok-stand_alone-in-StandAlone-clause-emitted
@@ -237,21 +234,7 @@ statement-returns-in_ok-after-in-Parallel-clause-emitted t c =
     c.in-Parallel.captures (view_resolved_statement z)) c.deref-in-Parallel.ensures
     ∙ sym (ap view_resolved_statement c.in-Parallel.is ∙ view_parallel c.in-Parallel.at c.in-Parallel.clauses
     c.in-Parallel.captures c.in-Parallel.body))
-    (emits_parallel (names_of c.args.scope.now) (numbers_of c.args.spot.numbers) c.in-Parallel.at
-    (map view_resolved_clause c.as_slice-in-Parallel.result.now) c.as_slice-in-Parallel-2.result.now
-    (view_resolved_statement c.deref-in-Parallel.result.now) c.args.spot.jumps
-    c.as_slice-in-Parallel-4.result.now _ _ _ _ _ _ (ap first_copies_of c.as_slice-in-Parallel-4.ensures.value
-    ∙ c.in_ok-copies-in-Parallel.ensures) (omega (
-      arith,
-      c.len.ensures,
-      c.as_slice-in-Parallel-4.ensures.len,
-      c.in_ok-copies-in-Parallel.copies.ok.0,
-    )) (c.in_ok-sized-in-Parallel.ensures.sized
-    ∙ ap (λ x. is_some (clause_value (map view_resolved_clause x))) (c.as_slice-in-Parallel-3.ensures.value
-    ∙ sym c.as_slice-in-Parallel.ensures.value)) (size_clauses_are (names_of c.args.scope.now)
-    c.in-Parallel.at.line _ _ _ _ (c.as_slice-in-Parallel-3.ensures.value
-    ∙ sym c.as_slice-in-Parallel.ensures.value) c.in_ok-sized-in-Parallel.ensures.emitted)
-    c.in_ok-load_originals-in-Parallel.ensures (c.in_ok-fork-in-Parallel.ensures (names_of c.args.scope.now)))
+    (c.in_ok-after-in-Parallel.ensures.emitted c.args.spot.jumps)
 
 pub statement-returns-in_ok-after-in-Task-clause-emitted : goal.statement-returns-in_ok-after-in-Task-clause-emitted
 statement-returns-in_ok-after-in-Task-clause-emitted t c =
@@ -264,12 +247,7 @@ statement-returns-in_ok-after-in-Task-clause-emitted t c =
     (view_resolved_statement z)) c.deref-in-Task.ensures
     ∙ sym (ap view_resolved_statement c.in-Task.is ∙ view_task c.in-Task.at c.in-Task.clauses c.in-Task.captures
     c.in-Task.body))
-    (emits_task (names_of c.args.scope.now) (numbers_of c.args.spot.numbers) c.in-Task.at
-    (map view_resolved_clause c.as_slice-in-Task.result.now) c.as_slice-in-Task-2.result.now
-    (view_resolved_statement c.deref-in-Task.result.now) c.args.spot.jumps c.as_slice-in-Task-3.result.now _ _ _
-    _ (ap first_copies_of c.as_slice-in-Task-3.ensures.value ∙ c.in_ok-copies-in-Task.ensures)
-    (omega (arith, c.len-in-Task.ensures, c.as_slice-in-Task-3.ensures.len, c.in_ok-copies-in-Task.copies.ok.0))
-    c.in_ok-load_originals-in-Task.ensures (c.in_ok-spawn-in-Task.ensures (names_of c.args.scope.now)))
+    (c.in_ok-after-in-Task.ensures.emitted c.args.spot.jumps)
 
 pub parts-loop-index-init : goal.parts-loop-index-init
 parts-loop-index-init t c =

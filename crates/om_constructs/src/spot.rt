@@ -2,14 +2,8 @@
 
 ghost use Rattle.std.specs.Prelude.{◌≡◌, None, Some};
 
+use crate::labels::JumpLabels;
 use om_tables::Numbers;
-
-/// The labels that `break` and `continue` go to; outside of a loop there are none.
-#[derive(Clone, Copy)]
-pub struct JumpLabels {
-    pub over: Option<u32>,
-    pub next: Option<u32>,
-}
 
 /// Where a statement stands: the numbers of the next body and of the next list of PICK, and where
 /// jumps go.

@@ -1,0 +1,107 @@
+//! A `parallel` and a `task`, in the body that meets them.
+
+ghost use Rattle.std.specs.Prelude.{◌≡◌, IfOk, IfSome, OnOk, length, map};
+ghost use Rattle.om_constructs.specs.declared.labels.JumpLabels.{JumpLabels};
+ghost use Rattle.om_constructs.specs.Stretches.{EmitsRow};
+ghost use Rattle.om_resolved.specs.ResolvedTree as trees;
+ghost use Rattle.om_resolved.specs.ResolvedView.{view_resolved_clause, view_resolved_statement};
+ghost use Rattle.om_rows.specs.Bodies as rows;
+ghost use Rattle.om_rows.specs.Coded.{ValueHasCode};
+ghost use Rattle.om_rows.specs.Rows.{each};
+ghost use Rattle.om_rows.specs.Statements.{clause_value, given_copies, load_original};
+ghost use Rattle.om_statements.specs.Emits.{EmitsStatement};
+ghost use Rattle.om_tables.specs.Numbering.{numbers_of};
+ghost use Rattle.om_tables.specs.Scopes.{names_of};
+
+use om_constructs::region::{fork, load_originals, spawn, team_size};
+use om_emit::draft::Draft;
+use om_lexer::Span;
+use om_resolved::{Capture, ResolvedClause, ResolvedStatement};
+use om_tables::{Numbers, Scope, behind, given_copies};
+use std::alloc::{AllocError, Global};
+
+/// A `parallel` or a `task`, by its parts.
+#[derive(Clone, Copy)]
+pub(crate) struct RegionHead<'a> {
+    pub(crate) at: Span,
+    pub(crate) clauses: &'a [ResolvedClause],
+    /// What it takes from outside.
+    pub(crate) captures: &'a [Capture],
+    pub(crate) statement: &'a ResolvedStatement,
+}
+
+/// Writes what stands in the place of a `parallel`, and gives the numbers behind it. Its body gets
+/// the number of the next one.
+pub(crate) fn parallel(
+    alloc: Global,
+    draft: &mut Draft,
+    scope: &Scope<'_>,
+    numbers: Numbers,
+    region: &RegionHead<'_>,
+) -> Result<Numbers, AllocError>
+    requires { IfSome (clause_value (map view_resolved_clause region.now.clauses.now))
+        ValueHasCode }
+    ensures behind { let body = view_resolved_statement region.now.statement.now in
+        IfOk result
+        (λ after. numbers_of after ≡ rows.behind (rows.next_body (numbers_of numbers)) body) }
+    ensures emitted { let tree = trees.Parallel region.now.at
+        (map view_resolved_clause region.now.clauses.now) region.now.captures.now
+        (view_resolved_statement region.now.statement.now) in
+        OnOk result ((jumps : JumpLabels)
+        → EmitsStatement (names_of scope.now) (numbers_of numbers) tree jumps draft.old draft.new) }
+{
+    let line = region.at.line;
+    let sized = team_size(draft, scope, line, region.clauses)?;
+    let count = load_given(alloc, draft, scope, region)?;
+    fork(draft, line, numbers.bodies, sized, count)?;
+    let inner = numbers.next_body()?;
+    let after = behind(inner, region.statement)?;
+    Ok(after)
+}
+
+/// Writes what stands in the place of a `task`, and gives the numbers behind it. Its body gets the
+/// number of the next one.
+pub(crate) fn task(
+    alloc: Global,
+    draft: &mut Draft,
+    scope: &Scope<'_>,
+    numbers: Numbers,
+    region: &RegionHead<'_>,
+) -> Result<Numbers, AllocError>
+    ensures behind { let body = view_resolved_statement region.now.statement.now in
+        IfOk result
+        (λ after. numbers_of after ≡ rows.behind (rows.next_body (numbers_of numbers)) body) }
+    ensures emitted { let tree = trees.Task region.now.at
+        (map view_resolved_clause region.now.clauses.now) region.now.captures.now
+        (view_resolved_statement region.now.statement.now) in
+        OnOk result ((jumps : JumpLabels)
+        → EmitsStatement (names_of scope.now) (numbers_of numbers) tree jumps draft.old draft.new) }
+{
+    let count = load_given(alloc, draft, scope, region)?;
+    spawn(draft, region.at.line, numbers.bodies, count)?;
+    let inner = numbers.next_body()?;
+    let after = behind(inner, region.statement)?;
+    Ok(after)
+}
+
+/// Loads the originals of the firstprivate copies of a region, and says how many there are.
+fn load_given(
+    alloc: Global,
+    draft: &mut Draft,
+    scope: &Scope<'_>,
+    region: &RegionHead<'_>,
+) -> Result<usize, AllocError>
+    ensures count { let trees = map view_resolved_clause region.now.clauses.now in
+        let body = view_resolved_statement region.now.statement.now in
+        IfOk result (λ count. count ≡ length (given_copies trees region.now.captures.now body)) }
+    ensures emitted { let trees = map view_resolved_clause region.now.clauses.now in
+        let body = view_resolved_statement region.now.statement.now in
+        let given = given_copies trees region.now.captures.now body in
+        OnOk result
+        (EmitsRow (names_of scope.now) (λ at. each (load_original at region.now.at.line) given)
+        draft.old draft.new) }
+{
+    let copies = given_copies(alloc, region.clauses, region.captures, region.statement)?;
+    load_originals(draft, scope, region.at.line, copies.as_slice())?;
+    Ok(copies.len())
+}
