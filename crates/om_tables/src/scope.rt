@@ -119,6 +119,5 @@ impl<'a> Scope<'a> {
 fn number_at(numbers: &[u32], index: usize) -> Option<u32>
     ensures { result ≡ slice_get numbers.now index }
 {
-    let number = numbers.get(index)?;
-    Some(*number)
+    numbers.get(index).copied()
 }

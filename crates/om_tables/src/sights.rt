@@ -28,23 +28,9 @@ pub fn function_variables(
         (λ made. made ≡ bodies.function_variables (view_resolved_function function.now)) }
 {
     let mut variables = Variables::new(alloc);
-    match see_function(&mut variables, function) {
-        Ok(()) => Ok(variables),
-        Err(AllocError) => {
-            drop(variables);
-            Err(AllocError)
-        }
-    }
-}
-
-/// Sees the parameters of a function and the variables of its body.
-fn see_function(variables: &mut Variables, function: &ResolvedFunction) -> Result<(), AllocError>
-    requires { variables.old ≡ [] }
-    ensures { OnOk result
-        (variables.new ≡ bodies.function_variables (view_resolved_function function.now)) }
-{
-    see_parameters(variables, function.parameters.as_slice())?;
-    see_statements(variables, function.body.as_slice())
+    see_parameters(&mut variables, function.parameters.as_slice())?;
+    see_statements(&mut variables, function.body.as_slice())?;
+    Ok(variables)
 }
 
 /// The variables of the body of a `parallel` or a `task`, by their slots.
