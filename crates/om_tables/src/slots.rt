@@ -66,14 +66,6 @@ fn shares(variable: u32, capture: Capture) -> bool
     capture.variable == variable && matches!(capture.taking, Taking::Shared)
 }
 
-/// The slot of a parameter.
-fn parameter_slot(variables: &Variables, parameter: &LocalVariable) -> u32
-    requires { length variables.now ≤ 256 }
-    ensures { result ≡ slot_of variables.now (parameter_sight parameter.now) }
-{
-    variables.slot_of(parameter.at) as u32
-}
-
 /// The slots of parameters.
 pub fn parameter_slots(
     alloc: Global,
@@ -86,7 +78,7 @@ pub fn parameter_slots(
 {
     let mut slots = Vec::new(alloc);
     for parameter in parameters {
-        slots.push(parameter_slot(variables, parameter))?;
+        slots.push(variables.slot_of(parameter.at) as u32)?;
     }
     Ok(Seq::of(slots))
 }

@@ -54,34 +54,10 @@ fn mentions_of(alloc: Global, functions: &[ResolvedFunction]) -> Result<Mentions
         (λ made. made.locks ≡ noted [] (flat_map (function_mentioned lock_mention) trees)) }
 {
     let mut found = Mentions::new(alloc);
-    match note_functions(&mut found, alloc, functions) {
-        Ok(()) => Ok(found),
-        Err(AllocError) => {
-            drop(found);
-            Err(AllocError)
-        }
-    }
-}
-
-/// Notes what functions mention.
-fn note_functions(
-    found: &mut Mentions,
-    alloc: Global,
-    functions: &[ResolvedFunction],
-) -> Result<(), AllocError>
-    ensures formats { let trees = map view_resolved_function functions.now in
-        OnOk result
-        (found.new.formats
-        ≡ noted found.old.formats (flat_map (function_mentioned format_mention) trees)) }
-    ensures locks { let trees = map view_resolved_function functions.now in
-        OnOk result
-        (found.new.locks
-        ≡ noted found.old.locks (flat_map (function_mentioned lock_mention) trees)) }
-{
     for function in functions {
-        note_statements(found, alloc, function.body.as_slice())?;
+        note_statements(&mut found, alloc, function.body.as_slice())?;
     }
-    Ok(())
+    Ok(found)
 }
 
 /// The numbers of the bodies of functions, and the numbers behind them.
