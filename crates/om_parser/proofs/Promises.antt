@@ -1,6 +1,6 @@
 -- What parsing promises, from what is read.
 use Rattle.std.proofs.Common.{◌≡◌, List, true, Result, Ok, Err, sym, ap, subst, ◌∙◌, arith, ◌⊎◌, inl, inr, All}
-use Rattle.std.specs.Prelude.{IfOk, IfErr}
+use Rattle.std.specs.Prelude.{IfOk, IfErr, Some, None}
 use Rattle.std.proofs.lemmas.List.Elements.{All-weaker}
 use Rattle.om_lexer.specs.Faults.{no_memory}
 use Rattle.om_lexer.specs.declared.fault.FaultCode.TheVariants as codes
@@ -12,6 +12,7 @@ use Rattle.om_tree.specs.Limits.{accepted}
 use Rattle.om_parser.specs.LineFaults.{IsRefusedLine}
 use Rattle.om_tree.specs.Sizes.{IsItemWithin, IsWithinLimits, HasItemForms, AtomicsHaveForms}
 use Rattle.om_parser.specs.Parsing.{IsTreeOf, IsTreeOrMemory, IsLimitPassed}
+use Rattle.om_parser.specs.Refusals.{refusal_of, refused}
 use Rattle.om_parts.specs.Reading.{Reads}
 use Rattle.om_tree.specs.Tree.{UnitTree}
 use Rattle.om_parser.specs.UnitReading.{unit_at}
@@ -26,6 +27,19 @@ use Rattle.om_parser.proofs.UnitRefusals.{unit_refuses, too_deep_unit, unknown_i
 
 memory_only : (f : SourceFault) → f ≡ no_memory → f.code ≡ codes.Memory
 memory_only f e = ap (λ (g : SourceFault). g.code) e
+
+-- what was read is not refused
+pub is_accepted : (ts : List Token) (r : Result units.Unit SourceFault) → Reads view_unit r (unit_at accepted ts)
+    → IfOk r (λ unit. refusal_of ts ≡ None)
+is_accepted ts (Ok u) h = ap refused h
+is_accepted ts (Err f) h = tt
+
+-- a fault but for memory is the refusal of the tokens
+pub is_one_refusal : (ts : List Token) (r : Result units.Unit SourceFault) → Reads view_unit r (unit_at accepted ts)
+    → IfErr r (λ fault. (fault ≡ no_memory) ⊎ (refusal_of ts ≡ Some fault))
+is_one_refusal ts (Ok u) h = tt
+is_one_refusal ts (Err f) (inl memory) = inl memory
+is_one_refusal ts (Err f) (inr e) = inr (ap refused e)
 
 module _ (laws : ReadingLaws) (ts : List Token) where
   pub is_found : (r : Result units.Unit SourceFault) → Reads view_unit r (unit_at accepted ts)

@@ -3,3 +3,4 @@ pub mod FunctionReading
 pub mod LineFaults
 pub mod Faults
 pub mod UnitReading
+pub mod Refusals

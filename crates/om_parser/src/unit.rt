@@ -1,6 +1,6 @@
 //! A whole source.
 
-ghost use Rattle.std.specs.Prelude.{◌≡◌, ◌⊎◌, [], IfOk, IfErr, length, map, option_map};
+ghost use Rattle.std.specs.Prelude.{◌≡◌, ◌⊎◌, [], IfOk, IfErr, None, Some, length, map, option_map};
 ghost use Rattle.om_lexer.specs.Faults.{no_memory};
 ghost use Rattle.om_lexer.specs.declared.fault.FaultCode.TheVariants.{BadClause, Syntax, TooDeep, UnknownDirective};
 ghost use Rattle.om_parser.specs.Faults.{IsBadAtomic};
@@ -9,6 +9,7 @@ ghost use Rattle.om_tree.specs.Limits.{accepted};
 ghost use Rattle.om_parser.specs.LineFaults.{IsRefusedLine};
 ghost use Rattle.om_tree.specs.Sizes.{AtomicsHaveForms, IsWithinLimits};
 ghost use Rattle.om_parser.specs.Parsing.{IsTreeOf, IsTreeOrMemory, IsLimitPassed};
+ghost use Rattle.om_parser.specs.Refusals.{refusal_of};
 ghost use Rattle.om_parts.specs.Reading.{Reads};
 ghost use Rattle.om_tree.specs.Spelling.{unit_spelling};
 ghost use Rattle.om_tree.specs.Tree.{UnitTree};
@@ -40,7 +41,7 @@ pub const STACK_SIZE: usize = 256 << 20;
 /// directives of OpenMP API 5.2 that `om_pragma` has before or among them.
 /// Refusals:
 /// - S0 at byte 0: no memory.
-/// - S3: no tree of any size has these tokens. No clause says at which byte.
+/// - S3: no tree of any size has these tokens.
 /// - S5: in a directive line a word stands that is no directive, or no clause, where one must
 ///   stand. Its place is that of the word.
 /// - S6: in a directive line the word of a clause stands that the directive does not have, or not
@@ -54,7 +55,8 @@ pub const STACK_SIZE: usize = 256 << 20;
 ///
 /// S5, and S6 of a clause, are of whole lines, and what stands before such a line begins a
 /// well-formed unit that goes on with a line there. So do the tokens up to that of an S16, the
-/// token with them. Where a source has several faults, no clause says which of them is given.
+/// token with them. Where a source has several faults, its tokens alone decide which of them is
+/// given, and the byte of an S3: it is the one at which reading from the left stops.
 ///
 /// A source may nest deep: the call should have [`STACK_SIZE`] bytes of stack.
 pub fn parse(alloc: Global, tokens: &[Token]) -> Result<Unit, SourceFault>
@@ -77,6 +79,11 @@ pub fn parse(alloc: Global, tokens: &[Token]) -> Result<Unit, SourceFault>
         IsRefusedLine tokens.now fault ⊎ IsBadAtomic tokens.now fault.at) }
     ensures no_other_refusal { IfErr result (λ fault. (fault ≡ no_memory) ⊎ (fault.code ≡ Syntax)
         ⊎ (fault.code ≡ TooDeep) ⊎ (fault.code ≡ UnknownDirective) ⊎ (fault.code ≡ BadClause)) }
+
+    // A source is either accepted or has one refusal.
+    ensures accepted_source { IfOk result (λ unit. refusal_of tokens.now ≡ None) }
+    ensures one_refusal { IfErr result
+        (λ fault. (fault ≡ no_memory) ⊎ (refusal_of tokens.now ≡ Some fault)) }
 {
     blocks_are_sound();
     blocks_are_read_again();

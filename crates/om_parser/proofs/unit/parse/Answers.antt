@@ -1,5 +1,5 @@
 use Rattle.om_parser.proofs.Promises.{is_found, is_within, has_forms, is_only, is_syntax, is_too_deep, is_unknown}
-use Rattle.om_parser.proofs.Promises.{is_bad_clause, is_no_other}
+use Rattle.om_parser.proofs.Promises.{is_accepted, is_bad_clause, is_no_other, is_one_refusal}
 use Rattle.om_parser.proofs.unit.parse.Goals as goal
 
 pub returns-clause-found : goal.returns-clause-found
@@ -109,3 +109,9 @@ returns-clause-no_other_refusal c = is_no_other
       globals_again = c.globals.ensures.read_again;
       globals_stop = c.globals.ensures.stop_at_syntax;
     }) c.args.tokens.now c.unit.result c.unit.ensures
+
+pub returns-clause-accepted_source : goal.returns-clause-accepted_source
+returns-clause-accepted_source c = is_accepted c.args.tokens.now c.unit.result c.unit.ensures
+
+pub returns-clause-one_refusal : goal.returns-clause-one_refusal
+returns-clause-one_refusal c = is_one_refusal c.args.tokens.now c.unit.result c.unit.ensures
