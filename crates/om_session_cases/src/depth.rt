@@ -47,7 +47,7 @@ pub(crate) fn deepest_are_accepted<R: Threads + Wait + Sync>(
 ) -> Result<bool> {
     for (front, middle, back, times) in NESTS {
         let source = nested(alloc, front, middle, back, times)?;
-        if !written(rt, alloc, source.as_str())?.is_empty() {
+        if !written(rt, alloc, 2, source.as_str())?.is_empty() {
             return Ok(false);
         }
     }

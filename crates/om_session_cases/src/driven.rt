@@ -5,7 +5,7 @@ ghost use Rattle.std.specs.Prelude.{◌≡◌, IfOk, length, vec_len};
 use crate::orders::steps_of;
 use anyhow::Result;
 use om_book::Book;
-use om_drive::{Crew, Driven, Gate, Order, drive};
+use om_drive::{Answer, Crew, Driven, Gate, Order, drive};
 use om_session::{Blank, Closed, Session, Sitting};
 use om_shell::debuggee_of;
 use om_view::Debuggee;
@@ -22,12 +22,13 @@ const ORDERS: u64 = 200;
 
 /// Whether each order of two seats is answered, with a record and a receipt that stands.
 pub(crate) fn all_are_answered<R: Threads + Wait + Sync>(rt: &R, alloc: Global) -> Result<bool> {
+    let orders = two_lists(alloc)?;
     let Ok(debuggee) = debuggee_of(alloc, SOURCE.as_bytes()) else {
         return Ok(false);
     };
     let Debuggee { program, names: _ } = debuggee;
     let book = Book::new(alloc, program, 2)?;
-    Ok(drive_two::<Brand, _>(rt, alloc, Blank::new(2), book)?)
+    Ok(drive_two::<Brand, _>(rt, alloc, Blank::new(2), book, orders.as_slice())?)
 }
 
 /// Drives two seats over a book without records.
@@ -37,44 +38,47 @@ fn drive_two<L: Sitting + Send + Sync, R: Threads + Wait + Sync>(
     alloc: Global,
     blank: Blank,
     book: Book,
+    orders: &[Vec<Order>],
 ) -> Result<bool, AllocError>
     requires name { blank.ledger.name ≡ L.name }
     requires parts { blank.ledger.parts ≡ L.parts }
     requires opened { book ≡ L.opened }
     requires workers { book.start.workers ≡ L.workers }
     requires two { blank.seats ≡ 2 }
+    requires lists { length orders.now ≡ 2 }
 {
+    let gates = two_gates(alloc)?;
     let Ok((session, debuggees)) = Session::<L>::new(alloc, blank, book) else {
         return Err(AllocError);
     };
-    let gates = two_gates(alloc)?;
-    let orders = two_lists(alloc)?;
     let crew = Crew { debuggees, gates };
     let Driven {
         seats,
         answers,
         fault,
-    } = drive(rt, alloc, &session, crew, orders.as_slice());
-    let Ok(
-        Closed {
-            book,
-            calls,
-            standing,
-            ..
-        },
-    ) = session.close(seats)
-    else {
-        return Ok(false);
-    };
-    let answered = answers.iter().filter(|answer| answer.reply.is_ok()).count();
-    Ok(
-        fault.is_none()
-            && answers.len() == 400
-            && answered == 400
-            && calls == 400
-            && standing == 400
-            && book.records() == 400,
-    )
+    } = drive(rt, alloc, &session, crew, orders);
+    let replied = are_replied(answers);
+    match session.close(seats) {
+        Ok(closed) => {
+            let standing = are_standing(closed);
+            Ok(fault.is_none() && replied && standing)
+        }
+        Err(unclosed) => {
+            drop(unclosed);
+            Ok(false)
+        }
+    }
+}
+
+/// Whether there is an answer with a reply for each order.
+fn are_replied(answers: Vec<Answer>) -> bool {
+    let replied = answers.iter().filter(|answer| answer.reply.is_ok()).count();
+    answers.len() == 400 && replied == 400
+}
+
+/// Whether each order has its record, and a receipt that stands.
+fn are_standing<L: Sitting>(closed: Closed<L>) -> bool {
+    closed.calls == 400 && closed.standing == 400 && closed.book.records() == 400
 }
 
 /// A gate that holds nobody back.

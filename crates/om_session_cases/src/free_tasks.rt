@@ -48,7 +48,7 @@ const END: &str = "worker 0 ended 0\noutput 2 bytes\n3\n\n";
 
 /// Whether free runs end the program, and say how many steps they made.
 pub(crate) fn free_runs_end_tasks<R: Threads + Wait + Sync>(rt: &R, alloc: Global) -> Result<bool> {
-    let bytes = written(rt, alloc, SESSION)?;
+    let bytes = written(rt, alloc, 2, SESSION)?;
     let text = str::from_utf8(bytes.as_slice()).unwrap_or("no text");
     Ok(steps_freed(text) == STEPS && steps_shown(text) == STEPS && text.ends_with(END))
 }

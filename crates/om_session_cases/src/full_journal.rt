@@ -1,10 +1,31 @@
 //! Sessions that fill the journal. It has room for 200,000 records.
 
-use crate::session::{Repeated, written};
+use crate::session::written;
 use anyhow::Result;
-use std::alloc::Global;
+use std::alloc::{AllocError, Global};
 use std::sync::Wait;
 use std::thread::Threads;
+
+/// A text in which one line stands very often.
+#[derive(Clone, Copy)]
+struct Repeated<'a> {
+    front: &'a str,
+    line: &'a str,
+    times: u32,
+    back: &'a str,
+}
+
+impl Repeated<'_> {
+    /// The text, in full.
+    fn text(&self, alloc: Global) -> Result<String, AllocError> {
+        let mut text = String::from_str(alloc, self.front)?;
+        for _ in 0..self.times {
+            text.push_str(self.line)?;
+        }
+        text.push_str(self.back)?;
+        Ok(text)
+    }
+}
 
 /// Whether this is written in the session of this input.
 fn is_written<R: Threads + Wait + Sync>(
@@ -15,7 +36,7 @@ fn is_written<R: Threads + Wait + Sync>(
 ) -> Result<bool> {
     let input = input.text(alloc)?;
     let wanted = wanted.text(alloc)?;
-    let text = written(rt, alloc, input.as_str())?;
+    let text = written(rt, alloc, 2, input.as_str())?;
     Ok(text.as_slice() == wanted.as_bytes())
 }
 
