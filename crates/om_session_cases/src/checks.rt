@@ -17,26 +17,7 @@ pub(crate) fn tell_checks<R: Print + Threads + Wait + Sync>(
     alloc: Global,
     deepest: bool,
 ) -> Result<u32> {
-    let mut wrong = 0u32;
-    for (name, is_right) in checks(rt, alloc, deepest)? {
-        if is_right {
-            println!(rt; "{name}")?;
-        } else {
-            println!(rt; "{name} is WRONG")?;
-            wrong = wrong.saturating_add(1);
-        }
-    }
-    println!(rt; "8 checks, {wrong} wrong")?;
-    Ok(wrong)
-}
-
-/// The checks by their names, and whether each is right.
-fn checks<R: Threads + Wait + Sync>(
-    rt: &R,
-    alloc: Global,
-    deepest: bool,
-) -> Result<[(&'static str, bool); 8]> {
-    Ok([
+    let checks = [
         ("a journal gets full", journal_gets_full(rt, alloc)?),
         ("a free run is recorded", free_run_is_recorded(rt, alloc)?),
         ("free runs end tasks", free_runs_end_tasks(rt, alloc)?),
@@ -51,5 +32,16 @@ fn checks<R: Threads + Wait + Sync>(
             source_may_be_handed_in(rt, alloc),
         ),
         ("the deepest sources are accepted", deepest),
-    ])
+    ];
+    let mut wrong = 0u32;
+    for (name, is_right) in checks {
+        if is_right {
+            println!(rt; "{name}")?;
+        } else {
+            println!(rt; "{name} is WRONG")?;
+            wrong = wrong.saturating_add(1);
+        }
+    }
+    println!(rt; "8 checks, {wrong} wrong")?;
+    Ok(wrong)
 }

@@ -57,11 +57,8 @@ fn main(rt: HostRuntime) -> Result<()> {
 /// Says of each case of the input whether it is right.
 fn tell_cases<R: Input + Print + Threads + Wait + Sync>(rt: &R, alloc: Global) -> Result<Told> {
     let input = io::read_to_string(alloc, rt.reader())?;
-    let (cases, asks_for_checks) = match input.as_str().strip_suffix(CHECKS) {
-        Some(cases) => (cases, true),
-        None => (input.as_str(), false),
-    };
-    let report = judge(rt, alloc, cases)?;
+    let asks_for_checks = input.as_str().ends_with(CHECKS);
+    let report = judge(rt, alloc, input.as_str().trim_end_matches(CHECKS))?;
     print!(rt; "{}", report.text)?;
     Ok(Told {
         wrong: report.wrong,
