@@ -1,4 +1,4 @@
--- Reading the heads of functions from the left.
+-- For proofs: reading the heads of functions from the left.
 use Rattle.std.specs.Prelude.{length, Ok, Bool, true, ◌&&◌, is_some}
 use Rattle.std.specs.List.{list_all}
 use Rattle.om_lexer.specs.declared.token.Keyword.TheVariants as keywords

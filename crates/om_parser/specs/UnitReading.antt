@@ -1,4 +1,4 @@
--- Reading functions, items and the whole source from the left.
+-- For proofs: reading functions, items and the whole source from the left.
 use Rattle.std.specs.Prelude.{List, [], ◌∷◌, length, Option, Some, None, Ok, Err, if◌then◌else◌}
 use Rattle.om_lexer.specs.declared.token.Keyword.TheVariants as keywords
 use Rattle.om_lexer.specs.declared.token.Punctuator.TheVariants as punctuators

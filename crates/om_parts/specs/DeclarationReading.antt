@@ -1,4 +1,4 @@
--- Reading declarations from the left.
+-- For proofs: reading declarations from the left.
 use Rattle.std.specs.Prelude.{length, Some, None, Ok}
 use Rattle.om_lexer.specs.declared.token.Punctuator.TheVariants as punctuators
 use Rattle.om_lexer.specs.declared.token.Span.{Span}

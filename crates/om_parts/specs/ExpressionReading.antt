@@ -1,4 +1,4 @@
--- Reading an expression from the left.
+-- For proofs: reading an expression from the left.
 use Rattle.std.specs.Prelude.{◌≡◌, ℕ, zero, suc, ◌-◌, List, [], ◌∷◌, length, Option, Some, None, Result, Ok, Err, ⊤}
 use Rattle.std.specs.Prelude.{Bool, true, false, ◌&&◌, nat_le, nat_eq, bytes_eq, codes, option_map, if◌then◌else◌}
 use Rattle.om_lexer.specs.declared.fault.SourceFault.{SourceFault}

@@ -1,4 +1,4 @@
--- Reading a directive line with its expression.
+-- For proofs: reading a directive line with its expression.
 use Rattle.std.specs.Prelude.{ℕ, ◌-◌, List, [], ◌∷◌, length, Option, Some, None, Ok, Err, Bool, true, false, ◌&&◌}
 use Rattle.std.specs.Prelude.{nat_eq, nat_lt, slice_get, option_map, if◌then◌else◌}
 use Rattle.om_lexer.specs.declared.fault.FaultCode.{FaultCode}

@@ -1,4 +1,5 @@
--- Reading from the left, as the parser does: an item and the tokens behind it, or the fault that stops it.
+-- For proofs: reading from the left, as the parser does. It gives an item and the tokens behind it, or the fault
+-- that stops it.
 use Rattle.std.specs.Prelude.{◌≡◌, ℕ, List, [], ◌∷◌, Option, Some, None, Result, Ok, Err, Bool, ◌⊎◌, if◌then◌else◌}
 use denote.Enum.Bare.{sameb}
 use Rattle.om_lexer.specs.Faults.{no_memory}

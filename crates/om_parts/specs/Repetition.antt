@@ -1,4 +1,4 @@
--- Reading parts that may be left out, and parts that stand one after another.
+-- For proofs: reading parts that may be left out, and parts that stand one after another.
 use Rattle.std.specs.Prelude.{ℕ, zero, suc, List, [], ◌∷◌, Option, Some, None, Ok, Err}
 use Rattle.om_lexer.specs.declared.token.Span.{Span}
 use Rattle.om_lexer.specs.declared.token.Token.{Token}

@@ -1,4 +1,4 @@
--- Reading directives and their statements from the left.
+-- For proofs: reading directives and their statements from the left.
 use Rattle.std.specs.Prelude.{List, [], ◌∷◌, Ok, Err, Bool, false, ◌||◌, not, if◌then◌else◌}
 use Rattle.om_lexer.specs.declared.fault.FaultCode.TheVariants as faults
 use Rattle.om_lexer.specs.declared.fault.SourceFault.{SourceFault}
