@@ -76,7 +76,8 @@ fn verdict<R: Threads + Wait + Sync>(
     }
 }
 
-/// How a session differs from what is wanted. Being out of memory is no answer.
+/// How a session differs from what is wanted. Being out of memory is no answer, and a write that fails
+/// is the same: what is written to is a vector.
 fn difference(
     alloc: Global,
     session: &Session<'_>,
@@ -89,6 +90,7 @@ fn difference(
             format!(in alloc; " is WRONG, it writes\n{text}")
         }
         Err(ShellFault::Memory) => Err(AllocError),
+        Err(ShellFault::Write) => Err(AllocError),
         Err(fault) => format!(in alloc; " is WRONG: {fault}"),
     }
 }
