@@ -10,18 +10,10 @@ ghost use Rattle.om_rules.specs.StatementRules.{after_for_start, for_start_breac
 
 use om_lexer::{SourceFault, Span};
 use om_names::Symbols;
-use om_resolved::{ResolvedExpression, ResolvedStart, ResolvedStatement};
+use om_resolved::{ResolvedExpression, ResolvedHead, ResolvedStart, ResolvedStatement};
 use om_tree::{Expression, ForHead, ForStart};
 use om_uses::{boxed_expression, resolve_locals, unboxed};
-use std::alloc::Global;
-
-/// What a `for` has before its body.
-#[derive(Drop)]
-pub struct ResolvedHead {
-    start: Box<ResolvedStart>,
-    condition: Option<Box<ResolvedExpression>>,
-    step: Option<Box<ResolvedExpression>>,
-}
+use std::alloc::{AllocError, Global};
 
 /// What a `for` has before its body: what it begins with, its condition and its step.
 #[tactic(auto, using(om_rules::specs::InRow::first_of_left))]
@@ -29,7 +21,7 @@ pub fn resolve_for_head(
     alloc: Global,
     symbols: &mut Symbols,
     head: &ForHead,
-) -> Result<ResolvedHead, SourceFault>
+) -> Result<Box<ResolvedHead>, SourceFault>
     ensures checked { let tree = view_for_head head.now in
         Checks result
         (for_start_breaches symbols.old tree.start
@@ -38,23 +30,42 @@ pub fn resolve_for_head(
         (symbols.new ≡ after_for_start symbols.old (view_for_head head.now).start) }
     ensures start { IfOk result
         (λ found. resolved_start symbols.old (view_for_head head.now).start
-        ≡ Some (view_resolved_start found.start.value)) }
+        ≡ Some (view_resolved_start found.value.start)) }
     ensures condition { let tree = view_for_head head.now in
         IfOk result
         (λ found. resolved_perhaps (after_for_start symbols.old tree.start) tree.condition
-        ≡ Some (option_map (λ boxed. view_resolved_expression boxed.value) found.condition)) }
+        ≡ Some (option_map view_resolved_expression found.value.condition)) }
     ensures step { let tree = view_for_head head.now in
         IfOk result
         (λ found. resolved_perhaps (after_for_start symbols.old tree.start) tree.step
-        ≡ Some (option_map (λ boxed. view_resolved_expression boxed.value) found.step)) }
+        ≡ Some (option_map view_resolved_expression found.value.step)) }
 {
     let start = Box::new(alloc, resolve_for_start(alloc, symbols, &head.start)?)?;
     let (condition, step) = resolve_for_turn(alloc, symbols, head)?;
-    Ok(ResolvedHead {
-        start,
-        condition,
-        step,
-    })
+    Ok(head_of(alloc, start, condition, step)?)
+}
+
+/// What a `for` has before its body, put together.
+fn head_of(
+    alloc: Global,
+    start: Box<ResolvedStart>,
+    condition: Option<Box<ResolvedExpression>>,
+    step: Option<Box<ResolvedExpression>>,
+) -> Result<Box<ResolvedHead>, AllocError>
+    ensures start { IfOk result (λ head. head.value.start ≡ start.value) }
+    ensures condition { IfOk result
+        (λ head. option_map view_resolved_expression head.value.condition
+        ≡ option_map (λ boxed. view_resolved_expression boxed.value) condition) }
+    ensures step { IfOk result
+        (λ head. option_map view_resolved_expression head.value.step
+        ≡ option_map (λ boxed. view_resolved_expression boxed.value) step) }
+{
+    let head = ResolvedHead {
+        start: Box::into_inner(start),
+        condition: unboxed(condition),
+        step: unboxed(step),
+    };
+    Ok(Box::new(alloc, head)?)
 }
 
 /// What a `for` begins with.
@@ -134,23 +145,12 @@ fn resolve_perhaps(
 }
 
 /// A `for` with its body.
-pub fn for_of(at: Span, head: ResolvedHead, body: Box<ResolvedStatement>) -> ResolvedStatement
+pub fn for_of(at: Span, head: Box<ResolvedHead>, body: Box<ResolvedStatement>) -> ResolvedStatement
     ensures { view_resolved_statement result
-        ≡ resolved.For at (view_resolved_start head.start.value)
-        (option_map (λ boxed. view_resolved_expression boxed.value) head.condition)
-        (option_map (λ boxed. view_resolved_expression boxed.value) head.step)
+        ≡ resolved.For at (view_resolved_start head.value.start)
+        (option_map view_resolved_expression head.value.condition)
+        (option_map view_resolved_expression head.value.step)
         (view_resolved_statement body.value) }
 {
-    let ResolvedHead {
-        start,
-        condition,
-        step,
-    } = head;
-    ResolvedStatement::For(
-        at,
-        Box::into_inner(start),
-        unboxed(condition),
-        unboxed(step),
-        body,
-    )
+    ResolvedStatement::For { at, head, body }
 }

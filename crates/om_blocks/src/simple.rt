@@ -40,7 +40,10 @@ pub fn resolve_declaration(
         ≡ Some (view_resolved_statement found)) }
 {
     let declared = resolve_locals(alloc, symbols, declaration)?;
-    Ok(ResolvedStatement::Declaration(declaration.int, declared))
+    Ok(ResolvedStatement::Declaration {
+        at: declaration.int,
+        declarators: declared,
+    })
 }
 
 /// An expression whose value is not used, as a statement.
@@ -57,7 +60,10 @@ pub fn resolve_effect(
 {
     let at = expression_first(expression);
     let expression = boxed_expression(alloc, symbols, false, expression)?;
-    Ok(ResolvedStatement::Expression(at, Box::into_inner(expression)))
+    Ok(ResolvedStatement::Expression {
+        at,
+        value: Box::into_inner(expression),
+    })
 }
 
 /// A `return`: S9, S14.
@@ -80,7 +86,10 @@ pub fn resolve_return(
 {
     check_jump(!flow.in_construct, at.start)?;
     let value = resolve_returned(alloc, symbols, flow, value)?;
-    Ok(ResolvedStatement::Return(at, unboxed(value)))
+    Ok(ResolvedStatement::Return {
+        at,
+        value: unboxed(value),
+    })
 }
 
 /// What a function returns: S9.
@@ -148,12 +157,24 @@ fn resolve_alone(
 {
     let at = directive.hash;
     match &directive.name {
-        DirectiveName::Barrier(_) => Ok(ResolvedStatement::StandAlone(at, StandAlone::Barrier)),
-        DirectiveName::Taskwait(_) => Ok(ResolvedStatement::StandAlone(at, StandAlone::Taskwait)),
-        DirectiveName::Taskyield(_) => Ok(ResolvedStatement::StandAlone(at, StandAlone::Taskyield)),
+        DirectiveName::Barrier(_) => Ok(ResolvedStatement::StandAlone {
+            at,
+            directive: StandAlone::Barrier,
+        }),
+        DirectiveName::Taskwait(_) => Ok(ResolvedStatement::StandAlone {
+            at,
+            directive: StandAlone::Taskwait,
+        }),
+        DirectiveName::Taskyield(_) => Ok(ResolvedStatement::StandAlone {
+            at,
+            directive: StandAlone::Taskyield,
+        }),
         DirectiveName::Flush(_, list) => {
             let flushed = StandAlone::Flush(resolve_flush(alloc, symbols, list)?);
-            Ok(ResolvedStatement::StandAlone(at, flushed))
+            Ok(ResolvedStatement::StandAlone {
+                at,
+                directive: flushed,
+            })
         }
         _ => Ok(ResolvedStatement::Empty(at)),
     }

@@ -82,7 +82,7 @@ fn resolve_statement(
             ..
         } => {
             let items = resolve_block(alloc, symbols, flow, items.as_slice())?;
-            Ok(ResolvedStatement::Block(*left, items))
+            Ok(ResolvedStatement::Block { at: *left, items })
         }
         Statement::Empty(semicolon) => Ok(ResolvedStatement::Empty(*semicolon)),
         Statement::Expression {
@@ -96,7 +96,11 @@ fn resolve_statement(
         } => {
             let condition = boxed_expression(alloc, symbols, true, &condition.value)?;
             let then = resolve_body(alloc, symbols, flow, then)?;
-            Ok(ResolvedStatement::If(*at, Box::into_inner(condition), then))
+            Ok(ResolvedStatement::If {
+                at: *at,
+                condition: Box::into_inner(condition),
+                then,
+            })
         }
         Statement::IfElse {
             word: at,
@@ -108,7 +112,12 @@ fn resolve_statement(
             let condition = boxed_expression(alloc, symbols, true, &condition.value)?;
             let then = resolve_body(alloc, symbols, flow, then)?;
             let other = resolve_body(alloc, symbols, flow, other)?;
-            Ok(ResolvedStatement::IfElse(*at, Box::into_inner(condition), then, other))
+            Ok(ResolvedStatement::IfElse {
+                at: *at,
+                condition: Box::into_inner(condition),
+                then,
+                other,
+            })
         }
         Statement::While {
             word: at,
@@ -117,7 +126,11 @@ fn resolve_statement(
         } => {
             let condition = boxed_expression(alloc, symbols, true, &condition.value)?;
             let body = resolve_body(alloc, symbols, looping(flow), body)?;
-            Ok(ResolvedStatement::While(*at, Box::into_inner(condition), body))
+            Ok(ResolvedStatement::While {
+                at: *at,
+                condition: Box::into_inner(condition),
+                body,
+            })
         }
         Statement::Do {
             word: at,
@@ -127,7 +140,11 @@ fn resolve_statement(
         } => {
             let body = resolve_body(alloc, symbols, looping(flow), body)?;
             let condition = boxed_expression(alloc, symbols, true, &condition.value)?;
-            Ok(ResolvedStatement::Do(*at, body, Box::into_inner(condition)))
+            Ok(ResolvedStatement::Do {
+                at: *at,
+                body,
+                condition: Box::into_inner(condition),
+            })
         }
         Statement::For { head, body } => resolve_for(alloc, symbols, flow, head, body),
         Statement::Return {

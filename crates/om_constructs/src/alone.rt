@@ -99,24 +99,27 @@ pub fn assignment(
         (EmitsRow (names_of scope.now) (λ at. assignment_row at line tree) draft.old draft.new) }
 {
     match statement {
-        ResolvedStatement::Expression(_, expression) => effect(draft, scope, line, expression),
-        ResolvedStatement::Declaration(_, _) => unreachable!(),
-        ResolvedStatement::Block(_, _) => unreachable!(),
+        ResolvedStatement::Expression {
+            value: expression,
+            ..
+        } => effect(draft, scope, line, expression),
+        ResolvedStatement::Declaration { .. } => unreachable!(),
+        ResolvedStatement::Block { .. } => unreachable!(),
         ResolvedStatement::Empty(_) => unreachable!(),
-        ResolvedStatement::If(_, _, _) => unreachable!(),
-        ResolvedStatement::IfElse(_, _, _, _) => unreachable!(),
-        ResolvedStatement::While(_, _, _) => unreachable!(),
-        ResolvedStatement::Do(_, _, _) => unreachable!(),
-        ResolvedStatement::For(_, _, _, _, _) => unreachable!(),
-        ResolvedStatement::Return(_, _) => unreachable!(),
+        ResolvedStatement::If { .. } => unreachable!(),
+        ResolvedStatement::IfElse { .. } => unreachable!(),
+        ResolvedStatement::While { .. } => unreachable!(),
+        ResolvedStatement::Do { .. } => unreachable!(),
+        ResolvedStatement::For { .. } => unreachable!(),
+        ResolvedStatement::Return { .. } => unreachable!(),
         ResolvedStatement::Break(_) => unreachable!(),
         ResolvedStatement::Continue(_) => unreachable!(),
-        ResolvedStatement::Parallel(_, _, _, _) => unreachable!(),
-        ResolvedStatement::Task(_, _, _, _) => unreachable!(),
-        ResolvedStatement::Loop(_, _, _, _, _) => unreachable!(),
-        ResolvedStatement::Sections(_, _, _, _) => unreachable!(),
-        ResolvedStatement::Construct(_, _, _, _) => unreachable!(),
-        ResolvedStatement::Update(_, _) => unreachable!(),
-        ResolvedStatement::StandAlone(_, _) => unreachable!(),
+        ResolvedStatement::Parallel { .. } => unreachable!(),
+        ResolvedStatement::Task { .. } => unreachable!(),
+        ResolvedStatement::Loop { .. } => unreachable!(),
+        ResolvedStatement::Sections { .. } => unreachable!(),
+        ResolvedStatement::Construct { .. } => unreachable!(),
+        ResolvedStatement::Update { .. } => unreachable!(),
+        ResolvedStatement::StandAlone { .. } => unreachable!(),
     }
 }

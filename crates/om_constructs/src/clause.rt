@@ -21,7 +21,7 @@ pub fn clause_value(clauses: &[ResolvedClause]) -> Option<&ResolvedExpression>
         ≡ rows.clause_value (map view_resolved_clause clauses.now) }
 {
     for clause in clauses {
-        if let ResolvedClause::Value(_, value) = clause {
+        if let ResolvedClause::Value { value, .. } = clause {
             return Some(value);
         }
     }
@@ -87,7 +87,12 @@ fn clause_start(
         OnOk result
         (EmitsRow (names_of scope.now) (λ at. clause_start at line tree) draft.old draft.new) }
 {
-    let ResolvedClause::Copied(kind, original, copy) = clause else {
+    let ResolvedClause::Copied {
+        kind,
+        original,
+        copy,
+    } = clause
+    else {
         return Ok(());
     };
     match kind {
@@ -136,7 +141,7 @@ fn clause_reduction_start(
         (EmitsRow (names_of scope.now) (λ at. clause_reduction_start at line tree) draft.old
         draft.new) }
 {
-    let ResolvedClause::Copied(kind, _, copy) = clause else {
+    let ResolvedClause::Copied { kind, copy, .. } = clause else {
         return Ok(());
     };
     let CopyKind::Reduction(operator) = kind else {
@@ -175,7 +180,12 @@ fn clause_combined(
         OnOk result
         (EmitsRow (names_of scope.now) (λ at. clause_combined at line tree) draft.old draft.new) }
 {
-    let ResolvedClause::Copied(kind, original, copy) = clause else {
+    let ResolvedClause::Copied {
+        kind,
+        original,
+        copy,
+    } = clause
+    else {
         return Ok(());
     };
     let CopyKind::Reduction(operator) = kind else {

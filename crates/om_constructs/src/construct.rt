@@ -56,7 +56,7 @@ pub fn begin_construct(
 {
     let label = draft.fresh()?;
     match kind {
-        ConstructKind::Single(_) => {
+        ConstructKind::Single { .. } => {
             draft.put(line, Instr::Single(label))?;
             starts(draft, scope, line, clauses)?;
         }
@@ -64,7 +64,7 @@ pub fn begin_construct(
             filter(draft, scope, line, clauses)?;
             draft.put(line, Instr::Masked(label))?;
         }
-        ConstructKind::Critical(name) => {
+        ConstructKind::Critical { name } => {
             let lock = scope.lock_number(name);
             draft.put(line, Instr::AskCritical(lock))?;
             draft.put(line, Instr::EnterCritical(lock))?;
@@ -89,7 +89,7 @@ pub fn end_construct(
         (Ends label (construct_end (names_of scope.now) line kind.now label) draft.old draft.new) }
 {
     match kind {
-        ConstructKind::Single(nowait) => {
+        ConstructKind::Single { nowait } => {
             draft.define(label);
             worksharing_end(draft, line, *nowait)?;
             Ok(())
@@ -99,7 +99,7 @@ pub fn end_construct(
             draft.define(label);
             Ok(())
         }
-        ConstructKind::Critical(name) => {
+        ConstructKind::Critical { name } => {
             let lock = scope.lock_number(name);
             draft.put(line, Instr::LeaveCritical(lock))?;
             Ok(())

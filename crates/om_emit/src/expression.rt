@@ -47,22 +47,31 @@ pub fn value(
     match e {
         ResolvedExpression::Constant(number) => draft.put(line, Instr::Constant(*number)),
         ResolvedExpression::Variable(variable) => load(draft, scope, line, *variable),
-        ResolvedExpression::Element(array, index) => element(draft, scope, line, *array, index),
-        ResolvedExpression::Call(function, arguments) => {
-            used_call(draft, scope, line, *function, arguments.as_slice())
-        }
+        ResolvedExpression::Element { array, index } => element(draft, scope, line, *array, index),
+        ResolvedExpression::Call {
+            function,
+            values: arguments,
+        } => { used_call(draft, scope, line, *function, arguments.as_slice()) }
         ResolvedExpression::ThreadNumber => draft.put(line, Instr::ThreadNumber),
         ResolvedExpression::TeamSize => draft.put(line, Instr::TeamSize),
-        ResolvedExpression::Print(_, _) => unreachable!(),
-        ResolvedExpression::Unary(operator, operand) => {
+        ResolvedExpression::Print { .. } => unreachable!(),
+        ResolvedExpression::Unary { operator, operand } => {
             unary(draft, scope, line, *operator, operand)
         }
-        ResolvedExpression::Binary(left, operator, right) => {
+        ResolvedExpression::Binary {
+            left,
+            operator,
+            right,
+        } => {
             value(draft, scope, line, left)?;
             binary_end(draft, scope, line, *operator, right)?;
             Ok(())
         }
-        ResolvedExpression::Conditional(condition, then, other) => {
+        ResolvedExpression::Conditional {
+            condition,
+            value: then,
+            other,
+        } => {
             let otherwise = draft.fresh()?;
             let end = draft.fresh()?;
             value(draft, scope, line, condition)?;
@@ -74,18 +83,29 @@ pub fn value(
             draft.define(end);
             Ok(())
         }
-        ResolvedExpression::Assign(variable, operator, e) => {
-            assign(draft, scope, line, kept(*variable, *operator), e)
-        }
-        ResolvedExpression::AssignElement(array, index, operator, e) => {
+        ResolvedExpression::Assign {
+            variable,
+            operator,
+            value: e,
+        } => { assign(draft, scope, line, kept(*variable, *operator), e) }
+        ResolvedExpression::AssignElement {
+            array,
+            index,
+            operator,
+            value: e,
+        } => {
             value(draft, scope, line, index)?;
             assign_element(draft, scope, line, kept(*array, *operator), e)?;
             Ok(())
         }
-        ResolvedExpression::Postfix(variable, operator) => {
+        ResolvedExpression::Postfix { variable, operator } => {
             postfix(draft, scope, line, *variable, *operator)
         }
-        ResolvedExpression::PostfixElement(array, index, operator) => {
+        ResolvedExpression::PostfixElement {
+            array,
+            index,
+            operator,
+        } => {
             value(draft, scope, line, index)?;
             postfix_element(draft, scope, line, *array, *operator)?;
             Ok(())

@@ -32,38 +32,53 @@ pub fn effect(
         OnOk result (EmitsEffect (names_of scope.now) line tree draft.old draft.new) }
 {
     match e {
-        ResolvedExpression::Assign(variable, operator, e) => {
-            assign(draft, scope, line, dropped(*variable, *operator), e)
-        }
-        ResolvedExpression::AssignElement(array, index, operator, e) => {
+        ResolvedExpression::Assign {
+            variable,
+            operator,
+            value: e,
+        } => { assign(draft, scope, line, dropped(*variable, *operator), e) }
+        ResolvedExpression::AssignElement {
+            array,
+            index,
+            operator,
+            value: e,
+        } => {
             value(draft, scope, line, index)?;
             assign_element(draft, scope, line, dropped(*array, *operator), e)?;
             Ok(())
         }
-        ResolvedExpression::Postfix(variable, operator) => {
+        ResolvedExpression::Postfix { variable, operator } => {
             step(draft, scope, line, stepped(*variable, *operator))
         }
-        ResolvedExpression::PostfixElement(array, index, operator) => {
+        ResolvedExpression::PostfixElement {
+            array,
+            index,
+            operator,
+        } => {
             value(draft, scope, line, index)?;
             step_element(draft, scope, line, stepped(*array, *operator))?;
             Ok(())
         }
-        ResolvedExpression::Print(format, arguments) => {
-            print(draft, scope, line, format.as_slice(), arguments.as_slice())
-        }
-        ResolvedExpression::Call(function, arguments) => {
+        ResolvedExpression::Print {
+            format,
+            values: arguments,
+        } => { print(draft, scope, line, format.as_slice(), arguments.as_slice()) }
+        ResolvedExpression::Call {
+            function,
+            values: arguments,
+        } => {
             call(draft, scope, line, *function, arguments.as_slice())?;
             draft.put(line, Instr::Pop)?;
             Ok(())
         }
         ResolvedExpression::Constant(_) => popped(draft, scope, line, e),
         ResolvedExpression::Variable(_) => popped(draft, scope, line, e),
-        ResolvedExpression::Element(_, _) => popped(draft, scope, line, e),
+        ResolvedExpression::Element { .. } => popped(draft, scope, line, e),
         ResolvedExpression::ThreadNumber => popped(draft, scope, line, e),
         ResolvedExpression::TeamSize => popped(draft, scope, line, e),
-        ResolvedExpression::Unary(_, _) => popped(draft, scope, line, e),
-        ResolvedExpression::Binary(_, _, _) => popped(draft, scope, line, e),
-        ResolvedExpression::Conditional(_, _, _) => popped(draft, scope, line, e),
+        ResolvedExpression::Unary { .. } => popped(draft, scope, line, e),
+        ResolvedExpression::Binary { .. } => popped(draft, scope, line, e),
+        ResolvedExpression::Conditional { .. } => popped(draft, scope, line, e),
     }
 }
 

@@ -96,7 +96,12 @@ fn value_operation(side: Side, value: ResolvedExpression) -> Option<Operation>
     ensures { option_map view_operation result
         ≡ value_operation side (view_resolved_expression value) }
 {
-    let ResolvedExpression::Binary(left, operator, right) = value else {
+    let ResolvedExpression::Binary {
+        left,
+        operator,
+        right,
+    } = value
+    else {
         return None;
     };
     let operator = binary_operator(operator)?;
@@ -178,18 +183,31 @@ fn expression_update(at: Span, side: Side, expression: ResolvedExpression) -> Op
         ≡ expression_update at side (view_resolved_expression expression) }
 {
     match expression {
-        ResolvedExpression::Assign(variable, operator, value) => {
+        ResolvedExpression::Assign {
+            variable,
+            operator,
+            value,
+        } => {
             let found = assignment(side, operator, Box::into_inner(value))?;
             Some(updated(at, variable, None, found))
         }
-        ResolvedExpression::AssignElement(array, index, operator, value) => {
+        ResolvedExpression::AssignElement {
+            array,
+            index,
+            operator,
+            value,
+        } => {
             let found = assignment(side, operator, Box::into_inner(value))?;
             Some(updated(at, array, Some(Box::into_inner(index)), found))
         }
-        ResolvedExpression::Postfix(variable, operator) => {
+        ResolvedExpression::Postfix { variable, operator } => {
             Some(updated(at, variable, None, step_operation(operator)))
         }
-        ResolvedExpression::PostfixElement(array, index, operator) => {
+        ResolvedExpression::PostfixElement {
+            array,
+            index,
+            operator,
+        } => {
             let found = step_operation(operator);
             Some(updated(at, array, Some(Box::into_inner(index)), found))
         }
@@ -203,7 +221,11 @@ pub fn update_of(side: Side, statement: &mut ResolvedStatement) -> Option<Resolv
     ensures { option_map view_resolved_update result
         ≡ update_of side (view_resolved_statement statement.old) }
 {
-    let ResolvedStatement::Expression(at, expression) = statement else {
+    let ResolvedStatement::Expression {
+        at,
+        value: expression,
+    } = statement
+    else {
         return None;
     };
     let expression = mem::replace(expression, ResolvedExpression::ThreadNumber);

@@ -107,24 +107,29 @@ fn see_statement<'a>(
         ++ bodies.regions f (variables_at f round.now.part) (numbers_of numbers) tree) }
 {
     match statement {
-        ResolvedStatement::Declaration(_, _) => Ok(numbers),
-        ResolvedStatement::Block(_, items) => {
+        ResolvedStatement::Declaration { .. } => Ok(numbers),
+        ResolvedStatement::Block { items, .. } => {
             see_statements(sites, round, numbers, items.as_slice())
         }
         ResolvedStatement::Empty(_) => Ok(numbers),
-        ResolvedStatement::Expression(_, _) => Ok(numbers),
-        ResolvedStatement::If(_, _, then) => see_statement(sites, round, numbers, then),
-        ResolvedStatement::IfElse(_, _, then, other) => {
+        ResolvedStatement::Expression { .. } => Ok(numbers),
+        ResolvedStatement::If { then, .. } => see_statement(sites, round, numbers, then),
+        ResolvedStatement::IfElse { then, other, .. } => {
             let between = see_statement(sites, round, numbers, then)?;
             see_statement(sites, round, between, other)
         }
-        ResolvedStatement::While(_, _, body) => see_statement(sites, round, numbers, body),
-        ResolvedStatement::Do(_, body, _) => see_statement(sites, round, numbers, body),
-        ResolvedStatement::For(_, _, _, _, body) => see_statement(sites, round, numbers, body),
-        ResolvedStatement::Return(_, _) => Ok(numbers),
+        ResolvedStatement::While { body, .. } => see_statement(sites, round, numbers, body),
+        ResolvedStatement::Do { body, .. } => see_statement(sites, round, numbers, body),
+        ResolvedStatement::For { body, .. } => see_statement(sites, round, numbers, body),
+        ResolvedStatement::Return { .. } => Ok(numbers),
         ResolvedStatement::Break(_) => Ok(numbers),
         ResolvedStatement::Continue(_) => Ok(numbers),
-        ResolvedStatement::Parallel(at, clauses, captures, body) => {
+        ResolvedStatement::Parallel {
+            at,
+            clauses,
+            captures,
+            body,
+        } => {
             let part = BodyPart::Parallel(Region {
                 at: *at,
                 clauses: clauses.as_slice(),
@@ -138,7 +143,12 @@ fn see_statement<'a>(
             };
             see_statement(sites, &within, inner, body)
         }
-        ResolvedStatement::Task(at, clauses, captures, body) => {
+        ResolvedStatement::Task {
+            at,
+            clauses,
+            captures,
+            body,
+        } => {
             let part = BodyPart::Task(Region {
                 at: *at,
                 clauses: clauses.as_slice(),
@@ -152,13 +162,13 @@ fn see_statement<'a>(
             };
             see_statement(sites, &within, inner, body)
         }
-        ResolvedStatement::Loop(_, _, _, _, body) => see_statement(sites, round, numbers, body),
-        ResolvedStatement::Sections(_, _, _, parts) => {
+        ResolvedStatement::Loop { body, .. } => see_statement(sites, round, numbers, body),
+        ResolvedStatement::Sections { parts, .. } => {
             see_parts(sites, round, numbers.next_pick()?, parts.as_slice())
         }
-        ResolvedStatement::Construct(_, _, _, body) => see_statement(sites, round, numbers, body),
-        ResolvedStatement::Update(_, _) => Ok(numbers),
-        ResolvedStatement::StandAlone(_, _) => Ok(numbers),
+        ResolvedStatement::Construct { body, .. } => see_statement(sites, round, numbers, body),
+        ResolvedStatement::Update { .. } => Ok(numbers),
+        ResolvedStatement::StandAlone { .. } => Ok(numbers),
     }
 }
 

@@ -66,7 +66,12 @@ fn parallel_of(
 {
     let at = directive.hash;
     let captures = captures_of_parallel(alloc, at.start, clauses.as_slice(), &body)?;
-    Ok(ResolvedStatement::Parallel(at, clauses, captures, body))
+    Ok(ResolvedStatement::Parallel {
+        at,
+        clauses,
+        captures,
+        body,
+    })
 }
 
 /// The name of a `critical`, if it has one.
@@ -141,7 +146,7 @@ fn around_critical(alloc: Global, name: &Option<(Span, Name, Span)>) -> Result<A
         (λ around. around ≡ Around.Construct (ConstructKind.Critical (critical_name name.now))) }
 {
     let name = critical_name(alloc, name)?;
-    Ok(Around::Construct(ConstructKind::Critical(name)))
+    Ok(Around::Construct(ConstructKind::Critical { name }))
 }
 
 /// What an `atomic` puts round its statement, which has the target on that side.
@@ -185,7 +190,9 @@ fn around_of(
         DirectiveName::Parallel(_) => around_parallel(alloc, directive, clauses, body),
         DirectiveName::Task(_) => around_task(alloc, setting.parallel, directive, clauses, body),
         DirectiveName::Single(_) => {
-            let kind = ConstructKind::Single(has_nowait(directive));
+            let kind = ConstructKind::Single {
+                nowait: has_nowait(directive),
+            };
             Ok(Around::Construct(kind))
         }
         DirectiveName::Masked(_) => Ok(Around::Construct(ConstructKind::Masked)),
@@ -199,35 +206,59 @@ fn around_of(
 
 /// A statement with what is put round it.
 fn with_around(
+    alloc: Global,
     around: Around,
     at: Span,
     clauses: Vec<ResolvedClause>,
     body: Box<ResolvedStatement>,
-) -> ResolvedStatement
-    ensures { view_resolved_statement result
+) -> Result<ResolvedStatement, AllocError>
+    ensures { IfOk result
+        (λ found. view_resolved_statement found
         ≡ with_around around at (map view_resolved_clause clauses.items)
-        (view_resolved_statement body.value) }
+        (view_resolved_statement body.value)) }
 {
     match around {
-        Around::Parallel(captures) => ResolvedStatement::Parallel(at, clauses, captures, body),
-        Around::Task(captures) => ResolvedStatement::Task(at, clauses, captures, body),
-        Around::Construct(kind) => ResolvedStatement::Construct(at, kind, clauses, body),
-        Around::Update(side) => with_update(at, side, body),
-        Around::Nothing => Box::into_inner(body),
+        Around::Parallel(captures) => Ok(ResolvedStatement::Parallel {
+            at,
+            clauses,
+            captures,
+            body,
+        }),
+        Around::Task(captures) => Ok(ResolvedStatement::Task {
+            at,
+            clauses,
+            captures,
+            body,
+        }),
+        Around::Construct(kind) => Ok(ResolvedStatement::Construct {
+            at,
+            kind,
+            clauses,
+            body,
+        }),
+        Around::Update(side) => with_update(alloc, at, side, body),
+        Around::Nothing => Ok(Box::into_inner(body)),
     }
 }
 
 /// An `atomic` round the update that a statement is, whose target stands on that side. What is no
 /// update becomes an empty statement.
-fn with_update(at: Span, side: Side, body: Box<ResolvedStatement>) -> ResolvedStatement
-    ensures { view_resolved_statement result
-        ≡ with_update at (update_of side (view_resolved_statement body.value)) }
+fn with_update(
+    alloc: Global,
+    at: Span,
+    side: Side,
+    body: Box<ResolvedStatement>,
+) -> Result<ResolvedStatement, AllocError>
+    ensures { IfOk result
+        (λ found. view_resolved_statement found
+        ≡ with_update at (update_of side (view_resolved_statement body.value))) }
 {
     let mut body = body;
-    match update_of(side, &mut body) {
-        Some(update) => ResolvedStatement::Update(at, update),
-        None => ResolvedStatement::Empty(at),
-    }
+    let Some(update) = update_of(side, &mut body) else {
+        return Ok(ResolvedStatement::Empty(at));
+    };
+    let update = boxed(alloc, update)?;
+    Ok(ResolvedStatement::Update { at, update })
 }
 
 /// A construct round a statement.
@@ -246,7 +277,7 @@ pub fn construct_of(
         (map view_resolved_clause clauses.items) (view_resolved_statement body.value)) }
 {
     let around = around_of(alloc, setting, directive, clauses.as_slice(), &body)?;
-    Ok(with_around(around, directive.hash, clauses, body))
+    Ok(with_around(alloc, around, directive.hash, clauses, body)?)
 }
 
 /// A construct that is for a loop, and what the loop repeats.
@@ -287,7 +318,13 @@ fn shared_loop(
         ≡ resolved.Loop at (map view_resolved_clause clauses.items) nowait
         (view_resolved_loop repeated.value) (view_resolved_statement body.value) }
 {
-    ResolvedStatement::Loop(at, clauses, nowait, Box::into_inner(repeated), body)
+    ResolvedStatement::Loop {
+        at,
+        clauses,
+        nowait,
+        repeated,
+        body,
+    }
 }
 
 /// An item in a box. When out of memory, it is gone.
@@ -331,7 +368,12 @@ fn shared_parts(
         ≡ resolved.Sections at (map view_resolved_clause clauses.items) nowait
         (resolved.parts (map view_resolved_part parts.items)) }
 {
-    ResolvedStatement::Sections(at, clauses, nowait, parts)
+    ResolvedStatement::Sections {
+        at,
+        clauses,
+        nowait,
+        parts,
+    }
 }
 
 /// What a clause `schedule` asks for.

@@ -90,9 +90,9 @@ statement_layer (ResolvedStatement-F.If at c s) = trees.If at (view_resolved_exp
 statement_layer (ResolvedStatement-F.IfElse at c s t) = trees.IfElse at (view_resolved_expression c) s.value t.value
 statement_layer (ResolvedStatement-F.While at c s) = trees.While at (view_resolved_expression c) s.value
 statement_layer (ResolvedStatement-F.Do at s c) = trees.Do at s.value (view_resolved_expression c)
-statement_layer (ResolvedStatement-F.For at start condition step s) =
-    trees.For at (view_resolved_start start) (option_map view_resolved_expression condition)
-    (option_map view_resolved_expression step) s.value
+statement_layer (ResolvedStatement-F.For at head s) =
+    trees.For at (view_resolved_start head.value.start) (option_map view_resolved_expression head.value.condition)
+    (option_map view_resolved_expression head.value.step) s.value
 statement_layer (ResolvedStatement-F.Return at value) = trees.Return at (option_map view_resolved_expression value)
 statement_layer (ResolvedStatement-F.Break at) = trees.Break at
 statement_layer (ResolvedStatement-F.Continue at) = trees.Continue at
@@ -101,12 +101,12 @@ statement_layer (ResolvedStatement-F.Parallel at clauses captures s) = trees.Par
 statement_layer (ResolvedStatement-F.Task at clauses captures s) = trees.Task at
     (map view_resolved_clause clauses.items) captures s.value
 statement_layer (ResolvedStatement-F.Loop at clauses nowait l s) = trees.Loop at
-    (map view_resolved_clause clauses.items) nowait (view_resolved_loop l) s.value
+    (map view_resolved_clause clauses.items) nowait (view_resolved_loop l.value) s.value
 statement_layer (ResolvedStatement-F.Sections at clauses nowait parts) = trees.Sections at
     (map view_resolved_clause clauses.items) nowait (trees.parts parts.items)
 statement_layer (ResolvedStatement-F.Construct at kind clauses s) = trees.Construct at kind
     (map view_resolved_clause clauses.items) s.value
-statement_layer (ResolvedStatement-F.Update at u) = trees.Update at (view_resolved_update u)
+statement_layer (ResolvedStatement-F.Update at u) = trees.Update at (view_resolved_update u.value)
 statement_layer (ResolvedStatement-F.StandAlone at directive) = trees.StandAlone at directive
 
 -- the same of a part of `sections`

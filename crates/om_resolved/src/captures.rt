@@ -33,9 +33,11 @@ fn take_listed(found: &mut Found, start: u32, clause: &ResolvedClause) -> Result
         (listed_uses (view_resolved_clause clause.now))) }
 {
     match clause {
-        ResolvedClause::Value(_, _) => Ok(()),
+        ResolvedClause::Value { .. } => Ok(()),
         ResolvedClause::Shared(variable) => found.take(start, *variable),
-        ResolvedClause::Copied(kind, original, _) => take_combined(found, start, *kind, *original),
+        ResolvedClause::Copied { kind, original, .. } => take_combined(
+            found, start, *kind, *original,
+        ),
     }
 }
 

@@ -7,8 +7,9 @@ ghost use Rattle.om_resolved.specs.ResolvedTree as trees;
 ghost use Rattle.om_resolved.specs.ResolvedView.{view_resolved_clause, view_resolved_declarator, view_resolved_expression, view_resolved_part, view_resolved_start, view_resolved_statement, view_resolved_update};
 
 use crate::resolved::{
-    Capture, CopyKind, ResolvedClause, ResolvedDeclarator, ResolvedExpression, ResolvedLoop,
-    ResolvedPart, ResolvedStart, ResolvedStatement, ResolvedUpdate, StandAlone, Variable,
+    Capture, CopyKind, ResolvedClause, ResolvedDeclarator, ResolvedExpression, ResolvedHead,
+    ResolvedLoop, ResolvedPart, ResolvedStart, ResolvedStatement, ResolvedUpdate, StandAlone,
+    Variable,
 };
 use indexmap::IndexSet;
 use std::alloc::{AllocError, Global};
@@ -91,33 +92,46 @@ fn take_expression(
         | ResolvedExpression::ThreadNumber
         | ResolvedExpression::TeamSize => Ok(()),
         ResolvedExpression::Variable(variable) => found.take(start, *variable),
-        ResolvedExpression::Element(array, index) => {
+        ResolvedExpression::Element { array, index } => {
             found.take(start, *array)?;
             take_expression(found, start, index)
         }
-        ResolvedExpression::Call(_, values) => take_values(found, start, values.as_slice()),
-        ResolvedExpression::Print(_, values) => take_values(found, start, values.as_slice()),
-        ResolvedExpression::Unary(_, operand) => take_expression(found, start, operand),
-        ResolvedExpression::Binary(left, _, right) => {
+        ResolvedExpression::Call { values, .. } => take_values(found, start, values.as_slice()),
+        ResolvedExpression::Print { values, .. } => take_values(found, start, values.as_slice()),
+        ResolvedExpression::Unary { operand, .. } => take_expression(found, start, operand),
+        ResolvedExpression::Binary { left, right, .. } => {
             take_expression(found, start, left)?;
             take_expression(found, start, right)
         }
-        ResolvedExpression::Conditional(condition, then, other) => {
+        ResolvedExpression::Conditional {
+            condition,
+            value: then,
+            other,
+        } => {
             take_expression(found, start, condition)?;
             take_expression(found, start, then)?;
             take_expression(found, start, other)
         }
-        ResolvedExpression::Assign(variable, _, value) => {
+        ResolvedExpression::Assign {
+            variable,
+            value,
+            ..
+        } => {
             found.take(start, *variable)?;
             take_expression(found, start, value)
         }
-        ResolvedExpression::AssignElement(array, index, _, value) => {
+        ResolvedExpression::AssignElement {
+            array,
+            index,
+            value,
+            ..
+        } => {
             found.take(start, *array)?;
             take_expression(found, start, index)?;
             take_expression(found, start, value)
         }
-        ResolvedExpression::Postfix(variable, _) => found.take(start, *variable),
-        ResolvedExpression::PostfixElement(array, index, _) => {
+        ResolvedExpression::Postfix { variable, .. } => found.take(start, *variable),
+        ResolvedExpression::PostfixElement { array, index, .. } => {
             found.take(start, *array)?;
             take_expression(found, start, index)
         }
@@ -210,9 +224,11 @@ fn take_clause(found: &mut Found, start: u32, clause: &ResolvedClause) -> Result
         (clause_uses (view_resolved_clause clause.now))) }
 {
     match clause {
-        ResolvedClause::Value(_, value) => take_expression(found, start, value),
+        ResolvedClause::Value { value, .. } => take_expression(found, start, value),
         ResolvedClause::Shared(variable) => found.take(start, *variable),
-        ResolvedClause::Copied(kind, original, _) => take_original(found, start, *kind, *original),
+        ResolvedClause::Copied { kind, original, .. } => take_original(
+            found, start, *kind, *original,
+        ),
     }
 }
 
@@ -278,22 +294,16 @@ fn take_region(
 }
 
 /// Notes what the head of a `for` uses.
-fn take_head(
-    found: &mut Found,
-    start: u32,
-    begin: &ResolvedStart,
-    condition: &Option<ResolvedExpression>,
-    step: &Option<ResolvedExpression>,
-) -> Result<(), AllocError>
+fn take_head(found: &mut Found, start: u32, head: &ResolvedHead) -> Result<(), AllocError>
     ensures { OnOk result
         (found.new ≡ fold (with_use start) found.old
-        (start_uses (view_resolved_start begin.now)
-        ++ (perhaps_uses (option_map view_resolved_expression condition.now)
-        ++ perhaps_uses (option_map view_resolved_expression step.now)))) }
+        (start_uses (view_resolved_start head.now.start)
+        ++ (perhaps_uses (option_map view_resolved_expression head.now.condition)
+        ++ perhaps_uses (option_map view_resolved_expression head.now.step)))) }
 {
-    take_start(found, start, begin)?;
-    take_perhaps(found, start, condition)?;
-    take_perhaps(found, start, step)
+    take_start(found, start, &head.start)?;
+    take_perhaps(found, start, &head.condition)?;
+    take_perhaps(found, start, &head.step)
 }
 
 /// Notes what the clauses and the bounds of a canonical loop use.
@@ -338,56 +348,87 @@ pub fn take_statement(
         (statement_uses (view_resolved_statement statement.now))) }
 {
     match statement {
-        ResolvedStatement::Declaration(_, declarators) => {
+        ResolvedStatement::Declaration { declarators, .. } => {
             take_declarators(found, start, declarators.as_slice())
         }
-        ResolvedStatement::Block(_, items) => take_statements(found, start, items.as_slice()),
+        ResolvedStatement::Block { items, .. } => take_statements(found, start, items.as_slice()),
         ResolvedStatement::Empty(_)
         | ResolvedStatement::Break(_)
         | ResolvedStatement::Continue(_) => Ok(()),
-        ResolvedStatement::Expression(_, expression) => take_expression(found, start, expression),
-        ResolvedStatement::If(_, condition, then) => {
+        ResolvedStatement::Expression {
+            value: expression,
+            ..
+        } => take_expression(found, start, expression),
+        ResolvedStatement::If {
+            condition,
+            then,
+            ..
+        } => {
             take_expression(found, start, condition)?;
             take_statement(found, start, then)
         }
-        ResolvedStatement::IfElse(_, condition, then, other) => {
+        ResolvedStatement::IfElse {
+            condition,
+            then,
+            other,
+            ..
+        } => {
             take_expression(found, start, condition)?;
             take_statement(found, start, then)?;
             take_statement(found, start, other)
         }
-        ResolvedStatement::While(_, condition, body) => {
+        ResolvedStatement::While {
+            condition,
+            body,
+            ..
+        } => {
             take_expression(found, start, condition)?;
             take_statement(found, start, body)
         }
-        ResolvedStatement::Do(_, body, condition) => {
+        ResolvedStatement::Do {
+            body,
+            condition,
+            ..
+        } => {
             take_statement(found, start, body)?;
             take_expression(found, start, condition)
         }
-        ResolvedStatement::For(_, begin, condition, step, body) => {
-            take_head(found, start, begin, condition, step)?;
+        ResolvedStatement::For { head, body, .. } => {
+            take_head(found, start, head)?;
             take_statement(found, start, body)
         }
-        ResolvedStatement::Return(_, value) => take_perhaps(found, start, value),
-        ResolvedStatement::Parallel(_, clauses, captures, _) => {
-            take_region(found, start, clauses.as_slice(), captures.as_slice())
-        }
-        ResolvedStatement::Task(_, clauses, captures, _) => {
-            take_region(found, start, clauses.as_slice(), captures.as_slice())
-        }
-        ResolvedStatement::Loop(_, clauses, _, repeated, body) => {
+        ResolvedStatement::Return { value, .. } => take_perhaps(found, start, value),
+        ResolvedStatement::Parallel {
+            clauses,
+            captures,
+            ..
+        } => { take_region(found, start, clauses.as_slice(), captures.as_slice()) }
+        ResolvedStatement::Task {
+            clauses,
+            captures,
+            ..
+        } => { take_region(found, start, clauses.as_slice(), captures.as_slice()) }
+        ResolvedStatement::Loop {
+            clauses,
+            repeated,
+            body,
+            ..
+        } => {
             take_bounds(found, start, clauses.as_slice(), repeated)?;
             take_statement(found, start, body)
         }
-        ResolvedStatement::Sections(_, clauses, _, parts) => {
+        ResolvedStatement::Sections { clauses, parts, .. } => {
             take_clauses(found, start, clauses.as_slice())?;
             take_parts(found, start, parts.as_slice())
         }
-        ResolvedStatement::Construct(_, _, clauses, body) => {
+        ResolvedStatement::Construct { clauses, body, .. } => {
             take_clauses(found, start, clauses.as_slice())?;
             take_statement(found, start, body)
         }
-        ResolvedStatement::Update(_, update) => take_update(found, start, update),
-        ResolvedStatement::StandAlone(_, directive) => take_stand_alone(found, start, directive),
+        ResolvedStatement::Update { update, .. } => take_update(found, start, update),
+        ResolvedStatement::StandAlone { directive, .. } => take_stand_alone(
+            found, start, directive,
+        ),
     }
 }
 

@@ -9,7 +9,7 @@ mod resolved;
 pub use captures::{TaskSharing, captures_of_parallel, captures_of_task};
 pub use resolved::{
     Capture, ConstructKind, CopyKind, GlobalVariable, LocalVariable, Resolved, ResolvedClause,
-    ResolvedDeclarator, ResolvedExpression, ResolvedFunction, ResolvedLoop, ResolvedPart,
-    ResolvedSchedule, ResolvedStart, ResolvedStatement, ResolvedUpdate, Shape, Side, StandAlone,
-    Taking, UnaryOperator, UpdateOperator, Variable,
+    ResolvedDeclarator, ResolvedExpression, ResolvedFunction, ResolvedHead, ResolvedLoop,
+    ResolvedPart, ResolvedSchedule, ResolvedStart, ResolvedStatement, ResolvedUpdate, Shape, Side,
+    StandAlone, Taking, UnaryOperator, UpdateOperator, Variable,
 };

@@ -61,27 +61,67 @@ pub enum ResolvedExpression {
     /// The value of a variable.
     Variable(Variable),
     /// The value of the element of an array at an index.
-    Element(Variable, Box<ResolvedExpression>),
-    /// A call of the function of this number, with its values (C17 6.5.2.2).
-    Call(usize, Vec<ResolvedExpression>),
+    Element {
+        array: Variable,
+        index: Box<ResolvedExpression>,
+    },
+    /// A call (C17 6.5.2.2).
+    Call {
+        /// The number of the function that is called.
+        function: usize,
+        values: Vec<ResolvedExpression>,
+    },
     /// `omp_get_thread_num()` (OpenMP API 5.2, section 18.2.4).
     ThreadNumber,
     /// `omp_get_num_threads()` (OpenMP API 5.2, section 18.2.2).
     TeamSize,
-    /// A call of `printf`: its format, and the values that it writes, one for each `%d`.
-    Print(Seq<u8>, Vec<ResolvedExpression>),
-    Unary(UnaryOperator, Box<ResolvedExpression>),
-    Binary(Box<ResolvedExpression>, BinaryOperator, Box<ResolvedExpression>),
+    /// A call of `printf`.
+    Print {
+        format: Seq<u8>,
+        /// What it writes, one for each `%d` of the format.
+        values: Vec<ResolvedExpression>,
+    },
+    Unary {
+        operator: UnaryOperator,
+        operand: Box<ResolvedExpression>,
+    },
+    Binary {
+        left: Box<ResolvedExpression>,
+        operator: BinaryOperator,
+        right: Box<ResolvedExpression>,
+    },
     /// `c ? a : b` (C17 6.5.15).
-    Conditional(Box<ResolvedExpression>, Box<ResolvedExpression>, Box<ResolvedExpression>),
+    Conditional {
+        condition: Box<ResolvedExpression>,
+        /// The value where the condition holds.
+        value: Box<ResolvedExpression>,
+        /// The value where it doesn't.
+        other: Box<ResolvedExpression>,
+    },
     /// An assignment to a variable (C17 6.5.16). `++x` is `x += 1` (C17 6.5.3.1).
-    Assign(Variable, AssignOperator, Box<ResolvedExpression>),
+    Assign {
+        variable: Variable,
+        operator: AssignOperator,
+        value: Box<ResolvedExpression>,
+    },
     /// An assignment to the element of an array at an index.
-    AssignElement(Variable, Box<ResolvedExpression>, AssignOperator, Box<ResolvedExpression>),
+    AssignElement {
+        array: Variable,
+        index: Box<ResolvedExpression>,
+        operator: AssignOperator,
+        value: Box<ResolvedExpression>,
+    },
     /// `x++` or `x--` (C17 6.5.2.4).
-    Postfix(Variable, PostfixOperator),
+    Postfix {
+        variable: Variable,
+        operator: PostfixOperator,
+    },
     /// The same of the element of an array at an index.
-    PostfixElement(Variable, Box<ResolvedExpression>, PostfixOperator),
+    PostfixElement {
+        array: Variable,
+        index: Box<ResolvedExpression>,
+        operator: PostfixOperator,
+    },
 }
 
 /// A declared variable of a function (C17 6.7).
@@ -109,11 +149,18 @@ pub enum CopyKind {
 #[derive(Drop)]
 pub enum ResolvedClause {
     /// The value of `num_threads` or `filter`.
-    Value(ValueClause, ResolvedExpression),
+    Value {
+        clause: ValueClause,
+        value: ResolvedExpression,
+    },
     /// This variable is shared.
     Shared(Variable),
-    /// Inside of the construct this variable's copy is meant.
-    Copied(CopyKind, Variable, LocalVariable),
+    /// Inside of the construct the copy of this variable is meant.
+    Copied {
+        kind: CopyKind,
+        original: Variable,
+        copy: LocalVariable,
+    },
 }
 
 /// How a region takes a variable from outside that none of its clauses copies.
@@ -167,15 +214,30 @@ pub enum ResolvedStart {
     Declaration(Vec<ResolvedDeclarator>),
 }
 
+/// What stands in the parentheses of a `for` (C17 6.8.5.3).
+#[derive(Drop)]
+pub struct ResolvedHead {
+    pub start: ResolvedStart,
+    /// What is asked before each turn; without it, each turn is made.
+    pub condition: Option<ResolvedExpression>,
+    /// What is done behind each turn.
+    pub step: Option<ResolvedExpression>,
+}
+
 /// A construct that makes no team and no task, and is for no loop.
 #[derive(Drop)]
 pub enum ConstructKind {
-    /// `single`, and whether it is `nowait`.
-    Single(bool),
+    /// `single`
+    Single {
+        nowait: bool,
+    },
     /// `masked`, or `master`.
     Masked,
-    /// `critical`, of this name.
-    Critical(Option<Seq<u8>>),
+    /// `critical`
+    Critical {
+        /// Its letters, digits and `_`, where it has a name.
+        name: Option<Seq<u8>>,
+    },
     /// `atomic read` or `atomic write`, whose statement is an assignment.
     Atomic,
     /// `taskgroup`
@@ -237,41 +299,105 @@ pub struct ResolvedPart {
     pub items: Vec<ResolvedStatement>,
 }
 
-/// A statement (C17 6.8), with the span of its first token.
+/// A statement (C17 6.8). `at` is the span of its first token. What is large is in a box, so that a
+/// short statement takes little memory.
 #[derive(Drop)]
 #[cycle(statement)]
 pub enum ResolvedStatement {
-    Declaration(Span, Vec<ResolvedDeclarator>),
-    Block(Span, Vec<ResolvedStatement>),
+    Declaration {
+        at: Span,
+        declarators: Vec<ResolvedDeclarator>,
+    },
+    Block {
+        at: Span,
+        items: Vec<ResolvedStatement>,
+    },
     Empty(Span),
-    Expression(Span, ResolvedExpression),
-    If(Span, ResolvedExpression, Box<ResolvedStatement>),
-    IfElse(Span, ResolvedExpression, Box<ResolvedStatement>, Box<ResolvedStatement>),
-    While(Span, ResolvedExpression, Box<ResolvedStatement>),
-    Do(Span, Box<ResolvedStatement>, ResolvedExpression),
-    /// What it begins with, its condition and its step, and what it repeats.
-    For(
-        Span,
-        ResolvedStart,
-        Option<ResolvedExpression>,
-        Option<ResolvedExpression>,
-        Box<ResolvedStatement>,
-    ),
-    Return(Span, Option<ResolvedExpression>),
+    Expression {
+        at: Span,
+        value: ResolvedExpression,
+    },
+    If {
+        at: Span,
+        condition: ResolvedExpression,
+        then: Box<ResolvedStatement>,
+    },
+    IfElse {
+        at: Span,
+        condition: ResolvedExpression,
+        /// The statement where the condition holds.
+        then: Box<ResolvedStatement>,
+        /// The statement where it doesn't.
+        other: Box<ResolvedStatement>,
+    },
+    While {
+        at: Span,
+        condition: ResolvedExpression,
+        body: Box<ResolvedStatement>,
+    },
+    Do {
+        at: Span,
+        body: Box<ResolvedStatement>,
+        condition: ResolvedExpression,
+    },
+    For {
+        at: Span,
+        head: Box<ResolvedHead>,
+        body: Box<ResolvedStatement>,
+    },
+    Return {
+        at: Span,
+        value: Option<ResolvedExpression>,
+    },
     Break(Span),
     Continue(Span),
-    /// `parallel`, with what it takes from outside.
-    Parallel(Span, Vec<ResolvedClause>, Seq<Capture>, Box<ResolvedStatement>),
-    /// `task`, with what it takes from outside.
-    Task(Span, Vec<ResolvedClause>, Seq<Capture>, Box<ResolvedStatement>),
-    /// `for`, whether it is `nowait`, its loop and what that repeats.
-    Loop(Span, Vec<ResolvedClause>, bool, ResolvedLoop, Box<ResolvedStatement>),
-    /// `sections`, whether it is `nowait`, and its parts.
-    Sections(Span, Vec<ResolvedClause>, bool, Vec<ResolvedPart>),
-    Construct(Span, ConstructKind, Vec<ResolvedClause>, Box<ResolvedStatement>),
+    /// `parallel`
+    Parallel {
+        at: Span,
+        clauses: Vec<ResolvedClause>,
+        /// What it takes from outside.
+        captures: Seq<Capture>,
+        body: Box<ResolvedStatement>,
+    },
+    /// `task`
+    Task {
+        at: Span,
+        clauses: Vec<ResolvedClause>,
+        /// What it takes from outside.
+        captures: Seq<Capture>,
+        body: Box<ResolvedStatement>,
+    },
+    /// `for`
+    Loop {
+        at: Span,
+        clauses: Vec<ResolvedClause>,
+        nowait: bool,
+        repeated: Box<ResolvedLoop>,
+        /// What the loop repeats.
+        body: Box<ResolvedStatement>,
+    },
+    /// `sections`
+    Sections {
+        at: Span,
+        clauses: Vec<ResolvedClause>,
+        nowait: bool,
+        parts: Vec<ResolvedPart>,
+    },
+    Construct {
+        at: Span,
+        kind: ConstructKind,
+        clauses: Vec<ResolvedClause>,
+        body: Box<ResolvedStatement>,
+    },
     /// `atomic` that updates, with its statement.
-    Update(Span, ResolvedUpdate),
-    StandAlone(Span, StandAlone),
+    Update {
+        at: Span,
+        update: Box<ResolvedUpdate>,
+    },
+    StandAlone {
+        at: Span,
+        directive: StandAlone,
+    },
 }
 
 /// A function (C17 6.9.1).

@@ -29,16 +29,15 @@ pub view_do : (at : _) (s : _) (c : _) → view_resolved_statement (v.Do at s c)
 view_do at s c = ap view_resolved_statement (sym (v.rolls-Do at s c)) ∙ fold-roll-ResolvedStatement
     ResolvedStatementTree ResolvedStatementsTree statement_layer part_layer (ResolvedStatement-F.Do at s c)
 
-pub view_for : (at : _) (start : _) (c : _) (step : _) (s : _) → view_resolved_statement (v.For at start c step s)
-    ≡ trees.For at (view_resolved_start start) (option_map view_resolved_expression c)
-    (option_map view_resolved_expression step) (view_resolved_statement s.value)
-view_for at start c step s = ap view_resolved_statement (sym (v.rolls-For at start c step s))
-    ∙ fold-roll-ResolvedStatement ResolvedStatementTree ResolvedStatementsTree statement_layer part_layer
-    (ResolvedStatement-F.For at start c step s)
+pub view_for : (at : _) (h : _) (s : _) → view_resolved_statement (v.For at h s)
+    ≡ trees.For at (view_resolved_start h.value.start) (option_map view_resolved_expression h.value.condition)
+    (option_map view_resolved_expression h.value.step) (view_resolved_statement s.value)
+view_for at h s = ap view_resolved_statement (sym (v.rolls-For at h s)) ∙ fold-roll-ResolvedStatement
+    ResolvedStatementTree ResolvedStatementsTree statement_layer part_layer (ResolvedStatement-F.For at h s)
 
 pub view_loop : (at : _) (clauses : _) (nowait : _) (l : _) (s : _) → view_resolved_statement
     (v.Loop at clauses nowait l s)
-    ≡ trees.Loop at (map view_resolved_clause clauses.items) nowait (view_resolved_loop l)
+    ≡ trees.Loop at (map view_resolved_clause clauses.items) nowait (view_resolved_loop l.value)
     (view_resolved_statement s.value)
 view_loop at clauses nowait l s = ap view_resolved_statement (sym (v.rolls-Loop at clauses nowait l s))
     ∙ fold-roll-ResolvedStatement ResolvedStatementTree ResolvedStatementsTree statement_layer part_layer
@@ -104,6 +103,7 @@ pub view_return : (at : _) (e : _) → view_resolved_statement (v.Return at e) �
 view_return at e = ap view_resolved_statement (sym (v.rolls-Return at e)) ∙ fold-roll-ResolvedStatement
     ResolvedStatementTree ResolvedStatementsTree statement_layer part_layer (ResolvedStatement-F.Return at e)
 
-pub view_update : (at : _) (u : _) → view_resolved_statement (v.Update at u) ≡ trees.Update at (view_resolved_update u)
+pub view_update : (at : _) (u : _) → view_resolved_statement (v.Update at u) ≡ trees.Update at
+    (view_resolved_update u.value)
 view_update at u = ap view_resolved_statement (sym (v.rolls-Update at u)) ∙ fold-roll-ResolvedStatement
     ResolvedStatementTree ResolvedStatementsTree statement_layer part_layer (ResolvedStatement-F.Update at u)

@@ -23,7 +23,7 @@ use om_constructs::spot::Spot;
 use om_constructs::worksharing::{begin_worksharing, end_worksharing};
 use om_emit::draft::Draft;
 use om_emit::effect;
-use om_resolved::{ConstructKind, ResolvedPart, ResolvedStatement};
+use om_resolved::{ConstructKind, ResolvedHead, ResolvedPart, ResolvedStatement};
 use om_tables::{Numbers, Scope, behind};
 use std::alloc::{AllocError, Global};
 
@@ -50,26 +50,41 @@ pub fn statement(
 {
     let numbers = spot.numbers;
     match tree {
-        ResolvedStatement::Declaration(at, declared) => {
+        ResolvedStatement::Declaration {
+            at,
+            declarators: declared,
+        } => {
             declarators(draft, scope, at.line, declared.as_slice())?;
             Ok(numbers)
         }
-        ResolvedStatement::Block(_, items) => {
+        ResolvedStatement::Block { items, .. } => {
             let after = statements(alloc, draft, scope, spot, items.as_slice())?;
             Ok(after)
         }
         ResolvedStatement::Empty(_) => Ok(numbers),
-        ResolvedStatement::Expression(at, expression) => {
+        ResolvedStatement::Expression {
+            at,
+            value: expression,
+        } => {
             effect(draft, scope, at.line, expression)?;
             Ok(numbers)
         }
-        ResolvedStatement::If(at, condition, then) => {
+        ResolvedStatement::If {
+            at,
+            condition,
+            then,
+        } => {
             let end = begin_if(draft, scope, at.line, condition)?;
             let after = statement(alloc, draft, scope, spot, then)?;
             draft.define(end);
             Ok(after)
         }
-        ResolvedStatement::IfElse(at, condition, then, other) => {
+        ResolvedStatement::IfElse {
+            at,
+            condition,
+            then,
+            other,
+        } => {
             let head = begin_if(draft, scope, at.line, condition)?;
             let between = statement(alloc, draft, scope, spot, then)?;
             let end = begin_else(draft, at.line, head)?;
@@ -77,28 +92,37 @@ pub fn statement(
             draft.define(end);
             Ok(after)
         }
-        ResolvedStatement::While(at, condition, body) => {
+        ResolvedStatement::While {
+            at,
+            condition,
+            body,
+        } => {
             let labels = begin_while(draft, scope, at.line, condition)?;
             let inside = Spot::in_loop(numbers, labels.over, labels.again);
             let after = statement(alloc, draft, scope, inside, body)?;
             end_loop(draft, at.line, labels)?;
             Ok(after)
         }
-        ResolvedStatement::Do(at, body, condition) => {
+        ResolvedStatement::Do {
+            at,
+            body,
+            condition,
+        } => {
             let labels = begin_do(draft)?;
             let inside = Spot::in_loop(numbers, labels.over, labels.next);
             let after = statement(alloc, draft, scope, inside, body)?;
             end_do(draft, scope, at.line, labels, condition)?;
             Ok(after)
         }
-        ResolvedStatement::For(at, begin, condition, step, body) => {
-            let labels = begin_for(draft, scope, at.line, begin, condition)?;
+        ResolvedStatement::For { at, head, body } => {
+            let head: &ResolvedHead = head;
+            let labels = begin_for(draft, scope, at.line, &head.start, &head.condition)?;
             let inside = Spot::in_loop(numbers, labels.over, labels.next);
             let after = statement(alloc, draft, scope, inside, body)?;
-            end_for(draft, scope, at.line, labels, step)?;
+            end_for(draft, scope, at.line, labels, &head.step)?;
             Ok(after)
         }
-        ResolvedStatement::Return(at, answer) => {
+        ResolvedStatement::Return { at, value: answer } => {
             returned(draft, scope, at.line, answer)?;
             Ok(numbers)
         }
@@ -110,7 +134,12 @@ pub fn statement(
             go_on(draft, at.line, spot.jumps)?;
             Ok(numbers)
         }
-        ResolvedStatement::Parallel(at, clauses, captures, body) => {
+        ResolvedStatement::Parallel {
+            at,
+            clauses,
+            captures,
+            body,
+        } => {
             let region = RegionHead {
                 at: *at,
                 clauses: clauses.as_slice(),
@@ -120,7 +149,12 @@ pub fn statement(
             let after = parallel(alloc, draft, scope, numbers, &region)?;
             Ok(after)
         }
-        ResolvedStatement::Task(at, clauses, captures, body) => {
+        ResolvedStatement::Task {
+            at,
+            clauses,
+            captures,
+            body,
+        } => {
             let region = RegionHead {
                 at: *at,
                 clauses: clauses.as_slice(),
@@ -130,7 +164,13 @@ pub fn statement(
             let after = task(alloc, draft, scope, numbers, &region)?;
             Ok(after)
         }
-        ResolvedStatement::Loop(at, clauses, nowait, repeated, body) => {
+        ResolvedStatement::Loop {
+            at,
+            clauses,
+            nowait,
+            repeated,
+            body,
+        } => {
             let labels = begin_worksharing(draft, scope, at.line, clauses.as_slice(), repeated)?;
             let inside = Spot::in_iteration(numbers, labels.again);
             let after = statement(alloc, draft, scope, inside, body)?;
@@ -138,7 +178,12 @@ pub fn statement(
             end_worksharing(draft, scope, at.line, clauses.as_slice(), *nowait)?;
             Ok(after)
         }
-        ResolvedStatement::Sections(at, clauses, nowait, sections) => {
+        ResolvedStatement::Sections {
+            at,
+            clauses,
+            nowait,
+            parts: sections,
+        } => {
             let head = SectionsHead {
                 line: at.line,
                 numbers,
@@ -150,7 +195,12 @@ pub fn statement(
             end_worksharing(draft, scope, at.line, clauses.as_slice(), *nowait)?;
             Ok(after)
         }
-        ResolvedStatement::Construct(at, kind, clauses, body) => {
+        ResolvedStatement::Construct {
+            at,
+            kind,
+            clauses,
+            body,
+        } => {
             if let ConstructKind::Atomic = kind {
                 assignment(draft, scope, at.line, body)?;
                 let after = behind(numbers, body)?;
@@ -162,11 +212,14 @@ pub fn statement(
             end_construct(draft, scope, at.line, kind, label)?;
             Ok(after)
         }
-        ResolvedStatement::Update(at, updated) => {
+        ResolvedStatement::Update {
+            at,
+            update: updated,
+        } => {
             update(draft, scope, at.line, updated)?;
             Ok(numbers)
         }
-        ResolvedStatement::StandAlone(at, directive) => {
+        ResolvedStatement::StandAlone { at, directive } => {
             stand_alone(draft, at.line, directive)?;
             Ok(numbers)
         }

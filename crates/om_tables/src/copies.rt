@@ -81,7 +81,12 @@ fn add_clause(copies: &mut Vec<FirstCopy>, clause: &ResolvedClause) -> Result<()
     ensures { let added = clause_first (view_resolved_clause clause.now) in
         OnOk result (first_copies_of copies.new.items ≡ first_copies_of copies.old.items ++ added) }
 {
-    let ResolvedClause::Copied(kind, original, copy) = clause else {
+    let ResolvedClause::Copied {
+        kind,
+        original,
+        copy,
+    } = clause
+    else {
         return Ok(());
     };
     add_copy(copies, *kind, *original, copy)

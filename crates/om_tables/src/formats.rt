@@ -26,26 +26,32 @@ pub(crate) fn note_expression(
         | ResolvedExpression::Variable(_)
         | ResolvedExpression::ThreadNumber
         | ResolvedExpression::TeamSize
-        | ResolvedExpression::Postfix(_, _) => Ok(()),
-        ResolvedExpression::Element(_, part)
-        | ResolvedExpression::Unary(_, part)
-        | ResolvedExpression::Assign(_, _, part)
-        | ResolvedExpression::PostfixElement(_, part, _) => note_expression(formats, alloc, part),
-        ResolvedExpression::Call(_, values) => note_values(formats, alloc, values.as_slice()),
-        ResolvedExpression::Print(format, values) => {
+        | ResolvedExpression::Postfix { .. } => Ok(()),
+        ResolvedExpression::Element { index: part, .. }
+        | ResolvedExpression::Unary { operand: part, .. }
+        | ResolvedExpression::Assign { value: part, .. }
+        | ResolvedExpression::PostfixElement { index: part, .. } => note_expression(
+            formats, alloc, part,
+        ),
+        ResolvedExpression::Call { values, .. } => note_values(formats, alloc, values.as_slice()),
+        ResolvedExpression::Print { format, values } => {
             formats.note(alloc, format.as_slice())?;
             note_values(formats, alloc, values.as_slice())
         }
-        ResolvedExpression::Binary(left, _, right) => {
+        ResolvedExpression::Binary { left, right, .. } => {
             note_expression(formats, alloc, left)?;
             note_expression(formats, alloc, right)
         }
-        ResolvedExpression::Conditional(condition, then, other) => {
+        ResolvedExpression::Conditional {
+            condition,
+            value: then,
+            other,
+        } => {
             note_expression(formats, alloc, condition)?;
             note_expression(formats, alloc, then)?;
             note_expression(formats, alloc, other)
         }
-        ResolvedExpression::AssignElement(_, index, _, value) => {
+        ResolvedExpression::AssignElement { index, value, .. } => {
             note_expression(formats, alloc, index)?;
             note_expression(formats, alloc, value)
         }

@@ -13,7 +13,7 @@ use crate::formats::note_expression;
 use crate::texts::Texts;
 use om_resolved::{
     ConstructKind, ResolvedClause, ResolvedDeclarator, ResolvedExpression, ResolvedFunction,
-    ResolvedLoop, ResolvedPart, ResolvedStart, ResolvedStatement, ResolvedUpdate,
+    ResolvedHead, ResolvedLoop, ResolvedPart, ResolvedStart, ResolvedStatement, ResolvedUpdate,
 };
 use std::alloc::{AllocError, Global};
 
@@ -148,7 +148,7 @@ fn note_clause(
     ensures { let tree = view_resolved_clause clause.now in
         OnOk result (AreNoted (λ A m. clause_mentioned m tree) found.old found.new) }
 {
-    let ResolvedClause::Value(_, value) = clause else {
+    let ResolvedClause::Value { value, .. } = clause else {
         return Ok(());
     };
     note_value(found, alloc, value)
@@ -199,7 +199,7 @@ fn note_construct(
 ) -> Result<(), AllocError>
     ensures { OnOk result (AreNoted (λ A m. m.by_construct kind.now) found.old found.new) }
 {
-    let ConstructKind::Critical(name) = kind else {
+    let ConstructKind::Critical { name } = kind else {
         return Ok(());
     };
     match name {
@@ -209,23 +209,17 @@ fn note_construct(
 }
 
 /// Notes the head of a `for`.
-fn note_head(
-    found: &mut Mentions,
-    alloc: Global,
-    start: &ResolvedStart,
-    condition: &Option<ResolvedExpression>,
-    step: &Option<ResolvedExpression>,
-) -> Result<(), AllocError>
-    ensures { let first = view_resolved_start start.now in
-        let test = option_map view_resolved_expression condition.now in
-        let after = option_map view_resolved_expression step.now in
+fn note_head(found: &mut Mentions, alloc: Global, head: &ResolvedHead) -> Result<(), AllocError>
+    ensures { let first = view_resolved_start head.now.start in
+        let test = option_map view_resolved_expression head.now.condition in
+        let after = option_map view_resolved_expression head.now.step in
         OnOk result (AreNoted
         (λ A m. start_mentioned m first ++ (perhaps_mentioned m test ++ perhaps_mentioned m after))
         found.old found.new) }
 {
-    note_start(found, alloc, start)?;
-    note_perhaps(found, alloc, condition)?;
-    note_perhaps(found, alloc, step)
+    note_start(found, alloc, &head.start)?;
+    note_perhaps(found, alloc, &head.condition)?;
+    note_perhaps(found, alloc, &head.step)
 }
 
 /// Notes what a statement mentions.
@@ -240,53 +234,81 @@ fn note_statement(
         OnOk result (AreNoted (λ A m. mentioned m tree) found.old found.new) }
 {
     match statement {
-        ResolvedStatement::Declaration(_, declarators) => {
+        ResolvedStatement::Declaration { declarators, .. } => {
             note_declarators(found, alloc, declarators.as_slice())
         }
-        ResolvedStatement::Block(_, items) => note_statements(found, alloc, items.as_slice()),
+        ResolvedStatement::Block { items, .. } => note_statements(found, alloc, items.as_slice()),
         ResolvedStatement::Empty(_)
         | ResolvedStatement::Break(_)
         | ResolvedStatement::Continue(_)
-        | ResolvedStatement::StandAlone(_, _) => Ok(()),
-        ResolvedStatement::Expression(_, value) => note_value(found, alloc, value),
-        ResolvedStatement::If(_, test, body) | ResolvedStatement::While(_, test, body) => {
+        | ResolvedStatement::StandAlone { .. } => Ok(()),
+        ResolvedStatement::Expression { value, .. } => note_value(found, alloc, value),
+        ResolvedStatement::If {
+            condition: test,
+            then: body,
+            ..
+        }
+        | ResolvedStatement::While {
+            condition: test,
+            body,
+            ..
+        } => {
             note_value(found, alloc, test)?;
             note_statement(found, alloc, body)
         }
-        ResolvedStatement::IfElse(_, condition, then, other) => {
+        ResolvedStatement::IfElse {
+            condition,
+            then,
+            other,
+            ..
+        } => {
             note_value(found, alloc, condition)?;
             note_statement(found, alloc, then)?;
             note_statement(found, alloc, other)
         }
-        ResolvedStatement::Do(_, body, condition) => {
+        ResolvedStatement::Do {
+            body,
+            condition,
+            ..
+        } => {
             note_statement(found, alloc, body)?;
             note_value(found, alloc, condition)
         }
-        ResolvedStatement::For(_, start, condition, step, body) => {
-            note_head(found, alloc, start, condition, step)?;
+        ResolvedStatement::For { head, body, .. } => {
+            note_head(found, alloc, head)?;
             note_statement(found, alloc, body)
         }
-        ResolvedStatement::Return(_, value) => note_perhaps(found, alloc, value),
-        ResolvedStatement::Parallel(_, clauses, _, body)
-        | ResolvedStatement::Task(_, clauses, _, body) => {
+        ResolvedStatement::Return { value, .. } => note_perhaps(found, alloc, value),
+        ResolvedStatement::Parallel { clauses, body, .. }
+        | ResolvedStatement::Task { clauses, body, .. } => {
             note_clauses(found, alloc, clauses.as_slice())?;
             note_statement(found, alloc, body)
         }
-        ResolvedStatement::Loop(_, clauses, _, repeated, body) => {
+        ResolvedStatement::Loop {
+            clauses,
+            repeated,
+            body,
+            ..
+        } => {
             note_clauses(found, alloc, clauses.as_slice())?;
             note_loop(found, alloc, repeated)?;
             note_statement(found, alloc, body)
         }
-        ResolvedStatement::Sections(_, clauses, _, parts) => {
+        ResolvedStatement::Sections { clauses, parts, .. } => {
             note_clauses(found, alloc, clauses.as_slice())?;
             note_parts(found, alloc, parts.as_slice())
         }
-        ResolvedStatement::Construct(_, kind, clauses, body) => {
+        ResolvedStatement::Construct {
+            kind,
+            clauses,
+            body,
+            ..
+        } => {
             note_construct(found, alloc, kind)?;
             note_clauses(found, alloc, clauses.as_slice())?;
             note_statement(found, alloc, body)
         }
-        ResolvedStatement::Update(_, update) => note_update(found, alloc, update),
+        ResolvedStatement::Update { update, .. } => note_update(found, alloc, update),
     }
 }
 

@@ -61,26 +61,26 @@ pub fn behind(numbers: Numbers, statement: &ResolvedStatement) -> Result<Numbers
         IfOk result (λ made. numbers_of made ≡ bodies.behind (numbers_of numbers) tree) }
 {
     match statement {
-        ResolvedStatement::Declaration(_, _)
+        ResolvedStatement::Declaration { .. }
         | ResolvedStatement::Empty(_)
-        | ResolvedStatement::Expression(_, _)
-        | ResolvedStatement::Return(_, _)
+        | ResolvedStatement::Expression { .. }
+        | ResolvedStatement::Return { .. }
         | ResolvedStatement::Break(_)
         | ResolvedStatement::Continue(_)
-        | ResolvedStatement::Update(_, _)
-        | ResolvedStatement::StandAlone(_, _) => Ok(numbers),
-        ResolvedStatement::Block(_, items) => behind_all(numbers, items.as_slice()),
-        ResolvedStatement::If(_, _, body)
-        | ResolvedStatement::While(_, _, body)
-        | ResolvedStatement::Do(_, body, _)
-        | ResolvedStatement::For(_, _, _, _, body)
-        | ResolvedStatement::Loop(_, _, _, _, body)
-        | ResolvedStatement::Construct(_, _, _, body) => behind(numbers, body),
-        ResolvedStatement::IfElse(_, _, then, other) => behind(behind(numbers, then)?, other),
-        ResolvedStatement::Parallel(_, _, _, body) | ResolvedStatement::Task(_, _, _, body) => {
+        | ResolvedStatement::Update { .. }
+        | ResolvedStatement::StandAlone { .. } => Ok(numbers),
+        ResolvedStatement::Block { items, .. } => behind_all(numbers, items.as_slice()),
+        ResolvedStatement::If { then: body, .. }
+        | ResolvedStatement::While { body, .. }
+        | ResolvedStatement::Do { body, .. }
+        | ResolvedStatement::For { body, .. }
+        | ResolvedStatement::Loop { body, .. }
+        | ResolvedStatement::Construct { body, .. } => behind(numbers, body),
+        ResolvedStatement::IfElse { then, other, .. } => behind(behind(numbers, then)?, other),
+        ResolvedStatement::Parallel { body, .. } | ResolvedStatement::Task { body, .. } => {
             behind(numbers.next_body()?, body)
         }
-        ResolvedStatement::Sections(_, _, _, parts) => {
+        ResolvedStatement::Sections { parts, .. } => {
             behind_parts(numbers.next_pick()?, parts.as_slice())
         }
     }

@@ -15,7 +15,8 @@ use crate::uses::{
 use crate::variables::Variables;
 use om_resolved::{
     CopyKind, LocalVariable, ResolvedClause, ResolvedDeclarator, ResolvedExpression,
-    ResolvedFunction, ResolvedLoop, ResolvedPart, ResolvedStart, ResolvedStatement, Variable,
+    ResolvedFunction, ResolvedHead, ResolvedLoop, ResolvedPart, ResolvedStart, ResolvedStatement,
+    Variable,
 };
 use std::alloc::{AllocError, Global};
 
@@ -121,9 +122,13 @@ fn see_clause(variables: &mut Variables, clause: &ResolvedClause) -> Result<(), 
         (variables.new ≡ sighted variables.old (clause_sights (view_resolved_clause clause.now))) }
 {
     match clause {
-        ResolvedClause::Value(_, value) => take_expression(variables, value),
+        ResolvedClause::Value { value, .. } => take_expression(variables, value),
         ResolvedClause::Shared(variable) => variables.sight(*variable),
-        ResolvedClause::Copied(kind, original, copy) => see_copy(variables, *kind, *original, copy),
+        ResolvedClause::Copied {
+            kind,
+            original,
+            copy,
+        } => see_copy(variables, *kind, *original, copy),
     }
 }
 
@@ -172,11 +177,13 @@ fn see_region_clause(variables: &mut Variables, clause: &ResolvedClause) -> Resu
         OnOk result (variables.new ≡ sighted variables.old sights) }
 {
     match clause {
-        ResolvedClause::Value(_, _) => Ok(()),
+        ResolvedClause::Value { .. } => Ok(()),
         ResolvedClause::Shared(variable) => variables.sight(*variable),
-        ResolvedClause::Copied(kind, original, copy) => {
-            see_region_copy(variables, *kind, *original, copy)
-        }
+        ResolvedClause::Copied {
+            kind,
+            original,
+            copy,
+        } => { see_region_copy(variables, *kind, *original, copy) }
     }
 }
 
@@ -220,21 +227,16 @@ fn see_loop_head(
 }
 
 /// Sees the head of a `for`.
-fn see_head(
-    variables: &mut Variables,
-    start: &ResolvedStart,
-    condition: &Option<ResolvedExpression>,
-    step: &Option<ResolvedExpression>,
-) -> Result<(), AllocError>
-    ensures { let test = option_map view_resolved_expression condition.now in
-        let step_tree = option_map view_resolved_expression step.now in
-        let sights = start_sights (view_resolved_start start.now)
+fn see_head(variables: &mut Variables, head: &ResolvedHead) -> Result<(), AllocError>
+    ensures { let test = option_map view_resolved_expression head.now.condition in
+        let step_tree = option_map view_resolved_expression head.now.step in
+        let sights = start_sights (view_resolved_start head.now.start)
         ++ (perhaps_uses test ++ perhaps_uses step_tree) in
         OnOk result (variables.new ≡ sighted variables.old sights) }
 {
-    see_start(variables, start)?;
-    take_perhaps(variables, condition)?;
-    take_perhaps(variables, step)
+    see_start(variables, &head.start)?;
+    take_perhaps(variables, &head.condition)?;
+    take_perhaps(variables, &head.step)
 }
 
 /// Sees a statement. The bodies of regions in it have slots of their own.
@@ -245,50 +247,82 @@ fn see_statement(variables: &mut Variables, statement: &ResolvedStatement) -> Re
         OnOk result (variables.new ≡ sighted variables.old sights) }
 {
     match statement {
-        ResolvedStatement::Declaration(_, declarators) => {
+        ResolvedStatement::Declaration { declarators, .. } => {
             see_declarators(variables, declarators.as_slice())
         }
-        ResolvedStatement::Block(_, items) => see_statements(variables, items.as_slice()),
+        ResolvedStatement::Block { items, .. } => see_statements(variables, items.as_slice()),
         ResolvedStatement::Empty(_)
         | ResolvedStatement::Break(_)
         | ResolvedStatement::Continue(_) => Ok(()),
-        ResolvedStatement::Expression(_, expression) => take_expression(variables, expression),
-        ResolvedStatement::If(_, test, body) | ResolvedStatement::While(_, test, body) => {
+        ResolvedStatement::Expression {
+            value: expression,
+            ..
+        } => take_expression(variables, expression),
+        ResolvedStatement::If {
+            condition: test,
+            then: body,
+            ..
+        }
+        | ResolvedStatement::While {
+            condition: test,
+            body,
+            ..
+        } => {
             take_expression(variables, test)?;
             see_statement(variables, body)
         }
-        ResolvedStatement::IfElse(_, condition, then, other) => {
+        ResolvedStatement::IfElse {
+            condition,
+            then,
+            other,
+            ..
+        } => {
             take_expression(variables, condition)?;
             see_statement(variables, then)?;
             see_statement(variables, other)
         }
-        ResolvedStatement::Do(_, body, condition) => {
+        ResolvedStatement::Do {
+            body,
+            condition,
+            ..
+        } => {
             see_statement(variables, body)?;
             take_expression(variables, condition)
         }
-        ResolvedStatement::For(_, start, condition, step, body) => {
-            see_head(variables, start, condition, step)?;
+        ResolvedStatement::For { head, body, .. } => {
+            see_head(variables, head)?;
             see_statement(variables, body)
         }
-        ResolvedStatement::Return(_, value) => take_perhaps(variables, value),
-        ResolvedStatement::Parallel(_, clauses, captures, _)
-        | ResolvedStatement::Task(_, clauses, captures, _) => {
-            take_region(variables, clauses.as_slice(), captures.as_slice())
+        ResolvedStatement::Return { value, .. } => take_perhaps(variables, value),
+        ResolvedStatement::Parallel {
+            clauses,
+            captures,
+            ..
         }
-        ResolvedStatement::Loop(_, clauses, _, repeated, body) => {
+        | ResolvedStatement::Task {
+            clauses,
+            captures,
+            ..
+        } => { take_region(variables, clauses.as_slice(), captures.as_slice()) }
+        ResolvedStatement::Loop {
+            clauses,
+            repeated,
+            body,
+            ..
+        } => {
             see_loop_head(variables, clauses.as_slice(), repeated)?;
             see_statement(variables, body)
         }
-        ResolvedStatement::Sections(_, clauses, _, parts) => {
+        ResolvedStatement::Sections { clauses, parts, .. } => {
             see_clauses(variables, clauses.as_slice())?;
             see_parts(variables, parts.as_slice())
         }
-        ResolvedStatement::Construct(_, _, clauses, body) => {
+        ResolvedStatement::Construct { clauses, body, .. } => {
             see_clauses(variables, clauses.as_slice())?;
             see_statement(variables, body)
         }
-        ResolvedStatement::Update(_, update) => take_update(variables, update),
-        ResolvedStatement::StandAlone(_, directive) => take_stand_alone(variables, directive),
+        ResolvedStatement::Update { update, .. } => take_update(variables, update),
+        ResolvedStatement::StandAlone { directive, .. } => take_stand_alone(variables, directive),
     }
 }
 

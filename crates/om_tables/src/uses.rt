@@ -29,29 +29,49 @@ pub(crate) fn take_expression(
         ResolvedExpression::Constant(_)
         | ResolvedExpression::ThreadNumber
         | ResolvedExpression::TeamSize => Ok(()),
-        ResolvedExpression::Variable(variable) | ResolvedExpression::Postfix(variable, _) => {
+        ResolvedExpression::Variable(variable) | ResolvedExpression::Postfix { variable, .. } => {
             variables.sight(*variable)
         }
-        ResolvedExpression::Element(variable, part)
-        | ResolvedExpression::Assign(variable, _, part)
-        | ResolvedExpression::PostfixElement(variable, part, _) => {
+        ResolvedExpression::Element {
+            array: variable,
+            index: part,
+        }
+        | ResolvedExpression::Assign {
+            variable,
+            value: part,
+            ..
+        }
+        | ResolvedExpression::PostfixElement {
+            array: variable,
+            index: part,
+            ..
+        } => {
             variables.sight(*variable)?;
             take_expression(variables, part)
         }
-        ResolvedExpression::Call(_, values) | ResolvedExpression::Print(_, values) => {
+        ResolvedExpression::Call { values, .. } | ResolvedExpression::Print { values, .. } => {
             take_values(variables, values.as_slice())
         }
-        ResolvedExpression::Unary(_, operand) => take_expression(variables, operand),
-        ResolvedExpression::Binary(left, _, right) => {
+        ResolvedExpression::Unary { operand, .. } => take_expression(variables, operand),
+        ResolvedExpression::Binary { left, right, .. } => {
             take_expression(variables, left)?;
             take_expression(variables, right)
         }
-        ResolvedExpression::Conditional(condition, then, other) => {
+        ResolvedExpression::Conditional {
+            condition,
+            value: then,
+            other,
+        } => {
             take_expression(variables, condition)?;
             take_expression(variables, then)?;
             take_expression(variables, other)
         }
-        ResolvedExpression::AssignElement(array, index, _, value) => {
+        ResolvedExpression::AssignElement {
+            array,
+            index,
+            value,
+            ..
+        } => {
             variables.sight(*array)?;
             take_expression(variables, index)?;
             take_expression(variables, value)
@@ -108,9 +128,9 @@ fn take_clause(variables: &mut Variables, clause: &ResolvedClause) -> Result<(),
         (variables.new ≡ sighted variables.old (clause_uses (view_resolved_clause clause.now))) }
 {
     match clause {
-        ResolvedClause::Value(_, value) => take_expression(variables, value),
+        ResolvedClause::Value { value, .. } => take_expression(variables, value),
         ResolvedClause::Shared(variable) => variables.sight(*variable),
-        ResolvedClause::Copied(kind, original, _) => take_original(variables, *kind, *original),
+        ResolvedClause::Copied { kind, original, .. } => take_original(variables, *kind, *original),
     }
 }
 

@@ -85,6 +85,9 @@ pub fn call_of(place: usize, values: Vec<ResolvedExpression>) -> ResolvedExpress
     match place {
         1 => ResolvedExpression::ThreadNumber,
         2 => ResolvedExpression::TeamSize,
-        _ => ResolvedExpression::Call(place.saturating_sub(3), values),
+        _ => ResolvedExpression::Call {
+            function: place.saturating_sub(3),
+            values,
+        },
     }
 }

@@ -118,7 +118,11 @@ fn clause_of(
 {
     match kind {
         None => Ok(ResolvedClause::Shared(variable)),
-        Some(kind) => Ok(ResolvedClause::Copied(kind, variable, local_of(alloc, name)?)),
+        Some(kind) => Ok(ResolvedClause::Copied {
+            kind,
+            original: variable,
+            copy: local_of(alloc, name)?,
+        }),
     }
 }
 
@@ -239,7 +243,10 @@ fn resolve_clause(
     match clause {
         Clause::Value(kind, _, value) => {
             let value = boxed_expression(alloc, symbols, true, &value.expression)?;
-            clauses.push(ResolvedClause::Value(*kind, Box::into_inner(value)))?;
+            clauses.push(ResolvedClause::Value {
+                clause: *kind,
+                value: Box::into_inner(value),
+            })?;
             Ok(())
         }
         Clause::Default(_, argument) => {

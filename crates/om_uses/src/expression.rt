@@ -46,7 +46,7 @@ pub fn resolve_expression(
         Expression::Paren { inner, .. } => resolve_expression(alloc, symbols, for_value, inner),
         Expression::Index { name, index, .. } => {
             let (array, index) = resolve_element(alloc, symbols, name, index)?;
-            Ok(ResolvedExpression::Element(array, index))
+            Ok(ResolvedExpression::Element { array, index })
         }
         Expression::Call {
             name,
@@ -74,7 +74,11 @@ pub fn resolve_expression(
         } => {
             let left = boxed_expression(alloc, symbols, true, left)?;
             let right = boxed_expression(alloc, symbols, true, right)?;
-            Ok(ResolvedExpression::Binary(left, *operator, right))
+            Ok(ResolvedExpression::Binary {
+                left,
+                operator: *operator,
+                right,
+            })
         }
         Expression::Conditional {
             condition,
@@ -85,7 +89,11 @@ pub fn resolve_expression(
             let condition = boxed_expression(alloc, symbols, true, condition)?;
             let then = boxed_expression(alloc, symbols, true, then)?;
             let other = boxed_expression(alloc, symbols, true, other)?;
-            Ok(ResolvedExpression::Conditional(condition, then, other))
+            Ok(ResolvedExpression::Conditional {
+                condition,
+                value: then,
+                other,
+            })
         }
         Expression::Assign {
             target,
@@ -205,7 +213,7 @@ fn resolve_unary(
         ≡ Some (view_resolved_expression found)) }
 {
     let operand = boxed_expression(alloc, symbols, true, operand)?;
-    Ok(ResolvedExpression::Unary(operator, operand))
+    Ok(ResolvedExpression::Unary { operator, operand })
 }
 
 /// What is assigned to.
@@ -300,7 +308,10 @@ fn resolve_print(
 {
     let format = resolve_format(alloc, for_value, name, values)?;
     let printed = resolve_printed(alloc, symbols, values)?;
-    Ok(ResolvedExpression::Print(format, printed))
+    Ok(ResolvedExpression::Print {
+        format,
+        values: printed,
+    })
 }
 
 /// The arguments of a `printf`, of which the first is its format: the values behind it.

@@ -75,9 +75,18 @@ pub fn assigned(
         ≡ assigned (view_target target) operator (view_resolved_expression value.value) }
 {
     match target {
-        Target::Variable(variable) => ResolvedExpression::Assign(variable, operator, value),
+        Target::Variable(variable) => ResolvedExpression::Assign {
+            variable,
+            operator,
+            value,
+        },
         Target::Element(array, index) => {
-            ResolvedExpression::AssignElement(array, index, operator, value)
+            ResolvedExpression::AssignElement {
+                array,
+                index,
+                operator,
+                value,
+            }
         }
     }
 }
@@ -87,7 +96,11 @@ pub fn stepped(target: Target, operator: PostfixOperator) -> ResolvedExpression
     ensures { view_resolved_expression result ≡ stepped (view_target target) operator }
 {
     match target {
-        Target::Variable(variable) => ResolvedExpression::Postfix(variable, operator),
-        Target::Element(array, index) => ResolvedExpression::PostfixElement(array, index, operator),
+        Target::Variable(variable) => ResolvedExpression::Postfix { variable, operator },
+        Target::Element(array, index) => ResolvedExpression::PostfixElement {
+            array,
+            index,
+            operator,
+        },
     }
 }

@@ -113,44 +113,61 @@ pub(crate) fn pass_value(place: &mut u32, expression: &ResolvedExpression) -> Re
         | ResolvedExpression::Variable(_)
         | ResolvedExpression::ThreadNumber
         | ResolvedExpression::TeamSize => pass(place, 1),
-        ResolvedExpression::Element(_, index) => {
+        ResolvedExpression::Element { index, .. } => {
             pass_value(place, index)?;
             pass(place, 1)
         }
-        ResolvedExpression::Call(_, values) => {
+        ResolvedExpression::Call { values, .. } => {
             pass_values(place, values.as_slice())?;
             pass(place, 2)
         }
-        ResolvedExpression::Print(_, values) => {
+        ResolvedExpression::Print { values, .. } => {
             pass_values(place, values.as_slice())?;
             pass(place, 1)
         }
-        ResolvedExpression::Unary(operator, operand) => {
+        ResolvedExpression::Unary { operator, operand } => {
             pass_value(place, operand)?;
             pass(place, unary_own(*operator))
         }
-        ResolvedExpression::Binary(left, operator, right) => {
+        ResolvedExpression::Binary {
+            left,
+            operator,
+            right,
+        } => {
             pass_value(place, left)?;
             pass_value(place, right)?;
             pass(place, binary_own(*operator))
         }
-        ResolvedExpression::Conditional(condition, then, other) => {
+        ResolvedExpression::Conditional {
+            condition,
+            value: then,
+            other,
+        } => {
             pass_value(place, condition)?;
             pass_value(place, then)?;
             pass_value(place, other)?;
             pass(place, 2)
         }
-        ResolvedExpression::Assign(_, operator, value) => {
+        ResolvedExpression::Assign {
+            operator,
+            value,
+            ..
+        } => {
             pass_value(place, value)?;
             pass(place, assigned_own(*operator))
         }
-        ResolvedExpression::AssignElement(_, index, operator, value) => {
+        ResolvedExpression::AssignElement {
+            index,
+            operator,
+            value,
+            ..
+        } => {
             pass_value(place, index)?;
             pass_value(place, value)?;
             pass(place, element_assigned_own(*operator))
         }
-        ResolvedExpression::Postfix(_, _) => pass(place, 6),
-        ResolvedExpression::PostfixElement(_, index, _) => {
+        ResolvedExpression::Postfix { .. } => pass(place, 6),
+        ResolvedExpression::PostfixElement { index, .. } => {
             pass_value(place, index)?;
             pass(place, 7)
         }
@@ -178,23 +195,23 @@ pub(crate) fn pass_effect(
         (place.new ≡ place.old + effect_size (view_resolved_expression expression.now)) }
 {
     match expression {
-        ResolvedExpression::Call(_, _)
-        | ResolvedExpression::Print(_, _)
-        | ResolvedExpression::Assign(_, _, _)
-        | ResolvedExpression::AssignElement(_, _, _, _) => pass_value(place, expression),
-        ResolvedExpression::Postfix(_, _) => pass(place, 4),
-        ResolvedExpression::PostfixElement(_, index, _) => {
+        ResolvedExpression::Call { .. }
+        | ResolvedExpression::Print { .. }
+        | ResolvedExpression::Assign { .. }
+        | ResolvedExpression::AssignElement { .. } => pass_value(place, expression),
+        ResolvedExpression::Postfix { .. } => pass(place, 4),
+        ResolvedExpression::PostfixElement { index, .. } => {
             pass_value(place, index)?;
             pass(place, 5)
         }
         ResolvedExpression::Constant(_)
         | ResolvedExpression::Variable(_)
-        | ResolvedExpression::Element(_, _)
+        | ResolvedExpression::Element { .. }
         | ResolvedExpression::ThreadNumber
         | ResolvedExpression::TeamSize
-        | ResolvedExpression::Unary(_, _)
-        | ResolvedExpression::Binary(_, _, _)
-        | ResolvedExpression::Conditional(_, _, _) => {
+        | ResolvedExpression::Unary { .. }
+        | ResolvedExpression::Binary { .. }
+        | ResolvedExpression::Conditional { .. } => {
             pass_value(place, expression)?;
             pass(place, 1)
         }

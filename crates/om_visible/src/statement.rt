@@ -28,8 +28,8 @@ fn skip_size(walk: &mut Walk, clauses: &[ResolvedClause]) -> Result<(), AllocErr
 {
     for clause in clauses {
         match clause {
-            ResolvedClause::Value(_, value) => return skip_value(walk, value),
-            ResolvedClause::Shared(_) | ResolvedClause::Copied(_, _, _) => {}
+            ResolvedClause::Value { value, .. } => return skip_value(walk, value),
+            ResolvedClause::Shared(_) | ResolvedClause::Copied { .. } => {}
         }
     }
     Ok(())
@@ -42,8 +42,8 @@ fn skip_filter(walk: &mut Walk, clauses: &[ResolvedClause]) -> Result<(), AllocE
 {
     for clause in clauses {
         match clause {
-            ResolvedClause::Value(_, value) => return skip_value(walk, value),
-            ResolvedClause::Shared(_) | ResolvedClause::Copied(_, _, _) => {}
+            ResolvedClause::Value { value, .. } => return skip_value(walk, value),
+            ResolvedClause::Shared(_) | ResolvedClause::Copied { .. } => {}
         }
     }
     skip(walk, 1)
@@ -81,7 +81,11 @@ fn skip_assignment(walk: &mut Walk, statement: &ResolvedStatement) -> Result<(),
     ensures { OnOk result (Walked walk.old walk.new
         (assignment_size (view_resolved_statement statement.now)) (λ k. nothing)) }
 {
-    let ResolvedStatement::Expression(_, expression) = statement else {
+    let ResolvedStatement::Expression {
+        value: expression,
+        ..
+    } = statement
+    else {
         return Ok(());
     };
     skip_effect(walk, expression)
@@ -95,66 +99,102 @@ fn add_statement(walk: &mut Walk, statement: &ResolvedStatement) -> Result<(), A
         (names (view_resolved_statement statement.now) walk.old.body walk.old.place)) }
 {
     match statement {
-        ResolvedStatement::Declaration(_, declarators) => {
+        ResolvedStatement::Declaration { declarators, .. } => {
             add_declarators(walk, declarators.as_slice())
         }
-        ResolvedStatement::Block(_, items) => add_block(walk, items.as_slice()),
+        ResolvedStatement::Block { items, .. } => add_block(walk, items.as_slice()),
         ResolvedStatement::Empty(_) => Ok(()),
-        ResolvedStatement::Expression(_, expression) => skip_effect(walk, expression),
-        ResolvedStatement::If(_, condition, then) => {
+        ResolvedStatement::Expression {
+            value: expression,
+            ..
+        } => skip_effect(walk, expression),
+        ResolvedStatement::If {
+            condition,
+            then,
+            ..
+        } => {
             skip_value(walk, condition)?;
             skip(walk, 1)?;
             add_inner(walk, then)
         }
-        ResolvedStatement::IfElse(_, condition, then, other) => {
+        ResolvedStatement::IfElse {
+            condition,
+            then,
+            other,
+            ..
+        } => {
             skip_value(walk, condition)?;
             skip(walk, 1)?;
             add_inner(walk, then)?;
             skip(walk, 1)?;
             add_inner(walk, other)
         }
-        ResolvedStatement::While(_, condition, body) => {
+        ResolvedStatement::While {
+            condition,
+            body,
+            ..
+        } => {
             skip_value(walk, condition)?;
             skip(walk, 1)?;
             add_inner(walk, body)?;
             skip(walk, 1)
         }
-        ResolvedStatement::Do(_, body, condition) => {
+        ResolvedStatement::Do {
+            body,
+            condition,
+            ..
+        } => {
             add_inner(walk, body)?;
             skip_value(walk, condition)?;
             skip(walk, 2)
         }
-        ResolvedStatement::For(_, start, condition, step, body) => {
+        ResolvedStatement::For { head, body, .. } => {
             let height = walk.opened.len();
-            add_start(walk, start)?;
-            skip_test(walk, condition)?;
+            add_start(walk, &head.start)?;
+            skip_test(walk, &head.condition)?;
             add_inner(walk, body)?;
-            skip_step(walk, step)?;
+            skip_step(walk, &head.step)?;
             skip(walk, 1)?;
             close(walk, height)
         }
-        ResolvedStatement::Return(_, value) => {
+        ResolvedStatement::Return { value, .. } => {
             skip_perhaps(walk, value)?;
             skip(walk, 1)
         }
         ResolvedStatement::Break(_) | ResolvedStatement::Continue(_) => skip(walk, 1),
-        ResolvedStatement::Parallel(_, clauses, captures, body) => {
-            add_parallel(walk, clauses.as_slice(), captures.as_slice(), body)
-        }
-        ResolvedStatement::Task(_, clauses, captures, body) => {
-            add_task(walk, clauses.as_slice(), captures.as_slice(), body)
-        }
-        ResolvedStatement::Loop(_, clauses, nowait, head, body) => {
-            add_loop(walk, clauses.as_slice(), *nowait, head, body)
-        }
-        ResolvedStatement::Sections(_, clauses, nowait, parts) => {
-            add_sections(walk, clauses.as_slice(), *nowait, parts.as_slice())
-        }
-        ResolvedStatement::Construct(_, kind, clauses, body) => {
-            add_construct(walk, kind, clauses.as_slice(), body)
-        }
-        ResolvedStatement::Update(_, update) => skip_update(walk, update),
-        ResolvedStatement::StandAlone(_, directive) => skip(walk, alone_own(directive)),
+        ResolvedStatement::Parallel {
+            clauses,
+            captures,
+            body,
+            ..
+        } => { add_parallel(walk, clauses.as_slice(), captures.as_slice(), body) }
+        ResolvedStatement::Task {
+            clauses,
+            captures,
+            body,
+            ..
+        } => { add_task(walk, clauses.as_slice(), captures.as_slice(), body) }
+        ResolvedStatement::Loop {
+            clauses,
+            nowait,
+            repeated: head,
+            body,
+            ..
+        } => { add_loop(walk, clauses.as_slice(), *nowait, head, body) }
+        ResolvedStatement::Sections {
+            clauses,
+            nowait,
+            parts,
+            ..
+        } => { add_sections(walk, clauses.as_slice(), *nowait, parts.as_slice()) }
+        ResolvedStatement::Construct {
+            kind,
+            clauses,
+            body,
+            ..
+        } => { add_construct(walk, kind, clauses.as_slice(), body) }
+        ResolvedStatement::Update { update, .. } => skip_update(walk, update),
+        ResolvedStatement::StandAlone { directive, .. } => skip(walk, alone_own(directive)),
     }
 }
 
@@ -234,7 +274,7 @@ fn add_construct(
         (kind_names walk.old.body walk.old.place kind.now given tree (names tree))) }
 {
     match kind {
-        ConstructKind::Single(nowait) => {
+        ConstructKind::Single { nowait } => {
             let height = walk.opened.len();
             skip(walk, 1)?;
             add_copies(walk, clauses)?;
@@ -248,7 +288,7 @@ fn add_construct(
             add_inner(walk, statement)?;
             skip(walk, 1)
         }
-        ConstructKind::Critical(_) => {
+        ConstructKind::Critical { .. } => {
             skip(walk, 2)?;
             add_inner(walk, statement)?;
             skip(walk, 1)

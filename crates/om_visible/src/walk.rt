@@ -239,7 +239,7 @@ fn add_copy(walk: &mut Walk, clause: &ResolvedClause) -> Result<(), AllocError>
         (clause_start_size (view_resolved_clause clause.now))
         (λ k. opening (clause_copies walk.old.place (view_resolved_clause clause.now)))) }
 {
-    let ResolvedClause::Copied(kind, _, copy) = clause else {
+    let ResolvedClause::Copied { kind, copy, .. } = clause else {
         return Ok(());
     };
     let from = walk.place;
@@ -285,7 +285,7 @@ fn add_region_copy(walk: &mut Walk, clause: &ResolvedClause) -> Result<(), Alloc
         (clause_region_start (view_resolved_clause clause.now))
         (λ k. opening (clause_region_copies walk.old.place (view_resolved_clause clause.now)))) }
 {
-    let ResolvedClause::Copied(kind, _, copy) = clause else {
+    let ResolvedClause::Copied { kind, copy, .. } = clause else {
         return Ok(());
     };
     let from = region_from(walk.place, *kind);
@@ -313,8 +313,8 @@ fn clause_combined(clause: &ResolvedClause) -> u32
     ensures { result ≡ clause_combined_size (view_resolved_clause clause.now) }
 {
     match clause {
-        ResolvedClause::Value(_, _) | ResolvedClause::Shared(_) => 0,
-        ResolvedClause::Copied(kind, _, _) => combined_own(*kind),
+        ResolvedClause::Value { .. } | ResolvedClause::Shared(_) => 0,
+        ResolvedClause::Copied { kind, .. } => combined_own(*kind),
     }
 }
 
@@ -345,7 +345,7 @@ fn add_task_copy(walk: &mut Walk, clause: &ResolvedClause) -> Result<(), AllocEr
     ensures { OnOk result (Walked walk.old walk.new 0
         (λ k. opening (task_clause (view_resolved_clause clause.now)))) }
 {
-    let ResolvedClause::Copied(_, _, copy) = clause else {
+    let ResolvedClause::Copied { copy, .. } = clause else {
         return Ok(());
     };
     open(walk, copy, 0)
