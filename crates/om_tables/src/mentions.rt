@@ -41,6 +41,20 @@ impl Mentions {
             extents: Extents::new(alloc),
         }
     }
+
+    /// The declared variables alone.
+    fn into_extents(self) -> Extents
+        ensures { result ≡ self.extents }
+    {
+        let Mentions {
+            formats,
+            locks,
+            extents,
+        } = self;
+        drop(formats);
+        drop(locks);
+        extents
+    }
 }
 
 /// How many cells the declared variables of a function have.
@@ -51,11 +65,12 @@ pub fn extents_of(alloc: Global, function: &ResolvedFunction) -> Result<Extents,
         (λ made. (variable : ℕ) → cells_in made variable ≡ cells_in (extents_of tree) variable) }
 {
     let mut found = Mentions::new(alloc);
-    let done = note_statements(&mut found, alloc, function.body.as_slice());
-    let Mentions { extents, .. } = found;
-    match done {
-        Ok(()) => Ok(extents),
-        Err(error) => Err(error),
+    match note_statements(&mut found, alloc, function.body.as_slice()) {
+        Ok(()) => Ok(found.into_extents()),
+        Err(error) => {
+            drop(found);
+            Err(error)
+        }
     }
 }
 

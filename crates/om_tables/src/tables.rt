@@ -54,10 +54,32 @@ fn mentions_of(alloc: Global, functions: &[ResolvedFunction]) -> Result<Mentions
         (λ made. made.locks ≡ noted [] (flat_map (function_mentioned lock_mention) trees)) }
 {
     let mut found = Mentions::new(alloc);
-    for function in functions {
-        note_statements(&mut found, alloc, function.body.as_slice())?;
+    match note_functions(&mut found, alloc, functions) {
+        Ok(()) => Ok(found),
+        Err(error) => {
+            drop(found);
+            Err(error)
+        }
     }
-    Ok(found)
+}
+
+/// Notes the formats and locks of functions.
+fn note_functions(
+    found: &mut Mentions,
+    alloc: Global,
+    functions: &[ResolvedFunction],
+) -> Result<(), AllocError>
+    ensures formats { let trees = map view_resolved_function functions.now in
+        let sights = flat_map (function_mentioned format_mention) trees in
+        OnOk result (found.new.formats ≡ noted found.old.formats sights) }
+    ensures locks { let trees = map view_resolved_function functions.now in
+        let sights = flat_map (function_mentioned lock_mention) trees in
+        OnOk result (found.new.locks ≡ noted found.old.locks sights) }
+{
+    for function in functions {
+        note_statements(found, alloc, function.body.as_slice())?;
+    }
+    Ok(())
 }
 
 /// The numbers of the bodies of functions, and the numbers behind them.
