@@ -46,13 +46,7 @@ impl Mentions {
     fn into_extents(self) -> Extents
         ensures { result ≡ self.extents }
     {
-        let Mentions {
-            formats,
-            locks,
-            extents,
-        } = self;
-        drop(formats);
-        drop(locks);
+        let Mentions { extents, .. } = self;
         extents
     }
 }
@@ -65,13 +59,8 @@ pub fn extents_of(alloc: Global, function: &ResolvedFunction) -> Result<Extents,
         (λ made. (variable : ℕ) → cells_in made variable ≡ cells_in (extents_of tree) variable) }
 {
     let mut found = Mentions::new(alloc);
-    match note_statements(&mut found, alloc, function.body.as_slice()) {
-        Ok(()) => Ok(found.into_extents()),
-        Err(error) => {
-            drop(found);
-            Err(error)
-        }
-    }
+    note_statements(&mut found, alloc, function.body.as_slice())?;
+    Ok(found.into_extents())
 }
 
 /// Notes the formats of an expression.

@@ -54,13 +54,8 @@ fn mentions_of(alloc: Global, functions: &[ResolvedFunction]) -> Result<Mentions
         (λ made. made.locks ≡ noted [] (flat_map (function_mentioned lock_mention) trees)) }
 {
     let mut found = Mentions::new(alloc);
-    match note_functions(&mut found, alloc, functions) {
-        Ok(()) => Ok(found),
-        Err(error) => {
-            drop(found);
-            Err(error)
-        }
-    }
+    note_functions(&mut found, alloc, functions)?;
+    Ok(found)
 }
 
 /// Notes the formats and locks of functions.

@@ -124,13 +124,18 @@ statement-returns-in_ok-end_do-in-Do-clause-emitted t c =
 pub statement-returns-in_ok-end_for-in-For-clause-emitted : goal.statement-returns-in_ok-end_for-in-For-clause-emitted
 statement-returns-in_ok-end_for-in-For-clause-emitted t c =
     statement_is (names_of c.args.scope.now) (numbers_of c.args.spot.numbers) _ _ c.args.spot.jumps _ _
-    (ap (λ z. trees.For c.in-For.at (view_resolved_start c.in-For.begin) (option_map view_resolved_expression
-    c.in-For.condition) (option_map view_resolved_expression c.in-For.step) (view_resolved_statement z))
-    c.deref-in-For.ensures ∙ sym (ap view_resolved_statement c.in-For.is ∙ view_for c.in-For.at c.in-For.begin
-    c.in-For.condition c.in-For.step c.in-For.body))
+    (ap (λ z. trees.For c.in-For.at (view_resolved_start z.start) (option_map view_resolved_expression z.condition)
+    (option_map view_resolved_expression z.step) (view_resolved_statement c.deref-in-For.result.now))
+    c.deref-head.ensures
+    ∙ ap (λ z. trees.For c.in-For.at (view_resolved_start c.in-For.head.value.start) (option_map
+    view_resolved_expression c.in-For.head.value.condition) (option_map view_resolved_expression
+    c.in-For.head.value.step) (view_resolved_statement z)) c.deref-in-For.ensures
+    ∙ sym (ap view_resolved_statement c.in-For.is ∙ view_for c.in-For.at c.in-For.head c.in-For.body))
     (emits_for (names_of c.args.scope.now) (numbers_of c.args.spot.numbers) c.in-For.at
-    (view_resolved_start c.in-For.begin) (option_map view_resolved_expression c.in-For.condition)
-    (option_map view_resolved_expression c.in-For.step) (view_resolved_statement c.deref-in-For.result.now)
+    (view_resolved_start c.deref-head.result.now.start) (option_map view_resolved_expression
+    c.deref-head.result.now.condition)
+    (option_map view_resolved_expression c.deref-head.result.now.step) (view_resolved_statement
+    c.deref-in-For.result.now)
     c.args.spot.jumps c.in_ok-labels-in-For.labels _ _ _ _
     c.in_ok-labels-in-For.ensures (spot_is (names_of c.args.scope.now)
     (view_resolved_statement c.deref-in-For.result.now) _ _ _ _ c.in_loop-inside-in-For.ensures
@@ -163,15 +168,18 @@ pub statement-returns-in_ok-end_worksharing-in-Loop-clause-emitted :
 statement-returns-in_ok-end_worksharing-in-Loop-clause-emitted t c =
     statement_is (names_of c.args.scope.now) (numbers_of c.args.spot.numbers) _ _ c.args.spot.jumps _ _
     (ap (λ z. trees.Loop c.in-Loop.at (map view_resolved_clause c.in-Loop.clauses.items) c.in-Loop.nowait
-    (view_resolved_loop c.in-Loop.repeated) (view_resolved_statement z)) c.deref-in-Loop.ensures
+    (view_resolved_loop z) (view_resolved_statement c.deref-in-Loop-2.result.now)) c.deref-in-Loop.ensures
+    ∙ ap (λ z. trees.Loop c.in-Loop.at (map view_resolved_clause c.in-Loop.clauses.items) c.in-Loop.nowait
+    (view_resolved_loop c.in-Loop.repeated.value) (view_resolved_statement z)) c.deref-in-Loop-2.ensures
     ∙ sym (ap view_resolved_statement c.in-Loop.is ∙ view_loop c.in-Loop.at c.in-Loop.clauses c.in-Loop.nowait
     c.in-Loop.repeated c.in-Loop.body))
     (emits_loop (names_of c.args.scope.now) (numbers_of c.args.spot.numbers) c.in-Loop.at
-    (map view_resolved_clause c.in-Loop.clauses.items) c.in-Loop.nowait (view_resolved_loop c.in-Loop.repeated)
-    (view_resolved_statement c.deref-in-Loop.result.now) c.args.spot.jumps c.in_ok-labels-in-Loop.labels _ _ _ _ _
-    (loop_clauses_are (names_of c.args.scope.now) c.in-Loop.at.line (view_resolved_loop c.in-Loop.repeated)
+    (map view_resolved_clause c.in-Loop.clauses.items) c.in-Loop.nowait (view_resolved_loop
+    c.deref-in-Loop.result.now)
+    (view_resolved_statement c.deref-in-Loop-2.result.now) c.args.spot.jumps c.in_ok-labels-in-Loop.labels _ _ _ _ _
+    (loop_clauses_are (names_of c.args.scope.now) c.in-Loop.at.line (view_resolved_loop c.deref-in-Loop.result.now)
     c.in_ok-labels-in-Loop.labels _ _ _ _ c.as_slice-in-Loop.ensures.value c.in_ok-labels-in-Loop.ensures)
-    (spot_is (names_of c.args.scope.now) (view_resolved_statement c.deref-in-Loop.result.now) _ _ _ _
+    (spot_is (names_of c.args.scope.now) (view_resolved_statement c.deref-in-Loop-2.result.now) _ _ _ _
     c.in_iteration-inside.ensures c.in_ok-after-in-Loop.ensures.emitted)
     (c.in_ok-end_loop-in-Loop.ensures (names_of c.args.scope.now))
     (close_clauses_are (names_of c.args.scope.now) c.in-Loop.at.line c.in-Loop.nowait _ _ _ _
