@@ -98,28 +98,12 @@ pub fn assignment(
         OnOk result
         (EmitsRow (names_of scope.now) (λ at. assignment_row at line tree) draft.old draft.new) }
 {
-    match statement {
-        ResolvedStatement::Expression {
-            value: expression,
-            ..
-        } => effect(draft, scope, line, expression),
-        ResolvedStatement::Declaration { .. } => unreachable!(),
-        ResolvedStatement::Block { .. } => unreachable!(),
-        ResolvedStatement::Empty(_) => unreachable!(),
-        ResolvedStatement::If { .. } => unreachable!(),
-        ResolvedStatement::IfElse { .. } => unreachable!(),
-        ResolvedStatement::While { .. } => unreachable!(),
-        ResolvedStatement::Do { .. } => unreachable!(),
-        ResolvedStatement::For { .. } => unreachable!(),
-        ResolvedStatement::Return { .. } => unreachable!(),
-        ResolvedStatement::Break(_) => unreachable!(),
-        ResolvedStatement::Continue(_) => unreachable!(),
-        ResolvedStatement::Parallel { .. } => unreachable!(),
-        ResolvedStatement::Task { .. } => unreachable!(),
-        ResolvedStatement::Loop { .. } => unreachable!(),
-        ResolvedStatement::Sections { .. } => unreachable!(),
-        ResolvedStatement::Construct { .. } => unreachable!(),
-        ResolvedStatement::Update { .. } => unreachable!(),
-        ResolvedStatement::StandAlone { .. } => unreachable!(),
-    }
+    let ResolvedStatement::Expression {
+        value: expression,
+        ..
+    } = statement
+    else {
+        unreachable!()
+    };
+    effect(draft, scope, line, expression)
 }
