@@ -1,5 +1,5 @@
-//! Judges the cases of its standard input: whole sessions of several workers, and what the debugger is to
-//! write in each of them. Where the last line of the input is `== checks`, it then says of sessions what no
+//! Runs the cases of its standard input, whole sessions of several workers, and prints what the debugger
+//! writes in each of them. Where the last line of the input is `== checks`, it then says of sessions what no
 //! contract says: that threads of their own step the workers, that seats are answered, that a journal gets
 //! full, and that reads and writes may fail.
 #![tactic(auto)]
@@ -16,52 +16,29 @@ mod laws;
 mod orders;
 mod session;
 
-use crate::cases::judge;
-use crate::checks::tell_checks;
+use crate::cases::tell_cases;
+use crate::checks::{tell, tell_checks};
 use crate::depth::deepest_are_accepted;
-use anyhow::{Result, ensure};
+use crate::laws::call_laws;
+use anyhow::Result;
 use om_parser::STACK_SIZE;
-use std::alloc::Global;
 use std::io;
-use std::sync::Wait;
-use std::thread::{Builder, Threads};
+use std::thread::Builder;
 
 /// The last line of an input that asks for the checks.
-const CHECKS: &str = "== checks\n";
-
-/// What came of the cases of the input.
-#[derive(Clone, Copy)]
-struct Told {
-    /// How many cases are wrong.
-    wrong: u64,
-    /// Whether the input asks for the checks too.
-    asks_for_checks: bool,
-}
+const CHECKS: &str = "\n== checks\n";
 
 fn main(rt: HostRuntime) -> Result<()> {
     let alloc = rt.alloc();
-    let told = tell_cases(&rt, alloc)?;
-    ensure!(told.wrong == 0, "{} cases are wrong", told.wrong);
-    if !told.asks_for_checks {
+    call_laws();
+    let input = io::read_to_string(alloc, rt.reader())?;
+    tell_cases(&rt, alloc, input.as_str().trim_end_matches(CHECKS))?;
+    if !input.as_str().ends_with(CHECKS) {
         return Ok(());
     }
+    tell_checks(&rt, alloc)?;
     let thread = Builder::new().stack_size(STACK_SIZE).spawn(&rt, move || {
         deepest_are_accepted(&rt, alloc).unwrap_or(false)
     })?;
-    let deepest = thread.join(&rt);
-    let wrong = tell_checks(&rt, alloc, deepest)?;
-    ensure!(wrong == 0, "{wrong} checks are wrong");
-    Ok(())
-}
-
-/// Says of each case of the input whether it is right.
-fn tell_cases<R: Input + Print + Threads + Wait + Sync>(rt: &R, alloc: Global) -> Result<Told> {
-    let input = io::read_to_string(alloc, rt.reader())?;
-    let asks_for_checks = input.as_str().ends_with(CHECKS);
-    let report = judge(rt, alloc, input.as_str().trim_end_matches(CHECKS))?;
-    print!(rt; "{}", report.text)?;
-    Ok(Told {
-        wrong: report.wrong,
-        asks_for_checks,
-    })
+    tell(&rt, "the deepest sources are accepted", thread.join(&rt))
 }

@@ -7,29 +7,6 @@ use std::alloc::Global;
 use std::sync::Wait;
 use std::thread::Threads;
 
-/// What a case asks for: so many workers, the input of the session, and what is to be written.
-#[derive(Clone, Copy)]
-pub(crate) struct Session<'a> {
-    pub workers: u8,
-    pub input: &'a str,
-    pub wanted: &'a str,
-}
-
-/// The session of the lines of a case, if its head names no number of workers but one from 1 to 32.
-pub(crate) fn session_of(case: &str) -> Option<Session<'_>> {
-    let (head, lines) = case.split_once('\n')?;
-    let (input, wanted) = lines.split_once("\n=>\n")?;
-    let workers = match head.split_once(" by ") {
-        Some((_, words)) => words.trim_end_matches(" workers").parse().ok()?,
-        None => 2,
-    };
-    Some(Session {
-        workers,
-        input,
-        wanted,
-    })
-}
-
 /// What the debugger writes.
 pub(crate) fn written<R: Threads + Wait + Sync>(
     rt: &R,

@@ -8,13 +8,14 @@ use Rattle.om_lexer.specs.Sources.{IsTokens, IsRefusal}
 use Rattle.om_parser.specs.Faults.{IsBadAtomic}
 use Rattle.om_parser.specs.LineFaults.{IsRefusedLine}
 use Rattle.om_parser.specs.Parsing.{IsTreeOf, IsLimitPassed}
+use Rattle.om_parser.specs.Refusals.{refusal_of}
 use Rattle.om_tree.specs.Tree.{UnitTree}
 use Rattle.om_rules.specs.Breaches.{breaches_of}
 use Rattle.om_rules.specs.Faults.{first_of}
 use Rattle.om_resolved.specs.ResolvedTree.{ResolvedTree}
 use Rattle.om_lower.specs.Limits.{IsTooMany}
-use Rattle.om_shell.specs.Verdict.{IsTreeOfSource, IsResolutionOfSource, IsRefused, by_lexer, by_parser, by_names}
-use Rattle.om_shell.specs.Verdict.{by_code}
+use Rattle.om_shell.specs.Verdict.{IsTreeOfSource, IsResolutionOfSource, IsRefused, IsSyntaxFault, by_lexer}
+use Rattle.om_shell.specs.Verdict.{by_parser, by_names, by_code}
 
 abbrev pub Refuses : List ℕ → SourceFault → Type 0
 Refuses source fault = fault ≢ no_memory → IsRefused source fault
@@ -22,6 +23,21 @@ Refuses source fault = fault ≢ no_memory → IsRefused source fault
 pub lexer_refuses : (source : List ℕ) (fault : SourceFault) → IsRefusal source fault → Refuses source fault
 lexer_refuses source fault (inl none) other = absurd (other none)
 lexer_refuses source fault (inr p) other = by_lexer p
+
+syntax_fault : (tokens : List Token) (fault : SourceFault)
+    → (fault.code ≡ Syntax → (tree : UnitTree) → ¬ IsTreeOf tokens tree)
+    → (fault.code ≡ TooDeep → IsLimitPassed tokens fault.at)
+    → (fault.code ≡ UnknownDirective → IsRefusedLine tokens fault)
+    → (fault.code ≡ BadClause → IsRefusedLine tokens fault ⊎ IsBadAtomic tokens fault.at)
+    → (fault ≡ no_memory) ⊎ (fault.code ≡ Syntax) ⊎ (fault.code ≡ TooDeep) ⊎ (fault.code ≡ UnknownDirective)
+    ⊎ (fault.code ≡ BadClause)
+    → fault ≢ no_memory
+    → IsSyntaxFault tokens fault
+syntax_fault tokens fault syntax deep unknown bad (inl none) memory = absurd (memory none)
+syntax_fault tokens fault syntax deep unknown bad (inr (inl e)) memory = inl (e, syntax e)
+syntax_fault tokens fault syntax deep unknown bad (inr (inr (inl e))) memory = inr (inl (e, deep e))
+syntax_fault tokens fault syntax deep unknown bad (inr (inr (inr (inl e)))) memory = inr (inr (inl (e, unknown e)))
+syntax_fault tokens fault syntax deep unknown bad (inr (inr (inr (inr e)))) memory = inr (inr (inr (e, bad e)))
 
 pub parser_refuses : {X : Type 0} (source : List ℕ) (tokens : List Token) (r : Result X SourceFault)
     → IsTokens source tokens
@@ -31,17 +47,13 @@ pub parser_refuses : {X : Type 0} (source : List ℕ) (tokens : List Token) (r :
     → IfErr r (λ fault. fault.code ≡ BadClause → IsRefusedLine tokens fault ⊎ IsBadAtomic tokens fault.at)
     → IfErr r (λ fault. (fault ≡ no_memory) ⊎ (fault.code ≡ Syntax) ⊎ (fault.code ≡ TooDeep)
     ⊎ (fault.code ≡ UnknownDirective) ⊎ (fault.code ≡ BadClause))
+    → IfErr r (λ fault. (fault ≡ no_memory) ⊎ (refusal_of tokens ≡ Some fault))
     → IfErr r (Refuses source)
-parser_refuses source tokens (Ok x) lexed syntax deep unknown bad other = tt
-parser_refuses source tokens (Err fault) lexed syntax deep unknown bad (inl none) = λ memory. absurd (memory none)
-parser_refuses source tokens (Err fault) lexed syntax deep unknown bad (inr (inl e)) = λ memory. by_parser tokens
-    lexed (inl (e, syntax e))
-parser_refuses source tokens (Err fault) lexed syntax deep unknown bad (inr (inr (inl e))) = λ memory. by_parser
-    tokens lexed (inr (inl (e, deep e)))
-parser_refuses source tokens (Err fault) lexed syntax deep unknown bad (inr (inr (inr (inl e)))) = λ memory.
-    by_parser tokens lexed (inr (inr (inl (e, unknown e))))
-parser_refuses source tokens (Err fault) lexed syntax deep unknown bad (inr (inr (inr (inr e)))) = λ memory.
-    by_parser tokens lexed (inr (inr (inr (e, bad e))))
+parser_refuses source tokens (Ok x) lexed syntax deep unknown bad other one = tt
+parser_refuses source tokens (Err fault) lexed syntax deep unknown bad other (inl none) = λ memory. absurd
+    (memory none)
+parser_refuses source tokens (Err fault) lexed syntax deep unknown bad other (inr one) = λ memory. by_parser tokens
+    lexed (syntax_fault tokens fault syntax deep unknown bad other memory) one
 
 pub names_refuse : {X : Type 0} (source : List ℕ) (tree : UnitTree) (r : Result X SourceFault)
     → IsTreeOfSource source tree

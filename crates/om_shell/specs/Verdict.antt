@@ -8,6 +8,7 @@ use Rattle.om_parser.specs.Faults.{IsBadAtomic}
 use Rattle.om_parser.specs.LineFaults.{IsRefusedLine}
 use Rattle.om_tree.specs.Sizes.{IsWithinLimits, AtomicsHaveForms}
 use Rattle.om_parser.specs.Parsing.{IsTreeOf, IsLimitPassed}
+use Rattle.om_parser.specs.Refusals.{refusal_of}
 use Rattle.om_tree.specs.Tree.{UnitTree}
 use Rattle.om_rules.specs.Breaches.{breaches_of}
 use Rattle.om_rules.specs.Faults.{first_of}
@@ -48,10 +49,12 @@ IsSyntaxFault tokens fault = ((fault.code ≡ Syntax) × ((tree : UnitTree) → 
     ⊎ ((fault.code ≡ UnknownDirective) × IsRefusedLine tokens fault)
     ⊎ ((fault.code ≡ BadClause) × (IsRefusedLine tokens fault ⊎ IsBadAtomic tokens fault.at))
 
--- why a source is refused: the passes run in the order lexer, parser, names, code, and the first that refuses answers
+-- why a source is refused: the passes run in the order lexer, parser, names, code, and the first that refuses answers.
+-- Tokens have one refusal by the parser at most
 pub data IsRefused (source : List ℕ) (fault : SourceFault) : Type 0 where
   by_lexer : IsFault source fault.code fault.at → IsRefused source fault
-  by_parser : (tokens : List Token) → IsTokens source tokens → IsSyntaxFault tokens fault → IsRefused source fault
+  by_parser : (tokens : List Token) → IsTokens source tokens → IsSyntaxFault tokens fault
+      → refusal_of tokens ≡ Some fault → IsRefused source fault
   by_names : (tree : UnitTree) → IsTreeOfSource source tree → first_of (breaches_of tree) ≡ Some fault
       → IsRefused source fault
   by_code : (resolved : ResolvedTree) → IsResolutionOfSource source resolved → IsTooMany resolved fault
