@@ -148,8 +148,8 @@ fn edit_stack(alloc: Global, stack: &mut Stack, edit: Edit) -> Result<Outlook, A
     requires { Counts edit stack.old }
     ensures { IfOk result (λ outlook. foreseen outlook stack.new ≡ edited edit stack.old) }
 {
-    match edit {
-        Edit::Go { to, takes, pushed } => stack.top.frame.go(to, takes, pushed)?,
+    let edited = match edit {
+        Edit::Go { to, takes, pushed } => stack.top.frame.go(to, takes, pushed),
         Edit::BeginFrame {
             to,
             takes,
@@ -157,20 +157,30 @@ fn edit_stack(alloc: Global, stack: &mut Stack, edit: Edit) -> Result<Outlook, A
             homes,
         } => {
             stack.top.frame.go(to, takes, None)?;
-            stack.top.begin_frame(alloc, body, homes)?;
+            stack.top.begin_frame(alloc, body, homes)
         }
-        Edit::EndFrame(value) => stack.top.end_frame(alloc, value)?,
-        Edit::BeginContext(context) => stack.begin_context(alloc, context)?,
+        Edit::EndFrame(value) => stack.top.end_frame(alloc, value),
+        Edit::BeginContext(context) => stack.begin_context(alloc, context),
         Edit::EndContext => return Ok(Outlook::Returns),
-        Edit::Open(construct) => stack.top.constructs.put(alloc, 0, construct)?,
-        Edit::Close => stack.top.constructs.drop_top(alloc, 1)?,
-        Edit::Replace(construct) => stack.top.constructs.put(alloc, 1, construct)?,
-        Edit::CountBirth => stack.top.births += 1,
-        Edit::CountRegion => stack.top.regions += 1,
-        Edit::CountPhase => stack.top.phase += 1,
+        Edit::Open(construct) => stack.top.constructs.put(alloc, 0, construct),
+        Edit::Close => stack.top.constructs.drop_top(alloc, 1),
+        Edit::Replace(construct) => stack.top.constructs.put(alloc, 1, construct),
+        Edit::CountBirth => {
+            stack.top.births += 1;
+            Ok(())
+        }
+        Edit::CountRegion => {
+            stack.top.regions += 1;
+            Ok(())
+        }
+        Edit::CountPhase => {
+            stack.top.phase += 1;
+            Ok(())
+        }
         Edit::Fail(fault) => return Ok(Outlook::Fails(fault)),
         Edit::End(value) => return Ok(Outlook::Ends(value)),
-    }
+    };
+    edited?;
     Ok(Outlook::Runs)
 }
 

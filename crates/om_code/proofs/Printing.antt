@@ -1,6 +1,7 @@
 -- What PRINT finds: its text, and as many ints as the text takes.
 use Rattle.std.proofs.Common.{◌≡◌, ℕ, suc, ℤ, Bool, true, false, List, [], ◌∷◌, length, get_or, take, reverse, Option}
 use Rattle.std.proofs.Common.{Some, None, refl, sym, ap, ◌∙◌, nat_le, slice_get, unwrap_or, option_map, if◌then◌else◌}
+use Rattle.std.proofs.Common.{◌<◌, ◌+◌, ◌++◌, drop, append_assoc, add-one, drop-cons}
 use Rattle.std.specs.Prelude.{IsSomeAnd}
 use Rattle.std.proofs.lemmas.Bool.{leb-true}
 use Rattle.std.proofs.lemmas.List.{length-reverse, length-take-le}
@@ -54,3 +55,20 @@ pub bytes_are : (raw : Raw) (text n : ℕ) (s : List Operand) (pieces : List Pie
 bytes_are raw text n s pieces vs found on =
     ap (λ o. printed (unwrap_or o []) vs) (sym found) ∙ ap (λ o. printed (unwrap_or (slice_get raw.texts text) [])
     (unwrap_or o [])) (sym on)
+
+ints_with : (vs : List ℤ) (v : ℤ) (o : Option (List ℤ)) → option_map (λ rest. (vs ++ v ∷ []) ++ rest) o
+    ≡ option_map (λ rest. vs ++ rest) (option_map (λ rest. v ∷ rest) o)
+ints_with vs v None = refl
+ints_with vs v (Some rest) = ap Some (append_assoc vs (v ∷ []) rest)
+
+-- an int more was read, and pushed
+pub ints_further : (i : ℕ) (s : List Operand) (d : Operand) (vs : List ℤ) (v w : ℤ) → i < length s
+    → get_or s i d ≡ operand.Int v → w ≡ v → option_map (λ rest. vs ++ rest) (ints (drop i s)) ≡ ints s
+    → option_map (λ rest. (vs ++ w ∷ []) ++ rest) (ints (drop (i + 1) s)) ≡ ints s
+ints_further i s d vs v w h is same so =
+    ap (λ n. option_map (λ rest. (vs ++ n ∷ []) ++ rest) (ints (drop (i + 1) s))) same
+    ∙ ap (λ j. option_map (λ rest. (vs ++ v ∷ []) ++ rest) (ints (drop j s))) (add-one i)
+    ∙ ints_with vs v (ints (drop (suc i) s))
+    ∙ ap (λ x. option_map (λ rest. vs ++ rest) (ints (x ∷ drop (suc i) s))) (sym is)
+    ∙ ap (λ l. option_map (λ rest. vs ++ rest) (ints l)) (sym (drop-cons s i d h))
+    ∙ so
