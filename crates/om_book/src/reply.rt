@@ -5,7 +5,7 @@ ghost use Rattle.om_book.specs.Runs.{is_done};
 
 use om_cells::{Entry, Val};
 use om_foot::Name;
-use om_history::{RollReply, StepReply, Taken, UndoReply};
+use om_history::{RollReply, StepReply, UndoReply};
 use om_same::Same;
 use om_seq::Seq;
 use std::alloc::{AllocError, Global};
@@ -41,16 +41,17 @@ impl Reply {
             Reply::Undo(reply) => Ok(Reply::Undo(*reply)),
             Reply::Roll(reply) => Ok(Reply::Roll(copy_roll(alloc, reply)?)),
             Reply::Value(value) => Ok(Reply::Value(value.copy(alloc)?)),
-            Reply::Ready(names) => Ok(Reply::Ready(Seq::of(Vec::from_slice(
-                alloc,
-                names.as_slice(),
-            )?))),
-            Reply::Entries(entries) => Ok(Reply::Entries(Seq::of(Vec::from_slice(
-                alloc,
-                entries.as_slice(),
-            )?))),
+            Reply::Ready(names) => Ok(Reply::Ready(copied(alloc, names)?)),
+            Reply::Entries(entries) => Ok(Reply::Entries(copied(alloc, entries)?)),
         }
     }
+}
+
+/// A copy of a list; its only error is out of memory.
+fn copied<T: Copy>(alloc: Global, items: &Seq<T>) -> Result<Seq<T>, AllocError>
+    ensures { IfOk result (λ copy. copy ≡ items.now) }
+{
+    Ok(Seq::of(Vec::from_slice(alloc, items.as_slice())?))
 }
 
 /// A copy of a roll's reply; its only error is out of memory.
@@ -58,10 +59,7 @@ fn copy_roll(alloc: Global, reply: &RollReply) -> Result<RollReply, AllocError>
     ensures { IfOk result (λ copy. copy ≡ reply.now) }
 {
     match reply {
-        RollReply::Rolled(taken) => {
-            let taken: Vec<Taken> = Vec::from_slice(alloc, taken.as_slice())?;
-            Ok(RollReply::Rolled(Seq::of(taken)))
-        }
+        RollReply::Rolled(taken) => Ok(RollReply::Rolled(copied(alloc, taken)?)),
         RollReply::NoEntry => Ok(RollReply::NoEntry),
     }
 }

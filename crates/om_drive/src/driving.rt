@@ -4,7 +4,7 @@ ghost use Rattle.std.specs.Prelude.{◌≡◌, ◌≤◌, ◌+◌, ◌++◌, [],
 ghost use Rattle.om_drive.specs.Rounds.{answer_number, in_rounds, Begins};
 
 use crate::order::{Answer, Fault, Order};
-use crate::rounds::ask_all;
+use crate::rounds::{ask_all, push_within};
 use crate::worker::{Debuggee, Gate, Worker};
 use crossbeam_channel::{Receiver, Sender, bounded};
 use std::alloc::Global;
@@ -158,10 +158,7 @@ fn drive_from<
             debuggee
         }
     };
-    match ranks.back.push(debuggee) {
-        Ok(()) => {}
-        Err(_) => unreachable!(),
-    }
+    push_within(&mut ranks.back, debuggee);
 }
 
 /// That a debuggee comes back as the one that it was.

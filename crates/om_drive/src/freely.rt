@@ -6,6 +6,7 @@ ghost use Rattle.om_drive.specs.Steps.{steps_in, steps_of};
 
 use crate::driving::Crew;
 use crate::order::Fault;
+use crate::rounds::push_within;
 use crate::runner::{Ran, Runner};
 use crate::sitter::{sit_down, stand_up};
 use crate::worker::{Debuggee, Gate};
@@ -257,10 +258,7 @@ impl<D: Debuggee + Drop, G> Line<D, G> {
             error,
         } = ran;
         self.tally = self.tally.with(done, error);
-        match self.back.push(debuggee) {
-            Ok(()) => {}
-            Err(_) => unreachable!(),
-        }
+        push_within(&mut self.back, debuggee);
     }
 }
 

@@ -73,10 +73,11 @@ fn await_one<R: Wait>(
 }
 
 /// Adds an item where there is room for it.
-fn push_within<T: Drop>(items: &mut Vec<T>, item: T)
+pub(crate) fn push_within<T: Drop>(items: &mut Vec<T>, item: T)
     requires { vec_len items.old < vec_capacity items.old }
     ensures items { items.new.items ≡ items.old.items ++ item ∷ [] }
     ensures one_more { vec_len items.new ≡ vec_len items.old + 1 }
+    ensures capacity { vec_capacity items.old ≤ vec_capacity items.new }
 {
     let Ok(()) = items.push(item) else {
         unreachable!();

@@ -120,7 +120,9 @@ impl<G: Gate + Drop, D: Debuggee + Drop> Runner<G, D> {
         ensures steps { steps_in (D.made self.new.debuggee) ≡ steps_in (D.made self.old.debuggee) }
     {
         let reply = self.debuggee.call(rt, Command::Look(Query::Ready))?;
-        Ok(first_name(&reply))
+        let first = first_name(&reply);
+        drop(reply);
+        Ok(first)
     }
 
     /// Steps by a choice.
@@ -135,10 +137,12 @@ impl<G: Gate + Drop, D: Debuggee + Drop> Runner<G, D> {
     {
         let worker = self.worker;
         let reply = self.debuggee.call(rt, Command::Step { worker, choice })?;
-        Ok(Came {
+        let came = Came {
             made: reply.is_done(),
             waits: waits_for_tasks(&reply),
-        })
+        };
+        drop(reply);
+        Ok(came)
     }
 }
 

@@ -3,6 +3,7 @@
 ghost use Rattle.std.specs.Prelude.{◌≡◌, ◌≤◌, ◌+◌, ◌++◌, [], ℕ, map, vec_len, vec_capacity};
 ghost use Rattle.om_drive.specs.Calls.{place_of, last_place_in};
 
+use crate::rounds::push_within;
 use crate::worker::Debuggee;
 use om_book::{CallError, Command, Reply};
 use om_session::{Receipt, Seat, Session, Sitting};
@@ -68,14 +69,12 @@ pub(crate) fn sit_down<'s, L: Sitting>(
         return;
     };
     sit_down(session, alloc, seats, sitters);
-    match sitters.push(Sitter {
+    let sitter = Sitter {
         session,
         alloc,
         seat,
-    }) {
-        Ok(()) => {}
-        Err(_) => unreachable!(),
-    }
+    };
+    push_within(sitters, sitter);
 }
 
 /// Takes the seats back, in their order.
@@ -91,8 +90,5 @@ pub(crate) fn stand_up<L: Sitting>(sitters: &mut Vec<Sitter<'_, L>>, seats: &mut
         return;
     };
     stand_up(sitters, seats);
-    match seats.push(seat) {
-        Ok(()) => {}
-        Err(_) => unreachable!(),
-    }
+    push_within(seats, seat);
 }

@@ -1,12 +1,13 @@
 //! The members of a team: the workers that they need, and what they begin with.
 
-ghost use Rattle.std.specs.Prelude.{◌≡◌, ◌++◌, ◌∷◌, [], ◌-◌, ◌≤◌, IfOk, OnOk, length};
+ghost use Rattle.std.specs.Prelude.{◌≡◌, ◌++◌, ◌∷◌, [], ◌-◌, ◌≤◌, IfOk, OnOk, None, length};
 ghost use Rattle.om_cells.specs.Stores.{state_of};
 ghost use Rattle.om_cells.specs.declared.value.Val.TheVariants as value;
 ghost use Rattle.om_fork.specs.Teams.{first_frame, member, workers_from, busy_in, member_controls, member_cells, member_puts};
 
 use om_cells::{
-    Context, Control, Frame, Home, Kind, Shared, SharedPile, Stack, Store, Team, Update, Val,
+    Construct, Context, Control, Frame, Home, Kind, Shared, SharedPile, Stack, Store, Team, Update,
+    Val,
 };
 use om_foot::{Access, Mode, Name, Obj};
 use om_row::names::{name, name_given};
@@ -80,24 +81,60 @@ pub(crate) fn name_members(
     Ok(())
 }
 
+/// What a member of a team stands in: its name, its team and its group.
+#[derive(Drop)]
+struct Standing {
+    task: Shared<Name>,
+    team: Shared<Team>,
+    group: Shared<Option<Name>>,
+}
+
+/// Where a member of a team stands: in no group.
+fn member_standing(alloc: Global, team: &Team) -> Result<Standing, AllocError>
+    requires { length team.now.name ≤ 63 }
+    ensures { IfOk result
+        (λ s. s ≡ record {
+          task = team.now.name ++ team.now.number ∷ [];
+          team = team.now;
+          group = None;
+        }) }
+{
+    Ok(Standing {
+        task: Shared::of(alloc, member_name(&team.name, team.number))?,
+        team: Shared::of(alloc, *team)?,
+        group: Shared::of(alloc, None)?,
+    })
+}
+
+/// The regions and the waiting frames of a task that begins: none.
+fn nothing_open(alloc: Global) -> Result<(SharedPile<Construct>, SharedPile<Frame>), AllocError>
+    ensures { IfOk result (λ piles. (piles.0 ≡ []) × (piles.1 ≡ [])) }
+{
+    let constructs = SharedPile::new(alloc)?;
+    let callers = SharedPile::new(alloc)?;
+    Ok((constructs, callers))
+}
+
 /// A member of a team, at the start of a frame.
 pub(crate) fn member(alloc: Global, team: &Team, frame: &Frame) -> Result<Context, AllocError>
     requires { length team.now.name ≤ 63 }
     ensures { IfOk result (λ context. context ≡ member team.now frame.now) }
 {
     let frame = frame.copy(alloc)?;
+    let Standing { task, team, group } = member_standing(alloc, team)?;
+    let (constructs, callers) = nothing_open(alloc)?;
     Ok(Context {
-        task: Shared::of(alloc, member_name(&team.name, team.number))?,
+        task,
         kind: Kind::Implicit,
-        team: Shared::of(alloc, *team)?,
+        team,
         phase: 0,
         births: 0,
         regions: 0,
         frames: 1,
-        group: Shared::of(alloc, None)?,
-        constructs: SharedPile::new(alloc)?,
+        group,
+        constructs,
         frame,
-        callers: SharedPile::new(alloc)?,
+        callers,
     })
 }
 
@@ -115,8 +152,16 @@ fn put_member(
         ∷ []) }
 {
     let top = member(alloc, team, frame)?;
-    let below = SharedPile::new(alloc)?;
-    updates.push(Update::Put(Val::Control(Control::Running(Stack { top, below }))))
+    match SharedPile::new(alloc) {
+        Ok(below) => updates.push(Update::Put(Val::Control(Control::Running(Stack {
+            top,
+            below,
+        })))),
+        Err(error) => {
+            drop(top);
+            Err(error)
+        }
+    }
 }
 
 /// Appends the controls that the other workers of a team become.

@@ -31,6 +31,20 @@ product_is n y z step h f e g =
     ∙ ap (λ k. to_z w128 (of_z w128 (pos n *ℤ k))) g
     ∙ to_z-of_z w128 (pos n *ℤ step) (abs_fits (pos n *ℤ step) (abs_of_product n step h f))
 
+pub product_fits : (n : ℕ) (y z step : ℤ) → n < 2 ^ 64 → FitsSigned w32 step → y ≡ pos n → z ≡ step
+    → FitsSigned w128 (y *ℤ z)
+product_fits n y z step h f e g =
+    subst (λ k. FitsSigned w128 (k *ℤ z)) (sym e)
+    (subst (λ k. FitsSigned w128 (pos n *ℤ k)) (sym g)
+    (abs_fits (pos n *ℤ step) (abs_of_product n step h f)))
+
+pub value_fits : (n : ℕ) (x y z lower step : ℤ) → n < 2 ^ 64 → FitsSigned w32 lower → FitsSigned w32 step → x ≡ lower
+    → y ≡ pos n → z ≡ step → FitsSigned w128 (x +ℤ to_z w128 (of_z w128 (y *ℤ z)))
+value_fits n x y z lower step h f g d e k =
+    subst (λ q. FitsSigned w128 (q +ℤ to_z w128 (of_z w128 (y *ℤ z)))) (sym d)
+    (subst (λ q. FitsSigned w128 (lower +ℤ q)) (sym (product_is n y z step h g e k))
+    (sum_fits lower (pos n *ℤ step) f (abs_of_product n step h g)))
+
 pub value_is : (n : ℕ) (x y z lower step : ℤ) → n < 2 ^ 64 → FitsSigned w32 lower → FitsSigned w32 step → x ≡ lower
     → y ≡ pos n → z ≡ step
     → to_z w128 (of_z w128 (x +ℤ to_z w128 (of_z w128 (y *ℤ z)))) ≡ lower +ℤ pos n *ℤ step

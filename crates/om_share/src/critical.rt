@@ -7,8 +7,8 @@ ghost use Rattle.om_row.specs.Objects.{innermost};
 ghost use Rattle.om_row.specs.Rows.{answered};
 ghost use Rattle.om_share.specs.Rows.{ask_critical_row, lock_row, enter_critical_row, is_critical, unlock_row, leave_critical_row};
 
-use crate::parts::{At, edits, recorded, update_and_event, written_and_events};
-use om_cells::{Blocked, Construct, Context, Edit, Shared, Store, Update, Val};
+use crate::parts::{At, edits, opened, recorded, update_and_event, written_and_events};
+use om_cells::{Blocked, Construct, Context, Edit, Store, Update, Val};
 use om_events::Record;
 use om_foot::Obj;
 use om_row::names::innermost;
@@ -54,8 +54,7 @@ fn lock(
     let lock = copied(alloc, name)?;
     let put = Update::Put(Val::Lock(Some(at.worker)));
     let updates = update_and_event(alloc, put, Record::MutexAcquired { lock })?;
-    let region = Edit::Open(Shared::of(alloc, Construct::Critical(number))?);
-    let edits = edits(alloc, at.to, 0, region)?;
+    let edits = opened(alloc, at.to, 0, &Construct::Critical(number))?;
     Ok(Row::Goes { edits, updates })
 }
 

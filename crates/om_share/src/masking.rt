@@ -7,8 +7,8 @@ ghost use Rattle.om_row.specs.Objects.{innermost};
 ghost use Rattle.om_row.specs.Rows.{answered};
 ghost use Rattle.om_share.specs.Rows.{filtered_row, masked_row, is_masked, end_masked_row};
 
-use crate::parts::{At, Branch, edits, jump, own_events, recorded};
-use om_cells::{Construct, Context, Edit, Shared};
+use crate::parts::{At, Branch, edits, jump, opened, own_events, recorded};
+use om_cells::{Construct, Context, Edit};
 use om_events::{Endpoint, Record};
 use om_row::names::innermost;
 use om_row::{Answer, Row};
@@ -38,8 +38,7 @@ fn filter(
         (filtered_row worker branch.to branch.otherwise context.now runs) s) }
 {
     if runs {
-        let region = Edit::Open(Shared::of(alloc, Construct::Masked)?);
-        let edits = edits(alloc, branch.to, 1, region)?;
+        let edits = opened(alloc, branch.to, 1, &Construct::Masked)?;
         let entry = masked_record(context, Endpoint::Begin);
         return recorded(alloc, worker, edits, entry);
     }

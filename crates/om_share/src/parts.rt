@@ -43,6 +43,19 @@ pub(crate) fn edits(alloc: Global, to: u32, takes: u32, edit: Edit) -> Result<Se
     Ok(edits)
 }
 
+/// The edits that go to a place with so many operands taken, and open a region.
+pub(crate) fn opened(
+    alloc: Global,
+    to: u32,
+    takes: u32,
+    region: &Construct,
+) -> Result<Seq<Edit>, AllocError>
+    ensures { IfOk result (λ es. es ≡ edits to takes (Edit.Open region.now)) }
+{
+    let region = Shared::of(alloc, *region)?;
+    edits(alloc, to, takes, Edit::Open(region))
+}
+
 /// The edits that go to a place with so many operands taken, and open a worksharing region.
 pub(crate) fn begun(
     alloc: Global,
@@ -52,14 +65,9 @@ pub(crate) fn begun(
 ) -> Result<Seq<Edit>, AllocError>
     ensures { IfOk result (λ es. es ≡ begun to takes region.now) }
 {
-    let go = Edit::Go {
-        to,
-        takes,
-        pushed: None,
-    };
-    let mut edits = Seq::one(alloc, go)?;
-    edits.push(Edit::CountRegion)?;
-    edits.push(Edit::Open(Shared::of(alloc, *region)?))?;
+    let mut edits = edits(alloc, to, takes, Edit::CountRegion)?;
+    let region = Shared::of(alloc, *region)?;
+    edits.push(Edit::Open(region))?;
     Ok(edits)
 }
 

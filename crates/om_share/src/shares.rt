@@ -4,10 +4,12 @@ ghost use Rattle.std.specs.Prelude.{◌≡◌, ◌<◌, ◌+◌, ◌^◌, ◌∷
 ghost use Rattle.om_cells.specs.State.{State};
 ghost use Rattle.om_cells.specs.Stores.{state_of};
 ghost use Rattle.om_foot.specs.declared.object.Obj.TheVariants as obj;
+ghost use Rattle.om_code.specs.declared.frame.Cell.TheVariants as cell;
+ghost use Rattle.om_cells.specs.declared.value.Val.TheVariants as values;
 ghost use Rattle.om_row.specs.Objects.{write};
 ghost use Rattle.om_row.specs.Rows.{answered};
 ghost use Rattle.om_share.specs.Chunks.{value_of};
-ghost use Rattle.om_share.specs.Rows.{is_right_schedule, is_right_form, loop_of, is_loop, work_of, open_row, loop_row, sections_row, share_in, in_chunk, taken_row, given_row, static_row, grab_row, int_of, iteration_row, iterate_row, is_section, section_row, pick_row};
+ghost use Rattle.om_share.specs.Rows.{edits, is_right_schedule, is_right_form, loop_of, is_loop, work_of, open_row, loop_row, sections_row, share_in, in_chunk, taken_row, given_row, static_row, grab_row, int_of, iteration_row, iterate_row, is_section, section_row, pick_row};
 
 use crate::chunk::{Chunk, chunk_within, count_of, static_chunk, step_size};
 use crate::parts::{At, Branch, begun, edits, jump, recorded, share_in, work_record, written};
@@ -161,6 +163,14 @@ fn in_chunk(share: Share, taken: u64, chunk: Chunk) -> Construct
     })
 }
 
+/// The edits that go to a place, and let a share take the place of the innermost region.
+fn replaced(alloc: Global, to: u32, share: &Construct) -> Result<Seq<Edit>, AllocError>
+    ensures { IfOk result (λ es. es ≡ edits to 0 (Edit.Replace share.now)) }
+{
+    let share = Shared::of(alloc, *share)?;
+    edits(alloc, to, 0, Edit::Replace(share))
+}
+
 /// What comes of a member's next chunk under a static schedule.
 fn take(
     alloc: Global,
@@ -174,9 +184,8 @@ fn take(
     let Some(chunk) = chunk else {
         return jump(alloc, branch.otherwise, 0);
     };
-    let region = in_chunk(share, share.taken + 1, chunk);
-    let region = Edit::Replace(Shared::of(alloc, region)?);
-    let edits = edits(alloc, branch.to, 0, region)?;
+    let region = &in_chunk(share, share.taken + 1, chunk);
+    let edits = replaced(alloc, branch.to, region)?;
     let updates = Seq::new(alloc);
     Ok(Row::Goes { edits, updates })
 }
@@ -193,9 +202,8 @@ fn give(
     let Some(chunk) = chunk else {
         return jump(alloc, branch.otherwise, 0);
     };
-    let region = in_chunk(share, share.taken, chunk);
-    let region = Edit::Replace(Shared::of(alloc, region)?);
-    let edits = edits(alloc, branch.to, 0, region)?;
+    let region = &in_chunk(share, share.taken, chunk);
+    let edits = replaced(alloc, branch.to, region)?;
     let updates = Seq::one(alloc, Update::Put(Val::Number(chunk.end)))?;
     Ok(Row::Goes { edits, updates })
 }
@@ -297,6 +305,21 @@ fn is_loop(sharing: Sharing) -> bool
     matches!(sharing, Sharing::Loop)
 }
 
+/// The row that begins an iteration of this value.
+fn iterated(alloc: Global, to: u32, share: Share, value: i32) -> Result<Row, AllocError>
+    requires { share.next + 1 < 2 ^ 64 }
+    ensures { IfOk result
+        (λ row. row ≡ Row.Goes
+        (edits to 0 (Edit.Replace (Construct.Share (record share { next = share.next + 1 }))))
+        (Update.Put (values.Cell (cell.Int value)) ∷ [])) }
+{
+    let next = share.next + 1;
+    let region = &Construct::Share(Share { next, ..share });
+    let edits = replaced(alloc, to, region)?;
+    let updates = Seq::one(alloc, Update::Put(Val::Cell(Cell::Int(value))))?;
+    Ok(Row::Goes { edits, updates })
+}
+
 /// Begins an iteration, where one is left in the chunk.
 fn next_iteration(
     alloc: Global,
@@ -319,12 +342,7 @@ fn next_iteration(
     };
     let variable = &object_of(context, Place::Slot(slot), 0);
     let names = written(alloc, variable)?;
-    let next = share.next + 1;
-    let region = Construct::Share(Share { next, ..share });
-    let region = Edit::Replace(Shared::of(alloc, region)?);
-    let edits = edits(alloc, branch.to, 0, region)?;
-    let updates = Seq::one(alloc, Update::Put(Val::Cell(Cell::Int(value))))?;
-    let row = Row::Goes { edits, updates };
+    let row = iterated(alloc, branch.to, share, value)?;
     Ok(Answer { names, row })
 }
 

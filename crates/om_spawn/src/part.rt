@@ -60,7 +60,7 @@ pub(crate) fn go_and(
     ensures { IfOk result (λ edits. edits ≡ Edit.Go to takes None ∷ then ∷ []) }
 {
     let pushed = None;
-    let mut edits = Seq::one(alloc, Edit::Go { to, takes, pushed })?;
-    edits.push(then)?;
+    let mut edits = Seq::one(alloc, then)?;
+    edits.push_front(Edit::Go { to, takes, pushed })?;
     Ok(edits)
 }

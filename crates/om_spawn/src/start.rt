@@ -10,7 +10,8 @@ ghost use Rattle.om_spawn.specs.Rows.{begun_updates, ready_for, start_row};
 
 use crate::part::{name_with_events, update_with_event};
 use om_cells::{
-    Blocked, Context, Edit, Frame, Home, Kind, Ready, Shared, SharedPile, Store, Task, Update, Val,
+    Blocked, Construct, Context, Edit, Frame, Home, Kind, Ready, Shared, SharedPile, Store, Task,
+    Team, Update, Val,
 };
 use om_events::{Record, TaskStatus};
 use om_foot::{Mode, Name, Obj};
@@ -30,17 +31,58 @@ pub struct Starting {
     pub admits: bool,
 }
 
-/// The frame with which a task begins on a body.
-fn first_frame(alloc: Global, body: u32, homes: &Shared<Seq<Home>>) -> Result<Frame, AllocError>
-    ensures { IfOk result (λ frame. frame ≡ first_frame body homes.now) }
+/// The frame with which a task begins on a body. It takes no memory.
+fn first_frame(alloc: Global, body: u32, homes: Shared<Seq<Home>>) -> Frame
+    ensures { result ≡ first_frame body homes }
 {
-    Ok(Frame {
+    Frame {
         body,
         next: 0,
         ordinal: 0,
         operands: Pile::new(alloc),
-        homes: homes.copy()?,
+        homes,
+    }
+}
+
+/// What a started task stands in: its name, its team and its group, and the homes of its frame.
+#[derive(Drop)]
+struct Standing {
+    task: Shared<Name>,
+    team: Shared<Team>,
+    group: Shared<Option<Name>>,
+    homes: Shared<Seq<Home>>,
+}
+
+/// Where the task of a name stands that is started on another context.
+fn task_standing(
+    alloc: Global,
+    name: &Name,
+    on: &Context,
+    ready: &Ready,
+) -> Result<Standing, AllocError>
+    ensures { IfOk result
+        (λ s. s ≡ record {
+          task = name.now;
+          team = on.now.team;
+          group = ready.now.group;
+          homes = ready.now.homes;
+        }) }
+{
+    Ok(Standing {
+        task: Shared::of(alloc, *name)?,
+        team: on.team.copy()?,
+        group: ready.group.copy()?,
+        homes: ready.homes.copy()?,
     })
+}
+
+/// The regions and the waiting frames of a task that begins: none.
+fn nothing_open(alloc: Global) -> Result<(SharedPile<Construct>, SharedPile<Frame>), AllocError>
+    ensures { IfOk result (λ piles. (piles.0 ≡ []) × (piles.1 ≡ [])) }
+{
+    let constructs = SharedPile::new(alloc)?;
+    let callers = SharedPile::new(alloc)?;
+    Ok((constructs, callers))
 }
 
 /// The context of a task that is started on another context.
@@ -52,19 +94,25 @@ fn task_context(
 ) -> Result<Context, AllocError>
     ensures { IfOk result (λ context. context ≡ task_context name.now on.now ready.now) }
 {
-    let frame = first_frame(alloc, ready.body, &ready.homes)?;
+    let Standing {
+        task,
+        team,
+        group,
+        homes,
+    } = task_standing(alloc, name, on, ready)?;
+    let (constructs, callers) = nothing_open(alloc)?;
     Ok(Context {
-        task: Shared::of(alloc, *name)?,
+        task,
         kind: Kind::Explicit,
-        team: on.team.copy()?,
+        team,
         phase: ready.phase,
         births: 0,
         regions: 0,
         frames: 1,
-        group: ready.group.copy()?,
-        constructs: SharedPile::new(alloc)?,
-        frame,
-        callers: SharedPile::new(alloc)?,
+        group,
+        constructs,
+        frame: first_frame(alloc, ready.body, homes),
+        callers,
     })
 }
 

@@ -107,8 +107,34 @@ fn control_answer(
     }
 }
 
+/// A control behind these edits.
+fn changed(alloc: Global, control: &Control, edits: Seq<Edit>) -> Result<Val, AllocError>
+    requires { HaveRoom edits control.now }
+    ensures { IfOk result (λ v. v ≡ value.Control (changed edits control.now)) }
+{
+    let mut changed = control.copy(alloc)?;
+    match changed.change(alloc, edits) {
+        Ok(()) => Ok(Val::Control(changed)),
+        Err(error) => {
+            drop(changed);
+            Err(error)
+        }
+    }
+}
+
+/// An item, and the others behind it. They are kept as long as a step stands, so they have no room
+/// to spare.
+fn before<T: Drop>(alloc: Global, item: T, others: Seq<T>) -> Result<Seq<T>, AllocError>
+    ensures { IfOk result (λ all. all ≡ item ∷ others) }
+{
+    let mut all = Seq::of(Vec::with_capacity(alloc, others.len().saturating_add(1))?);
+    all.push(item)?;
+    all.append(others)?;
+    Ok(all)
+}
+
 /// What comes of edits of a control and of further updates. What takes them back is kept in their
-/// place, so they have no room to spare.
+/// place.
 fn going(
     alloc: Global,
     control: &Control,
@@ -120,12 +146,9 @@ fn going(
         (λ outcome. outcome ≡ Outcome.Updates
         (Update.Put (value.Control (changed edits control.now)) ∷ updates)) }
 {
-    let mut changed = control.copy(alloc)?;
-    changed.change(alloc, edits)?;
-    let mut all = Seq::of(Vec::with_capacity(alloc, updates.len().saturating_add(1))?);
-    all.push(Update::Put(Val::Control(changed)))?;
-    all.append(updates)?;
-    Ok(Outcome::Updates(all))
+    let changed = changed(alloc, control, edits)?;
+    let updates = before(alloc, Update::Put(changed), updates)?;
+    Ok(Outcome::Updates(updates))
 }
 
 /// What comes of a row.
@@ -157,19 +180,15 @@ pub fn line(program: &Program, control: &Control) -> u32
     }
 }
 
-/// What a worker's step touches that names these objects beside its control. It is kept as long as
-/// the step stands, so it has no room to spare.
+/// What a worker's step touches that names these objects beside its control.
 fn footprint(alloc: Global, worker: u8, names: Seq<Access>) -> Result<Seq<Access>, AllocError>
     ensures { IfOk result
         (λ footprint. footprint ≡ record { object = obj.Control worker; mode = Mode.Write }
         ∷ names) }
 {
-    let mut footprint = Seq::of(Vec::with_capacity(alloc, names.len().saturating_add(1))?);
     let object = Obj::Control(worker);
     let mode = Mode::Write;
-    footprint.push(Access { object, mode })?;
-    footprint.append(names)?;
-    Ok(footprint)
+    before(alloc, Access { object, mode }, names)
 }
 
 /// The plan of a worker's step that has this control.

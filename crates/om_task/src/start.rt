@@ -1,6 +1,6 @@
 //! The store in which a program starts.
 
-ghost use Rattle.std.specs.Prelude.{◌≡◌, ◌≤◌, IfOk, [], ◌∷◌};
+ghost use Rattle.std.specs.Prelude.{◌≡◌, ◌≤◌, IfOk, [], ◌∷◌, None};
 ghost use Rattle.om_code.specs.declared.frame.Cell.TheVariants as cells;
 ghost use Rattle.om_events.specs.declared.kind.Thread.TheVariants as thread;
 ghost use Rattle.om_events.specs.declared.event.Record.TheVariants as event_record;
@@ -9,7 +9,9 @@ ghost use Rattle.om_cells.specs.Stores.{state_of};
 ghost use Rattle.om_task.specs.Sites.{body_of};
 ghost use Rattle.om_task.specs.Rules.{first_context, first_control, first_records, initial_in, start_of};
 
-use om_cells::{Context, Control, Frame, Kind, Shared, SharedPile, Stack, Store, Team, Val};
+use om_cells::{
+    Construct, Context, Control, Frame, Kind, Shared, SharedPile, Stack, Store, Team, Val,
+};
 use om_code::frame::Cell;
 use om_code::program::Program;
 use om_code::raw::{Body, GlobalVariable};
@@ -55,6 +57,45 @@ fn first_frame(alloc: Global, program: &Program) -> Result<Frame, AllocError>
     })
 }
 
+/// What the initial task stands in: its name, its team and its group.
+#[derive(Drop)]
+struct Standing {
+    task: Shared<Name>,
+    team: Shared<Team>,
+    group: Shared<Option<Name>>,
+}
+
+/// Where the initial task stands: alone in a team, and in no group.
+fn first_standing(alloc: Global) -> Result<Standing, AllocError>
+    ensures { IfOk result
+        (λ s. s ≡ record {
+          task = 0 ∷ [];
+          team = record { name = []; number = 0; size = 1; level = 0 };
+          group = None;
+        }) }
+{
+    let team = Team {
+        name: Name::empty(),
+        number: 0,
+        size: 1,
+        level: 0,
+    };
+    Ok(Standing {
+        task: Shared::of(alloc, first_task())?,
+        team: Shared::of(alloc, team)?,
+        group: Shared::of(alloc, None)?,
+    })
+}
+
+/// The regions and the waiting frames of a task that begins: none.
+fn nothing_open(alloc: Global) -> Result<(SharedPile<Construct>, SharedPile<Frame>), AllocError>
+    ensures { IfOk result (λ piles. (piles.0 ≡ []) × (piles.1 ≡ [])) }
+{
+    let constructs = SharedPile::new(alloc)?;
+    let callers = SharedPile::new(alloc)?;
+    Ok((constructs, callers))
+}
+
 /// The context of the initial task, with its frame.
 fn first_context(alloc: Global, frame: Frame) -> Result<Context, AllocError>
     ensures { IfOk result
@@ -74,24 +115,20 @@ fn first_context(alloc: Global, frame: Frame) -> Result<Context, AllocError>
           callers = [];
         }) }
 {
-    let team = Team {
-        name: Name::empty(),
-        number: 0,
-        size: 1,
-        level: 0,
-    };
+    let Standing { task, team, group } = first_standing(alloc)?;
+    let (constructs, callers) = nothing_open(alloc)?;
     Ok(Context {
-        task: Shared::of(alloc, first_task())?,
+        task,
         kind: Kind::Initial,
-        team: Shared::of(alloc, team)?,
+        team,
         phase: 0,
         births: 0,
         regions: 0,
         frames: 1,
-        group: Shared::of(alloc, None)?,
-        constructs: SharedPile::new(alloc)?,
+        group,
+        constructs,
         frame,
-        callers: SharedPile::new(alloc)?,
+        callers,
     })
 }
 
@@ -101,8 +138,13 @@ fn first_control(alloc: Global, program: &Program) -> Result<Val, AllocError>
 {
     let frame = first_frame(alloc, program)?;
     let top = first_context(alloc, frame)?;
-    let below = SharedPile::new(alloc)?;
-    Ok(Val::Control(Control::Running(Stack { top, below })))
+    match SharedPile::new(alloc) {
+        Ok(below) => Ok(Val::Control(Control::Running(Stack { top, below }))),
+        Err(error) => {
+            drop(top);
+            Err(error)
+        }
+    }
 }
 
 /// What is recorded of the worker that runs the initial task.
