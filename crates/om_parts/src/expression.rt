@@ -10,7 +10,7 @@ ghost use Rattle.om_parts.specs.Reading.{Reads};
 ghost use Rattle.om_tree.specs.Tree.{ExpressionTree};
 ghost use Rattle.om_tree.specs.View.{view_argument, view_expression};
 
-use crate::boxed::boxed;
+use crate::boxed::boxed_before;
 use crate::front::{mark, name, syntax, take_mark, take_number, too_deep};
 use crate::operator::{
     joined, postfixed, prefixed, take_assign, take_looser, take_postfix, take_prefix, take_text,
@@ -477,5 +477,5 @@ pub fn before<'a>(
         (view_expression x.0.value, x.1.now)) result (Ok
         (view_expression expression, rest.now)) }
 {
-    Ok((boxed(alloc, expression)?, rest))
+    boxed_before(alloc, expression, rest)
 }

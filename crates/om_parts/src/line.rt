@@ -10,7 +10,7 @@ ghost use Rattle.om_parts.specs.LineReading.{alone, clause_value, in_run, is_syn
 ghost use Rattle.om_parts.specs.Reading.{Reads, ReadsAlways};
 ghost use Rattle.om_tree.specs.View.{view_directive, view_expression};
 
-use crate::boxed::boxed;
+use crate::boxed::boxed_before;
 use crate::front::syntax;
 use crate::part::enclosed;
 use om_lexer::{FaultCode, SourceFault, Token, TokenKind};
@@ -42,7 +42,7 @@ pub fn line(
         return Err(syntax(&[]));
     };
     let directive = line_of(alloc, run)?;
-    Ok((boxed(alloc, directive)?, rest))
+    boxed_before(alloc, directive, rest)
 }
 
 /// The directive of a run, with its expression.
@@ -103,7 +103,10 @@ fn with_value(
     };
     match clause_value(alloc, run, tokens) {
         Ok(value) => filled(alloc, directive, Some(Box::into_inner(value))),
-        Err(fault) => Err(fault),
+        Err(fault) => {
+            drop(directive);
+            Err(fault)
+        }
     }
 }
 

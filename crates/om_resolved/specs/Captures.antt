@@ -85,6 +85,28 @@ stand_alone_uses (alones.Flush vs) = flat_map variable_uses vs
 abbrev pub captured_variable : Capture → ℕ
 captured_variable capture = capture.variable
 
+-- of a statement, besides the statements in it; a `do` uses its condition behind its body
+abbrev pub own_uses : ResolvedStatementTree → List ℕ
+own_uses (Declaration at ds) = flat_map declarator_uses ds
+own_uses (Block at items) = []
+own_uses (Empty at) = []
+own_uses (Expression at e) = expression_uses e
+own_uses (If at c s) = expression_uses c
+own_uses (IfElse at c s t) = expression_uses c
+own_uses (While at c s) = expression_uses c
+own_uses (Do at s c) = []
+own_uses (For at start condition step s) = start_uses start ++ (perhaps_uses condition ++ perhaps_uses step)
+own_uses (Return at value) = perhaps_uses value
+own_uses (Break at) = []
+own_uses (Continue at) = []
+own_uses (Parallel at clauses captures s) = flat_map clause_uses clauses ++ map captured_variable captures
+own_uses (Task at clauses captures s) = flat_map clause_uses clauses ++ map captured_variable captures
+own_uses (Loop at clauses nowait l s) = flat_map clause_uses clauses ++ (expression_uses l.from ++ expression_uses l.to)
+own_uses (Sections at clauses nowait parts) = flat_map clause_uses clauses
+own_uses (Construct at kind clauses s) = flat_map clause_uses clauses
+own_uses (Update at u) = update_uses u
+own_uses (StandAlone at directive) = stand_alone_uses directive
+
 -- what a region uses from outside is used in those round it
 unfoldable mutual
   pub statement_uses : ResolvedStatementTree → List ℕ

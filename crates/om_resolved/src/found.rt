@@ -2,7 +2,7 @@
 
 ghost use Rattle.std.specs.Prelude.{◌≡◌, ◌++◌, [], OnOk, fold, map, nat_eq, option_map};
 ghost use Rattle.std.specs.List.{flat_map, list_any};
-ghost use Rattle.om_resolved.specs.Captures.{captured_variable, clause_uses, copy_uses, declarator_uses, expression_uses, perhaps_uses, stand_alone_uses, start_uses, parts_uses, statement_uses, statements_uses, update_uses, values_uses, variable_uses, with_use};
+ghost use Rattle.om_resolved.specs.Captures.{captured_variable, clause_uses, copy_uses, declarator_uses, expression_uses, own_uses, perhaps_uses, stand_alone_uses, start_uses, parts_uses, statement_uses, statements_uses, update_uses, values_uses, variable_uses, with_use};
 ghost use Rattle.om_resolved.specs.ResolvedTree as trees;
 ghost use Rattle.om_resolved.specs.ResolvedView.{view_resolved_clause, view_resolved_declarator, view_resolved_expression, view_resolved_part, view_resolved_start, view_resolved_statement, view_resolved_update};
 
@@ -335,6 +335,64 @@ fn take_update(found: &mut Found, start: u32, update: &ResolvedUpdate) -> Result
     take_expression(found, start, &update.operand)
 }
 
+/// Notes what a statement uses besides the statements in it. The condition of a `do` stands behind
+/// its body, so that nothing is noted of that one.
+#[tactic(auto, unfolding(crate::specs::Captures::statement_uses))]
+fn take_own(found: &mut Found, start: u32, statement: &ResolvedStatement) -> Result<(), AllocError>
+    ensures { OnOk result
+        (found.new ≡ fold (with_use start) found.old
+        (own_uses (view_resolved_statement statement.now))) }
+{
+    match statement {
+        ResolvedStatement::Declaration { declarators, .. } => {
+            take_declarators(found, start, declarators.as_slice())
+        }
+        ResolvedStatement::Expression { value: used, .. }
+        | ResolvedStatement::If {
+            condition: used,
+            ..
+        }
+        | ResolvedStatement::IfElse {
+            condition: used,
+            ..
+        }
+        | ResolvedStatement::While {
+            condition: used,
+            ..
+        } => take_expression(found, start, used),
+        ResolvedStatement::For { head, .. } => take_head(found, start, head),
+        ResolvedStatement::Return { value, .. } => take_perhaps(found, start, value),
+        ResolvedStatement::Parallel {
+            clauses,
+            captures,
+            ..
+        }
+        | ResolvedStatement::Task {
+            clauses,
+            captures,
+            ..
+        } => take_region(found, start, clauses.as_slice(), captures.as_slice()),
+        ResolvedStatement::Loop {
+            clauses,
+            repeated,
+            ..
+        } => take_bounds(found, start, clauses.as_slice(), repeated),
+        ResolvedStatement::Sections { clauses, .. }
+        | ResolvedStatement::Construct { clauses, .. } => {
+            take_clauses(found, start, clauses.as_slice())
+        }
+        ResolvedStatement::Update { update, .. } => take_update(found, start, update),
+        ResolvedStatement::StandAlone { directive, .. } => {
+            take_stand_alone(found, start, directive)
+        }
+        ResolvedStatement::Block { .. }
+        | ResolvedStatement::Empty(_)
+        | ResolvedStatement::Do { .. }
+        | ResolvedStatement::Break(_)
+        | ResolvedStatement::Continue(_) => Ok(()),
+    }
+}
+
 /// Notes what a statement uses.
 #[tactic(auto, unfolding(crate::specs::Captures::statement_uses))]
 #[cycle(statement)]
@@ -347,43 +405,18 @@ pub fn take_statement(
         (found.new ≡ fold (with_use start) found.old
         (statement_uses (view_resolved_statement statement.now))) }
 {
+    take_own(found, start, statement)?;
     match statement {
-        ResolvedStatement::Declaration { declarators, .. } => {
-            take_declarators(found, start, declarators.as_slice())
-        }
         ResolvedStatement::Block { items, .. } => take_statements(found, start, items.as_slice()),
-        ResolvedStatement::Empty(_)
-        | ResolvedStatement::Break(_)
-        | ResolvedStatement::Continue(_) => Ok(()),
-        ResolvedStatement::Expression {
-            value: expression,
-            ..
-        } => take_expression(found, start, expression),
-        ResolvedStatement::If {
-            condition,
-            then,
-            ..
-        } => {
-            take_expression(found, start, condition)?;
-            take_statement(found, start, then)
-        }
-        ResolvedStatement::IfElse {
-            condition,
-            then,
-            other,
-            ..
-        } => {
-            take_expression(found, start, condition)?;
+        ResolvedStatement::Sections { parts, .. } => take_parts(found, start, parts.as_slice()),
+        ResolvedStatement::If { then: body, .. }
+        | ResolvedStatement::While { body, .. }
+        | ResolvedStatement::For { body, .. }
+        | ResolvedStatement::Loop { body, .. }
+        | ResolvedStatement::Construct { body, .. } => take_statement(found, start, body),
+        ResolvedStatement::IfElse { then, other, .. } => {
             take_statement(found, start, then)?;
             take_statement(found, start, other)
-        }
-        ResolvedStatement::While {
-            condition,
-            body,
-            ..
-        } => {
-            take_expression(found, start, condition)?;
-            take_statement(found, start, body)
         }
         ResolvedStatement::Do {
             body,
@@ -393,42 +426,16 @@ pub fn take_statement(
             take_statement(found, start, body)?;
             take_expression(found, start, condition)
         }
-        ResolvedStatement::For { head, body, .. } => {
-            take_head(found, start, head)?;
-            take_statement(found, start, body)
-        }
-        ResolvedStatement::Return { value, .. } => take_perhaps(found, start, value),
-        ResolvedStatement::Parallel {
-            clauses,
-            captures,
-            ..
-        } => { take_region(found, start, clauses.as_slice(), captures.as_slice()) }
-        ResolvedStatement::Task {
-            clauses,
-            captures,
-            ..
-        } => { take_region(found, start, clauses.as_slice(), captures.as_slice()) }
-        ResolvedStatement::Loop {
-            clauses,
-            repeated,
-            body,
-            ..
-        } => {
-            take_bounds(found, start, clauses.as_slice(), repeated)?;
-            take_statement(found, start, body)
-        }
-        ResolvedStatement::Sections { clauses, parts, .. } => {
-            take_clauses(found, start, clauses.as_slice())?;
-            take_parts(found, start, parts.as_slice())
-        }
-        ResolvedStatement::Construct { clauses, body, .. } => {
-            take_clauses(found, start, clauses.as_slice())?;
-            take_statement(found, start, body)
-        }
-        ResolvedStatement::Update { update, .. } => take_update(found, start, update),
-        ResolvedStatement::StandAlone { directive, .. } => take_stand_alone(
-            found, start, directive,
-        ),
+        ResolvedStatement::Declaration { .. }
+        | ResolvedStatement::Empty(_)
+        | ResolvedStatement::Expression { .. }
+        | ResolvedStatement::Return { .. }
+        | ResolvedStatement::Break(_)
+        | ResolvedStatement::Continue(_)
+        | ResolvedStatement::Parallel { .. }
+        | ResolvedStatement::Task { .. }
+        | ResolvedStatement::Update { .. }
+        | ResolvedStatement::StandAlone { .. } => Ok(()),
     }
 }
 
