@@ -1,6 +1,6 @@
 //! What a `for` has before its body (C17 6.8.5.3).
 
-ghost use Rattle.std.specs.Prelude.{◌≡◌, ◌++◌, OnOk, IfOk, Some, option_map};
+ghost use Rattle.std.specs.Prelude.{◌≡◌, ◌++◌, [], OnOk, IfOk, Some, option_map};
 ghost use Rattle.om_tree.specs.View.{view_expression, view_for_head, view_for_start};
 ghost use Rattle.om_resolved.specs.ResolvedTree as resolved;
 ghost use Rattle.om_resolved.specs.ResolvedView.{view_resolved_expression, view_resolved_start, view_resolved_statement};
@@ -12,8 +12,8 @@ use om_lexer::{SourceFault, Span};
 use om_names::Symbols;
 use om_resolved::{ResolvedExpression, ResolvedHead, ResolvedStart, ResolvedStatement};
 use om_tree::{Expression, ForHead, ForStart};
-use om_uses::{boxed_expression, resolve_locals, unboxed};
-use std::alloc::{AllocError, Global};
+use om_uses::{boxed, boxed_expression, resolve_locals, unboxed};
+use std::alloc::Global;
 
 /// What a `for` has before its body: what it begins with, its condition and its step.
 #[tactic(auto, using(om_rules::specs::InRow::first_of_left))]
@@ -40,9 +40,9 @@ pub fn resolve_for_head(
         (λ found. resolved_perhaps (after_for_start symbols.old tree.start) tree.step
         ≡ Some (option_map view_resolved_expression found.value.step)) }
 {
-    let start = Box::new(alloc, resolve_for_start(alloc, symbols, &head.start)?)?;
+    let start = boxed(alloc, resolve_for_start(alloc, symbols, &head.start))?;
     let (condition, step) = resolve_for_turn(alloc, symbols, head)?;
-    Ok(head_of(alloc, start, condition, step)?)
+    head_of(alloc, start, condition, step)
 }
 
 /// What a `for` has before its body, put together.
@@ -51,7 +51,8 @@ fn head_of(
     start: Box<ResolvedStart>,
     condition: Option<Box<ResolvedExpression>>,
     step: Option<Box<ResolvedExpression>>,
-) -> Result<Box<ResolvedHead>, AllocError>
+) -> Result<Box<ResolvedHead>, SourceFault>
+    ensures checked { Checks result [] }
     ensures start { IfOk result (λ head. head.value.start ≡ start.value) }
     ensures condition { IfOk result
         (λ head. option_map view_resolved_expression head.value.condition

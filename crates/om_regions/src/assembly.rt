@@ -57,14 +57,16 @@ fn parallel_of(
     alloc: Global,
     directive: &Directive<Expression>,
     clauses: Vec<ResolvedClause>,
-    body: Box<ResolvedStatement>,
-) -> Result<ResolvedStatement, AllocError>
-    ensures { IfOk result
+    inner: ResolvedStatement,
+) -> Result<ResolvedStatement, SourceFault>
+    ensures checked { Checks result [] }
+    ensures made { IfOk result
         (λ found. view_resolved_statement found
         ≡ parallel_of (view_directive directive.now) (map view_resolved_clause clauses.items)
-        (view_resolved_statement body.value)) }
+        (view_resolved_statement inner)) }
 {
     let at = directive.hash;
+    let body = boxed(alloc, inner)?;
     let captures = captures_of_parallel(alloc, at.start, clauses.as_slice(), &body)?;
     Ok(ResolvedStatement::Parallel {
         at,
@@ -296,11 +298,8 @@ pub fn loop_construct_of(
 {
     let at = directive.hash;
     if is_parallel(traits_of(&directive.name).region) {
-        let inner = boxed(
-            alloc,
-            shared_loop(at, Vec::new(alloc), true, repeated, body),
-        )?;
-        return Ok(parallel_of(alloc, directive, clauses, inner)?);
+        let inner = shared_loop(at, Vec::new(alloc), true, repeated, body);
+        return parallel_of(alloc, directive, clauses, inner);
     }
     let nowait = has_nowait(directive);
     Ok(shared_loop(at, clauses, nowait, repeated, body))
@@ -350,8 +349,8 @@ pub fn sections_construct_of(
 {
     let at = directive.hash;
     if is_parallel(traits_of(&directive.name).region) {
-        let inner = boxed(alloc, shared_parts(at, Vec::new(alloc), true, parts))?;
-        return Ok(parallel_of(alloc, directive, clauses, inner)?);
+        let inner = shared_parts(at, Vec::new(alloc), true, parts);
+        return parallel_of(alloc, directive, clauses, inner);
     }
     let nowait = has_nowait(directive);
     Ok(shared_parts(at, clauses, nowait, parts))

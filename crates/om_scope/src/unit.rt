@@ -25,7 +25,7 @@ use om_resolved::{GlobalVariable, Resolved, ResolvedFunction};
 use om_rules::Names;
 use om_seq::Seq;
 use om_tree::{Item, Unit};
-use om_uses::declare_globals;
+use om_uses::{add, declare_globals};
 use om_whole::laws::{atomics_assign, unbroken_trees_are_resolved, unbroken_trees_are_whole};
 use std::alloc::{AllocError, Global};
 
@@ -82,10 +82,7 @@ fn resolve_item(
     match item {
         Item::Declaration(declaration) => declare_globals(alloc, symbols, globals, declaration),
         Item::Prototype { head, .. } => check_prototype(alloc, symbols, head),
-        Item::Function(function) => {
-            functions.push(resolve_function(alloc, symbols, function)?)?;
-            Ok(())
-        }
+        Item::Function(function) => add(functions, resolve_function(alloc, symbols, function)),
     }
 }
 
@@ -143,7 +140,9 @@ fn resolve_items(alloc: Global, items: &[Item]) -> Result<Resolved, SourceFault>
 {
     let definitions = definitions_of(alloc, items)?;
     let mut symbols = Symbols::new(alloc, definitions);
-    resolve_from(alloc, &mut symbols, items)
+    let resolved = resolve_from(alloc, &mut symbols, items);
+    drop(symbols);
+    resolved
 }
 
 /// Whether an item is a function named `main`.

@@ -9,6 +9,7 @@ ghost use Rattle.om_rules.specs.StatementResolution.{length_of, local_of, resolv
 ghost use Rattle.om_rules.specs.StatementRules.{array_size_breaches, initializer_breaches, is_empty_array, local_breaches, locals_breaches, redeclared_breaches};
 
 use crate::expression::{boxed_expression, unboxed};
+use crate::kept::add;
 use om_lexer::{FaultCode, SourceFault, Span};
 use om_names::{Symbols, refuse_if};
 use om_resolved::{LocalVariable, ResolvedDeclarator, ResolvedExpression, Shape};
@@ -166,8 +167,7 @@ fn add_local(
         (option_map (λ own. before ++ own ∷ [])
         (resolved_declarator symbols.old (view_declarator declarator.now)) ≡ Some after) }
 {
-    declared.push(resolve_declarator(alloc, symbols, declarator)?)?;
-    Ok(())
+    add(declared, resolve_declarator(alloc, symbols, declarator))
 }
 
 /// Declares the local variables behind the first of a declaration.

@@ -205,7 +205,7 @@ fn list_names(
         (each (resolved_listed listing.now.kind listing.now.symbols.now)
         (names_in first.now rest.now)) ≡ Some after) }
 {
-    clauses.push(list_name(listing, listed, first)?)?;
+    add(clauses, list_name(listing, listed, first))?;
     list_further_names(listing, listed, clauses, rest)
 }
 
