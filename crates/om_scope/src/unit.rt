@@ -194,6 +194,8 @@ fn check_main(unit: &Unit) -> Result<(), SourceFault>
 /// - S14 at a jump out of a construct or outside of a loop, or at the word of a directive where no
 ///   worksharing construct and no barrier may stand.
 /// - S15 at the end of the source: no function is named `main`.
+///
+/// A tree that the parser made of the lexer's tokens meets neither S3 nor S10.
 #[tactic(auto, using(om_rules::specs::InRow::first_of_left), unfolding(om_rules::specs::Breaches::breaches_of, om_rules::specs::UnitResolution::resolution_of))]
 pub fn resolve(alloc: Global, unit: Unit) -> Result<Resolved, SourceFault>
     ensures no_breach { OnOk result (breaches_of (view_unit unit) ≡ []) }
