@@ -132,9 +132,7 @@ pub(crate) fn append(
     back.shrink_to_fit();
     make_all(store, made.footprint(), &mut back)?;
     made.set_back(Seq::of(back));
-    let Ok(()) = records.push(made) else {
-        unreachable!();
-    };
+    records.push_reserved(made);
     Ok(())
 }
 

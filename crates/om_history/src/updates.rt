@@ -29,8 +29,7 @@ fn make_write(store: &mut Store, object: &Obj, update: Update) -> Result<Update,
             store.append(object, tail)?;
             Ok(Update::Cut(count))
         }
-        Update::Cut(_) => Ok(Update::Keep),
-        Update::Keep => Ok(Update::Keep),
+        Update::Cut(_) | Update::Keep => Ok(Update::Keep),
         Update::Add(number) => Ok(Update::Add(number)),
     }
 }
