@@ -192,13 +192,11 @@ fn free_from<
         debuggee,
         worker,
     };
-    let ran = match start(scope, rt, rounds, runner) {
-        Ok(thread) => {
-            free_from(scope, rt, rounds, line);
-            thread.join(rt)
-        }
+    let started = start(scope, rt, rounds, runner);
+    free_from(scope, rt, rounds, line);
+    let ran = match started {
+        Ok(thread) => thread.join(rt),
         Err(ran) => {
-            free_from(scope, rt, rounds, line);
             line.tally = line.tally.broken_off();
             ran
         }

@@ -1,5 +1,5 @@
 -- The rows of worksharing, masked and critical regions keep to their bounds.
-use Rattle.std.proofs.Common.{refl, ℕ, ◌+◌, ◌≤◌, ℤ, Bool, true, false, arith, List, [], ◌∷◌, Option, None, Some}
+use Rattle.std.proofs.Common.{refl, ℕ, ◌≤◌, ℤ, Bool, true, false, arith, List, [], ◌∷◌, Option, None, Some}
 use Rattle.std.specs.Prelude.{slice_get, nat_lt, nat_eq}
 use Rattle.std.specs.Ordering.{int_eq}
 use Rattle.std.specs.Prelude.{pos}
