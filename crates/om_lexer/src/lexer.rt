@@ -221,20 +221,15 @@ fn take_token(
     ensures state { IfOk result (λ next. next ≡ state_behind_token state.now token.behind) }
 {
     let kind = token.item;
+    if let LineState::Defining(name) = state {
+        define(alloc, &mut output.macros, name.as_slice(), &kind)?;
+        return Ok(LineState::Taken);
+    }
     let span = token.span;
+    add_token(output, Token { kind, span })?;
     match state {
-        LineState::Defining(name) => {
-            define(alloc, &mut output.macros, name.as_slice(), &kind)?;
-            Ok(LineState::Taken)
-        }
-        LineState::Directive(_) => {
-            add_token(output, Token { kind, span })?;
-            Ok(LineState::Directive(token.behind))
-        }
-        _ => {
-            add_token(output, Token { kind, span })?;
-            Ok(LineState::Taken)
-        }
+        LineState::Directive(_) => Ok(LineState::Directive(token.behind)),
+        _ => Ok(LineState::Taken),
     }
 }
 
