@@ -75,26 +75,33 @@ fn binary_operator(operator: BinaryOperator) -> Option<UpdateOperator>
     }
 }
 
-/// The operand on the other side.
+/// An expression, taken out of its place.
+fn taken(expression: &mut ResolvedExpression) -> ResolvedExpression
+    ensures { result ≡ expression.old }
+{
+    mem::replace(expression, ResolvedExpression::ThreadNumber)
+}
+
+/// The operand on the other side, taken out of its place.
 fn other_operand(
     side: Side,
-    left: Box<ResolvedExpression>,
-    right: Box<ResolvedExpression>,
+    left: &mut ResolvedExpression,
+    right: &mut ResolvedExpression,
 ) -> ResolvedExpression
     ensures { view_resolved_expression result
-        ≡ other_operand side (view_resolved_expression left.value)
-        (view_resolved_expression right.value) }
+        ≡ other_operand side (view_resolved_expression left.old)
+        (view_resolved_expression right.old) }
 {
     match side {
-        Side::Left => Box::into_inner(right),
-        Side::Right => Box::into_inner(left),
+        Side::Left => taken(right),
+        Side::Right => taken(left),
     }
 }
 
 /// What an assigned value does to a target on that side.
-fn value_operation(side: Side, value: ResolvedExpression) -> Option<Operation>
+fn value_operation(side: Side, value: &mut ResolvedExpression) -> Option<Operation>
     ensures { option_map view_operation result
-        ≡ value_operation side (view_resolved_expression value) }
+        ≡ value_operation side (view_resolved_expression value.old) }
 {
     let ResolvedExpression::Binary {
         left,
@@ -104,7 +111,7 @@ fn value_operation(side: Side, value: ResolvedExpression) -> Option<Operation>
     else {
         return None;
     };
-    let operator = binary_operator(operator)?;
+    let operator = binary_operator(*operator)?;
     let operand = other_operand(side, left, right);
     Some(Operation {
         operator,
@@ -127,16 +134,20 @@ fn compound(operator: UpdateOperator, operand: ResolvedExpression) -> Operation
 }
 
 /// What an assignment does to its target, which stands on that side in the value.
-fn assignment(side: Side, operator: AssignOperator, value: ResolvedExpression) -> Option<Operation>
+fn assignment(
+    side: Side,
+    operator: AssignOperator,
+    value: &mut ResolvedExpression,
+) -> Option<Operation>
     ensures { option_map view_operation result
-        ≡ operation side operator (view_resolved_expression value) }
+        ≡ operation side operator (view_resolved_expression value.old) }
 {
     match operator {
         AssignOperator::Set => value_operation(side, value),
-        AssignOperator::Add => Some(compound(UpdateOperator::Add, value)),
-        AssignOperator::Subtract => Some(compound(UpdateOperator::Subtract, value)),
-        AssignOperator::Multiply => Some(compound(UpdateOperator::Multiply, value)),
-        AssignOperator::Divide => Some(compound(UpdateOperator::Divide, value)),
+        AssignOperator::Add => Some(compound(UpdateOperator::Add, taken(value))),
+        AssignOperator::Subtract => Some(compound(UpdateOperator::Subtract, taken(value))),
+        AssignOperator::Multiply => Some(compound(UpdateOperator::Multiply, taken(value))),
+        AssignOperator::Divide => Some(compound(UpdateOperator::Divide, taken(value))),
         AssignOperator::Remainder => None,
     }
 }
@@ -178,9 +189,13 @@ fn updated(
 }
 
 /// The update that an expression is, whose target stands on that side.
-fn expression_update(at: Span, side: Side, expression: ResolvedExpression) -> Option<ResolvedUpdate>
+fn expression_update(
+    at: Span,
+    side: Side,
+    expression: &mut ResolvedExpression,
+) -> Option<ResolvedUpdate>
     ensures { option_map view_resolved_update result
-        ≡ expression_update at side (view_resolved_expression expression) }
+        ≡ expression_update at side (view_resolved_expression expression.old) }
 {
     match expression {
         ResolvedExpression::Assign {
@@ -188,8 +203,8 @@ fn expression_update(at: Span, side: Side, expression: ResolvedExpression) -> Op
             operator,
             value,
         } => {
-            let found = assignment(side, operator, Box::into_inner(value))?;
-            Some(updated(at, variable, None, found))
+            let found = assignment(side, *operator, value)?;
+            Some(updated(at, *variable, None, found))
         }
         ResolvedExpression::AssignElement {
             array,
@@ -197,26 +212,26 @@ fn expression_update(at: Span, side: Side, expression: ResolvedExpression) -> Op
             operator,
             value,
         } => {
-            let found = assignment(side, operator, Box::into_inner(value))?;
-            Some(updated(at, array, Some(Box::into_inner(index)), found))
+            let found = assignment(side, *operator, value)?;
+            Some(updated(at, *array, Some(taken(index)), found))
         }
         ResolvedExpression::Postfix { variable, operator } => {
-            Some(updated(at, variable, None, step_operation(operator)))
+            Some(updated(at, *variable, None, step_operation(*operator)))
         }
         ResolvedExpression::PostfixElement {
             array,
             index,
             operator,
         } => {
-            let found = step_operation(operator);
-            Some(updated(at, array, Some(Box::into_inner(index)), found))
+            let found = step_operation(*operator);
+            Some(updated(at, *array, Some(taken(index)), found))
         }
         _ => None,
     }
 }
 
 /// The update that a statement is, whose target stands on that side of its operator (OpenMP API 5.2,
-/// section 15.8.4); nothing where it is another statement. It takes the expression out of the statement.
+/// section 15.8.4); nothing where it is another statement. It takes the operands out of the statement.
 pub fn update_of(side: Side, statement: &mut ResolvedStatement) -> Option<ResolvedUpdate>
     ensures { option_map view_resolved_update result
         ≡ update_of side (view_resolved_statement statement.old) }
@@ -228,6 +243,5 @@ pub fn update_of(side: Side, statement: &mut ResolvedStatement) -> Option<Resolv
     else {
         return None;
     };
-    let expression = mem::replace(expression, ResolvedExpression::ThreadNumber);
     expression_update(*at, side, expression)
 }

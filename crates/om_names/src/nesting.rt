@@ -219,6 +219,7 @@ impl Nesting {
         if stands_in(self.constructs.as_slice(), depth) {
             if let Some(construct) = self.constructs.pop() {
                 unlist(&mut self.listings, &construct.region.shared);
+                drop(construct);
             }
         }
     }
