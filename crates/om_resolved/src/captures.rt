@@ -166,24 +166,6 @@ fn captured_by_task(
     Ok(Seq::of(captures))
 }
 
-/// What a `task` that begins there takes from outside, of which its clauses list these.
-fn captures_beside(
-    alloc: Global,
-    sharing: TaskSharing,
-    listed: &Found,
-    start: u32,
-    clauses: &[ResolvedClause],
-    body: &ResolvedStatement,
-) -> Result<Seq<Capture>, AllocError>
-    ensures { let taking = taken_by_task sharing.has_default sharing.parallel listed.now in
-        IfOk result
-        (λ captures. captures ≡ captures_of taking start (map view_resolved_clause clauses.now)
-        (view_resolved_statement body.now)) }
-{
-    let found = taken_variables(alloc, start, clauses, body)?;
-    captured_by_task(alloc, sharing, listed, found.variables())
-}
-
 /// What a `task` that begins there takes from outside.
 pub fn captures_of_task(
     alloc: Global,
@@ -199,5 +181,6 @@ pub fn captures_of_task(
         (λ captures. captures ≡ captures_of taking start trees (view_resolved_statement body.now)) }
 {
     let listed = listed_variables(alloc, start, clauses)?;
-    captures_beside(alloc, sharing, &listed, start, clauses, body)
+    let found = taken_variables(alloc, start, clauses, body)?;
+    captured_by_task(alloc, sharing, &listed, found.variables())
 }
