@@ -41,14 +41,6 @@ impl Mentions {
             extents: Extents::new(alloc),
         }
     }
-
-    /// The declared variables alone.
-    fn into_extents(self) -> Extents
-        ensures { result ≡ self.extents }
-    {
-        let Mentions { extents, .. } = self;
-        extents
-    }
 }
 
 /// How many cells the declared variables of a function have.
@@ -60,7 +52,8 @@ pub fn extents_of(alloc: Global, function: &ResolvedFunction) -> Result<Extents,
 {
     let mut found = Mentions::new(alloc);
     note_statements(&mut found, alloc, function.body.as_slice())?;
-    Ok(found.into_extents())
+    let Mentions { extents, .. } = found;
+    Ok(extents)
 }
 
 /// Notes the formats of an expression.
