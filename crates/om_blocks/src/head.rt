@@ -6,11 +6,12 @@ ghost use Rattle.om_resolved.specs.ResolvedTree as resolved;
 ghost use Rattle.om_resolved.specs.ResolvedView.{view_resolved_expression, view_resolved_start, view_resolved_statement};
 ghost use Rattle.om_rules.specs.Checks.{Checks};
 ghost use Rattle.om_rules.specs.StatementResolution.{resolved_perhaps, resolved_start};
-ghost use Rattle.om_rules.specs.StatementRules.{after_for_start, for_start_breaches, for_turn_breaches, perhaps_breaches};
+ghost use Rattle.om_rules.specs.StatementRules.{after_for_start, for_start_breaches, for_turn_breaches, looping, perhaps_breaches};
 
 use om_lexer::{SourceFault, Span};
 use om_names::Symbols;
 use om_resolved::{ResolvedExpression, ResolvedHead, ResolvedStart, ResolvedStatement};
+use om_rules::Flow;
 use om_tree::{Expression, ForHead, ForStart};
 use om_uses::{boxed, boxed_expression, resolve_locals, unboxed};
 use std::alloc::Global;
@@ -154,4 +155,18 @@ pub fn for_of(at: Span, head: Box<ResolvedHead>, body: Box<ResolvedStatement>) -
         (view_resolved_statement body.value) }
 {
     ResolvedStatement::For { at, head, body }
+}
+
+/// The same place in the body of a loop.
+pub(crate) fn looping(flow: Flow) -> Flow
+    ensures { result ≡ looping flow }
+{
+    Flow {
+        may_break: true,
+        may_continue: true,
+        returns: flow.returns,
+        in_construct: flow.in_construct,
+        is_closed: flow.is_closed,
+        parallel: flow.parallel,
+    }
 }

@@ -14,7 +14,7 @@ ghost use Rattle.om_rules.specs.StatementResolution.{resolved_construct, resolve
 ghost use Rattle.om_rules.specs.StatementRules.{after_statement, after_statements, body_breaches, construct_breaches, continuing, for_breaches, in_loop, loop_construct_breaches, looping, part_breaches, plain_construct_breaches, sections_breaches, sections_construct_breaches, statement_breaches, statements_breaches};
 
 use crate::entering::{enter_construct, enter_loop_construct};
-use crate::head::{for_of, resolve_for_head};
+use crate::head::{for_of, looping, resolve_for_head};
 use crate::simple::{
     check_jump, resolve_declaration, resolve_effect, resolve_return, resolve_stand_alone,
 };
@@ -261,20 +261,6 @@ fn resolve_for(
     let body = resolve_body(alloc, symbols, looping(flow), body)?;
     symbols.leave();
     Ok(for_of(head.word, turn, body))
-}
-
-/// The same place in a loop.
-fn looping(flow: Flow) -> Flow
-    ensures { result ≡ looping flow }
-{
-    Flow {
-        may_break: true,
-        may_continue: true,
-        returns: flow.returns,
-        in_construct: flow.in_construct,
-        is_closed: flow.is_closed,
-        parallel: flow.parallel,
-    }
 }
 
 /// A construct and its statement.
