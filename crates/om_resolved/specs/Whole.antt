@@ -233,6 +233,20 @@ IsWholeClause around admitted (Copied kind original copy) = IsAdmittedCopy admit
 abbrev pub AreWholeClauses : Around → Admitted → List ResolvedClauseTree → Type 0
 AreWholeClauses around admitted clauses = All (IsWholeClause around admitted) clauses
 
+-- no value is given
+abbrev pub HaveNoValue : List ResolvedClauseTree → Type 0
+HaveNoValue [] = Unit {0}
+HaveNoValue (ClauseValue kind e ∷ rest) = ⊥
+HaveNoValue (Shared v ∷ rest) = HaveNoValue rest
+HaveNoValue (Copied kind original copy ∷ rest) = HaveNoValue rest
+
+-- one value at most: `num_threads` and `filter` are unique (OpenMP API 5.2, sections 10.1.2 and 10.5.1)
+abbrev pub HaveOneValue : List ResolvedClauseTree → Type 0
+HaveOneValue [] = Unit {0}
+HaveOneValue (ClauseValue kind e ∷ rest) = HaveNoValue rest
+HaveOneValue (Shared v ∷ rest) = HaveOneValue rest
+HaveOneValue (Copied kind original copy ∷ rest) = HaveOneValue rest
+
 -- the copies that clauses make, which are seen inside of the construct in place of the originals
 abbrev pub copies_in : ResolvedClauseTree → List Local
 copies_in (ClauseValue kind e) = []
@@ -339,7 +353,7 @@ abbrev mutual
   IsWholeStatement around (Continue at) = around.continues ≡ true
   IsWholeStatement around (Parallel at clauses captures s) =
       AreWholeClauses around of_parallel clauses × IsRegion at.start clauses captures s × IsWholeStatement
-      (within around clauses) s
+      (within around clauses) s × HaveOneValue clauses
   IsWholeStatement around (Task at clauses captures s) =
       AreWholeClauses around of_task clauses × IsRegion at.start clauses captures s × IsWholeStatement
       (within around clauses) s
@@ -350,7 +364,7 @@ abbrev mutual
       AreWholeClauses around of_worksharing clauses × (1 ≤ part_count parts) × (part_count parts ≤ 256)
       × AreWholeParts (within around clauses) parts
   IsWholeStatement around (Construct at kind clauses s) = AreWholeClauses around (of_construct kind) clauses
-      × IsWholeStatement (within around clauses) s
+      × IsWholeStatement (within around clauses) s × HaveOneValue clauses
   IsWholeStatement around (Update at u) = IsWholeUpdate (within around []) u
   IsWholeStatement around (StandAlone at directive) = IsWholeAlone around directive
 

@@ -78,11 +78,11 @@ admitted_by nowait (directives.Taskyield s) = nothing
 admitted_by nowait (directives.Flush s l) = nothing
 
 -- a clause that lists a variable for such a copy, or as shared
-abbrev AdmitsKind : Admitted → Option CopyKind → Type 0
+abbrev pub AdmitsKind : Admitted → Option CopyKind → Type 0
 AdmitsKind admitted None = admitted.shared ≡ true
 AdmitsKind admitted (Some kind) = IsAdmittedCopy admitted kind
 
-abbrev Admits : Admitted → Clause ExpressionTree → Type 0
+abbrev pub Admits : Admitted → Clause ExpressionTree → Type 0
 Admits admitted (clauses.Value kind s v) = admitted.value ≡ Some kind
 Admits admitted (clauses.Data sharing s list) = AdmitsKind admitted (resolution.kind_of sharing)
 Admits admitted (clauses.Reduction s r) = admitted.reductions ≡ true

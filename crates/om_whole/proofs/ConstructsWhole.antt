@@ -19,6 +19,7 @@ use Rattle.om_resolved.specs.declared.resolved.Side.{Side}
 use Rattle.om_resolved.specs.declared.resolved.Taking.{Taking}
 use Rattle.om_resolved.specs.ResolvedTree as resolved
 use Rattle.om_resolved.specs.ResolvedTree.{ResolvedClauseTree, ResolvedUpdateTree, ResolvedStatementTree}
+use Rattle.om_resolved.specs.Whole.{HaveOneValue}
 use Rattle.om_resolved.specs.Whole.{Around, of_parallel, of_worksharing, nothing, IsShared, IsWholeClause, within}
 use Rattle.om_resolved.specs.Whole.{IsRegion, IsWholeUpdate, IsWholeStatement}
 use Rattle.om_rules.specs.DirectiveRules.{names_in, nothing_listed, flushed_breaches, list_breaches, flush_breaches}
@@ -69,12 +70,13 @@ with_update_whole around at (Some update) h = h
 
 atomic_whole : (around : Around) (kind : AtomicKind) (side : Side) (at : Span) (cs : List ResolvedClauseTree)
     (body : ResolvedStatementTree) → All (IsWholeClause around nothing) cs
-    → IsWholeStatement (within around cs) body → IsWholeStatement around (atomic_of kind side at cs body)
-atomic_whole around atomics.Update side at cs body hc hb =
+    → IsWholeStatement (within around cs) body → HaveOneValue cs
+    → IsWholeStatement around (atomic_of kind side at cs body)
+atomic_whole around atomics.Update side at cs body hc hb once =
     with_update_whole around at (update_of side body) (whole_update (within around []) side body
     (subst (λ clauses. IsWholeStatement (within around clauses) body) (no_clauses around cs hc) hb))
-atomic_whole around atomics.Read side at cs body hc hb = (hc, hb)
-atomic_whole around atomics.Write side at cs body hc hb = (hc, hb)
+atomic_whole around atomics.Read side at cs body hc hb once = (hc, hb, once)
+atomic_whole around atomics.Write side at cs body hc hb once = (hc, hb, once)
 
 -- ---- constructs
 
@@ -82,28 +84,28 @@ pub construct_whole : (around : Around) (parallel : Option ℕ) (side : Side) (d
     (name : DirectiveName) (cs : List ResolvedClauseTree) (body : ResolvedStatementTree)
     → IsConstruct name → (traits_of name).takes_loop ≡ false
     → All (IsWholeClause around (admitted_by (has_nowait d) name)) cs → IsWholeStatement (within around cs) body
-    → IsWholeStatement around (construct_of parallel side d name cs body)
+    → HaveOneValue cs → IsWholeStatement around (construct_of parallel side d name cs body)
 unfolding construct_of
-construct_whole around parallel side d (directives.Parallel s) cs body is plain hc hb =
+construct_whole around parallel side d (directives.Parallel s) cs body is plain hc hb once =
+    (hc, region _ d.hash.start cs body, hb, once)
+construct_whole around parallel side d (directives.Task s) cs body is plain hc hb once =
     (hc, region _ d.hash.start cs body, hb)
-construct_whole around parallel side d (directives.Task s) cs body is plain hc hb =
-    (hc, region _ d.hash.start cs body, hb)
-construct_whole around parallel side d (directives.Single s) cs body is plain hc hb = (hc, hb)
-construct_whole around parallel side d (directives.Masked s) cs body is plain hc hb = (hc, hb)
-construct_whole around parallel side d (directives.Master s) cs body is plain hc hb = (hc, hb)
-construct_whole around parallel side d (directives.Critical s name) cs body is plain hc hb = (hc, hb)
-construct_whole around parallel side d (directives.Taskgroup s) cs body is plain hc hb = (hc, hb)
-construct_whole around parallel side d (directives.Atomic s) cs body is plain hc hb = atomic_whole around
-    (atomic_kind d) side d.hash cs body hc hb
-construct_whole around parallel side d (directives.For s) cs body is plain hc hb = cc
-construct_whole around parallel side d (directives.ParallelFor s t) cs body is plain hc hb = cc
-construct_whole around parallel side d (directives.Sections s) cs body is plain hc hb = let clash = is.2 in cc
-construct_whole around parallel side d (directives.ParallelSections s t) cs body is plain hc hb = let clash = is.2 in cc
-construct_whole around parallel side d (directives.Section s) cs body is plain hc hb = let clash = is.1 in cc
-construct_whole around parallel side d (directives.Barrier s) cs body is plain hc hb = let clash = is.0 in cc
-construct_whole around parallel side d (directives.Taskwait s) cs body is plain hc hb = let clash = is.0 in cc
-construct_whole around parallel side d (directives.Taskyield s) cs body is plain hc hb = let clash = is.0 in cc
-construct_whole around parallel side d (directives.Flush s list) cs body is plain hc hb = let clash = is.0 in cc
+construct_whole around parallel side d (directives.Single s) cs body is plain hc hb once = (hc, hb, once)
+construct_whole around parallel side d (directives.Masked s) cs body is plain hc hb once = (hc, hb, once)
+construct_whole around parallel side d (directives.Master s) cs body is plain hc hb once = (hc, hb, once)
+construct_whole around parallel side d (directives.Critical s name) cs body is plain hc hb once = (hc, hb, once)
+construct_whole around parallel side d (directives.Taskgroup s) cs body is plain hc hb once = (hc, hb, once)
+construct_whole around parallel side d (directives.Atomic s) cs body is plain hc hb once = atomic_whole around
+    (atomic_kind d) side d.hash cs body hc hb once
+construct_whole around parallel side d (directives.For s) cs body is plain hc hb once = cc
+construct_whole around parallel side d (directives.ParallelFor s t) cs body is plain hc hb once = cc
+construct_whole around parallel side d (directives.Sections s) cs body is plain hc hb once = let clash = is.2 in cc
+construct_whole around parallel side d (directives.ParallelSections s t) cs body is plain hc hb once = let clash = is.2 in cc
+construct_whole around parallel side d (directives.Section s) cs body is plain hc hb once = let clash = is.1 in cc
+construct_whole around parallel side d (directives.Barrier s) cs body is plain hc hb once = let clash = is.0 in cc
+construct_whole around parallel side d (directives.Taskwait s) cs body is plain hc hb once = let clash = is.0 in cc
+construct_whole around parallel side d (directives.Taskyield s) cs body is plain hc hb once = let clash = is.0 in cc
+construct_whole around parallel side d (directives.Flush s list) cs body is plain hc hb once = let clash = is.0 in cc
 
 -- a directive for a loop is a `parallel` or a worksharing construct
 pub loop_admitted : (nowait : Bool) (name : DirectiveName) → (traits_of name).takes_loop ≡ true → admitted_by nowait

@@ -17,6 +17,7 @@ pub mod Knowing
 pub mod ExpressionsWhole
 pub mod UpdatesWhole
 pub mod ClausesWhole
+pub mod AskedOnce
 pub mod LoopsWhole
 pub mod ConstructsWhole
 pub mod StatementsWhole

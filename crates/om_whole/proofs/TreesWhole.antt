@@ -14,6 +14,7 @@ use Rattle.om_resolved.specs.declared.resolved.Shape.TheVariants as shapes
 use Rattle.om_resolved.specs.ResolvedTree as resolved
 use Rattle.om_resolved.specs.ResolvedTree.{ResolvedClauseTree, ResolvedLoopTree, ResolvedStatementTree}
 use Rattle.om_resolved.specs.ResolvedTree.{ResolvedPartsTree}
+use Rattle.om_resolved.specs.Whole.{HaveOneValue}
 use Rattle.om_resolved.specs.Whole.{Around, IsWhole, IsWholeIfAny, IsWholeClause, IsWholeReturn, of_parallel}
 use Rattle.om_resolved.specs.Whole.{of_worksharing, copies_in, scalar, within, with_locals, iterated, repeated}
 use Rattle.om_resolved.specs.Whole.{after_start, after_item, part_count, IsWholeStatement, AreWholeItems, AreWholeParts}
@@ -43,6 +44,9 @@ use Rattle.om_rules.specs.StatementRules.{with_iteration, found_breaches, bounds
 use Rattle.om_rules.specs.StatementRules.{begins_part, parts_behind, statement_breaches, statements_breaches}
 use Rattle.om_rules.specs.StatementRules.{body_breaches, sections_breaches}
 use Rattle.om_rules.specs.Updates.{statement_side}
+use Rattle.om_pragma.specs.Table.{IsDirective}
+use Rattle.om_tree.specs.Formed.{IsLine}
+use Rattle.om_whole.proofs.AskedOnce.{one_value}
 use Rattle.om_whole.proofs.ClausesWhole.{admitted_by, line_admitted, whole_clauses}
 use Rattle.om_whole.proofs.ConstructsWhole.{construct_whole, loop_admitted, alone_whole, region}
 use Rattle.om_whole.proofs.ExpressionsWhole.{whole_expression}
@@ -77,6 +81,26 @@ takes_some false e = cc
 abbrev AreGood : Around → Directive ExpressionTree → Scopes → List ResolvedClauseTree → Type 0
 AreGood around d scopes cs = All (IsWholeClause around (admitted_by (has_nowait d) d.name)) cs
     × Known around.globals around.functions (around.locals ++ flat_map copies_in cs) (in_construct d scopes)
+    × HaveOneValue cs
+
+-- resolved clauses of a line give one value at most
+once_too : (around : Around) (d : Directive ExpressionTree) (scopes : Scopes) → IsLine d
+    → IfSome (resolved_clauses scopes d.clauses) (λ cs.
+    All (IsWholeClause around (admitted_by (has_nowait d) d.name)) cs
+    × Known around.globals around.functions (around.locals ++ flat_map copies_in cs) (in_construct d scopes))
+    → IfSome (resolved_clauses scopes d.clauses) (AreGood around d scopes)
+unfolding IsDirective
+once_too around d scopes formed good =
+    if_both (resolved_clauses scopes d.clauses) good
+    (one_value (admitted_by (has_nowait d) d.name) scopes d.name d.clauses [] formed
+    (line_admitted (has_nowait d) d formed))
+  where
+    if_both : (o : Option (List ResolvedClauseTree)) → IfSome o (λ cs.
+        All (IsWholeClause around (admitted_by (has_nowait d) d.name)) cs
+        × Known around.globals around.functions (around.locals ++ flat_map copies_in cs) (in_construct d scopes))
+        → IfSome o HaveOneValue → IfSome o (AreGood around d scopes)
+    if_both None g h = tt
+    if_both (Some cs) g h = (g.0, g.1, h)
 
 -- ---- loop constructs
 
@@ -111,18 +135,18 @@ loop_whole around scopes flow parallel d s h f takes chunk clauses (Some found) 
     let rest = body_breaches (in_construct d scopes) (constructing d flow) (Some found) s in
     if_then (AreGood around d scopes) (IsWholeStatement around) (resolved_clauses scopes d.clauses) _ clauses (λ cs hcs.
     by cs hcs.1 (is_parallel (traits_of d.name).region) (subst (λ admitted. All (IsWholeClause around admitted) cs)
-    (loop_admitted (has_nowait d) d.name takes) hcs.0) (front bounds rest w) (back bounds rest w))
+    (loop_admitted (has_nowait d) d.name takes) hcs.0) hcs.2 (front bounds rest w) (back bounds rest w))
   where
     by : (cs : List ResolvedClauseTree) → Known around.globals around.functions (around.locals ++ flat_map copies_in
         cs) (in_construct d scopes) → (p : Bool)
-        → All (IsWholeClause around (cond p of_parallel of_worksharing)) cs
+        → All (IsWholeClause around (cond p of_parallel of_worksharing)) cs → HaveOneValue cs
         → found_breaches (cond p (in_construct d scopes) scopes) found ≡ []
         → body_breaches (in_construct d scopes) (constructing d flow) (Some found) s ≡ []
         → IfSome (resolved_loop (cond p (in_construct d scopes) scopes) (schedule_of d.clauses) found >>= λ l.
         resolved_repeated (in_construct d scopes) (parallel_in d parallel) found s >>= λ t.
         Some (cond p (parallel_of d cs (resolved.Loop d.hash [] true l t)) (resolved.Loop d.hash cs (has_nowait d) l
         t))) (IsWholeStatement around)
-    by cs known true hc wb wr =
+    by cs known true hc once wb wr =
         if_then (IsGoodLoop (within around cs) found) (IsWholeStatement around)
         (resolved_loop (in_construct d scopes) (schedule_of d.clauses) found) _
         (whole_loop (within around cs) (in_construct d scopes) (schedule_of d.clauses) found known goes chunk
@@ -137,8 +161,9 @@ loop_whole around scopes flow parallel d s h f takes chunk clauses (Some found) 
           hc,
           region _ d.hash.start cs (resolved.Loop d.hash [] true l t),
           (All-nil (IsWholeClause (within around cs) of_worksharing), hl.0, ht),
+          once,
         )))
-    by cs known false hc wb wr =
+    by cs known false hc once wb wr =
         if_then (IsGoodLoop around found) (IsWholeStatement around) (resolved_loop scopes (schedule_of d.clauses)
         found) _ (whole_loop around scopes (schedule_of d.clauses) found h goes chunk wb) (λ l hl.
         if_then (IsWholeStatement (iterated around cs l)) (IsWholeStatement around)
@@ -184,7 +209,7 @@ sections_whole : (around : Around) (scopes : Scopes) (flow : Flow) (parallel : O
 sections_whole around scopes flow parallel d items f is some clauses w whole =
     if_then (AreGood around d scopes) (IsWholeStatement around) (resolved_clauses scopes d.clauses) _ clauses (λ cs hcs.
     by cs hcs.1 (is_parallel (traits_of d.name).region) (subst (λ admitted. All (IsWholeClause around admitted) cs)
-    (sections_admitted (has_nowait d) d.name is) hcs.0))
+    (sections_admitted (has_nowait d) d.name is) hcs.0) hcs.2)
   where
     found : Option Grouped
     found = resolved_parts (in_construct d scopes) (parallel_in d parallel) 0 items
@@ -200,11 +225,11 @@ sections_whole around scopes flow parallel d items f is some clauses w whole =
 
     by : (cs : List ResolvedClauseTree) → Known around.globals around.functions (around.locals ++ flat_map copies_in
         cs) (in_construct d scopes) → (p : Bool)
-        → All (IsWholeClause around (cond p of_parallel of_worksharing)) cs
+        → All (IsWholeClause around (cond p of_parallel of_worksharing)) cs → HaveOneValue cs
         → IfSome (option_map parts_of found >>= λ parts. Some
         (cond p (parallel_of d cs (resolved.Sections d.hash [] true parts))
         (resolved.Sections d.hash cs (has_nowait d) parts))) (IsWholeStatement around)
-    by cs known true hc =
+    by cs known true hc once =
         let outer = within (within around cs) [] in
         let deeper = known_more around.globals around.functions (around.locals ++ flat_map copies_in cs) []
         (in_construct d scopes) known in
@@ -219,8 +244,9 @@ sections_whole around scopes flow parallel d items f is some clauses w whole =
           hc,
           region _ d.hash.start cs (resolved.Sections d.hash [] true parts),
           (All-nil (IsWholeClause (within around cs) of_worksharing), hp.0, hp.1, hp.2),
+          once,
         ))
-    by cs known false hc =
+    by cs known false hc once =
         if_then (AreGoodParts (within around cs)) (IsWholeStatement around) (option_map parts_of found) _
         (good (within around cs) known (agrees_construct around flow d cs f)) (λ parts hp. (hc, hp.0, hp.1, hp.2))
 
@@ -361,10 +387,10 @@ mutual
   )
   whole_statement around scopes flow parallel (Construct d s) h f formed w =
       let own = directive_breaches scopes flow d in
-      let clauses = whole_clauses around (admitted_by (has_nowait d) d.name) scopes h d
-      (line_admitted (has_nowait d) d formed.0)
+      let clauses = once_too around d scopes formed.0 (whole_clauses around (admitted_by (has_nowait d) d.name) scopes
+      h d (line_admitted (has_nowait d) d formed.0)
       (back (nesting_breaches flow d.name) (breaches_along (item_breaches scopes) directives.after_item
-      nothing_listed d.clauses) (front own _ w)) in
+      nothing_listed d.clauses) (front own _ w))) in
       let plain = statement_breaches (in_construct d scopes) (constructing d flow) s in
       let looped = cond (is_some (loop_in s)) (bounds_breaches (round_bounds d scopes) (loop_in s)
       ++ body_breaches (in_construct d scopes) (constructing d flow) (loop_in s) s)
@@ -382,7 +408,7 @@ mutual
       (whole_statement (within around cs) (in_construct d scopes) (constructing d flow) (parallel_in d parallel) s
       hcs.1 (agrees_construct around flow d cs f) formed.2 v) (λ body hb.
       construct_whole around parallel (statement_side s) d d.name cs body formed.1
-      (takes_none (traits_of d.name).takes_loop e) hcs.0 hb.0)))
+      (takes_none (traits_of d.name).takes_loop e) hcs.0 hb.0 hcs.2)))
       (λ e v. loop_whole around scopes flow parallel d s h f (takes_some (traits_of d.name).takes_loop e)
       (good_schedule d formed.0) clauses (loop_in s) (goes_on s) plain
       (λ found inner known agrees u. whole_repeated inner (in_construct d scopes) (constructing d flow)
@@ -395,10 +421,10 @@ mutual
   whole_statement around scopes flow parallel (Sections d left items right) h f formed w =
       let own = directive_breaches scopes flow d in
       let others = sections_breaches (in_construct d scopes) (constructing d flow) 0 items in
-      let clauses = whole_clauses around (admitted_by (has_nowait d) d.name) scopes h d
-      (line_admitted (has_nowait d) d formed.0)
+      let clauses = once_too around d scopes formed.0 (whole_clauses around (admitted_by (has_nowait d) d.name) scopes
+      h d (line_admitted (has_nowait d) d formed.0)
       (back (nesting_breaches flow d.name) (breaches_along (item_breaches scopes) directives.after_item
-      nothing_listed d.clauses) (front own others w)) in
+      nothing_listed d.clauses) (front own others w))) in
       if_more (IsWholeStatement around) (IsGoodStatement around scopes (Sections d left items right))
       (resolved_sections scopes parallel d items) (λ t ht. (ht, knows_item around scopes t h))
       (sections_whole around scopes flow parallel d items f formed.1 formed.2 clauses (back own others w)
