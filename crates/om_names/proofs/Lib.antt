@@ -1,3 +1,5 @@
+pub mod Landmarks
+pub mod Parallels
 pub mod Tables
 pub mod Stacked
 pub mod Seen

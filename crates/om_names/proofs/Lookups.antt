@@ -1,6 +1,6 @@
 -- Looking a name up in all scopes at once is looking it up in one after the other.
 use Rattle.std.specs.Prelude.{nat_eq, nat_lt}
-use Rattle.std.proofs.Common.{◌≡◌, ℕ, ◌<◌, ◌≤◌, suc, Bool, true, false, not, ◌&&◌, ◌||◌, List, [], ◌∷◌, ◌++◌, Option}
+use Rattle.std.proofs.Common.{◌≡◌, ℕ, ◌≤◌, suc, Bool, true, false, not, ◌&&◌, ◌||◌, List, [], ◌∷◌, ◌++◌, Option}
 use Rattle.std.proofs.Common.{None, Some, is_some, map, reverse, if◌then◌else◌, length, Vec, refl, sym, ap, subst, ◌∙◌}
 use Rattle.std.proofs.Common.{true≢false, arith}
 use Rattle.std.proofs.lemmas.List.{length-map, length-reverse, reverse-append}
@@ -11,11 +11,9 @@ use Rattle.std.specs.Map.{lookup}
 use Rattle.std.specs.Option.{option_or}
 use Rattle.std.specs.Str.{bytes_eq}
 use Rattle.om_names.specs.declared.nesting.Construct.{Construct}
-use Rattle.om_names.specs.declared.nesting.Holder.{Holder}
-use Rattle.om_names.specs.declared.nesting.Holder.TheVariants.{Own, Team, Task}
 use Rattle.om_rules.specs.declared.meaning.Meaning.{Meaning}
-use Rattle.om_names.specs.Nesting.{AreNested, enclosing_of, holder_in, holder_since, holder_within, is_copy}
-use Rattle.om_names.specs.Nesting.{outer_first, outside_of, region_in, unlisted_since}
+use Rattle.om_names.specs.Nesting.{AreNested, alone_since, copied_since, enclosing_of, outside_of, region_in}
+use Rattle.om_names.specs.Nesting.{unlisted_since}
 use Rattle.om_rules.specs.Scopes.{Scope, meaning_outside, plain, scope_of}
 use Rattle.om_rules.specs.Sharing.{copied_outside, declares, is_own, is_parallel, is_task_without, lacks_clause}
 use Rattle.om_rules.specs.Sharing.{unlisted_outside}
@@ -146,103 +144,10 @@ unlisted-innermost (scope ∷ outer) constructs name nested =
         (unlisted-here (outside_of constructs (length outer)) (length outer) name
         (nested-outside constructs (length outer) nested)))
 
--- ---- whose a variable is
+-- ---- copies
 
-holder-past : (constructs : List Construct) (here depth : ℕ) (name : List ℕ) → here ≤ depth → AreNested constructs
-    here → holder_since constructs depth name ≡ Own
-holder-past [] here depth name le nested = refl
-holder-past (construct ∷ outer) here depth name le nested =
-    let lt : construct.depth < depth = omega (arith, nested.0, le) in
-    ap (λ b. if b then Own else outer_first (holder_since outer depth name) (holder_in construct.region name))
-    (lt-ltb construct.depth depth lt)
-
-holder-here : (constructs : List Construct) (depth : ℕ) (name : List ℕ) → AreNested constructs depth
-    → holder_since constructs depth name ≡ Own
-holder-here constructs depth name nested = holder-past constructs depth depth name (omega arith) nested
-
-outer_first-own : (holder : Holder) → holder ≡ outer_first holder Own
-outer_first-own Own = refl
-outer_first-own Team = refl
-outer_first-own Task = refl
-
-holder-step : (constructs : List Construct) (here depth : ℕ) (name : List ℕ) → AreNested constructs (suc here)
-    → depth ≤ here
-    → holder_since constructs depth name ≡ outer_first (holder_since (outside_of constructs here) depth name)
-    (holder_in (region_in constructs here) name)
-holder-step [] here depth name nested le = refl
-holder-step (construct ∷ outer) here depth name nested le = by (nat_eq construct.depth here) refl
-  where
-    by : (b : Bool) → nat_eq construct.depth here ≡ b
-        → holder_since (construct ∷ outer) depth name
-        ≡ outer_first (holder_since (if b then outer else construct ∷ outer) depth name)
-        (holder_in (if b then construct.region else plain) name)
-    by true e =
-        let same = eqb-true construct.depth here e in
-        let deep : depth ≤ construct.depth = omega (arith, same, le) in
-        ap (λ b. if b then Own else outer_first (holder_since outer depth name) (holder_in construct.region name))
-        (le-ltb construct.depth depth deep)
-    by false e = outer_first-own (holder_since (construct ∷ outer) depth name)
-
-outer_first-nested : (outer inner innermost : Holder) → outer_first outer (outer_first inner innermost)
-    ≡ outer_first (outer_first outer inner) innermost
-outer_first-nested Own inner innermost = refl
-outer_first-nested Team inner innermost = refl
-outer_first-nested Task inner innermost = refl
-
-within-push : (outer : List Construct) (construct : Construct) (depth : ℕ) (name : List ℕ)
-    → holder_within (outer ++ construct ∷ []) depth name
-    ≡ outer_first (holder_within outer depth name) (if nat_lt construct.depth depth then Own else holder_in
-    construct.region name)
-within-push [] construct depth name = by (nat_lt construct.depth depth)
-  where
-    by : (b : Bool) → (if b then Own else outer_first (holder_in construct.region name) Own)
-        ≡ (if b then Own else holder_in construct.region name)
-    by true = refl
-    by false = sym (outer_first-own (holder_in construct.region name))
-within-push (first ∷ outer) construct depth name = by (nat_lt first.depth depth) (within-push outer construct depth
-    name)
-  where
-    by : (b : Bool)
-        → holder_within (outer ++ construct ∷ []) depth name ≡ outer_first (holder_within outer depth name)
-        (if nat_lt construct.depth depth then Own else holder_in construct.region name)
-        → (if b then holder_within (outer ++ construct ∷ []) depth name else outer_first
-        (holder_in first.region name) (holder_within (outer ++ construct ∷ []) depth name))
-        ≡ outer_first (if b then holder_within outer depth name else outer_first (holder_in first.region name)
-        (holder_within outer depth name)) (if nat_lt construct.depth depth then Own else holder_in
-        construct.region name)
-    by true rest = rest
-    by false rest =
-        ap (outer_first (holder_in first.region name)) rest
-        ∙ outer_first-nested (holder_in first.region name) (holder_within outer depth name)
-        (if nat_lt construct.depth depth then Own else holder_in construct.region name)
-
--- inwards as outwards
-pub holder-inwards : (constructs : List Construct) (here depth : ℕ) (name : List ℕ) → AreNested constructs here
-    → holder_within (reverse constructs) depth name ≡ holder_since constructs depth name
-holder-inwards [] here depth name nested = refl
-holder-inwards (construct ∷ outer) here depth name nested =
-    ap (λ cs. holder_within cs depth name) (reverse-append (construct ∷ []) outer)
-    ∙ within-push (reverse outer) construct depth name
-    ∙ ap (λ holder. outer_first holder (if nat_lt construct.depth depth then Own else holder_in construct.region
-    name)) (holder-inwards outer construct.depth depth name nested.1)
-    ∙ by (nat_lt construct.depth depth) refl
-  where
-    by : (b : Bool) → nat_lt construct.depth depth ≡ b
-        → outer_first (holder_since outer depth name) (if b then Own else holder_in construct.region name)
-        ≡ (if b then Own else outer_first (holder_since outer depth name) (holder_in construct.region name))
-    by true e =
-        let lt = ltb-true construct.depth depth e in
-        ap (λ holder. outer_first holder Own) (holder-past outer construct.depth depth name (omega (arith, lt))
-        nested.1)
-    by false e = refl
-
--- no `parallel` among the constructs since a depth
-abbrev alone_since : List Construct → ℕ → Bool
-alone_since [] depth = true
-alone_since (construct ∷ outer) depth = if nat_lt construct.depth depth then true else not
-    (is_parallel construct.region.kind) && alone_since outer depth
-
-alone-here : (constructs : List Construct) (depth : ℕ) → AreNested constructs depth → alone_since constructs depth
+-- a variable that is declared here
+pub alone-here : (constructs : List Construct) (depth : ℕ) → AreNested constructs depth → alone_since constructs depth
     ≡ true
 alone-here [] depth nested = refl
 alone-here (construct ∷ outer) depth nested = ap (λ b. if b then true else not (is_parallel construct.region.kind)
@@ -333,118 +238,92 @@ own-innermost (scope ∷ outer) constructs name nested =
         (sym (alone-step constructs (length outer) (length outer) nested (omega arith)))
         ∙ ap (λ depth. nat_lt 0 depth && alone_since constructs depth) (sym (depth-own outer name meaning))
 
--- whether a `parallel` stands between says as much as whose the variable is, until a `task` copies it
-abbrev Fits : Holder → Bool → Type 0
-Fits Own alone = alone ≡ true
-Fits Team alone = alone ≡ false
-Fits Task alone = Unit {0}
+copied-here : (constructs : List Construct) (depth : ℕ) (name : List ℕ) → AreNested constructs depth
+    → copied_since constructs depth name ≡ false
+copied-here [] depth name nested = refl
+copied-here (construct ∷ outer) depth name nested = ap (λ b. if b then false else
+    (is_task_without construct.region name && alone_since (construct ∷ outer) depth) || copied_since outer depth name)
+    (lt-ltb construct.depth depth nested.0)
 
-fits : (constructs : List Construct) (depth : ℕ) (name : List ℕ) → Fits (holder_since constructs depth name)
-    (alone_since constructs depth)
-fits [] depth name = refl
-fits (construct ∷ outer) depth name = by (nat_lt construct.depth depth) (holder_since outer depth name)
-    (alone_since outer depth) (fits outer depth name) (is_parallel construct.region.kind)
-    (is_task_without construct.region name)
+copied-step : (constructs : List Construct) (here depth : ℕ) (name : List ℕ) → AreNested constructs (suc here)
+    → depth ≤ here
+    → copied_since constructs depth name
+    ≡ ((is_task_without (region_in constructs here) name && (not (is_parallel (region_in constructs here).kind)
+    && alone_since (outside_of constructs here) depth)) || copied_since (outside_of constructs here) depth name)
+copied-step [] here depth name nested le = refl
+copied-step (construct ∷ outer) here depth name nested le = by (nat_eq construct.depth here) refl
   where
-    by : (b : Bool) (holder : Holder) (alone : Bool) → Fits holder alone → (p t : Bool)
-        → Fits (if b then Own else outer_first holder (if p then Team else if t then Task else Own))
-        (if b then true else not p && alone)
-    by true holder alone fit p t = refl
-    by false Own alone fit true t = refl
-    by false Own alone fit false true = tt
-    by false Own alone fit false false = fit
-    by false Team alone fit true t = refl
-    by false Team alone fit false t = fit
-    by false Task alone fit p t = tt
+    by : (b : Bool) → nat_eq construct.depth here ≡ b
+        → copied_since (construct ∷ outer) depth name
+        ≡ ((is_task_without (if b then construct.region else plain) name
+        && (not (is_parallel (if b then construct.region else plain).kind)
+        && alone_since (if b then outer else construct ∷ outer) depth))
+        || copied_since (if b then outer else construct ∷ outer) depth name)
+    by true e =
+        let same = eqb-true construct.depth here e in
+        let deep : depth ≤ construct.depth = omega (arith, same, le) in
+        ap (λ b. if b then false else (is_task_without construct.region name
+        && (if b then true else not (is_parallel construct.region.kind) && alone_since outer depth))
+        || copied_since outer depth name) (le-ltb construct.depth depth deep)
+    by false e = refl
 
 copied-innermost : (scopes : List Scope) (constructs : List Construct) (name : List ℕ) → AreNested constructs
     (length scopes)
     → copied_outside (enclosing_of scopes constructs) name
     ≡ (nat_lt 0 (depth_of (innermost_of (sightings scopes name)))
-    && is_copy (holder_since constructs (depth_of (innermost_of (sightings scopes name))) name))
+    && copied_since constructs (depth_of (innermost_of (sightings scopes name))) name)
 copied-innermost [] constructs name nested = refl
 copied-innermost (scope ∷ outer) constructs name nested =
-    ap (λ own. (is_task_without (region_in constructs (length outer)) name && own)
-    || (not (declares scope name) && copied_outside (enclosing_of outer (outside_of constructs (length outer)))
-    name)) (own-innermost (scope ∷ outer) constructs name nested)
-    ∙ by (lookup (bytes_eq name) scope) (copied-innermost outer (outside_of constructs (length outer)) name
-    (nested-outside constructs (length outer) nested))
+    ap (λ own. (task && own) || (not (declares scope name) && copied_outside (enclosing_of outer further) name))
+    (own-innermost (scope ∷ outer) constructs name nested)
+    ∙ by (lookup (bytes_eq name) scope)
+    (copied-innermost outer further name (nested-outside constructs (length outer) nested))
   where
-    declared : (z p t : Bool) → ((t && (z && (not p && true))) || false)
-        ≡ (z && is_copy (if p then Team else if t then Task else Own))
-    declared true true true = refl
-    declared true true false = refl
-    declared true false true = refl
-    declared true false false = refl
-    declared false p true = refl
-    declared false true false = refl
-    declared false false false = refl
+    further : List Construct
+    further = outside_of constructs (length outer)
 
-    further : (z p t alone : Bool) (holder : Holder) → Fits holder alone
-        → ((t && (z && (not p && alone))) || (z && is_copy holder))
-        ≡ (z && is_copy (outer_first holder (if p then Team else if t then Task else Own)))
-    further false p true alone holder fit = refl
-    further false p false alone holder fit = refl
-    further true true true alone Own fit = refl
-    further true true true alone Team fit = refl
-    further true true true alone Task fit = refl
-    further true true false alone Own fit = refl
-    further true true false alone Team fit = refl
-    further true true false alone Task fit = refl
-    further true false true true Own fit = refl
-    further true false true false Own fit = absurd (true≢false (sym fit))
-    further true false true true Team fit = absurd (true≢false fit)
-    further true false true false Team fit = refl
-    further true false true true Task fit = refl
-    further true false true false Task fit = refl
-    further true false false alone Own fit = refl
-    further true false false alone Team fit = refl
-    further true false false alone Task fit = refl
+    task : Bool
+    task = is_task_without (region_in constructs (length outer)) name
+
+    both : (deep task own copied : Bool) → ((task && (deep && own)) || (deep && copied)) ≡ (deep && ((task && own)
+        || copied))
+    both true task own copied = refl
+    both false true own copied = refl
+    both false false own copied = refl
+
+    never : (deep : Bool) → (deep && false) ≡ false
+    never true = refl
+    never false = refl
+
+    -- what the constructs of this scope and of those round it make of a variable that is declared at a depth
+    step : (depth : ℕ) → depth ≤ length outer
+        → ((task && (nat_lt 0 depth && alone_since constructs depth)) || (nat_lt 0 depth && copied_since further
+        depth name)) ≡ (nat_lt 0 depth && copied_since constructs depth name)
+    step depth le =
+        both (nat_lt 0 depth) task (alone_since constructs depth) (copied_since further depth name)
+        ∙ ap (λ alone. nat_lt 0 depth && ((task && alone) || copied_since further depth name))
+        (alone-step constructs (length outer) depth nested le)
+        ∙ sym (ap (λ copied. nat_lt 0 depth && copied) (copied-step constructs (length outer) depth name nested le))
 
     by : (found : Option Meaning)
-        → copied_outside (enclosing_of outer (outside_of constructs (length outer))) name
+        → copied_outside (enclosing_of outer further) name
         ≡ (nat_lt 0 (depth_of (innermost_of (sightings outer name)))
-        && is_copy (holder_since (outside_of constructs (length outer))
-        (depth_of (innermost_of (sightings outer name))) name))
-        → ((is_task_without (region_in constructs (length outer)) name && (nat_lt 0 (depth_with outer name found)
-        && alone_since constructs (depth_with outer name found)))
-        || (not (is_some found) && copied_outside (enclosing_of outer (outside_of constructs (length outer))) name))
-        ≡ (nat_lt 0 (depth_with outer name found) && is_copy (holder_since constructs (depth_with outer name found)
-        name))
+        && copied_since further (depth_of (innermost_of (sightings outer name))) name)
+        → ((task && (nat_lt 0 (depth_with outer name found) && alone_since constructs (depth_with outer name found)))
+        || (not (is_some found) && copied_outside (enclosing_of outer further) name))
+        ≡ (nat_lt 0 (depth_with outer name found) && copied_since constructs (depth_with outer name found) name)
     by None rest =
-        ap (λ copied. (is_task_without (region_in constructs (length outer)) name
-        && (nat_lt 0 (depth_with outer name None) && alone_since constructs (depth_with outer name None)))
-        || copied) rest
-        ∙ ap (λ alone. (is_task_without (region_in constructs (length outer)) name
-        && (nat_lt 0 (depth_with outer name None) && alone)) || (nat_lt 0 (depth_with outer name None)
-        && is_copy (holder_since (outside_of constructs (length outer)) (depth_with outer name None) name)))
-        (alone-step constructs (length outer) (depth_with outer name None) nested (depth-innermost outer name))
-        ∙ further (nat_lt 0 (depth_with outer name None)) (is_parallel (region_in constructs (length outer)).kind)
-        (is_task_without (region_in constructs (length outer)) name)
-        (alone_since (outside_of constructs (length outer)) (depth_with outer name None))
-        (holder_since (outside_of constructs (length outer)) (depth_with outer name None) name)
-        (fits (outside_of constructs (length outer)) (depth_with outer name None) name)
-        ∙ ap (λ holder. nat_lt 0 (depth_with outer name None) && is_copy holder)
-        (sym (holder-step constructs (length outer) (depth_with outer name None) name nested
-        (depth-innermost outer name)))
+        ap (λ copied. (task && (nat_lt 0 (depth_with outer name None)
+        && alone_since constructs (depth_with outer name None))) || copied) rest
+        ∙ step (depth_with outer name None) (depth-innermost outer name)
     by (Some meaning) rest =
-        ap (λ depth. (is_task_without (region_in constructs (length outer)) name
-        && (nat_lt 0 depth && alone_since constructs depth)) || false) (depth-own outer name meaning)
-        ∙ ap (λ alone. (is_task_without (region_in constructs (length outer)) name
-        && (nat_lt 0 (length outer) && alone)) || false) (alone-step constructs (length outer) (length outer)
-        nested (omega arith) ∙ ap (λ alone. not (is_parallel (region_in constructs (length outer)).kind)
-        && alone) (alone-here (outside_of constructs (length outer)) (length outer)
-        (nested-outside constructs (length outer) nested)))
-        ∙ declared (nat_lt 0 (length outer)) (is_parallel (region_in constructs (length outer)).kind)
-        (is_task_without (region_in constructs (length outer)) name)
-        ∙ ap (λ holder. nat_lt 0 (length outer)
-        && is_copy (outer_first holder (holder_in (region_in constructs (length outer)) name)))
-        (sym (holder-here (outside_of constructs (length outer)) (length outer) name
-        (nested-outside constructs (length outer) nested)))
-        ∙ ap (λ holder. nat_lt 0 (length outer) && is_copy holder)
-        (sym (holder-step constructs (length outer) (length outer) name nested (omega arith)))
-        ∙ ap (λ depth. nat_lt 0 depth && is_copy (holder_since constructs depth name))
-        (sym (depth-own outer name meaning))
+        ap (λ depth. (task && (nat_lt 0 depth && alone_since constructs depth)) || false)
+        (depth-own outer name meaning)
+        ∙ ap (λ copied. (task && (nat_lt 0 (length outer) && alone_since constructs (length outer))) || copied)
+        (sym (ap (λ copied. nat_lt 0 (length outer) && copied) (copied-here further (length outer) name
+        (nested-outside constructs (length outer) nested)) ∙ never (nat_lt 0 (length outer))))
+        ∙ step (length outer) (omega arith)
+        ∙ ap (λ depth. nat_lt 0 depth && copied_since constructs depth name) (sym (depth-own outer name meaning))
 
 -- ---- at a place
 
@@ -464,7 +343,7 @@ pub copied-at : (inner : Scope) (outer : List Scope) (constructs : List Construc
     → AreNested constructs (length outer)
     → (not (declares inner name) && copied_outside (enclosing_of outer constructs) name)
     ≡ (nat_lt 0 (depth_of (innermost_of (sightings (inner ∷ outer) name)))
-    && is_copy (holder_since constructs (depth_of (innermost_of (sightings (inner ∷ outer) name))) name))
+    && copied_since constructs (depth_of (innermost_of (sightings (inner ∷ outer) name))) name)
 copied-at inner outer constructs name nested = by (lookup (bytes_eq name) inner)
   where
     never : (z : Bool) → (z && false) ≡ false
@@ -472,12 +351,12 @@ copied-at inner outer constructs name nested = by (lookup (bytes_eq name) inner)
     never false = refl
 
     by : (found : Option Meaning) → (not (is_some found) && copied_outside (enclosing_of outer constructs) name)
-        ≡ (nat_lt 0 (depth_with outer name found) && is_copy (holder_since constructs (depth_with outer name found)
-        name))
+        ≡ (nat_lt 0 (depth_with outer name found) && copied_since constructs (depth_with outer name found)
+        name)
     by None = copied-innermost outer constructs name nested
     by (Some meaning) =
-        sym (ap (λ depth. nat_lt 0 depth && is_copy (holder_since constructs depth name)) (depth-own outer name meaning)
-        ∙ ap (λ holder. nat_lt 0 (length outer) && is_copy holder) (holder-here constructs (length outer) name nested)
+        sym (ap (λ depth. nat_lt 0 depth && copied_since constructs depth name) (depth-own outer name meaning)
+        ∙ ap (λ copied. nat_lt 0 (length outer) && copied) (copied-here constructs (length outer) name nested)
         ∙ never (nat_lt 0 (length outer)))
 
 -- the scopes that tables hold

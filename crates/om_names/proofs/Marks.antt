@@ -10,17 +10,16 @@ use Rattle.std.proofs.lemmas.Map.Keys.{IsDistinct-head, IsDistinct-tail}
 use Rattle.std.proofs.Math.Seq.{split_at}
 use Rattle.std.proofs.lemmas.List.{take_more}
 use Rattle.std.specs.Str.{bytes_eq}
-use Rattle.om_names.specs.declared.listing.Listing.{Listing}
-use Rattle.om_names.specs.declared.listing.Marks.{Marks}
+use Rattle.om_names.specs.declared.landmark.Landmark.{Landmark}
+use Rattle.om_names.specs.declared.landmark.Marks.{Marks}
 use Rattle.om_names.specs.declared.nesting.Construct.{Construct}
-use Rattle.om_names.specs.declared.nesting.Holder.{Holder}
-use Rattle.om_names.specs.declared.nesting.Holder.TheVariants.{Own, Team, Task}
 use Rattle.om_rules.specs.declared.region.Region.{Region}
 use Rattle.om_rules.specs.Scopes.{same_name}
-use Rattle.om_rules.specs.Sharing.{is_parallel, is_task_without, lacks_clause}
-use Rattle.om_names.specs.Nesting.{AreNested, ChangedFor, Lists, asks, copies, deeper, end_of, entered, holder_since}
-use Rattle.om_names.specs.Nesting.{innermost, innermost_without, is_copy, listing, listings, lists, marks_behind}
-use Rattle.om_names.specs.Nesting.{marks_of, marks_without, outer_first, unlisted_since, with_listing}
+use Rattle.om_rules.specs.Sharing.{lacks_clause}
+use Rattle.om_names.specs.Landmarks.{deeper, marks_behind}
+use Rattle.om_names.specs.Nesting.{AreNested, ChangedFor, Lists, asks, copies, end_of, entered, innermost}
+use Rattle.om_names.specs.Nesting.{innermost_without, listing, listings, lists, marks_of, marks_without}
+use Rattle.om_names.specs.Nesting.{unlisted_since, with_listing}
 use Rattle.om_names.specs.Stacks.{innermost_of, seen_in, without_innermost}
 use Rattle.om_names.proofs.Stacked.{innermost-last, name_itself, same_names, without-last}
 
@@ -38,11 +37,11 @@ innermost-below is_such (construct ∷ outer) depth nested = by (is_such constru
     by true below = omega (arith, nested.0)
     by false below = omega (arith, nested.0, below)
 
-some-same : {a b : Listing} → Some a ≡ Some b → a ≡ b
+some-same : {a b : Landmark} → Some a ≡ Some b → a ≡ b
 some-same h = cc
 
 -- the listings of a name
-listed-below : (constructs : List Construct) (depth : ℕ) (name : List ℕ) (found : Listing) → AreNested constructs
+listed-below : (constructs : List Construct) (depth : ℕ) (name : List ℕ) (found : Landmark) → AreNested constructs
     depth → innermost_of (listings constructs name) ≡ Some found → found.depth ≤ depth
 listed-below [] depth name found nested e = cc
 listed-below (construct ∷ outer) depth name found nested e = by (lists construct.region name) e
@@ -58,11 +57,11 @@ listed-below (construct ∷ outer) depth name found nested e = by (lists constru
     by false is rest = omega (arith, nested.0, rest is)
 
 -- what is known of one kind of constructs, by the innermost listing
-abbrev found_behind : (Listing → ℕ) → Option Listing → ℕ → ℕ
+abbrev found_behind : (Landmark → ℕ) → Option Landmark → ℕ → ℕ
 found_behind outer None any = any
 found_behind outer (Some found) any = deeper found.depth any (outer found)
 
-without-innermost : (is_such : Region → Bool) (mark : Listing → ℕ)
+without-innermost : (is_such : Region → Bool) (mark : Landmark → ℕ)
     → ((inside : ℕ) (outer : List Construct) (name : List ℕ) → mark (listing inside outer name) ≡ innermost_without
     is_such outer name)
     → (constructs : List Construct) (depth : ℕ) (name : List ℕ) → AreNested constructs depth
@@ -73,7 +72,7 @@ without-innermost is_such mark marked (construct ∷ outer) depth name nested =
     by (lists construct.region name) (is_such construct.region) (without-innermost is_such mark marked outer
     construct.depth name nested.1)
   where
-    behind : (found : Option Listing) → ((l : Listing) → found ≡ Some l → l.depth ≤ construct.depth)
+    behind : (found : Option Landmark) → ((l : Landmark) → found ≡ Some l → l.depth ≤ construct.depth)
         → found_behind mark found (suc construct.depth) ≡ suc construct.depth
     behind None below = refl
     behind (Some l) below = ap (λ b. if b then suc construct.depth else mark l)
@@ -108,25 +107,25 @@ marks-without constructs depth name nested =
     by (innermost_of (listings constructs name))
     ∙ ap (λ asking. record {
       asking = asking;
-      copying = found_behind (λ l. l.outer.copying)
+      copying = found_behind (λ l. l.marks.copying)
           (innermost_of (listings constructs name)) (innermost copies constructs);
     })
-    (without-innermost asks (λ l. l.outer.asking) (λ inside outer name. refl) constructs depth name nested)
+    (without-innermost asks (λ l. l.marks.asking) (λ inside outer name. refl) constructs depth name nested)
     ∙ ap (λ copying. record { asking = innermost_without asks constructs name; copying = copying })
-    (without-innermost copies (λ l. l.outer.copying) (λ inside outer name. refl) constructs depth name nested)
+    (without-innermost copies (λ l. l.marks.copying) (λ inside outer name. refl) constructs depth name nested)
   where
-    by : (found : Option Listing) → marks_behind found (marks_of constructs)
+    by : (found : Option Landmark) → marks_behind found (marks_of constructs)
         ≡ record {
-          asking = found_behind (λ l. l.outer.asking) found (innermost asks constructs);
+          asking = found_behind (λ l. l.marks.asking) found (innermost asks constructs);
           copying =
-              found_behind (λ l. l.outer.copying) found (innermost copies constructs);
+              found_behind (λ l. l.marks.copying) found (innermost copies constructs);
         }
     by None = refl
     by (Some found) = refl
 
 -- ---- what it says of a name
 
-without-below : (is_such : Region → Bool) (constructs : List Construct) (depth : ℕ) (name : List ℕ)
+pub without-below : (is_such : Region → Bool) (constructs : List Construct) (depth : ℕ) (name : List ℕ)
     → AreNested constructs depth → innermost_without is_such constructs name ≤ depth
 without-below is_such [] depth name nested = omega arith
 without-below is_such (construct ∷ outer) depth name nested = by (is_such construct.region
@@ -157,30 +156,6 @@ unlisted-mark (construct ∷ outer) end depth name nested =
     by false e true rest below = lt-ltb depth (suc construct.depth) (let le = ltb-false construct.depth depth e in
         omega (arith, le))
     by false e false rest below = rest
-
--- where none that copies stands behind it, none makes a copy
-pub copied-mark : (constructs : List Construct) (depth : ℕ) (name : List ℕ) → innermost_without copies constructs
-    name ≤ depth → is_copy (holder_since constructs depth name) ≡ false
-copied-mark [] depth name le = refl
-copied-mark (construct ∷ outer) depth name le =
-    by (nat_lt construct.depth depth) refl (is_task_without construct.region name) le
-    (is_parallel construct.region.kind) (holder_since outer depth name) (copied-mark outer depth name)
-  where
-    by : (past : Bool) → nat_lt construct.depth depth ≡ past → (without : Bool)
-        → (if without then suc construct.depth else innermost_without copies outer name) ≤ depth → (parallel : Bool)
-        (holder : Holder)
-        → (innermost_without copies outer name ≤ depth → is_copy holder ≡ false)
-        → is_copy (if past then Own else outer_first holder (if parallel then Team else if without then Task else
-        Own)) ≡ false
-    by true e without below parallel holder rest = refl
-    by false e true below parallel holder rest = absurd (let le = ltb-false construct.depth depth e in omega
-        (arith, le, below))
-    by false e false below true Own rest = refl
-    by false e false below true Team rest = refl
-    by false e false below true Task rest = rest below
-    by false e false below false Own rest = refl
-    by false e false below false Team rest = refl
-    by false e false below false Task rest = rest below
 
 -- ---- names that are each there once
 
@@ -224,7 +199,7 @@ any-push test (other ∷ names) name = by (test other.items) (any-push test name
     by false rest = rest
 
 -- what is changed for names is changed for one more
-pub changed-more : (change : List Listing → List Listing) (before now next : List (List ℕ × List Listing))
+pub changed-more : (change : List Landmark → List Landmark) (before now next : List (List ℕ × List Landmark))
     (taken rest : List (Vec ℕ Global)) (name : Vec ℕ Global)
     → IsDistinct same_name (taken ++ name ∷ rest) → ChangedFor change before now (map (λ n. n.items) taken)
     → ((other : List ℕ) → seen_in next other ≡ (if bytes_eq other name.items then change (seen_in now other) else
@@ -250,7 +225,7 @@ changed-more change before now next taken rest name distinct changed more other 
     by false false e h = refl
 
 -- the next of several
-pub changed-next : (change : List Listing → List Listing) (before now next : List (List ℕ × List Listing))
+pub changed-next : (change : List Landmark → List Landmark) (before now next : List (List ℕ × List Landmark))
     (names : List (Vec ℕ Global)) (index : ℕ) (name : Vec ℕ Global)
     → index < length names → name ≡ get_or names index name → IsDistinct same_name names → ChangedFor change before
     now (map (λ n. n.items) (take index names))
@@ -266,18 +241,18 @@ changed-next change before now next names index name within is distinct changed 
     (subst (IsDistinct same_name) split distinct) changed more)
 
 -- a listing that is noted by what stands round its construct
-pub noted-listing : (inside : ℕ) (all marks : Marks) (now next : List (List ℕ × List Listing)) (name : List ℕ)
+pub noted-listing : (inside : ℕ) (all marks : Marks) (now next : List (List ℕ × List Landmark)) (name : List ℕ)
     → marks ≡ marks_behind (innermost_of (seen_in now name)) all
     → ((other : List ℕ) → seen_in next other ≡ (if bytes_eq other name then seen_in now other
-    ++ record { depth = inside; outer = marks } ∷ [] else seen_in now other))
+    ++ record { depth = inside; marks = marks } ∷ [] else seen_in now other))
     → (other : List ℕ) → seen_in next other ≡ (if bytes_eq other name then with_listing inside all
     (seen_in now other) else seen_in now other)
 noted-listing inside all marks now next name is noted other = noted other ∙ by (bytes_eq other name) refl
   where
     by : (b : Bool) → bytes_eq other name ≡ b
-        → (if b then seen_in now other ++ record { depth = inside; outer = marks } ∷ [] else seen_in now other)
+        → (if b then seen_in now other ++ record { depth = inside; marks = marks } ∷ [] else seen_in now other)
         ≡ (if b then with_listing inside all (seen_in now other) else seen_in now other)
-    by true e = ap (λ marks. seen_in now other ++ record { depth = inside; outer = marks } ∷ [])
+    by true e = ap (λ marks. seen_in now other ++ record { depth = inside; marks = marks } ∷ [])
         (is ∙ ap (λ n. marks_behind (innermost_of (seen_in now n)) all) (sym (same_names other name e)))
     by false e = refl
 
@@ -288,17 +263,17 @@ pub nested-end : (constructs : List Construct) (depth : ℕ) → AreNested const
 nested-end [] depth nested = tt
 nested-end (construct ∷ outer) depth nested = (omega arith, nested.1)
 
-pub lists-entered : (table now : List (List ℕ × List Listing)) (outer : List Construct) (depth : ℕ)
+pub lists-entered : (table now : List (List ℕ × List Landmark)) (outer : List Construct) (depth : ℕ)
     (region : Region) → AreNested outer depth → Lists table outer
     → ChangedFor (with_listing (suc depth) (marks_of outer)) table now region.shared
     → Lists now (entered depth region outer)
 lists-entered table now outer depth region nested shown changed name =
     changed name
     ∙ ap (λ seen. if lists region name then with_listing (suc depth) (marks_of outer) seen else seen) (shown name)
-    ∙ ap (λ marks. if lists region name then listings outer name ++ record { depth = suc depth; outer = marks }
+    ∙ ap (λ marks. if lists region name then listings outer name ++ record { depth = suc depth; marks = marks }
     ∷ [] else listings outer name) (marks-without outer depth name nested)
 
-pub lists-left : (table now : List (List ℕ × List Listing)) (construct : Construct) (outer : List Construct)
+pub lists-left : (table now : List (List ℕ × List Landmark)) (construct : Construct) (outer : List Construct)
     → Lists table (construct ∷ outer)
     → ChangedFor without_innermost table now construct.region.shared → Lists now outer
 lists-left table now construct outer shown changed name =

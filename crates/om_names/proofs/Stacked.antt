@@ -65,19 +65,6 @@ pub seen-none : {A : Type 0} (entries : List (Vec ℕ Global × Vec A Global)) (
     → lookup (names_key name) entries ≡ None → seen_in (table_of entries) name ≡ []
 seen-none entries name none = seen-lookup entries name ∙ ap items_of none
 
-pub innermost-found : {A : Type 0} (entries : List (Vec ℕ Global × Vec A Global)) (table : List (List ℕ × List A))
-    (name : List ℕ) (seen : Vec A Global) (items : List A) → table_of entries ≡ table → lookup (names_key name)
-    entries ≡ Some seen → items ≡ seen.items
-    → innermost_of items ≡ innermost_of (seen_in table name)
-innermost-found entries table name seen items shown found is = ap innermost_of
-    (is ∙ sym (seen-found entries name seen found) ∙ ap (λ t. seen_in t name) shown)
-
-pub innermost-none : {A : Type 0} (entries : List (Vec ℕ Global × Vec A Global)) (table : List (List ℕ × List A))
-    (name : List ℕ) → table_of entries ≡ table → lookup (names_key name) entries ≡ None → None
-    ≡ innermost_of (seen_in table name)
-innermost-none entries table name shown none = ap innermost_of (sym (seen-none entries name none)
-    ∙ ap (λ t. seen_in t name) shown)
-
 pub none-left : {A : Type 0} (items : List A) → length items ≡ 0 → None ≡ innermost_of items
 none-left [] empty = refl
 none-left (item ∷ items) empty = absurd (omega (arith, empty))

@@ -1,3 +1,4 @@
 pub mod Stacks
 pub mod Sightings
+pub mod Landmarks
 pub mod Nesting

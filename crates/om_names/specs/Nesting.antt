@@ -1,17 +1,17 @@
 -- The constructs among the scopes round a place. In each list the first is the innermost.
-use Rattle.std.specs.Prelude.{◌≡◌, ℕ, suc, ◌<◌, List, [], ◌∷◌, ◌++◌, Option, None, Some, Bool, true, false, not, ◌&&◌}
+use Rattle.std.specs.Prelude.{◌≡◌, ℕ, suc, ◌<◌, List, [], ◌∷◌, ◌++◌, Bool, true, false, not, ◌&&◌}
 use Rattle.std.specs.Prelude.{◌||◌, if◌then◌else◌, is_some, length, nat_eq, nat_lt}
 use Rattle.std.specs.List.{list_any}
 use Rattle.std.specs.Str.{bytes_eq}
 use Rattle.om_names.specs.declared.nesting.Construct.{Construct}
-use Rattle.om_names.specs.declared.listing.Listing.{Listing}
-use Rattle.om_names.specs.declared.listing.Marks.{Marks}
-use Rattle.om_names.specs.declared.nesting.Holder.{Holder}
-use Rattle.om_names.specs.declared.nesting.Holder.TheVariants.{Own, Team, Task}
+use Rattle.om_names.specs.declared.landmark.Landmark.{Landmark}
+use Rattle.om_names.specs.declared.landmark.Marks.{Marks}
 use Rattle.om_rules.specs.declared.region.Region.{Region}
+use Rattle.om_rules.specs.declared.region.RegionKind.{RegionKind}
 use Rattle.om_rules.specs.Scopes.{Enclosing, Scope, plain}
 use Rattle.om_rules.specs.Sharing.{asks_for_clauses, is_parallel, is_task, is_task_without, lacks_clause}
-use Rattle.om_names.specs.Stacks.{innermost_of, seen_in}
+use Rattle.om_names.specs.Landmarks.{marks_behind}
+use Rattle.om_names.specs.Stacks.{innermost_of, seen_in, without_innermost}
 
 -- the constructs round a scope of this depth stand one inside of the other
 abbrev pub AreNested : List Construct → ℕ → Type 0
@@ -99,50 +99,57 @@ entered depth region outer = record {
 
 -- ---- the constructs that list a name
 
--- what stands round such a construct
-abbrev pub listing : ℕ → List Construct → List ℕ → Listing
-listing inside outer name = record { depth = inside; outer = marks_without outer name }
+-- such a construct, and what stands up to it of those that do not list the name
+abbrev pub listing : ℕ → List Construct → List ℕ → Landmark
+listing inside outer name = record { depth = inside; marks = marks_without outer name }
 
 -- for each that lists the name, the innermost last
-abbrev pub listings : List Construct → List ℕ → List Listing
+abbrev pub listings : List Construct → List ℕ → List Landmark
 listings [] name = []
 listings (construct ∷ outer) name =
     if lists construct.region name then listings outer name ++ listing (suc construct.depth) outer name
     ∷ [] else listings outer name
 
 -- a table has the listings of each name
-abbrev pub Lists : List (List ℕ × List Listing) → List Construct → Type 0
+abbrev pub Lists : List (List ℕ × List Landmark) → List Construct → Type 0
 Lists table constructs = (name : List ℕ) → seen_in table name ≡ listings constructs name
 
--- the deeper of a construct of any name, and of one from round a listing
-abbrev pub deeper : ℕ → ℕ → ℕ → ℕ
-deeper listed any outer = if nat_lt listed any then any else outer
-
--- what stands round a place of those that do not list a name: by the innermost that does, and by all
-abbrev pub marks_behind : Option Listing → Marks → Marks
-marks_behind None all = all
-marks_behind (Some listing) all = record {
-  asking = deeper listing.depth all.asking listing.outer.asking;
-  copying = deeper listing.depth all.copying listing.outer.copying;
-}
-
 -- one more listing of a name that has these
-abbrev pub with_listing : ℕ → Marks → List Listing → List Listing
-with_listing inside all seen = seen ++ record { depth = inside; outer = marks_behind (innermost_of seen) all } ∷ []
+abbrev pub with_listing : ℕ → Marks → List Landmark → List Landmark
+with_listing inside all seen = seen ++ record { depth = inside; marks = marks_behind (innermost_of seen) all } ∷ []
 
 -- of a table, for each of these names, what is noted changes so; for the others it stays
-abbrev pub ChangedFor : (List Listing → List Listing) → (before now : List (List ℕ × List Listing)) → List (List ℕ)
+abbrev pub ChangedFor : (List Landmark → List Landmark) → (before now : List (List ℕ × List Landmark)) → List (List ℕ)
     → Type 0
 ChangedFor change before now names =
     (other : List ℕ) → seen_in now other ≡ (if list_any (bytes_eq other) names then change (seen_in before other)
     else seen_in before other)
 
--- ---- what constructs make of a name
+-- ---- each `parallel`
 
 -- how deep the innermost of these stands, and one more
 abbrev pub end_of : List Construct → ℕ
 end_of [] = 0
 end_of (construct ∷ outer) = suc construct.depth
+
+-- the innermost, and what stands up to it
+abbrev pub landmark_of : List Construct → Landmark
+landmark_of constructs = record { depth = end_of constructs; marks = marks_of constructs }
+
+-- one more construct of a kind, if it is a `parallel`
+abbrev pub with_parallel : RegionKind → Landmark → List Landmark → List Landmark
+with_parallel kind landmark seen = if is_parallel kind then seen ++ landmark ∷ [] else seen
+
+-- each that is one, the innermost last
+abbrev pub parallels : List Construct → List Landmark
+parallels [] = []
+parallels (construct ∷ outer) = with_parallel construct.region.kind (landmark_of (construct ∷ outer)) (parallels outer)
+
+-- once the innermost construct is left, which is of this kind
+abbrev pub without_parallel : RegionKind → List Landmark → List Landmark
+without_parallel kind seen = if is_parallel kind then without_innermost seen else seen
+
+-- ---- what constructs make of a name
 
 -- one that stands in a scope of this depth, or in a deeper one, lacks a clause for a name
 abbrev pub unlisted_since : List Construct → ℕ → List ℕ → Bool
@@ -151,34 +158,23 @@ unlisted_since (construct ∷ outer) depth name =
     if nat_lt construct.depth depth then false else lacks_clause construct.region name || unlisted_since outer depth
     name
 
--- what a construct makes of the variable of a function round it
-abbrev pub holder_in : Region → List ℕ → Holder
-holder_in region name = if is_parallel region.kind then Team else if is_task_without region name then Task else Own
+-- none is a `parallel`, of those that stand in a scope of this depth or in a deeper one
+abbrev pub alone_since : List Construct → ℕ → Bool
+alone_since [] depth = true
+alone_since (construct ∷ outer) depth = if nat_lt construct.depth depth then true else not
+    (is_parallel construct.region.kind) && alone_since outer depth
 
--- the outer of two constructs decides
-abbrev pub outer_first : Holder → Holder → Holder
-outer_first Own inner = inner
-outer_first Team inner = Team
-outer_first Task inner = Task
+-- a `task` of those makes a copy of a name's variable, as no `parallel` of those stands round it
+abbrev pub copied_since : List Construct → ℕ → List ℕ → Bool
+copied_since [] depth name = false
+copied_since (construct ∷ outer) depth name =
+    if nat_lt construct.depth depth then false else (is_task_without construct.region name && alone_since
+    (construct ∷ outer) depth) || copied_since outer depth name
 
--- what those make of it that stand in a scope of this depth, or in a deeper one
-abbrev pub holder_since : List Construct → ℕ → List ℕ → Holder
-holder_since [] depth name = Own
-holder_since (construct ∷ outer) depth name =
-    if nat_lt construct.depth depth then Own else outer_first (holder_since outer depth name)
-    (holder_in construct.region name)
-
--- the same, where the first is the outermost
-abbrev pub holder_within : List Construct → ℕ → List ℕ → Holder
-holder_within [] depth name = Own
-holder_within (construct ∷ inner) depth name =
-    if nat_lt construct.depth depth then holder_within inner depth name else outer_first
-    (holder_in construct.region name) (holder_within inner depth name)
-
-abbrev pub is_copy : Holder → Bool
-is_copy Own = false
-is_copy Team = false
-is_copy Task = true
+-- the constructs up to the outermost `parallel` of those; all, where there is none
+abbrev pub to_parallel : List Construct → ℕ → List Construct
+to_parallel [] depth = []
+to_parallel (construct ∷ outer) depth = if alone_since outer depth then construct ∷ outer else to_parallel outer depth
 
 -- ---- what is known of those round a place
 
@@ -186,6 +182,7 @@ is_copy Task = true
 abbrev pub StandsIn : List Construct → ℕ → Bool → Type 0
 StandsIn constructs depth stands = outside_of constructs depth ≡ (if stands then further constructs else constructs)
 
--- what is true of all constructs round a place, with a table of those that list a name
-abbrev pub AreHeld : List Construct → List (List ℕ × List Listing) → Type 0
-AreHeld constructs table = AreMarked constructs × AreNested constructs (end_of constructs) × Lists table constructs
+-- what is true of all constructs round a place, with a table of those that list a name, and of each `parallel`
+abbrev pub AreHeld : List Construct → List (List ℕ × List Landmark) → List Landmark → Type 0
+AreHeld constructs table teams = AreMarked constructs × AreNested constructs (end_of constructs) × Lists table
+    constructs × (teams ≡ parallels constructs)

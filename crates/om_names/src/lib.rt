@@ -3,6 +3,7 @@
 #![tactic(auto)]
 
 mod construct;
+mod landmark;
 mod listed;
 mod listing;
 mod name;

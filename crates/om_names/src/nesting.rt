@@ -1,11 +1,12 @@
 //! The constructs round a place, one inside of the other, and what they make of a variable that is
 //! declared round them.
 
-ghost use Rattle.std.specs.Prelude.{◌≡◌, [], OnOk, reverse, suc};
-ghost use Rattle.om_names.specs.Nesting.{AreMarked, AreNested, StandsIn, copies, entered, holder_in, holder_since, holder_within, is_copy, marks_in, marks_of, marks_without, outside_of, unlisted_since};
-ghost use Rattle.om_rules.specs.Sharing.{asks_for_clauses, is_parallel, is_task, is_task_without};
+ghost use Rattle.std.specs.Prelude.{◌≡◌, ◌<◌, [], OnOk, reverse, suc, vec_len, vec_capacity};
+ghost use Rattle.om_names.specs.Nesting.{AreMarked, AreNested, StandsIn, copied_since, copies, entered, marks_in, marks_of, marks_without, outside_of, unlisted_since, with_parallel, without_parallel};
+ghost use Rattle.om_rules.specs.Sharing.{asks_for_clauses, is_parallel, is_task};
 
-use crate::listing::{Listing, Marks, list, marks_behind, unlist};
+use crate::landmark::{Landmark, Marks, first_deeper, last_within, marks_behind};
+use crate::listing::{list, unlist};
 use crate::stacks::Stacks;
 use om_pragma::Sharing;
 use om_rules::{Region, RegionKind};
@@ -23,17 +24,6 @@ pub struct Construct {
     pub marks: Marks,
 }
 
-/// Whose a function's variable is, inside of constructs that stand where it is declared.
-#[derive(Clone, Copy)]
-pub enum Holder {
-    /// The thread's that declares it: no construct changes that.
-    Own,
-    /// The team's: a `parallel` shares it.
-    Team,
-    /// A `task`'s, which makes a copy.
-    Task,
-}
-
 /// Whether it is `default(none)`.
 fn asks_for_clauses(default: Option<Sharing>) -> bool
     ensures { result ≡ asks_for_clauses default }
@@ -48,13 +38,6 @@ fn copies(region: &Region) -> bool
     is_task(region.kind) && !region.default.is_some()
 }
 
-/// Whether it is such a `task`, and does not list a name as shared.
-fn is_task_without(region: &Region, name: &[u8]) -> bool
-    ensures { result ≡ is_task_without region.now name.now }
-{
-    copies(region) && !region.shared.contains(name)
-}
-
 /// Whether it is a `parallel`.
 pub fn is_parallel(kind: RegionKind) -> bool
     ensures { result ≡ is_parallel kind }
@@ -67,44 +50,6 @@ fn is_task(kind: RegionKind) -> bool
     ensures { result ≡ is_task kind }
 {
     matches!(kind, RegionKind::Task)
-}
-
-/// Whose a variable is in a construct, where it is the thread's own round it.
-fn holder_in(region: &Region, name: &[u8]) -> Holder
-    ensures { result ≡ holder_in region.now name.now }
-{
-    if is_parallel(region.kind) {
-        Holder::Team
-    } else if is_task_without(region, name) {
-        Holder::Task
-    } else {
-        Holder::Own
-    }
-}
-
-/// Whose a variable is that a scope of this depth declares: of the constructs that stand there or in
-/// a deeper scope, the outermost that changes it decides. The innermost construct comes last.
-fn holder_since(constructs: &[Construct], depth: usize, name: &[u8]) -> Holder
-    ensures { result ≡ holder_within constructs.now depth name.now }
-{
-    let Some((construct, inner)) = constructs.split_first() else {
-        return Holder::Own;
-    };
-    if construct.depth < depth {
-        return holder_since(inner, depth, name);
-    }
-    match holder_in(&construct.region, name) {
-        Holder::Own => holder_since(inner, depth, name),
-        Holder::Team => Holder::Team,
-        Holder::Task => Holder::Task,
-    }
-}
-
-/// Whether it is a task's copy.
-fn is_copy(holder: Holder) -> bool
-    ensures { result ≡ is_copy holder }
-{
-    matches!(holder, Holder::Task)
 }
 
 /// The marks in a construct, round whose inner scope so many stand.
@@ -149,13 +94,37 @@ fn stands_in(constructs: &[Construct], depth: usize) -> bool
     construct.depth == depth
 }
 
+/// Notes a construct of a kind, if it is a `parallel`.
+fn note_parallel(parallels: &mut Vec<Landmark>, kind: RegionKind, landmark: Landmark)
+    requires has_room { vec_len parallels.old < vec_capacity parallels.old }
+    ensures { parallels.new.items ≡ with_parallel kind landmark parallels.old.items }
+{
+    if is_parallel(kind) {
+        match parallels.push(landmark) {
+            Ok(()) => {}
+            Err(_) => unreachable!(),
+        }
+    }
+}
+
+/// Forgets the innermost construct, which is of this kind, if it is a `parallel`.
+fn forget_parallel(parallels: &mut Vec<Landmark>, kind: RegionKind)
+    ensures { parallels.new.items ≡ without_parallel kind parallels.old.items }
+{
+    if is_parallel(kind) {
+        let _innermost = parallels.pop();
+    }
+}
+
 /// The constructs round a place. Contracts see them, the innermost first.
 #[derive(Drop)]
 pub struct Nesting {
     /// The innermost comes last.
     constructs: Vec<Construct>,
     /// For each name, those that list it as shared.
-    listings: Stacks<Listing>,
+    listings: Stacks<Landmark>,
+    /// Each `parallel` of them; the innermost comes last.
+    parallels: Vec<Landmark>,
 }
 
 impl Model for Nesting {
@@ -167,7 +136,7 @@ impl Model for Nesting {
 
     ghost view = { λ s. reverse s.constructs.items };
 
-    ghost invariant = { λ s. AreHeld (reverse s.constructs.items) s.listings };
+    ghost invariant = { λ s. AreHeld (reverse s.constructs.items) s.listings s.parallels.items };
 }
 
 impl Nesting {
@@ -178,6 +147,7 @@ impl Nesting {
         Nesting {
             constructs: Vec::new(alloc),
             listings: Stacks::new(alloc),
+            parallels: Vec::new(alloc),
         }
     }
 
@@ -195,13 +165,20 @@ impl Nesting {
         ensures nested { AreNested self.new inside }
     {
         self.constructs.reserve(1)?;
+        self.parallels.reserve(1)?;
         let outer = marks_of(self.constructs.as_slice());
         if let Err(error) = list(&mut self.listings, alloc, inside, outer, &region.shared) {
             drop(mem::replace(&mut self.constructs, Vec::new(alloc)));
             drop(mem::replace(&mut self.listings, Stacks::new(alloc)));
+            self.parallels.clear();
             return Err(error);
         }
         let marks = marks_in(&region, inside, outer);
+        let landmark = Landmark {
+            depth: inside,
+            marks,
+        };
+        note_parallel(&mut self.parallels, region.kind, landmark);
         match self.constructs.push(Construct {
             depth,
             region,
@@ -219,6 +196,7 @@ impl Nesting {
         if stands_in(self.constructs.as_slice(), depth) {
             if let Some(construct) = self.constructs.pop() {
                 unlist(&mut self.listings, &construct.region.shared);
+                forget_parallel(&mut self.parallels, construct.region.kind);
                 drop(construct);
             }
         }
@@ -241,11 +219,20 @@ impl Nesting {
         depth < self.marks_without(name).asking
     }
 
-    /// Whether a `task` of those makes a copy of a name's variable.
+    /// Whether a `task` of those makes a copy of a name's variable, as no `parallel` of those stands
+    /// round it. So what counts are the constructs up to the outermost `parallel` of those, and what
+    /// does not list the name among them. They are found by two binary searches: at most, this costs
+    /// the logarithm of the number of constructs, whatever they are.
     pub fn is_copied_since(&self, depth: usize, name: &[u8]) -> bool
-        ensures { result ≡ is_copy (holder_since self.now depth name.now) }
+        ensures { result ≡ copied_since self.now depth name.now }
     {
-        depth < self.marks_without(name).copying
-            && is_copy(holder_since(self.constructs.as_slice(), depth, name))
+        let marks = match first_deeper(self.parallels.as_slice(), depth) {
+            Some(parallel) => {
+                let listing = last_within(self.listings.items(name), parallel.depth);
+                marks_behind(listing, parallel.marks)
+            }
+            None => self.marks_without(name),
+        };
+        depth < marks.copying
     }
 }

@@ -33,11 +33,21 @@ impl<T: Copy + Drop> Stacks<T> {
         }
     }
 
+    /// The items of a name, the innermost last.
+    pub fn items(&self, name: &[u8]) -> &[T]
+        ensures { result.now ≡ seen_in self.now name.now }
+    {
+        match self.names.get(name) {
+            Some(seen) => seen.as_slice(),
+            None => &[],
+        }
+    }
+
     /// The innermost item of a name.
     pub fn innermost(&self, name: &[u8]) -> Option<T>
         ensures { result ≡ innermost_of (seen_in self.now name.now) }
     {
-        let (item, _) = self.names.get(name)?.as_slice().split_last()?;
+        let (item, _) = self.items(name).split_last()?;
         Some(*item)
     }
 

@@ -1,7 +1,7 @@
 use Rattle.std.proofs.Common.{[], ◌∷◌, ◌++◌, ◌≡◌, suc, reverse, refl, sym, subst, ap, ◌∙◌, arith}
 use Rattle.std.proofs.lemmas.List.{reverse-append}
-use Rattle.om_names.specs.Nesting.{AreMarked, AreNested, ChangedFor, Lists, end_of, entered, marks_in, marks_of}
-use Rattle.om_names.specs.Nesting.{with_listing}
+use Rattle.om_names.specs.Nesting.{AreHeld, AreNested, ChangedFor, entered, landmark_of, marks_in, marks_of}
+use Rattle.om_names.specs.Nesting.{parallels, with_listing, with_parallel}
 use Rattle.om_names.proofs.Marks.{lists-entered}
 use Rattle.om_names.proofs.nesting.Nesting.enter.Goals as goal
 
@@ -22,7 +22,15 @@ invariant_of-self-2 c =
     ∙ reverse-append items (record { depth = depth; region = region; marks = c.marks_in-marks.result } ∷ [])
     ∙ ap (λ marks. record { depth = depth; region = region; marks = marks } ∷ outer) marks in
     let nested : AreNested outer depth = subst (λ cs. AreNested cs depth) (sym c.self.view_is) c.requires.nested in
-    subst (λ cs. AreMarked cs × AreNested cs (end_of cs) × Lists c.list.new.listings cs) (sym pushed) (
+    let team : c.note_parallel.new.parallels.items ≡ parallels (entered depth region outer) =
+    c.note_parallel.ensures
+    ∙ ap (λ marks. with_parallel region.kind (record { depth = c.args.inside; marks = marks })
+    c.reserve-2.new.self.items) marks
+    ∙ ap (λ n. with_parallel region.kind (record { depth = n; marks = marks_in region (suc depth) (marks_of outer) })
+    c.reserve-2.new.self.items) c.requires.next
+    ∙ ap (with_parallel region.kind (landmark_of (entered depth region outer))) (c.in_ok-reserve-2.ensures.items
+    ∙ c.self.invariant.3) in
+    subst (λ cs. AreHeld cs c.list.new.listings c.note_parallel.new.parallels.items) (sym pushed) (
       (refl, c.self.invariant.0),
       (omega arith, nested),
       lists-entered c.self.inside.listings c.list.new.listings outer depth region nested c.self.invariant.2
@@ -30,4 +38,5 @@ invariant_of-self-2 c =
           region.shared) c.requires.next
           (subst (λ marks. ChangedFor (with_listing c.args.inside marks) c.self.inside.listings c.list.new.listings
           region.shared) all c.in_default.ensures)),
+      team,
     )

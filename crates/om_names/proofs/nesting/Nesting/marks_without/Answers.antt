@@ -1,5 +1,6 @@
 use Rattle.std.proofs.Common.{reverse, ap, ◌∙◌}
-use Rattle.om_names.specs.Nesting.{end_of, marks_behind, marks_of, marks_without}
+use Rattle.om_names.specs.Landmarks.{marks_behind}
+use Rattle.om_names.specs.Nesting.{end_of, marks_of, marks_without}
 use Rattle.om_names.specs.Stacks.{innermost_of}
 use Rattle.om_names.proofs.Marks.{marks-without}
 use Rattle.om_names.proofs.nesting.Nesting.marks_without.Goals as goal

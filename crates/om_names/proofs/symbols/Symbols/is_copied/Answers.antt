@@ -1,6 +1,6 @@
 use Rattle.std.proofs.Common.{◌∷◌, ◌<◌, ◌≤◌, ◌&&◌, subst, sym, ap, ◌∙◌}
 use Rattle.std.proofs.lemmas.Bool.{le-ltb, lt-ltb}
-use Rattle.om_names.specs.Nesting.{AreNested, holder_since, is_copy}
+use Rattle.om_names.specs.Nesting.{AreNested, copied_since}
 use Rattle.om_rules.specs.Scopes.{scope_of}
 use Rattle.om_rules.specs.Sharing.{is_copied}
 use Rattle.om_names.specs.Sightings.{depth_of, scopes_of, sightings}
@@ -17,9 +17,9 @@ returns-then-depth-gt0 c =
     let depth = c.depth_of-depth.ensures ∙ ap (λ seen. depth_of seen) (c.innermost.ensures ∙ ap innermost_of
     (c.self.invariant.2 name)) in
     c.is_copied_since.ensures
-    ∙ ap (λ d. is_copy (holder_since constructs d name)) depth
-    ∙ sym (ap (λ deep. deep && is_copy (holder_since constructs (depth_of (innermost_of (sightings scopes name)))
-    name)) (lt-ltb 0 (depth_of (innermost_of (sightings scopes name)))
+    ∙ ap (λ d. copied_since constructs d name) depth
+    ∙ sym (ap (λ deep. deep && copied_since constructs (depth_of (innermost_of (sightings scopes name)))
+    name) (lt-ltb 0 (depth_of (innermost_of (sightings scopes name)))
     (subst (λ d. 0 < d) depth c.if-depth-gt0.true)))
     ∙ sym (copied-at (scope_of fields.inner.entries) (scopes_of fields.outer.items) constructs name
     (subst (AreNested constructs) (sym (length-scopes fields.outer.items)) c.self.invariant.1))
@@ -34,8 +34,8 @@ returns-else-depth-gt0 c =
     let depth = c.depth_of-depth.ensures ∙ ap (λ seen. depth_of seen) (c.innermost.ensures ∙ ap innermost_of
     (c.self.invariant.2 name)) in
     le-ltb 0 c.depth_of-depth.result c.if-depth-gt0.false
-    ∙ sym (ap (λ deep. deep && is_copy (holder_since constructs (depth_of (innermost_of (sightings scopes name)))
-    name)) (le-ltb 0 (depth_of (innermost_of (sightings scopes name)))
+    ∙ sym (ap (λ deep. deep && copied_since constructs (depth_of (innermost_of (sightings scopes name)))
+    name) (le-ltb 0 (depth_of (innermost_of (sightings scopes name)))
     (subst (λ d. d ≤ 0) depth c.if-depth-gt0.false)))
     ∙ sym (copied-at (scope_of fields.inner.entries) (scopes_of fields.outer.items) constructs name
     (subst (AreNested constructs) (sym (length-scopes fields.outer.items)) c.self.invariant.1))
