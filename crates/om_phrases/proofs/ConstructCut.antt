@@ -1,5 +1,5 @@
 -- Where a directive or the statement behind it is refused by another code than that of syntax.
-use Rattle.std.proofs.Common.{◌≡◌, ℕ, suc, List, [], ◌∷◌, ◌++◌, Bool, true, false, not, ◌||◌, cond, Err, refl, sym, ap}
+use Rattle.std.proofs.Common.{◌≡◌, ℕ, suc, List, [], ◌∷◌, ◌++◌, Some, Bool, true, false, not, ◌||◌, cond, Err, refl, sym, ap}
 use Rattle.std.proofs.Common.{◌∙◌, inl, inr}
 use Rattle.std.specs.Prelude.{codes}
 use Rattle.std.proofs.lemmas.List.{append-nil}
@@ -22,21 +22,23 @@ use Rattle.om_phrases.specs.declared.construct.LineStart.TheVariants as lines
 use Rattle.om_tree.specs.AtomicForms.{has_atomic_form}
 use Rattle.om_parts.specs.PartReading.{LineReader}
 use Rattle.om_phrases.specs.ConstructReading.{PartsReader, line_start, from_word, misplaced, unknown_line}
-use Rattle.om_phrases.specs.ConstructReading.{stand_alone_at, item_of, part_item_at, section_at, bad_atomic, atomic_of}
+use Rattle.om_phrases.specs.ConstructReading.{stand_alone_at, item_of, part_item_at, bad_atomic, atomic_of}
 use Rattle.om_phrases.specs.ConstructReading.{atomic_after, constructed_after, sections_after, construct_after}
 use Rattle.om_phrases.specs.ConstructReading.{construct_at, line_of}
 use Rattle.om_phrases.specs.Faults.{IsStopped}
-use Rattle.om_tree.specs.Formed.{IsLine, IsConstruct, IsStatement, IsBody, IsSectionItem, AreSome, AreSectionItems}
+use Rattle.om_tree.specs.Formed.{IsLine, IsConstruct, IsStatement, IsBody, IsSection, AreParts}
 use Rattle.om_tree.specs.Limits.{Limits}
-use Rattle.om_tree.specs.Places.{Place, Behind, Either, AtDepth, AtBrace, IsOverInside, IsOverInItems}
+use Rattle.om_tree.specs.Places.{Place, Behind, Either, AtDepth, AtBrace, IsOverInside, IsOverInParts}
 use Rattle.om_tree.specs.Places.{IsOverInStatement}
 use Rattle.om_parts.specs.Reading.{Reader}
 use Rattle.om_tree.specs.Spelling.{token, mark, expression_spelling, statement_spelling}
-use Rattle.om_tree.specs.Tree.{ExpressionTree, StatementTree, StatementsTree, Empty, Construct, Sections, Section}
+use Rattle.om_tree.specs.Spelling.{part_spelling}
+use Rattle.om_tree.specs.Tree.{ExpressionTree, StatementTree, Empty, Construct, Sections, NoStatements, Statement}
+use Rattle.om_tree.specs.Tree.{PartsTree, PartTree}
 use Rattle.om_phrases.specs.Outcomes.{ok, bind_err, after_front, err_is}
 use Rattle.om_phrases.proofs.LineStarts.{start_of_directive, line_start_is}
 use Rattle.om_parts.specs.Laws.{IsSound, IsWholeLine, Stops, IsLineCut}
-use Rattle.om_phrases.proofs.StatementParts.{IsStatementSound, body_is_part, braces_spelling}
+use Rattle.om_phrases.proofs.StatementParts.{IsStatementSound, braces_spelling}
 use Rattle.om_phrases.specs.Stopped.{syntax_plain, within_larger}
 
 -- a statement that may be a part of another
@@ -55,18 +57,18 @@ abbrev pub IsStatementCut : Limits → (depth nested : ℕ) → Reader Statement
 IsStatementCut l depth nested r = (ts : List Token) (f : SourceFault) → r ts ≡ Err f → Stops f → IsStatementStopped
     l depth nested ts f
 
--- well-formed items in the braces of `sections`
-abbrev pub AreParts : Span × StatementsTree × Span → Type 0
-AreParts x = AreSome x.1 × AreSectionItems x.1
+-- well-formed parts in the braces of `sections`
+abbrev pub AreBraces : Span × PartsTree × Span → Type 0
+AreBraces x = AreParts x.1
 
 -- in the braces of a `sections` round which so many statements and blocks stand
-abbrev pub InBraces : Limits → (depth nested : ℕ) → Span × StatementsTree × Span → Place
+abbrev pub InBraces : Limits → (depth nested : ℕ) → Span × PartsTree × Span → Place
 InBraces l depth nested x = Either (Either (AtDepth l (suc depth)) (AtBrace l nested))
-    (Behind (mark punctuators.OpenBrace x.0 ∷ []) (IsOverInItems l (suc (suc depth)) (suc nested) x.1))
+    (Behind (mark punctuators.OpenBrace x.0 ∷ []) (IsOverInParts l (suc (suc depth)) (suc nested) x.1))
 
 abbrev pub AreBracesCut : Limits → (depth nested : ℕ) → PartsReader → Type 0
 AreBracesCut l depth nested r = (ts : List Token) (f : SourceFault) → r ts ≡ Err f → Stops f
-    → IsStopped braces_spelling AreParts (InBraces l depth nested) l ts f
+    → IsStopped braces_spelling AreBraces (InBraces l depth nested) l ts f
 
 -- the name of a directive that begins a construct
 construct_name : (name : DirectiveName) → start_of_directive name ≡ lines.Construct → (is_stand_alone name ≡ false)
@@ -78,15 +80,6 @@ construct_name name is = go (is_stand_alone name) (is_section name) is
     go true section is = absurd cc
     go false true is = absurd cc
     go false false is = (refl, refl)
-
-section_name : (name : DirectiveName) → start_of_directive name ≡ lines.Section → is_section name ≡ true
-section_name name is = go (is_stand_alone name) (is_section name) is
-  where
-    go : (alone section : Bool) → cond alone lines.StandAlone (cond section lines.Section lines.Construct)
-        ≡ lines.Section → section ≡ true
-    go true section is = absurd cc
-    go false true is = refl
-    go false false is = absurd cc
 
 -- the statement of an `atomic` is refused only where it is checked and has no form
 no_form : (checked has : Bool) (x : StatementTree × List Token) (bad f : SourceFault) → cond (not checked || has)
@@ -138,12 +131,40 @@ line_begins (t ∷ ts) some = go t.kind some
     go kinds.DirectiveBegin some = (t.span, ts, refl)
     go _ some = absurd (some refl)
 
--- a line that stands first is refused where a part may stand
-line_stopped : (IsFormed : StatementTree → Type 0) (over : StatementTree → Place)
-    → ((at : Span) → IsFormed (any_construct at)) → (l : Limits) (r : LineReader) → IsLineCut l r
+-- the line of a `section`, and a part that is surely well-formed
+abbrev any_section : Span → Directive ExpressionTree
+any_section at = record {
+  hash = at;
+  pragma = at;
+  omp = at;
+  name = directives.Section at;
+  clauses = [];
+  end = at;
+}
+
+pub any_section_formed : (at : Span) → IsSection (Some (any_section at))
+unfolding IsDirective EachBehind
+any_section_formed at = (tt, refl)
+
+abbrev pub any_part : Span → PartTree
+any_part at = record { section = Some (any_section at); items = Statement (Empty at) NoStatements }
+
+abbrev pub any_part_rest : Span → List Token
+any_part_rest at = token (kinds.Name (codes "pragma")) at ∷ token (kinds.Name (codes "omp")) at
+    ∷ token (directive_word words.Section) at ∷ token kinds.DirectiveEnd at ∷ mark punctuators.Semicolon at ∷ []
+
+pub any_part_spelled : (at : Span) → part_spelling (any_part at) ≡ token kinds.DirectiveBegin at ∷ any_part_rest at
+unfolding directive_spelling opening_spelling name_spelling statement_spelling
+any_part_spelled at = refl
+
+-- a line that stands first is refused where such a part may stand, which begins with a `#`
+pub line_stopped_in : {A : Type 0} (spell : A → List Token) (IsFormed : A → Type 0) (over : A → Place)
+    (any : Span → A) (any_rest : Span → List Token) → ((at : Span) → IsFormed (any at))
+    → ((at : Span) → spell (any at) ≡ token kinds.DirectiveBegin at ∷ any_rest at)
+    → (l : Limits) (r : LineReader) → IsLineCut l r
     → (ts : List Token) (f : SourceFault) → (line_start ts ≡ lines.Nothing → ⊥) → r ts ≡ Err f → Stops f
-    → IsStopped statement_spelling IsFormed over l ts f
-line_stopped IsFormed over formed l r cut ts f some h stops =
+    → IsStopped spell IsFormed over l ts f
+line_stopped_in spell IsFormed over any any_rest formed spelled l r cut ts f some h stops =
     let b = line_begins ts some in
     let c = cut b.0 b.1 f (ap r (sym b.2) ∙ h) stops in
     inr (inl (record {
@@ -154,13 +175,20 @@ line_stopped IsFormed over formed l r cut ts f some h stops =
         after = c.after;
         stands = b.2 ∙ c.parts;
         one_line = c.one_line;
-        part = any_construct b.0;
+        part = any b.0;
         formed = formed b.0;
         hash = b.0;
-        rest_of_part = any_line_rest b.0 ++ mark punctuators.Semicolon b.0 ∷ [];
-        in_part = any_construct_spelled b.0;
+        rest_of_part = any_rest b.0;
+        in_part = spelled b.0;
       };
     }))
+
+-- the same where a statement may stand
+line_stopped : (over : StatementTree → Place) → (l : Limits) (r : LineReader) → IsLineCut l r
+    → (ts : List Token) (f : SourceFault) → (line_start ts ≡ lines.Nothing → ⊥) → r ts ≡ Err f → Stops f
+    → IsStopped statement_spelling IsPart over l ts f
+line_stopped over = line_stopped_in statement_spelling IsPart over any_construct
+    (λ at. any_line_rest at ++ mark punctuators.Semicolon at ∷ []) any_construct_part any_construct_spelled
 
 module _ (l : Limits) (line : LineReader) (sound : IsSound (directive_spelling expression_spelling) (IsWholeLine l)
     line) (cut : IsLineCut l line) where
@@ -175,14 +203,14 @@ module _ (l : Limits) (line : LineReader) (sound : IsSound (directive_spelling e
       start ts ≡ Err f → Stops f → IsStatementStopped l depth nested ts f
   unfolding item_of stand_alone_at unknown_line misplaced
   item_of_cut depth nested statement inner lines.StandAlone ts f is h stops = elim (bind_err (line ts) _ f h) [
-    | inl fails ↦ line_stopped IsPart (IsOverInStatement l depth nested) any_construct_part l line cut ts f
+    | inl fails ↦ line_stopped (IsOverInStatement l depth nested) l line cut ts f
         (λ none. absurd cc) fails stops
     | inr (d, reads, no_err) ↦ absurd cc
   ]
   item_of_cut depth nested statement inner lines.Section ts f is h stops = absurd
       (syntax_plain (from_word ts) f h stops)
   item_of_cut depth nested statement inner lines.Unknown ts f is h stops = elim (bind_err (line ts) _ f h) [
-    | inl fails ↦ line_stopped IsPart (IsOverInStatement l depth nested) any_construct_part l line cut ts f
+    | inl fails ↦ line_stopped (IsOverInStatement l depth nested) l line cut ts f
         (λ none. absurd cc) fails stops
     | inr (d, reads, g) ↦ absurd (syntax_plain (from_word ts) f g stops)
   ]
@@ -194,36 +222,6 @@ module _ (l : Limits) (line : LineReader) (sound : IsSound (directive_spelling e
   unfolding part_item_at
   part_item_cut depth nested statement inner ts f h stops = item_of_cut depth nested statement inner (line_start ts)
       ts f refl h stops
-
-  pub section_cut : (depth nested : ℕ) (statement : Reader StatementTree) → IsStatementCut l depth nested statement
-      → (ts : List Token) (f : SourceFault) → line_start ts ≡ lines.Section → section_at line statement ts ≡ Err f
-      → Stops f
-      → IsStopped statement_spelling (λ s. IsStatement s × IsSectionItem s) (IsOverInStatement l depth nested) l ts f
-  unfolding section_at statement_spelling IsStatement IsOverInside
-  section_cut depth nested statement inner ts f is h stops = elim (bind_err (line ts) _ f h) [
-    | inl fails ↦ line_stopped (λ s. IsStatement s × IsSectionItem s) (IsOverInStatement l depth nested)
-        (λ at. ((any_construct_part at).0, tt)) l line cut ts f (λ none. absurd cc) fails stops
-    | inr (d, reads, g) ↦ elim (bind_err (part_item_at line statement d.1) _ f g) [
-      | inr (s, read, no_err) ↦ absurd cc
-      | inl fails ↦
-          let r = sound ts d reads in
-          let front : List Token = directive_spelling expression_spelling d.0 in
-          within_larger statement_spelling (λ s. IsStatement s × IsSectionItem s) (IsOverInStatement l depth nested)
-          front [] (Section d.0) ts d.1 f
-          (λ s is_part. (
-            (
-              r.formed.formed,
-              section_name d.0.name (started ts d lines.Section reads is),
-              is_part.0,
-              body_is_part s is_part.1,
-            ),
-            tt,
-          ))
-          (λ s. ap (λ (w : List Token). front ++ w) (sym (append-nil (statement_spelling s))))
-          (λ s before t over. inr (before, refl, over))
-          r.parts (part_item_cut depth nested statement inner d.1 f fails stops)
-    ]
-  ]
 
   -- ---- constructs
 
@@ -283,7 +281,7 @@ module _ (l : Limits) (line : LineReader) (sound : IsSound (directive_spelling e
         let front : List Token = directive_spelling expression_spelling d in
         within_larger statement_spelling IsPart (IsOverInside l depth nested) front [] (λ x. Sections d x.0 x.1 x.2)
         ts us f
-        (λ x are. ((formed, name, are.0, are.1), tt))
+        (λ x are. ((formed, name, are), tt))
         (λ x. ap (λ (w : List Token). front ++ w) (sym (append-nil (braces_spelling x))))
         (λ x before t over. (before, refl, over))
         is (inner us f fails stops)
@@ -321,7 +319,7 @@ module _ (l : Limits) (line : LineReader) (sound : IsSound (directive_spelling e
   unfolding construct_at construct_after
   construct_cut depth nested checked room blocks_left statement good inner parts braces ts f is h stops =
       elim (bind_err (line ts) _ f h) [
-        | inl fails ↦ line_stopped IsPart (IsOverInside l depth nested) any_construct_part l line cut ts f
+        | inl fails ↦ line_stopped (IsOverInside l depth nested) l line cut ts f
             (λ none. absurd cc) fails stops
         | inr (d, reads, g) ↦
             let r = sound ts d reads in
@@ -342,7 +340,7 @@ module _ (l : Limits) (line : LineReader) (sound : IsSound (directive_spelling e
       stops = construct_cut depth nested checked room blocks_left statement good inner parts braces ts f is h stops
   line_of_cut depth nested checked room blocks_left statement good inner parts braces lines.Unknown ts f is h
       stops = elim (bind_err (line ts) _ f h) [
-        | inl fails ↦ line_stopped IsPart (IsOverInside l depth nested) any_construct_part l line cut ts f
+        | inl fails ↦ line_stopped (IsOverInside l depth nested) l line cut ts f
             (λ none. absurd cc) fails stops
         | inr (d, reads, g) ↦ absurd (syntax_plain (from_word ts) f g stops)
       ]

@@ -1,32 +1,32 @@
 -- What stands before a body, and items in braces: what is read of them is well-formed.
-use Rattle.std.proofs.Common.{◌≡◌, ℕ, zero, suc, ◌≤◌, List, [], ◌∷◌, ◌++◌, length, Option, Some, None, Bool, true, false, refl, sym, ap, subst, ◌∙◌, arith, append_assoc, inl, inr}
+use Rattle.std.proofs.Common.{◌≡◌, ℕ, zero, suc, ◌≤◌, List, [], ◌∷◌, ◌++◌, length, Option, Some, None, Bool, true, false, not, refl, sym, ap, subst, ◌∙◌, arith, append_assoc, inl, inr}
 use Rattle.om_lexer.specs.declared.token.Keyword.TheVariants as keywords
 use Rattle.om_lexer.specs.declared.token.Punctuator.{Punctuator}
 use Rattle.om_lexer.specs.declared.token.Punctuator.TheVariants as punctuators
 use Rattle.om_lexer.specs.declared.token.Span.{Span}
 use Rattle.om_lexer.specs.declared.token.Token.{Token}
-use Rattle.om_pragma.specs.Spelling.{directive_spelling}
+use Rattle.om_pragma.specs.declared.tree.Directive.{Directive}
 use Rattle.om_phrases.specs.declared.construct.LineStart.{LineStart}
 use Rattle.om_phrases.specs.declared.construct.LineStart.TheVariants as lines
-use Rattle.om_phrases.specs.declared.statement.Inside.{Inside}
-use Rattle.om_phrases.specs.declared.statement.Inside.TheVariants as insides
 use Rattle.om_phrases.specs.declared.start.Start.{Start}
 use Rattle.om_phrases.specs.declared.start.Start.TheVariants as starts
-use Rattle.om_phrases.specs.ConstructReading.{line_start, misplaced, unknown_line, stand_alone_at, item_of, part_item_at, section_at, section_item_of, section_item_at}
+use Rattle.om_phrases.specs.ConstructReading.{line_start, misplaced, unknown_line, stand_alone_at, item_of, part_item_at, is_section_line, ends_part, ends_parts, section_of, part_at}
+use Rattle.om_phrases.specs.OneOrMore.{one_or_more}
 use Rattle.om_parts.specs.Reading.{Reader, choose, take_mark, take_word, mark_at, word_at}
-use Rattle.om_parts.specs.Repetition.{until}
-use Rattle.om_tree.specs.Spelling.{mark, word, expression_spelling, condition_spelling, for_start_spelling, for_head_spelling, statement_spelling}
-use Rattle.om_tree.specs.Formed.{IsForHead, ends_open, AreSome, IsStatement}
+use Rattle.om_tree.specs.Spelling.{mark, word, expression_spelling, condition_spelling, for_start_spelling, for_head_spelling, statement_spelling, statements_spelling, parts_spelling, part_spelling, section_spelling}
+use Rattle.om_tree.specs.Formed.{IsForHead, ends_open, IsStatement, IsSection, IsOptionalSection}
 use Rattle.om_tree.specs.Limits.{Limits}
-use Rattle.om_tree.specs.Sizes.{HasForms}
+use Rattle.om_tree.specs.Sizes.{HasForms, section_longest, section_nesting}
 use Rattle.om_parts.specs.PartReading.{Parts}
-use Rattle.om_phrases.specs.StatementReading.{condition_at, optional_before, for_start_at, for_head_after, OpeningTree, OpensIf, OpensWhile, OpensFor, with_body, opening_of, else_after, behind_body, body_after, headed_of, do_end, do_after, block_item_at, item_at, items_at, block_items_after, section_items_after, parts_after}
-use Rattle.om_tree.specs.Tree.{ExpressionTree, ConditionTree, Nothing, StartExpression, ForHeadTree, StatementTree, StatementsTree, statements}
+use Rattle.om_phrases.specs.StatementReading.{condition_at, optional_before, for_start_at, for_head_after, OpeningTree, OpensIf, OpensWhile, OpensFor, with_body, opening_of, else_after, behind_body, body_after, headed_of, do_end, do_after, block_item_at, block_items_after, parts_after}
+use Rattle.om_tree.specs.Tree.{ExpressionTree, ConditionTree, Nothing, StartExpression, ForHeadTree, StatementTree, PartsTree, PartTree, statements}
+use Rattle.om_tree.specs.Tree as trees
 use Rattle.om_parts.specs.Laws.{IsRead, IsSound, IsWhole, ArePartsSound}
 use Rattle.om_phrases.specs.Outcomes.{ok, ok_is, some, bind_ok, choose_cases, after_front, after_token}
 use Rattle.om_phrases.specs.Taken.{take_mark_is, take_word_is, mark_at_is, word_at_is}
 use Rattle.om_phrases.specs.ItemsSound.{until_sound}
-use Rattle.om_phrases.proofs.StatementParts.{IsWholeOptional, IsWholeStart, IsWholeHead, optional_spelling, opening_spelling, IsWholeOpening, IsGoodBody, IsGoodItem, IsGoodPart, are_good, body_is_part, part_inside, statements_flat, IsStatementRead, IsStatementSound, AreItemsRead, AreItemsInside, braces_spelling, AreGoodBraces, Whole, alone_named, section_named}
+use Rattle.om_phrases.proofs.OneOrMore.{several_sound}
+use Rattle.om_phrases.proofs.StatementParts.{IsWholeOptional, IsWholeStart, IsWholeHead, optional_spelling, opening_spelling, IsWholeOpening, IsGood, IsGoodBody, IsGoodPartItem, are_good, IsGoodPart, good_part, are_good_parts, body_is_part, statements_flat, parts_flat, IsStatementRead, IsStatementSound, AreItemsRead, braces_spelling, AreGoodBraces, Whole, alone_named, section_named}
 
 module _ (p : Parts) (l : Limits) (one : 1 ≤ l.nested) (sound : ArePartsSound p l) where
   pub condition_sound : IsSound condition_spelling (λ c. IsWhole l 1 c.value) (condition_at p)
@@ -223,15 +223,15 @@ module _ (p : Parts) (l : Limits) (one : 1 ≤ l.nested) (sound : ArePartsSound 
 
   -- ---- items in braces
 
-  part_of_body : (checked : Bool) (room blocks_left : ℕ) (s : StatementTree) → IsGoodBody l checked room blocks_left s → IsGoodPart l checked room blocks_left s
+  part_of_body : (checked : Bool) (room blocks_left : ℕ) (s : StatementTree) → IsGoodBody l checked room blocks_left s → IsGoodPartItem l checked room blocks_left s
   part_of_body checked room blocks_left s g = record { formed = g.good.formed; room_for = g.good.room_for; part = body_is_part s g.body }
 
-  stand_alone_sound : (checked : Bool) (room blocks_left : ℕ) (ts : List Token) (x : StatementTree × List Token) → line_start ts ≡ lines.StandAlone → stand_alone_at p.line ts ≡ ok x → IsRead statement_spelling (IsGoodPart l checked room blocks_left) ts x
+  stand_alone_sound : (checked : Bool) (room blocks_left : ℕ) (ts : List Token) (x : StatementTree × List Token) → line_start ts ≡ lines.StandAlone → stand_alone_at p.line ts ≡ ok x → IsRead statement_spelling (IsGoodPartItem l checked room blocks_left) ts x
   unfolding stand_alone_at statement_spelling IsStatement HasForms
   stand_alone_sound checked room blocks_left ts x is h =
       let d = bind_ok (p.line ts) _ x h in
       let line = sound.line ts d.0 d.1 in
-      subst (IsRead statement_spelling (IsGoodPart l checked room blocks_left) ts) (ok_is _ x d.2) (record {
+      subst (IsRead statement_spelling (IsGoodPartItem l checked room blocks_left) ts) (ok_is _ x d.2) (record {
         parts = line.parts;
         formed = record {
           formed = (line.formed.formed, alone_named ts d.0.0 d.0.1 is line.parts);
@@ -240,7 +240,7 @@ module _ (p : Parts) (l : Limits) (one : 1 ≤ l.nested) (sound : ArePartsSound 
         };
       })
 
-  item_of_sound : (checked : Bool) (room blocks_left : ℕ) (statement : Reader StatementTree) → IsStatementSound l checked room blocks_left statement → (start : LineStart) (ts : List Token) (x : StatementTree × List Token) → line_start ts ≡ start → item_of p.line statement start ts ≡ ok x → IsRead statement_spelling (IsGoodPart l checked room blocks_left) ts x
+  item_of_sound : (checked : Bool) (room blocks_left : ℕ) (statement : Reader StatementTree) → IsStatementSound l checked room blocks_left statement → (start : LineStart) (ts : List Token) (x : StatementTree × List Token) → line_start ts ≡ start → item_of p.line statement start ts ≡ ok x → IsRead statement_spelling (IsGoodPartItem l checked room blocks_left) ts x
   unfolding item_of misplaced unknown_line
   item_of_sound checked room blocks_left statement inner lines.StandAlone ts x is h = stand_alone_sound checked room blocks_left ts x is h
   item_of_sound checked room blocks_left statement inner lines.Section ts x is h = absurd cc
@@ -249,130 +249,156 @@ module _ (p : Parts) (l : Limits) (one : 1 ≤ l.nested) (sound : ArePartsSound 
   item_of_sound checked room blocks_left statement inner lines.Nothing ts x is h = let r = inner ts x h in record { parts = r.parts; formed = part_of_body checked room blocks_left x.0 r.good }
 
   -- a statement, or a directive that stands alone
-  pub part_item_sound_with : (checked : Bool) (room blocks_left : ℕ) (statement : Reader StatementTree) → IsStatementSound l checked room blocks_left statement → IsSound statement_spelling (IsGoodPart l checked room blocks_left) (part_item_at p.line statement)
+  pub part_item_sound_with : (checked : Bool) (room blocks_left : ℕ) (statement : Reader StatementTree) → IsStatementSound l checked room blocks_left statement → IsSound statement_spelling (IsGoodPartItem l checked room blocks_left) (part_item_at p.line statement)
   unfolding part_item_at
   part_item_sound_with checked room blocks_left statement inner ts x h = item_of_sound checked room blocks_left statement inner (line_start ts) ts x refl h
 
-  item_of_part : (i : Inside) (checked : Bool) (room blocks_left : ℕ) (ts : List Token) (x : StatementTree × List Token) → IsRead statement_spelling (IsGoodPart l checked room blocks_left) ts x → IsRead statement_spelling (IsGoodItem i l checked room blocks_left) ts x
-  item_of_part i checked room blocks_left ts x r = record { parts = r.parts; formed = record { formed = r.formed.formed; room_for = r.formed.room_for; inside = part_inside i x.0 r.formed.part } }
+  good_item : (checked : Bool) (room blocks_left : ℕ) (ts : List Token) (x : StatementTree × List Token)
+      → IsRead statement_spelling (IsGoodPartItem l checked room blocks_left) ts x
+      → IsRead statement_spelling (IsGood l checked room blocks_left) ts x
+  good_item checked room blocks_left ts x r = record {
+    parts = r.parts;
+    formed = record { formed = r.formed.formed; room_for = r.formed.room_for };
+  }
 
-  pub block_item_sound_with : (checked : Bool) (room blocks_left : ℕ) (statement : Reader StatementTree) → IsStatementSound l checked room blocks_left statement → IsSound statement_spelling (IsGoodItem insides.Block l checked room blocks_left) (block_item_at p statement)
+  pub block_item_sound_with : (checked : Bool) (room blocks_left : ℕ) (statement : Reader StatementTree) → IsStatementSound l checked room blocks_left statement → IsSound statement_spelling (IsGood l checked room blocks_left) (block_item_at p statement)
   unfolding block_item_at statement_spelling IsStatement HasForms
   block_item_sound_with checked room blocks_left statement inner ts x h = elim (choose_cases (take_word keywords.Int ts) _ _ (ok x) h) [
     | inl i ↦
         let d = bind_ok (p.declaration i.0.0 i.0.1) _ x i.2 in
         let r = sound.declaration i.0.0 i.0.1 d.0 d.1 in
-        subst (IsRead statement_spelling (IsGoodItem insides.Block l checked room blocks_left) ts) (ok_is _ x d.2) (record {
+        subst (IsRead statement_spelling (IsGood l checked room blocks_left) ts) (ok_is _ x d.2) (record {
           parts = take_word_is keywords.Int ts i.0.0 i.0.1 i.1 ∙ r.parts;
           formed = record {
             formed = r.formed.formed;
             room_for = record { high = omega arith; deep = omega arith; nested = omega (arith, r.formed.nested); long = r.formed.long; forms = tt };
-            inside = tt;
           };
         })
-    | inr g ↦ item_of_part insides.Block checked room blocks_left ts x (part_item_sound_with checked room blocks_left statement inner ts x g.1)
+    | inr g ↦ good_item checked room blocks_left ts x (part_item_sound_with checked room blocks_left statement inner ts x g.1)
   ]
-
-  section_sound : (checked : Bool) (room blocks_left : ℕ) (statement : Reader StatementTree) → IsStatementSound l checked room blocks_left statement → (ts : List Token) (x : StatementTree × List Token) → line_start ts ≡ lines.Section → section_at p.line statement ts ≡ ok x → IsRead statement_spelling (IsGoodItem insides.Sections l checked room blocks_left) ts x
-  unfolding section_at statement_spelling IsStatement HasForms
-  section_sound checked room blocks_left statement inner ts x is h =
-      let d = bind_ok (p.line ts) _ x h in
-      let s = bind_ok (part_item_at p.line statement d.0.1) _ x d.2 in
-      let line = sound.line ts d.0 d.1 in
-      let r = part_item_sound_with checked room blocks_left statement inner d.0.1 s.0 s.1 in
-      subst (IsRead statement_spelling (IsGoodItem insides.Sections l checked room blocks_left) ts) (ok_is _ x s.2) (record {
-        parts = after_front ts (directive_spelling expression_spelling d.0.0) d.0.1 (statement_spelling s.0.0) s.0.1 line.parts r.parts;
-        formed = record {
-          formed = (line.formed.formed, section_named ts d.0.0 d.0.1 is line.parts, r.formed.formed, r.formed.part);
-          room_for = record {
-            high = r.formed.room_for.high;
-            deep = r.formed.room_for.deep;
-            nested = omega (arith, line.formed.nested, r.formed.room_for.nested);
-            long = omega (arith, line.formed.long, r.formed.room_for.long);
-            forms = r.formed.room_for.forms;
-          };
-          inside = tt;
-        };
-      })
-
-  section_item_of_sound : (checked : Bool) (room blocks_left : ℕ) (statement : Reader StatementTree) → IsStatementSound l checked room blocks_left statement → (start : LineStart) (ts : List Token) (x : StatementTree × List Token) → line_start ts ≡ start → section_item_of p.line statement start ts ≡ ok x → IsRead statement_spelling (IsGoodItem insides.Sections l checked room blocks_left) ts x
-  unfolding section_item_of
-  section_item_of_sound checked room blocks_left statement inner lines.Section ts x is h = section_sound checked room blocks_left statement inner ts x is h
-  section_item_of_sound checked room blocks_left statement inner lines.StandAlone ts x is h = item_of_part insides.Sections checked room blocks_left ts x (part_item_sound_with checked room blocks_left statement inner ts x h)
-  section_item_of_sound checked room blocks_left statement inner lines.Unknown ts x is h = item_of_part insides.Sections checked room blocks_left ts x (part_item_sound_with checked room blocks_left statement inner ts x h)
-  section_item_of_sound checked room blocks_left statement inner lines.Construct ts x is h = item_of_part insides.Sections checked room blocks_left ts x (part_item_sound_with checked room blocks_left statement inner ts x h)
-  section_item_of_sound checked room blocks_left statement inner lines.Nothing ts x is h = item_of_part insides.Sections checked room blocks_left ts x (part_item_sound_with checked room blocks_left statement inner ts x h)
-
-  -- an item in the braces of `sections`
-  pub section_item_sound_with : (checked : Bool) (room blocks_left : ℕ) (statement : Reader StatementTree) → IsStatementSound l checked room blocks_left statement → IsSound statement_spelling (IsGoodItem insides.Sections l checked room blocks_left) (section_item_at p.line statement)
-  unfolding section_item_at
-  section_item_sound_with checked room blocks_left statement inner ts x h = section_item_of_sound checked room blocks_left statement inner (line_start ts) ts x refl h
-
-  -- an item in such braces
-  pub item_sound_with : (i : Inside) (checked : Bool) (room blocks_left : ℕ) (statement : Reader StatementTree) → IsStatementSound l checked room blocks_left statement → IsSound statement_spelling (IsGoodItem i l checked room blocks_left) (item_at i p statement)
-  item_sound_with insides.Block checked room blocks_left statement inner = block_item_sound_with checked room blocks_left statement inner
-  item_sound_with insides.Sections checked room blocks_left statement inner = section_item_sound_with checked room blocks_left statement inner
-
-  -- the items in such braces
-  pub items_sound_with : (i : Inside) (checked : Bool) (room blocks_left : ℕ) (statement : Reader StatementTree) → IsStatementSound l checked room blocks_left statement → (ts : List Token) (x : List StatementTree × Span × List Token) → items_at i p statement ts ≡ ok x → AreItemsInside i l checked room blocks_left ts x
-  items_sound_with i checked room blocks_left statement inner ts x h =
-      let r = until_sound statement_spelling (IsGoodItem i l checked room blocks_left) (mark punctuators.CloseBrace) (take_mark punctuators.CloseBrace) (item_at i p statement) (take_mark_is punctuators.CloseBrace) (item_sound_with i checked room blocks_left statement inner) (length ts) ts x h in
-      record {
-        parts = r.parts ∙ ap (λ w. (w ++ mark punctuators.CloseBrace x.1 ∷ []) ++ x.2) (sym (statements_flat x.0));
-        good = are_good i l checked room blocks_left x.0 r.formed;
-      }
 
   pub block_items_sound : (checked : Bool) (room : ℕ) (statement : ℕ → Reader StatementTree) → AreSound checked room statement → (blocks_left : ℕ) (at : Span) (ts : List Token) (x : List StatementTree × Span × List Token) → block_items_after p statement blocks_left at ts ≡ ok x → AreItemsRead l checked room blocks_left ts x
   unfolding block_items_after
   block_items_sound checked room statement inner zero at ts x h = absurd cc
   block_items_sound checked room statement inner (suc blocks_left) at ts x h =
-      let r = items_sound_with insides.Block checked room blocks_left (statement blocks_left) (inner blocks_left) ts x h in
+      let r = until_sound statement_spelling (IsGood l checked room blocks_left) (mark punctuators.CloseBrace)
+      (take_mark punctuators.CloseBrace) (block_item_at p (statement blocks_left)) (take_mark_is punctuators.CloseBrace)
+      (block_item_sound_with checked room blocks_left (statement blocks_left) (inner blocks_left)) (length ts) ts x h in
+      let good = are_good l checked room blocks_left x.0 r.formed in
       record {
-        parts = r.parts;
-        formed = r.good.formed;
-        high = r.good.room_for.high;
-        deep = omega (arith, r.good.room_for.deep);
-        nested = r.good.room_for.nested;
-        long = r.good.room_for.long;
-        forms = r.good.room_for.forms;
+        parts = r.parts ∙ ap (λ w. (w ++ mark punctuators.CloseBrace x.1 ∷ []) ++ x.2) (sym (statements_flat x.0));
+        formed = good.formed;
+        high = good.room_for.high;
+        deep = omega (arith, good.room_for.deep);
+        nested = good.room_for.nested;
+        long = good.room_for.long;
+        forms = good.room_for.forms;
       }
+
+  -- ---- parts of `sections`
+
+  -- a `section` that is read, or none
+  pub record IsSectionRead (ts : List Token) (d : Option (Directive ExpressionTree) × List Token) : Type 0 where
+    pub parts : ts ≡ section_spelling d.0 ++ d.1
+    pub optional : IsOptionalSection d.0
+    pub nested : section_nesting d.0 ≤ l.nested
+    pub long : section_longest d.0 ≤ l.tokens
+
+  pub section_sound : (start : LineStart) (ts : List Token) (d : Option (Directive ExpressionTree) × List Token)
+      → line_start ts ≡ start → section_of p.line start ts ≡ ok d → IsSectionRead ts d
+  unfolding section_of
+  section_sound lines.Section ts d is h =
+      let r = bind_ok (p.line ts) _ d h in
+      let line = sound.line ts r.0 r.1 in
+      subst (IsSectionRead ts) (ok_is (Some r.0.0, r.0.1) d r.2) (record {
+        parts = line.parts;
+        optional = (line.formed.formed, section_named ts r.0.0 r.0.1 is line.parts);
+        nested = line.formed.nested;
+        long = line.formed.long;
+      })
+  section_sound _ ts d is h = subst (IsSectionRead ts) (ok_is (None, ts) d h)
+      (record { parts = refl; optional = tt; nested = omega arith; long = omega arith })
+
+  -- where a `section` stands first, it is read
+  section_there : (ts : List Token) (start : LineStart) (d : Option (Directive ExpressionTree) × List Token)
+      → start ≡ lines.Section → section_of p.line start ts ≡ ok d → IsOptionalSection d.0 → IsSection d.0
+  unfolding section_of
+  section_there ts lines.Section (None, us) is h named =
+      let r = bind_ok (p.line ts) _ _ h in
+      let none : ◌≡◌ {A = Option (Directive ExpressionTree)} (Some r.0.0) None = ap (λ x. x.0) (ok_is _ _ r.2) in
+      absurd cc
+  section_there ts lines.Section (Some d, us) is h named = named
+  section_there ts _ d is h named = absurd cc
+
+  -- what is said of the `section` of a part that begins with these tokens
+  abbrev pub NamesSection : (Option (Directive ExpressionTree) → Type 0) → List Token → Type 0
+  NamesSection Named ts = (d : Option (Directive ExpressionTree) × List Token)
+      → section_of p.line (line_start ts) ts ≡ ok d → Named d.0
+
+  pub may_lack : (ts : List Token) → NamesSection IsOptionalSection ts
+  may_lack ts d h = (section_sound (line_start ts) ts d refl h).optional
+
+  pub stands : (ts : List Token) → ends_parts ts ≡ false → NamesSection IsSection ts
+  stands ts begins d h = section_there ts (line_start ts) d (by (line_start ts) begins) h (may_lack ts d h)
+    where
+      by : (start : LineStart) → not (is_section_line start) ≡ false → start ≡ lines.Section
+      by lines.Section e = refl
+      by lines.StandAlone e = absurd cc
+      by lines.Unknown e = absurd cc
+      by lines.Construct e = absurd cc
+      by lines.Nothing e = absurd cc
+
+  pub part_sound_with : (checked : Bool) (room blocks_left : ℕ) (statement : Reader StatementTree)
+      → IsStatementSound l checked room blocks_left statement → (Named : Option (Directive ExpressionTree) → Type 0)
+      (ts : List Token) (x : PartTree × List Token) → NamesSection Named ts → part_at p.line statement ts ≡ ok x
+      → IsRead part_spelling (IsGoodPart Named l checked room blocks_left) ts x
+  unfolding part_at
+  part_sound_with checked room blocks_left statement inner Named ts x named h =
+      let good : StatementTree → Type 0 = IsGoodPartItem l checked room blocks_left in
+      let item : Reader StatementTree = part_item_at p.line statement in
+      let sound_item : IsSound statement_spelling good item =
+      part_item_sound_with checked room blocks_left statement inner in
+      let d = bind_ok (section_of p.line (line_start ts) ts) _ x h in
+      let section = section_sound (line_start ts) ts d.0 refl d.1 in
+      let r = bind_ok (one_or_more ends_part item (length d.0.1) d.0.1) _ x d.2 in
+      let items = several_sound statement_spelling good ends_part item (λ us y reads. (sound_item us y reads).parts)
+      (λ us y more reads. (sound_item us y reads).formed) good (length d.0.1) d.0.1 r.0
+      (λ y reads. (sound_item d.0.1 y reads).formed) r.1 in
+      subst (IsRead part_spelling (IsGoodPart Named l checked room blocks_left) ts) (ok_is _ x r.2) (record {
+        parts = after_front ts (section_spelling d.0.0) d.0.1 (statements_spelling (statements r.0.0)) r.0.1
+            section.parts (items.parts ∙ ap (λ w. w ++ r.0.1) (sym (statements_flat r.0.0)));
+        formed = good_part Named l checked room blocks_left d.0.0 r.0.0 (named d.0 d.1) section.nested section.long
+            items.formed;
+      })
 
   -- ---- the braces of `sections`
 
-  -- items that do not end at once are one at least
-  one_read : (item : Reader StatementTree) (k : ℕ) (ts : List Token) (x : List StatementTree × Span × List Token) → take_mark punctuators.CloseBrace ts ≡ None → until (take_mark punctuators.CloseBrace) item k ts ≡ ok x → AreSome (statements x.0)
-  unfolding until
-  one_read item zero ts x none h = let a = bind_ok (item ts) _ x h in absurd cc
-  one_read item (suc k) ts x none h = elim (choose_cases (take_mark punctuators.CloseBrace ts) _ _ (ok x) h) [
-    | inl g ↦ let taken = g.1 in absurd cc
-    | inr g ↦
-        let a = bind_ok (item ts) _ x g.1 in
-        let b = bind_ok (until (take_mark punctuators.CloseBrace) item k a.0.1) _ x a.2 in
-        subst (λ (y : List StatementTree × Span × List Token). AreSome (statements y.0)) (ok_is (a.0.0 ∷ b.0.0, b.0.1, b.0.2) x b.2) tt
-  ]
-
-  section_items_sound : (checked : Bool) (room blocks_left : ℕ) (statement : Reader StatementTree) → IsStatementSound l checked room blocks_left statement → (ts : List Token) (x : List StatementTree × Span × List Token) → section_items_after p statement ts ≡ ok x → AreSome (statements x.0) × AreItemsInside insides.Sections l checked room blocks_left ts x
-  unfolding section_items_after
-  section_items_sound checked room blocks_left statement inner ts x h = elim (choose_cases (take_mark punctuators.CloseBrace ts) _ _ (ok x) h) [
-    | inl g ↦ let wrong = g.2 in absurd cc
-    | inr g ↦ (one_read (item_at insides.Sections p statement) (length ts) ts x g.0 g.1, items_sound_with insides.Sections checked room blocks_left statement inner ts x g.1)
-  ]
-
-  pub braces_sound_with : (checked : Bool) (room : ℕ) (statement : ℕ → Reader StatementTree) → AreSound checked room statement → (blocks_left : ℕ) (left : Span) (ts : List Token) (x : (Span × StatementsTree × Span) × List Token) → parts_after p statement blocks_left left ts ≡ ok x → IsRead braces_spelling (AreGoodBraces l checked (suc room) blocks_left) (mark punctuators.OpenBrace left ∷ ts) x
+  pub braces_sound_with : (checked : Bool) (room : ℕ) (statement : ℕ → Reader StatementTree) → AreSound checked room statement → (blocks_left : ℕ) (left : Span) (ts : List Token) (x : (Span × PartsTree × Span) × List Token) → parts_after p statement blocks_left left ts ≡ ok x → IsRead braces_spelling (AreGoodBraces l checked (suc room) blocks_left) (mark punctuators.OpenBrace left ∷ ts) x
   unfolding parts_after
   braces_sound_with checked room statement inner zero left ts x h = absurd cc
   braces_sound_with checked room statement inner (suc blocks_left) left ts x h =
-      let r = bind_ok (section_items_after p (statement blocks_left) ts) _ x h in
-      let items = section_items_sound checked room blocks_left (statement blocks_left) (inner blocks_left) ts r.0 r.1 in
-      subst (IsRead braces_spelling (AreGoodBraces l checked (suc room) (suc blocks_left)) (mark punctuators.OpenBrace left ∷ ts)) (ok_is _ x r.2) (record {
-        parts = ap (λ w. mark punctuators.OpenBrace left ∷ w) items.1.parts;
+      let first : PartTree → Type 0 = IsGoodPart IsOptionalSection l checked room blocks_left in
+      let more : PartTree → Type 0 = IsGoodPart IsSection l checked room blocks_left in
+      let part : Reader PartTree = part_at p.line (statement blocks_left) in
+      let sound_part = part_sound_with checked room blocks_left (statement blocks_left) (inner blocks_left) in
+      let r = bind_ok (one_or_more ends_parts part (length ts) ts) _ x h in
+      let c = bind_ok (mark_at punctuators.CloseBrace r.0.1) _ x r.2 in
+      let parts = several_sound part_spelling more ends_parts part
+      (λ us y reads. (sound_part IsOptionalSection us y (may_lack us) reads).parts)
+      (λ us y begins reads. (sound_part IsSection us y (stands us begins) reads).formed) first (length ts) ts r.0
+      (λ y reads. (sound_part IsOptionalSection ts y (may_lack ts) reads).formed) r.1 in
+      let good = are_good_parts l checked room blocks_left r.0.0 parts.formed in
+      let spelled = after_front ts (parts_spelling (trees.parts r.0.0)) r.0.1 (mark punctuators.CloseBrace c.0.0 ∷ [])
+      c.0.1 (parts.parts ∙ ap (λ w. w ++ r.0.1) (sym (parts_flat r.0.0)))
+      (mark_at_is punctuators.CloseBrace r.0.1 c.0 c.1) in
+      subst (IsRead braces_spelling (AreGoodBraces l checked (suc room) (suc blocks_left)) (mark punctuators.OpenBrace left ∷ ts)) (ok_is _ x c.2) (record {
+        parts = ap (λ w. mark punctuators.OpenBrace left ∷ w) spelled;
         formed = record {
-          one_stands = items.0;
-          formed = items.1.good.formed;
-          high = omega (arith, items.1.good.room_for.high);
-          deep = omega (arith, items.1.good.room_for.deep);
-          nested = items.1.good.room_for.nested;
-          long = items.1.good.room_for.long;
-          forms = items.1.good.room_for.forms;
+          formed = good.formed;
+          high = omega (arith, good.room_for.high);
+          deep = omega (arith, good.room_for.deep);
+          nested = good.room_for.nested;
+          long = good.room_for.long;
+          forms = good.room_for.forms;
         };
       })

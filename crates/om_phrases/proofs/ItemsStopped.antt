@@ -7,13 +7,8 @@ use Rattle.om_lexer.specs.declared.token.Punctuator.{Punctuator}
 use Rattle.om_lexer.specs.declared.token.Punctuator.TheVariants as punctuators
 use Rattle.om_lexer.specs.declared.token.Span.{Span}
 use Rattle.om_lexer.specs.declared.token.Token.{Token}
-use Rattle.om_phrases.specs.declared.construct.LineStart.{LineStart}
-use Rattle.om_phrases.specs.declared.construct.LineStart.TheVariants as lines
-use Rattle.om_phrases.specs.declared.statement.Inside.{Inside}
-use Rattle.om_phrases.specs.declared.statement.Inside.TheVariants as insides
 use Rattle.om_phrases.specs.declared.start.Start.{Start}
 use Rattle.om_phrases.specs.declared.start.Start.TheVariants as starts
-use Rattle.om_phrases.specs.ConstructReading.{line_start, part_item_at, section_item_of, section_item_at}
 use Rattle.om_phrases.specs.Faults.{IsStopped}
 use Rattle.om_parts.specs.Reading.{Reader, choose, take_mark, take_word, mark_at, word_at}
 use Rattle.om_parts.specs.Repetition.{until}
@@ -22,16 +17,16 @@ use Rattle.om_tree.specs.Formed.{IsOptional, IsForStart, IsForHead, ends_open, I
 use Rattle.om_tree.specs.Limits.{Limits}
 use Rattle.om_tree.specs.Places.{Place, in_parentheses, Behind, InOptional, InCondition, InForStart, InForHead, IsOverInside, IsOverInItems, IsOverInStatement, IsOverInBlock}
 use Rattle.om_parts.specs.PartReading.{Parts}
-use Rattle.om_phrases.specs.StatementReading.{condition_at, optional_before, for_start_at, for_head_after, OpeningTree, OpensIf, OpensWhile, OpensFor, with_body, opening_of, else_after, behind_body, body_after, headed_of, do_end, do_after, block_item_at, item_at}
+use Rattle.om_phrases.specs.StatementReading.{condition_at, optional_before, for_start_at, for_head_after, OpeningTree, OpensIf, OpensWhile, OpensFor, with_body, opening_of, else_after, behind_body, body_after, headed_of, do_end, do_after, block_item_at}
 use Rattle.om_tree.specs.Tree.{ExpressionTree, Constant, ConditionTree, ForStartTree, Nothing, StartExpression, StartDeclaration, ForHeadTree, StatementTree, StatementsTree, LocalDeclaration, Empty, IfElse, Do, NoStatements, Statement, statements}
 use Rattle.om_phrases.specs.Outcomes.{some, bind_err, choose_cases, after_front}
 use Rattle.om_phrases.specs.Taken.{take_word_is, mark_at_is, word_at_is}
 use Rattle.om_parts.specs.Laws.{ArePartsSound, Stops, IsExpressionCut, ArePartsCut}
-use Rattle.om_phrases.proofs.ItemSound.{with_body_spelled, item_sound_with}
-use Rattle.om_phrases.proofs.StatementParts.{optional_spelling, opening_spelling, IsWholeOpening, Whole, StandsInside, AreInside, body_is_part, part_inside, IsStatementSound}
+use Rattle.om_phrases.proofs.ItemSound.{with_body_spelled, block_item_sound_with}
+use Rattle.om_phrases.proofs.StatementParts.{optional_spelling, opening_spelling, IsWholeOpening, Whole, IsStatementSound}
 use Rattle.om_phrases.proofs.ItemSound as sounds
 use Rattle.om_phrases.specs.Stopped.{syntax_plain, mark_plain, word_plain, last_mark_plain, within_larger}
-use Rattle.om_phrases.proofs.ConstructCut.{IsPart, IsInsideStopped, IsStatementCut, part_item_cut, section_cut}
+use Rattle.om_phrases.proofs.ConstructCut.{IsPart, IsInsideStopped, IsStatementCut, part_item_cut}
 
 -- anything well-formed, to end a part with
 abbrev condition_of : Span → ExpressionTree → ConditionTree
@@ -76,31 +71,17 @@ pub any_formed : (at : Span) → IsExpression (any_condition at).value
 unfolding IsExpression
 any_formed at = tt
 
--- a well-formed item of such braces
-abbrev IsItemInside : Inside → StatementTree → Type 0
-IsItemInside i s = IsStatement s × StandsInside i s
-
--- the same of several, one at least
-abbrev AreSomeInside : Inside → StatementsTree → Type 0
-AreSomeInside i items = AreSome items × AreInside i items
-
-nothing_inside : (i : Inside) → AreInside i NoStatements
-unfolding IsStatement
-nothing_inside insides.Block = tt
-nothing_inside insides.Sections = tt
-
-more_inside : (i : Inside) (s : StatementTree) (items : StatementsTree) → IsStatement s → StandsInside i s → AreInside i items → AreInside i (Statement s items)
-unfolding IsStatement
-more_inside insides.Block s items formed inside others = (formed, inside, others)
-more_inside insides.Sections s items formed inside others = (formed, inside, others)
+-- well-formed items of a block, one at least
+abbrev AreSomeStatements : StatementsTree → Type 0
+AreSomeStatements items = AreSome items × AreStatements items
 
 module _ (p : Parts) (l : Limits) (one : 1 ≤ l.nested) (sound : ArePartsSound p l) (cuts : ArePartsCut p l) where
   -- an item, items and the block of a function stop so
-  abbrev IsItemStopped : Inside → (depth nested : ℕ) → List Token → SourceFault → Type 0
-  IsItemStopped i depth nested ts f = IsStopped statement_spelling (IsItemInside i) (IsOverInStatement l depth nested) l ts f
+  abbrev IsItemStopped : (depth nested : ℕ) → List Token → SourceFault → Type 0
+  IsItemStopped depth nested ts f = IsStopped statement_spelling IsStatement (IsOverInStatement l depth nested) l ts f
 
-  abbrev pub AreItemsStopped : Inside → (depth nested : ℕ) → List Token → SourceFault → Type 0
-  AreItemsStopped i depth nested ts f = IsStopped statements_spelling (AreSomeInside i) (IsOverInItems l depth nested) l ts f
+  abbrev pub AreItemsStopped : (depth nested : ℕ) → List Token → SourceFault → Type 0
+  AreItemsStopped depth nested ts f = IsStopped statements_spelling AreSomeStatements (IsOverInItems l depth nested) l ts f
 
   abbrev pub IsBlockStopped : List Token → SourceFault → Type 0
   IsBlockStopped ts f = IsStopped block_spelling (λ b. AreStatements (statements b.items)) (IsOverInBlock l) l ts f
@@ -288,55 +269,36 @@ module _ (p : Parts) (l : Limits) (one : 1 ≤ l.nested) (sound : ArePartsSound 
 
   -- ---- items
 
-  stands_inside : (i : Inside) (s : StatementTree) → IsPart s → IsItemInside i s
-  stands_inside i s is = (is.0, part_inside i s (body_is_part s is.1))
-
-  block_item_cut : (depth nested : ℕ) (statement : Reader StatementTree) → IsStatementCut l depth nested statement → (ts : List Token) (f : SourceFault) → block_item_at p statement ts ≡ Err f → Stops f → IsItemStopped insides.Block depth nested ts f
+  block_item_cut : (depth nested : ℕ) (statement : Reader StatementTree) → IsStatementCut l depth nested statement → (ts : List Token) (f : SourceFault) → block_item_at p statement ts ≡ Err f → Stops f → IsItemStopped depth nested ts f
   unfolding block_item_at statement_spelling IsStatement IsOverInside
   block_item_cut depth nested statement inner ts f h stops = elim (choose_cases (take_word keywords.Int ts) _ _ (Err f) h) [
     | inl (i, taken, g) ↦ elim (bind_err (p.declaration i.0 i.1) _ f g) [
       | inr (d, reads, no_err) ↦ absurd cc
-      | inl fails ↦ within_larger statement_spelling (IsItemInside insides.Block) (IsOverInStatement l depth nested) [] [] LocalDeclaration ts (word keywords.Int i.0 ∷ i.1) f (λ d is. (is, tt)) (λ d. sym (append-nil (declaration_spelling d))) (λ d before t over. inr over) (take_word_is keywords.Int ts i.0 i.1 taken) (inl (cuts.declaration i.0 i.1 f fails stops))
+      | inl fails ↦ within_larger statement_spelling IsStatement (IsOverInStatement l depth nested) [] [] LocalDeclaration ts (word keywords.Int i.0 ∷ i.1) f (λ d is. is) (λ d. sym (append-nil (declaration_spelling d))) (λ d before t over. inr over) (take_word_is keywords.Int ts i.0 i.1 taken) (inl (cuts.declaration i.0 i.1 f fails stops))
     ]
-    | inr (none, g) ↦ within_larger statement_spelling (IsItemInside insides.Block) (IsOverInStatement l depth nested) [] [] (λ s. s) ts ts f (stands_inside insides.Block) (λ s. sym (append-nil (statement_spelling s))) (λ s before t over. over) refl (part_item_cut l p.line sound.line cuts.line depth nested statement inner ts f g stops)
+    | inr (none, g) ↦ within_larger statement_spelling IsStatement (IsOverInStatement l depth nested) [] [] (λ s. s) ts ts f (λ s is. is.0) (λ s. sym (append-nil (statement_spelling s))) (λ s before t over. over) refl (part_item_cut l p.line sound.line cuts.line depth nested statement inner ts f g stops)
   ]
-
-  no_section : (depth nested : ℕ) (statement : Reader StatementTree) → IsStatementCut l depth nested statement → (ts : List Token) (f : SourceFault) → part_item_at p.line statement ts ≡ Err f → Stops f → IsItemStopped insides.Sections depth nested ts f
-  no_section depth nested statement inner ts f h stops = within_larger statement_spelling (IsItemInside insides.Sections) (IsOverInStatement l depth nested) [] [] (λ s. s) ts ts f (stands_inside insides.Sections) (λ s. sym (append-nil (statement_spelling s))) (λ s before t over. over) refl (part_item_cut l p.line sound.line cuts.line depth nested statement inner ts f h stops)
-
-  section_item_cut : (depth nested : ℕ) (statement : Reader StatementTree) → IsStatementCut l depth nested statement → (start : LineStart) (ts : List Token) (f : SourceFault) → line_start ts ≡ start → section_item_of p.line statement start ts ≡ Err f → Stops f → IsItemStopped insides.Sections depth nested ts f
-  unfolding section_item_of
-  section_item_cut depth nested statement inner lines.Section ts f is h stops = section_cut l p.line sound.line cuts.line depth nested statement inner ts f is h stops
-  section_item_cut depth nested statement inner lines.StandAlone ts f is h stops = no_section depth nested statement inner ts f h stops
-  section_item_cut depth nested statement inner lines.Unknown ts f is h stops = no_section depth nested statement inner ts f h stops
-  section_item_cut depth nested statement inner lines.Construct ts f is h stops = no_section depth nested statement inner ts f h stops
-  section_item_cut depth nested statement inner lines.Nothing ts f is h stops = no_section depth nested statement inner ts f h stops
-
-  item_cut : (i : Inside) (depth nested : ℕ) (statement : Reader StatementTree) → IsStatementCut l depth nested statement → (ts : List Token) (f : SourceFault) → item_at i p statement ts ≡ Err f → Stops f → IsItemStopped i depth nested ts f
-  unfolding section_item_at
-  item_cut insides.Block depth nested statement inner ts f h stops = block_item_cut depth nested statement inner ts f h stops
-  item_cut insides.Sections depth nested statement inner ts f h stops = section_item_cut depth nested statement inner (line_start ts) ts f refl h stops
 
   -- one item, or more behind it
-  one_item : (i : Inside) (depth nested : ℕ) (ts : List Token) (f : SourceFault) → IsItemStopped i depth nested ts f → AreItemsStopped i depth nested ts f
+  one_item : (depth nested : ℕ) (ts : List Token) (f : SourceFault) → IsItemStopped depth nested ts f → AreItemsStopped depth nested ts f
   unfolding statement_spelling IsStatement IsOverInside
-  one_item i depth nested ts f c = within_larger statements_spelling (AreSomeInside i) (IsOverInItems l depth nested) [] [] (λ s. Statement s NoStatements) ts ts f (λ s is. (tt, more_inside i s NoStatements is.0 is.1 (nothing_inside i))) (λ s. refl) (λ s before t over. inl over) refl c
+  one_item depth nested ts f c = within_larger statements_spelling AreSomeStatements (IsOverInItems l depth nested) [] [] (λ s. Statement s NoStatements) ts ts f (λ s is. (tt, (is, tt))) (λ s. refl) (λ s before t over. inl over) refl c
 
-  pub items_cut : (i : Inside) (depth nested : ℕ) (checked : Bool) (room blocks_left : ℕ) (statement : Reader StatementTree) → IsStatementSound l checked room blocks_left statement → IsStatementCut l depth nested statement → (k : ℕ) (ts : List Token) (f : SourceFault) → until (take_mark punctuators.CloseBrace) (item_at i p statement) k ts ≡ Err f → Stops f → AreItemsStopped i depth nested ts f
+  pub items_cut : (depth nested : ℕ) (checked : Bool) (room blocks_left : ℕ) (statement : Reader StatementTree) → IsStatementSound l checked room blocks_left statement → IsStatementCut l depth nested statement → (k : ℕ) (ts : List Token) (f : SourceFault) → until (take_mark punctuators.CloseBrace) (block_item_at p statement) k ts ≡ Err f → Stops f → AreItemsStopped depth nested ts f
   unfolding until statement_spelling IsStatement IsOverInside
-  items_cut i depth nested checked room blocks_left statement good inner zero ts f h stops = elim (bind_err (item_at i p statement ts) _ f h) [
-    | inl fails ↦ one_item i depth nested ts f (item_cut i depth nested statement inner ts f fails stops)
+  items_cut depth nested checked room blocks_left statement good inner zero ts f h stops = elim (bind_err (block_item_at p statement ts) _ f h) [
+    | inl fails ↦ one_item depth nested ts f (block_item_cut depth nested statement inner ts f fails stops)
     | inr (a, reads, e) ↦ absurd (syntax_plain ts f e stops)
   ]
-  items_cut i depth nested checked room blocks_left statement good inner (suc k) ts f h stops = elim (choose_cases (take_mark punctuators.CloseBrace ts) _ _ (Err f) h) [
+  items_cut depth nested checked room blocks_left statement good inner (suc k) ts f h stops = elim (choose_cases (take_mark punctuators.CloseBrace ts) _ _ (Err f) h) [
     | inl (e, ends, no_err) ↦ absurd cc
-    | inr (none, g) ↦ elim (bind_err (item_at i p statement ts) _ f g) [
-      | inl fails ↦ one_item i depth nested ts f (item_cut i depth nested statement inner ts f fails stops)
-      | inr (a, reads, e) ↦ elim (bind_err (until (take_mark punctuators.CloseBrace) (item_at i p statement) k a.1) _ f e) [
+    | inr (none, g) ↦ elim (bind_err (block_item_at p statement ts) _ f g) [
+      | inl fails ↦ one_item depth nested ts f (block_item_cut depth nested statement inner ts f fails stops)
+      | inr (a, reads, e) ↦ elim (bind_err (until (take_mark punctuators.CloseBrace) (block_item_at p statement) k a.1) _ f e) [
         | inr (b, read, no_err) ↦ absurd cc
         | inl fails ↦
-            let first = item_sound_with p l one sound i checked room blocks_left statement good ts a reads in
-            within_larger statements_spelling (AreSomeInside i) (IsOverInItems l depth nested) (statement_spelling a.0) [] (Statement a.0) ts a.1 f (λ ss is. (tt, more_inside i a.0 ss first.formed.formed first.formed.inside is.1)) (λ ss. ap (λ w. statement_spelling a.0 ++ w) (sym (append-nil (statements_spelling ss)))) (λ ss before t over. inr (before, refl, over)) first.parts (items_cut i depth nested checked room blocks_left statement good inner k a.1 f fails stops)
+            let first = block_item_sound_with p l one sound checked room blocks_left statement good ts a reads in
+            within_larger statements_spelling AreSomeStatements (IsOverInItems l depth nested) (statement_spelling a.0) [] (Statement a.0) ts a.1 f (λ ss is. (tt, (first.formed.formed, is.1))) (λ ss. ap (λ w. statement_spelling a.0 ++ w) (sym (append-nil (statements_spelling ss)))) (λ ss before t over. inr (before, refl, over)) first.parts (items_cut depth nested checked room blocks_left statement good inner k a.1 f fails stops)
       ]
     ]
   ]

@@ -1,5 +1,6 @@
 mod LineStarts
 mod Begins
+mod OneOrMore
 mod StatementParts
 mod ItemSound
 mod StatementSound
@@ -9,8 +10,10 @@ mod Started
 mod Forms
 mod StatementTokens
 mod ProductionsComplete
+mod ItemsAgain
 mod StatementComplete
 mod ConstructCut
 mod ItemsStopped
+mod SectionsCut
 mod StatementCut
 mod Blocks

@@ -14,12 +14,12 @@ use Rattle.om_tree.specs.AtomicForms.{has_atomic_form}
 use Rattle.om_parts.specs.PartReading.{Parts}
 use Rattle.om_phrases.specs.ConstructReading.{PartsReader, line_start, stand_alone_at, bad_atomic, atomic_of, atomic_after, constructed_after, construct_after, construct_at, line_of}
 use Rattle.om_parts.specs.Reading.{Reader, take, same_mark, same_word, take_mark, take_word}
-use Rattle.om_tree.specs.Spelling.{mark, word, perhaps, expression_spelling, declaration_spelling, condition_spelling, for_start_spelling, for_head_spelling, statement_spelling, statements_spelling}
+use Rattle.om_tree.specs.Spelling.{mark, word, perhaps, expression_spelling, declaration_spelling, condition_spelling, for_start_spelling, for_head_spelling, statement_spelling, parts_spelling}
 use Rattle.om_tree.specs.Formed.{IsOptional, IsForStart, IsForHead, ends_open, IsBody, IsPartItem, IsLine, IsConstruct, IsStatement, IsExpression}
 use Rattle.om_tree.specs.Limits.{Limits}
 use Rattle.om_tree.specs.Sizes.{Where, HasForms, HasRoom, for_start_extent, for_start_nesting}
 use Rattle.om_phrases.specs.StatementReading.{condition_at, optional_before, for_start_at, for_head_after, OpeningTree, OpensIf, OpensWhile, OpensFor, opening_of, return_after, jump_after, expression_statement_at, else_after, behind_body, body_after, headed_of, do_end, do_after}
-use Rattle.om_tree.specs.Tree.{ExpressionTree, ConditionTree, ForStartTree, Nothing, StartExpression, StartDeclaration, ForHeadTree, StatementTree, LocalDeclaration, Block, Empty, Expression, If, IfElse, While, Do, For, Return, Break, Continue, Construct, StandAlone, Sections, Section}
+use Rattle.om_tree.specs.Tree.{ExpressionTree, ConditionTree, ForStartTree, Nothing, StartExpression, StartDeclaration, ForHeadTree, StatementTree, LocalDeclaration, Block, Empty, Expression, If, IfElse, While, Do, For, Return, Break, Continue, Construct, StandAlone, Sections}
 use Rattle.om_parts.specs.Laws.{IsAnswer, Keeps, IsEnd, IsExpressionAgain, declaration_tail, ArePartsAgain}
 use Rattle.om_phrases.specs.Outcomes.{ok}
 use Rattle.om_phrases.specs.Again.{take_mark_again, take_word_again, mark_again, word_again, bind_answer}
@@ -250,8 +250,7 @@ module _ (p : Parts) (l : Limits) (again : ArePartsAgain p l) where
   no_brace (Continue at semicolon) rest f = refl
   no_brace (Construct d s) rest f = refl
   no_brace (StandAlone d) rest f = refl
-  no_brace (Sections d left items right) rest f = refl
-  no_brace (Section d s) rest f = refl
+  no_brace (Sections d left parts right) rest f = refl
 
   pub no_else : (s : StatementTree) (rest : List Token) → IsStatement s → NoElse (statement_spelling s ++ rest)
   unfolding statement_spelling IsStatement take_word take same_word declaration_spelling for_head_spelling directive_spelling line_opening
@@ -269,8 +268,7 @@ module _ (p : Parts) (l : Limits) (again : ArePartsAgain p l) where
   no_else (Continue at semicolon) rest f = refl
   no_else (Construct d s) rest f = refl
   no_else (StandAlone d) rest f = refl
-  no_else (Sections d left items right) rest f = refl
-  no_else (Section d s) rest f = refl
+  no_else (Sections d left parts right) rest f = refl
 
   pub no_int : (s : StatementTree) (rest : List Token) → IsStatement s → IsPartItem s → take_word keywords.Int (statement_spelling s ++ rest) ≡ None
   unfolding statement_spelling IsStatement take_word take same_word for_head_spelling directive_spelling line_opening
@@ -288,8 +286,7 @@ module _ (p : Parts) (l : Limits) (again : ArePartsAgain p l) where
   no_int (Continue at semicolon) rest f b = refl
   no_int (Construct d s) rest f b = refl
   no_int (StandAlone d) rest f b = refl
-  no_int (Sections d left items right) rest f b = refl
-  no_int (Section d s) rest f b = absurd b
+  no_int (Sections d left parts right) rest f b = refl
 
   pub body_begins : (s : StatementTree) (rest : List Token) → IsStatement s → IsBody s → BeginsBody (line_start (statement_spelling s ++ rest))
   unfolding statement_spelling IsStatement for_head_spelling
@@ -309,7 +306,6 @@ module _ (p : Parts) (l : Limits) (again : ArePartsAgain p l) where
   body_begins (Continue at semicolon) rest f b = BeginsNoLine
   body_begins (Construct d s) rest f b = rw append_assoc (subst BeginsBody (sym (construct_starts d (statement_spelling s ++ rest) f.1.0 f.1.1)) BeginsConstruct)
   body_begins (StandAlone d) rest f b = absurd b
-  body_begins (Sections d left items right) rest f b =
-      let inner : List Token = mark punctuators.OpenBrace left ∷ (statements_spelling items ++ mark punctuators.CloseBrace right ∷ []) in
+  body_begins (Sections d left parts right) rest f b =
+      let inner : List Token = mark punctuators.OpenBrace left ∷ (parts_spelling parts ++ mark punctuators.CloseBrace right ∷ []) in
       rw append_assoc (subst BeginsBody (sym (sections_starts d (inner ++ rest) f.1)) BeginsConstruct)
-  body_begins (Section d s) rest f b = absurd b

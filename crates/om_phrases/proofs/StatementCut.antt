@@ -9,26 +9,26 @@ use Rattle.om_lexer.specs.declared.token.Punctuator.TheVariants as punctuators
 use Rattle.om_lexer.specs.declared.token.Span.{Span}
 use Rattle.om_lexer.specs.declared.token.Token.{Token}
 use Rattle.om_lexer.specs.declared.token.TokenKind.{TokenKind}
-use Rattle.om_phrases.specs.declared.statement.Inside.TheVariants as insides
 use Rattle.om_phrases.specs.declared.start.Start.{Start}
 use Rattle.om_phrases.specs.declared.start.Start.TheVariants as starts
-use Rattle.om_phrases.specs.ConstructReading.{PartsReader, line_start}
+use Rattle.om_phrases.specs.ConstructReading.{PartsReader, line_start, ends_parts, part_at}
+use Rattle.om_phrases.specs.OneOrMore.{one_or_more}
 use Rattle.om_phrases.specs.Faults.{IsStopped}
-use Rattle.om_parts.specs.Reading.{Reader, too_deep, take_mark, mark_at}
+use Rattle.om_parts.specs.Reading.{Reader, too_deep, mark_at}
 use Rattle.om_tree.specs.Spelling.{token, mark, word, condition_spelling, for_start_spelling, for_head_spelling}
 use Rattle.om_tree.specs.Spelling.{statement_spelling, block_spelling}
-use Rattle.om_tree.specs.Formed.{IsForHead, IsStatement, AreStatements}
+use Rattle.om_tree.specs.Formed.{IsForHead, IsStatement, AreStatements, IsOptionalSection, AreParts}
 use Rattle.om_tree.specs.Limits.{Limits}
 use Rattle.om_tree.specs.Places.{Either, AtDepth, AtBrace, IsOverInside, IsOverInItems, IsOverInStatement}
 use Rattle.om_tree.specs.Places.{IsOverInBlock}
 use Rattle.om_parts.specs.PartReading.{Parts}
 use Rattle.om_phrases.specs.StatementReading.{start_of, optional_before, return_after, jump_after}
 use Rattle.om_phrases.specs.StatementReading.{expression_statement_at, block_items_after, block_after}
-use Rattle.om_phrases.specs.StatementReading.{section_items_after, parts_after, simple_of, statement_of, no_room}
+use Rattle.om_phrases.specs.StatementReading.{parts_after, simple_of, statement_of, no_room}
 use Rattle.om_phrases.specs.StatementReading.{statement_at, parts_at, block_with}
 use Rattle.om_tree.specs.Tree.{StatementTree, StatementsTree, Block, Empty, Expression, If, While, Do, For, Return}
-use Rattle.om_tree.specs.Tree.{Break, Continue, Construct, NoStatements, Statement, statements, BlockTree}
-use Rattle.om_phrases.specs.Outcomes.{bind_err, choose_cases, err_is}
+use Rattle.om_tree.specs.Tree.{Break, Continue, Construct, NoStatements, Statement, statements, BlockTree, PartsTree, NoParts, Part}
+use Rattle.om_phrases.specs.Outcomes.{bind_err, err_is}
 use Rattle.om_phrases.specs.Taken.{mark_at_is}
 use Rattle.om_parts.specs.Laws.{ArePartsSound, Stops, ArePartsCut}
 use Rattle.om_phrases.proofs.StatementSound.{statement_sound}
@@ -36,8 +36,10 @@ use Rattle.om_phrases.proofs.StatementParts.{IsOf, is_of_start, braces_spelling,
 use Rattle.om_phrases.proofs.StatementTokens.{list_of, statements_of, list_flat}
 use Rattle.om_phrases.specs.Stopped.{IsPlain, syntax_plain, mark_plain, last_mark_plain, within_larger}
 use Rattle.om_phrases.proofs.ConstructCut.{IsPart, any_line, any_line_formed, any_line_rest, any_line_spelled}
-use Rattle.om_phrases.proofs.ConstructCut.{IsStatementStopped, IsInsideStopped, IsStatementCut, AreParts, InBraces}
-use Rattle.om_phrases.proofs.ConstructCut.{AreBracesCut, line_of_cut}
+use Rattle.om_phrases.proofs.ConstructCut.{IsStatementStopped, IsInsideStopped, IsStatementCut, AreBraces, InBraces}
+use Rattle.om_phrases.proofs.ConstructCut.{AreBracesCut, any_section_formed, line_of_cut}
+use Rattle.om_phrases.proofs.SectionsCut.{ArePartsBy, parts_cut}
+use Rattle.om_phrases.proofs.ItemSound.{may_lack}
 use Rattle.om_phrases.proofs.Begins.{begins_with}
 use Rattle.om_phrases.proofs.ItemsStopped.{any_head, any_condition, any_formed, AreItemsStopped, IsBlockStopped}
 use Rattle.om_phrases.proofs.ItemsStopped.{optional_cut, headed_cut, do_cut, items_cut}
@@ -48,7 +50,7 @@ module _ (p : Parts) (l : Limits) (one : 1 ≤ l.nested) (sound : ArePartsSound 
   -- the items of a block behind its left brace, where so many statements and blocks stand round them
   abbrev pub IsItemsStopped : (depth nested : ℕ) (left : Span) (ts : List Token) (f : SourceFault) → Type 0
   IsItemsStopped depth nested left ts f = ((f ≡ too_deep left) × (nested ≡ l.blocks))
-      ⊎ (AreItemsStopped p l one sound cuts) insides.Block depth (suc nested) ts f
+      ⊎ (AreItemsStopped p l one sound cuts) depth (suc nested) ts f
 
   block_items_cut : (depth nested : ℕ) (checked : Bool) (room blocks_left : ℕ)
       (statement : ℕ → Reader StatementTree) → nested + blocks_left ≡ l.blocks
@@ -59,7 +61,7 @@ module _ (p : Parts) (l : Limits) (one : 1 ≤ l.nested) (sound : ArePartsSound 
   block_items_cut depth nested checked room zero statement sum good inner left ts f h stops =
       inl (sym (err_is (too_deep left) f h), omega (arith, sum))
   block_items_cut depth nested checked room (suc blocks_left) statement sum good inner left ts f h stops =
-      inr ((items_cut p l one sound cuts) insides.Block depth (suc nested) checked room blocks_left
+      inr ((items_cut p l one sound cuts) depth (suc nested) checked room blocks_left
       (statement blocks_left) (good blocks_left) (inner blocks_left (suc nested) (omega (arith, sum))) (length ts)
       ts f h stops)
 
@@ -99,7 +101,7 @@ module _ (p : Parts) (l : Limits) (one : 1 ≤ l.nested) (sound : ArePartsSound 
   -- ---- the braces of `sections`
 
   abbrev AreBracesStopped : (depth nested : ℕ) → List Token → SourceFault → Type 0
-  AreBracesStopped depth nested ts f = IsStopped braces_spelling AreParts (InBraces l depth nested) l ts f
+  AreBracesStopped depth nested ts f = IsStopped braces_spelling AreBraces (InBraces l depth nested) l ts f
 
   full_braces : (depth nested : ℕ) (left : Span) (ts us : List Token) (f : SourceFault) → ts
       ≡ mark punctuators.OpenBrace left ∷ us → f ≡ too_deep left → (suc depth ≡ suc l.statements)
@@ -108,8 +110,8 @@ module _ (p : Parts) (l : Limits) (one : 1 ≤ l.nested) (sound : ArePartsSound 
   full_braces depth nested left ts us f begins is full = inl (
     ap (λ (g : SourceFault). g.code) is,
     record {
-      part = (left, Statement (Empty left) NoStatements, left);
-      formed = (tt, (tt, tt, tt));
+      part = (left, Part None (Statement (Empty left) NoStatements) NoParts, left);
+      formed = (tt, tt, (tt, tt, tt), tt);
       before = [];
       token = mark punctuators.OpenBrace left;
       after = us;
@@ -126,28 +128,29 @@ module _ (p : Parts) (l : Limits) (one : 1 ≤ l.nested) (sound : ArePartsSound 
       at_brace (inl high) = inl (high, refl)
       at_brace (inr deep) = inr (deep, refl)
 
+  parts_formed : (ps : PartsTree) → ArePartsBy IsOptionalSection ps → AreParts ps
+  unfolding IsStatement
+  parts_formed NoParts f = absurd f
+  parts_formed (Part section items rest) f = f
+
   braces_cut_with : (depth nested : ℕ) (checked : Bool) (room blocks_left : ℕ)
       (statement : ℕ → Reader StatementTree) → nested + blocks_left ≡ l.blocks
       → ((k : ℕ) → IsStatementSound l checked room k (statement k)) → ((k inside : ℕ) → inside + k ≡ l.blocks
       → IsStatementCut l (suc (suc depth)) inside (statement k)) → (left : Span) (us ts : List Token)
       (f : SourceFault) → ts ≡ mark punctuators.OpenBrace left ∷ us → parts_after p statement blocks_left left us
       ≡ Err f → Stops f → AreBracesStopped depth nested ts f
-  unfolding parts_after section_items_after
+  unfolding parts_after
   braces_cut_with depth nested checked room zero statement sum good inner left us ts f begins h stops = full_braces
       depth nested left ts us f begins (sym (err_is (too_deep left) f h)) (inr (omega (arith, sum)))
   braces_cut_with depth nested checked room (suc blocks_left) statement sum good inner left us ts f begins h stops =
-      elim (bind_err (section_items_after p (statement blocks_left) us) _ f h) [
-        | inr (x, reads, no_err) ↦ absurd cc
-        | inl fails ↦ elim (choose_cases (take_mark punctuators.CloseBrace us) _ _ (Err f) fails) [
-          | inl (r, taken, e) ↦ absurd (syntax_plain us f e stops)
-          | inr (none, g) ↦
-              let items = (items_cut p l one sound cuts) insides.Sections (suc (suc depth)) (suc nested) checked room
-              blocks_left (statement blocks_left) (good blocks_left)
-              (inner blocks_left (suc nested) (omega (arith, sum))) (length us) us f g stops in
-              within_larger braces_spelling AreParts (InBraces l depth nested) (mark punctuators.OpenBrace left ∷ [])
-              (mark punctuators.CloseBrace left ∷ []) (λ ss. (left, ss, left)) ts us f (λ ss are. are) (λ ss. refl)
-              (λ ss before t over. inr (before, refl, over)) begins items
-        ]
+      elim (bind_err (one_or_more ends_parts (part_at p.line (statement blocks_left)) (length us) us) _ f h) [
+        | inr (x, reads, g) ↦ absurd (last_mark_plain punctuators.CloseBrace x.1 _ f g stops)
+        | inl fails ↦ within_larger braces_spelling AreBraces (InBraces l depth nested)
+            (mark punctuators.OpenBrace left ∷ []) (mark punctuators.CloseBrace left ∷ []) (λ ps. (left, ps, left))
+            ts us f parts_formed (λ ps. refl) (λ ps before t over. inr (before, refl, over)) begins
+            (parts_cut p l one sound cuts (suc (suc depth)) (suc nested) checked room blocks_left
+            (statement blocks_left) (good blocks_left) (inner blocks_left (suc nested) (omega (arith, sum)))
+            IsOptionalSection any_section_formed (length us) us f ((may_lack p l one sound) us) fails stops)
       ]
 
   -- ---- statements without a statement in them
@@ -409,7 +412,7 @@ module _ (p : Parts) (l : Limits) (one : 1 ≤ l.nested) (sound : ArePartsSound 
   block_from left ss = record { open_brace = left; items = list_of ss; close_brace = left }
 
   function_items : (ts : List Token) (left : Span) (us : List Token) (f : SourceFault) → ts
-      ≡ mark punctuators.OpenBrace left ∷ us → (AreItemsStopped p l one sound cuts) insides.Block 1 1 us f
+      ≡ mark punctuators.OpenBrace left ∷ us → (AreItemsStopped p l one sound cuts) 1 1 us f
       → (IsBlockStopped p l one sound cuts) ts f
   unfolding block_spelling block_from
   function_items ts left us f is c = within_larger block_spelling (λ b. AreStatements (statements b.items))

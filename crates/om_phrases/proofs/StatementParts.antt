@@ -1,6 +1,6 @@
 -- What statements are made of, as it is read.
 use Rattle.std.proofs.Common.{◌≡◌, ℕ, ◌+◌, ◌≤◌, List, [], ◌∷◌, ◌++◌, Option, None, Err, Bool, true, false, refl, sym}
-use Rattle.std.proofs.Common.{ap, ◌∙◌, arith, inl, inr, ◌⊎◌, cond, All}
+use Rattle.std.proofs.Common.{ap, ◌∙◌, arith, cond, All}
 use Rattle.std.specs.List.{flat_map}
 use Rattle.std.proofs.lemmas.List.Elements.{All-head, All-tail}
 use Rattle.om_lexer.specs.declared.fault.SourceFault.{SourceFault}
@@ -17,24 +17,27 @@ use Rattle.om_pragma.specs.Questions.{is_stand_alone, is_section}
 use Rattle.om_pragma.specs.Spelling.{directive_spelling}
 use Rattle.om_phrases.specs.declared.construct.LineStart.{LineStart}
 use Rattle.om_phrases.specs.declared.construct.LineStart.TheVariants as lines
-use Rattle.om_phrases.specs.declared.statement.Inside.{Inside}
-use Rattle.om_phrases.specs.declared.statement.Inside.TheVariants as insides
 use Rattle.om_phrases.specs.declared.start.Start.{Start}
 use Rattle.om_phrases.specs.declared.start.Start.TheVariants as starts
 use Rattle.om_phrases.specs.ConstructReading.{line_start, PartsReader}
 use Rattle.om_parts.specs.Reading.{Outcome, Reader, take_word}
 use Rattle.om_tree.specs.Spelling.{token, mark, word, perhaps, expression_spelling, condition_spelling}
-use Rattle.om_tree.specs.Spelling.{for_head_spelling, statement_spelling, statements_spelling}
-use Rattle.om_tree.specs.Formed.{IsOptional, IsForStart, ends_open, IsBody, IsBlockItem, IsSectionItem, IsPartItem}
-use Rattle.om_tree.specs.Formed.{AreSome, IsStatement, AreStatements, AreSectionItems}
+use Rattle.om_tree.specs.Spelling.{for_head_spelling, statement_spelling, statements_spelling, parts_spelling}
+use Rattle.om_tree.specs.Spelling.{part_spelling}
+use Rattle.om_tree.specs.Formed.{IsOptional, IsForStart, ends_open, IsBody, IsPartItem, IsSection, IsOptionalSection}
+use Rattle.om_tree.specs.Formed.{AreSome, IsStatement, AreStatements, ArePartItems, AreFurtherParts, AreParts}
 use Rattle.om_tree.specs.Limits.{Limits}
 use Rattle.om_tree.specs.Sizes.{longest_of, brackets_of, blocks_of, height_of, HasForms, HaveForms, HasRoom, HaveRoom}
+use Rattle.om_tree.specs.Sizes.{section_longest, section_nesting, longest_of_parts, brackets_of_parts}
+use Rattle.om_tree.specs.Sizes.{blocks_of_parts, height_of_parts, PartsHaveForms}
 use Rattle.om_tree.specs.Sizes.{optional_extent, optional_nesting, for_start_extent, for_start_nesting}
 use Rattle.om_phrases.specs.StatementReading.{start_of, OpeningTree, OpensIf, OpensWhile, OpensFor}
 use Rattle.om_tree.specs.Tree.{ExpressionTree, ForStartTree, ForHeadTree, StatementTree, StatementsTree}
-use Rattle.om_tree.specs.Tree.{LocalDeclaration, Section, statements}
+use Rattle.om_tree.specs.Tree.{LocalDeclaration, statements, PartsTree, NoParts, Part, PartTree}
+use Rattle.om_tree.specs.Tree as trees
 use Rattle.om_parts.specs.Laws.{IsSound, IsWhole}
 use Rattle.om_phrases.specs.Outcomes.{ok}
+use Rattle.om_phrases.proofs.OneOrMore.{FirstAndMore, each_of}
 use Rattle.om_phrases.proofs.LineStarts.{line_start_is, start_of_directive}
 
 -- ---- what a first token is
@@ -117,79 +120,177 @@ pub record IsGoodBody (l : Limits) (checked : Bool) (room blocks_left : ℕ) (s 
   pub good : IsGood l checked room blocks_left s
   pub body : IsBody s
 
--- it may stand in such braces
-abbrev pub StandsInside : Inside → StatementTree → Type 0
-StandsInside insides.Block s = IsBlockItem s
-StandsInside insides.Sections s = IsSectionItem s
-
--- they are well-formed items of such braces
-abbrev pub AreInside : Inside → StatementsTree → Type 0
-AreInside insides.Block items = AreStatements items
-AreInside insides.Sections items = AreSectionItems items
-
--- the same of one that may stand in such braces
-pub record IsGoodItem (i : Inside) (l : Limits) (checked : Bool) (room blocks_left : ℕ) (s : StatementTree) : Type 0
-  where
-    pub formed : IsStatement s
-    pub room_for : HasRoom l checked room blocks_left s
-    pub inside : StandsInside i s
-
--- the same of one that may stand behind `section`
-pub record IsGoodPart (l : Limits) (checked : Bool) (room blocks_left : ℕ) (s : StatementTree) : Type 0 where
+-- the same of one that may be an item of a part of `sections`
+pub record IsGoodPartItem (l : Limits) (checked : Bool) (room blocks_left : ℕ) (s : StatementTree) : Type 0 where
   pub formed : IsStatement s
   pub room_for : HasRoom l checked room blocks_left s
   pub part : IsPartItem s
 
-pub record AreGood (i : Inside) (l : Limits) (checked : Bool) (room blocks_left : ℕ)
-    (items : List StatementTree) : Type 0 where
-  pub formed : AreInside i (statements items)
+-- the items of a block
+pub record AreGood (l : Limits) (checked : Bool) (room blocks_left : ℕ) (items : List StatementTree) : Type 0 where
+  pub formed : AreStatements (statements items)
   pub room_for : HaveRoom l checked room blocks_left (statements items)
 
-none_inside : (i : Inside) → AreInside i (statements [])
-unfolding IsStatement
-none_inside insides.Block = tt
-none_inside insides.Sections = tt
-
-one_more_inside : (i : Inside) (s : StatementTree) (rest : List StatementTree) → IsStatement s → StandsInside i s
-    → AreInside i (statements rest) → AreInside i (statements (s ∷ rest))
-unfolding IsStatement
-one_more_inside insides.Block s rest formed inside others = (formed, inside, others)
-one_more_inside insides.Sections s rest formed inside others = (formed, inside, others)
-
-pub are_good : (i : Inside) (l : Limits) (checked : Bool) (room blocks_left : ℕ) (items : List StatementTree)
-    → All (IsGoodItem i l checked room blocks_left) items → AreGood i l checked room blocks_left items
+no_room_asked : (l : Limits) (checked : Bool) (room blocks_left : ℕ) → HaveRoom l checked room blocks_left
+    (statements [])
 unfolding HasForms
-are_good i l checked room blocks_left [] h = record {
-  formed = none_inside i;
-  room_for = record
-      { high = omega arith; deep = omega arith; nested = omega arith; long = omega arith; forms = tt };
+no_room_asked l checked room blocks_left = record {
+  high = omega arith;
+  deep = omega arith;
+  nested = omega arith;
+  long = omega arith;
+  forms = tt;
 }
-are_good i l checked room blocks_left (s ∷ rest) h =
-    let first = All-head (IsGoodItem i l checked room blocks_left) s rest h in
-    let others = are_good i l checked room blocks_left rest (All-tail (IsGoodItem i l checked room blocks_left) s
-    rest h) in
+
+room_for_one_more : (l : Limits) (checked : Bool) (room blocks_left : ℕ) (s : StatementTree)
+    (rest : List StatementTree) → HasRoom l checked room blocks_left s
+    → HaveRoom l checked room blocks_left (statements rest) → HaveRoom l checked room blocks_left (statements (s ∷ rest))
+unfolding HasForms
+room_for_one_more l checked room blocks_left s rest first others = record {
+  high = omega (arith, first.high, others.high);
+  deep = omega (arith, first.deep, others.deep);
+  nested = omega (arith, first.nested, others.nested);
+  long = omega (arith, first.long, others.long);
+  forms = (first.forms, others.forms);
+}
+
+pub are_good : (l : Limits) (checked : Bool) (room blocks_left : ℕ) (items : List StatementTree)
+    → All (IsGood l checked room blocks_left) items → AreGood l checked room blocks_left items
+unfolding IsStatement
+are_good l checked room blocks_left [] h = record {
+  formed = tt;
+  room_for = no_room_asked l checked room blocks_left;
+}
+are_good l checked room blocks_left (s ∷ rest) h =
+    let first = All-head (IsGood l checked room blocks_left) s rest h in
+    let others = are_good l checked room blocks_left rest (All-tail (IsGood l checked room blocks_left) s rest h) in
     record {
-      formed = one_more_inside i s rest first.formed first.inside others.formed;
-      room_for = record {
-        high = omega (arith, first.room_for.high, others.room_for.high);
-        deep = omega (arith, first.room_for.deep, others.room_for.deep);
-        nested = omega (arith, first.room_for.nested, others.room_for.nested);
-        long = omega (arith, first.room_for.long, others.room_for.long);
-        forms = (first.room_for.forms, others.room_for.forms);
-      };
+      formed = (first.formed, others.formed);
+      room_for = room_for_one_more l checked room blocks_left s rest first.room_for others.room_for;
     }
 
--- what may be a part of another statement may stand behind `section`, and what stands there in any braces
+-- the items of a part of `sections`
+record AreGoodPartItems (l : Limits) (checked : Bool) (room blocks_left : ℕ) (items : List StatementTree) : Type 0
+  where
+    pub formed : ArePartItems (statements items)
+    pub room_for : HaveRoom l checked room blocks_left (statements items)
+
+are_good_part_items : (l : Limits) (checked : Bool) (room blocks_left : ℕ) (items : List StatementTree)
+    → All (IsGoodPartItem l checked room blocks_left) items → AreGoodPartItems l checked room blocks_left items
+unfolding IsStatement
+are_good_part_items l checked room blocks_left [] h = record {
+  formed = tt;
+  room_for = no_room_asked l checked room blocks_left;
+}
+are_good_part_items l checked room blocks_left (s ∷ rest) h =
+    let first = All-head (IsGoodPartItem l checked room blocks_left) s rest h in
+    let others = are_good_part_items l checked room blocks_left rest
+    (All-tail (IsGoodPartItem l checked room blocks_left) s rest h) in
+    record {
+      formed = (first.formed, first.part, others.formed);
+      room_for = room_for_one_more l checked room blocks_left s rest first.room_for others.room_for;
+    }
+
+-- a well-formed part of `sections` that keeps the limits, of whose `section` this is said
+pub record IsGoodPart (Named : Option (Directive ExpressionTree) → Type 0) (l : Limits) (checked : Bool)
+    (room blocks_left : ℕ) (p : PartTree) : Type 0 where
+  pub named : Named p.section
+  pub one_stands : AreSome p.items
+  pub formed : ArePartItems p.items
+  pub nested : section_nesting p.section ≤ l.nested
+  pub long : section_longest p.section ≤ l.tokens
+  pub room_for : HaveRoom l checked room blocks_left p.items
+
+-- a part whose items are these, one at least
+pub good_part : (Named : Option (Directive ExpressionTree) → Type 0) (l : Limits) (checked : Bool)
+    (room blocks_left : ℕ) (section : Option (Directive ExpressionTree)) (items : List StatementTree) → Named section
+    → section_nesting section ≤ l.nested → section_longest section ≤ l.tokens
+    → FirstAndMore (IsGoodPartItem l checked room blocks_left) (IsGoodPartItem l checked room blocks_left) items
+    → IsGoodPart Named l checked room blocks_left (record { section = section; items = statements items })
+good_part Named l checked room blocks_left section items named nested long h =
+    let good = are_good_part_items l checked room blocks_left items
+    (each_of (IsGoodPartItem l checked room blocks_left) items h) in
+    record {
+      named = named;
+      one_stands = one_at_least items h;
+      formed = good.formed;
+      nested = nested;
+      long = long;
+      room_for = good.room_for;
+    }
+  where
+    one_at_least : (items : List StatementTree) → FirstAndMore (IsGoodPartItem l checked room blocks_left)
+        (IsGoodPartItem l checked room blocks_left) items → AreSome (statements items)
+    one_at_least [] h = absurd h
+    one_at_least (s ∷ rest) h = tt
+
+-- parts with such room
+pub record PartsHaveRoom (l : Limits) (checked : Bool) (room blocks_left : ℕ) (parts : PartsTree) : Type 0 where
+  pub high : height_of_parts parts ≤ room
+  pub deep : blocks_of_parts parts ≤ blocks_left
+  pub nested : brackets_of_parts parts ≤ l.nested
+  pub long : longest_of_parts parts ≤ l.tokens
+  pub forms : PartsHaveForms checked parts
+
+room_for_part : (Named : Option (Directive ExpressionTree) → Type 0) (l : Limits) (checked : Bool)
+    (room blocks_left : ℕ) (p : PartTree) (rest : List PartTree) → IsGoodPart Named l checked room blocks_left p
+    → PartsHaveRoom l checked room blocks_left (trees.parts rest)
+    → PartsHaveRoom l checked room blocks_left (trees.parts (p ∷ rest))
+unfolding HasForms
+room_for_part Named l checked room blocks_left p rest first others = record {
+  high = omega (arith, first.room_for.high, others.high);
+  deep = omega (arith, first.room_for.deep, others.deep);
+  nested = omega (arith, first.nested, first.room_for.nested, others.nested);
+  long = omega (arith, first.long, first.room_for.long, others.long);
+  forms = (first.room_for.forms, others.forms);
+}
+
+record AreGoodFurtherParts (l : Limits) (checked : Bool) (room blocks_left : ℕ) (parts : List PartTree) : Type 0 where
+  pub formed : AreFurtherParts (trees.parts parts)
+  pub room_for : PartsHaveRoom l checked room blocks_left (trees.parts parts)
+
+are_good_further : (l : Limits) (checked : Bool) (room blocks_left : ℕ) (parts : List PartTree)
+    → All (IsGoodPart IsSection l checked room blocks_left) parts → AreGoodFurtherParts l checked room blocks_left parts
+unfolding IsStatement HasForms
+are_good_further l checked room blocks_left [] h = record {
+  formed = tt;
+  room_for = record { high = omega arith; deep = omega arith; nested = omega arith; long = omega arith; forms = tt };
+}
+are_good_further l checked room blocks_left (p ∷ rest) h =
+    let first = All-head (IsGoodPart IsSection l checked room blocks_left) p rest h in
+    let others = are_good_further l checked room blocks_left rest
+    (All-tail (IsGoodPart IsSection l checked room blocks_left) p rest h) in
+    record {
+      formed = (first.named, first.one_stands, first.formed, others.formed);
+      room_for = room_for_part IsSection l checked room blocks_left p rest first others.room_for;
+    }
+
+-- the parts of `sections`
+pub record AreGoodParts (l : Limits) (checked : Bool) (room blocks_left : ℕ) (parts : List PartTree) : Type 0 where
+  pub formed : AreParts (trees.parts parts)
+  pub room_for : PartsHaveRoom l checked room blocks_left (trees.parts parts)
+
+pub are_good_parts : (l : Limits) (checked : Bool) (room blocks_left : ℕ) (parts : List PartTree)
+    → FirstAndMore (IsGoodPart IsOptionalSection l checked room blocks_left)
+    (IsGoodPart IsSection l checked room blocks_left) parts → AreGoodParts l checked room blocks_left parts
+unfolding IsStatement
+are_good_parts l checked room blocks_left [] h = absurd h
+are_good_parts l checked room blocks_left (p ∷ rest) h =
+    let others = are_good_further l checked room blocks_left rest h.1 in
+    record {
+      formed = (h.0.named, h.0.one_stands, h.0.formed, others.formed);
+      room_for = room_for_part IsOptionalSection l checked room blocks_left p rest h.0 others.room_for;
+    }
+
+-- what may be a part of another statement may be an item of a part of `sections`
 pub body_is_part : (s : StatementTree) → IsBody s → IsPartItem s
 body_is_part (LocalDeclaration d) body = absurd body
-body_is_part (Section d s) body = absurd body
 body_is_part _ body = tt
 
-pub part_inside : (i : Inside) (s : StatementTree) → IsPartItem s → StandsInside i s
-part_inside i (LocalDeclaration d) part = absurd part
-part_inside i (Section d s) part = absurd part
-part_inside insides.Block _ part = tt
-part_inside insides.Sections _ part = tt
+pub parts_flat : (parts : List PartTree) → parts_spelling (trees.parts parts) ≡ flat_map part_spelling parts
+unfolding statement_spelling
+parts_flat [] = refl
+parts_flat (p ∷ rest) = ap (λ w. part_spelling p ++ w) (parts_flat rest)
 
 pub statements_flat : (items : List StatementTree) → statements_spelling (statements items)
     ≡ flat_map statement_spelling items
@@ -219,26 +320,19 @@ pub record AreItemsRead (l : Limits) (checked : Bool) (room blocks_left : ℕ) (
   pub long : longest_of (statements x.0) ≤ l.tokens
   pub forms : HaveForms checked (statements x.0)
 
--- the items of such braces that are read behind the left one
-pub record AreItemsInside (i : Inside) (l : Limits) (checked : Bool) (room blocks_left : ℕ) (ts : List Token)
-    (x : List StatementTree × Span × List Token) : Type 0 where
-  pub parts : ts ≡ (statements_spelling (statements x.0) ++ mark punctuators.CloseBrace x.1 ∷ []) ++ x.2
-  pub good : AreGood i l checked room blocks_left x.0
-
 -- the braces of `sections`, with what stands in them
-abbrev pub braces_spelling : Span × StatementsTree × Span → List Token
-braces_spelling x = mark punctuators.OpenBrace x.0 ∷ (statements_spelling x.1 ++ mark punctuators.CloseBrace x.2 ∷ [])
+abbrev pub braces_spelling : Span × PartsTree × Span → List Token
+braces_spelling x = mark punctuators.OpenBrace x.0 ∷ (parts_spelling x.1 ++ mark punctuators.CloseBrace x.2 ∷ [])
 
--- well-formed items in the braces of `sections` that keep the limits; the braces are a statement and a block
-pub record AreGoodBraces (l : Limits) (checked : Bool) (room blocks_left : ℕ) (x : Span × StatementsTree
-    × Span) : Type 0 where
-  pub one_stands : AreSome x.1
-  pub formed : AreSectionItems x.1
-  pub high : height_of x.1 + 1 ≤ room
-  pub deep : blocks_of x.1 + 1 ≤ blocks_left
-  pub nested : brackets_of x.1 ≤ l.nested
-  pub long : longest_of x.1 ≤ l.tokens
-  pub forms : HaveForms checked x.1
+-- well-formed parts in the braces of `sections` that keep the limits; the braces are a statement and a block
+pub record AreGoodBraces (l : Limits) (checked : Bool) (room blocks_left : ℕ) (x : Span × PartsTree × Span) : Type 0
+  where
+    pub formed : AreParts x.1
+    pub high : height_of_parts x.1 + 1 ≤ room
+    pub deep : blocks_of_parts x.1 + 1 ≤ blocks_left
+    pub nested : brackets_of_parts x.1 ≤ l.nested
+    pub long : longest_of_parts x.1 ≤ l.tokens
+    pub forms : PartsHaveForms checked x.1
 
 abbrev pub AreBracesSound : (l : Limits) (checked : Bool) (room blocks_left : ℕ) → PartsReader → Type 0
 AreBracesSound l checked room blocks_left r = IsSound braces_spelling (AreGoodBraces l checked room blocks_left) r
@@ -300,12 +394,6 @@ pub construct_named : (ts : List Token) (d : Directive ExpressionTree) (us : Lis
     × (is_section d.name ≡ false)
 construct_named ts d us is parts = construct_of_kinds (is_stand_alone d.name) (is_section d.name)
     (line_named ts d us lines.Construct is parts)
-
--- one of two outcomes, by a test
-pub either_way : {A : Type 0} (b : Bool) (first other x : A) → cond b first other ≡ x → ((b ≡ true) × (first ≡ x))
-    ⊎ ((b ≡ false) × (other ≡ x))
-either_way true first other x h = inl (refl, h)
-either_way false first other x h = inr (refl, h)
 
 -- an outcome that is good only where a test holds
 pub only_where : {A : Type 0} (b : Bool) (first : Outcome A) (f : SourceFault) (x : A) → cond b first (Err f) ≡ ok x

@@ -12,35 +12,35 @@ use Rattle.om_pragma.specs.Questions.{is_stand_alone, is_section, is_sections, i
 use Rattle.om_pragma.specs.Spelling.{directive_spelling}
 use Rattle.om_phrases.specs.declared.construct.LineStart.{LineStart}
 use Rattle.om_phrases.specs.declared.construct.LineStart.TheVariants as lines
-use Rattle.om_phrases.specs.declared.statement.Inside.{Inside}
-use Rattle.om_phrases.specs.declared.statement.Inside.TheVariants as insides
 use Rattle.om_phrases.specs.declared.start.Start.{Start}
 use Rattle.om_phrases.specs.declared.start.Start.TheVariants as starts
 use Rattle.om_tree.specs.AtomicForms.{has_atomic_form}
 use Rattle.om_phrases.specs.ConstructReading.{line_start, misplaced, unknown_line, bad_atomic, atomic_of, atomic_after}
 use Rattle.om_phrases.specs.ConstructReading.{constructed_after, PartsReader, sections_after, construct_after}
-use Rattle.om_phrases.specs.ConstructReading.{construct_at, line_of}
+use Rattle.om_phrases.specs.ConstructReading.{construct_at, line_of, part_at, part_item_at}
 use Rattle.om_parts.specs.Reading.{Reader, mark_at}
 use Rattle.om_tree.specs.Spelling.{token, mark, word, expression_spelling, statement_spelling, block_spelling}
-use Rattle.om_tree.specs.Formed.{IsBody, IsConstruct, IsStatement}
+use Rattle.om_tree.specs.Spelling.{part_spelling}
+use Rattle.om_tree.specs.Formed.{IsBody, IsConstruct, IsStatement, IsOptionalSection}
 use Rattle.om_tree.specs.Limits.{Limits}
 use Rattle.om_tree.specs.Sizes.{longest, brackets, blocks, height, Where, HasForms}
 use Rattle.om_parts.specs.PartReading.{Parts}
 use Rattle.om_phrases.specs.StatementReading.{start_of, optional_before, return_after, jump_after}
-use Rattle.om_phrases.specs.StatementReading.{expression_statement_at, block_item_at, item_at, block_items_after}
+use Rattle.om_phrases.specs.StatementReading.{expression_statement_at, block_item_at, block_items_after}
 use Rattle.om_phrases.specs.StatementReading.{block_after, simple_of, statement_of, no_room, statement_at, parts_at}
 use Rattle.om_phrases.specs.StatementReading.{block_with}
 use Rattle.om_tree.specs.Tree.{ExpressionTree, StatementTree, Empty, Expression, Return, Break, Continue, Construct}
 use Rattle.om_parts.specs.Laws.{IsWholeLine, IsRead, IsSound, ArePartsSound}
-use Rattle.om_phrases.specs.Outcomes.{ok, ok_is, bind_ok, after_front, after_token}
+use Rattle.om_phrases.specs.Outcomes.{ok, ok_is, bind_ok, either_way, after_front, after_token}
 use Rattle.om_phrases.specs.Taken.{mark_at_is}
-use Rattle.om_phrases.proofs.StatementParts.{IsOf, is_of_start, IsGoodBody, IsGoodItem, statements_flat}
+use Rattle.om_phrases.proofs.StatementParts.{IsOf, is_of_start, IsGood, IsGoodBody, IsGoodPartItem, IsGoodPart, statements_flat}
 use Rattle.om_phrases.proofs.StatementParts.{IsStatementRead}
 use Rattle.om_phrases.proofs.StatementParts.{IsStatementSound, braces_spelling, AreGoodBraces, AreBracesSound}
 use Rattle.om_phrases.specs.Laws.{IsGoodBlock}
-use Rattle.om_phrases.proofs.StatementParts.{construct_named, either_way, only_where}
+use Rattle.om_phrases.proofs.StatementParts.{construct_named, only_where}
 use Rattle.om_phrases.proofs.ItemSound.{optional_sound, AreSound, headed_sound, do_sound, block_item_sound_with}
-use Rattle.om_phrases.proofs.ItemSound.{item_sound_with, block_items_sound, braces_sound_with}
+use Rattle.om_phrases.proofs.ItemSound.{part_item_sound_with, part_sound_with, may_lack, block_items_sound}
+use Rattle.om_phrases.proofs.ItemSound.{braces_sound_with}
 
 module _ (p : Parts) (l : Limits) (one : 1 ≤ l.nested) (sound : ArePartsSound p l) where
   -- ---- constructs
@@ -58,7 +58,7 @@ module _ (p : Parts) (l : Limits) (one : 1 ≤ l.nested) (sound : ArePartsSound 
             r.parts;
         good = record {
           good = record {
-            formed = (line.formed, is, r.formed.one_stands, r.formed.formed);
+            formed = (line.formed, is, r.formed.formed);
             room_for = record {
               high = omega (arith, r.formed.high);
               deep = r.formed.deep;
@@ -356,14 +356,21 @@ module _ (p : Parts) (l : Limits) (one : 1 ≤ l.nested) (sound : ArePartsSound 
         (statement_at p checked room) (λ b. statement_sound checked room b) blocks_left o.0.0 o.0.1 x o.2)
 
   pub block_item_sound : (checked : Bool) (room blocks_left : ℕ) → IsSound statement_spelling
-      (IsGoodItem insides.Block l checked room blocks_left) (block_item_at p (statement_at p checked room blocks_left))
+      (IsGood l checked room blocks_left) (block_item_at p (statement_at p checked room blocks_left))
   block_item_sound checked room blocks_left = (block_item_sound_with p l one sound) checked room blocks_left
       (statement_at p checked room blocks_left) (statement_sound checked room blocks_left)
 
-  pub item_sound : (i : Inside) (checked : Bool) (room blocks_left : ℕ) → IsSound statement_spelling
-      (IsGoodItem i l checked room blocks_left) (item_at i p (statement_at p checked room blocks_left))
-  item_sound i checked room blocks_left = (item_sound_with p l one sound) i checked room blocks_left
+  pub part_item_sound : (checked : Bool) (room blocks_left : ℕ) → IsSound statement_spelling
+      (IsGoodPartItem l checked room blocks_left) (part_item_at p.line (statement_at p checked room blocks_left))
+  part_item_sound checked room blocks_left = (part_item_sound_with p l one sound) checked room blocks_left
       (statement_at p checked room blocks_left) (statement_sound checked room blocks_left)
+
+  pub part_sound : (checked : Bool) (room blocks_left : ℕ) → IsSound part_spelling
+      (IsGoodPart IsOptionalSection l checked room blocks_left)
+      (part_at p.line (statement_at p checked room blocks_left))
+  part_sound checked room blocks_left ts x h = (part_sound_with p l one sound) checked room blocks_left
+      (statement_at p checked room blocks_left) (statement_sound checked room blocks_left) IsOptionalSection ts x
+      ((may_lack p l one sound) ts) h
 
   pub function_block_sound : (room blocks_left : ℕ) → IsSound block_spelling (IsGoodBlock l room blocks_left)
       (block_with p l.checked room blocks_left)

@@ -22,13 +22,14 @@ use Rattle.om_phrases.specs.declared.start.Start.TheVariants as starts
 use Rattle.om_phrases.specs.ConstructReading.{line_start}
 use Rattle.om_parts.specs.Reading.{take, take_mark, take_word}
 use Rattle.om_tree.specs.Spelling.{token, mark, word, perhaps, expression_spelling, condition_spelling}
-use Rattle.om_tree.specs.Spelling.{for_start_spelling, statement_spelling, statements_spelling}
+use Rattle.om_tree.specs.Spelling.{for_start_spelling, statement_spelling, statements_spelling, parts_spelling}
+use Rattle.om_tree.specs.Spelling.{part_spelling}
 use Rattle.om_tree.specs.Formed.{IsForHead, IsExpression}
 use Rattle.om_tree.specs.Limits.{Limits}
 use Rattle.om_tree.specs.Sizes.{optional_extent, optional_nesting, for_start_extent, for_start_nesting}
 use Rattle.om_phrases.specs.StatementReading.{start_of, OpeningTree, OpensIf, OpensWhile, OpensFor}
 use Rattle.om_tree.specs.Tree.{ExpressionTree, ForHeadTree, StatementTree, StatementsTree, NoStatements, Statement}
-use Rattle.om_tree.specs.Tree.{statements}
+use Rattle.om_tree.specs.Tree.{statements, PartsTree, NoParts, Part, PartTree, parts}
 use Rattle.om_parts.specs.Laws.{Keeps, IsEnd}
 use Rattle.om_phrases.specs.Taken.{take_mark_is, take_word_is}
 use Rattle.om_phrases.proofs.LineStarts.{start_of_directive, line_start_is}
@@ -125,6 +126,21 @@ pub list_flat : (ss : StatementsTree) → statements_spelling ss ≡ flat_map st
 unfolding statement_spelling
 list_flat NoStatements = refl
 list_flat (Statement s rest) = ap (λ w. statement_spelling s ++ w) (list_flat rest)
+
+-- the list that these parts of `sections` are
+abbrev pub list_of_parts : PartsTree → List PartTree
+list_of_parts NoParts = []
+list_of_parts (Part section items rest) = record { section = section; items = items } ∷ list_of_parts rest
+
+pub parts_of : (ps : PartsTree) → parts (list_of_parts ps) ≡ ps
+parts_of NoParts = refl
+parts_of (Part section items rest) = ap (Part section items) (parts_of rest)
+
+pub list_of_parts_flat : (ps : PartsTree) → parts_spelling ps ≡ flat_map part_spelling (list_of_parts ps)
+unfolding statement_spelling
+list_of_parts_flat NoParts = refl
+list_of_parts_flat (Part section items rest) = ap (λ w. part_spelling (record { section = section; items = items }) ++ w)
+    (list_of_parts_flat rest)
 
 -- ---- what a line is seen to be
 

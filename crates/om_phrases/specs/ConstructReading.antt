@@ -1,7 +1,9 @@
 -- For proofs: reading directives and their statements from the left.
-use Rattle.std.specs.Prelude.{List, [], ◌∷◌, Ok, Err, Bool, false, ◌||◌, not, if◌then◌else◌}
+use Rattle.std.specs.Prelude.{List, [], ◌∷◌, length, Option, Some, None, Ok, Err, Bool, true, false, ◌||◌, not, is_some}
+use Rattle.std.specs.Prelude.{if◌then◌else◌}
 use Rattle.om_lexer.specs.declared.fault.FaultCode.TheVariants as faults
 use Rattle.om_lexer.specs.declared.fault.SourceFault.{SourceFault}
+use Rattle.om_lexer.specs.declared.token.Punctuator.TheVariants as punctuators
 use Rattle.om_lexer.specs.declared.token.Span.{Span}
 use Rattle.om_lexer.specs.declared.token.Token.{Token}
 use Rattle.om_lexer.specs.declared.token.TokenKind.{TokenKind}
@@ -15,8 +17,10 @@ use Rattle.om_phrases.specs.declared.construct.LineStart.{LineStart}
 use Rattle.om_phrases.specs.declared.construct.LineStart.TheVariants as lines
 use Rattle.om_tree.specs.AtomicForms.{has_atomic_form}
 use Rattle.om_parts.specs.PartReading.{LineReader}
-use Rattle.om_parts.specs.Reading.{◌>>=◌, choose, Outcome, Reader, syntax}
-use Rattle.om_tree.specs.Tree.{ExpressionTree, StatementTree, Construct, StandAlone, Sections, Section, StatementsTree}
+use Rattle.om_parts.specs.Reading.{◌>>=◌, choose, Outcome, Reader, syntax, take_mark}
+use Rattle.om_phrases.specs.OneOrMore.{one_or_more}
+use Rattle.om_tree.specs.Tree.{ExpressionTree, StatementTree, Construct, StandAlone, Sections, PartsTree, PartTree}
+use Rattle.om_tree.specs.Tree.{statements}
 
 -- ---- which directive a line is, by its first word
 
@@ -73,20 +77,35 @@ item_of line statement lines.Nothing ts = statement ts
 unfoldable pub part_item_at : LineReader → Reader StatementTree → Reader StatementTree
 part_item_at line statement ts = item_of line statement (line_start ts) ts
 
--- `section` and the first item of its part
-unfoldable pub section_at : LineReader → Reader StatementTree → Reader StatementTree
-section_at line statement ts = line ts >>= λ d. part_item_at line statement d.1 >>= λ s. Ok (Section d.0 s.0, s.1)
+-- ---- parts of `sections`
 
--- an item in the block of `sections`: with its `section`, if it is the first of a part, or without
-unfoldable pub section_item_of : LineReader → Reader StatementTree → LineStart → Reader StatementTree
-section_item_of line statement lines.Section ts = section_at line statement ts
-section_item_of line statement lines.StandAlone ts = part_item_at line statement ts
-section_item_of line statement lines.Unknown ts = part_item_at line statement ts
-section_item_of line statement lines.Construct ts = part_item_at line statement ts
-section_item_of line statement lines.Nothing ts = part_item_at line statement ts
+abbrev pub is_section_line : LineStart → Bool
+is_section_line lines.Section = true
+is_section_line _ = false
 
-unfoldable pub section_item_at : LineReader → Reader StatementTree → Reader StatementTree
-section_item_at line statement ts = section_item_of line statement (line_start ts) ts
+-- whether a `section` stands first
+abbrev pub at_section : List Token → Bool
+at_section ts = is_section_line (line_start ts)
+
+-- the items of a part end at a brace, or where another part begins
+abbrev pub ends_part : List Token → Bool
+ends_part ts = is_some (take_mark punctuators.CloseBrace ts) || at_section ts
+
+-- the parts end where no other one begins
+abbrev pub ends_parts : List Token → Bool
+ends_parts ts = not (at_section ts)
+
+-- a `section`, if the line that stands first is one
+unfoldable pub section_of : LineReader → LineStart → Reader (Option (Directive ExpressionTree))
+section_of line lines.Section ts = line ts >>= λ d. Ok (Some d.0, d.1)
+section_of line _ ts = Ok (None, ts)
+
+-- a part: its `section`, if it has one, and its items
+unfoldable pub part_at : LineReader → Reader StatementTree → Reader PartTree
+part_at line statement ts = do
+  d ← section_of line (line_start ts) ts
+  x ← one_or_more ends_part (part_item_at line statement) (length d.1) d.1
+  Ok (record { section = d.0; items = statements x.0 }, x.1)
 
 -- ---- constructs
 
@@ -108,9 +127,9 @@ atomic_after checked statement d ts = statement false ts >>= λ s. atomic_of che
 unfoldable pub constructed_after : Reader StatementTree → Directive ExpressionTree → Reader StatementTree
 constructed_after statement d ts = statement ts >>= λ s. Ok (Construct d s.0, s.1)
 
--- what stands in the braces of `sections`: the left one, the items, the right one
+-- what stands in the braces of `sections`: the left one, the parts, the right one
 abbrev pub PartsReader : Type 0
-PartsReader = Reader (Span × StatementsTree × Span)
+PartsReader = Reader (Span × PartsTree × Span)
 
 -- `sections` behind its line
 unfoldable pub sections_after : PartsReader → Directive ExpressionTree → Reader StatementTree

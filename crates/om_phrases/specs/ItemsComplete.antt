@@ -20,7 +20,7 @@ pub record AreAgain {A : Type 0} (spell : A → List Token) (P F : A → Type 0)
   pub follows : (x : A) (rest : List Token) → P x → MayFollow (spell x ++ rest)
   pub some_tokens : (x : A) → P x → 0 < length (spell x)
 
-items_length : {A : Type 0} (spell : A → List Token) (P : A → Type 0) → ((x : A) → P x → 0 < length (spell x))
+pub items_length : {A : Type 0} (spell : A → List Token) (P : A → Type 0) → ((x : A) → P x → 0 < length (spell x))
     → (xs : List A) → All P xs → length xs ≤ length (flat_map spell xs)
 items_length spell P some_tokens [] f = omega arith
 items_length spell P some_tokens (x ∷ xs) f = omega (

@@ -1,3 +1,4 @@
+pub mod OneOrMore
 pub mod ConstructReading
 pub mod StatementReading
 pub mod StatementView

@@ -44,6 +44,12 @@ pub cond_some : {A : Type 0} (b : Bool) (x y : A) → cond b (some x) None ≡ s
 cond_some true x y e = (refl, cc)
 cond_some false x y e = absurd cc
 
+-- one of two outcomes, by a test
+pub either_way : {A : Type 0} (b : Bool) (first other x : A) → cond b first other ≡ x → ((b ≡ true) × (first ≡ x))
+    ⊎ ((b ≡ false) × (other ≡ x))
+either_way true first other x h = inl (refl, h)
+either_way false first other x h = inr (refl, h)
+
 -- what stands at the front of what stands behind
 pub after_front : (ts xs us ys vs : List Token) → ts ≡ xs ++ us → us ≡ ys ++ vs → ts ≡ (xs ++ ys) ++ vs
 after_front ts xs us ys vs e f = e ∙ ap (λ (w : List Token). xs ++ w) f ∙ sym (append_assoc xs ys vs)

@@ -11,9 +11,8 @@ use Rattle.om_lexer.specs.declared.token.TokenKind.TheVariants as kinds
 use Rattle.om_tree.specs.Limits.{Limits, accepted}
 use Rattle.om_phrases.specs.declared.statement.Room.{Room}
 use Rattle.om_parts.specs.PartReading.{Parts, parts}
-use Rattle.om_phrases.specs.ConstructReading.{PartsReader, line_start, part_item_at, section_item_at, line_of}
-use Rattle.om_phrases.specs.declared.statement.Inside.{Inside}
-use Rattle.om_phrases.specs.declared.statement.Inside.TheVariants as insides
+use Rattle.om_phrases.specs.ConstructReading.{PartsReader, ends_parts, line_start, part_at, part_item_at, line_of}
+use Rattle.om_phrases.specs.OneOrMore.{one_or_more}
 use Rattle.om_phrases.specs.declared.start.Start.{Start}
 use Rattle.om_phrases.specs.declared.start.Start.TheVariants as starts
 use Rattle.om_parts.specs.Reading.{◌>>=◌, choose, Outcome, Reader, syntax, too_deep, take_mark, take_word, mark_at}
@@ -22,6 +21,7 @@ use Rattle.om_parts.specs.Repetition.{until}
 use Rattle.om_tree.specs.Tree.{ExpressionTree, ConditionTree, ForStartTree, Nothing, StartExpression, StartDeclaration}
 use Rattle.om_tree.specs.Tree.{ForHeadTree, StatementTree, LocalDeclaration, Block, Empty, Expression, If, IfElse}
 use Rattle.om_tree.specs.Tree.{While, Do, For, Return, Break, Continue, statements, BlockTree}
+use Rattle.om_tree.specs.Tree as trees
 
 -- ---- what a first token begins
 
@@ -181,40 +181,29 @@ block_item_at p statement ts = choose (take_word keywords.Int ts)
     (λ i. local_item_after p i.0 i.1)
     (part_item_at p.line statement ts)
 
--- an item in the braces of a block, or in those of `sections`
-abbrev pub item_at : Inside → Parts → Reader StatementTree → Reader StatementTree
-item_at insides.Block p statement = block_item_at p statement
-item_at insides.Sections p statement = section_item_at p.line statement
-
--- the items in such braces, behind the left one
-abbrev pub items_at : Inside → Parts → Reader StatementTree → List Token → Outcome (List StatementTree × Span
-    × List Token)
-items_at i p statement ts = until (take_mark punctuators.CloseBrace) (item_at i p statement) (length ts) ts
+-- the items of a block, behind its left brace
+abbrev pub items_at : Parts → Reader StatementTree → List Token → Outcome (List StatementTree × Span × List Token)
+items_at p statement ts = until (take_mark punctuators.CloseBrace) (block_item_at p statement) (length ts) ts
 
 -- the items of a block behind its left brace, with room for so many blocks round it
 unfoldable pub block_items_after : Parts → (ℕ → Reader StatementTree) → (blocks : ℕ) → Span → List Token
     → Outcome (List StatementTree × Span × List Token)
 block_items_after p statement zero left ts = Err (too_deep left)
-block_items_after p statement (suc blocks) left ts = items_at insides.Block p (statement blocks) ts
+block_items_after p statement (suc blocks) left ts = items_at p (statement blocks) ts
 
 -- a block behind its left brace
 unfoldable pub block_after : Parts → (ℕ → Reader StatementTree) → (blocks : ℕ) → Span → Reader StatementTree
 block_after p statement blocks left ts = block_items_after p statement blocks left ts >>= λ x. Ok
     (Block left (statements x.0) x.1, x.2)
 
--- the items in the braces of `sections`, behind the left one: one at least
-unfoldable pub section_items_after : Parts → Reader StatementTree → List Token → Outcome (List StatementTree × Span
-    × List Token)
-section_items_after p statement ts = choose (take_mark punctuators.CloseBrace ts)
-    (λ r. Err (syntax ts))
-    (items_at insides.Sections p statement ts)
-
 -- what stands in the braces of `sections`, behind the left one, with room for so many blocks
 unfoldable pub parts_after : Parts → (statement : (blocks : ℕ) → Reader StatementTree) → (blocks : ℕ) → Span
     → PartsReader
 parts_after p statement zero left ts = Err (too_deep left)
-parts_after p statement (suc blocks) left ts = section_items_after p (statement blocks) ts >>= λ x. Ok
-    ((left, statements x.0, x.1), x.2)
+parts_after p statement (suc blocks) left ts = do
+  x ← one_or_more ends_parts (part_at p.line (statement blocks)) (length ts) ts
+  r ← mark_at punctuators.CloseBrace x.1
+  Ok ((left, trees.parts x.0, r.0), r.1)
 
 -- a statement of this start that has no statement in it
 unfoldable pub simple_of : Parts → Start → Span → (behind whole : List Token) → Outcome (StatementTree × List Token)

@@ -12,14 +12,14 @@ ghost use Rattle.om_pragma.specs.Questions.{atomic_kind};
 ghost use Rattle.om_tree.specs.AtomicForms.{has_atomic_form};
 ghost use Rattle.om_tree.specs.Limits.{accepted};
 ghost use Rattle.om_tree.specs.Tree as trees;
-ghost use Rattle.om_tree.specs.View.{view_condition, view_directive, view_for_head, view_statement};
+ghost use Rattle.om_tree.specs.View.{view_condition, view_directive, view_for_head, view_part, view_statement};
 
 use crate::opening::condition;
 use om_lexer::{FaultCode, Keyword, Punctuator, SourceFault, Span, Token};
 use om_parts::boxed::boxed_before;
 use om_parts::front::{mark, word};
 use om_pragma::Directive;
-use om_tree::{Condition, Expression, ForHead, Statement, has_atomic_form};
+use om_tree::{Condition, Expression, ForHead, Part, Statement, has_atomic_form};
 use std::alloc::Global;
 
 /// A block of these parts.
@@ -159,39 +159,25 @@ pub fn construct_of<'a>(
     boxed_before(alloc, Statement::Construct { directive, body }, rest)
 }
 
-/// A `sections` of its line, and of the items between its braces.
+/// A `sections` of its line, and of the parts between its braces.
 #[inline(never)]
 pub fn sections_of<'a>(
     alloc: Global,
     directive: Box<Directive<Expression>>,
-    braces: (Span, Vec<Statement>, Span),
+    braces: (Span, Vec<Part>, Span),
     rest: &'a [Token],
 ) -> Result<(Box<Statement>, &'a [Token]), SourceFault>
     ensures { MakesStatement result (trees.Sections (view_directive directive.value) braces.0
-        (trees.statements (map view_statement braces.1.items)) braces.2) rest.now }
+        (trees.parts (map view_part braces.1.items)) braces.2) rest.now }
 {
-    let (open_brace, items, close_brace) = braces;
+    let (open_brace, parts, close_brace) = braces;
     let sections = Statement::Sections {
         directive,
         open_brace,
-        items,
+        parts,
         close_brace,
     };
     boxed_before(alloc, sections, rest)
-}
-
-/// A `section` and the first item of its part.
-#[inline(never)]
-pub fn section_of<'a>(
-    alloc: Global,
-    directive: Box<Directive<Expression>>,
-    first: Box<Statement>,
-    rest: &'a [Token],
-) -> Result<(Box<Statement>, &'a [Token]), SourceFault>
-    ensures { MakesStatement result (trees.Section (view_directive directive.value)
-        (view_statement first.value)) rest.now }
-{
-    boxed_before(alloc, Statement::Section { directive, first }, rest)
 }
 
 /// An `atomic` with its statement, which has one of the forms where that is `checked`.

@@ -1,11 +1,11 @@
 //! Which directive a line is, by its first word (OpenMP API 5.2, chapter 3).
 
 ghost use Rattle.std.specs.Prelude.{◌≡◌};
-ghost use Rattle.om_phrases.specs.ConstructReading.{from_word, line_start, start_of_kind, start_of_line, word_start};
+ghost use Rattle.om_phrases.specs.ConstructReading.{at_section, ends_part, from_word, line_start, start_of_kind, start_of_line, word_start};
 ghost use Rattle.om_parts.specs.Reading.{syntax};
 
-use om_lexer::{SourceFault, Token, TokenKind};
-use om_parts::front::syntax;
+use om_lexer::{Punctuator, SourceFault, Token, TokenKind};
+use om_parts::front::{syntax, take_mark};
 use om_pragma::{DirectiveKind, begun_by};
 
 /// What stands first, where a directive line may.
@@ -67,6 +67,20 @@ fn word_start(tokens: &[Token]) -> LineStart
         [_, _, word, ..] => start_of_line(&word.kind),
         _ => LineStart::Unknown,
     }
+}
+
+/// Whether a `section` stands first.
+pub fn at_section(tokens: &[Token]) -> bool
+    ensures { result ≡ at_section tokens.now }
+{
+    matches!(line_start(tokens), LineStart::Section)
+}
+
+/// Whether the items of a part of `sections` end: at a brace, or where another part begins.
+pub fn ends_part(tokens: &[Token]) -> bool
+    ensures { result ≡ ends_part tokens.now }
+{
+    take_mark(tokens, Punctuator::CloseBrace).is_some() || at_section(tokens)
 }
 
 /// The fault of a line that may not stand there: no tree goes on with its word.

@@ -1,19 +1,23 @@
-//! Items of a block that have no statement in them (C17 6.8).
+//! Items of a block, and lines, that have no statement in them (C17 6.8).
 
-ghost use Rattle.om_phrases.specs.ConstructReading.{stand_alone_at, unknown_line};
+ghost use Rattle.std.specs.Prelude.{option_map};
+ghost use Rattle.om_phrases.specs.ConstructReading.{line_start, section_of, stand_alone_at, unknown_line};
 ghost use Rattle.om_phrases.specs.StatementReading.{expression_statement_at, jump_after, local_item_after, return_after, simple_of};
 ghost use Rattle.om_phrases.specs.StatementView.{ReadsStatement};
 ghost use Rattle.om_parts.specs.PartReading.{parts};
+ghost use Rattle.om_parts.specs.Reading.{Reads};
 ghost use Rattle.om_tree.specs.Limits.{accepted};
 ghost use Rattle.om_tree.specs.Tree as trees;
+ghost use Rattle.om_tree.specs.View.{view_directive};
 
-use crate::construct::misplaced;
+use crate::construct::{LineStart, line_start, misplaced};
 use crate::start::Start;
 use om_lexer::{Punctuator, SourceFault, Span, Token};
 use om_parts::boxed::{boxed, boxed_before};
 use om_parts::front::{mark, syntax, take_mark};
 use om_parts::part::{declaration, directive_line, expression};
-use om_tree::Statement;
+use om_pragma::Directive;
+use om_tree::{Expression, Statement};
 use std::alloc::Global;
 
 /// A statement of this start that has no statement in it, of which the first token is taken,
@@ -163,4 +167,23 @@ pub fn unknown_line(
 {
     directive_line(alloc, tokens)?;
     Err(misplaced(tokens))
+}
+
+/// A `section`, if it stands first, and the tokens behind it.
+#[tactic(auto, unfolding(crate::specs::ConstructReading::section_of))]
+#[inline(never)]
+pub fn section(
+    alloc: Global,
+    tokens: &[Token],
+) -> Result<(Option<Box<Directive<Expression>>>, &[Token]), SourceFault>
+    ensures { Reads (λ x. (option_map (λ d. view_directive d.value) x.0, x.1.now)) result
+        (section_of (parts accepted).line (line_start tokens.now) tokens.now) }
+{
+    match line_start(tokens) {
+        LineStart::Section => {
+            let (directive, rest) = directive_line(alloc, tokens)?;
+            Ok((Some(directive), rest))
+        }
+        _ => Ok((None, tokens)),
+    }
 }

@@ -2,39 +2,30 @@
 
 ghost use Rattle.std.specs.Prelude.{◌≡◌, length, map, option_map};
 ghost use Rattle.om_lexer.specs.declared.token.Keyword.TheVariants.{Else};
-ghost use Rattle.om_phrases.specs.ConstructReading.{atomic_after, construct_at, constructed_after, line_of, line_start, part_item_at, section_at, section_item_at, sections_after};
-ghost use Rattle.om_phrases.specs.StatementReading.{behind_body, block_after, block_at, block_item_at, do_after, headed_of, item_at, items_at, parts_in, section_items_after, statement_at, statement_if, statement_in};
+ghost use Rattle.om_phrases.specs.ConstructReading.{atomic_after, construct_at, constructed_after, ends_part, ends_parts, line_of, line_start, part_at, part_item_at, sections_after};
+ghost use Rattle.om_phrases.specs.OneOrMore.{one_or_more};
+ghost use Rattle.om_phrases.specs.StatementReading.{behind_body, block_after, block_at, block_item_at, do_after, headed_of, items_at, parts_in, statement_at, statement_if, statement_in};
 ghost use Rattle.om_phrases.specs.StatementView.{view_opening, ReadsStatement};
 ghost use Rattle.om_parts.specs.PartReading.{parts};
 ghost use Rattle.om_parts.specs.Reading.{take_word, Reads};
 ghost use Rattle.om_tree.specs.Limits.{accepted};
 ghost use Rattle.om_tree.specs.Tree as trees;
-ghost use Rattle.om_tree.specs.View.{view_block, view_directive, view_statement};
+ghost use Rattle.om_tree.specs.View.{view_block, view_directive, view_part, view_statement};
 
 use crate::assembly::{
-    atomic_of, block_of, construct_of, do_end, for_of, if_else_of, if_of, section_of, sections_of,
-    while_of,
+    atomic_of, block_of, construct_of, do_end, for_of, if_else_of, if_of, sections_of, while_of,
 };
-use crate::construct::{LineStart, line_start, misplaced};
+use crate::construct::{LineStart, at_section, ends_part, line_start, misplaced};
 use crate::opening::{Opening, opening_after};
-use crate::simple::{declaration_item, simple, stand_alone, unknown_line};
+use crate::simple::{declaration_item, section, simple, stand_alone, unknown_line};
 use crate::start::{Start, no_room, start_of};
 use om_lexer::{Keyword, Punctuator, SourceFault, Span, Token};
 use om_parts::front::{mark, syntax, take_mark, take_word, too_deep};
 use om_parts::laws::parts_are_sound;
 use om_parts::part::directive_line;
 use om_pragma::Directive;
-use om_tree::{BLOCK_LIMIT, Block, Expression, STATEMENT_LIMIT, Statement};
+use om_tree::{BLOCK_LIMIT, Block, Expression, Part, STATEMENT_LIMIT, Statement};
 use std::alloc::Global;
-
-/// In which braces items stand.
-#[derive(Clone, Copy)]
-pub enum Inside {
-    /// Those of a block.
-    Block,
-    /// Those of `sections`.
-    Sections,
-}
 
 /// What may still stand in one another.
 #[derive(Clone, Copy)]
@@ -58,7 +49,7 @@ pub fn block(alloc: Global, tokens: &[Token]) -> Result<(Block, &[Token]), Sourc
         statements: STATEMENT_LIMIT,
         blocks: BLOCK_LIMIT - 1,
     };
-    let (items, close_brace, rest) = items(alloc, Inside::Block, rest, room)?;
+    let (items, close_brace, rest) = items(alloc, rest, room)?;
     Ok((
         Block {
             open_brace,
@@ -69,16 +60,15 @@ pub fn block(alloc: Global, tokens: &[Token]) -> Result<(Block, &[Token]), Sourc
     ))
 }
 
-/// Items up to a closing brace, its span, and the tokens behind it.
+/// Items of a block up to its closing brace, its span, and the tokens behind it.
 #[cycle(statement)]
 fn items(
     alloc: Global,
-    kind: Inside,
     tokens: &[Token],
     room: Room,
 ) -> Result<(Vec<Statement>, Span, &[Token]), SourceFault>
     ensures { Reads (λ x. (map view_statement x.0.items, x.1, x.2.now)) result
-        (items_at kind (parts accepted) (statement_in room) tokens.now) }
+        (items_at (parts accepted) (statement_in room) tokens.now) }
 {
     parts_are_sound();
     let mut items = Vec::new(alloc);
@@ -87,25 +77,9 @@ fn items(
         if let Some((close_brace, after)) = take_mark(rest, Punctuator::CloseBrace) {
             return Ok((items, close_brace, after));
         }
-        let (next, after) = item(alloc, kind, rest, room)?;
+        let (next, after) = block_item(alloc, rest, room)?;
         items.push(Box::into_inner(next))?;
         rest = after;
-    }
-}
-
-/// An item in such braces, and the tokens behind it.
-#[cycle(statement)]
-fn item(
-    alloc: Global,
-    kind: Inside,
-    tokens: &[Token],
-    room: Room,
-) -> Result<(Box<Statement>, &[Token]), SourceFault>
-    ensures { ReadsStatement result (item_at kind (parts accepted) (statement_in room) tokens.now) }
-{
-    match kind {
-        Inside::Block => block_item(alloc, tokens, room),
-        Inside::Sections => section_item(alloc, tokens, room),
     }
 }
 
@@ -143,40 +117,6 @@ fn part_item(
         LineStart::Unknown => unknown_line(alloc, tokens),
         _ => statement(alloc, tokens, room),
     }
-}
-
-/// An item of a part of `sections`, with the `section` that stands before it, and the tokens
-/// behind it.
-#[cycle(statement)]
-#[tactic(auto, unfolding(crate::specs::ConstructReading::section_item_at, crate::specs::ConstructReading::section_item_of))]
-fn section_item(
-    alloc: Global,
-    tokens: &[Token],
-    room: Room,
-) -> Result<(Box<Statement>, &[Token]), SourceFault>
-    ensures { ReadsStatement result (section_item_at (parts accepted).line
-        (statement_in room) tokens.now) }
-{
-    match line_start(tokens) {
-        LineStart::Section => section(alloc, tokens, room),
-        _ => part_item(alloc, tokens, room),
-    }
-}
-
-/// `section`, the first item of its part, and the tokens behind it.
-#[cycle(statement)]
-#[tactic(auto, unfolding(crate::specs::ConstructReading::section_at))]
-fn section(
-    alloc: Global,
-    tokens: &[Token],
-    room: Room,
-) -> Result<(Box<Statement>, &[Token]), SourceFault>
-    ensures { ReadsStatement result (section_at (parts accepted).line
-        (statement_in room) tokens.now) }
-{
-    let (directive, rest) = directive_line(alloc, tokens)?;
-    let (first, rest) = part_item(alloc, rest, room)?;
-    section_of(alloc, directive, first, rest)
 }
 
 /// A statement, and the tokens behind it.
@@ -223,7 +163,7 @@ fn block_after(
         return Err(too_deep(open_brace));
     };
     let room = Room { blocks, ..room };
-    let (items, close_brace, rest) = items(alloc, Inside::Block, tokens, room)?;
+    let (items, close_brace, rest) = items(alloc, tokens, room)?;
     block_of(alloc, open_brace, items, close_brace, rest)
 }
 
@@ -380,19 +320,19 @@ fn sections(
     ensures { ReadsStatement result (sections_after (parts_in room)
         (view_directive directive.value) tokens.now) }
 {
-    let (open_brace, items, close_brace, rest) = braces(alloc, tokens, room)?;
-    sections_of(alloc, directive, (open_brace, items, close_brace), rest)
+    let (open_brace, parts, close_brace, rest) = braces(alloc, tokens, room)?;
+    sections_of(alloc, directive, (open_brace, parts, close_brace), rest)
 }
 
-/// The braces of `sections`, the items in them, and the tokens behind them.
+/// The braces of `sections`, the parts in them, and the tokens behind them.
 #[cycle(statement)]
 #[tactic(auto, unfolding(crate::specs::StatementReading::parts_at, crate::specs::StatementReading::parts_after))]
 fn braces(
     alloc: Global,
     tokens: &[Token],
     room: Room,
-) -> Result<(Span, Vec<Statement>, Span, &[Token]), SourceFault>
-    ensures { Reads (λ x. ((x.0, trees.statements (map view_statement x.1.items), x.2), x.3.now))
+) -> Result<(Span, Vec<Part>, Span, &[Token]), SourceFault>
+    ensures { Reads (λ x. ((x.0, trees.parts (map view_part x.1.items), x.2), x.3.now))
         result (parts_in room tokens.now) }
 {
     let (open_brace, rest) = mark(tokens, Punctuator::OpenBrace)?;
@@ -407,24 +347,63 @@ fn braces(
         blocks,
         ..room
     };
-    let (items, close_brace, rest) = section_items(alloc, rest, room)?;
-    Ok((open_brace, items, close_brace, rest))
+    let (parts, rest) = parts(alloc, rest, room)?;
+    let (close_brace, rest) = mark(rest, Punctuator::CloseBrace)?;
+    Ok((open_brace, parts, close_brace, rest))
 }
 
-/// The items in the braces of `sections`, of which the left one is taken, the span of the right
-/// one, and the tokens behind it.
+/// The parts of `sections`, one at least, and the tokens behind them.
 #[cycle(statement)]
-#[tactic(auto, unfolding(crate::specs::StatementReading::section_items_after))]
-fn section_items(
+fn parts(alloc: Global, tokens: &[Token], room: Room) -> Result<(Vec<Part>, &[Token]), SourceFault>
+    ensures { Reads (λ x. (map view_part x.0.items, x.1.now)) result
+        (one_or_more ends_parts (part_at (parts accepted).line (statement_in room))
+        (length tokens.now) tokens.now) }
+{
+    parts_are_sound();
+    let mut parts = Vec::new(alloc);
+    let mut rest = tokens;
+    'parts: loop {
+        let (next, after) = part(alloc, rest, room)?;
+        parts.push(next)?;
+        rest = after;
+        if !at_section(rest) {
+            return Ok((parts, rest));
+        }
+    }
+}
+
+/// A part of `sections`: its `section`, if it has one, its items, and the tokens behind them.
+#[cycle(statement)]
+#[tactic(auto, unfolding(crate::specs::ConstructReading::part_at))]
+fn part(alloc: Global, tokens: &[Token], room: Room) -> Result<(Part, &[Token]), SourceFault>
+    ensures { Reads (λ x. (view_part x.0, x.1.now)) result
+        (part_at (parts accepted).line (statement_in room) tokens.now) }
+{
+    let (section, rest) = section(alloc, tokens)?;
+    let (items, rest) = part_items(alloc, rest, room)?;
+    Ok((Part { section, items }, rest))
+}
+
+/// The items of a part, one at least, and the tokens behind them.
+#[cycle(statement)]
+fn part_items(
     alloc: Global,
     tokens: &[Token],
     room: Room,
-) -> Result<(Vec<Statement>, Span, &[Token]), SourceFault>
-    ensures { Reads (λ x. (map view_statement x.0.items, x.1, x.2.now)) result
-        (section_items_after (parts accepted) (statement_in room) tokens.now) }
+) -> Result<(Vec<Statement>, &[Token]), SourceFault>
+    ensures { Reads (λ x. (map view_statement x.0.items, x.1.now)) result
+        (one_or_more ends_part (part_item_at (parts accepted).line (statement_in room))
+        (length tokens.now) tokens.now) }
 {
-    if take_mark(tokens, Punctuator::CloseBrace).is_some() {
-        return Err(syntax(tokens));
+    parts_are_sound();
+    let mut items = Vec::new(alloc);
+    let mut rest = tokens;
+    'items: loop {
+        let (next, after) = part_item(alloc, rest, room)?;
+        items.push(Box::into_inner(next))?;
+        rest = after;
+        if ends_part(rest) {
+            return Ok((items, rest));
+        }
     }
-    items(alloc, Inside::Sections, tokens, room)
 }

@@ -16,6 +16,5 @@ pub mod UnitRules
 pub mod Breaches
 pub mod Resolution
 pub mod Updates
-pub mod Grouping
 pub mod StatementResolution
 pub mod UnitResolution

@@ -17,7 +17,7 @@ use Rattle.om_tree.specs.Tree.{ExpressionTree, Name, Constant, Text, Paren, Inde
 use Rattle.om_tree.specs.Tree.{Conditional, Assign, InitializerTree, DeclaratorTree, ForStartTree, Nothing}
 use Rattle.om_tree.specs.Tree.{StartExpression, StartDeclaration, ForHeadTree, StatementTree, LocalDeclaration, Block}
 use Rattle.om_tree.specs.Tree.{Empty, Expression, If, IfElse, While, Do, For, Return, Break, Continue, Construct}
-use Rattle.om_tree.specs.Tree.{StandAlone, Sections, Section}
+use Rattle.om_tree.specs.Tree.{StandAlone, Sections}
 use Rattle.om_rules.specs.declared.direction.Direction.{Direction}
 use Rattle.om_rules.specs.declared.direction.Direction.TheVariants as directions
 use Rattle.om_rules.specs.declared.direction.Step.{Step}
@@ -290,4 +290,3 @@ loop_in (Continue at semicolon) = None
 loop_in (Construct d s) = None
 loop_in (StandAlone d) = None
 loop_in (Sections d left parts right) = None
-loop_in (Section d s) = None

@@ -6,7 +6,7 @@ use Rattle.om_tree.specs.declared.tree.ResultType.TheVariants as results
 use Rattle.om_tree.specs.Tree.{ExpressionTree, Name, Constant, Text, Paren, Index, Call, Prefix, Postfix, Binary}
 use Rattle.om_tree.specs.Tree.{Conditional, Assign, StatementTree, LocalDeclaration, Block, Empty, Expression, If}
 use Rattle.om_tree.specs.Tree.{IfElse, While, Do, For, Return, Break, Continue, Construct, StandAlone, Sections}
-use Rattle.om_tree.specs.Tree.{Section, HeadTree, ItemTree, Declaration, Prototype, Function}
+use Rattle.om_tree.specs.Tree.{HeadTree, ItemTree, Declaration, Prototype, Function}
 
 unfoldable pub expression_first : ExpressionTree → Span
 expression_first (Name n) = n.span
@@ -40,7 +40,6 @@ statement_first (Continue at semicolon) = at
 statement_first (Construct d s) = d.hash
 statement_first (StandAlone d) = d.hash
 statement_first (Sections d left parts right) = d.hash
-statement_first (Section d s) = d.hash
 
 abbrev pub statement_start : StatementTree → ℕ
 statement_start s = (statement_first s).start

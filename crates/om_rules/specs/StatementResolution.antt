@@ -5,7 +5,7 @@ use Rattle.om_tree.specs.declared.tree.ArrayLength.{ArrayLength}
 use Rattle.om_tree.specs.Tree.{ExpressionTree, InitializerTree, DeclaratorTree, ForStartTree, Nothing, StartExpression}
 use Rattle.om_tree.specs.Tree.{StartDeclaration, ForHeadTree, StatementTree, LocalDeclaration, Block, Empty, Expression}
 use Rattle.om_tree.specs.Tree.{If, IfElse, While, Do, For, Return, Break, Continue, Construct, StandAlone, Sections}
-use Rattle.om_tree.specs.Tree.{Section, StatementsTree, NoStatements, Statement}
+use Rattle.om_tree.specs.Tree.{StatementsTree, NoStatements, Statement, PartsTree, NoParts, Part}
 use Rattle.om_pragma.specs.declared.clause.Clause.{Clause}
 use Rattle.om_pragma.specs.declared.clause.Clause.TheVariants as clauses
 use Rattle.om_pragma.specs.declared.clause.ClauseItem.{ClauseItem}
@@ -32,7 +32,6 @@ use Rattle.om_resolved.specs.declared.resolved.StandAlone.TheVariants as alones
 use Rattle.om_resolved.specs.declared.resolved.Variable.{Variable}
 use Rattle.om_resolved.specs.Captures.{captures_of, listed_variables, taken_by_parallel, taken_by_task}
 use Rattle.om_rules.specs.DirectiveRules.{in_construct, names_in, parallel_in, traits_of}
-use Rattle.om_rules.specs.Grouping.{Grouped, no_items, grouped, parts_of}
 use Rattle.om_rules.specs.Loops.{Loop, loop_in}
 use Rattle.om_rules.specs.Perhaps.{◌>>=◌, perhaps, each, each_along, all_of}
 use Rattle.om_rules.specs.Places.{expression_first, statement_first}
@@ -44,7 +43,7 @@ use Rattle.om_resolved.specs.ResolvedTree.{ResolvedStatementsTree, ResolvedParts
 use Rattle.om_rules.specs.Scopes.{Scopes, inside, declarators_of, after_local}
 use Rattle.om_rules.specs.Sharing.{is_parallel}
 use Rattle.om_rules.specs.Updates.{statement_side, update_of}
-use Rattle.om_rules.specs.StatementRules.{after_for_start, after_statement, begins_part, in_loop, parts_behind}
+use Rattle.om_rules.specs.StatementRules.{after_for_start, after_statement, in_loop}
 use Rattle.om_rules.specs.StatementRules.{round_bounds, with_iteration}
 
 -- ---- declarations
@@ -298,11 +297,10 @@ unfoldable mutual
       resolved_repeated (in_construct d scopes) (parallel_in d parallel) found s >>= λ body. Some
       (loop_construct_of d cs l body))
   resolved_statement scopes parallel (StandAlone d) = resolved_alone scopes d d.name
-  resolved_statement scopes parallel (Sections d left items right) = do
+  resolved_statement scopes parallel (Sections d left parts right) = do
     cs ← resolved_clauses scopes d.clauses
-    parts ← option_map parts_of (resolved_parts (in_construct d scopes) (parallel_in d parallel) 0 items)
-    Some (sections_construct_of d cs parts)
-  resolved_statement scopes parallel (Section d s) = resolved_statement (inside scopes) parallel s
+    ps ← resolved_parts (in_construct d scopes) (parallel_in d parallel) parts
+    Some (sections_construct_of d cs ps)
 
   -- of the items of a block, in their order
   pub resolved_statements : Scopes → Option ℕ → StatementsTree → Option ResolvedStatementsTree
@@ -338,15 +336,14 @@ unfoldable mutual
   resolved_repeated scopes parallel found (StandAlone d) = Some (resolved.Empty (statement_first (StandAlone d)))
   resolved_repeated scopes parallel found (Sections d left parts right) =
       Some (resolved.Empty (statement_first (Sections d left parts right)))
-  resolved_repeated scopes parallel found (Section d s) = Some (resolved.Empty (statement_first (Section d s)))
 
-  -- of the items of `sections`, behind so many parts
-  pub resolved_parts : Scopes → Option ℕ → ℕ → StatementsTree → Option Grouped
-  resolved_parts scopes parallel before NoStatements = Some no_items
-  resolved_parts scopes parallel before (Statement s rest) = do
-    t ← resolved_statement (inside scopes) parallel s
-    items ← resolved_parts scopes parallel (parts_behind before s) rest
-    Some (grouped (begins_part before s) t items)
+  -- of the parts of `sections`, each of which is a block of its own
+  pub resolved_parts : Scopes → Option ℕ → PartsTree → Option ResolvedPartsTree
+  resolved_parts scopes parallel NoParts = Some resolved.NoParts
+  resolved_parts scopes parallel (Part section items rest) = do
+    ss ← resolved_statements (inside scopes) parallel items
+    ps ← resolved_parts scopes parallel rest
+    Some (resolved.Part ss ps)
 
 -- of a construct that is for any statement
 abbrev pub resolved_plain_construct : Scopes → Option ℕ → Directive ExpressionTree → StatementTree
@@ -372,12 +369,11 @@ resolved_construct scopes parallel d s =
     if not (traits_of d.name).takes_loop then resolved_plain_construct scopes parallel d s else
     resolved_loop_construct scopes parallel d (loop_in s) s
 
-abbrev pub resolved_sections : Scopes → Option ℕ → Directive ExpressionTree → StatementsTree
-    → Option ResolvedStatementTree
-resolved_sections scopes parallel d items = do
+abbrev pub resolved_sections : Scopes → Option ℕ → Directive ExpressionTree → PartsTree → Option ResolvedStatementTree
+resolved_sections scopes parallel d parts = do
   cs ← resolved_clauses scopes d.clauses
-  parts ← option_map parts_of (resolved_parts (in_construct d scopes) (parallel_in d parallel) 0 items)
-  Some (sections_construct_of d cs parts)
+  ps ← resolved_parts (in_construct d scopes) (parallel_in d parallel) parts
+  Some (sections_construct_of d cs ps)
 
 -- of a `for`
 abbrev pub resolved_for : Scopes → Option ℕ → ForHeadTree → StatementTree → Option ResolvedStatementTree

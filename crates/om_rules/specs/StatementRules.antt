@@ -1,6 +1,6 @@
 -- The rules of declarations and statements, by the breaches that a tree has of them, in the order of the text.
-use Rattle.std.specs.Prelude.{ℕ, ◌+◌, List, [], ◌++◌, Option, None, Some, Bool, true, false, nat_eq, nat_le, not, ◌&&◌}
-use Rattle.std.specs.Prelude.{◌||◌, if◌then◌else◌, is_some, fold}
+use Rattle.std.specs.Prelude.{ℕ, ◌+◌, List, [], ◌++◌, Option, None, Some, Bool, true, false, nat_eq, nat_le, not}
+use Rattle.std.specs.Prelude.{if◌then◌else◌, is_some, fold}
 use Rattle.om_lexer.specs.declared.fault.FaultCode.TheVariants as faults
 use Rattle.om_lexer.specs.declared.fault.SourceFault.{SourceFault}
 use Rattle.om_tree.specs.declared.tree.ArrayLength.{ArrayLength}
@@ -8,7 +8,7 @@ use Rattle.om_pragma.specs.declared.name.Name as names
 use Rattle.om_tree.specs.Tree.{ExpressionTree, InitializerTree, DeclaratorTree, ForStartTree, Nothing, StartExpression}
 use Rattle.om_tree.specs.Tree.{StartDeclaration, ForHeadTree, StatementTree, LocalDeclaration, Block, Empty, Expression}
 use Rattle.om_tree.specs.Tree.{If, IfElse, While, Do, For, Return, Break, Continue, Construct, StandAlone, Sections}
-use Rattle.om_tree.specs.Tree.{Section, StatementsTree, NoStatements, Statement}
+use Rattle.om_tree.specs.Tree.{StatementsTree, NoStatements, Statement, PartsTree, NoParts, Part, PartTree}
 use Rattle.om_pragma.specs.declared.tree.Directive.{Directive}
 use Rattle.om_rules.specs.declared.flow.Flow.{Flow}
 use Rattle.om_rules.specs.declared.limits.TheConstants.{SECTION_LIMIT}
@@ -153,23 +153,15 @@ after_statement scopes (Continue at semicolon) = scopes
 after_statement scopes (Construct d s) = scopes
 after_statement scopes (StandAlone d) = scopes
 after_statement scopes (Sections d left parts right) = scopes
-after_statement scopes (Section d s) = scopes
 
 abbrev pub after_statements : Scopes → List StatementTree → Scopes
 after_statements scopes statements = fold after_statement scopes statements
 
--- `section` stands before it
-abbrev pub has_section : StatementTree → Bool
-has_section (Section d s) = true
-has_section _ = false
-
--- an item of `sections`, behind so many parts, begins a part: the first one, and each that has its `section`
-abbrev pub begins_part : ℕ → StatementTree → Bool
-begins_part before s = nat_eq before 0 || has_section s
-
--- how many parts have begun behind it
-abbrev pub parts_behind : ℕ → StatementTree → ℕ
-parts_behind before s = if begins_part before s then before + 1 else before
+-- S11: a `section` that begins a part of `sections`, behind so many of them, where no more may stand. The first part,
+-- which may lack its `section`, is never one too many.
+abbrev pub section_breaches : (before : ℕ) → Option (Directive ExpressionTree) → List SourceFault
+section_breaches before None = []
+section_breaches before (Some d) = breach_if (nat_le SECTION_LIMIT before) faults.TooMany d.hash.start
 
 -- A part of a statement is a block of its own (C17 6.8.4p3, 6.8.5p5).
 unfoldable mutual
@@ -206,8 +198,7 @@ unfoldable mutual
       (statement_breaches (in_construct d scopes) (constructing d flow) s))
   statement_breaches scopes flow (StandAlone d) = directive_breaches scopes flow d ++ flush_breaches scopes d.name
   statement_breaches scopes flow (Sections d left parts right) =
-      directive_breaches scopes flow d ++ sections_breaches (in_construct d scopes) (constructing d flow) 0 parts
-  statement_breaches scopes flow (Section d s) = statement_breaches (inside scopes) flow s
+      directive_breaches scopes flow d ++ parts_breaches (in_construct d scopes) (constructing d flow) 0 parts
 
   -- of the items of a block, in their order
   pub statements_breaches : Scopes → Flow → StatementsTree → List SourceFault
@@ -232,15 +223,13 @@ unfoldable mutual
   body_breaches scopes flow found (Construct d s) = []
   body_breaches scopes flow found (StandAlone d) = []
   body_breaches scopes flow found (Sections d left parts right) = []
-  body_breaches scopes flow found (Section d s) = []
 
-  -- of the items of `sections`, behind so many parts; S11 at the first token of a part too many
-  pub sections_breaches : Scopes → Flow → ℕ → StatementsTree → List SourceFault
-  sections_breaches scopes flow before NoStatements = []
-  sections_breaches scopes flow before (Statement s rest) =
-      breach_if (begins_part before s && nat_le SECTION_LIMIT before) faults.TooMany (statement_start s)
-      ++ statement_breaches (inside scopes) flow s
-      ++ sections_breaches scopes flow (parts_behind before s) rest
+  -- of the parts of `sections`, behind so many of them; a part is a block of its own (OpenMP API 5.2, section 11.3)
+  pub parts_breaches : Scopes → Flow → (before : ℕ) → PartsTree → List SourceFault
+  parts_breaches scopes flow before NoParts = []
+  parts_breaches scopes flow before (Part section items rest) =
+      (section_breaches before section ++ statements_breaches (inside scopes) flow items)
+      ++ parts_breaches scopes flow (before + 1) rest
 
 -- of a construct that is for a loop, which is this one
 abbrev pub loop_construct_breaches : Scopes → Flow → Directive ExpressionTree → Option Loop → StatementTree
@@ -270,13 +259,13 @@ construct_breaches scopes flow d s =
     else with_breach (record { code = faults.LoopForm; at = statement_start s })
     (statement_breaches (in_construct d scopes) (constructing d flow) s))
 
-abbrev pub sections_construct_breaches : Scopes → Flow → Directive ExpressionTree → StatementsTree → List SourceFault
-sections_construct_breaches scopes flow d parts = directive_breaches scopes flow d ++ sections_breaches
+abbrev pub sections_construct_breaches : Scopes → Flow → Directive ExpressionTree → PartsTree → List SourceFault
+sections_construct_breaches scopes flow d parts = directive_breaches scopes flow d ++ parts_breaches
     (in_construct d scopes) (constructing d flow) 0 parts
 
-abbrev pub part_breaches : Scopes → Flow → ℕ → StatementTree → List SourceFault
-part_breaches scopes flow before s = breach_if (begins_part before s && nat_le SECTION_LIMIT before) faults.TooMany
-    (statement_start s) ++ statement_breaches (inside scopes) flow s
+abbrev pub part_breaches : Scopes → Flow → (before : ℕ) → PartTree → List SourceFault
+part_breaches scopes flow before part = section_breaches before part.section
+    ++ statements_breaches (inside scopes) flow part.items
 
 abbrev pub stand_alone_breaches : Scopes → Flow → Directive ExpressionTree → List SourceFault
 stand_alone_breaches scopes flow d = directive_breaches scopes flow d ++ flush_breaches scopes d.name

@@ -15,7 +15,8 @@ use Rattle.om_tree.specs.Tree.{DeclaratorTree, DeclarationTree, StatementTree, E
 use Rattle.om_tree.specs.Tree.{NoParameters, Void, Listed, FunctionTree, ItemTree, Declaration, Prototype, Function}
 use Rattle.om_tree.specs.Tree.{UnitTree, ForStartTree, Nothing, StartExpression, StartDeclaration, ForHeadTree}
 use Rattle.om_tree.specs.Tree.{StatementsTree, LocalDeclaration, Block, Empty, If, IfElse, While, Do, For, Break}
-use Rattle.om_tree.specs.Tree.{Continue, Construct, StandAlone, Sections, Section, NoStatements, Statement, statements}
+use Rattle.om_tree.specs.Tree.{Continue, Construct, StandAlone, Sections, NoStatements, Statement, statements}
+use Rattle.om_tree.specs.Tree.{PartsTree, NoParts, Part}
 
 -- levels of precedence, the loosest first: 1 assignment (C17 6.5.16), 2 conditional (6.5.15), 3 and 4 logical
 -- (6.5.14, 6.5.13),
@@ -146,23 +147,11 @@ ends_open _ = false
 abbrev pub IsBody : StatementTree → Type 0
 IsBody (LocalDeclaration d) = ⊥
 IsBody (StandAlone d) = ⊥
-IsBody (Section d s) = ⊥
 IsBody _ = Unit {0}
 
--- it may be an item of a block, where no `section` may stand
-abbrev pub IsBlockItem : StatementTree → Type 0
-IsBlockItem (Section d s) = ⊥
-IsBlockItem _ = Unit {0}
-
--- it may be an item in the braces of `sections`, where no declaration may stand
-abbrev pub IsSectionItem : StatementTree → Type 0
-IsSectionItem (LocalDeclaration d) = ⊥
-IsSectionItem _ = Unit {0}
-
--- it may stand behind `section`
+-- it may be an item of a part of `sections`, where no declaration may stand
 abbrev pub IsPartItem : StatementTree → Type 0
 IsPartItem (LocalDeclaration d) = ⊥
-IsPartItem (Section d s) = ⊥
 IsPartItem _ = Unit {0}
 
 -- ---- directives
@@ -175,6 +164,16 @@ IsConstruct name = (is_stand_alone name ≡ false) × (is_section name ≡ false
 abbrev pub AreSome : StatementsTree → Type 0
 AreSome NoStatements = ⊥
 AreSome (Statement s rest) = Unit {0}
+
+-- a `section`, which stands there
+abbrev pub IsSection : Option (Directive ExpressionTree) → Type 0
+IsSection None = ⊥
+IsSection (Some d) = IsLine d × (is_section d.name ≡ true)
+
+-- the same, where it may be left out
+abbrev pub IsOptionalSection : Option (Directive ExpressionTree) → Type 0
+IsOptionalSection None = Unit {0}
+IsOptionalSection (Some d) = IsLine d × (is_section d.name ≡ true)
 
 unfoldable mutual
   -- a statement, or a declaration in a block (C17 6.8)
@@ -194,19 +193,29 @@ unfoldable mutual
   IsStatement (Continue at semicolon) = Unit {0}
   IsStatement (Construct d s) = IsLine d × IsConstruct d.name × IsStatement s × IsBody s
   IsStatement (StandAlone d) = IsLine d × (is_stand_alone d.name ≡ true)
-  IsStatement (Sections d left items right) = IsLine d × (is_sections d.name ≡ true) × AreSome items
-      × AreSectionItems items
-  IsStatement (Section d s) = IsLine d × (is_section d.name ≡ true) × IsStatement s × IsPartItem s
+  IsStatement (Sections d left parts right) = IsLine d × (is_sections d.name ≡ true) × AreParts parts
 
   pub AreStatements : StatementsTree → Type 0
   AreStatements NoStatements = Unit {0}
-  AreStatements (Statement s rest) = IsStatement s × IsBlockItem s × AreStatements rest
+  AreStatements (Statement s rest) = IsStatement s × AreStatements rest
 
-  -- the items in the braces of `sections` (OpenMP 5.2 section 11.3): each part begins with `section`, which
-  -- the first may lack
-  pub AreSectionItems : StatementsTree → Type 0
-  AreSectionItems NoStatements = Unit {0}
-  AreSectionItems (Statement s rest) = IsStatement s × IsSectionItem s × AreSectionItems rest
+  -- the parts of `sections` (OpenMP API 5.2, section 11.3), one at least: each begins with `section`, which the
+  -- first may lack
+  pub AreParts : PartsTree → Type 0
+  AreParts NoParts = ⊥
+  AreParts (Part section items rest) = IsOptionalSection section × AreSome items × ArePartItems items
+      × AreFurtherParts rest
+
+  -- those behind the first
+  pub AreFurtherParts : PartsTree → Type 0
+  AreFurtherParts NoParts = Unit {0}
+  AreFurtherParts (Part section items rest) = IsSection section × AreSome items × ArePartItems items
+      × AreFurtherParts rest
+
+  -- the items of a part
+  pub ArePartItems : StatementsTree → Type 0
+  ArePartItems NoStatements = Unit {0}
+  ArePartItems (Statement s rest) = IsStatement s × IsPartItem s × ArePartItems rest
 
 -- each parameter has a name
 abbrev pub AreNamed : ParametersTree → Type 0

@@ -7,13 +7,13 @@ use Rattle.om_pragma.specs.Spelling.{directive_spelling}
 use Rattle.om_tree.specs.Limits.{Limits, IsTooMuch, expressions_of_declaration}
 use Rattle.om_tree.specs.Spelling.{mark, word, perhaps, expression_spelling, declaration_spelling, condition_spelling}
 use Rattle.om_tree.specs.Spelling.{for_start_spelling, for_head_spelling, statement_spelling, head_spelling}
-use Rattle.om_tree.specs.Spelling.{item_spelling}
+use Rattle.om_tree.specs.Spelling.{item_spelling, section_spelling, statements_spelling}
 use Rattle.om_tree.specs.Formed.{IsBody}
 use Rattle.om_tree.specs.Tree.{ExpressionTree, DeclarationTree, ConditionTree, ForStartTree, Nothing, StartExpression}
 use Rattle.om_tree.specs.Tree.{StartDeclaration, ForHeadTree, StatementTree, StatementsTree, LocalDeclaration, Block}
 use Rattle.om_tree.specs.Tree.{Empty, Expression, If, IfElse, While, Do, For, Return, Break, Continue, Construct}
-use Rattle.om_tree.specs.Tree.{StandAlone, Sections, Section, NoStatements, Statement, statements, BlockTree, ItemTree}
-use Rattle.om_tree.specs.Tree.{Declaration, Prototype, Function, UnitTree}
+use Rattle.om_tree.specs.Tree.{StandAlone, Sections, NoStatements, Statement, statements, BlockTree, ItemTree}
+use Rattle.om_tree.specs.Tree.{Declaration, Prototype, Function, UnitTree, PartsTree, NoParts, Part}
 
 -- Where a limit is passed in a part: the tokens of the part before that place, and the token there.
 abbrev pub Place : Type 1
@@ -131,11 +131,9 @@ unfoldable mutual
   IsOverInside l depth nested (Construct d s) = Behind (directive_spelling expression_spelling d)
       (Either (AtFirst l (suc depth) s) (IsOverInside l (suc depth) nested s))
   IsOverInside l depth nested (StandAlone d) = Nowhere
-  IsOverInside l depth nested (Sections d left items right) = Behind (directive_spelling expression_spelling d)
+  IsOverInside l depth nested (Sections d left parts right) = Behind (directive_spelling expression_spelling d)
       (Either (Either (AtDepth l (suc depth)) (AtBrace l nested)) (Behind (mark punctuators.OpenBrace left ∷ [])
-      (IsOverInItems l (suc (suc depth)) (suc nested) items)))
-  IsOverInside l depth nested (Section d s) = Behind (directive_spelling expression_spelling d)
-      (Either (AtFirst l depth s) (IsOverInside l depth nested s))
+      (IsOverInParts l (suc (suc depth)) (suc nested) parts)))
 
   -- in one of the items of a block
   pub IsOverInItems : Limits → (depth nested : ℕ) → StatementsTree → Place
@@ -143,6 +141,13 @@ unfoldable mutual
   IsOverInItems l depth nested (Statement s rest) = Either
       (Either (AtFirst l depth s) (IsOverInside l depth nested s))
       (Behind (statement_spelling s) (IsOverInItems l depth nested rest))
+
+  -- in one of the parts of `sections`
+  pub IsOverInParts : Limits → (depth nested : ℕ) → PartsTree → Place
+  IsOverInParts l depth nested NoParts = Nowhere
+  IsOverInParts l depth nested (Part section items rest) = Either
+      (Behind (section_spelling section) (IsOverInItems l depth nested items))
+      (Behind (section_spelling section ++ statements_spelling items) (IsOverInParts l depth nested rest))
 
 -- in a statement round which so many statements and blocks stand
 abbrev pub IsOverInStatement : Limits → (depth nested : ℕ) → StatementTree → Place

@@ -10,8 +10,8 @@ use Rattle.om_tree.specs.Spelling.{expression_spelling}
 use Rattle.om_tree.specs.Tree.{ExpressionTree, DeclarationTree, ForStartTree, Nothing, StartExpression}
 use Rattle.om_tree.specs.Tree.{StartDeclaration, StatementTree, StatementsTree, LocalDeclaration, Block, Empty}
 use Rattle.om_tree.specs.Tree.{Expression, If, IfElse, While, Do, For, Return, Break, Continue, Construct, StandAlone}
-use Rattle.om_tree.specs.Tree.{Sections, Section, NoStatements, Statement, statements, BlockTree, ItemTree, Declaration}
-use Rattle.om_tree.specs.Tree.{Prototype, Function, UnitTree}
+use Rattle.om_tree.specs.Tree.{Sections, NoStatements, Statement, statements, BlockTree, ItemTree, Declaration}
+use Rattle.om_tree.specs.Tree.{Prototype, Function, UnitTree, PartsTree, NoParts, Part}
 
 -- the largest of these
 abbrev pub most : {A : Type 0} → (A → ℕ) → List A → ℕ
@@ -35,6 +35,15 @@ line_longest d = most extent (expressions d)
 
 abbrev pub line_nesting : Directive ExpressionTree → ℕ
 line_nesting d = most (λ e. nesting e + 1) (expressions d)
+
+-- the same of a `section`, if there is one
+abbrev pub section_longest : Option (Directive ExpressionTree) → ℕ
+section_longest None = 0
+section_longest (Some d) = line_longest d
+
+abbrev pub section_nesting : Option (Directive ExpressionTree) → ℕ
+section_nesting None = 0
+section_nesting (Some d) = line_nesting d
 
 abbrev pub optional_extent : Option ExpressionTree → ℕ
 optional_extent None = 0
@@ -72,12 +81,16 @@ abbrev mutual
   longest (Continue at semicolon) = 0
   longest (Construct d s) = max (line_longest d) (longest s)
   longest (StandAlone d) = line_longest d
-  longest (Sections d left items right) = max (line_longest d) (longest_of items)
-  longest (Section d s) = max (line_longest d) (longest s)
+  longest (Sections d left parts right) = max (line_longest d) (longest_of_parts parts)
 
   pub longest_of : StatementsTree → ℕ
   longest_of NoStatements = 0
   longest_of (Statement s rest) = max (longest s) (longest_of rest)
+
+  pub longest_of_parts : PartsTree → ℕ
+  longest_of_parts NoParts = 0
+  longest_of_parts (Part section items rest) = max (max (section_longest section) (longest_of items))
+      (longest_of_parts rest)
 
 abbrev mutual
   -- how many parentheses and brackets stand round the innermost part
@@ -97,12 +110,16 @@ abbrev mutual
   brackets (Continue at semicolon) = 0
   brackets (Construct d s) = max (line_nesting d) (brackets s)
   brackets (StandAlone d) = line_nesting d
-  brackets (Sections d left items right) = max (line_nesting d) (brackets_of items)
-  brackets (Section d s) = max (line_nesting d) (brackets s)
+  brackets (Sections d left parts right) = max (line_nesting d) (brackets_of_parts parts)
 
   pub brackets_of : StatementsTree → ℕ
   brackets_of NoStatements = 0
   brackets_of (Statement s rest) = max (brackets s) (brackets_of rest)
+
+  pub brackets_of_parts : PartsTree → ℕ
+  brackets_of_parts NoParts = 0
+  brackets_of_parts (Part section items rest) = max (max (section_nesting section) (brackets_of items))
+      (brackets_of_parts rest)
 
 abbrev mutual
   -- how many blocks stand in one another
@@ -114,13 +131,16 @@ abbrev mutual
   blocks (Do at s again c semicolon) = blocks s
   blocks (For h s) = blocks s
   blocks (Construct d s) = blocks s
-  blocks (Sections d left items right) = blocks_of items + 1
-  blocks (Section d s) = blocks s
+  blocks (Sections d left parts right) = blocks_of_parts parts + 1
   blocks _ = 0
 
   pub blocks_of : StatementsTree → ℕ
   blocks_of NoStatements = 0
   blocks_of (Statement s rest) = max (blocks s) (blocks_of rest)
+
+  pub blocks_of_parts : PartsTree → ℕ
+  blocks_of_parts NoParts = 0
+  blocks_of_parts (Part section items rest) = max (blocks_of items) (blocks_of_parts rest)
 
 abbrev mutual
   -- how many statements stand in one another, where a declaration and a directive alone are none, and the
@@ -135,13 +155,16 @@ abbrev mutual
   height (For h s) = height s + 1
   height (Construct d s) = height s + 1
   height (StandAlone d) = 0
-  height (Sections d left items right) = height_of items + 2
-  height (Section d s) = height s
+  height (Sections d left parts right) = height_of_parts parts + 2
   height _ = 1
 
   pub height_of : StatementsTree → ℕ
   height_of NoStatements = 0
   height_of (Statement s rest) = max (height s) (height_of rest)
+
+  pub height_of_parts : PartsTree → ℕ
+  height_of_parts NoParts = 0
+  height_of_parts (Part section items rest) = max (height_of items) (height_of_parts rest)
 
 -- the first, where the condition holds, else the second
 abbrev pub Where : Bool → Type 0 → Type 0 → Type 0
@@ -159,13 +182,16 @@ unfoldable mutual
   HasForms checked (For h s) = HasForms checked s
   HasForms checked (Construct d s) = Where (is_atomic d.name) ((not checked || has_atomic_form (atomic_kind d) s)
       ≡ true) (HasForms checked s)
-  HasForms checked (Sections d left items right) = HaveForms checked items
-  HasForms checked (Section d s) = HasForms checked s
+  HasForms checked (Sections d left parts right) = PartsHaveForms checked parts
   HasForms checked _ = Unit {0}
 
   pub HaveForms : (checked : Bool) → StatementsTree → Type 0
   HaveForms checked NoStatements = Unit {0}
   HaveForms checked (Statement s rest) = HasForms checked s × HaveForms checked rest
+
+  pub PartsHaveForms : (checked : Bool) → PartsTree → Type 0
+  PartsHaveForms checked NoParts = Unit {0}
+  PartsHaveForms checked (Part section items rest) = HaveForms checked items × PartsHaveForms checked rest
 
 -- a statement with room for so many statements, itself among them, and so many blocks
 pub record HasRoom (l : Limits) (checked : Bool) (room blocks_left : ℕ) (s : StatementTree) : Type 0 where

@@ -9,6 +9,7 @@ use Rattle.om_lexer.specs.declared.token.Span.{Span}
 use Rattle.om_lexer.specs.declared.token.Token.{Token}
 use Rattle.om_lexer.specs.declared.token.TokenKind.{TokenKind}
 use Rattle.om_lexer.specs.declared.token.TokenKind.TheVariants as kinds
+use Rattle.om_pragma.specs.declared.tree.Directive.{Directive}
 use Rattle.om_pragma.specs.Spelling.{directive_spelling}
 use Rattle.om_tree.specs.declared.tree.ArrayLength.{ArrayLength}
 use Rattle.om_tree.specs.declared.tree.AssignOperator.{AssignOperator}
@@ -30,7 +31,8 @@ use Rattle.om_tree.specs.Tree.{Conditional, Assign, ArgumentsTree, NoArguments, 
 use Rattle.om_tree.specs.Tree.{DeclaratorTree, DeclarationTree, ConditionTree, ForStartTree, Nothing, StartExpression}
 use Rattle.om_tree.specs.Tree.{StartDeclaration, ForHeadTree, StatementTree, LocalDeclaration, Block, Empty, Expression}
 use Rattle.om_tree.specs.Tree.{If, IfElse, While, Do, For, Return, Break, Continue, Construct, StandAlone, Sections}
-use Rattle.om_tree.specs.Tree.{Section, StatementsTree, NoStatements, Statement, BlockTree, ParametersTree}
+use Rattle.om_tree.specs.Tree.{PartsTree, NoParts, Part, StatementsTree, NoStatements, Statement, BlockTree}
+use Rattle.om_tree.specs.Tree.{ParametersTree, PartTree}
 use Rattle.om_tree.specs.Tree.{NoParameters, Void, Listed, HeadTree, ItemTree, Declaration, Prototype, Function}
 use Rattle.om_tree.specs.Tree.{UnitTree}
 
@@ -170,6 +172,10 @@ for_head_spelling h =
     ∷ (for_start_spelling h.start ++ perhaps expression_spelling h.condition ++ mark punctuators.Semicolon h.semicolon
     ∷ (perhaps expression_spelling h.step ++ mark punctuators.CloseParen h.close_paren ∷ []))
 
+-- a `section`, if there is one (OpenMP API 5.2, section 11.3)
+abbrev pub section_spelling : Option (Directive ExpressionTree) → List Token
+section_spelling = perhaps (directive_spelling expression_spelling)
+
 unfoldable mutual
   -- C17 6.8
   pub statement_spelling : StatementTree → List Token
@@ -193,13 +199,22 @@ unfoldable mutual
   statement_spelling (Construct d s) = directive_spelling expression_spelling d ++ statement_spelling s
   statement_spelling (StandAlone d) = directive_spelling expression_spelling d
   statement_spelling (Sections d left parts right) = directive_spelling expression_spelling d
-      ++ mark punctuators.OpenBrace left ∷ (statements_spelling parts ++ mark punctuators.CloseBrace right ∷ [])
-  statement_spelling (Section d s) = directive_spelling expression_spelling d ++ statement_spelling s
+      ++ mark punctuators.OpenBrace left ∷ (parts_spelling parts ++ mark punctuators.CloseBrace right ∷ [])
 
   -- several of them
   pub statements_spelling : StatementsTree → List Token
   statements_spelling NoStatements = []
   statements_spelling (Statement s rest) = statement_spelling s ++ statements_spelling rest
+
+  -- the parts of `sections` (OpenMP API 5.2, section 11.3)
+  pub parts_spelling : PartsTree → List Token
+  parts_spelling NoParts = []
+  parts_spelling (Part section items rest) = (section_spelling section ++ statements_spelling items)
+      ++ parts_spelling rest
+
+-- one of them
+abbrev pub part_spelling : PartTree → List Token
+part_spelling p = section_spelling p.section ++ statements_spelling p.items
 
 -- C17 6.8.2
 unfoldable pub block_spelling : BlockTree → List Token

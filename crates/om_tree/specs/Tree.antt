@@ -95,18 +95,32 @@ mutual
     Continue : Span → (semicolon : Span) → StatementTree
     Construct : Directive ExpressionTree → StatementTree → StatementTree
     StandAlone : Directive ExpressionTree → StatementTree
-    Sections : Directive ExpressionTree → (left : Span) → StatementsTree → (right : Span) → StatementTree
-    Section : Directive ExpressionTree → StatementTree → StatementTree
+    Sections : Directive ExpressionTree → (left : Span) → PartsTree → (right : Span) → StatementTree
 
   -- several of them
   pub data StatementsTree : Type 0 where
     NoStatements : StatementsTree
     Statement : StatementTree → StatementsTree → StatementsTree
 
+  -- the parts of `sections` (OpenMP API 5.2, section 11.3), each with its `section`, if it has one, and its items
+  pub data PartsTree : Type 0 where
+    NoParts : PartsTree
+    Part : (section : Option (Directive ExpressionTree)) → StatementsTree → PartsTree → PartsTree
+
 -- these statements
 abbrev pub statements : List StatementTree → StatementsTree
 statements [] = NoStatements
 statements (s ∷ rest) = Statement s (statements rest)
+
+-- a part of `sections`
+pub record PartTree : Type 0 where
+  pub section : Option (Directive ExpressionTree)
+  pub items : StatementsTree
+
+-- these parts
+abbrev pub parts : List PartTree → PartsTree
+parts [] = NoParts
+parts (p ∷ rest) = Part p.section p.items (parts rest)
 
 -- the block of a function (C17 6.8.2)
 pub record BlockTree : Type 0 where

@@ -19,13 +19,14 @@ use Rattle.om_tree.specs.declared.tree.Item.{Item}
 use Rattle.om_tree.specs.declared.tree.Item.TheVariants as items
 use Rattle.om_tree.specs.declared.tree.Parameters.{Parameters}
 use Rattle.om_tree.specs.declared.tree.Parameters.TheVariants as parameters
+use Rattle.om_tree.specs.declared.tree.Part.{Part, Part-F, fold-Part}
 use Rattle.om_tree.specs.declared.tree.Statement.{Statement, fold-Statement}
 use Rattle.om_tree.specs.declared.tree.Statement.TheOpen.{Statement-F}
 use Rattle.om_tree.specs.declared.tree.Unit as units
 use Rattle.om_tree.specs.Tree as trees
 use Rattle.om_tree.specs.Tree.{ExpressionTree, InitializerTree, DeclaratorTree, DeclarationTree, ConditionTree}
 use Rattle.om_tree.specs.Tree.{ForStartTree, ForHeadTree, StatementTree, BlockTree, ParametersTree, HeadTree}
-use Rattle.om_tree.specs.Tree.{FunctionTree, ItemTree, UnitTree}
+use Rattle.om_tree.specs.Tree.{FunctionTree, ItemTree, UnitTree, PartTree}
 
 -- one layer of an expression, whose parts are trees already
 abbrev pub expression_layer : Expression-F ExpressionTree → ExpressionTree
@@ -98,7 +99,7 @@ abbrev pub view_directive : Directive Expression → Directive ExpressionTree
 view_directive = map_directive view_expression
 
 -- one layer of a statement, whose parts are trees already
-abbrev pub statement_layer : Statement-F StatementTree → StatementTree
+abbrev pub statement_layer : Statement-F StatementTree PartTree → StatementTree
 statement_layer (Statement-F.Declaration d) = trees.LocalDeclaration (view_declaration d.value)
 statement_layer (Statement-F.Block left items right) = trees.Block left (trees.statements items.items) right
 statement_layer (Statement-F.Empty semicolon) = trees.Empty semicolon
@@ -115,12 +116,22 @@ statement_layer (Statement-F.Continue at semicolon) = trees.Continue at semicolo
 statement_layer (Statement-F.Construct d s) = trees.Construct (view_directive d.value) s.value
 statement_layer (Statement-F.StandAlone d) = trees.StandAlone (view_directive d.value)
 statement_layer (Statement-F.Sections d left parts right) = trees.Sections (view_directive d.value) left
-    (trees.statements parts.items) right
-statement_layer (Statement-F.Section d s) = trees.Section (view_directive d.value) s.value
+    (trees.parts parts.items) right
+
+-- the same of a part of `sections`
+abbrev pub part_layer : Part-F StatementTree PartTree → PartTree
+part_layer p = record {
+  section = option_map (λ d. view_directive d.value) p.section;
+  items = trees.statements p.items.items;
+}
 
 -- a statement without boxes and capacities
 abbrev pub view_statement : Statement → StatementTree
-view_statement = fold-Statement StatementTree statement_layer
+view_statement = fold-Statement StatementTree PartTree statement_layer part_layer
+
+-- a part of `sections` without boxes and capacities
+abbrev pub view_part : Part → PartTree
+view_part = fold-Part StatementTree PartTree statement_layer part_layer
 
 -- a block without boxes and capacities
 abbrev pub view_block : blocks.Block → BlockTree

@@ -210,9 +210,20 @@ pub struct ForHead {
     pub close_paren: Span,
 }
 
+/// A part of `sections` (OpenMP API 5.2, section 11.3).
+#[derive(Drop)]
+#[cycle(statement)]
+pub struct Part {
+    /// The `section` that begins it, which the first part may lack.
+    pub section: Option<Box<Directive<Expression>>>,
+    /// One item at least, of which none is a declaration.
+    pub items: Vec<Statement>,
+}
+
 /// A statement or another item of a block (C17 6.8), each word and mark by its span. What is large
 /// is in a box, so that a short statement takes little memory.
 #[derive(Drop)]
+#[cycle(statement)]
 pub enum Statement {
     /// A declaration, which stands only directly in a block.
     Declaration(Box<Declaration>),
@@ -278,18 +289,12 @@ pub enum Statement {
     },
     /// A directive that is for no statement.
     StandAlone(Box<Directive<Expression>>),
-    /// `sections` or `parallel sections`, and in braces the items of its parts. The first item
-    /// begins a part, and so does each [`Statement::Section`].
+    /// `sections` or `parallel sections`, and in braces its parts, one at least.
     Sections {
         directive: Box<Directive<Expression>>,
         open_brace: Span,
-        items: Vec<Statement>,
+        parts: Vec<Part>,
         close_brace: Span,
-    },
-    /// `section`, and the first item of the part that it begins.
-    Section {
-        directive: Box<Directive<Expression>>,
-        first: Box<Statement>,
     },
 }
 

@@ -4,9 +4,12 @@ use Rattle.om_tree.specs.Limits.{accepted}
 use Rattle.om_parts.specs.PartReading.{parts}
 use Rattle.om_parts.specs.Reading.{take_mark}
 use Rattle.om_parts.specs.Repetition.{until}
-use Rattle.om_phrases.specs.StatementReading.{item_at, statement_at}
-use Rattle.om_tree.specs.View.{view_statement}
+use Rattle.om_phrases.specs.ConstructReading.{ends_part, ends_parts, part_at, part_item_at}
+use Rattle.om_phrases.specs.OneOrMore.{one_or_more}
+use Rattle.om_phrases.specs.StatementReading.{block_item_at, statement_at}
+use Rattle.om_tree.specs.View.{view_part, view_statement}
 use Rattle.om_phrases.specs.Loops.{GoesOn}
+use Rattle.om_phrases.proofs.OneOrMore.{MoreLeft}
 use Rattle.om_phrases.proofs.statement.+statement.Given as goal
 
 abbrev pub decreases-statement : goal.decreases-statement
@@ -27,23 +30,20 @@ decreases-part_item l = 8 * l.room.statements + 1
 abbrev pub decreases-block_item : goal.decreases-block_item
 decreases-block_item l = 8 * l.room.statements + 2
 
-abbrev pub decreases-section : goal.decreases-section
-decreases-section l = 8 * l.room.statements + 2
+abbrev pub decreases-part_items : goal.decreases-part_items
+decreases-part_items l = 8 * l.room.statements + 2
 
-abbrev pub decreases-section_item : goal.decreases-section_item
-decreases-section_item l = 8 * l.room.statements + 3
+abbrev pub decreases-part : goal.decreases-part
+decreases-part l = 8 * l.room.statements + 3
 
-abbrev pub decreases-item : goal.decreases-item
-decreases-item l = 8 * l.room.statements + 4
+abbrev pub decreases-parts : goal.decreases-parts
+decreases-parts l = 8 * l.room.statements + 4
 
 abbrev pub decreases-items : goal.decreases-items
-decreases-items l = 8 * l.room.statements + 5
-
-abbrev pub decreases-section_items : goal.decreases-section_items
-decreases-section_items l = 8 * l.room.statements + 6
+decreases-items l = 8 * l.room.statements + 3
 
 abbrev pub decreases-block_after : goal.decreases-block_after
-decreases-block_after l = 8 * l.room.statements + 6
+decreases-block_after l = 8 * l.room.statements + 4
 
 abbrev pub decreases-constructed : goal.decreases-constructed
 decreases-constructed l = 8 * l.room.statements + 1
@@ -66,10 +66,30 @@ decreases-directive l = 8 * l.room.statements + 4
 -- what was read before, and what is still to be read, make the whole
 abbrev pub invariant-items-items : goal.invariant-items-items
 invariant-items-items l =
-    let item = item_at l.kind (parts accepted) (statement_at (parts accepted) l.room.checked l.room.statements
+    let item = block_item_at (parts accepted) (statement_at (parts accepted) l.room.checked l.room.statements
     l.room.blocks) in
     GoesOn (take_mark CloseBrace) item (map view_statement l.items.items) l.rest (until (take_mark CloseBrace) item
     (length l.tokens) l.tokens)
 
 abbrev pub decreases-items-items : goal.decreases-items-items
 decreases-items-items l = length l.rest
+
+abbrev pub invariant-part_items-items : goal.invariant-part_items-items
+invariant-part_items-items l =
+    let item = part_item_at (parts accepted).line (statement_at (parts accepted) l.room.checked l.room.statements
+    l.room.blocks) in
+    MoreLeft ends_part item (map view_statement l.items.items) l.rest (one_or_more ends_part item (length l.tokens)
+    l.tokens)
+
+abbrev pub decreases-part_items-items : goal.decreases-part_items-items
+decreases-part_items-items l = length l.rest
+
+abbrev pub invariant-parts-parts : goal.invariant-parts-parts
+invariant-parts-parts l =
+    let item = part_at (parts accepted).line (statement_at (parts accepted) l.room.checked l.room.statements
+    l.room.blocks) in
+    MoreLeft ends_parts item (map view_part l.parts.items) l.rest (one_or_more ends_parts item (length l.tokens)
+    l.tokens)
+
+abbrev pub decreases-parts-parts : goal.decreases-parts-parts
+decreases-parts-parts l = length l.rest
