@@ -67,7 +67,7 @@ module _ (p : Parts) (l : Limits) (again : ArePartsAgain p l) where
   part_from (Section d s) f b checked room statement reads = absurd b
   part_from s f b checked room statement reads = part_of_body s f tt checked room statement (reads tt)
 
-  declaration_item : (d : DeclarationTree) → IsLocalDeclaration d → (checked : Bool) (room : ℕ) (statement : ℕ → Reader StatementTree) → IsItemAgain insides.Block checked room statement (LocalDeclaration d)
+  declaration_item : (d : DeclarationTree ExpressionTree) → IsLocalDeclaration d → (checked : Bool) (room : ℕ) (statement : ℕ → Reader StatementTree) → IsItemAgain insides.Block checked room statement (LocalDeclaration d)
   unfolding IsStatement block_item_at statement_spelling declaration_spelling
   declaration_item d f checked room statement = record {
     formed = f;
