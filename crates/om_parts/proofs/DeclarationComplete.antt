@@ -114,7 +114,8 @@ module _ {I : Type 0} (spell : I → List Token) (Admitted Fits : I → Type 0) 
 
       go : (a : Option ArrayLength) (i : Option (InitializerTree I)) → IsDeclarator Admitted (tree a i)
           → IsAnswer (FitsDeclarator (tree a i))
-          (declarator_after initial d.name ((perhaps array_spelling a ++ perhaps (initializer_spelling spell) i) ++ rest))
+          (declarator_after initial d.name
+          ((perhaps array_spelling a ++ perhaps (initializer_spelling spell) i) ++ rest))
           (tree a i, rest)
       go None None f = inl (rw (no_array rest ends, no_initializer rest ends) refl)
       go (Some a) None f = inl

@@ -83,7 +83,8 @@ module _ (Admitted : ExpressionTree → Type 0) (l : Limits) (initial : Reader E
   unfolding started declarator_spelling initializer_spelling IsDeclarator
   initializer_cut n equal ts f h deep =
       embedded expression_spelling Admitted (λ e. e ∷ []) (declarator_spelling expression_spelling)
-      (IsDeclarator Admitted) expressions_of_declarator l (name n ∷ mark punctuators.Equal equal ∷ []) (started n equal) []
+      (IsDeclarator Admitted) expressions_of_declarator l (name n ∷ mark punctuators.Equal equal ∷ [])
+      (started n equal) []
       (λ e. ap (λ w. name n ∷ mark punctuators.Equal equal ∷ w) (sym (append-nil (expression_spelling e))))
       (λ e f. f) (λ e x c. c) ts f.at (cutting ts f h deep)
 
@@ -123,9 +124,11 @@ module _ (Admitted : ExpressionTree → Type 0) (l : Limits) (initial : Reader E
             ∙ ap (λ w. mark punctuators.Comma c.0 ∷ w) (name_at_is c.1 n named) in
             subst (λ w. PassesLimit (further_spelling expression_spelling) IsFurther expressions_of_further l w f.at)
             (sym front) (embedded (declarator_spelling expression_spelling) (IsDeclarator Admitted)
-            expressions_of_declarator (further_spelling expression_spelling) IsFurther expressions_of_further l (mark punctuators.Comma c.0 ∷ []) (λ d. (c.0, d)) []
+            expressions_of_declarator (further_spelling expression_spelling) IsFurther expressions_of_further l
+            (mark punctuators.Comma c.0 ∷ []) (λ d. (c.0, d)) []
             (λ d. ap (λ w. mark punctuators.Comma c.0 ∷ w)
-            (sym (append-nil (declarator_spelling expression_spelling d)))) (λ d f. f) (λ d x c. c) (name n.0 ∷ n.1) f.at (declarator_cut n.0 n.1 f e deep))
+            (sym (append-nil (declarator_spelling expression_spelling d)))) (λ d f. f) (λ d x c. c)
+            (name n.0 ∷ n.1) f.at (declarator_cut n.0 n.1 f e deep))
       ]
     ]
   ]
@@ -158,7 +161,8 @@ module _ (Admitted : ExpressionTree → Type 0) (l : Limits) (initial : Reader E
       → DeclarationTree ExpressionTree
   together int d ds = record { int = int; first = d; rest = ds; semicolon = int }
 
-  rest_cut : (int : Span) (d : DeclaratorTree ExpressionTree) (ts : List Token) (f : SourceFault) → IsDeclarator Admitted d
+  rest_cut : (int : Span) (d : DeclaratorTree ExpressionTree) (ts : List Token) (f : SourceFault)
+      → IsDeclarator Admitted d
       → until (take_mark punctuators.Semicolon) (further_at initial) (length ts) ts ≡ Err f → Deep f
       → IsDeclarationCut (word keywords.Int int ∷ (declarator_spelling expression_spelling d ++ ts)) f
   unfolding together declaration_spelling IsDeclaration
@@ -169,7 +173,8 @@ module _ (Admitted : ExpressionTree → Type 0) (l : Limits) (initial : Reader E
       (together int d) (mark punctuators.Semicolon int ∷ [])
       (λ ds. refl) (λ ds f. (formed, f)) (λ ds x c. Contains-append_right (expressions_of_declarator d)
       (flat_map expressions_of_further ds) x c) ts f.at
-      (until_cut (further_spelling expression_spelling) IsFurther expressions_of_further l (take_mark punctuators.Semicolon)
+      (until_cut (further_spelling expression_spelling) IsFurther expressions_of_further l
+      (take_mark punctuators.Semicolon)
       (further_at initial) further_parts further_cut (length ts) ts f h deep)
 
   pub declaration_cut : (int : Span) (n : names.Name) (ts : List Token) (f : SourceFault) → declaration_after

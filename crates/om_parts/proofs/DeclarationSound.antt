@@ -106,7 +106,8 @@ module _ {I : Type 0} (spell : I → List Token) (Admitted : I → Type 0) (init
       let d = bind_ok (declarator_after initial n ts) _ x h in
       let m = bind_ok (until (take_mark punctuators.Semicolon) (further_at initial) (length d.0.1) d.0.1) _ x d.2 in
       let first = declarator_after_sound n ts d.0 d.1 in
-      let r = until_sound (further_spelling spell) IsFurther (mark punctuators.Semicolon) (take_mark punctuators.Semicolon)
+      let r = until_sound (further_spelling spell) IsFurther (mark punctuators.Semicolon)
+      (take_mark punctuators.Semicolon)
       (further_at initial) (take_mark_is punctuators.Semicolon) further_sound (length d.0.1) d.0.1 m.0 m.1 in
       subst (IsRead (declaration_spelling spell) (IsDeclaration Admitted) (word keywords.Int int ∷ name n ∷ ts))
       (ok_is _ x m.2) (record {

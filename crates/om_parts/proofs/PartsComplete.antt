@@ -63,7 +63,8 @@ module _ (l : Limits) (room round : ℕ) (sum : room + round ≡ l.nested) where
   local_again d rest f = subst (λ us. IsAnswer (KeepsDeclaration l round d)
       (declared_at (whole_at l room) d.int us) (d, rest)) (tail_is d rest)
       (narrower (declared_at (whole_at l room) d.int (name d.first.name
-      ∷ declaration_rest expression_spelling d rest)) (d, rest) (λ w. keep_all (expressions_of_declaration d) w.nested w.long)
+      ∷ declaration_rest expression_spelling d rest)) (d, rest)
+      (λ w. keep_all (expressions_of_declaration d) w.nested w.long)
       (declared_again expression_spelling IsExpression (Keeps l round) (whole_at l room) initial_again d rest f))
 
 -- what an enclosed part keeps, it keeps with one parenthesis of room at least

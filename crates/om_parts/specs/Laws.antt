@@ -184,7 +184,8 @@ pub record IsGlobalAgain (d : DeclarationTree SignedNumber) (rest : List Token) 
   pub read : global_at d.int d.first.name behind ≡ Ok (d, rest)
 
 abbrev pub GlobalsAreReadAgain : Type 0
-GlobalsAreReadAgain = (d : DeclarationTree SignedNumber) (rest : List Token) → IsGlobalDeclaration d → IsGlobalAgain d rest
+GlobalsAreReadAgain = (d : DeclarationTree SignedNumber) (rest : List Token) → IsGlobalDeclaration d
+    → IsGlobalAgain d rest
 
 -- they are refused by syntax alone
 abbrev pub GlobalsStopAtSyntax : Type 0

@@ -80,9 +80,13 @@ view_declaration view d = record {
 abbrev pub view_local : declarations.Declaration Expression → DeclarationTree ExpressionTree
 view_local = view_declaration view_expression
 
--- a declaration at file scope: a number is its own tree
+-- a number is its own tree
+abbrev pub view_number : SignedNumber → SignedNumber
+view_number number = number
+
+-- a declaration at file scope
 abbrev pub view_global : declarations.Declaration SignedNumber → DeclarationTree SignedNumber
-view_global = view_declaration (λ number. number)
+view_global = view_declaration view_number
 
 -- an expression in parentheses, as a tree
 abbrev pub view_condition : Condition → ConditionTree

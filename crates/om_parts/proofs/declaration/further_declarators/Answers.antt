@@ -34,19 +34,23 @@ returns-in_err-comma g c =
 
 pub declarators-smaller : goal.declarators-smaller
 declarators-smaller g c = further_shorter (g.I.Initial.reader c.args.room) c.requires c.declarators.rest.now
-    (c.in_ok-comma.comma, view_declarator g.I.Initial.view c.in_ok-comma.next.value) c.in_ok-comma.after.now c.in_ok-comma.ensures
+    (c.in_ok-comma.comma, view_declarator g.I.Initial.view c.in_ok-comma.next.value) c.in_ok-comma.after.now
+    c.in_ok-comma.ensures
 
 pub declarators-preserved : goal.declarators-preserved
 declarators-preserved g c =
     let inner : c.into_inner.result ≡ c.in_ok-comma.next.value = search rules in
-    let pushed : map (view_further g.I.Initial.view) c.push.new.self.items ≡ map (view_further g.I.Initial.view) c.declarators.declarators.items
+    let pushed : map (view_further g.I.Initial.view) c.push.new.self.items
+    ≡ map (view_further g.I.Initial.view) c.declarators.declarators.items
     ++ (c.in_ok-comma.comma, view_declarator g.I.Initial.view c.in_ok-comma.next.value)
-    ∷ [] = rw (c.in_ok-push.ensures.items, inner) (map_push (view_further g.I.Initial.view) c.declarators.declarators.items
+    ∷ [] = rw (c.in_ok-push.ensures.items, inner) (map_push (view_further g.I.Initial.view)
+    c.declarators.declarators.items
     (c.in_ok-comma.comma, c.in_ok-comma.next.value)) in
     rw pushed (until_goes_on (take_mark Semicolon) (further_at (g.I.Initial.reader c.args.room))
     (map (view_further g.I.Initial.view) c.declarators.declarators.items) c.declarators.rest.now
     (until (take_mark Semicolon) (further_at (g.I.Initial.reader c.args.room)) (length c.args.tokens.now)
-    c.args.tokens.now) (c.in_ok-comma.comma, view_declarator g.I.Initial.view c.in_ok-comma.next.value) c.in_ok-comma.after.now
+    c.args.tokens.now) (c.in_ok-comma.comma, view_declarator g.I.Initial.view c.in_ok-comma.next.value)
+    c.in_ok-comma.after.now
     (sym c.in_default.ensures) c.in_ok-comma.ensures (further_shorter (g.I.Initial.reader c.args.room) c.requires
     c.declarators.rest.now (c.in_ok-comma.comma, view_declarator g.I.Initial.view c.in_ok-comma.next.value)
     c.in_ok-comma.after.now c.in_ok-comma.ensures) c.declarators.invariant)
