@@ -10,7 +10,7 @@ use Rattle.om_lexer.specs.declared.token.Punctuator.TheVariants as punctuators
 use Rattle.om_lexer.specs.declared.token.Span.{Span}
 use Rattle.om_lexer.specs.declared.token.Token.{Token}
 use Rattle.om_pragma.specs.declared.name.Name as names
-use Rattle.om_parts.specs.DeclarationReading.{constant_at, array_after, declarator_after, further_at, declaration_after}
+use Rattle.om_parts.specs.DeclarationReading.{signed_at, array_after, declarator_after, further_at, declaration_after}
 use Rattle.om_parts.specs.DeclarationReading.{declared_at}
 use Rattle.om_parts.specs.Reading.{Reader, take_mark, mark_at, name_at, number_at}
 use Rattle.om_parts.specs.Repetition.{until}
@@ -19,7 +19,7 @@ use Rattle.om_tree.specs.Limits.{Limits, expressions_of_declarator, expressions_
 use Rattle.om_parts.proofs.ItemsCut.{PassesLimit, Deep, IsCuttingAt, embedded, bind_never_deep, until_cut}
 use Rattle.om_parts.proofs.ItemsCut.{until_never_deep}
 use Rattle.om_tree.specs.Spelling.{mark, word, name, expression_spelling, initializer_spelling, declarator_spelling}
-use Rattle.om_tree.specs.Spelling.{further_spelling, declaration_spelling}
+use Rattle.om_tree.specs.Spelling.{further_spelling, declaration_spelling, local_spelling}
 use Rattle.om_tree.specs.Tree.{ExpressionTree, DeclaratorTree, DeclarationTree}
 use Rattle.om_parts.proofs.Outcomes.{ok, bind_err, choose_cases}
 use Rattle.om_parts.proofs.Taken.{take_mark_is, mark_at_is, name_at_is}
@@ -27,9 +27,9 @@ use Rattle.om_parts.specs.Laws.{IsSound}
 use Rattle.om_parts.proofs.DeclarationSound.{declarator_after_sound, further_sound}
 use Rattle.om_parts.proofs.BracketsCut.{IsNeverDeep, known_never_deep}
 
-pub constant_never_deep : (ts : List Token) → IsNeverDeep (constant_at ts)
-unfolding constant_at number_at
-constant_never_deep ts f h deep = elim (choose_cases (take_mark punctuators.Minus ts) _ _ (Err f) h) [
+pub signed_never_deep : (ts : List Token) → IsNeverDeep (signed_at ts)
+unfolding signed_at number_at
+signed_never_deep ts f h deep = elim (choose_cases (take_mark punctuators.Minus ts) _ _ (Err f) h) [
   | inl (m, taken, g) ↦ bind_never_deep (number_at m.1) _ (known_never_deep m.1 _) (λ n f h deep. absurd cc) f g deep
   | inr (none, g) ↦ bind_never_deep (number_at ts) _ (known_never_deep ts _) (λ n f h deep. absurd cc) f g deep
 ]
@@ -39,7 +39,7 @@ unfolding array_after number_at mark_at
 array_never_deep left ts = bind_never_deep (number_at ts) _ (known_never_deep ts _)
     (λ n. bind_never_deep (mark_at punctuators.CloseBracket n.1) _ (known_never_deep n.1 _) (λ r f h deep. absurd cc))
 
-module _ (initial : Reader ExpressionTree) (never : (ts : List Token) → IsNeverDeep (initial ts)) where
+module _ {I : Type 0} (initial : Reader I) (never : (ts : List Token) → IsNeverDeep (initial ts)) where
   declarator_never_deep : (n : names.Name) (ts : List Token) → IsNeverDeep (declarator_after initial n ts)
   unfolding declarator_after
   declarator_never_deep n ts f h deep = elim (choose_cases (take_mark punctuators.OpenBracket ts) _ _ (Err f) h) [
@@ -72,17 +72,19 @@ module _ (Admitted : ExpressionTree → Type 0) (l : Limits) (initial : Reader E
     (sound : IsSound expression_spelling Admitted initial) (cutting : IsCuttingAt expression_spelling Admitted
     (λ e. e ∷ []) l initial) where
   abbrev IsDeclaratorCut : List Token → SourceFault → Type 0
-  IsDeclaratorCut ts f = PassesLimit declarator_spelling (IsDeclarator Admitted) expressions_of_declarator l ts f.at
+  IsDeclaratorCut ts f = PassesLimit (declarator_spelling expression_spelling) (IsDeclarator Admitted)
+      expressions_of_declarator l ts f.at
 
-  started : names.Name → Span → ExpressionTree → DeclaratorTree
+  started : names.Name → Span → ExpressionTree → DeclaratorTree ExpressionTree
   started n equal e = record { name = n; array = None; initializer = Some (record { equal = equal; value = e }) }
 
   initializer_cut : (n : names.Name) (equal : Span) (ts : List Token) (f : SourceFault) → initial ts ≡ Err f
       → Deep f → IsDeclaratorCut (name n ∷ mark punctuators.Equal equal ∷ ts) f
   unfolding started declarator_spelling initializer_spelling IsDeclarator
   initializer_cut n equal ts f h deep =
-      embedded expression_spelling Admitted (λ e. e ∷ []) declarator_spelling (IsDeclarator Admitted)
-      expressions_of_declarator l (name n ∷ mark punctuators.Equal equal ∷ []) (started n equal) []
+      embedded expression_spelling Admitted (λ e. e ∷ []) (declarator_spelling expression_spelling)
+      (IsDeclarator Admitted) expressions_of_declarator l (name n ∷ mark punctuators.Equal equal ∷ [])
+      (started n equal) []
       (λ e. ap (λ w. name n ∷ mark punctuators.Equal equal ∷ w) (sym (append-nil (expression_spelling e))))
       (λ e f. f) (λ e x c. c) ts f.at (cutting ts f h deep)
 
@@ -102,13 +104,14 @@ module _ (Admitted : ExpressionTree → Type 0) (l : Limits) (initial : Reader E
     ]
   ]
 
-  abbrev IsFurther : Span × DeclaratorTree → Type 0
+  abbrev IsFurther : Span × DeclaratorTree ExpressionTree → Type 0
   IsFurther d = IsDeclarator Admitted d.1
 
-  abbrev expressions_of_further : Span × DeclaratorTree → List ExpressionTree
+  abbrev expressions_of_further : Span × DeclaratorTree ExpressionTree → List ExpressionTree
   expressions_of_further d = expressions_of_declarator d.1
 
-  further_cut : IsCuttingAt further_spelling IsFurther expressions_of_further l (further_at initial)
+  further_cut : IsCuttingAt (further_spelling expression_spelling) IsFurther expressions_of_further l
+      (further_at initial)
   unfolding further_at further_spelling mark_at name_at
   further_cut ts f h deep = elim (bind_err (mark_at punctuators.Comma ts) _ f h) [
     | inl wrong ↦ absurd (known_never_deep ts _ f wrong deep)
@@ -119,51 +122,59 @@ module _ (Admitted : ExpressionTree → Type 0) (l : Limits) (initial : Reader E
         | inl e ↦
             let front : ts ≡ mark punctuators.Comma c.0 ∷ name n.0 ∷ n.1 = mark_at_is punctuators.Comma ts c comma
             ∙ ap (λ w. mark punctuators.Comma c.0 ∷ w) (name_at_is c.1 n named) in
-            subst (λ w. PassesLimit further_spelling IsFurther expressions_of_further l w f.at) (sym front)
-            (embedded declarator_spelling (IsDeclarator Admitted) expressions_of_declarator further_spelling
-            IsFurther expressions_of_further l (mark punctuators.Comma c.0 ∷ []) (λ d. (c.0, d)) []
-            (λ d. ap (λ w. mark punctuators.Comma c.0 ∷ w) (sym (append-nil (declarator_spelling d)))) (λ d f. f)
-            (λ d x c. c) (name n.0 ∷ n.1) f.at (declarator_cut n.0 n.1 f e deep))
+            subst (λ w. PassesLimit (further_spelling expression_spelling) IsFurther expressions_of_further l w f.at)
+            (sym front) (embedded (declarator_spelling expression_spelling) (IsDeclarator Admitted)
+            expressions_of_declarator (further_spelling expression_spelling) IsFurther expressions_of_further l
+            (mark punctuators.Comma c.0 ∷ []) (λ d. (c.0, d)) []
+            (λ d. ap (λ w. mark punctuators.Comma c.0 ∷ w)
+            (sym (append-nil (declarator_spelling expression_spelling d)))) (λ d f. f) (λ d x c. c)
+            (name n.0 ∷ n.1) f.at (declarator_cut n.0 n.1 f e deep))
       ]
     ]
   ]
 
-  further_parts : (us : List Token) (x : (Span × DeclaratorTree) × List Token) → further_at initial us ≡ ok x
-      → (us ≡ further_spelling x.0 ++ x.1) × IsFurther x.0
-  further_parts us x r = let d = further_sound Admitted initial sound us x r in (d.parts, d.formed)
+  further_parts : (us : List Token) (x : (Span × DeclaratorTree ExpressionTree) × List Token)
+      → further_at initial us ≡ ok x → (us ≡ further_spelling expression_spelling x.0 ++ x.1) × IsFurther x.0
+  further_parts us x r =
+      let d = further_sound expression_spelling Admitted initial sound us x r in
+      (d.parts, d.formed)
 
   abbrev IsDeclarationCut : List Token → SourceFault → Type 0
-  IsDeclarationCut ts f = PassesLimit declaration_spelling (IsDeclaration Admitted) expressions_of_declaration l ts f.at
+  IsDeclarationCut ts f = PassesLimit local_spelling (IsDeclaration Admitted) expressions_of_declaration l ts f.at
 
-  alone : Span → DeclaratorTree → DeclarationTree
+  alone : Span → DeclaratorTree ExpressionTree → DeclarationTree ExpressionTree
   alone int d = record { int = int; first = d; rest = []; semicolon = int }
 
   first_cut : (int : Span) (n : names.Name) (ts : List Token) (f : SourceFault) → declarator_after initial n ts
       ≡ Err f → Deep f → IsDeclarationCut (word keywords.Int int ∷ name n ∷ ts) f
   unfolding alone declaration_spelling IsDeclaration
   first_cut int n ts f h deep =
-      embedded declarator_spelling (IsDeclarator Admitted) expressions_of_declarator declaration_spelling
-      (IsDeclaration Admitted) expressions_of_declaration l (word keywords.Int int ∷ []) (alone int)
+      embedded (declarator_spelling expression_spelling) (IsDeclarator Admitted) expressions_of_declarator
+      local_spelling (IsDeclaration Admitted) expressions_of_declaration l (word keywords.Int int ∷ []) (alone int)
       (mark punctuators.Semicolon int ∷ [])
-      (λ d. ap (λ w. word keywords.Int int ∷ w) (append_assoc (declarator_spelling d) []
+      (λ d. ap (λ w. word keywords.Int int ∷ w) (append_assoc (declarator_spelling expression_spelling d) []
       (mark punctuators.Semicolon int ∷ []))) (λ d f. (f, All-nil IsFurther))
       (λ d x c. Contains-append_left (expressions_of_declarator d) [] x c) (name n ∷ ts) f.at
       (declarator_cut n ts f h deep)
 
-  together : Span → DeclaratorTree → List (Span × DeclaratorTree) → DeclarationTree
+  together : Span → DeclaratorTree ExpressionTree → List (Span × DeclaratorTree ExpressionTree)
+      → DeclarationTree ExpressionTree
   together int d ds = record { int = int; first = d; rest = ds; semicolon = int }
 
-  rest_cut : (int : Span) (d : DeclaratorTree) (ts : List Token) (f : SourceFault) → IsDeclarator Admitted d
+  rest_cut : (int : Span) (d : DeclaratorTree ExpressionTree) (ts : List Token) (f : SourceFault)
+      → IsDeclarator Admitted d
       → until (take_mark punctuators.Semicolon) (further_at initial) (length ts) ts ≡ Err f → Deep f
-      → IsDeclarationCut (word keywords.Int int ∷ (declarator_spelling d ++ ts)) f
+      → IsDeclarationCut (word keywords.Int int ∷ (declarator_spelling expression_spelling d ++ ts)) f
   unfolding together declaration_spelling IsDeclaration
   rest_cut int d ts f formed h deep =
-      embedded (flat_map further_spelling) (All IsFurther) (flat_map expressions_of_further) declaration_spelling
-      (IsDeclaration Admitted) expressions_of_declaration l (word keywords.Int int ∷ declarator_spelling d)
+      embedded (flat_map (further_spelling expression_spelling)) (All IsFurther) (flat_map expressions_of_further)
+      local_spelling (IsDeclaration Admitted) expressions_of_declaration l
+      (word keywords.Int int ∷ declarator_spelling expression_spelling d)
       (together int d) (mark punctuators.Semicolon int ∷ [])
       (λ ds. refl) (λ ds f. (formed, f)) (λ ds x c. Contains-append_right (expressions_of_declarator d)
       (flat_map expressions_of_further ds) x c) ts f.at
-      (until_cut further_spelling IsFurther expressions_of_further l (take_mark punctuators.Semicolon)
+      (until_cut (further_spelling expression_spelling) IsFurther expressions_of_further l
+      (take_mark punctuators.Semicolon)
       (further_at initial) further_parts further_cut (length ts) ts f h deep)
 
   pub declaration_cut : (int : Span) (n : names.Name) (ts : List Token) (f : SourceFault) → declaration_after
@@ -175,7 +186,7 @@ module _ (Admitted : ExpressionTree → Type 0) (l : Limits) (initial : Reader E
         d.1) _ f g) [
           | inr (m, list, no_err) ↦ absurd cc
           | inl e ↦
-              let first = declarator_after_sound Admitted initial sound n ts d read in
+              let first = declarator_after_sound expression_spelling Admitted initial sound n ts d read in
               subst (λ w. IsDeclarationCut (word keywords.Int int ∷ w) f) (sym first.parts)
               (rest_cut int d.0 d.1 f first.formed e deep)
         ]

@@ -4,16 +4,15 @@ use Rattle.om_lexer.specs.declared.token.Punctuator.TheVariants as punctuators
 use Rattle.om_lexer.specs.declared.token.Span.{Span}
 use Rattle.om_lexer.specs.declared.token.Token.{Token}
 use Rattle.om_pragma.specs.declared.name.Name as names
-use Rattle.om_parts.specs.DeclarationReading.{constant_at, array_after, declarator_after, further_at, declaration_after}
+use Rattle.om_parts.specs.DeclarationReading.{signed_at, array_after, declarator_after, further_at, declaration_after}
 use Rattle.om_parts.specs.DeclarationReading.{declared_at}
 use Rattle.om_parts.specs.Reading.{Reader, mark_at, name_at, number_at}
 use Rattle.om_parts.specs.Repetition.{until}
-use Rattle.om_tree.specs.Tree.{ExpressionTree}
 use Rattle.om_parts.proofs.Refusals.{Refuses, done, bind, either, expected, until_refuses}
 
-pub constant_refuses : (ts : List Token) → Refuses (constant_at ts)
-unfolding constant_at number_at
-constant_refuses ts = either _ _ _ (λ (m : Span × List Token). bind (number_at m.1) _ (expected m.1 _)
+pub signed_refuses : (ts : List Token) → Refuses (signed_at ts)
+unfolding signed_at number_at
+signed_refuses ts = either _ _ _ (λ (m : Span × List Token). bind (number_at m.1) _ (expected m.1 _)
     (λ n. done _)) (bind (number_at ts) _ (expected ts _) (λ n. done _))
 
 array_refuses : (left : Span) (ts : List Token) → Refuses (array_after left ts)
@@ -21,7 +20,7 @@ unfolding array_after number_at mark_at
 array_refuses left ts = bind (number_at ts) _ (expected ts _) (λ n. bind (mark_at punctuators.CloseBracket n.1) _
     (expected n.1 _) (λ r. done _))
 
-module _ (initial : Reader ExpressionTree) (refuses : (ts : List Token) → Refuses (initial ts)) where
+module _ {I : Type 0} (initial : Reader I) (refuses : (ts : List Token) → Refuses (initial ts)) where
   declarator_refuses : (n : names.Name) (ts : List Token) → Refuses (declarator_after initial n ts)
   unfolding declarator_after
   declarator_refuses n ts = either _ _ _ (λ (b : Span × List Token). bind (array_after b.0 b.1) _

@@ -5,8 +5,7 @@ use Rattle.std.proofs.lemmas.List.Elements.{All-nil, All-cons}
 use Rattle.om_lexer.specs.declared.token.Punctuator.{Punctuator}
 use Rattle.om_lexer.specs.declared.token.Span.{Span}
 use Rattle.om_lexer.specs.declared.token.Token.{Token}
-use Rattle.om_parts.specs.declared.declaration.Initial.TheVariants as initials
-use Rattle.om_parts.specs.DeclarationReading.{initial_at, declared_at}
+use Rattle.om_parts.specs.DeclarationReading.{declared_at}
 use Rattle.om_parts.specs.ExpressionReading.{whole_at}
 use Rattle.om_tree.specs.Formed.{IsExpression}
 use Rattle.om_tree.specs.Limits.{Limits, nesting, expressions_of_declaration}
@@ -44,8 +43,7 @@ module _ (l : Limits) (room round : ℕ) (sum : room + round ≡ l.nested) where
   expression_again e q s rest is f = again e (mark q s ∷ rest) f (ends q s rest is)
 
   initial_again : (e : ExpressionTree) (rest : List Token) → IsExpression e → EndsDeclarator rest
-      → IsAnswer (Keeps l round e) (initial_at l (initials.Expression room) (expression_spelling e ++ rest)) (e, rest)
-  unfolding initial_at
+      → IsAnswer (Keeps l round e) (whole_at l room (expression_spelling e ++ rest)) (e, rest)
   initial_again e rest f end = again e rest f (ends_declarator rest end)
 
   keep_all : (es : List ExpressionTree) → most nesting es + round ≤ l.nested → most extent es ≤ l.tokens
@@ -55,17 +53,19 @@ module _ (l : Limits) (room round : ℕ) (sum : room + round ≡ l.nested) where
       (record { nested = omega (arith, nested); long = omega (arith, long) }) (keep_all es (omega (arith, nested))
       (omega (arith, long)))
 
-  tail_is : (d : DeclarationTree) (rest : List Token) → name d.first.name ∷ declaration_rest d rest
+  tail_is : (d : DeclarationTree ExpressionTree) (rest : List Token) → name d.first.name
+      ∷ declaration_rest expression_spelling d rest
       ≡ declaration_tail d ++ rest
   unfolding declaration_rest declarator_spelling
   tail_is d rest = simp append_assoc
 
-  pub local_again : IsDeclarationAgain l round (declared_at (initial_at l (initials.Expression room)))
+  pub local_again : IsDeclarationAgain l round (declared_at (whole_at l room))
   local_again d rest f = subst (λ us. IsAnswer (KeepsDeclaration l round d)
-      (declared_at (initial_at l (initials.Expression room)) d.int us) (d, rest)) (tail_is d rest)
-      (narrower (declared_at (initial_at l (initials.Expression room)) d.int (name d.first.name ∷ declaration_rest d
-      rest)) (d, rest) (λ w. keep_all (expressions_of_declaration d) w.nested w.long)
-      (declared_again IsExpression (Keeps l round) (initial_at l (initials.Expression room)) initial_again d rest f))
+      (declared_at (whole_at l room) d.int us) (d, rest)) (tail_is d rest)
+      (narrower (declared_at (whole_at l room) d.int (name d.first.name
+      ∷ declaration_rest expression_spelling d rest)) (d, rest)
+      (λ w. keep_all (expressions_of_declaration d) w.nested w.long)
+      (declared_again expression_spelling IsExpression (Keeps l round) (whole_at l room) initial_again d rest f))
 
 -- what an enclosed part keeps, it keeps with one parenthesis of room at least
 pub parts_again : OnlyOne → IsReading → HasOneExpression → PartsAreReadAgain

@@ -3,15 +3,14 @@
 use Rattle.std.proofs.Common.{ℕ, List, [], ◌∷◌, ◌++◌, refl, ap, ◌∙◌, arith, append_assoc}
 use Rattle.std.proofs.lemmas.List.{append-nil}
 use Rattle.om_lexer.specs.declared.token.Token.{Token}
-use Rattle.om_parts.specs.declared.declaration.Initial.TheVariants as initials
-use Rattle.om_parts.specs.DeclarationReading.{initial_at, declared_at}
+use Rattle.om_parts.specs.DeclarationReading.{declared_at}
 use Rattle.om_parts.specs.ExpressionReading.{whole_at}
 use Rattle.om_tree.specs.Formed.{IsExpression}
 use Rattle.om_tree.specs.Limits.{Limits, expressions_of_declaration}
 use Rattle.om_parts.proofs.ItemsCut.{PassesLimit, IsCuttingAt}
 use Rattle.om_parts.specs.PartReading.{parts}
 use Rattle.om_tree.specs.Places.{IsOverIn, IsPassed, in_parentheses}
-use Rattle.om_tree.specs.Spelling.{expression_spelling, declaration_spelling}
+use Rattle.om_tree.specs.Spelling.{expression_spelling, local_spelling}
 use Rattle.om_tree.specs.Tree.{ExpressionTree}
 use Rattle.om_parts.proofs.LineCut.{line_cut}
 use Rattle.om_parts.proofs.ExpressionSound.{whole_sound}
@@ -84,13 +83,11 @@ module _ (m : Limits) where
         },
       )
 
-  initial_sound : IsSound expression_spelling IsExpression (initial_at m (initials.Expression m.nested))
-  unfolding initial_at
+  initial_sound : IsSound expression_spelling IsExpression (whole_at m m.nested)
   initial_sound ts x h = let r = whole_sound m m.nested ts x h in record { parts = r.parts; formed = r.formed.0 }
 
   initial_cut : IsCuttingAt expression_spelling IsExpression (λ e. e ∷ []) m
-      (initial_at m (initials.Expression m.nested))
-  unfolding initial_at
+      (whole_at m m.nested)
   initial_cut ts f h deep =
       let c = whole_cut m m.nested ts f h deep in
       record {
@@ -111,21 +108,20 @@ module _ (m : Limits) where
         too_much = too_much_at m ts c.begun c.token c.after c.stands c.too_much;
       }
 
-  initial_refuses : (ts : List Token) → Refuses (initial_at m (initials.Expression m.nested) ts)
-  unfolding initial_at
+  initial_refuses : (ts : List Token) → Refuses (whole_at m m.nested ts)
   initial_refuses ts = whole_refuses m m.nested ts
 
-  local_passed : IsDeclarationCut m (declared_at (initial_at m (initials.Expression m.nested)))
+  local_passed : IsDeclarationCut m (declared_at (whole_at m m.nested))
   local_passed int ts f h stops =
-      let initial = initial_at m (initials.Expression m.nested) in
+      let initial = whole_at m m.nested in
       let deep = stops_too_deep f (declared_refuses initial initial_refuses int ts f h) stops in (
         deep,
-        passed_in declaration_spelling _ expressions_of_declaration m (_ ∷ ts) f.at
+        passed_in local_spelling _ expressions_of_declaration m (_ ∷ ts) f.at
             (declared_cut IsExpression m initial initial_sound initial_cut int ts f h deep),
       )
 
 pub parts_cut : LineLaws → PartsStopSo
-unfolding parts whole_at initial_at
+unfolding parts whole_at
 parts_cut laws l one = record {
   expression = expression_passed l;
   enclosed = expression_passed (in_parentheses l);

@@ -1,8 +1,7 @@
 -- The parts of statements that are read are well-formed, within the limits, and spelled as the tokens were.
 use Rattle.std.proofs.Common.{◌≡◌, ℕ, ◌+◌, ◌-◌, ◌≤◌, List, [], ◌∷◌, arith, All}
 use Rattle.std.proofs.lemmas.List.Elements.{All-head, All-tail}
-use Rattle.om_parts.specs.declared.declaration.Initial.TheVariants as initials
-use Rattle.om_parts.specs.DeclarationReading.{initial_at, declared_at}
+use Rattle.om_parts.specs.DeclarationReading.{declared_at}
 use Rattle.om_parts.specs.ExpressionReading.{whole_at}
 use Rattle.om_tree.specs.Formed.{IsExpression}
 use Rattle.om_tree.specs.Limits.{Limits, nesting, expressions_of_declaration}
@@ -35,8 +34,7 @@ module _ (l : Limits) (room round : ℕ) (sum : room + round ≡ l.nested) where
       }
 
   initial_sound : IsSound expression_spelling (λ e. IsExpression e × IsKept l round e)
-      (initial_at l (initials.Expression room))
-  unfolding initial_at
+      (whole_at l room)
   initial_sound ts x h =
       let r = whole_sound l room ts x h in
       record {
@@ -63,9 +61,9 @@ module _ (l : Limits) (room round : ℕ) (sum : room + round ≡ l.nested) where
       let first = All-head (IsKept l round) e es w in
       omega (arith, first.long, most_long es (All-tail (IsKept l round) e es w))
 
-  pub local_sound : IsDeclarationSound l round (declared_at (initial_at l (initials.Expression room)))
+  pub local_sound : IsDeclarationSound l round (declared_at (whole_at l room))
   local_sound int ts x h =
-      let r = declared_sound (λ e. IsExpression e × IsKept l round e) (initial_at l (initials.Expression room))
+      let r = declared_sound expression_spelling (λ e. IsExpression e × IsKept l round e) (whole_at l room)
       initial_sound int ts x h in
       let both = declaration_parts IsExpression (IsKept l round) x.0 r.formed in
       record {

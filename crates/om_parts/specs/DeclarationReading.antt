@@ -2,27 +2,18 @@
 use Rattle.std.specs.Prelude.{length, Some, None, Ok}
 use Rattle.om_lexer.specs.declared.token.Punctuator.TheVariants as punctuators
 use Rattle.om_lexer.specs.declared.token.Span.{Span}
-use Rattle.om_parts.specs.declared.declaration.Initial.{Initial}
-use Rattle.om_parts.specs.declared.declaration.Initial.TheVariants as initials
 use Rattle.om_tree.specs.declared.tree.ArrayLength.{ArrayLength}
 use Rattle.om_pragma.specs.declared.name.Name as names
-use Rattle.om_tree.specs.declared.tree.PrefixOperator.TheVariants as prefixes
-use Rattle.om_parts.specs.ExpressionReading.{whole_at}
-use Rattle.om_tree.specs.Limits.{Limits}
+use Rattle.om_tree.specs.declared.tree.SignedNumber.{SignedNumber}
 use Rattle.om_parts.specs.Reading.{◌>>=◌, choose, Reader, take_mark, mark_at, name_at, number_at}
 use Rattle.om_parts.specs.Repetition.{until}
-use Rattle.om_tree.specs.Tree.{ExpressionTree, Constant, Prefix, DeclaratorTree, DeclarationTree}
+use Rattle.om_tree.specs.Tree.{DeclaratorTree, DeclarationTree}
 
--- a constant, perhaps behind a minus
-unfoldable pub constant_at : Reader ExpressionTree
-constant_at ts = choose (take_mark punctuators.Minus ts)
-    (λ m. number_at m.1 >>= λ n. Ok (Prefix prefixes.Minus m.0 (Constant n.0), n.1))
-    (number_at ts >>= λ n. Ok (Constant n.0, n.1))
-
--- what stands behind the `=` of a declarator (C17 6.7.9): a constant at file scope, an expression in a block
-unfoldable pub initial_at : Limits → Initial → Reader ExpressionTree
-initial_at l initials.Constant = constant_at
-initial_at l (initials.Expression room) = whole_at l room
+-- a number, perhaps behind a minus (C17 6.6)
+unfoldable pub signed_at : Reader SignedNumber
+signed_at ts = choose (take_mark punctuators.Minus ts)
+    (λ m. number_at m.1 >>= λ n. Ok (record { minus = Some m.0; number = n.0 }, n.1))
+    (number_at ts >>= λ n. Ok (record { minus = None; number = n.0 }, n.1))
 
 -- the size of an array and the right bracket, behind the left one (C17 6.7.6.2)
 unfoldable pub array_after : Span → Reader ArrayLength
@@ -32,7 +23,7 @@ array_after left ts = do
   Ok (record { open_bracket = left; size = n.0; close_bracket = r.0 }, r.1)
 
 -- the brackets or the initializer, where they stand, behind the declared name (C17 6.7.6)
-unfoldable pub declarator_after : (initial : Reader ExpressionTree) → names.Name → Reader DeclaratorTree
+unfoldable pub declarator_after : {I : Type 0} → (initial : Reader I) → names.Name → Reader (DeclaratorTree I)
 declarator_after initial name ts = choose (take_mark punctuators.OpenBracket ts)
     (λ b. array_after b.0 b.1 >>= λ a. Ok (record { name = name; array = Some a.0; initializer = None }, a.1))
     (choose (take_mark punctuators.Equal ts)
@@ -41,7 +32,7 @@ declarator_after initial name ts = choose (take_mark punctuators.OpenBracket ts)
     (Ok (record { name = name; array = None; initializer = None }, ts)))
 
 -- a comma and a declarator
-unfoldable pub further_at : (initial : Reader ExpressionTree) → Reader (Span × DeclaratorTree)
+unfoldable pub further_at : {I : Type 0} → (initial : Reader I) → Reader (Span × DeclaratorTree I)
 further_at initial ts = do
   c ← mark_at punctuators.Comma ts
   n ← name_at c.1
@@ -49,12 +40,12 @@ further_at initial ts = do
   Ok ((c.0, d.0), d.1)
 
 -- the rest of a declaration, behind `int` and the first name (C17 6.7)
-unfoldable pub declaration_after : (initial : Reader ExpressionTree) → Span → names.Name → Reader DeclarationTree
+unfoldable pub declaration_after : {I : Type 0} → (initial : Reader I) → Span → names.Name → Reader (DeclarationTree I)
 declaration_after initial int name ts = do
   d ← declarator_after initial name ts
   m ← until (take_mark punctuators.Semicolon) (further_at initial) (length d.1) d.1
   Ok (record { int = int; first = d.0; rest = m.0; semicolon = m.1 }, m.2)
 
 -- the rest of a declaration in a block or a `for`, behind `int`
-unfoldable pub declared_at : (initial : Reader ExpressionTree) → Span → Reader DeclarationTree
+unfoldable pub declared_at : {I : Type 0} → (initial : Reader I) → Span → Reader (DeclarationTree I)
 declared_at initial int ts = name_at ts >>= λ n. declaration_after initial int n.0 n.1

@@ -12,6 +12,7 @@ use Rattle.om_lexer.specs.declared.token.TokenKind.TheVariants as kinds
 use Rattle.om_pragma.specs.declared.name.Name as names
 use Rattle.om_pragma.specs.declared.tree.Directive.{Directive}
 use Rattle.om_pragma.specs.Spelling.{directive_spelling}
+use Rattle.om_tree.specs.declared.tree.SignedNumber.{SignedNumber}
 use Rattle.om_parts.specs.PartReading.{LineReader, Parts, parts, global_at}
 use Rattle.om_parts.specs.Reading.{Outcome, Reader, take_mark}
 use Rattle.om_parts.specs.WrongLines.{IsOneLine, IsWrongLine}
@@ -20,7 +21,7 @@ use Rattle.om_tree.specs.Limits.{Limits, nesting}
 use Rattle.om_tree.specs.Places.{Place, IsPassed, IsOverInExpression, IsOverInDeclaration, in_parentheses}
 use Rattle.om_tree.specs.Sizes.{extent, declaration_nesting, declaration_longest, line_longest, line_nesting}
 use Rattle.om_tree.specs.Spelling.{token, mark, word, name, expression_spelling, declarator_spelling, further_spelling}
-use Rattle.om_tree.specs.Spelling.{declaration_spelling}
+use Rattle.om_tree.specs.Spelling.{global_spelling, local_spelling}
 use Rattle.om_tree.specs.Tree.{ExpressionTree, DeclarationTree}
 
 -- ---- what is read is well-formed, within the limits, and spelled as the tokens were
@@ -41,7 +42,7 @@ pub record IsWhole (l : Limits) (round : ℕ) (e : ExpressionTree) : Type 0 wher
   pub long : extent e ≤ l.tokens
 
 -- the same of a declaration
-pub record IsWholeDeclaration (l : Limits) (round : ℕ) (d : DeclarationTree) : Type 0 where
+pub record IsWholeDeclaration (l : Limits) (round : ℕ) (d : DeclarationTree ExpressionTree) : Type 0 where
   pub formed : IsLocalDeclaration d
   pub nested : declaration_nesting d + round ≤ l.nested
   pub long : declaration_longest d ≤ l.tokens
@@ -52,9 +53,10 @@ pub record IsWholeLine (l : Limits) (d : Directive ExpressionTree) : Type 0 wher
   pub nested : line_nesting d ≤ l.nested
   pub long : line_longest d ≤ l.tokens
 
-abbrev pub IsDeclarationSound : (l : Limits) (round : ℕ) → (Span → Reader DeclarationTree) → Type 0
-IsDeclarationSound l round r = (int : Span) (ts : List Token) (x : DeclarationTree × List Token) → r int ts ≡ Ok x
-    → IsRead declaration_spelling (IsWholeDeclaration l round) (word keywords.Int int ∷ ts) x
+abbrev pub IsDeclarationSound : (l : Limits) (round : ℕ) → (Span → Reader (DeclarationTree ExpressionTree)) → Type 0
+IsDeclarationSound l round r = (int : Span) (ts : List Token) (x : DeclarationTree ExpressionTree × List Token)
+    → r int ts ≡ Ok x
+    → IsRead local_spelling (IsWholeDeclaration l round) (word keywords.Int int ∷ ts) x
 
 -- the readers of the parts give what is well-formed
 pub record ArePartsSound (p : Parts) (l : Limits) : Type 0 where
@@ -84,7 +86,7 @@ pub record Keeps (l : Limits) (round : ℕ) (e : ExpressionTree) : Type 0 where
   pub long : extent e ≤ l.tokens
 
 -- the same of a declaration
-pub record KeepsDeclaration (l : Limits) (round : ℕ) (d : DeclarationTree) : Type 0 where
+pub record KeepsDeclaration (l : Limits) (round : ℕ) (d : DeclarationTree ExpressionTree) : Type 0 where
   pub nested : declaration_nesting d + round ≤ l.nested
   pub long : declaration_longest d ≤ l.tokens
 
@@ -103,12 +105,12 @@ IsExpressionAgain l round r = (e : ExpressionTree) (q : Punctuator) (s : Span) (
     → IsAnswer (Keeps l round e) (r (expression_spelling e ++ mark q s ∷ rest)) (e, mark q s ∷ rest)
 
 -- what stands behind the `int` of a declaration
-abbrev pub declaration_tail : DeclarationTree → List Token
-declaration_tail d = declarator_spelling d.first ++ flat_map further_spelling d.rest ++ mark punctuators.Semicolon
-    d.semicolon ∷ []
+abbrev pub declaration_tail : DeclarationTree ExpressionTree → List Token
+declaration_tail d = declarator_spelling expression_spelling d.first
+    ++ flat_map (further_spelling expression_spelling) d.rest ++ mark punctuators.Semicolon d.semicolon ∷ []
 
-abbrev pub IsDeclarationAgain : (l : Limits) (round : ℕ) → (Span → Reader DeclarationTree) → Type 0
-IsDeclarationAgain l round r = (d : DeclarationTree) (rest : List Token) → IsLocalDeclaration d
+abbrev pub IsDeclarationAgain : (l : Limits) (round : ℕ) → (Span → Reader (DeclarationTree ExpressionTree)) → Type 0
+IsDeclarationAgain l round r = (d : DeclarationTree ExpressionTree) (rest : List Token) → IsLocalDeclaration d
     → IsAnswer (KeepsDeclaration l round d) (r d.int (declaration_tail d ++ rest)) (d, rest)
 
 abbrev pub IsLineAgain : (l : Limits) → LineReader → Type 0
@@ -139,9 +141,9 @@ abbrev pub IsExpressionCut : Limits → Reader ExpressionTree → Type 0
 IsExpressionCut l r = (ts : List Token) (f : SourceFault) → r ts ≡ Err f → Stops f
     → IsTooDeep expression_spelling IsExpression (IsOverInExpression l) ts f
 
-abbrev pub IsDeclarationCut : Limits → (Span → Reader DeclarationTree) → Type 0
+abbrev pub IsDeclarationCut : Limits → (Span → Reader (DeclarationTree ExpressionTree)) → Type 0
 IsDeclarationCut l r = (int : Span) (ts : List Token) (f : SourceFault) → r int ts ≡ Err f → Stops f
-    → IsTooDeep declaration_spelling IsLocalDeclaration (IsOverInDeclaration l) (word keywords.Int int ∷ ts) f
+    → IsTooDeep local_spelling IsLocalDeclaration (IsOverInDeclaration l) (word keywords.Int int ∷ ts) f
 
 -- the line that stands first is refused
 pub record IsFirstLineFault (l : Limits) (tokens : List Token) (f : SourceFault) : Type 0 where
@@ -170,19 +172,20 @@ PartsStopSo = (l : Limits) → 1 ≤ l.nested → ArePartsCut (parts l) l
 -- ---- declarations at file scope
 
 abbrev pub GlobalsAreSound : Type 0
-GlobalsAreSound = (int : Span) (n : names.Name) (ts : List Token) (x : DeclarationTree × List Token)
+GlobalsAreSound = (int : Span) (n : names.Name) (ts : List Token) (x : DeclarationTree SignedNumber × List Token)
     → global_at int n ts ≡ Ok x
-    → IsRead declaration_spelling IsGlobalDeclaration (word keywords.Int int ∷ name n ∷ ts) x
+    → IsRead global_spelling IsGlobalDeclaration (word keywords.Int int ∷ name n ∷ ts) x
 
 -- behind `int` and the first name, where no parenthesis stands
-pub record IsGlobalAgain (d : DeclarationTree) (rest : List Token) : Type 0 where
+pub record IsGlobalAgain (d : DeclarationTree SignedNumber) (rest : List Token) : Type 0 where
   pub behind : List Token
-  pub parts : word keywords.Int d.int ∷ name d.first.name ∷ behind ≡ declaration_spelling d ++ rest
+  pub parts : word keywords.Int d.int ∷ name d.first.name ∷ behind ≡ global_spelling d ++ rest
   pub no_function : take_mark punctuators.OpenParen behind ≡ None
   pub read : global_at d.int d.first.name behind ≡ Ok (d, rest)
 
 abbrev pub GlobalsAreReadAgain : Type 0
-GlobalsAreReadAgain = (d : DeclarationTree) (rest : List Token) → IsGlobalDeclaration d → IsGlobalAgain d rest
+GlobalsAreReadAgain = (d : DeclarationTree SignedNumber) (rest : List Token) → IsGlobalDeclaration d
+    → IsGlobalAgain d rest
 
 -- they are refused by syntax alone
 abbrev pub GlobalsStopAtSyntax : Type 0

@@ -3,9 +3,9 @@ use Rattle.std.specs.Prelude.{◌-◌}
 use Rattle.om_lexer.specs.declared.token.Span.{Span}
 use Rattle.om_pragma.specs.declared.name.Name as names
 use Rattle.om_pragma.specs.declared.tree.Directive.{Directive}
-use Rattle.om_parts.specs.declared.declaration.Initial.TheVariants as initials
-use Rattle.om_parts.specs.DeclarationReading.{constant_at, initial_at, declaration_after, declared_at}
+use Rattle.om_parts.specs.DeclarationReading.{signed_at, declaration_after, declared_at}
 use Rattle.om_parts.specs.ExpressionReading.{whole_at}
+use Rattle.om_tree.specs.declared.tree.SignedNumber.{SignedNumber}
 use Rattle.om_tree.specs.Limits.{Limits}
 use Rattle.om_parts.specs.LineReading.{line_at}
 use Rattle.om_parts.specs.Reading.{Reader}
@@ -21,8 +21,8 @@ pub record Parts : Type 0 where
   pub expression : Reader ExpressionTree
   pub enclosed : Reader ExpressionTree
   -- a declaration behind its `int`, and one in the parentheses of a `for`
-  pub declaration : Span → Reader DeclarationTree
-  pub enclosed_declaration : Span → Reader DeclarationTree
+  pub declaration : Span → Reader (DeclarationTree ExpressionTree)
+  pub enclosed_declaration : Span → Reader (DeclarationTree ExpressionTree)
   -- a directive line
   pub line : LineReader
 
@@ -31,11 +31,11 @@ unfoldable pub parts : Limits → Parts
 parts l = record {
   expression = whole_at l l.nested;
   enclosed = whole_at l (l.nested - 1);
-  declaration = declared_at (initial_at l (initials.Expression l.nested));
-  enclosed_declaration = declared_at (initial_at l (initials.Expression (l.nested - 1)));
+  declaration = declared_at (whole_at l l.nested);
+  enclosed_declaration = declared_at (whole_at l (l.nested - 1));
   line = line_at l;
 }
 
 -- a declaration at file scope, behind `int` and the first name (C17 6.7)
-unfoldable pub global_at : Span → names.Name → Reader DeclarationTree
-global_at = declaration_after constant_at
+unfoldable pub global_at : Span → names.Name → Reader (DeclarationTree SignedNumber)
+global_at = declaration_after signed_at

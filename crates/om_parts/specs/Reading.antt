@@ -1,6 +1,7 @@
 -- For proofs: reading from the left, as the parser does. It gives an item and the tokens behind it, or the fault
 -- that stops it.
-use Rattle.std.specs.Prelude.{◌≡◌, ℕ, List, [], ◌∷◌, Option, Some, None, Result, Ok, Err, Bool, ◌⊎◌, if◌then◌else◌}
+use Rattle.std.specs.Prelude.{◌≡◌, ℕ, ◌≤◌, List, [], ◌∷◌, length, Option, Some, None, Result, Ok, Err, Bool, ◌⊎◌}
+use Rattle.std.specs.Prelude.{if◌then◌else◌}
 use denote.Enum.Bare.{sameb}
 use Rattle.om_lexer.specs.Faults.{no_memory}
 use Rattle.om_lexer.specs.contracts.token.Keyword.{the_type as the_keywords}
@@ -34,6 +35,10 @@ choose None f other = other
 -- an item that stands first, and the tokens behind it
 abbrev pub Reader : Type 0 → Type 0
 Reader A = List Token → Outcome (A × List Token)
+
+-- it leaves no more tokens than there were
+abbrev pub LeavesNoMore : {A : Type 0} → Reader A → Type 0
+LeavesNoMore {A} r = (ts : List Token) (x : A × List Token) → r ts ≡ Ok x → length x.1 ≤ length ts
 
 -- where the first token starts; past every source where there is none
 abbrev pub place : List Token → ℕ

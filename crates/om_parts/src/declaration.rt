@@ -1,46 +1,98 @@
 //! Declarations of variables (C17 6.7).
 
-ghost use Rattle.std.specs.Prelude.{◌≡◌, None, Some, length, map};
+ghost use Rattle.std.specs.Prelude.{◌≡◌, ℕ, None, Some, length, map};
 ghost use Rattle.om_lexer.specs.declared.token.Punctuator.TheVariants.{Semicolon};
 ghost use Rattle.om_tree.specs.Limits.{accepted};
-ghost use Rattle.om_parts.specs.Reading.{take_mark, Makes, Reads, ReadsAlways};
+ghost use Rattle.om_parts.specs.Reading.{take_mark, LeavesNoMore, Makes, Reader, Reads, ReadsAlways};
 ghost use Rattle.om_parts.specs.Repetition.{until};
-ghost use Rattle.om_parts.specs.DeclarationReading.{constant_at, initial_at, array_after, declarator_after, further_at, declaration_after, declared_at};
-ghost use Rattle.om_parts.specs.Made.{ReadsExpression};
-ghost use Rattle.om_parts.specs.declared.declaration.Initial.TheVariants as initials;
-ghost use Rattle.om_tree.specs.View.{view_expression, view_declarator, view_declaration};
+ghost use Rattle.om_parts.specs.ExpressionReading.{whole_at};
+ghost use Rattle.om_parts.specs.DeclarationReading.{signed_at, array_after, declarator_after, further_at, declaration_after, declared_at};
+ghost use Rattle.om_tree.specs.Tree.{ExpressionTree};
+ghost use Rattle.om_tree.specs.declared.tree.SignedNumber.{SignedNumber};
+ghost use Rattle.om_tree.specs.View.{view_expression, view_declarator, view_declaration, view_further, view_local};
 
-use crate::boxed::{boxed, boxed_before};
-use crate::expression::{before, whole};
+use crate::boxed::boxed_before;
+use crate::expression::whole;
 use crate::front::{mark, name, number, take_mark};
 use om_lexer::{Punctuator, SourceFault, Span, Token};
 use om_pragma::Name;
-use om_tree::{ArrayLength, Declaration, Declarator, Expression, Initializer, PrefixOperator};
+use om_tree::{ArrayLength, Declaration, Declarator, Expression, Initializer, SignedNumber};
 use std::alloc::Global;
 
-/// What may stand behind the `=` of a declarator (C17 6.7.9).
-#[derive(Clone, Copy)]
-pub enum Initial {
-    /// At file scope: a constant, perhaps with a minus.
-    Constant,
-    /// In a block: any expression, in which brackets may nest so deep.
-    Expression(usize),
+/// What a declared variable may hold at the start, behind the `=` (C17 6.7.9).
+pub trait Initial: Drop {
+    /// What contracts see of it.
+    ghost Tree: { Type 0 };
+
+    ghost view: { Self → Tree };
+
+    /// What reading gives, where brackets may nest so deep.
+    ghost reader: { ℕ → Reader Tree };
+
+    /// Reads it, and gives the tokens behind it. Brackets may nest `room` deep in it.
+    fn read(alloc: Global, room: usize, tokens: &[Token]) -> Result<(Self, &[Token]), SourceFault>
+        ensures { Reads (λ x. (view x.0, x.1.now)) result (reader room tokens.now) };
 }
 
-/// The rest of a declaration, of which `int` and the first name are taken.
+/// In a block: any expression.
+impl Initial for Expression {
+    ghost Tree = { ExpressionTree };
+
+    ghost view = { view_expression };
+
+    ghost reader = { λ room. whole_at accepted room };
+
+    fn read(
+        alloc: Global,
+        room: usize,
+        tokens: &[Token],
+    ) -> Result<(Expression, &[Token]), SourceFault> {
+        let (value, rest) = whole(alloc, tokens, room)?;
+        Ok((Box::into_inner(value), rest))
+    }
+}
+
+/// At file scope: a number, perhaps behind a minus. It has no brackets.
+impl Initial for SignedNumber {
+    ghost Tree = { SignedNumber };
+
+    ghost view = { λ number. number };
+
+    ghost reader = { λ room. signed_at };
+
+    #[tactic(auto, unfolding(crate::specs::DeclarationReading::signed_at))]
+    fn read(
+        _alloc: Global,
+        _room: usize,
+        tokens: &[Token],
+    ) -> Result<(SignedNumber, &[Token]), SourceFault> {
+        if let Some((minus, rest)) = take_mark(tokens, Punctuator::Minus) {
+            let (number, rest) = number(rest)?;
+            let minus = Some(minus);
+            return Ok((SignedNumber { minus, number }, rest));
+        }
+        let (number, rest) = number(tokens)?;
+        let minus = None;
+        Ok((SignedNumber { minus, number }, rest))
+    }
+}
+
+/// The rest of a declaration, of which `int` and the first name are taken, and the tokens behind
+/// it. Brackets may nest `room` deep in what its variables hold at the start.
 #[tactic(auto, unfolding(crate::specs::DeclarationReading::declaration_after))]
-pub fn declaration_after(
+pub fn declaration_after<I: Initial>(
     alloc: Global,
-    initial: Initial,
+    room: usize,
     int: Span,
     name: Name,
     tokens: &[Token],
-) -> Result<(Declaration, &[Token]), SourceFault>
-    ensures { Reads (λ x. (view_declaration x.0, x.1.now)) result (declaration_after
-        (initial_at accepted initial) int name tokens.now) }
+) -> Result<(Declaration<I>, &[Token]), SourceFault>
+    requires { LeavesNoMore (I.reader room) }
+    ensures { Reads (λ x. (view_declaration I.view x.0, x.1.now)) result (declaration_after
+        (I.reader room) int name tokens.now) }
 {
-    let (first, rest) = declarator_after(alloc, initial, name, tokens)?;
-    let (others, semicolon, rest) = further_declarators(alloc, initial, rest)?;
+    let (first, rest) = declarator_after(alloc, room, name, tokens)?;
+    let (others, semicolon, rest) = further_declarators(alloc, room, rest)?;
     let first = Box::into_inner(first);
     Ok((
         Declaration {
@@ -61,22 +113,23 @@ pub fn local_declaration(
     room: usize,
     int: Span,
     tokens: &[Token],
-) -> Result<(Declaration, &[Token]), SourceFault>
-    ensures { Reads (λ x. (view_declaration x.0, x.1.now)) result (declared_at
-        (initial_at accepted (initials.Expression room)) int tokens.now) }
+) -> Result<(Declaration<Expression>, &[Token]), SourceFault>
+    ensures { Reads (λ x. (view_local x.0, x.1.now)) result (declared_at
+        (whole_at accepted room) int tokens.now) }
 {
     let (name, rest) = name(alloc, tokens)?;
-    declaration_after(alloc, Initial::Expression(room), int, name, rest)
+    declaration_after(alloc, room, int, name, rest)
 }
 
 /// Declarators behind commas up to a semicolon, its span, and the tokens behind it.
-fn further_declarators(
+fn further_declarators<I: Initial>(
     alloc: Global,
-    initial: Initial,
+    room: usize,
     tokens: &[Token],
-) -> Result<(Vec<(Span, Declarator)>, Span, &[Token]), SourceFault>
-    ensures { Reads (λ x. (map (λ d. (d.0, view_declarator d.1)) x.0.items, x.1, x.2.now)) result
-        (until (take_mark Semicolon) (further_at (initial_at accepted initial))
+) -> Result<(Vec<(Span, Declarator<I>)>, Span, &[Token]), SourceFault>
+    requires { LeavesNoMore (I.reader room) }
+    ensures { Reads (λ x. (map (view_further I.view) x.0.items, x.1, x.2.now)) result
+        (until (take_mark Semicolon) (further_at (I.reader room))
         (length tokens.now) tokens.now) }
 {
     let mut declarators = Vec::new(alloc);
@@ -85,7 +138,7 @@ fn further_declarators(
         if let Some((semicolon, after)) = take_mark(rest, Punctuator::Semicolon) {
             return Ok((declarators, semicolon, after));
         }
-        let (comma, next, after) = further_declarator(alloc, initial, rest)?;
+        let (comma, next, after) = further_declarator(alloc, room, rest)?;
         declarators.push((comma, Box::into_inner(next)))?;
         rest = after;
     }
@@ -93,50 +146,50 @@ fn further_declarators(
 
 /// A comma, the declarator behind it, and the tokens behind that.
 #[tactic(auto, unfolding(crate::specs::DeclarationReading::further_at))]
-fn further_declarator(
+fn further_declarator<I: Initial>(
     alloc: Global,
-    initial: Initial,
+    room: usize,
     tokens: &[Token],
-) -> Result<(Span, Box<Declarator>, &[Token]), SourceFault>
-    ensures { Reads (λ x. ((x.0, view_declarator x.1.value), x.2.now)) result (further_at
-        (initial_at accepted initial) tokens.now) }
+) -> Result<(Span, Box<Declarator<I>>, &[Token]), SourceFault>
+    ensures { Reads (λ x. ((x.0, view_declarator I.view x.1.value), x.2.now)) result (further_at
+        (I.reader room) tokens.now) }
 {
     let (comma, rest) = mark(tokens, Punctuator::Comma)?;
     let (name, rest) = name(alloc, rest)?;
-    let (declarator, rest) = declarator_after(alloc, initial, name, rest)?;
+    let (declarator, rest) = declarator_after(alloc, room, name, rest)?;
     Ok((comma, declarator, rest))
 }
 
 /// The rest of a declarator, of which the name is taken.
 #[tactic(auto, unfolding(crate::specs::DeclarationReading::declarator_after))]
-fn declarator_after(
+fn declarator_after<I: Initial>(
     alloc: Global,
-    initial: Initial,
+    room: usize,
     name: Name,
     tokens: &[Token],
-) -> Result<(Box<Declarator>, &[Token]), SourceFault>
-    ensures { Reads (λ x. (view_declarator x.0.value, x.1.now)) result (declarator_after
-        (initial_at accepted initial) name tokens.now) }
+) -> Result<(Box<Declarator<I>>, &[Token]), SourceFault>
+    ensures { Reads (λ x. (view_declarator I.view x.0.value, x.1.now)) result (declarator_after
+        (I.reader room) name tokens.now) }
 {
     if let Some((left, rest)) = take_mark(tokens, Punctuator::OpenBracket) {
         let (array, rest) = array_after(left, rest)?;
         return uninitialized(alloc, name, Some(array), rest);
     }
     if let Some((equal, rest)) = take_mark(tokens, Punctuator::Equal) {
-        let (value, rest) = initial_value(alloc, initial, rest)?;
+        let (value, rest) = I::read(alloc, room, rest)?;
         return initialized(alloc, name, equal, value, rest);
     }
     uninitialized(alloc, name, None, tokens)
 }
 
 /// A declarator without an initializer.
-fn uninitialized<'a>(
+fn uninitialized<'a, I: Initial>(
     alloc: Global,
     name: Name,
     array: Option<ArrayLength>,
     rest: &'a [Token],
-) -> Result<(Box<Declarator>, &'a [Token]), SourceFault>
-    ensures { Makes (λ x. (view_declarator x.0.value, x.1.now)) result
+) -> Result<(Box<Declarator<I>>, &'a [Token]), SourceFault>
+    ensures { Makes (λ x. (view_declarator I.view x.0.value, x.1.now)) result
         (record { name = name; array = array; initializer = None }) rest.now }
 {
     let declarator = Declarator {
@@ -148,22 +201,20 @@ fn uninitialized<'a>(
 }
 
 /// A declarator with an initializer.
-fn initialized<'a>(
+fn initialized<'a, I: Initial>(
     alloc: Global,
     name: Name,
     equal: Span,
-    value: Box<Expression>,
+    value: I,
     rest: &'a [Token],
-) -> Result<(Box<Declarator>, &'a [Token]), SourceFault>
-    ensures { Makes (λ x. (view_declarator x.0.value, x.1.now)) result
+) -> Result<(Box<Declarator<I>>, &'a [Token]), SourceFault>
+    ensures { Makes (λ x. (view_declarator I.view x.0.value, x.1.now)) result
         (record {
           name = name;
           array = None;
-          initializer = Some
-              (record { equal = equal; value = view_expression value.value });
+          initializer = Some (record { equal = equal; value = I.view value });
         }) rest.now }
 {
-    let value = Box::into_inner(value);
     let declarator = Declarator {
         name,
         array: None,
@@ -187,38 +238,4 @@ fn array_after(open_bracket: Span, tokens: &[Token]) -> Result<(ArrayLength, &[T
         },
         rest,
     ))
-}
-
-/// What stands behind the `=` of a declarator, and the tokens behind it.
-#[tactic(auto, unfolding(crate::specs::DeclarationReading::initial_at))]
-fn initial_value(
-    alloc: Global,
-    initial: Initial,
-    tokens: &[Token],
-) -> Result<(Box<Expression>, &[Token]), SourceFault>
-    ensures { ReadsExpression result (initial_at accepted initial tokens.now) }
-{
-    match initial {
-        Initial::Constant => constant(alloc, tokens),
-        Initial::Expression(room) => whole(alloc, tokens, room),
-    }
-}
-
-/// A constant, perhaps behind a minus, and the tokens behind it.
-#[tactic(auto, unfolding(crate::specs::DeclarationReading::constant_at))]
-fn constant(alloc: Global, tokens: &[Token]) -> Result<(Box<Expression>, &[Token]), SourceFault>
-    ensures { ReadsExpression result (constant_at tokens.now) }
-{
-    if let Some((minus, rest)) = take_mark(tokens, Punctuator::Minus) {
-        let (number, rest) = number(rest)?;
-        let operand = boxed(alloc, Expression::Constant(number))?;
-        let negated = Expression::Prefix {
-            operator: PrefixOperator::Minus,
-            operator_span: minus,
-            operand,
-        };
-        return before(alloc, negated, rest);
-    }
-    let (number, rest) = number(tokens)?;
-    before(alloc, Expression::Constant(number), rest)
 }

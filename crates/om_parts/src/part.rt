@@ -4,14 +4,14 @@ ghost use Rattle.om_tree.specs.Limits.{accepted};
 ghost use Rattle.om_parts.specs.Made.{ReadsExpression};
 ghost use Rattle.om_parts.specs.PartReading.{global_at, parts};
 ghost use Rattle.om_parts.specs.Reading.{Reads};
-ghost use Rattle.om_tree.specs.View.{view_expression, view_declaration, view_directive};
+ghost use Rattle.om_tree.specs.View.{view_directive, view_global, view_local};
 
-use crate::declaration::{Initial, declaration_after, local_declaration};
+use crate::declaration::{declaration_after, local_declaration};
 use crate::expression::whole;
 use crate::line::line;
 use om_lexer::{SourceFault, Span, Token};
 use om_pragma::{Directive, Name};
-use om_tree::{Declaration, Expression, NESTING_LIMIT};
+use om_tree::{Declaration, Expression, NESTING_LIMIT, SignedNumber};
 use std::alloc::Global;
 
 /// A whole expression, and the tokens behind it.
@@ -39,8 +39,8 @@ pub fn declaration(
     alloc: Global,
     int: Span,
     tokens: &[Token],
-) -> Result<(Declaration, &[Token]), SourceFault>
-    ensures { Reads (λ x. (view_declaration x.0, x.1.now)) result
+) -> Result<(Declaration<Expression>, &[Token]), SourceFault>
+    ensures { Reads (λ x. (view_local x.0, x.1.now)) result
         ((parts accepted).declaration int tokens.now) }
 {
     local_declaration(alloc, NESTING_LIMIT, int, tokens)
@@ -52,8 +52,8 @@ pub fn enclosed_declaration(
     alloc: Global,
     int: Span,
     tokens: &[Token],
-) -> Result<(Declaration, &[Token]), SourceFault>
-    ensures { Reads (λ x. (view_declaration x.0, x.1.now)) result
+) -> Result<(Declaration<Expression>, &[Token]), SourceFault>
+    ensures { Reads (λ x. (view_local x.0, x.1.now)) result
         ((parts accepted).enclosed_declaration int tokens.now) }
 {
     local_declaration(alloc, NESTING_LIMIT - 1, int, tokens)
@@ -73,14 +73,14 @@ pub fn directive_line(
 
 /// The rest of a declaration at file scope, of which `int` and the first name are taken, and the
 /// tokens behind it.
-#[tactic(auto, unfolding(crate::specs::PartReading::global_at, crate::specs::DeclarationReading::initial_at))]
+#[tactic(auto, unfolding(crate::specs::PartReading::global_at))]
 pub fn global_declaration(
     alloc: Global,
     int: Span,
     name: Name,
     tokens: &[Token],
-) -> Result<(Declaration, &[Token]), SourceFault>
-    ensures { Reads (λ x. (view_declaration x.0, x.1.now)) result (global_at int name tokens.now) }
+) -> Result<(Declaration<SignedNumber>, &[Token]), SourceFault>
+    ensures { Reads (λ x. (view_global x.0, x.1.now)) result (global_at int name tokens.now) }
 {
-    declaration_after(alloc, Initial::Constant, int, name, tokens)
+    declaration_after(alloc, 0, int, name, tokens)
 }

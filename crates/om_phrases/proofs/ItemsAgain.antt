@@ -71,7 +71,7 @@ module _ (p : Parts) (l : Limits) (again : ArePartsAgain p l) where
   part_from (StandAlone d) f b checked room statement reads = part_of_line d f.0 f.1 checked room statement
   part_from s f b checked room statement reads = part_of_body s f tt checked room statement (reads tt)
 
-  pub declaration_item : (d : DeclarationTree) → IsLocalDeclaration d → (checked : Bool) (room : ℕ) (statement : ℕ → Reader StatementTree) → IsItemAgain checked room statement (LocalDeclaration d)
+  pub declaration_item : (d : DeclarationTree ExpressionTree) → IsLocalDeclaration d → (checked : Bool) (room : ℕ) (statement : ℕ → Reader StatementTree) → IsItemAgain checked room statement (LocalDeclaration d)
   unfolding IsStatement block_item_at statement_spelling declaration_spelling
   declaration_item d f checked room statement = record {
     formed = f;

@@ -12,7 +12,7 @@ use Rattle.om_phrases.specs.declared.start.Start.TheVariants as starts
 use Rattle.om_phrases.specs.Faults.{IsStopped}
 use Rattle.om_parts.specs.Reading.{Reader, choose, take_mark, take_word, mark_at, word_at}
 use Rattle.om_parts.specs.Repetition.{until}
-use Rattle.om_tree.specs.Spelling.{mark, word, perhaps, expression_spelling, declaration_spelling, condition_spelling, for_start_spelling, for_head_spelling, statement_spelling, statements_spelling, block_spelling}
+use Rattle.om_tree.specs.Spelling.{mark, word, perhaps, expression_spelling, local_spelling, condition_spelling, for_start_spelling, for_head_spelling, statement_spelling, statements_spelling, block_spelling}
 use Rattle.om_tree.specs.Formed.{IsOptional, IsForStart, IsForHead, ends_open, IsStatement, AreStatements, AreSome, IsExpression}
 use Rattle.om_tree.specs.Limits.{Limits}
 use Rattle.om_tree.specs.Places.{Place, in_parentheses, Behind, InOptional, InCondition, InForStart, InForHead, IsOverInside, IsOverInItems, IsOverInStatement, IsOverInBlock}
@@ -274,7 +274,7 @@ module _ (p : Parts) (l : Limits) (one : 1 ≤ l.nested) (sound : ArePartsSound 
   block_item_cut depth nested statement inner ts f h stops = elim (choose_cases (take_word keywords.Int ts) _ _ (Err f) h) [
     | inl (i, taken, g) ↦ elim (bind_err (p.declaration i.0 i.1) _ f g) [
       | inr (d, reads, no_err) ↦ absurd cc
-      | inl fails ↦ within_larger statement_spelling IsStatement (IsOverInStatement l depth nested) [] [] LocalDeclaration ts (word keywords.Int i.0 ∷ i.1) f (λ d is. is) (λ d. sym (append-nil (declaration_spelling d))) (λ d before t over. inr over) (take_word_is keywords.Int ts i.0 i.1 taken) (inl (cuts.declaration i.0 i.1 f fails stops))
+      | inl fails ↦ within_larger statement_spelling IsStatement (IsOverInStatement l depth nested) [] [] LocalDeclaration ts (word keywords.Int i.0 ∷ i.1) f (λ d is. is) (λ d. sym (append-nil (local_spelling d))) (λ d before t over. inr over) (take_word_is keywords.Int ts i.0 i.1 taken) (inl (cuts.declaration i.0 i.1 f fails stops))
     ]
     | inr (none, g) ↦ within_larger statement_spelling IsStatement (IsOverInStatement l depth nested) [] [] (λ s. s) ts ts f (λ s is. is.0) (λ s. sym (append-nil (statement_spelling s))) (λ s before t over. over) refl (part_item_cut l p.line sound.line cuts.line depth nested statement inner ts f g stops)
   ]

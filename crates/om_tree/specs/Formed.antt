@@ -1,5 +1,5 @@
 -- Which trees are well-formed: the grammar beyond the order of tokens.
-use Rattle.std.specs.Prelude.{◌≡◌, ℕ, ◌<◌, ◌≤◌, ◌⊎◌, Option, Some, None, IsSome, All, Bool, true, false, codes}
+use Rattle.std.specs.Prelude.{◌≡◌, ℕ, ◌<◌, ◌≤◌, ◌⊎◌, Option, Some, None, All, Bool, true, false, codes}
 use Rattle.om_pragma.specs.declared.name.Name as names
 use Rattle.om_pragma.specs.declared.tree.Directive.{Directive}
 use Rattle.om_pragma.specs.declared.tree.DirectiveName.{DirectiveName}
@@ -8,11 +8,11 @@ use Rattle.om_pragma.specs.Table.{IsDirective}
 use Rattle.om_tree.specs.declared.tree.ArrayLength.{ArrayLength}
 use Rattle.om_tree.specs.declared.tree.BinaryOperator.{BinaryOperator}
 use Rattle.om_tree.specs.declared.tree.BinaryOperator.TheVariants as binaries
-use Rattle.om_tree.specs.declared.tree.PrefixOperator.TheVariants as prefixes
+use Rattle.om_tree.specs.declared.tree.SignedNumber.{SignedNumber}
 use Rattle.om_tree.specs.Tree.{ExpressionTree, Name, Constant, Text, Paren, Index, Call, Prefix, Postfix, Binary}
 use Rattle.om_tree.specs.Tree.{Conditional, Assign, ArgumentsTree, NoArguments, Argument, InitializerTree}
-use Rattle.om_tree.specs.Tree.{DeclaratorTree, DeclarationTree, StatementTree, Expression, Return, ParametersTree}
-use Rattle.om_tree.specs.Tree.{NoParameters, Void, Listed, FunctionTree, ItemTree, Declaration, Prototype, Function}
+use Rattle.om_tree.specs.Tree.{DeclaratorTree, DeclarationTree, StatementTree, Expression, Return}
+use Rattle.om_tree.specs.Tree.{FunctionTree, ItemTree, Declaration, Prototype, Function}
 use Rattle.om_tree.specs.Tree.{UnitTree, ForStartTree, Nothing, StartExpression, StartDeclaration, ForHeadTree}
 use Rattle.om_tree.specs.Tree.{StatementsTree, LocalDeclaration, Block, Empty, If, IfElse, While, Do, For, Break}
 use Rattle.om_tree.specs.Tree.{Continue, Construct, StandAlone, Sections, NoStatements, Statement, statements}
@@ -86,31 +86,25 @@ unfoldable mutual
   AreFurther (Argument None e rest) = ⊥
   AreFurther (Argument (Some comma) e rest) = IsExpression e × AreFurther rest
 
--- a constant, perhaps with a minus (C17 6.6)
-abbrev pub IsSignedConstant : ExpressionTree → Type 0
-IsSignedConstant (Constant n) = Unit {0}
-IsSignedConstant (Prefix prefixes.Minus at (Constant n)) = Unit {0}
-IsSignedConstant _ = ⊥
-
 -- an array has no initializer, and another variable perhaps one that may stand there (C17 6.7.9)
-unfoldable pub IsDeclarator : (Admitted : ExpressionTree → Type 0) → DeclaratorTree → Type 0
-IsDeclarator Admitted d = starts d.array d.initializer
+unfoldable pub IsDeclarator : {I : Type 0} → (Admitted : I → Type 0) → DeclaratorTree I → Type 0
+IsDeclarator {I} Admitted d = starts d.array d.initializer
   where
-    starts : Option ArrayLength → Option InitializerTree → Type 0
+    starts : Option ArrayLength → Option (InitializerTree I) → Type 0
     starts a None = Unit {0}
     starts None (Some i) = Admitted i.value
     starts (Some a) (Some i) = ⊥
 
 -- each declarator of a declaration is one
-unfoldable pub IsDeclaration : (Admitted : ExpressionTree → Type 0) → DeclarationTree → Type 0
+unfoldable pub IsDeclaration : {I : Type 0} → (Admitted : I → Type 0) → DeclarationTree I → Type 0
 IsDeclaration Admitted d = IsDeclarator Admitted d.first × All (λ further. IsDeclarator Admitted further.1) d.rest
 
--- a global starts with a constant
-abbrev pub IsGlobalDeclaration : DeclarationTree → Type 0
-IsGlobalDeclaration = IsDeclaration IsSignedConstant
+-- a global may start with any number
+abbrev pub IsGlobalDeclaration : DeclarationTree SignedNumber → Type 0
+IsGlobalDeclaration = IsDeclaration (λ number. Unit {0})
 
 -- a variable of a block starts with the value of an expression
-abbrev pub IsLocalDeclaration : DeclarationTree → Type 0
+abbrev pub IsLocalDeclaration : DeclarationTree ExpressionTree → Type 0
 IsLocalDeclaration = IsDeclaration IsExpression
 
 -- ---- statements
@@ -217,17 +211,11 @@ unfoldable mutual
   ArePartItems NoStatements = Unit {0}
   ArePartItems (Statement s rest) = IsStatement s × IsPartItem s × ArePartItems rest
 
--- each parameter has a name
-abbrev pub AreNamed : ParametersTree → Type 0
-AreNamed NoParameters = Unit {0}
-AreNamed (Void at) = Unit {0}
-AreNamed (Listed first rest) = IsSome first.name × All (λ further. IsSome further.1.name) rest
-
--- the definition of a function names its parameters (C17 6.9.1)
+-- the definition of a function (C17 6.9.1)
 unfoldable pub IsFunction : FunctionTree → Type 0
-IsFunction f = AreNamed f.head.parameters × AreStatements (statements f.body.items)
+IsFunction f = AreStatements (statements f.body.items)
 
--- what may stand at file scope; a prototype need not name its parameters
+-- what may stand at file scope
 unfoldable pub IsItem : ItemTree → Type 0
 IsItem (Declaration d) = IsGlobalDeclaration d
 IsItem (Prototype h semicolon) = Unit {0}

@@ -33,16 +33,16 @@ abbrev mutual
 
 -- ---- the expressions that are no part of another one (C17 6.8, full expressions)
 
--- that of a declarator
-abbrev pub expressions_of_declarator : DeclaratorTree → List ExpressionTree
-expressions_of_declarator d = started d.initializer
+-- that of a declarator, which its initializer is
+abbrev pub expressions_of_declarator : {I : Type 0} → DeclaratorTree I → List I
+expressions_of_declarator {I} d = started d.initializer
   where
-    started : Option InitializerTree → List ExpressionTree
+    started : Option (InitializerTree I) → List I
     started (Some i) = i.value ∷ []
     started None = []
 
--- those of a declaration in a block
-abbrev pub expressions_of_declaration : DeclarationTree → List ExpressionTree
+-- those of a declaration
+abbrev pub expressions_of_declaration : {I : Type 0} → DeclarationTree I → List I
 expressions_of_declaration d = expressions_of_declarator d.first
     ++ flat_map (λ further. expressions_of_declarator further.1) d.rest
 

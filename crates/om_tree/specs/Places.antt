@@ -5,8 +5,8 @@ use Rattle.om_lexer.specs.declared.token.Punctuator.TheVariants as punctuators
 use Rattle.om_lexer.specs.declared.token.Token.{Token}
 use Rattle.om_pragma.specs.Spelling.{directive_spelling}
 use Rattle.om_tree.specs.Limits.{Limits, IsTooMuch, expressions_of_declaration}
-use Rattle.om_tree.specs.Spelling.{mark, word, perhaps, expression_spelling, declaration_spelling, condition_spelling}
-use Rattle.om_tree.specs.Spelling.{for_start_spelling, for_head_spelling, statement_spelling, head_spelling}
+use Rattle.om_tree.specs.Spelling.{mark, word, perhaps, expression_spelling, local_spelling, condition_spelling}
+use Rattle.om_tree.specs.Spelling.{for_start_spelling, for_head_spelling, statement_spelling, definition_spelling}
 use Rattle.om_tree.specs.Spelling.{item_spelling, section_spelling, statements_spelling}
 use Rattle.om_tree.specs.Formed.{IsBody}
 use Rattle.om_tree.specs.Tree.{ExpressionTree, DeclarationTree, ConditionTree, ForStartTree, Nothing, StartExpression}
@@ -60,8 +60,8 @@ abbrev pub IsOverInExpression : Limits → ExpressionTree → Place
 IsOverInExpression l e = IsOverIn expression_spelling (λ x. x ∷ []) l e
 
 -- in an initializer of a declaration
-abbrev pub IsOverInDeclaration : Limits → DeclarationTree → Place
-IsOverInDeclaration l d = IsOverIn declaration_spelling expressions_of_declaration l d
+abbrev pub IsOverInDeclaration : Limits → DeclarationTree ExpressionTree → Place
+IsOverInDeclaration l d = IsOverIn local_spelling expressions_of_declaration l d
 
 -- in an expression that may be left out
 abbrev pub InOptional : Limits → Option ExpressionTree → Place
@@ -162,7 +162,7 @@ IsOverInBlock l b = Either (AtBrace l 0) (Behind (mark punctuators.OpenBrace b.o
 abbrev pub IsOverInItem : Limits → ItemTree → Place
 IsOverInItem l (Declaration d) = Nowhere
 IsOverInItem l (Prototype h semicolon) = Nowhere
-IsOverInItem l (Function f) = Behind (head_spelling f.head) (IsOverInBlock l f.body)
+IsOverInItem l (Function f) = Behind (definition_spelling f.head) (IsOverInBlock l f.body)
 
 -- in one of several items
 abbrev pub IsOverInUnitItems : Limits → List ItemTree → Place

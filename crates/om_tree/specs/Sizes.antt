@@ -23,10 +23,10 @@ abbrev pub extent : ExpressionTree → ℕ
 extent e = length (expression_spelling e)
 
 -- the same of a declaration's initializers
-abbrev pub declaration_longest : DeclarationTree → ℕ
+abbrev pub declaration_longest : DeclarationTree ExpressionTree → ℕ
 declaration_longest d = most extent (expressions_of_declaration d)
 
-abbrev pub declaration_nesting : DeclarationTree → ℕ
+abbrev pub declaration_nesting : DeclarationTree ExpressionTree → ℕ
 declaration_nesting d = most nesting (expressions_of_declaration d)
 
 -- the same of a directive line; the parentheses of its clause stand round the expression

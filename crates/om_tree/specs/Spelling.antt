@@ -25,6 +25,7 @@ use Rattle.om_tree.specs.declared.tree.PrefixOperator.{PrefixOperator}
 use Rattle.om_tree.specs.declared.tree.PrefixOperator.TheVariants as prefixes
 use Rattle.om_tree.specs.declared.tree.ResultType.{ResultType}
 use Rattle.om_tree.specs.declared.tree.ResultType.TheVariants as results
+use Rattle.om_tree.specs.declared.tree.SignedNumber.{SignedNumber}
 use Rattle.om_tree.specs.declared.tree.Text as texts
 use Rattle.om_tree.specs.Tree.{ExpressionTree, Name, Constant, Text, Paren, Index, Call, Prefix, Postfix, Binary}
 use Rattle.om_tree.specs.Tree.{Conditional, Assign, ArgumentsTree, NoArguments, Argument, InitializerTree}
@@ -132,9 +133,13 @@ unfoldable mutual
   arguments_spelling (Argument comma e rest) = perhaps (λ at. mark punctuators.Comma at ∷ []) comma
       ++ expression_spelling e ++ arguments_spelling rest
 
--- C17 6.7.9
-unfoldable pub initializer_spelling : InitializerTree → List Token
-initializer_spelling i = mark punctuators.Equal i.equal ∷ expression_spelling i.value
+-- a number, perhaps behind a minus (C17 6.6)
+abbrev pub signed_spelling : SignedNumber → List Token
+signed_spelling s = perhaps (λ at. mark punctuators.Minus at ∷ []) s.minus ++ number s.number ∷ []
+
+-- C17 6.7.9; the value has this spelling
+unfoldable pub initializer_spelling : {I : Type 0} → (spell : I → List Token) → InitializerTree I → List Token
+initializer_spelling spell i = mark punctuators.Equal i.equal ∷ spell i.value
 
 -- the length of an array in its brackets
 abbrev pub array_spelling : ArrayLength → List Token
@@ -142,17 +147,26 @@ array_spelling a = mark punctuators.OpenBracket a.open_bracket ∷ number a.size
     a.close_bracket ∷ []
 
 -- C17 6.7.6
-unfoldable pub declarator_spelling : DeclaratorTree → List Token
-declarator_spelling d = name d.name ∷ (perhaps array_spelling d.array ++ perhaps initializer_spelling d.initializer)
+unfoldable pub declarator_spelling : {I : Type 0} → (spell : I → List Token) → DeclaratorTree I → List Token
+declarator_spelling spell d = name d.name ∷ (perhaps array_spelling d.array
+    ++ perhaps (initializer_spelling spell) d.initializer)
 
 -- a declarator behind its comma
-unfoldable pub further_spelling : Span × DeclaratorTree → List Token
-further_spelling = behind_comma declarator_spelling
+unfoldable pub further_spelling : {I : Type 0} → (spell : I → List Token) → Span × DeclaratorTree I → List Token
+further_spelling spell = behind_comma (declarator_spelling spell)
 
 -- C17 6.7
-unfoldable pub declaration_spelling : DeclarationTree → List Token
-declaration_spelling d = word keywords.Int d.int ∷ (declarator_spelling d.first ++ flat_map further_spelling d.rest
-    ++ mark punctuators.Semicolon d.semicolon ∷ [])
+unfoldable pub declaration_spelling : {I : Type 0} → (spell : I → List Token) → DeclarationTree I → List Token
+declaration_spelling spell d = word keywords.Int d.int ∷ (declarator_spelling spell d.first
+    ++ flat_map (further_spelling spell) d.rest ++ mark punctuators.Semicolon d.semicolon ∷ [])
+
+-- in a block or a `for`
+abbrev pub local_spelling : DeclarationTree ExpressionTree → List Token
+local_spelling = declaration_spelling expression_spelling
+
+-- at file scope
+abbrev pub global_spelling : DeclarationTree SignedNumber → List Token
+global_spelling = declaration_spelling signed_spelling
 
 -- an expression in parentheses
 unfoldable pub condition_spelling : ConditionTree → List Token
@@ -163,7 +177,7 @@ condition_spelling c = mark punctuators.OpenParen c.open_paren
 unfoldable pub for_start_spelling : ForStartTree → List Token
 for_start_spelling (Nothing semicolon) = mark punctuators.Semicolon semicolon ∷ []
 for_start_spelling (StartExpression e semicolon) = expression_spelling e ++ mark punctuators.Semicolon semicolon ∷ []
-for_start_spelling (StartDeclaration d) = declaration_spelling d
+for_start_spelling (StartDeclaration d) = local_spelling d
 
 -- C17 6.8.5.3
 unfoldable pub for_head_spelling : ForHeadTree → List Token
@@ -179,7 +193,7 @@ section_spelling = perhaps (directive_spelling expression_spelling)
 unfoldable mutual
   -- C17 6.8
   pub statement_spelling : StatementTree → List Token
-  statement_spelling (LocalDeclaration d) = declaration_spelling d
+  statement_spelling (LocalDeclaration d) = local_spelling d
   statement_spelling (Block left items right) = mark punctuators.OpenBrace left
       ∷ (statements_spelling items ++ mark punctuators.CloseBrace right ∷ [])
   statement_spelling (Empty semicolon) = mark punctuators.Semicolon semicolon ∷ []
@@ -226,26 +240,38 @@ abbrev pub result_spelling : ResultType → Token
 result_spelling (results.Int at) = word keywords.Int at
 result_spelling (results.Void at) = word keywords.Void at
 
--- C17 6.7.6.3
-abbrev pub parameter_spelling : Parameter → List Token
-parameter_spelling p = word keywords.Int p.int ∷ perhaps (λ n. name n ∷ []) p.name
+-- the name of a parameter in a definition
+abbrev pub given_name : names.Name → List Token
+given_name n = name n ∷ []
+
+-- C17 6.7.6.3; its name has this spelling
+abbrev pub parameter_spelling : {N : Type 0} → (spell : N → List Token) → Parameter N → List Token
+parameter_spelling spell p = word keywords.Int p.int ∷ spell p.name
 
 -- C17 6.7.6.3
-unfoldable pub parameters_spelling : ParametersTree → List Token
-parameters_spelling NoParameters = []
-parameters_spelling (Void at) = word keywords.Void at ∷ []
-parameters_spelling (Listed first rest) = parameter_spelling first ++ flat_map (behind_comma parameter_spelling) rest
+unfoldable pub parameters_spelling : {N : Type 0} → (spell : N → List Token) → ParametersTree N → List Token
+parameters_spelling spell NoParameters = []
+parameters_spelling spell (Void at) = word keywords.Void at ∷ []
+parameters_spelling spell (Listed first rest) = parameter_spelling spell first
+    ++ flat_map (behind_comma (parameter_spelling spell)) rest
 
 -- C17 6.7.6.3
-unfoldable pub head_spelling : HeadTree → List Token
-head_spelling h = result_spelling h.result ∷ name h.name ∷ mark punctuators.OpenParen h.open_paren
-    ∷ (parameters_spelling h.parameters ++ mark punctuators.CloseParen h.close_paren ∷ [])
+unfoldable pub head_spelling : {N : Type 0} → (spell : N → List Token) → HeadTree N → List Token
+head_spelling spell h = result_spelling h.result ∷ name h.name ∷ mark punctuators.OpenParen h.open_paren
+    ∷ (parameters_spelling spell h.parameters ++ mark punctuators.CloseParen h.close_paren ∷ [])
+
+-- the head of a definition, and that of a prototype
+abbrev pub definition_spelling : HeadTree names.Name → List Token
+definition_spelling = head_spelling given_name
+
+abbrev pub prototype_spelling : HeadTree (Option names.Name) → List Token
+prototype_spelling = head_spelling (perhaps given_name)
 
 -- C17 6.9
 unfoldable pub item_spelling : ItemTree → List Token
-item_spelling (Declaration d) = declaration_spelling d
-item_spelling (Prototype h semicolon) = head_spelling h ++ mark punctuators.Semicolon semicolon ∷ []
-item_spelling (Function f) = head_spelling f.head ++ block_spelling f.body
+item_spelling (Declaration d) = global_spelling d
+item_spelling (Prototype h semicolon) = prototype_spelling h ++ mark punctuators.Semicolon semicolon ∷ []
+item_spelling (Function f) = definition_spelling f.head ++ block_spelling f.body
 
 -- all tokens of a source (C17 6.9), its end last
 unfoldable pub unit_spelling : UnitTree → List Token

@@ -11,6 +11,7 @@ use Rattle.om_tree.specs.declared.tree.Parameter.{Parameter}
 use Rattle.om_tree.specs.declared.tree.PostfixOperator.{PostfixOperator}
 use Rattle.om_tree.specs.declared.tree.PrefixOperator.{PrefixOperator}
 use Rattle.om_tree.specs.declared.tree.ResultType.{ResultType}
+use Rattle.om_tree.specs.declared.tree.SignedNumber.{SignedNumber}
 use Rattle.om_tree.specs.declared.tree.Text as texts
 
 mutual
@@ -39,21 +40,21 @@ arguments [] = NoArguments
 arguments (a ∷ rest) = Argument a.0 a.1 (arguments rest)
 
 -- what a variable holds at the start (C17 6.7.9)
-pub record InitializerTree : Type 0 where
+pub record InitializerTree (I : Type 0) : Type 0 where
   pub equal : Span
-  pub value : ExpressionTree
+  pub value : I
 
 -- a declared variable (C17 6.7.6)
-pub record DeclaratorTree : Type 0 where
+pub record DeclaratorTree (I : Type 0) : Type 0 where
   pub name : names.Name
   pub array : Option ArrayLength
-  pub initializer : Option InitializerTree
+  pub initializer : Option (InitializerTree I)
 
 -- a declaration (C17 6.7); each further declarator stands behind its comma
-pub record DeclarationTree : Type 0 where
+pub record DeclarationTree (I : Type 0) : Type 0 where
   pub int : Span
-  pub first : DeclaratorTree
-  pub rest : List (Span × DeclaratorTree)
+  pub first : DeclaratorTree I
+  pub rest : List (Span × DeclaratorTree I)
   pub semicolon : Span
 
 -- an expression in parentheses behind a word
@@ -66,7 +67,7 @@ pub record ConditionTree : Type 0 where
 pub data ForStartTree : Type 0 where
   Nothing : (semicolon : Span) → ForStartTree
   StartExpression : ExpressionTree → (semicolon : Span) → ForStartTree
-  StartDeclaration : DeclarationTree → ForStartTree
+  StartDeclaration : DeclarationTree ExpressionTree → ForStartTree
 
 -- a `for` up to its closing parenthesis
 pub record ForHeadTree : Type 0 where
@@ -81,7 +82,7 @@ pub record ForHeadTree : Type 0 where
 mutual
   -- a statement or another item of a block (C17 6.8)
   pub data StatementTree : Type 0 where
-    LocalDeclaration : DeclarationTree → StatementTree
+    LocalDeclaration : DeclarationTree ExpressionTree → StatementTree
     Block : (left : Span) → StatementsTree → (right : Span) → StatementTree
     Empty : (semicolon : Span) → StatementTree
     Expression : ExpressionTree → (semicolon : Span) → StatementTree
@@ -129,28 +130,28 @@ pub record BlockTree : Type 0 where
   pub close_brace : Span
 
 -- what stands in the parentheses of a function's declaration (C17 6.7.6.3)
-pub data ParametersTree : Type 0 where
-  NoParameters : ParametersTree
-  Void : Span → ParametersTree
-  Listed : Parameter → List (Span × Parameter) → ParametersTree
+pub data ParametersTree (N : Type 0) : Type 0 where
+  NoParameters : ParametersTree N
+  Void : Span → ParametersTree N
+  Listed : Parameter N → List (Span × Parameter N) → ParametersTree N
 
 -- a function's result, name and parameters
-pub record HeadTree : Type 0 where
+pub record HeadTree (N : Type 0) : Type 0 where
   pub result : ResultType
   pub name : names.Name
   pub open_paren : Span
-  pub parameters : ParametersTree
+  pub parameters : ParametersTree N
   pub close_paren : Span
 
--- the definition of a function (C17 6.9.1)
+-- the definition of a function, which names its parameters (C17 6.9.1)
 pub record FunctionTree : Type 0 where
-  pub head : HeadTree
+  pub head : HeadTree names.Name
   pub body : BlockTree
 
--- what stands at file scope (C17 6.9)
+-- what stands at file scope (C17 6.9): globals start with a number, and a prototype need not name its parameters
 pub data ItemTree : Type 0 where
-  Declaration : DeclarationTree → ItemTree
-  Prototype : HeadTree → (semicolon : Span) → ItemTree
+  Declaration : DeclarationTree SignedNumber → ItemTree
+  Prototype : HeadTree (Option names.Name) → (semicolon : Span) → ItemTree
   Function : FunctionTree → ItemTree
 
 -- a translation unit (C17 6.9), with the place where the source ends

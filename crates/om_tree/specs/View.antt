@@ -20,6 +20,7 @@ use Rattle.om_tree.specs.declared.tree.Item.TheVariants as items
 use Rattle.om_tree.specs.declared.tree.Parameters.{Parameters}
 use Rattle.om_tree.specs.declared.tree.Parameters.TheVariants as parameters
 use Rattle.om_tree.specs.declared.tree.Part.{Part, Part-F, fold-Part}
+use Rattle.om_tree.specs.declared.tree.SignedNumber.{SignedNumber}
 use Rattle.om_tree.specs.declared.tree.Statement.{Statement, fold-Statement}
 use Rattle.om_tree.specs.declared.tree.Statement.TheOpen.{Statement-F}
 use Rattle.om_tree.specs.declared.tree.Unit as units
@@ -51,26 +52,42 @@ view_expression = fold-Expression ExpressionTree expression_layer
 abbrev pub view_argument : Option Span × Expression → Option Span × ExpressionTree
 view_argument a = (a.0, view_expression a.1)
 
--- the same of an initializer
-abbrev pub view_initializer : Initializer → InitializerTree
-view_initializer i = record { equal = i.equal; value = view_expression i.value }
+-- an initializer, whose value is viewed so
+abbrev pub view_initializer : {I T : Type 0} → (I → T) → Initializer I → InitializerTree T
+view_initializer view i = record { equal = i.equal; value = view i.value }
 
 -- a declarator without boxes and capacities
-abbrev pub view_declarator : Declarator → DeclaratorTree
-view_declarator d = record { name = d.name; array = d.array; initializer = option_map view_initializer d.initializer }
+abbrev pub view_declarator : {I T : Type 0} → (I → T) → Declarator I → DeclaratorTree T
+view_declarator view d = record {
+  name = d.name;
+  array = d.array;
+  initializer = option_map (view_initializer view) d.initializer;
+}
 
 -- a declarator behind its comma
-abbrev pub view_further : Span × Declarator → Span × DeclaratorTree
-view_further d = (d.0, view_declarator d.1)
+abbrev pub view_further : {I T : Type 0} → (I → T) → Span × Declarator I → Span × DeclaratorTree T
+view_further view d = (d.0, view_declarator view d.1)
 
 -- a declaration without boxes and capacities
-abbrev pub view_declaration : declarations.Declaration → DeclarationTree
-view_declaration d = record {
+abbrev pub view_declaration : {I T : Type 0} → (I → T) → declarations.Declaration I → DeclarationTree T
+view_declaration view d = record {
   int = d.int;
-  first = view_declarator d.first;
-  rest = map view_further d.rest.items;
+  first = view_declarator view d.first;
+  rest = map (view_further view) d.rest.items;
   semicolon = d.semicolon;
 }
+
+-- a declaration in a block or a `for`
+abbrev pub view_local : declarations.Declaration Expression → DeclarationTree ExpressionTree
+view_local = view_declaration view_expression
+
+-- a number is its own tree
+abbrev pub view_number : SignedNumber → SignedNumber
+view_number number = number
+
+-- a declaration at file scope
+abbrev pub view_global : declarations.Declaration SignedNumber → DeclarationTree SignedNumber
+view_global = view_declaration view_number
 
 -- an expression in parentheses, as a tree
 abbrev pub view_condition : Condition → ConditionTree
@@ -80,7 +97,7 @@ view_condition c = record { open_paren = c.open_paren; value = view_expression c
 abbrev pub view_for_start : ForStart → ForStartTree
 view_for_start (starts.Nothing semicolon) = trees.Nothing semicolon
 view_for_start (starts.Expression e semicolon) = trees.StartExpression (view_expression e) semicolon
-view_for_start (starts.Declaration d) = trees.StartDeclaration (view_declaration d)
+view_for_start (starts.Declaration d) = trees.StartDeclaration (view_local d)
 
 -- a `for` up to its closing parenthesis, as a tree
 abbrev pub view_for_head : ForHead → ForHeadTree
@@ -100,7 +117,7 @@ view_directive = map_directive view_expression
 
 -- one layer of a statement, whose parts are trees already
 abbrev pub statement_layer : Statement-F StatementTree PartTree → StatementTree
-statement_layer (Statement-F.Declaration d) = trees.LocalDeclaration (view_declaration d.value)
+statement_layer (Statement-F.Declaration d) = trees.LocalDeclaration (view_local d.value)
 statement_layer (Statement-F.Block left items right) = trees.Block left (trees.statements items.items) right
 statement_layer (Statement-F.Empty semicolon) = trees.Empty semicolon
 statement_layer (Statement-F.Expression e semicolon) = trees.Expression (view_expression e.value) semicolon
@@ -143,13 +160,13 @@ view_block b = record {
 }
 
 -- parameters without capacities
-abbrev pub view_parameters : Parameters → ParametersTree
+abbrev pub view_parameters : {N : Type 0} → Parameters N → ParametersTree N
 view_parameters parameters.Nothing = trees.NoParameters
 view_parameters (parameters.Void at) = trees.Void at
 view_parameters (parameters.Listed first rest) = trees.Listed first rest.items
 
 -- a function's result, name and parameters, as a tree
-abbrev pub view_head : FunctionHead → HeadTree
+abbrev pub view_head : {N : Type 0} → FunctionHead N → HeadTree N
 view_head h = record {
   result = h.result;
   name = h.name;
@@ -165,7 +182,7 @@ view_function f = record { head = view_head f.head; body = view_block f.body }
 
 -- what stands at file scope, as a tree
 abbrev pub view_item : Item → ItemTree
-view_item (items.Declaration d) = trees.Declaration (view_declaration d)
+view_item (items.Declaration d) = trees.Declaration (view_global d)
 view_item (items.Prototype h semicolon) = trees.Prototype (view_head h) semicolon
 view_item (items.Function f) = trees.Function (view_function f)
 

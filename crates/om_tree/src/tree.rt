@@ -153,30 +153,38 @@ pub struct ArrayLength {
     pub close_bracket: Span,
 }
 
-/// What a declared variable holds at the start (C17 6.7.9).
+/// A number, perhaps behind a minus: what a global may hold at the start (C17 6.6).
+#[derive(Clone, Copy)]
+pub struct SignedNumber {
+    /// The span of the minus.
+    pub minus: Option<Span>,
+    pub number: Number,
+}
+
+/// What a declared variable holds at the start (C17 6.7.9): an `I`.
 #[derive(Drop)]
-pub struct Initializer {
+pub struct Initializer<I> {
     pub equal: Span,
-    /// For a global a constant, perhaps with a minus.
-    pub value: Expression,
+    pub value: I,
 }
 
 /// A declared variable (C17 6.7.6): of an array its length, else perhaps an initializer.
 #[derive(Drop)]
-pub struct Declarator {
+pub struct Declarator<I> {
     pub name: Name,
     pub array: Option<ArrayLength>,
-    pub initializer: Option<Initializer>,
+    pub initializer: Option<Initializer<I>>,
 }
 
-/// A declaration of `int` variables (C17 6.7), of a file, a block or a `for`.
+/// A declaration of `int` variables (C17 6.7). They start with an [`Expression`] in a block or a
+/// `for`, and with a [`SignedNumber`] at file scope.
 #[derive(Drop)]
-pub struct Declaration {
+pub struct Declaration<I> {
     /// The span of `int`.
     pub int: Span,
-    pub first: Declarator,
+    pub first: Declarator<I>,
     /// Each further declarator, behind the span of its comma.
-    pub rest: Vec<(Span, Declarator)>,
+    pub rest: Vec<(Span, Declarator<I>)>,
     pub semicolon: Span,
 }
 
@@ -194,7 +202,7 @@ pub enum ForStart {
     /// Nothing but the semicolon.
     Nothing(Span),
     Expression { value: Expression, semicolon: Span },
-    Declaration(Declaration),
+    Declaration(Declaration<Expression>),
 }
 
 /// A `for` up to its closing parenthesis (C17 6.8.5.3).
@@ -226,7 +234,7 @@ pub struct Part {
 #[cycle(statement)]
 pub enum Statement {
     /// A declaration, which stands only directly in a block.
-    Declaration(Box<Declaration>),
+    Declaration(Box<Declaration<Expression>>),
     Block {
         open_brace: Span,
         items: Vec<Statement>,
@@ -313,49 +321,53 @@ pub enum ResultType {
     Void(Span),
 }
 
-/// A parameter (C17 6.7.6.3), which has a name in a definition.
+/// A parameter (C17 6.7.6.3), whose name is an `N`.
 #[derive(Drop)]
-pub struct Parameter {
+pub struct Parameter<N> {
     /// The span of `int`.
     pub int: Span,
-    pub name: Option<Name>,
+    pub name: N,
 }
 
 /// What stands in the parentheses of a function's declaration.
 #[derive(Drop)]
-pub enum Parameters {
+pub enum Parameters<N> {
     Nothing,
     Void(Span),
     Listed {
-        first: Parameter,
+        first: Parameter<N>,
         /// Each further one behind the span of its comma.
-        rest: Vec<(Span, Parameter)>,
+        rest: Vec<(Span, Parameter<N>)>,
     },
 }
 
-/// A function's result, name and parameters (C17 6.7.6.3).
+/// A function's result, name and parameters (C17 6.7.6.3). In a definition each parameter has a
+/// [`Name`], and in a prototype perhaps one.
 #[derive(Drop)]
-pub struct FunctionHead {
+pub struct FunctionHead<N> {
     pub result: ResultType,
     pub name: Name,
     pub open_paren: Span,
-    pub parameters: Parameters,
+    pub parameters: Parameters<N>,
     pub close_paren: Span,
 }
 
-/// The definition of a function (C17 6.9.1).
+/// The definition of a function, which names its parameters (C17 6.9.1).
 #[derive(Drop)]
 pub struct Function {
-    pub head: FunctionHead,
+    pub head: FunctionHead<Name>,
     pub body: Block,
 }
 
 /// What stands at file scope (C17 6.9).
 #[derive(Drop)]
 pub enum Item {
-    Declaration(Declaration),
+    Declaration(Declaration<SignedNumber>),
     /// A function that is declared.
-    Prototype { head: FunctionHead, semicolon: Span },
+    Prototype {
+        head: FunctionHead<Option<Name>>,
+        semicolon: Span,
+    },
     Function(Function),
 }
 

@@ -1,7 +1,6 @@
 use Rattle.std.proofs.Common.{length, map}
 use Rattle.om_lexer.specs.declared.token.Punctuator.TheVariants.{Semicolon}
-use Rattle.om_parts.specs.DeclarationReading.{initial_at, further_at}
-use Rattle.om_tree.specs.Limits.{accepted}
+use Rattle.om_parts.specs.DeclarationReading.{further_at}
 use Rattle.om_parts.specs.Reading.{take_mark}
 use Rattle.om_parts.specs.Repetition.{until}
 use Rattle.om_tree.specs.View.{view_further}
@@ -9,9 +8,9 @@ use Rattle.om_parts.proofs.Loops.{GoesOn}
 use Rattle.om_parts.proofs.declaration.further_declarators.Given as goal
 
 abbrev pub invariant-declarators : goal.invariant-declarators
-invariant-declarators l = GoesOn (take_mark Semicolon) (further_at (initial_at accepted l.fn.initial))
-    (map view_further l.declarators.items) l.rest
-    (until (take_mark Semicolon) (further_at (initial_at accepted l.fn.initial)) (length l.tokens) l.tokens)
+invariant-declarators g l = GoesOn (take_mark Semicolon) (further_at (g.I.Initial.reader l.fn.room))
+    (map (view_further g.I.Initial.view) l.declarators.items) l.rest
+    (until (take_mark Semicolon) (further_at (g.I.Initial.reader l.fn.room)) (length l.tokens) l.tokens)
 
 abbrev pub decreases-declarators : goal.decreases-declarators
-decreases-declarators l = length l.rest
+decreases-declarators g l = length l.rest
