@@ -66,7 +66,6 @@ pub fn statement_first(statement: &Statement) -> Span
         Statement::Construct { directive, .. } => directive.hash,
         Statement::StandAlone(directive) => directive.hash,
         Statement::Sections { directive, .. } => directive.hash,
-        Statement::Section { directive, .. } => directive.hash,
     }
 }
 

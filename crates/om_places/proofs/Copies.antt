@@ -3,8 +3,9 @@ use Rattle.std.proofs.Common.{ℕ, Bool, true, false, not, List, [], ◌∷◌, 
 use Rattle.std.specs.Prelude.{IfSome}
 use Rattle.std.proofs.lemmas.List.Elements.{All-nil, All-cons, All-append, All-head, All-tail}
 use Rattle.om_lexer.specs.declared.token.Span.{Span}
-use Rattle.om_places.proofs.Steps.{either, if_all_of, if_behind, if_each, if_mapped, if_then}
+use Rattle.om_places.proofs.Steps.{either, if_all_of, if_behind, if_each, if_then}
 use Rattle.om_places.specs.Behind.{IsNameBehind, ItemNamesBehind, NamesBehind, NamesBehindIn, listed_names}
+use Rattle.om_places.specs.Behind.{NamesBehindInParts}
 use Rattle.om_places.specs.Laws.{CopiesStandBehind}
 use Rattle.om_pragma.specs.declared.clause.Clause.{Clause}
 use Rattle.om_pragma.specs.declared.clause.Clause.TheVariants as clauses
@@ -25,7 +26,6 @@ use Rattle.om_resolved.specs.ResolvedTree as resolved
 use Rattle.om_resolved.specs.ResolvedTree.{ResolvedClauseTree, ResolvedFunctionTree, ResolvedLoopTree}
 use Rattle.om_resolved.specs.ResolvedTree.{ResolvedPartsTree, ResolvedStatementTree, ResolvedUpdateTree}
 use Rattle.om_rules.specs.DirectiveRules.{in_construct, names_in, parallel_in, traits_of}
-use Rattle.om_rules.specs.Grouping.{Grouped, grouped, parts_of}
 use Rattle.om_rules.specs.Loops.{Loop, loop_in}
 use Rattle.om_rules.specs.Perhaps.{all_along, each}
 use Rattle.om_rules.specs.Resolution.{resolved_expression, variable_named}
@@ -39,14 +39,14 @@ use Rattle.om_rules.specs.StatementResolution.{resolved_loop_construct, resolved
 use Rattle.om_rules.specs.StatementResolution.{resolved_plain_construct, resolved_repeated, resolved_start}
 use Rattle.om_rules.specs.StatementResolution.{resolved_statement, resolved_statements, schedule_of}
 use Rattle.om_rules.specs.StatementResolution.{sections_construct_of, with_update}
-use Rattle.om_rules.specs.StatementRules.{after_for_start, after_statement, begins_part, in_loop, parts_behind}
+use Rattle.om_rules.specs.StatementRules.{after_for_start, after_statement, in_loop}
 use Rattle.om_rules.specs.StatementRules.{round_bounds}
 use Rattle.om_rules.specs.UnitResolution.{item_functions, resolution_of, resolved_function}
 use Rattle.om_rules.specs.Updates.{statement_side, update_of}
 use Rattle.om_tree.specs.Tree.{ExpressionTree, FunctionTree, ItemTree, Declaration, Prototype, Function, StatementTree}
 use Rattle.om_tree.specs.Tree.{LocalDeclaration, Block, Empty, Expression, If, IfElse, While, Do, For, Return, Break}
-use Rattle.om_tree.specs.Tree.{Continue, Construct, StandAlone, Sections, Section, StatementsTree, NoStatements}
-use Rattle.om_tree.specs.Tree.{Statement, statements}
+use Rattle.om_tree.specs.Tree.{Continue, Construct, StandAlone, Sections, StatementsTree, NoStatements}
+use Rattle.om_tree.specs.Tree.{Statement, statements, PartsTree, NoParts, Part}
 
 -- in a statement each region's copies stand behind its beginning
 abbrev Good : ResolvedStatementTree → Type 0
@@ -163,19 +163,11 @@ alone_good scopes d (directives.Task s) = tt
 alone_good scopes d (directives.Taskgroup s) = tt
 alone_good scopes d (directives.Flush s list) = if_behind Good (flushed scopes list) _ (λ vs. tt)
 
--- items of `sections`
-abbrev AreGoodItems : Grouped → Type 0
-AreGoodItems items = AreGood items.front × AreGoodParts items.parts
-
-item_good : (begins : Bool) (s : ResolvedStatementTree) (rest : Grouped) → Good s → AreGoodItems rest
-    → AreGoodItems (grouped begins s rest)
-item_good true s rest h hr = (tt, ((h, hr.0), hr.1))
-item_good false s rest h hr = ((h, hr.0), hr.1)
-
 -- ---- statements
 
 mutual
   unfolding resolved_statement resolved_statements resolved_repeated resolved_parts NamesBehind NamesBehindIn
+      NamesBehindInParts
 
   statement_good : (scopes : Scopes) (parallel : Option ℕ) (s : StatementTree) → NamesBehind s
       → IfSome (resolved_statement scopes parallel s) Good
@@ -220,12 +212,10 @@ mutual
       if_then Good Good _ _ (repeated_good (in_construct d scopes) (parallel_in d parallel) found s h.1)
       (λ body hb. loop_good d cs l body hc hb)))))
   statement_good scopes parallel (StandAlone d) h = alone_good scopes d d.name
-  statement_good scopes parallel (Sections d left items right) h =
+  statement_good scopes parallel (Sections d left parts right) h =
       if_then (All (IsCopyBehind d.hash.start)) Good _ _ (clauses_behind d.hash.start scopes d.clauses h.0) (λ cs hc.
-      if_then AreGoodParts Good _ _ (if_mapped AreGoodItems AreGoodParts _ parts_of
-      (parts_good (in_construct d scopes) (parallel_in d parallel) 0 items h.1) (λ g hg. hg.1))
-      (λ parts hp. sections_good d cs parts hc hp))
-  statement_good scopes parallel (Section d s) h = statement_good (inside scopes) parallel s h.1
+      if_then AreGoodParts Good _ _ (parts_good (in_construct d scopes) (parallel_in d parallel) parts h.1)
+      (λ ps hp. sections_good d cs ps hc hp))
 
   statements_good : (scopes : Scopes) (parallel : Option ℕ) (ss : StatementsTree) → NamesBehindIn ss
       → IfSome (resolved_statements scopes parallel ss) AreGood
@@ -251,15 +241,13 @@ mutual
   repeated_good scopes parallel found (Construct d s) h = tt
   repeated_good scopes parallel found (StandAlone d) h = tt
   repeated_good scopes parallel found (Sections d left parts right) h = tt
-  repeated_good scopes parallel found (Section d s) h = tt
 
-  parts_good : (scopes : Scopes) (parallel : Option ℕ) (before : ℕ) (items : StatementsTree) → NamesBehindIn items
-      → IfSome (resolved_parts scopes parallel before items) AreGoodItems
-  parts_good scopes parallel before NoStatements h = (tt, tt)
-  parts_good scopes parallel before (Statement s rest) h =
-      if_then Good AreGoodItems _ _ (statement_good (inside scopes) parallel s h.0) (λ t ht.
-      if_then AreGoodItems AreGoodItems _ _ (parts_good scopes parallel (parts_behind before s) rest h.1) (λ g hg.
-      item_good (begins_part before s) t g ht hg))
+  parts_good : (scopes : Scopes) (parallel : Option ℕ) (parts : PartsTree) → NamesBehindInParts parts
+      → IfSome (resolved_parts scopes parallel parts) AreGoodParts
+  parts_good scopes parallel NoParts h = tt
+  parts_good scopes parallel (Part section items rest) h =
+      if_then AreGood AreGoodParts _ _ (statements_good (inside scopes) parallel items h.1) (λ ss hs.
+      if_then AreGoodParts AreGoodParts _ _ (parts_good scopes parallel rest h.2) (λ ps hp. (hs, hp)))
 
 -- ---- functions
 

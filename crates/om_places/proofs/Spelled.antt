@@ -1,5 +1,5 @@
 -- In a tree whose tokens rise, the names that clauses list stand behind their directives' beginnings.
-use Rattle.std.proofs.Common.{ℕ, List, [], ◌∷◌, ◌++◌, All, sym, subst}
+use Rattle.std.proofs.Common.{ℕ, List, [], ◌∷◌, ◌++◌, Option, Some, None, All, sym, subst}
 use Rattle.std.specs.List.{flat_map}
 use Rattle.std.proofs.lemmas.List.Elements.{All-nil, All-cons}
 use Rattle.om_lexer.specs.declared.token.Token.{Token}
@@ -8,15 +8,17 @@ use Rattle.om_lexer.specs.Sources.{IsTokens}
 use Rattle.om_places.proofs.ClauseNames.{directive_behind}
 use Rattle.om_places.proofs.Rising.{Rises, rises, rises_back, rises_front}
 use Rattle.om_places.specs.Behind.{HasNamesBehind, ItemNamesBehind, NamesBehind, NamesBehindIn}
+use Rattle.om_places.specs.Behind.{NamesBehindInParts, SectionHasNamesBehind}
 use Rattle.om_places.specs.Laws.{NamesStandBehind}
 use Rattle.om_pragma.specs.declared.tree.Directive.{Directive}
 use Rattle.om_pragma.specs.Spelling.{directive_spelling}
 use Rattle.om_tree.specs.Spelling.{block_spelling, condition_spelling, expression_spelling, for_head_spelling}
 use Rattle.om_tree.specs.Spelling.{head_spelling, item_spelling, statement_spelling, statements_spelling, unit_spelling}
+use Rattle.om_tree.specs.Spelling.{parts_spelling, section_spelling}
 use Rattle.om_tree.specs.Tree.{ExpressionTree, ItemTree, Declaration, Prototype, Function, StatementTree}
 use Rattle.om_tree.specs.Tree.{LocalDeclaration, Block, Empty, Expression, If, IfElse, While, Do, For, Return, Break}
-use Rattle.om_tree.specs.Tree.{Continue, Construct, StandAlone, Sections, Section, StatementsTree, NoStatements}
-use Rattle.om_tree.specs.Tree.{Statement, statements}
+use Rattle.om_tree.specs.Tree.{Continue, Construct, StandAlone, Sections, StatementsTree, NoStatements}
+use Rattle.om_tree.specs.Tree.{Statement, statements, PartsTree, NoParts, Part}
 
 -- the tokens of a line
 abbrev line : Directive ExpressionTree → List Token
@@ -26,8 +28,13 @@ line = directive_spelling expression_spelling
 line_behind : (d : Directive ExpressionTree) (rest : List Token) → Rises (line d ++ rest) → HasNamesBehind d
 line_behind d rest h = directive_behind expression_spelling d (rises_front (line d) rest h)
 
+section_behind : (section : Option (Directive ExpressionTree)) → Rises (section_spelling section)
+    → SectionHasNamesBehind section
+section_behind None h = tt
+section_behind (Some d) h = directive_behind expression_spelling d h
+
 mutual
-  unfolding statement_spelling statements_spelling NamesBehind NamesBehindIn
+  unfolding statement_spelling statements_spelling parts_spelling NamesBehind NamesBehindIn NamesBehindInParts
 
   statement_behind : (s : StatementTree) → Rises (statement_spelling s) → NamesBehind s
   statement_behind (LocalDeclaration d) h = tt
@@ -48,10 +55,9 @@ mutual
   statement_behind (Continue at semicolon) h = tt
   statement_behind (Construct d s) h = (line_behind d _ h, statement_behind s (rises_back (line d) _ h))
   statement_behind (StandAlone d) h = directive_behind expression_spelling d h
-  statement_behind (Sections d left items right) h =
+  statement_behind (Sections d left parts right) h =
       let braces = rises_back (line d) _ h in
-      (line_behind d _ h, statements_behind items (rises_front (statements_spelling items) _ braces.1))
-  statement_behind (Section d s) h = (line_behind d _ h, statement_behind s (rises_back (line d) _ h))
+      (line_behind d _ h, parts_behind parts (rises_front (parts_spelling parts) _ braces.1))
 
   statements_behind : (ss : StatementsTree) → Rises (statements_spelling ss) → NamesBehindIn ss
   statements_behind NoStatements h = tt
@@ -59,6 +65,16 @@ mutual
     statement_behind s (rises_front (statement_spelling s) _ h),
     statements_behind rest (rises_back (statement_spelling s) _ h),
   )
+
+  parts_behind : (parts : PartsTree) → Rises (parts_spelling parts) → NamesBehindInParts parts
+  parts_behind NoParts h = tt
+  parts_behind (Part section items rest) h =
+      let own = section_spelling section ++ statements_spelling items in
+      let first = rises_front own _ h in (
+        section_behind section (rises_front (section_spelling section) _ first),
+        statements_behind items (rises_back (section_spelling section) _ first),
+        parts_behind rest (rises_back own _ h),
+      )
 
 listed_behind : (items : List StatementTree) → Rises (flat_map statement_spelling items)
     → NamesBehindIn (statements items)

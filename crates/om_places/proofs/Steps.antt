@@ -16,12 +16,6 @@ pub if_behind : {A B : Type 0} (Q : B → Type 0) (o : Option A) (f : A → Opti
 if_behind Q None f next = tt
 if_behind Q (Some x) f next = next x
 
--- of what is made of it
-pub if_mapped : {A B : Type 0} (P : A → Type 0) (Q : B → Type 0) (o : Option A) (f : A → B) → IfSome o P
-    → ((x : A) → P x → Q (f x)) → IfSome (option_map f o) Q
-if_mapped P Q None f h next = tt
-if_mapped P Q (Some x) f h next = next x h
-
 -- of one of two
 pub either : {A : Type 0} (P : A → Type 0) (test : Bool) (x y : A) → P x → P y → P (cond test x y)
 either P true x y hx hy = hx

@@ -1,14 +1,14 @@
 -- Where the names stand that the clauses of a directive list.
-use Rattle.std.specs.Prelude.{ℕ, ◌≤◌, List, [], All}
+use Rattle.std.specs.Prelude.{ℕ, ◌≤◌, List, [], Option, Some, None, All}
 use Rattle.om_pragma.specs.declared.clause.Clause.{Clause}
 use Rattle.om_pragma.specs.declared.clause.Clause.TheVariants as clauses
 use Rattle.om_pragma.specs.declared.name.Name as names
 use Rattle.om_pragma.specs.declared.tree.Directive.{Directive}
 use Rattle.om_rules.specs.DirectiveRules.{names_in}
 use Rattle.om_tree.specs.Tree.{StatementTree, LocalDeclaration, Block, Empty, Expression, If, IfElse, While, Do, For}
-use Rattle.om_tree.specs.Tree.{Return, Break, Continue, Construct, StandAlone, Sections, Section, StatementsTree}
+use Rattle.om_tree.specs.Tree.{Return, Break, Continue, Construct, StandAlone, Sections, StatementsTree}
 use Rattle.om_tree.specs.Tree.{NoStatements, Statement, statements, ItemTree, Declaration, Prototype, Function}
-use Rattle.om_tree.specs.Tree.{UnitTree}
+use Rattle.om_tree.specs.Tree.{ExpressionTree, UnitTree, PartsTree, NoParts, Part}
 
 -- the names that a clause lists
 abbrev pub listed_names : {E : Type 0} → Clause E → List names.Name
@@ -25,6 +25,11 @@ IsNameBehind start name = start ≤ name.span.start
 -- each name that a clause lists stands no earlier than its directive begins
 abbrev pub HasNamesBehind : {E : Type 0} → Directive E → Type 0
 HasNamesBehind d = All (λ item. All (IsNameBehind d.hash.start) (listed_names item.clause)) d.clauses
+
+-- the same of a `section`, if there is one
+abbrev pub SectionHasNamesBehind : Option (Directive ExpressionTree) → Type 0
+SectionHasNamesBehind None = Unit {0}
+SectionHasNamesBehind (Some d) = HasNamesBehind d
 
 -- the same of each directive in a statement
 unfoldable mutual
@@ -43,12 +48,16 @@ unfoldable mutual
   NamesBehind (Continue at semicolon) = Unit {0}
   NamesBehind (Construct d s) = HasNamesBehind d × NamesBehind s
   NamesBehind (StandAlone d) = HasNamesBehind d
-  NamesBehind (Sections d left items right) = HasNamesBehind d × NamesBehindIn items
-  NamesBehind (Section d s) = HasNamesBehind d × NamesBehind s
+  NamesBehind (Sections d left parts right) = HasNamesBehind d × NamesBehindInParts parts
 
   pub NamesBehindIn : StatementsTree → Type 0
   NamesBehindIn NoStatements = Unit {0}
   NamesBehindIn (Statement s rest) = NamesBehind s × NamesBehindIn rest
+
+  pub NamesBehindInParts : PartsTree → Type 0
+  NamesBehindInParts NoParts = Unit {0}
+  NamesBehindInParts (Part section items rest) = SectionHasNamesBehind section × NamesBehindIn items
+      × NamesBehindInParts rest
 
 abbrev pub ItemNamesBehind : ItemTree → Type 0
 ItemNamesBehind (Declaration d) = Unit {0}

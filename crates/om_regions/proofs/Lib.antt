@@ -1,2 +1,1 @@
 pub mod Clauses
-pub mod PartItems
