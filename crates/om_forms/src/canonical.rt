@@ -146,11 +146,11 @@ fn assigned_start(expression: &Expression) -> Option<LoopStart<'_>>
 fn initialized_start<'a>(
     variable: &'a Name,
     array: &Option<ArrayLength>,
-    initializer: &'a Option<Initializer>,
+    initializer: &'a Option<Initializer<Expression>>,
 ) -> Option<LoopStart<'a>>
     ensures { option_map view_start result
         ≡ loops.initialized_start variable.now array.now
-        (option_map view_initializer initializer.now) }
+        (option_map (view_initializer view_expression) initializer.now) }
 {
     let None = array else {
         return None;
@@ -164,9 +164,13 @@ fn initialized_start<'a>(
 }
 
 /// What a declaration begins a loop with.
-fn declared_start<'a>(first: &'a Declarator, rest: &[(Span, Declarator)]) -> Option<LoopStart<'a>>
+fn declared_start<'a>(
+    first: &'a Declarator<Expression>,
+    rest: &[(Span, Declarator<Expression>)],
+) -> Option<LoopStart<'a>>
     ensures { option_map view_start result
-        ≡ loops.declared_start (view_declarator first.now) (map view_further rest.now) }
+        ≡ loops.declared_start (view_declarator view_expression first.now)
+        (map (view_further view_expression) rest.now) }
 {
     let [] = rest else {
         return None;

@@ -77,7 +77,7 @@ pub fn statement_start(statement: &Statement) -> u32
 }
 
 /// The span of a function's first token.
-pub fn head_first(head: &FunctionHead) -> Span
+pub fn head_first<N>(head: &FunctionHead<N>) -> Span
     ensures { result ≡ head_first (view_head head.now) }
 {
     match head.result {

@@ -1,6 +1,6 @@
 -- Breaches of rules, and where they stand.
 use Rattle.std.specs.Prelude.{ℕ, List, [], ◌∷◌, ◌++◌, ◌&&◌, ◌||◌, nat_lt, nat_le, nat_eq, Option, None, Some, Bool}
-use Rattle.std.specs.Prelude.{true, if◌then◌else◌}
+use Rattle.std.specs.Prelude.{if◌then◌else◌}
 use Rattle.om_lexer.specs.Faults.{number_of}
 use Rattle.om_lexer.specs.declared.fault.FaultCode.{FaultCode}
 use Rattle.om_lexer.specs.declared.fault.FaultCode.TheVariants as faults
@@ -34,10 +34,6 @@ answered_among (Some fault) b = if goes_first fault b then fault else b
 abbrev pub perhaps_with : Bool → FaultCode → ℕ → List SourceFault → List SourceFault
 perhaps_with broken code at breaches = if broken then with_breach (record { code = code; at = at }) breaches else
     breaches
-
--- S3 at the first token of an unsupported form; nothing else of it is looked at
-abbrev pub untaken_breaches : ℕ → List SourceFault
-untaken_breaches at = breach_if true faults.Syntax at
 
 -- the breaches of parts in a row, each in the state behind those before it (C17 6.2.1p7)
 abbrev pub breaches_along : {S X : Type 0} → (S → X → List SourceFault) → (S → X → S) → S → List X → List SourceFault

@@ -110,13 +110,15 @@ assigned_start (Postfix e o at) = None
 assigned_start (Binary a o at b) = None
 assigned_start (Conditional c question a colon b) = None
 
-abbrev pub initialized_start : names.Name → Option ArrayLength → Option InitializerTree → Option LoopStart
+abbrev pub initialized_start : names.Name → Option ArrayLength → Option (InitializerTree ExpressionTree)
+    → Option LoopStart
 initialized_start n None None = None
 initialized_start n None (Some i) = Some (starts_at true i.value n)
 initialized_start n (Some array) initializer = None
 
 -- one variable is declared
-abbrev pub declared_start : DeclaratorTree → List (Span × DeclaratorTree) → Option LoopStart
+abbrev pub declared_start : DeclaratorTree ExpressionTree → List (Span × DeclaratorTree ExpressionTree)
+    → Option LoopStart
 declared_start d [] = initialized_start d.name d.array d.initializer
 declared_start d (further ∷ rest) = None
 

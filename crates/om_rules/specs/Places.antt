@@ -48,10 +48,10 @@ abbrev pub result_first : ResultType → Span
 result_first (results.Int at) = at
 result_first (results.Void at) = at
 
-abbrev pub head_first : HeadTree → Span
+abbrev pub head_first : {N : Type 0} → HeadTree N → Span
 head_first head = result_first head.result
 
-abbrev pub head_start : HeadTree → ℕ
+abbrev pub head_start : {N : Type 0} → HeadTree N → ℕ
 head_start head = (head_first head).start
 
 abbrev pub item_start : ItemTree → ℕ

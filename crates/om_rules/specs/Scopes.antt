@@ -12,8 +12,9 @@ use Rattle.om_pragma.specs.declared.name.Name as names
 use Rattle.om_tree.specs.declared.tree.Parameter.{Parameter}
 use Rattle.om_tree.specs.declared.tree.ResultType.{ResultType}
 use Rattle.om_tree.specs.declared.tree.ResultType.TheVariants as results
+use Rattle.om_tree.specs.declared.tree.SignedNumber.{SignedNumber}
 use Rattle.om_tree.specs.Tree.{DeclaratorTree, DeclarationTree, ParametersTree, NoParameters, Void, Listed, HeadTree}
-use Rattle.om_tree.specs.Tree.{ItemTree, Declaration, Prototype, Function}
+use Rattle.om_tree.specs.Tree.{ExpressionTree, ItemTree, Declaration, Prototype, Function}
 use Rattle.om_resolved.specs.declared.resolved.Variable.TheVariants as variables
 use Rattle.om_rules.specs.declared.meaning.Meaning.{Meaning}
 use Rattle.om_rules.specs.declared.meaning.Meaning.TheVariants as meanings
@@ -194,11 +195,11 @@ file_scope definitions = record {
 -- ---- what a declaration declares
 
 -- the declarators behind commas
-abbrev pub behind_commas : List (Span × DeclaratorTree) → List DeclaratorTree
+abbrev pub behind_commas : {I : Type 0} → List (Span × DeclaratorTree I) → List (DeclaratorTree I)
 behind_commas rest = map (λ further. further.1) rest
 
 -- the declarators of a declaration, in their order
-abbrev pub declarators_of : DeclarationTree → List DeclaratorTree
+abbrev pub declarators_of : {I : Type 0} → DeclarationTree I → List (DeclaratorTree I)
 declarators_of d = d.first ∷ behind_commas d.rest
 
 abbrev pub shape_of : Option ArrayLength → Shape
@@ -210,22 +211,22 @@ cells_of None = 1
 cells_of (Some array) = array.size.value
 
 -- the scopes behind the declarator of a local variable
-abbrev pub after_local : Scopes → DeclaratorTree → Scopes
+abbrev pub after_local : Scopes → DeclaratorTree ExpressionTree → Scopes
 after_local scopes d = with_local scopes d.name (shape_of d.array)
 
-abbrev pub after_locals : Scopes → List DeclaratorTree → Scopes
+abbrev pub after_locals : Scopes → List (DeclaratorTree ExpressionTree) → Scopes
 after_locals scopes ds = fold after_local scopes ds
 
 -- the scopes behind the declarator of a global
-abbrev pub after_global : Scopes → DeclaratorTree → Scopes
+abbrev pub after_global : Scopes → DeclaratorTree SignedNumber → Scopes
 after_global scopes d = with_global scopes d.name.text (shape_of d.array) (cells_of d.array)
 
-abbrev pub after_globals : Scopes → List DeclaratorTree → Scopes
+abbrev pub after_globals : Scopes → List (DeclaratorTree SignedNumber) → Scopes
 after_globals scopes ds = fold after_global scopes ds
 
 -- ---- functions
 
-abbrev pub parameters_of : ParametersTree → List Parameter
+abbrev pub parameters_of : {N : Type 0} → ParametersTree N → List (Parameter N)
 parameters_of NoParameters = []
 parameters_of (Void at) = []
 parameters_of (Listed first rest) = first ∷ map (λ further. further.1) rest
@@ -234,30 +235,37 @@ abbrev pub returns_value : ResultType → Bool
 returns_value (results.Int at) = true
 returns_value (results.Void at) = false
 
-abbrev pub signature_of : HeadTree → Signature
+abbrev pub signature_of : {N : Type 0} → HeadTree N → Signature
 signature_of head = record { returns = returns_value head.result; parameters = length (parameters_of head.parameters) }
 
 abbrev pub signature_eq : Signature → Signature → Bool
 signature_eq a b = (if a.returns then b.returns else not b.returns) && nat_eq a.parameters b.parameters
 
--- the scopes behind a parameter: it may lack a name in a prototype
-abbrev pub after_parameter_name : Scopes → Option names.Name → Scopes
-after_parameter_name scopes None = scopes
-after_parameter_name scopes (Some name) = with_local scopes name shapes.Scalar
+-- the scopes behind a parameter of a definition
+abbrev pub after_parameter : Scopes → Parameter names.Name → Scopes
+after_parameter scopes parameter = with_local scopes parameter.name shapes.Scalar
 
-abbrev pub after_parameter : Scopes → Parameter → Scopes
-after_parameter scopes parameter = after_parameter_name scopes parameter.name
-
-abbrev pub after_parameters : Scopes → List Parameter → Scopes
+abbrev pub after_parameters : Scopes → List (Parameter names.Name) → Scopes
 after_parameters scopes parameters = fold after_parameter scopes parameters
 
+-- and behind one of a prototype, which may lack a name
+abbrev pub after_optional_name : Scopes → Option names.Name → Scopes
+after_optional_name scopes None = scopes
+after_optional_name scopes (Some name) = with_local scopes name shapes.Scalar
+
+abbrev pub after_optional : Scopes → Parameter (Option names.Name) → Scopes
+after_optional scopes parameter = after_optional_name scopes parameter.name
+
+abbrev pub after_optionals : Scopes → List (Parameter (Option names.Name)) → Scopes
+after_optionals scopes parameters = fold after_optional scopes parameters
+
 -- the scopes behind a function's declaration, which may repeat an earlier one
-abbrev pub after_prototype : Scopes → HeadTree → Scopes
+abbrev pub after_prototype : {N : Type 0} → Scopes → HeadTree N → Scopes
 after_prototype scopes head = if is_declared scopes head.name.text then scopes else with_function scopes
     head.name.text (signature_of head)
 
 -- and behind its definition
-abbrev pub after_function : Scopes → HeadTree → Scopes
+abbrev pub after_function : Scopes → HeadTree names.Name → Scopes
 after_function scopes head = with_defined (after_prototype scopes head) head.name.text
 
 -- the scopes behind an item

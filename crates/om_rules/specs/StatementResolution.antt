@@ -55,18 +55,19 @@ local_of name = record { name = name.text; at = name.span.start }
 abbrev pub length_of : Option ArrayLength → Option ℕ
 length_of array = option_map (λ length. length.size.value) array
 
-abbrev pub resolved_initial : Scopes → Option InitializerTree → Option (Option resolved.ResolvedExpressionTree)
+abbrev pub resolved_initial : Scopes → Option (InitializerTree ExpressionTree)
+    → Option (Option resolved.ResolvedExpressionTree)
 resolved_initial scopes initializer = perhaps (λ i. resolved_expression scopes i.value) initializer
 
 -- an initializer reads the name itself
-unfoldable pub resolved_declarator : Scopes → DeclaratorTree → Option ResolvedDeclaratorTree
+unfoldable pub resolved_declarator : Scopes → DeclaratorTree ExpressionTree → Option ResolvedDeclaratorTree
 resolved_declarator scopes d = resolved_initial (after_local scopes d) d.initializer >>= λ initial. Some (record {
   variable = local_of d.name;
   length = length_of d.array;
   initial = initial;
 })
 
-abbrev pub resolved_declarators : Scopes → List DeclaratorTree → Option (List ResolvedDeclaratorTree)
+abbrev pub resolved_declarators : Scopes → List (DeclaratorTree ExpressionTree) → Option (List ResolvedDeclaratorTree)
 resolved_declarators = each_along resolved_declarator after_local
 
 -- ---- clauses

@@ -31,19 +31,19 @@ abbrev pub is_empty_array : Option ArrayLength → Bool
 is_empty_array None = false
 is_empty_array (Some array) = nat_eq array.size.value 0
 
-abbrev pub array_size_breaches : DeclaratorTree → List SourceFault
+abbrev pub array_size_breaches : {I : Type 0} → DeclaratorTree I → List SourceFault
 array_size_breaches d = breach_if (is_empty_array d.array) faults.Misuse d.name.span.start
 
-abbrev pub initializer_breaches : Scopes → Option InitializerTree → List SourceFault
+abbrev pub initializer_breaches : Scopes → Option (InitializerTree ExpressionTree) → List SourceFault
 initializer_breaches scopes None = []
 initializer_breaches scopes (Some initializer) = expression_breaches scopes true initializer.value
 
 -- the name's scope begins behind it, so its initializer reads the name itself (C17 6.2.1p7)
-unfoldable pub local_breaches : Scopes → DeclaratorTree → List SourceFault
+unfoldable pub local_breaches : Scopes → DeclaratorTree ExpressionTree → List SourceFault
 local_breaches scopes d = redeclared_breaches scopes d.name ++ array_size_breaches d ++ initializer_breaches
     (after_local scopes d) d.initializer
 
-abbrev pub locals_breaches : Scopes → List DeclaratorTree → List SourceFault
+abbrev pub locals_breaches : Scopes → List (DeclaratorTree ExpressionTree) → List SourceFault
 locals_breaches = breaches_along local_breaches after_local
 
 -- S14: a `break` or a `continue` outside of a loop (C17 6.8.6.2p1, 6.8.6.3p1), or a jump that leaves a construct

@@ -2,12 +2,13 @@
 use Rattle.std.specs.Prelude.{ℤ, pos, List, [], ◌∷◌, Option, None, Some, map}
 use Rattle.std.specs.List.{flat_map}
 use Rattle.om_tree.specs.declared.tree.Parameter.{Parameter}
+use Rattle.om_tree.specs.declared.tree.SignedNumber.{SignedNumber}
 use Rattle.om_tree.specs.Tree.{InitializerTree, DeclaratorTree, statements, FunctionTree, ItemTree, Declaration}
 use Rattle.om_tree.specs.Tree.{Prototype, Function, UnitTree}
 use Rattle.om_pragma.specs.declared.name.Name as names
 use Rattle.om_resolved.specs.declared.resolved.GlobalVariable.{GlobalVariable}
 use Rattle.om_resolved.specs.declared.resolved.LocalVariable.{LocalVariable}
-use Rattle.om_rules.specs.Constants.{signed_constant, signed_value}
+use Rattle.om_rules.specs.Constants.{signed_value}
 use Rattle.om_rules.specs.Perhaps.{◌>>=◌, all_along}
 use Rattle.om_rules.specs.Places.{head_first}
 use Rattle.om_resolved.specs.ResolvedTree.{ResolvedFunctionTree, ResolvedStatementsTree, ResolvedTree}
@@ -17,13 +18,9 @@ use Rattle.om_rules.specs.StatementResolution.{length_of, local_of, resolved_sta
 
 -- ---- functions
 
--- the variable that a parameter is: it may lack a name in a prototype
-abbrev pub named_parameter : Option names.Name → List LocalVariable
-named_parameter None = []
-named_parameter (Some name) = local_of name ∷ []
-
-abbrev pub parameter_variable : Parameter → List LocalVariable
-parameter_variable parameter = named_parameter parameter.name
+-- the variable that a parameter is
+abbrev pub parameter_variable : Parameter names.Name → LocalVariable
+parameter_variable parameter = local_of parameter.name
 
 -- parameters and body are one scope (C17 6.2.1p4)
 abbrev pub resolved_inside : Scopes → FunctionTree → Option ResolvedStatementsTree
@@ -38,18 +35,19 @@ resolved_function scopes f =
       name_at = f.head.name.span.start;
       first = head_first f.head;
       returns = returns_value f.head.result;
-      parameters = flat_map parameter_variable (parameters_of f.head.parameters);
+      parameters = map parameter_variable (parameters_of f.head.parameters);
       body = body;
       closing_line = f.body.close_brace.line;
     })
 
 -- ---- items
 
-abbrev pub initial_of : Option InitializerTree → ℤ
+-- 0 where it is not said (C17 6.7.9p10)
+abbrev pub initial_of : Option (InitializerTree SignedNumber) → ℤ
 initial_of None = pos 0
-initial_of (Some initializer) = signed_value (signed_constant initializer.value)
+initial_of (Some initializer) = signed_value initializer.value
 
-abbrev pub global_of : DeclaratorTree → GlobalVariable
+abbrev pub global_of : DeclaratorTree SignedNumber → GlobalVariable
 global_of d = record {
   name = d.name.text;
   at = d.name.span.start;

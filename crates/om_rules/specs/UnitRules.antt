@@ -6,8 +6,9 @@ use Rattle.std.specs.Str.{bytes_eq}
 use Rattle.om_lexer.specs.declared.fault.FaultCode.TheVariants as faults
 use Rattle.om_lexer.specs.declared.fault.SourceFault.{SourceFault}
 use Rattle.om_pragma.specs.declared.name.Name as names
-use Rattle.om_pragma.specs.declared.name.Number.{Number}
+use Rattle.om_lexer.specs.declared.token.Span.{Span}
 use Rattle.om_tree.specs.declared.tree.Parameter.{Parameter}
+use Rattle.om_tree.specs.declared.tree.SignedNumber.{SignedNumber}
 use Rattle.om_tree.specs.Tree.{InitializerTree, DeclaratorTree, statements, HeadTree, FunctionTree, ItemTree}
 use Rattle.om_tree.specs.Tree.{Declaration, Prototype, Function}
 use Rattle.om_rules.specs.declared.flow.Flow.{Flow}
@@ -16,40 +17,34 @@ use Rattle.om_rules.specs.declared.limits.TheConstants.{FUNCTION_LIMIT, PARAMETE
 use Rattle.om_rules.specs.declared.meaning.Meaning.{Meaning}
 use Rattle.om_rules.specs.declared.meaning.Meaning.TheVariants as meanings
 use Rattle.om_rules.specs.declared.meaning.Signature.{Signature}
-use Rattle.om_rules.specs.Faults.{breach_if, untaken_breaches}
+use Rattle.om_rules.specs.Faults.{breach_if}
 use Rattle.om_rules.specs.ExpressionRules.{constant_breaches}
-use Rattle.om_rules.specs.Places.{expression_start, head_start}
-use Rattle.om_rules.specs.Constants.{signed_constant}
+use Rattle.om_rules.specs.Places.{head_start}
 use Rattle.om_rules.specs.Scopes.{Scopes, predeclared, asks, meaning_here, inside, signature_of, signature_eq}
 use Rattle.om_rules.specs.Scopes.{parameters_of, declarators_of, cells_of, after_global, after_parameter}
-use Rattle.om_rules.specs.Scopes.{after_parameters, after_prototype, after_function, after_item}
+use Rattle.om_rules.specs.Scopes.{after_parameters, after_optional, after_prototype, after_function, after_item}
 use Rattle.om_rules.specs.Faults.{breaches_along}
 use Rattle.om_rules.specs.StatementRules.{redeclared_breaches, array_size_breaches, statements_breaches}
 
 -- ---- globals
 
-abbrev pub signed_breaches : ℕ → Option (Bool × Number) → List SourceFault
-signed_breaches at None = untaken_breaches at
-signed_breaches at (Some (minus, number)) = constant_breaches number
-
--- a global begins as a constant
-abbrev pub initial_breaches : Option InitializerTree → List SourceFault
+-- a global begins as a number
+abbrev pub initial_breaches : Option (InitializerTree SignedNumber) → List SourceFault
 initial_breaches None = []
-initial_breaches (Some initializer) = signed_breaches (expression_start initializer.value)
-    (signed_constant initializer.value)
+initial_breaches (Some initializer) = constant_breaches initializer.value.number
 
 -- S8; S9: a global named `main`, an array of no cells; S11: more cells of globals than a source may have
-abbrev pub global_name_breaches : Scopes → DeclaratorTree → List SourceFault
+abbrev pub global_name_breaches : Scopes → DeclaratorTree SignedNumber → List SourceFault
 global_name_breaches scopes d =
     redeclared_breaches scopes d.name
     ++ breach_if (bytes_eq d.name.text (codes "main")) faults.Misuse d.name.span.start
     ++ array_size_breaches d
     ++ breach_if (nat_lt GLOBAL_CELL_LIMIT (scopes.cells + cells_of d.array)) faults.TooMany d.name.span.start
 
-abbrev pub global_breaches : Scopes → DeclaratorTree → List SourceFault
+abbrev pub global_breaches : Scopes → DeclaratorTree SignedNumber → List SourceFault
 global_breaches scopes d = global_name_breaches scopes d ++ initial_breaches d.initializer
 
-abbrev pub globals_breaches : Scopes → List DeclaratorTree → List SourceFault
+abbrev pub globals_breaches : Scopes → List (DeclaratorTree SignedNumber) → List SourceFault
 globals_breaches = breaches_along global_breaches after_global
 
 -- ---- functions
@@ -65,38 +60,52 @@ is_redeclared signature (Some meanings.Printf) = true
 abbrev pub is_other_main : List ℕ → Signature → Bool
 is_other_main name signature = bytes_eq name (codes "main") && not (signature_eq signature asks)
 
-abbrev pub head_breaches : Scopes → HeadTree → List SourceFault
+abbrev pub head_breaches : {N : Type 0} → Scopes → HeadTree N → List SourceFault
 head_breaches scopes head =
     breach_if (is_redeclared (signature_of head) (meaning_here scopes head.name.text)) faults.Redeclared
     head.name.span.start
     ++ breach_if (is_other_main head.name.text (signature_of head)) faults.Misuse head.name.span.start
 
-abbrev pub parameter_name_breaches : Scopes → Option names.Name → List SourceFault
-parameter_name_breaches scopes None = []
-parameter_name_breaches scopes (Some name) = redeclared_breaches scopes name
+-- S11 at the first parameter too many
+abbrev pub further_breaches : (before : ℕ) → Span → List SourceFault
+further_breaches before int = breach_if (nat_le PARAMETER_LIMIT before) faults.TooMany int.start
 
 -- how many parameters stand before, and the scopes behind them
 abbrev pub ParameterState : Type 0
 ParameterState = ℕ × Scopes
 
--- S11 at the first parameter too many
-abbrev pub parameter_breaches : ParameterState → Parameter → List SourceFault
+-- a parameter of a definition
+abbrev pub parameter_breaches : ParameterState → Parameter names.Name → List SourceFault
 parameter_breaches (before, scopes) parameter =
-    breach_if (nat_le PARAMETER_LIMIT before) faults.TooMany parameter.int.start ++ parameter_name_breaches scopes
-    parameter.name
+    further_breaches before parameter.int ++ redeclared_breaches scopes parameter.name
 
-abbrev pub next_parameter : ParameterState → Parameter → ParameterState
+abbrev pub next_parameter : ParameterState → Parameter names.Name → ParameterState
 next_parameter (before, scopes) parameter = (before + 1, after_parameter scopes parameter)
 
-abbrev pub parameters_breaches : Scopes → List Parameter → List SourceFault
+abbrev pub parameters_breaches : Scopes → List (Parameter names.Name) → List SourceFault
 parameters_breaches scopes parameters = breaches_along parameter_breaches next_parameter (0, scopes) parameters
 
-abbrev pub prototype_breaches : Scopes → HeadTree → List SourceFault
-prototype_breaches scopes head = head_breaches scopes head ++ parameters_breaches
+-- one of a prototype, which may lack a name
+abbrev pub optional_name_breaches : Scopes → Option names.Name → List SourceFault
+optional_name_breaches scopes None = []
+optional_name_breaches scopes (Some name) = redeclared_breaches scopes name
+
+abbrev pub optional_breaches : ParameterState → Parameter (Option names.Name) → List SourceFault
+optional_breaches (before, scopes) parameter =
+    further_breaches before parameter.int ++ optional_name_breaches scopes parameter.name
+
+abbrev pub next_optional : ParameterState → Parameter (Option names.Name) → ParameterState
+next_optional (before, scopes) parameter = (before + 1, after_optional scopes parameter)
+
+abbrev pub optionals_breaches : Scopes → List (Parameter (Option names.Name)) → List SourceFault
+optionals_breaches scopes parameters = breaches_along optional_breaches next_optional (0, scopes) parameters
+
+abbrev pub prototype_breaches : Scopes → HeadTree (Option names.Name) → List SourceFault
+prototype_breaches scopes head = head_breaches scopes head ++ optionals_breaches
     (inside (after_prototype scopes head)) (parameters_of head.parameters)
 
 -- what a function's statements may do
-abbrev pub flow_of : HeadTree → Flow
+abbrev pub flow_of : HeadTree names.Name → Flow
 flow_of head = record {
   may_break = false;
   may_continue = false;
@@ -107,7 +116,7 @@ flow_of head = record {
 }
 
 -- S11 at the first definition too many, S8 at a second one of a function
-abbrev pub definition_breaches : Scopes → HeadTree → List SourceFault
+abbrev pub definition_breaches : Scopes → HeadTree names.Name → List SourceFault
 definition_breaches scopes head =
     breach_if (nat_le (FUNCTION_LIMIT + length predeclared) (length scopes.defined)) faults.TooMany (head_start head)
     ++ breach_if (list_any (bytes_eq head.name.text) scopes.defined) faults.Redeclared head.name.span.start

@@ -1,7 +1,7 @@
 //! Declarations in functions: their rules, and the variables that they declare.
 
 ghost use Rattle.std.specs.Prelude.{◌≡◌, ◌++◌, [], ◌∷◌, false, OnOk, IfOk, Some, option_map, map};
-ghost use Rattle.om_tree.specs.View.{view_declaration, view_declarator, view_further, view_initializer};
+ghost use Rattle.om_tree.specs.View.{view_declarator, view_expression, view_further, view_initializer, view_local};
 ghost use Rattle.om_rules.specs.Checks.{Checks, ChecksExactly};
 ghost use Rattle.om_rules.specs.Scopes.{after_local, after_locals, behind_commas, cells_of, declarators_of, shape_of};
 ghost use Rattle.om_resolved.specs.ResolvedView.{view_resolved_declarator, view_resolved_expression};
@@ -14,7 +14,7 @@ use om_lexer::{FaultCode, SourceFault, Span};
 use om_names::{Symbols, refuse_if};
 use om_resolved::{LocalVariable, ResolvedDeclarator, ResolvedExpression, Shape};
 use om_seq::Seq;
-use om_tree::{ArrayLength, Declaration, Declarator, Initializer, Name};
+use om_tree::{ArrayLength, Declaration, Declarator, Expression, Initializer, Name};
 use std::alloc::{AllocError, Global};
 
 /// That a name is not declared in the innermost scope yet (C17 6.7p3): S8 at the name.
@@ -56,8 +56,9 @@ fn is_empty_array(array: &Option<ArrayLength>) -> bool
 }
 
 /// That an array has cells: S9.
-pub fn check_size(declarator: &Declarator) -> Result<(), SourceFault>
-    ensures { ChecksExactly result (array_size_breaches (view_declarator declarator.now)) }
+pub fn check_size<I>(declarator: &Declarator<I>) -> Result<(), SourceFault>
+    ensures { ChecksExactly result
+        (array_size_breaches (view_declarator (λ value. value) declarator.now)) }
 {
     let broken = is_empty_array(&declarator.array);
     refuse_if(broken, FaultCode::Misuse, declarator.name.span.start)
@@ -93,12 +94,12 @@ pub fn local_of(alloc: Global, name: &Name) -> Result<LocalVariable, AllocError>
 fn resolve_initializer(
     alloc: Global,
     symbols: &Symbols,
-    initializer: &Option<Initializer>,
+    initializer: &Option<Initializer<Expression>>,
 ) -> Result<Option<Box<ResolvedExpression>>, SourceFault>
     ensures checked { Checks result
-        (initializer_breaches symbols.now (option_map view_initializer initializer.now)) }
+        (initializer_breaches symbols.now (option_map (view_initializer view_expression) initializer.now)) }
     ensures resolved { IfOk result
-        (λ found. resolved_initial symbols.now (option_map view_initializer initializer.now)
+        (λ found. resolved_initial symbols.now (option_map (view_initializer view_expression) initializer.now)
         ≡ Some (option_map (λ boxed. view_resolved_expression boxed.value) found)) }
 {
     let Some(initializer) = initializer else {
@@ -113,12 +114,12 @@ fn resolve_initializer(
 fn declare_name(
     alloc: Global,
     symbols: &mut Symbols,
-    declarator: &Declarator,
+    declarator: &Declarator<Expression>,
 ) -> Result<(), SourceFault>
-    ensures checked { let tree = view_declarator declarator.now in
+    ensures checked { let tree = view_declarator view_expression declarator.now in
         Checks result (redeclared_breaches symbols.old tree.name ++ array_size_breaches tree) }
     ensures in_scope { OnOk result
-        (symbols.new ≡ after_local symbols.old (view_declarator declarator.now)) }
+        (symbols.new ≡ after_local symbols.old (view_declarator view_expression declarator.now)) }
 {
     check_new(symbols, &declarator.name)?;
     check_size(declarator)?;
@@ -132,13 +133,13 @@ fn declare_name(
 fn resolve_declarator(
     alloc: Global,
     symbols: &mut Symbols,
-    declarator: &Declarator,
+    declarator: &Declarator<Expression>,
 ) -> Result<ResolvedDeclarator, SourceFault>
-    ensures checked { Checks result (local_breaches symbols.old (view_declarator declarator.now)) }
+    ensures checked { Checks result (local_breaches symbols.old (view_declarator view_expression declarator.now)) }
     ensures in_scope { OnOk result
-        (symbols.new ≡ after_local symbols.old (view_declarator declarator.now)) }
+        (symbols.new ≡ after_local symbols.old (view_declarator view_expression declarator.now)) }
     ensures resolved { IfOk result
-        (λ found. resolved_declarator symbols.old (view_declarator declarator.now)
+        (λ found. resolved_declarator symbols.old (view_declarator view_expression declarator.now)
         ≡ Some (view_resolved_declarator found)) }
 {
     declare_name(alloc, symbols, declarator)?;
@@ -156,16 +157,16 @@ fn add_local(
     alloc: Global,
     symbols: &mut Symbols,
     declared: &mut Vec<ResolvedDeclarator>,
-    declarator: &Declarator,
+    declarator: &Declarator<Expression>,
 ) -> Result<(), SourceFault>
-    ensures checked { Checks result (local_breaches symbols.old (view_declarator declarator.now)) }
+    ensures checked { Checks result (local_breaches symbols.old (view_declarator view_expression declarator.now)) }
     ensures in_scope { OnOk result
-        (symbols.new ≡ after_local symbols.old (view_declarator declarator.now)) }
+        (symbols.new ≡ after_local symbols.old (view_declarator view_expression declarator.now)) }
     ensures resolved { let before = map view_resolved_declarator declared.old.items in
         let after = map view_resolved_declarator declared.new.items in
         OnOk result
         (option_map (λ own. before ++ own ∷ [])
-        (resolved_declarator symbols.old (view_declarator declarator.now)) ≡ Some after) }
+        (resolved_declarator symbols.old (view_declarator view_expression declarator.now)) ≡ Some after) }
 {
     add(declared, resolve_declarator(alloc, symbols, declarator))
 }
@@ -175,17 +176,17 @@ fn resolve_further_locals(
     alloc: Global,
     symbols: &mut Symbols,
     declared: &mut Vec<ResolvedDeclarator>,
-    rest: &[(Span, Declarator)],
+    rest: &[(Span, Declarator<Expression>)],
 ) -> Result<(), SourceFault>
     ensures checked { Checks result
-        (locals_breaches symbols.old (behind_commas (map view_further rest.now))) }
+        (locals_breaches symbols.old (behind_commas (map (view_further view_expression) rest.now))) }
     ensures in_scope { OnOk result
-        (symbols.new ≡ after_locals symbols.old (behind_commas (map view_further rest.now))) }
+        (symbols.new ≡ after_locals symbols.old (behind_commas (map (view_further view_expression) rest.now))) }
     ensures resolved { let before = map view_resolved_declarator declared.old.items in
         let after = map view_resolved_declarator declared.new.items in
         OnOk result
         (option_map (λ own. before ++ own)
-        (resolved_declarators symbols.old (behind_commas (map view_further rest.now)))
+        (resolved_declarators symbols.old (behind_commas (map (view_further view_expression) rest.now)))
         ≡ Some after) }
 {
     for further in rest {
@@ -200,18 +201,18 @@ fn add_locals(
     alloc: Global,
     symbols: &mut Symbols,
     declared: &mut Vec<ResolvedDeclarator>,
-    declaration: &Declaration,
+    declaration: &Declaration<Expression>,
 ) -> Result<(), SourceFault>
     ensures checked { Checks result
-        (locals_breaches symbols.old (declarators_of (view_declaration declaration.now))) }
+        (locals_breaches symbols.old (declarators_of (view_local declaration.now))) }
     ensures in_scope { OnOk result
         (symbols.new ≡ after_locals symbols.old
-        (declarators_of (view_declaration declaration.now))) }
+        (declarators_of (view_local declaration.now))) }
     ensures resolved { let before = map view_resolved_declarator declared.old.items in
         let after = map view_resolved_declarator declared.new.items in
         OnOk result
         (option_map (λ own. before ++ own)
-        (resolved_declarators symbols.old (declarators_of (view_declaration declaration.now)))
+        (resolved_declarators symbols.old (declarators_of (view_local declaration.now)))
         ≡ Some after) }
 {
     add_local(alloc, symbols, declared, &declaration.first)?;
@@ -226,16 +227,16 @@ fn add_locals(
 pub fn resolve_locals(
     alloc: Global,
     symbols: &mut Symbols,
-    declaration: &Declaration,
+    declaration: &Declaration<Expression>,
 ) -> Result<Vec<ResolvedDeclarator>, SourceFault>
     ensures checked { Checks result
-        (locals_breaches symbols.old (declarators_of (view_declaration declaration.now))) }
+        (locals_breaches symbols.old (declarators_of (view_local declaration.now))) }
     ensures in_scope { OnOk result
         (symbols.new ≡ after_locals symbols.old
-        (declarators_of (view_declaration declaration.now))) }
+        (declarators_of (view_local declaration.now))) }
     ensures resolved { IfOk result
         (λ found. resolved_declarators symbols.old
-        (declarators_of (view_declaration declaration.now))
+        (declarators_of (view_local declaration.now))
         ≡ Some (map view_resolved_declarator found.items)) }
 {
     let mut declared = Vec::new(alloc);

@@ -1,59 +1,57 @@
 //! Globals: their rules, and what they hold at the start.
 
 ghost use Rattle.std.specs.Prelude.{◌≡◌, ◌++◌, ◌+◌, ◌≤◌, ◌<◌, [], ◌∷◌, false, OnOk, IfOk, map, option_map};
-ghost use Rattle.om_tree.specs.View.{view_declaration, view_declarator, view_further, view_initializer};
+ghost use Rattle.om_tree.specs.View.{view_declarator, view_further, view_global, view_initializer, view_number};
 ghost use Rattle.om_rules.specs.Checks.{Checks, ChecksExactly};
 ghost use Rattle.om_rules.specs.Constants.{signed_value};
+ghost use Rattle.om_rules.specs.ExpressionRules.{constant_breaches};
 ghost use Rattle.om_rules.specs.Scopes.{after_global, after_globals, behind_commas, cells_of, declarators_of, is_declared};
 ghost use Rattle.om_rules.specs.UnitResolution.{global_of, initial_of};
-ghost use Rattle.om_rules.specs.UnitRules.{global_breaches, global_name_breaches, globals_breaches, initial_breaches, signed_breaches};
+ghost use Rattle.om_rules.specs.UnitRules.{global_breaches, global_name_breaches, globals_breaches, initial_breaches};
 
 use crate::declaration::{cells_of, check_new, check_size, copy_of, length_of, shape_of};
 use crate::expression::constant_of;
-use om_forms::{expression_start, signed_constant};
 use om_lexer::{FaultCode, SourceFault, Span};
 use om_names::{Symbols, refuse_if};
 use om_resolved::GlobalVariable;
 use om_rules::GLOBAL_CELL_LIMIT;
-use om_tree::{Declaration, Declarator, Initializer, Number};
+use om_tree::{Declaration, Declarator, Initializer, SignedNumber};
 use std::alloc::Global;
 
-/// What a constant with its minus stands for: S10, or where there is none S3 at a place.
-fn value_of(constant: Option<(bool, Number)>, at: u32) -> Result<i32, SourceFault>
-    ensures checked { ChecksExactly result (signed_breaches at constant) }
-    ensures value { IfOk result (λ value. value ≡ signed_value constant) }
+/// What a number stands for, with its minus: S10.
+fn value_of(signed: &SignedNumber) -> Result<i32, SourceFault>
+    ensures checked { ChecksExactly result (constant_breaches signed.now.number) }
+    ensures value { IfOk result (λ value. value ≡ signed_value signed.now) }
 {
-    match constant {
-        None => Err(SourceFault {
-            code: FaultCode::Syntax,
-            at,
-        }),
-        Some((false, number)) => constant_of(&number),
-        Some((true, number)) => Ok(-constant_of(&number)?),
+    let value = constant_of(&signed.number)?;
+    match signed.minus {
+        None => Ok(value),
+        Some(_) => Ok(-value),
     }
 }
 
 /// What a global holds at the start.
-fn initial_of(initializer: &Option<Initializer>) -> Result<i32, SourceFault>
+fn initial_of(initializer: &Option<Initializer<SignedNumber>>) -> Result<i32, SourceFault>
     ensures checked { ChecksExactly result
-        (initial_breaches (option_map view_initializer initializer.now)) }
+        (initial_breaches (option_map (view_initializer view_number) initializer.now)) }
     ensures value { IfOk result
-        (λ value. value ≡ initial_of (option_map view_initializer initializer.now)) }
+        (λ value. value
+        ≡ initial_of (option_map (view_initializer view_number) initializer.now)) }
 {
     match initializer {
         None => Ok(0),
-        Some(initializer) => value_of(
-            signed_constant(&initializer.value),
-            expression_start(&initializer.value),
-        ),
+        Some(initializer) => value_of(&initializer.value),
     }
 }
 
 /// That a name may be that of a further global: S8, S9, S11.
 #[tactic(auto, using(om_rules::specs::InRow::first_of_left))]
-fn check_global_name(symbols: &Symbols, declarator: &Declarator) -> Result<(), SourceFault>
+fn check_global_name(
+    symbols: &Symbols,
+    declarator: &Declarator<SignedNumber>,
+) -> Result<(), SourceFault>
     ensures checked { ChecksExactly result
-        (global_name_breaches symbols.now (view_declarator declarator.now)) }
+        (global_name_breaches symbols.now (view_declarator view_number declarator.now)) }
     ensures has_room { OnOk result
         (symbols.now.cells + cells_of declarator.now.array ≤ GLOBAL_CELL_LIMIT) }
     ensures has_cells { OnOk result (0 < cells_of declarator.now.array) }
@@ -73,12 +71,12 @@ fn check_global_name(symbols: &Symbols, declarator: &Declarator) -> Result<(), S
 fn declare_global_name(
     alloc: Global,
     symbols: &mut Symbols,
-    declarator: &Declarator,
+    declarator: &Declarator<SignedNumber>,
 ) -> Result<(), SourceFault>
     ensures checked { Checks result
-        (global_name_breaches symbols.old (view_declarator declarator.now)) }
+        (global_name_breaches symbols.old (view_declarator view_number declarator.now)) }
     ensures in_scope { OnOk result
-        (symbols.new ≡ after_global symbols.old (view_declarator declarator.now)) }
+        (symbols.new ≡ after_global symbols.old (view_declarator view_number declarator.now)) }
 {
     check_global_name(symbols, declarator)?;
     let shape = shape_of(&declarator.array);
@@ -87,16 +85,16 @@ fn declare_global_name(
     Ok(())
 }
 
-/// Adds a global behind those before it: S3, S10.
+/// Adds a global behind those before it: S10.
 fn add_global(
     alloc: Global,
     globals: &mut Vec<GlobalVariable>,
-    declarator: &Declarator,
+    declarator: &Declarator<SignedNumber>,
 ) -> Result<(), SourceFault>
     ensures checked { Checks result
-        (initial_breaches (view_declarator declarator.now).initializer) }
+        (initial_breaches (view_declarator view_number declarator.now).initializer) }
     ensures declared { OnOk result
-        (globals.new.items ≡ globals.old.items ++ global_of (view_declarator declarator.now) ∷ []) }
+        (globals.new.items ≡ globals.old.items ++ global_of (view_declarator view_number declarator.now) ∷ []) }
 {
     let initial = initial_of(&declarator.initializer)?;
     globals.push(GlobalVariable {
@@ -114,13 +112,13 @@ fn declare_global(
     alloc: Global,
     symbols: &mut Symbols,
     globals: &mut Vec<GlobalVariable>,
-    declarator: &Declarator,
+    declarator: &Declarator<SignedNumber>,
 ) -> Result<(), SourceFault>
-    ensures checked { Checks result (global_breaches symbols.old (view_declarator declarator.now)) }
+    ensures checked { Checks result (global_breaches symbols.old (view_declarator view_number declarator.now)) }
     ensures in_scope { OnOk result
-        (symbols.new ≡ after_global symbols.old (view_declarator declarator.now)) }
+        (symbols.new ≡ after_global symbols.old (view_declarator view_number declarator.now)) }
     ensures declared { OnOk result
-        (globals.new.items ≡ globals.old.items ++ global_of (view_declarator declarator.now) ∷ []) }
+        (globals.new.items ≡ globals.old.items ++ global_of (view_declarator view_number declarator.now) ∷ []) }
 {
     declare_global_name(alloc, symbols, declarator)?;
     add_global(alloc, globals, declarator)
@@ -131,15 +129,15 @@ fn declare_further_globals(
     alloc: Global,
     symbols: &mut Symbols,
     globals: &mut Vec<GlobalVariable>,
-    rest: &[(Span, Declarator)],
+    rest: &[(Span, Declarator<SignedNumber>)],
 ) -> Result<(), SourceFault>
     ensures checked { Checks result
-        (globals_breaches symbols.old (behind_commas (map view_further rest.now))) }
+        (globals_breaches symbols.old (behind_commas (map (view_further view_number) rest.now))) }
     ensures in_scope { OnOk result
-        (symbols.new ≡ after_globals symbols.old (behind_commas (map view_further rest.now))) }
+        (symbols.new ≡ after_globals symbols.old (behind_commas (map (view_further view_number) rest.now))) }
     ensures declared { OnOk result
         (globals.new.items ≡ globals.old.items
-        ++ map global_of (behind_commas (map view_further rest.now))) }
+        ++ map global_of (behind_commas (map (view_further view_number) rest.now))) }
 {
     for further in rest {
         declare_global(alloc, symbols, globals, &further.1)?;
@@ -151,22 +149,22 @@ fn declare_further_globals(
 /// 6.9.2).
 ///
 /// Refusals: S8 at a name that is declared already; S9 at `main` or an array without cells; S11 at the
-/// first that has cells too many; S3 and S10 at an initializer; S0 out of memory.
+/// first that has cells too many; S10 at an initializer; S0 out of memory.
 #[tactic(auto, using(om_rules::specs::InRow::first_of_left))]
 pub fn declare_globals(
     alloc: Global,
     symbols: &mut Symbols,
     globals: &mut Vec<GlobalVariable>,
-    declaration: &Declaration,
+    declaration: &Declaration<SignedNumber>,
 ) -> Result<(), SourceFault>
     ensures checked { Checks result
-        (globals_breaches symbols.old (declarators_of (view_declaration declaration.now))) }
+        (globals_breaches symbols.old (declarators_of (view_global declaration.now))) }
     ensures in_scope { OnOk result
         (symbols.new ≡ after_globals symbols.old
-        (declarators_of (view_declaration declaration.now))) }
+        (declarators_of (view_global declaration.now))) }
     ensures declared { OnOk result
         (globals.new.items ≡ globals.old.items
-        ++ map global_of (declarators_of (view_declaration declaration.now))) }
+        ++ map global_of (declarators_of (view_global declaration.now))) }
 {
     declare_global(alloc, symbols, globals, &declaration.first)?;
     declare_further_globals(alloc, symbols, globals, declaration.rest.as_slice())

@@ -1,6 +1,6 @@
 use Rattle.std.proofs.Common.{◌+◌, map, drop, ap, ◌∙◌}
 use Rattle.std.proofs.lemmas.Result.{err_from_is_err_and}
-use Rattle.om_tree.specs.View.{view_declarator, view_further}
+use Rattle.om_tree.specs.View.{view_declarator, view_expression, view_further}
 use Rattle.om_rules.specs.Scopes.{after_local, behind_commas}
 use Rattle.om_rules.specs.StatementResolution.{resolved_declarator}
 use Rattle.om_rules.specs.StatementRules.{local_breaches}
@@ -11,22 +11,23 @@ use Rattle.om_uses.proofs.declaration.resolve_further_locals.Goals as goal
 pub returns-in_err-add_local-clause-checked : goal.returns-in_err-add_local-clause-checked
 returns-in_err-add_local-clause-checked c =
     let p = err_from_is_err_and c.from_residual.result c.from_residual.ensures.1 in
-    let here = ap (map view_further) (drop-item c.args.rest.now c.loop-further.further-index c.further-item.result
-    c.loop-further-test.true c.further-item.is) in
+    let here = ap (map (view_further view_expression)) (drop-item c.args.rest.now c.loop-further.further-index
+    c.further-item.result c.loop-further-test.true c.further-item.is) in
     let left = rw here at c.loop-further.invariant.rules in
     rw (p.1, p.2) (unbroken-refuse local_breaches after_local left c.in_err-add_local.ensures.checked)
 
 pub loop-further-preserved : goal.loop-further-preserved
 loop-further-preserved c =
-    let rest = behind_commas (map view_further (drop (c.loop-further.further-index + 1) c.args.rest.now)) in
+    let rest = behind_commas (map (view_further view_expression)
+    (drop (c.loop-further.further-index + 1) c.args.rest.now)) in
     let one = c.in_ok-add_local.ensures in
-    let here = ap (map view_further) (drop-item c.args.rest.now c.loop-further.further-index c.further-item.result
-    c.loop-further-test.true c.further-item.is) in
+    let here = ap (map (view_further view_expression)) (drop-item c.args.rest.now c.loop-further.further-index
+    c.further-item.result c.loop-further-test.true c.further-item.is) in
     record {
       rules = rw one.in_scope (unbroken-step local_breaches after_local (rw here at c.loop-further.invariant.rules)
           one.checked);
       resolved =
           rw one.in_scope ((rw here at c.loop-further.invariant.resolved)
           ∙ each_along-step after_local resolved_declarator c.loop-further.symbols
-          (view_declarator c.further-item.result.1) rest _ _ one.resolved);
+          (view_declarator view_expression c.further-item.result.1) rest _ _ one.resolved);
     }

@@ -1,5 +1,5 @@
 use Rattle.std.proofs.Common.{◌≡◌, map, drop}
-use Rattle.om_tree.specs.View.{view_further}
+use Rattle.om_tree.specs.View.{view_expression, view_further}
 use Rattle.om_resolved.specs.ResolvedView.{view_resolved_declarator}
 use Rattle.om_rules.specs.Scopes.{after_local, behind_commas}
 use Rattle.om_rules.specs.StatementResolution.{resolved_declarators}
@@ -9,8 +9,8 @@ use Rattle.om_uses.proofs.declaration.resolve_further_locals.Given as goal
 
 abbrev pub invariant-loop-further : goal.invariant-loop-further
 invariant-loop-further l =
-    let all = behind_commas (map view_further l.rest) in
-    let left = behind_commas (map view_further (drop l.further-index l.rest)) in
+    let all = behind_commas (map (view_further view_expression) l.rest) in
+    let left = behind_commas (map (view_further view_expression) (drop l.further-index l.rest)) in
     let before = map view_resolved_declarator l.fn.declared.items in
     let now = map view_resolved_declarator l.declared.items in
     record {

@@ -1,5 +1,5 @@
 use Rattle.std.proofs.Common.{◌≡◌, ◌++◌, map, drop}
-use Rattle.om_tree.specs.View.{view_further}
+use Rattle.om_tree.specs.View.{view_further, view_number}
 use Rattle.om_rules.specs.Scopes.{after_global, behind_commas}
 use Rattle.om_rules.specs.UnitResolution.{global_of}
 use Rattle.om_rules.specs.UnitRules.{global_breaches}
@@ -8,7 +8,7 @@ use Rattle.om_uses.proofs.globals.declare_further_globals.Given as goal
 
 abbrev pub invariant-loop-further : goal.invariant-loop-further
 invariant-loop-further l =
-    let all = behind_commas (map view_further l.rest) in
-    let left = behind_commas (map view_further (drop l.further-index l.rest)) in
+    let all = behind_commas (map (view_further view_number) l.rest) in
+    let left = behind_commas (map (view_further view_number) (drop l.further-index l.rest)) in
     Unbroken global_breaches after_global l.fn.symbols all l.symbols left
     × (l.globals.items ++ map global_of left ≡ l.fn.globals.items ++ map global_of all)
