@@ -1,9 +1,9 @@
 -- What a block declares is forgotten behind it.
-use Rattle.std.proofs.Common.{◌≡◌, ℕ, List, [], ◌∷◌, ◌++◌, Option, None, Some, refl, ap, ◌∙◌}
+use Rattle.std.proofs.Common.{◌≡◌, ℕ, ◌+◌, List, [], ◌∷◌, ◌++◌, Option, None, Some, refl, ap, ◌∙◌}
 use Rattle.om_lexer.specs.declared.fault.SourceFault.{SourceFault}
 use Rattle.om_tree.specs.Tree.{ForStartTree, Nothing, StartExpression, StartDeclaration, StatementTree}
 use Rattle.om_tree.specs.Tree.{StatementsTree, NoStatements}
-use Rattle.om_tree.specs.Tree.{Statement}
+use Rattle.om_tree.specs.Tree.{Statement, PartsTree, Part, PartTree}
 use Rattle.om_rules.specs.declared.flow.Flow.{Flow}
 use Rattle.om_rules.specs.declared.region.Region.{Region}
 use Rattle.om_rules.specs.Faults.{first_of}
@@ -14,7 +14,7 @@ use Rattle.om_resolved.specs.ResolvedTree as resolved
 use Rattle.om_resolved.specs.ResolvedTree.{ResolvedStatementTree, ResolvedStatementsTree}
 use Rattle.om_rules.specs.StatementResolution.{resolved_statement, resolved_statements}
 use Rattle.om_rules.specs.StatementRules.{after_for_start, after_statement, after_statements, part_breaches}
-use Rattle.om_rules.specs.StatementRules.{parts_behind, sections_breaches, statement_breaches, statements_breaches}
+use Rattle.om_rules.specs.StatementRules.{parts_breaches, statement_breaches, statements_breaches}
 use Rattle.om_rules.specs.InRow.{first_of_left}
 use Rattle.om_blocks.specs.Within.{locals_within, statement_within, statements_within}
 use Rattle.om_blocks.proofs.Statements.{Made, made_step, made_whole}
@@ -52,24 +52,23 @@ unfolding statements_breaches
 statements_step scopes state flow all s rest left whole = left
     ∙ ap (λ here. here ++ statements_breaches (after_statement state s) flow rest) whole
 
-pub parts_refuse : (scopes : Scopes) (flow : Flow) (before : ℕ) (all : StatementsTree) (s : StatementTree)
-    (rest : StatementsTree) (fault : SourceFault)
-    → sections_breaches scopes flow 0 all ≡ sections_breaches scopes flow before (Statement s rest)
-    → Refuses (part_breaches scopes flow before s) fault
-    → Refuses (sections_breaches scopes flow 0 all) fault
-unfolding sections_breaches
-parts_refuse scopes flow before all s rest fault left refused other =
-    ap first_of left ∙ first_of_left (part_breaches scopes flow before s)
-    (sections_breaches scopes flow (parts_behind before s) rest) fault (refused other)
+pub parts_refuse : (scopes : Scopes) (flow : Flow) (before : ℕ) (all : PartsTree) (part : PartTree)
+    (rest : PartsTree) (fault : SourceFault)
+    → parts_breaches scopes flow 0 all ≡ parts_breaches scopes flow before (Part part.section part.items rest)
+    → Refuses (part_breaches scopes flow before part) fault
+    → Refuses (parts_breaches scopes flow 0 all) fault
+unfolding parts_breaches
+parts_refuse scopes flow before all part rest fault left refused other =
+    ap first_of left ∙ first_of_left (part_breaches scopes flow before part)
+    (parts_breaches scopes flow (before + 1) rest) fault (refused other)
 
-pub parts_step : (scopes : Scopes) (flow : Flow) (before : ℕ) (all : StatementsTree) (s : StatementTree)
-    (rest : StatementsTree)
-    → sections_breaches scopes flow 0 all ≡ sections_breaches scopes flow before (Statement s rest)
-    → part_breaches scopes flow before s ≡ []
-    → sections_breaches scopes flow 0 all ≡ sections_breaches scopes flow (parts_behind before s) rest
-unfolding sections_breaches
-parts_step scopes flow before all s rest left whole = left ∙ ap (λ here. here ++ sections_breaches scopes flow
-    (parts_behind before s) rest) whole
+pub parts_step : (scopes : Scopes) (flow : Flow) (before : ℕ) (all : PartsTree) (part : PartTree) (rest : PartsTree)
+    → parts_breaches scopes flow 0 all ≡ parts_breaches scopes flow before (Part part.section part.items rest)
+    → part_breaches scopes flow before part ≡ []
+    → parts_breaches scopes flow 0 all ≡ parts_breaches scopes flow (before + 1) rest
+unfolding parts_breaches
+parts_step scopes flow before all part rest left whole =
+    left ∙ ap (λ here. here ++ parts_breaches scopes flow (before + 1) rest) whole
 
 pub statements_made : (state : Scopes) (parallel : Option ℕ) (s : StatementTree) (rest : StatementsTree)
     (whole : Option ResolvedStatementsTree) (made : List ResolvedStatementTree) (t : ResolvedStatementTree)

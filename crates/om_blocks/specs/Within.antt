@@ -2,7 +2,7 @@
 use Rattle.std.proofs.Common.{◌≡◌, List, [], ◌∷◌, ◌++◌, refl, ap, ◌∙◌}
 use Rattle.om_tree.specs.Tree.{DeclaratorTree, StatementTree}
 use Rattle.om_tree.specs.Tree.{LocalDeclaration, Block, Empty, Expression, If, IfElse, While, Do, For, Return, Break}
-use Rattle.om_tree.specs.Tree.{Continue, Construct, StandAlone, Sections, Section}
+use Rattle.om_tree.specs.Tree.{Continue, Construct, StandAlone, Sections}
 use Rattle.om_resolved.specs.declared.resolved.Variable.TheVariants as variables
 use Rattle.om_rules.specs.declared.meaning.Meaning.TheVariants as meanings
 use Rattle.om_rules.specs.declared.region.Region.{Region}
@@ -37,7 +37,6 @@ statement_within inner region scopes (Continue at semicolon) = (inner, refl)
 statement_within inner region scopes (Construct d s) = (inner, refl)
 statement_within inner region scopes (StandAlone d) = (inner, refl)
 statement_within inner region scopes (Sections d left parts right) = (inner, refl)
-statement_within inner region scopes (Section d s) = (inner, refl)
 
 pub statements_within : (inner : Scope) (region : Region) (scopes : Scopes) (ss : List StatementTree)
     → StaysWithin region scopes (after_statements (within inner region scopes) ss)

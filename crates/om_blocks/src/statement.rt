@@ -1,17 +1,16 @@
 //! Statements: their rules, and the variables of their names.
 
 ghost use Rattle.std.specs.Prelude.{◌≡◌, true, OnOk, IfOk, Some, is_some, map, option_map};
-ghost use Rattle.om_tree.specs.Tree.{statements};
-ghost use Rattle.om_tree.specs.View.{view_directive, view_for_head, view_statement};
+ghost use Rattle.om_tree.specs.Tree.{parts, statements};
+ghost use Rattle.om_tree.specs.View.{view_directive, view_for_head, view_part, view_statement};
 ghost use Rattle.om_resolved.specs.ResolvedTree as resolved;
 ghost use Rattle.om_resolved.specs.ResolvedView.{view_resolved_part, view_resolved_statement};
 ghost use Rattle.om_forms.specs.LoopViews.{view_loop};
 ghost use Rattle.om_rules.specs.Checks.{Checks};
-ghost use Rattle.om_rules.specs.Grouping.{parts_of};
 ghost use Rattle.om_rules.specs.Loops.{loop_in};
 ghost use Rattle.om_rules.specs.Scopes.{inside};
 ghost use Rattle.om_rules.specs.StatementResolution.{resolved_construct, resolved_for, resolved_loop_construct, resolved_parts, resolved_plain_construct, resolved_repeated, resolved_sections, resolved_statement, resolved_statements};
-ghost use Rattle.om_rules.specs.StatementRules.{after_statement, after_statements, body_breaches, construct_breaches, continuing, for_breaches, in_loop, loop_construct_breaches, looping, part_breaches, plain_construct_breaches, sections_breaches, sections_construct_breaches, statement_breaches, statements_breaches};
+ghost use Rattle.om_rules.specs.StatementRules.{after_statement, after_statements, body_breaches, construct_breaches, continuing, for_breaches, in_loop, loop_construct_breaches, looping, part_breaches, parts_breaches, plain_construct_breaches, section_breaches, sections_construct_breaches, statement_breaches, statements_breaches};
 
 use crate::entering::{enter_construct, enter_loop_construct};
 use crate::head::{for_of, looping, resolve_for_head};
@@ -22,12 +21,10 @@ use om_forms::{Loop, loop_in, statement_side, statement_start};
 use om_lexer::{FaultCode, SourceFault};
 use om_names::{Symbols, constructing, traits_of};
 use om_pragma::Directive;
-use om_regions::{
-    Setting, add_item, begins_part, construct_of, loop_construct_of, sections_construct_of,
-};
+use om_regions::{Setting, construct_of, loop_construct_of, sections_construct_of};
 use om_resolved::{ResolvedPart, ResolvedStatement};
 use om_rules::{Flow, SECTION_LIMIT};
-use om_tree::{Expression, ForHead, Statement};
+use om_tree::{Expression, ForHead, Part, Statement};
 use om_uses::{add, boxed, boxed_expression, enter_loop, loop_fault, refuse_if};
 use std::alloc::Global;
 
@@ -166,13 +163,9 @@ fn resolve_statement(
         Statement::StandAlone(directive) => resolve_stand_alone(alloc, symbols, flow, directive),
         Statement::Sections {
             directive,
-            items,
+            parts,
             ..
-        } => { resolve_sections(alloc, symbols, flow, directive, items.as_slice()) }
-        Statement::Section { first, .. } => {
-            let first = resolve_body(alloc, symbols, flow, first)?;
-            Ok(Box::into_inner(first))
-        }
+        } => { resolve_sections(alloc, symbols, flow, directive, parts.as_slice()) }
     }
 }
 
@@ -420,71 +413,82 @@ fn resolve_sections(
     symbols: &mut Symbols,
     flow: Flow,
     directive: &Directive<Expression>,
-    items: &[Statement],
+    sections: &[Part],
 ) -> Result<ResolvedStatement, SourceFault>
     ensures checked { Checks result
         (sections_construct_breaches symbols.old flow (view_directive directive.now)
-        (statements (map view_statement items.now))) }
+        (parts (map view_part sections.now))) }
     ensures in_scope { OnOk result (symbols.new ≡ symbols.old) }
     ensures resolved { IfOk result
         (λ found. resolved_sections symbols.old flow.parallel (view_directive directive.now)
-        (statements (map view_statement items.now)) ≡ Some (view_resolved_statement found)) }
+        (parts (map view_part sections.now)) ≡ Some (view_resolved_statement found)) }
 {
     let inside = constructing(directive, flow);
     let clauses = enter_construct(alloc, symbols, flow, directive)?;
-    let parts = resolve_parts(alloc, symbols, inside, items)?;
+    let parts = resolve_parts(alloc, symbols, inside, sections)?;
     symbols.leave();
     sections_construct_of(alloc, directive, clauses, parts)
 }
 
-/// The parts of `sections`, by their items.
-#[tactic(auto, unfolding(om_rules::specs::StatementRules::sections_breaches, om_rules::specs::StatementResolution::resolved_parts))]
+/// The parts of `sections`.
+#[tactic(auto, unfolding(om_rules::specs::StatementRules::parts_breaches, om_rules::specs::StatementResolution::resolved_parts))]
 #[cycle(statement)]
 fn resolve_parts(
     alloc: Global,
     symbols: &mut Symbols,
     flow: Flow,
-    items: &[Statement],
+    sections: &[Part],
 ) -> Result<Vec<ResolvedPart>, SourceFault>
     ensures checked { Checks result
-        (sections_breaches symbols.old flow 0 (statements (map view_statement items.now))) }
+        (parts_breaches symbols.old flow 0 (parts (map view_part sections.now))) }
     ensures in_scope { OnOk result (symbols.new ≡ symbols.old) }
     ensures resolved { IfOk result
-        (λ found. option_map parts_of
-        (resolved_parts symbols.old flow.parallel 0 (statements (map view_statement items.now)))
+        (λ found. resolved_parts symbols.old flow.parallel (parts (map view_part sections.now))
         ≡ Some (resolved.parts (map view_resolved_part found.items))) }
 {
-    let mut parts = Vec::new(alloc);
-    for item in items {
-        let begins = begins_part(parts.len(), item);
-        let found = resolve_item(alloc, symbols, flow, parts.len(), item);
-        add_item(alloc, &mut parts, begins, found)?;
+    let mut resolved = Vec::new(alloc);
+    for part in sections {
+        let found = resolve_part(alloc, symbols, flow, resolved.len(), part);
+        add(&mut resolved, found)?;
     }
-    Ok(parts)
+    Ok(resolved)
 }
 
-/// An item of `sections` behind so many parts: S11 where it begins one too many.
+/// A part of `sections` behind so many of them, which is a block of its own.
 #[tactic(auto, using(om_rules::specs::InRow::first_of_left))]
 #[cycle(statement)]
-fn resolve_item(
+fn resolve_part(
     alloc: Global,
     symbols: &mut Symbols,
     flow: Flow,
     before: usize,
-    item: &Statement,
-) -> Result<Box<ResolvedStatement>, SourceFault>
-    ensures checked { Checks result
-        (part_breaches symbols.old flow before (view_statement item.now)) }
+    part: &Part,
+) -> Result<ResolvedPart, SourceFault>
+    ensures checked { Checks result (part_breaches symbols.old flow before (view_part part.now)) }
     ensures in_scope { OnOk result (symbols.new ≡ symbols.old) }
-    ensures resolved { let tree = view_statement item.now in
-        IfOk result
-        (λ found. resolved_statement (inside symbols.old) flow.parallel tree
-        ≡ Some (view_resolved_statement found.value)) }
+    ensures resolved { IfOk result
+        (λ found. resolved_statements (inside symbols.old) flow.parallel (view_part part.now).items
+        ≡ Some (view_resolved_part found)) }
 {
-    refuse_if(
-        begins_part(before, item) && SECTION_LIMIT <= before,
-        FaultCode::TooMany,
-        statement_start(item),
-    )?;
-    resolve_body(alloc, symbols, flow, item)
+    check_section(before, &part.section)?;
+    let items = resolve_block(alloc, symbols, flow, part.items.as_slice())?;
+    Ok(ResolvedPart { items })
+}
+
+/// Refuses a `section` that begins one part too many behind so many: S11.
+fn check_section(
+    before: usize,
+    section: &Option<Box<Directive<Expression>>>,
+) -> Result<(), SourceFault>
+    ensures { Checks result
+        (section_breaches before (option_map (λ d. view_directive d.value) section.now)) }
+{
+    match section {
+        Some(directive) => refuse_if(
+            SECTION_LIMIT <= before,
+            FaultCode::TooMany,
+            directive.hash.start,
+        ),
+        None => Ok(()),
+    }
 }

@@ -18,7 +18,6 @@ use Rattle.om_resolved.specs.ResolvedTree.{ResolvedClauseTree, ResolvedExpressio
 use Rattle.om_resolved.specs.ResolvedTree.{ResolvedLoopTree, ResolvedPartsTree, ResolvedStatementTree, ResolvedTree}
 use Rattle.om_resolved.specs.ResolvedTree.{ResolvedUpdateTree}
 use Rattle.om_rules.specs.DirectiveRules.{in_construct, parallel_in, traits_of}
-use Rattle.om_rules.specs.Grouping.{Grouped, grouped, parts_of}
 use Rattle.om_rules.specs.Loops.{Loop, loop_in}
 use Rattle.om_rules.specs.Perhaps.{◌>>=◌, all_along}
 use Rattle.om_rules.specs.Resolution.{TargetTree, Scalar, ElementOf, assigned, resolved_expression, resolved_target}
@@ -31,19 +30,19 @@ use Rattle.om_rules.specs.StatementResolution.{resolved_loop, resolved_loop_cons
 use Rattle.om_rules.specs.StatementResolution.{resolved_plain_construct, resolved_repeated, resolved_start}
 use Rattle.om_rules.specs.StatementResolution.{resolved_statement, resolved_statements, schedule_of}
 use Rattle.om_rules.specs.StatementResolution.{sections_construct_of, with_update}
-use Rattle.om_rules.specs.StatementRules.{after_for_start, after_statement, begins_part, in_loop, parts_behind}
+use Rattle.om_rules.specs.StatementRules.{after_for_start, after_statement, in_loop}
 use Rattle.om_rules.specs.StatementRules.{round_bounds}
 use Rattle.om_rules.specs.UnitResolution.{item_functions, resolution_of, resolved_function, resolved_inside}
 use Rattle.om_rules.specs.Updates.{statement_side, update_of}
-use Rattle.om_whole.proofs.Steps.{if_any, if_either, if_mapped, if_then}
+use Rattle.om_whole.proofs.Steps.{if_any, if_either, if_then}
 use Rattle.om_whole.proofs.Unbroken.{not_false}
 use Rattle.om_tree.specs.AtomicForms.{has_atomic_form, is_read, is_write}
-use Rattle.om_tree.specs.Sizes.{AtomicsHaveForms, HasForms, HasItemForms, HaveForms, Where}
+use Rattle.om_tree.specs.Sizes.{AtomicsHaveForms, HasForms, HasItemForms, HaveForms, PartsHaveForms, Where}
 use Rattle.om_tree.specs.Tree as trees
 use Rattle.om_tree.specs.Tree.{ExpressionTree, FunctionTree, ItemTree, Declaration, Prototype, Function, StatementTree}
 use Rattle.om_tree.specs.Tree.{LocalDeclaration, Block, Empty, Expression, If, IfElse, While, Do, For, Return, Break}
-use Rattle.om_tree.specs.Tree.{Continue, Construct, StandAlone, Sections, Section, StatementsTree, NoStatements}
-use Rattle.om_tree.specs.Tree.{Statement, UnitTree, statements}
+use Rattle.om_tree.specs.Tree.{Continue, Construct, StandAlone, Sections, StatementsTree, NoStatements}
+use Rattle.om_tree.specs.Tree.{Statement, UnitTree, statements, PartsTree, NoParts, Part}
 
 -- in a statement each `atomic` that reads or writes assigns
 abbrev Good : ResolvedStatementTree → Type 0
@@ -210,15 +209,6 @@ alone_good scopes d (directives.Taskgroup s) = tt
 alone_good scopes d (directives.Flush s list) = if_then (λ vs. Unit {0}) Good (flushed scopes list) _
     (if_any (flushed scopes list)) (λ vs u. tt)
 
--- items of `sections`
-abbrev AreGoodItems : Grouped → Type 0
-AreGoodItems items = EverywhereIn AtomicAssigns items.front × EverywhereInParts AtomicAssigns items.parts
-
-item_good : (begins : Bool) (s : ResolvedStatementTree) (rest : Grouped) → Good s → AreGoodItems rest
-    → AreGoodItems (grouped begins s rest)
-item_good true s rest h hr = (tt, ((h, hr.0), hr.1))
-item_good false s rest h hr = ((h, hr.0), hr.1)
-
 -- ---- statements
 
 -- of a step whose result is not asked for
@@ -232,7 +222,7 @@ either_good true x y h g = h refl
 either_good false x y h g = g refl
 
 mutual
-  unfolding resolved_statement resolved_statements resolved_repeated resolved_parts HasForms HaveForms
+  unfolding resolved_statement resolved_statements resolved_repeated resolved_parts HasForms HaveForms PartsHaveForms
 
   statement_good : (scopes : Scopes) (parallel : Option ℕ) (s : StatementTree) → HasForms true s
       → IfSome (resolved_statement scopes parallel s) Good
@@ -292,15 +282,11 @@ mutual
       (not_false (traits_of d.name).takes_loop e) h))
       (λ body hb. loop_good d cs l body hb)))))
   statement_good scopes parallel (StandAlone d) h = alone_good scopes d d.name
-  statement_good scopes parallel (Sections d left items right) h =
+  statement_good scopes parallel (Sections d left parts right) h =
       then_good (resolved_clauses scopes d.clauses) _ (λ cs.
       if_then (EverywhereInParts AtomicAssigns) Good
-      (option_map parts_of (resolved_parts (in_construct d scopes) (parallel_in d parallel) 0 items)) _
-      (if_mapped AreGoodItems (EverywhereInParts AtomicAssigns) (resolved_parts (in_construct d scopes)
-      (parallel_in d parallel) 0 items) parts_of
-      (parts_good (in_construct d scopes) (parallel_in d parallel) 0 items h) (λ g hg. hg.1))
-      (λ parts hp. sections_good d cs parts hp))
-  statement_good scopes parallel (Section d s) h = statement_good (inside scopes) parallel s h
+      (resolved_parts (in_construct d scopes) (parallel_in d parallel) parts) _
+      (parts_good (in_construct d scopes) (parallel_in d parallel) parts h) (λ ps hp. sections_good d cs ps hp))
 
   statements_good : (scopes : Scopes) (parallel : Option ℕ) (ss : StatementsTree) → HaveForms true ss
       → IfSome (resolved_statements scopes parallel ss) (EverywhereIn AtomicAssigns)
@@ -329,17 +315,16 @@ mutual
   repeated_good scopes parallel found (Construct d s) h = tt
   repeated_good scopes parallel found (StandAlone d) h = tt
   repeated_good scopes parallel found (Sections d left parts right) h = tt
-  repeated_good scopes parallel found (Section d s) h = tt
 
-  parts_good : (scopes : Scopes) (parallel : Option ℕ) (before : ℕ) (items : StatementsTree) → HaveForms true items
-      → IfSome (resolved_parts scopes parallel before items) AreGoodItems
-  parts_good scopes parallel before NoStatements h = (tt, tt)
-  parts_good scopes parallel before (Statement s rest) h =
-      if_then Good AreGoodItems (resolved_statement (inside scopes) parallel s) _
-      (statement_good (inside scopes) parallel s h.0) (λ t ht.
-      if_then AreGoodItems AreGoodItems (resolved_parts scopes parallel (parts_behind before s) rest) _
-      (parts_good scopes parallel (parts_behind before s) rest h.1) (λ g hg. item_good (begins_part before s) t g ht
-      hg))
+  parts_good : (scopes : Scopes) (parallel : Option ℕ) (parts : PartsTree) → PartsHaveForms true parts
+      → IfSome (resolved_parts scopes parallel parts) (EverywhereInParts AtomicAssigns)
+  parts_good scopes parallel NoParts h = tt
+  parts_good scopes parallel (Part section items rest) h =
+      if_then (EverywhereIn AtomicAssigns) (EverywhereInParts AtomicAssigns)
+      (resolved_statements (inside scopes) parallel items) _ (statements_good (inside scopes) parallel items h.0)
+      (λ ss hs.
+      if_then (EverywhereInParts AtomicAssigns) (EverywhereInParts AtomicAssigns) (resolved_parts scopes parallel rest)
+      _ (parts_good scopes parallel rest h.1) (λ ps hp. (hs, hp)))
 
 -- ---- functions
 

@@ -13,7 +13,7 @@ use Rattle.om_pragma.specs.declared.tree.Directive.{Directive}
 use Rattle.om_tree.specs.declared.tree.Parameter.{Parameter}
 use Rattle.om_tree.specs.Tree.{ExpressionTree, DeclaratorTree, ForStartTree, Nothing, StartExpression, StartDeclaration}
 use Rattle.om_tree.specs.Tree.{StatementTree, LocalDeclaration, Block, Empty, Expression, If, IfElse, While, Do, For}
-use Rattle.om_tree.specs.Tree.{Return, Break, Continue, Construct, StandAlone, Sections, Section, HeadTree}
+use Rattle.om_tree.specs.Tree.{Return, Break, Continue, Construct, StandAlone, Sections, HeadTree}
 use Rattle.om_resolved.specs.declared.resolved.Variable.{Variable}
 use Rattle.om_resolved.specs.declared.resolved.Variable.TheVariants as variables
 use Rattle.om_rules.specs.declared.meaning.Meaning.{Meaning}
@@ -245,4 +245,3 @@ below_statement n scopes (Continue at semicolon) h = h
 below_statement n scopes (Construct d s) h = h
 below_statement n scopes (StandAlone d) h = h
 below_statement n scopes (Sections d left parts right) h = h
-below_statement n scopes (Section d s) h = h

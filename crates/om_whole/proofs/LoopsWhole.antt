@@ -46,7 +46,7 @@ use Rattle.om_tree.specs.Formed.{IsExpression, IsLine}
 use Rattle.om_tree.specs.Tree.{ExpressionTree, Name, Constant, Text, Paren, Index, Call, Prefix, Postfix, Binary}
 use Rattle.om_tree.specs.Tree.{Conditional, Assign, ForHeadTree, StatementTree, LocalDeclaration, Block, Empty}
 use Rattle.om_tree.specs.Tree.{Expression, If, IfElse, While, Do, For, Return, Break, Continue, Construct, StandAlone}
-use Rattle.om_tree.specs.Tree.{Sections, Section}
+use Rattle.om_tree.specs.Tree.{Sections}
 
 -- what a test decides
 pub test_cases : {A : Type 0} (P : A → Type 0) (test : Bool) (x y : A) → (test ≡ true → P x) → (test ≡ false → P y)
@@ -263,7 +263,6 @@ goes_on (Continue at semicolon) = tt
 goes_on (Construct d s) = tt
 goes_on (StandAlone d) = tt
 goes_on (Sections d left parts right) = tt
-goes_on (Section d s) = tt
 
 -- ---- schedules
 

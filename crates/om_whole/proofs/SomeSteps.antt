@@ -12,10 +12,6 @@ pub some_then : {A B : Type 0} (o : Option A) (f : A → Option B) → IsSome o 
 some_then None f h next = cc
 some_then (Some x) f h next = next x
 
-pub some_mapped : {A B : Type 0} (o : Option A) (f : A → B) → IsSome o → IsSome (option_map f o)
-some_mapped None f h = cc
-some_mapped (Some x) f h = refl
-
 -- of parts without a breach
 module _ {S X Y : Type 0} (breaches : S → X → List SourceFault) (after : S → X → S) where
   pub some_each : (f : X → Option Y) → ((state : S) (x : X) → breaches state x ≡ [] → IsSome (f x))

@@ -2,10 +2,9 @@
 use Rattle.std.proofs.Common.{ℕ, Bool, true, false, Option, Some, option_map}
 use Rattle.std.specs.Prelude.{IfSome, not}
 use Rattle.om_tree.specs.Tree.{StatementTree, LocalDeclaration, Block, Empty, Expression, If, IfElse, While, Do, For}
-use Rattle.om_tree.specs.Tree.{Return, Break, Continue, Construct, StandAlone, Sections, Section, StatementsTree}
+use Rattle.om_tree.specs.Tree.{Return, Break, Continue, Construct, StandAlone, Sections, PartsTree, NoParts, Part, StatementsTree}
 use Rattle.om_tree.specs.Tree.{NoStatements, Statement}
 use Rattle.om_rules.specs.DirectiveRules.{in_construct, parallel_in, traits_of}
-use Rattle.om_rules.specs.Grouping.{Grouped, grouped, parts_of}
 use Rattle.om_rules.specs.Loops.{Loop, loop_in}
 use Rattle.om_rules.specs.Resolution.{resolved_expression}
 use Rattle.om_resolved.specs.ResolvedTree.{ResolvedLoopTree, ResolvedStatementTree}
@@ -15,7 +14,7 @@ use Rattle.om_rules.specs.StatementResolution.{resolved_perhaps, schedule_of, re
 use Rattle.om_rules.specs.StatementResolution.{resolved_repeated, resolved_parts, resolved_plain_construct}
 use Rattle.om_rules.specs.StatementResolution.{resolved_loop_construct}
 use Rattle.om_rules.specs.Updates.{statement_side}
-use Rattle.om_rules.specs.StatementRules.{after_for_start, after_statement, begins_part, in_loop, parts_behind}
+use Rattle.om_rules.specs.StatementRules.{after_for_start, after_statement, in_loop}
 use Rattle.om_rules.specs.StatementRules.{round_bounds}
 use Rattle.om_resolved.specs.Uses.{UsesVariables, PerhapsUsesVariables, DeclaratorsUseVariables, StartUsesVariables}
 use Rattle.om_resolved.specs.Uses.{ClausesUseVariables, StatementUsesVariables, StatementsUseVariables}
@@ -25,16 +24,7 @@ use Rattle.om_whole.proofs.ClauseUses.{loop_construct_uses, sections_construct_u
 use Rattle.om_whole.proofs.ExpressionUses.{expression_uses}
 use Rattle.om_whole.proofs.GlobalsBelow.{Below, below_inside, below_construct, below_bounds, below_in_loop, below_start}
 use Rattle.om_whole.proofs.GlobalsBelow.{below_statement}
-use Rattle.om_whole.proofs.Steps.{if_then, if_any, if_either, if_mapped}
-
--- what the items of `sections` use
-abbrev GroupUses : ℕ → Grouped → Type 0
-GroupUses n items = StatementsUseVariables n items.front × PartsUseVariables n items.parts
-
-group_uses : (n : ℕ) (begins : Bool) (s : ResolvedStatementTree) (rest : Grouped) → StatementUsesVariables n s
-    → GroupUses n rest → GroupUses n (grouped begins s rest)
-group_uses n true s rest h others = (tt, ((h, others.0), others.1))
-group_uses n false s rest h others = ((h, others.0), others.1)
+use Rattle.om_whole.proofs.Steps.{if_then, if_any, if_either}
 
 -- what both bounds of a loop use
 abbrev LoopUsesVariables : ℕ → ResolvedLoopTree → Type 0
@@ -121,14 +111,9 @@ mutual
       if_then (ClausesUseVariables n) (StatementUsesVariables n) (resolved_clauses scopes d.clauses) _
       (clauses_use n scopes d.clauses h) (λ cs hcs.
       if_then (PartsUseVariables n) (StatementUsesVariables n)
-      (option_map parts_of (resolved_parts (in_construct d scopes) (parallel_in d parallel) 0 parts)) _
-      (if_mapped (GroupUses n) (PartsUseVariables n) (resolved_parts (in_construct d scopes)
-      (parallel_in d parallel) 0 parts) parts_of
-      (parts_use n (in_construct d scopes) (parallel_in d parallel) 0 parts (below_construct n d scopes h))
-      (λ items hi. hi.1))
+      (resolved_parts (in_construct d scopes) (parallel_in d parallel) parts) _
+      (parts_use n (in_construct d scopes) (parallel_in d parallel) parts (below_construct n d scopes h))
       (λ made hm. sections_construct_uses n d cs made hcs hm))
-  statement_uses n scopes parallel (Section d s) h = statement_uses n (inside scopes) parallel s
-      (below_inside n scopes h)
 
   pub statements_use : (n : ℕ) (scopes : Scopes) (parallel : Option ℕ) (ss : StatementsTree) → Below n scopes
       → IfSome (resolved_statements scopes parallel ss) (StatementsUseVariables n)
@@ -158,14 +143,12 @@ mutual
   repeated_uses n scopes parallel found (Construct d s) h = tt
   repeated_uses n scopes parallel found (StandAlone d) h = tt
   repeated_uses n scopes parallel found (Sections d left parts right) h = tt
-  repeated_uses n scopes parallel found (Section d s) h = tt
 
-  parts_use : (n : ℕ) (scopes : Scopes) (parallel : Option ℕ) (before : ℕ) (parts : StatementsTree) → Below n scopes
-      → IfSome (resolved_parts scopes parallel before parts) (GroupUses n)
-  parts_use n scopes parallel before NoStatements h = (tt, tt)
-  parts_use n scopes parallel before (Statement s rest) h =
-      if_then (StatementUsesVariables n) (GroupUses n) (resolved_statement (inside scopes) parallel s) _
-      (statement_uses n (inside scopes) parallel s (below_inside n scopes h)) (λ t ht.
-      if_then (GroupUses n) (GroupUses n) (resolved_parts scopes parallel (parts_behind before s) rest) _
-      (parts_use n scopes parallel (parts_behind before s) rest h) (λ items hi. group_uses n (begins_part before s)
-      t items ht hi))
+  parts_use : (n : ℕ) (scopes : Scopes) (parallel : Option ℕ) (parts : PartsTree) → Below n scopes
+      → IfSome (resolved_parts scopes parallel parts) (PartsUseVariables n)
+  parts_use n scopes parallel NoParts h = tt
+  parts_use n scopes parallel (Part section items rest) h =
+      if_then (StatementsUseVariables n) (PartsUseVariables n) (resolved_statements (inside scopes) parallel items) _
+      (statements_use n (inside scopes) parallel items (below_inside n scopes h)) (λ ss hss.
+      if_then (PartsUseVariables n) (PartsUseVariables n) (resolved_parts scopes parallel rest) _
+      (parts_use n scopes parallel rest h) (λ ps hps. (hss, hps)))

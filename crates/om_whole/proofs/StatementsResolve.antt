@@ -1,20 +1,18 @@
 -- A statement without a breach has a resolution.
-use Rattle.std.proofs.Common.{◌≡◌, ℕ, true, false, cond, not, List, [], ◌++◌, Option, None, Some, is_some, option_map}
-use Rattle.std.proofs.Common.{refl}
-use Rattle.std.specs.Prelude.{IsSome, nat_le, ◌&&◌}
+use Rattle.std.proofs.Common.{◌≡◌, ℕ, true, false, cond, not, List, [], ◌++◌, Option, None, Some, is_some}
+use Rattle.std.proofs.Common.{refl, ◌+◌}
+use Rattle.std.specs.Prelude.{IsSome}
 use Rattle.om_lexer.specs.declared.fault.FaultCode.TheVariants as faults
 use Rattle.om_lexer.specs.declared.fault.SourceFault.{SourceFault}
 use Rattle.om_pragma.specs.declared.tree.Directive.{Directive}
 use Rattle.om_tree.specs.Tree.{ExpressionTree, StatementTree, LocalDeclaration, Block, Empty, Expression, If, IfElse}
-use Rattle.om_tree.specs.Tree.{While, Do, For, Return, Break, Continue, Construct, StandAlone, Sections, Section}
-use Rattle.om_tree.specs.Tree.{StatementsTree, NoStatements, Statement}
+use Rattle.om_tree.specs.Tree.{While, Do, For, Return, Break, Continue, Construct, StandAlone, Sections}
+use Rattle.om_tree.specs.Tree.{StatementsTree, NoStatements, Statement, PartsTree, NoParts, Part}
 use Rattle.om_rules.specs.declared.flow.Flow.{Flow}
-use Rattle.om_rules.specs.declared.limits.TheConstants.{SECTION_LIMIT}
 use Rattle.om_rules.specs.DirectiveRules.{constructing, directive_breaches, flush_breaches, in_construct, parallel_in}
 use Rattle.om_rules.specs.DirectiveRules.{traits_of}
 use Rattle.om_rules.specs.ExpressionRules.{expression_breaches}
-use Rattle.om_rules.specs.Faults.{breach_if, with_breach}
-use Rattle.om_rules.specs.Grouping.{parts_of}
+use Rattle.om_rules.specs.Faults.{with_breach}
 use Rattle.om_rules.specs.Loops.{Loop, loop_in}
 use Rattle.om_rules.specs.Places.{statement_start}
 use Rattle.om_rules.specs.Resolution.{resolved_expression}
@@ -25,13 +23,13 @@ use Rattle.om_rules.specs.StatementResolution.{resolved_repeated, resolved_parts
 use Rattle.om_rules.specs.StatementResolution.{resolved_loop_construct}
 use Rattle.om_rules.specs.StatementRules.{jump_breaches, return_breaches, perhaps_breaches, for_start_breaches}
 use Rattle.om_rules.specs.StatementRules.{after_for_start, for_turn_breaches, looping, round_bounds, found_breaches}
-use Rattle.om_rules.specs.StatementRules.{bounds_breaches, in_loop, continuing, after_statement, begins_part}
-use Rattle.om_rules.specs.StatementRules.{parts_behind, statement_breaches, statements_breaches, body_breaches}
-use Rattle.om_rules.specs.StatementRules.{sections_breaches}
+use Rattle.om_rules.specs.StatementRules.{bounds_breaches, in_loop, continuing, after_statement}
+use Rattle.om_rules.specs.StatementRules.{statement_breaches, statements_breaches, body_breaches}
+use Rattle.om_rules.specs.StatementRules.{parts_breaches, section_breaches}
 use Rattle.om_whole.proofs.ClausesResolve.{has_declarators, has_start, has_perhaps, has_returned, has_clauses, has_loop}
 use Rattle.om_whole.proofs.ClausesResolve.{has_alone}
 use Rattle.om_whole.proofs.ExpressionsResolve.{has_expression}
-use Rattle.om_whole.proofs.SomeSteps.{some_then, some_mapped}
+use Rattle.om_whole.proofs.SomeSteps.{some_then}
 use Rattle.om_whole.proofs.Unbroken.{front, back, by_test, never_placed}
 
 -- what a construct for a loop has where it has none of its parts lacks a breach
@@ -57,7 +55,7 @@ loop_there scopes parallel flow d s (Some found) others clauses body whole =
     some_then (resolved_repeated (in_construct d scopes) (parallel_in d parallel) found s) _ repeated (λ y. refl)))
 
 mutual
-  unfolding statement_breaches statements_breaches body_breaches sections_breaches resolved_statement
+  unfolding statement_breaches statements_breaches body_breaches parts_breaches resolved_statement
       resolved_statements resolved_repeated resolved_parts
 
   has_statement : (scopes : Scopes) (flow : Flow) (parallel : Option ℕ) (s : StatementTree) → statement_breaches
@@ -142,14 +140,11 @@ mutual
       (back (directive_breaches scopes flow d) (flush_breaches scopes d.name) whole)
   has_statement scopes flow parallel (Sections d left parts right) whole =
       let own = directive_breaches scopes flow d in
-      let others = sections_breaches (in_construct d scopes) (constructing d flow) 0 parts in
-      let items = has_parts (in_construct d scopes) (constructing d flow) (parallel_in d parallel) 0 parts
+      let others = parts_breaches (in_construct d scopes) (constructing d flow) 0 parts in
+      let made = has_parts (in_construct d scopes) (constructing d flow) (parallel_in d parallel) 0 parts
       (back own others whole) in
       some_then (resolved_clauses scopes d.clauses) _ (has_clauses scopes flow d (front own others whole)) (λ cs.
-      some_then (option_map parts_of (resolved_parts (in_construct d scopes) (parallel_in d parallel) 0 parts)) _
-      (some_mapped (resolved_parts (in_construct d scopes) (parallel_in d parallel) 0 parts) parts_of items)
-      (λ x. refl))
-  has_statement scopes flow parallel (Section d s) whole = has_statement (inside scopes) flow parallel s whole
+      some_then (resolved_parts (in_construct d scopes) (parallel_in d parallel) parts) _ made (λ x. refl))
 
   pub has_statements : (scopes : Scopes) (flow : Flow) (parallel : Option ℕ) (ss : StatementsTree)
       → statements_breaches scopes flow ss ≡ [] → IsSome (resolved_statements scopes parallel ss)
@@ -180,17 +175,15 @@ mutual
   has_repeated scopes flow parallel found (Construct d s) whole = refl
   has_repeated scopes flow parallel found (StandAlone d) whole = refl
   has_repeated scopes flow parallel found (Sections d left parts right) whole = refl
-  has_repeated scopes flow parallel found (Section d s) whole = refl
 
-  has_parts : (scopes : Scopes) (flow : Flow) (parallel : Option ℕ) (before : ℕ) (parts : StatementsTree)
-      → sections_breaches scopes flow before parts ≡ [] → IsSome (resolved_parts scopes parallel before parts)
-  has_parts scopes flow parallel before NoStatements whole = refl
-  has_parts scopes flow parallel before (Statement s rest) whole =
-      let many = breach_if (begins_part before s && nat_le SECTION_LIMIT before) faults.TooMany (statement_start s) in
-      let own = statement_breaches (inside scopes) flow s in
-      let others = sections_breaches scopes flow (parts_behind before s) rest in
-      let first = front (many ++ own) others whole in
-      let y = has_parts scopes flow parallel (parts_behind before s) rest (back (many ++ own) others whole) in
-      some_then (resolved_statement (inside scopes) parallel s) _ (has_statement (inside scopes) flow parallel s
-      (back many own first)) (λ t.
-      some_then (resolved_parts scopes parallel (parts_behind before s) rest) _ y (λ ts. refl))
+  has_parts : (scopes : Scopes) (flow : Flow) (parallel : Option ℕ) (before : ℕ) (parts : PartsTree)
+      → parts_breaches scopes flow before parts ≡ [] → IsSome (resolved_parts scopes parallel parts)
+  has_parts scopes flow parallel before NoParts whole = refl
+  has_parts scopes flow parallel before (Part section items rest) whole =
+      let many = section_breaches before section in
+      let own = statements_breaches (inside scopes) flow items in
+      let others = parts_breaches scopes flow (before + 1) rest in
+      let y = has_parts scopes flow parallel (before + 1) rest (back (many ++ own) others whole) in
+      some_then (resolved_statements (inside scopes) parallel items) _ (has_statements (inside scopes) flow parallel
+      items (back many own (front (many ++ own) others whole))) (λ ss.
+      some_then (resolved_parts scopes parallel rest) _ y (λ ps. refl))

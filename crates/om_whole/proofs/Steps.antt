@@ -11,11 +11,10 @@ pub if_then : {A B : Type 0} (P : A → Type 0) (Q : B → Type 0) (o : Option A
 if_then P Q None f h next = tt
 if_then P Q (Some x) f h next = next x h
 
--- of what is made of it
-pub if_mapped : {A B : Type 0} (P : A → Type 0) (Q : B → Type 0) (o : Option A) (f : A → B) → IfSome o P
-    → ((x : A) → P x → Q (f x)) → IfSome (option_map f o) Q
-if_mapped P Q None f h next = tt
-if_mapped P Q (Some x) f h next = next x h
+-- two at once
+pub if_both : {A : Type 0} (P Q : A → Type 0) (o : Option A) → IfSome o P → IfSome o Q → IfSome o (λ x. P x × Q x)
+if_both P Q None hp hq = tt
+if_both P Q (Some x) hp hq = (hp, hq)
 
 -- three at once
 pub if_three : {A : Type 0} (P Q R : A → Type 0) (o : Option A) → IfSome o P → IfSome o Q → IfSome o R

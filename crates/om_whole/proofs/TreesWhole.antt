@@ -1,7 +1,7 @@
 -- Well-formed statements without a breach resolve to whole ones.
 use Rattle.std.proofs.Common.{◌≡◌, ℕ, ◌≤◌, Bool, true, false, cond, not, List, [], ◌∷◌, ◌++◌, All, Option, None, Some}
-use Rattle.std.proofs.Common.{is_some, option_map, refl, sym, subst, ◌∙◌}
-use Rattle.std.specs.Prelude.{IfSome, nat_le, ◌&&◌}
+use Rattle.std.proofs.Common.{is_some, refl, sym, subst, ◌∙◌, ◌+◌}
+use Rattle.std.specs.Prelude.{IfSome}
 use Rattle.std.specs.List.{flat_map}
 use Rattle.std.proofs.lemmas.List.Elements.{All-nil}
 use Rattle.om_lexer.specs.declared.fault.FaultCode.TheVariants as faults
@@ -18,14 +18,13 @@ use Rattle.om_resolved.specs.Whole.{HaveOneValue}
 use Rattle.om_resolved.specs.Whole.{Around, IsWhole, IsWholeIfAny, IsWholeClause, IsWholeReturn, of_parallel}
 use Rattle.om_resolved.specs.Whole.{of_worksharing, copies_in, scalar, within, with_locals, iterated, repeated}
 use Rattle.om_resolved.specs.Whole.{after_start, after_item, part_count, IsWholeStatement, AreWholeItems, AreWholeParts}
+use Rattle.om_resolved.specs.Whole.{HasItem}
 use Rattle.om_rules.specs.declared.flow.Flow.{Flow}
-use Rattle.om_rules.specs.declared.limits.TheConstants.{SECTION_LIMIT}
 use Rattle.om_rules.specs.DirectiveRules.{constructing, parallel_in, nesting_breaches, nothing_listed, item_breaches}
 use Rattle.om_rules.specs.DirectiveRules.{directive_breaches, flush_breaches, in_construct, traits_of}
 use Rattle.om_rules.specs.DirectiveRules as directives
 use Rattle.om_rules.specs.ExpressionRules.{expression_breaches}
-use Rattle.om_rules.specs.Faults.{breach_if, breaches_along, with_breach}
-use Rattle.om_rules.specs.Grouping.{Grouped, grouped, parts_of}
+use Rattle.om_rules.specs.Faults.{breaches_along, with_breach}
 use Rattle.om_whole.specs.Knowing.{Known, Knows, Agrees}
 use Rattle.om_rules.specs.Loops.{Loop, loop_in}
 use Rattle.om_rules.specs.Perhaps.{◌>>=◌}
@@ -41,8 +40,8 @@ use Rattle.om_rules.specs.StatementResolution.{resolved_loop_construct, resolved
 use Rattle.om_rules.specs.StatementRules.{jump_breaches, return_breaches, perhaps_breaches, for_start_breaches}
 use Rattle.om_rules.specs.StatementRules.{after_for_start, for_turn_breaches, looping, continuing, round_bounds}
 use Rattle.om_rules.specs.StatementRules.{with_iteration, found_breaches, bounds_breaches, in_loop, after_statement}
-use Rattle.om_rules.specs.StatementRules.{begins_part, parts_behind, statement_breaches, statements_breaches}
-use Rattle.om_rules.specs.StatementRules.{body_breaches, sections_breaches}
+use Rattle.om_rules.specs.StatementRules.{parts_breaches, section_breaches, statement_breaches, statements_breaches}
+use Rattle.om_rules.specs.StatementRules.{body_breaches}
 use Rattle.om_rules.specs.Updates.{statement_side}
 use Rattle.om_pragma.specs.Table.{IsDirective}
 use Rattle.om_tree.specs.Formed.{IsLine}
@@ -56,12 +55,12 @@ use Rattle.om_whole.proofs.StatementsWhole.{AreGoodDeclarators, whole_declarator
 use Rattle.om_whole.proofs.StatementsWhole.{whole_perhaps, whole_return, not_true, agrees_looping, agrees_start}
 use Rattle.om_whole.proofs.StatementsWhole.{agrees_item, agrees_construct, agrees_loop, knows_item}
 use Rattle.om_whole.proofs.PartCounts.{few_parts, some_part}
-use Rattle.om_whole.proofs.Steps.{if_then, if_either, if_mapped, if_three}
+use Rattle.om_whole.proofs.Steps.{if_any, if_then, if_either, if_both, if_three}
 use Rattle.om_whole.proofs.Unbroken.{front, back, not_broken, not_false, never_placed}
-use Rattle.om_tree.specs.Formed.{IsStatement, AreStatements, AreSome, AreSectionItems}
+use Rattle.om_tree.specs.Formed.{IsStatement, AreStatements, AreSome, AreParts, ArePartItems, AreFurtherParts}
 use Rattle.om_tree.specs.Tree.{ExpressionTree, StatementTree, LocalDeclaration, Block, Empty, Expression, If, IfElse}
-use Rattle.om_tree.specs.Tree.{While, Do, For, Return, Break, Continue, Construct, StandAlone, Sections, Section}
-use Rattle.om_tree.specs.Tree.{StatementsTree, NoStatements, Statement}
+use Rattle.om_tree.specs.Tree.{While, Do, For, Return, Break, Continue, Construct, StandAlone, Sections}
+use Rattle.om_tree.specs.Tree.{StatementsTree, NoStatements, Statement, PartsTree, NoParts, Part}
 
 -- what a test decides of two
 by_cases : {A B : Type 0} (test : Bool) (P : A → B → Type 0) (a b : A) (x y : B) → (test ≡ true → P a x)
@@ -198,42 +197,39 @@ abbrev AreGoodParts : Around → ResolvedPartsTree → Type 0
 AreGoodParts around parts = (1 ≤ part_count parts) × (part_count parts ≤ 256) × AreWholeParts around parts
 
 sections_whole : (around : Around) (scopes : Scopes) (flow : Flow) (parallel : Option ℕ)
-    (d : Directive ExpressionTree) (items : StatementsTree) → Agrees around flow → is_sections d.name ≡ true
-    → AreSome items
-    → IfSome (resolved_clauses scopes d.clauses) (AreGood around d scopes) → sections_breaches
-    (in_construct d scopes) (constructing d flow) 0 items ≡ []
+    (d : Directive ExpressionTree) (parts : PartsTree) → Agrees around flow → is_sections d.name ≡ true
+    → AreParts parts
+    → IfSome (resolved_clauses scopes d.clauses) (AreGood around d scopes) → parts_breaches
+    (in_construct d scopes) (constructing d flow) 0 parts ≡ []
     → ((inner : Around) → Knows inner (in_construct d scopes) → Agrees inner (constructing d flow)
-    → IfSome (resolved_parts (in_construct d scopes) (parallel_in d parallel) 0 items)
-    (λ g. AreWholeParts inner g.parts))
-    → IfSome (resolved_sections scopes parallel d items) (IsWholeStatement around)
-sections_whole around scopes flow parallel d items f is some clauses w whole =
+    → IfSome (resolved_parts (in_construct d scopes) (parallel_in d parallel) parts) (AreWholeParts inner))
+    → IfSome (resolved_sections scopes parallel d parts) (IsWholeStatement around)
+sections_whole around scopes flow parallel d parts f is formed clauses w whole =
     if_then (AreGood around d scopes) (IsWholeStatement around) (resolved_clauses scopes d.clauses) _ clauses (λ cs hcs.
     by cs hcs.1 (is_parallel (traits_of d.name).region) (subst (λ admitted. All (IsWholeClause around admitted) cs)
     (sections_admitted (has_nowait d) d.name is) hcs.0) hcs.2)
   where
-    found : Option Grouped
-    found = resolved_parts (in_construct d scopes) (parallel_in d parallel) 0 items
+    found : Option ResolvedPartsTree
+    found = resolved_parts (in_construct d scopes) (parallel_in d parallel) parts
 
     good : (inner : Around) → Knows inner (in_construct d scopes) → Agrees inner (constructing d flow)
-        → IfSome (option_map parts_of found) (AreGoodParts inner)
+        → IfSome found (AreGoodParts inner)
     good inner known agrees =
-        if_mapped (λ g. AreGoodParts inner g.parts) (AreGoodParts inner) found parts_of
-        (if_three (λ g. 1 ≤ part_count g.parts) (λ g. part_count g.parts ≤ 256) (λ g. AreWholeParts inner g.parts) found
-        (some_part (in_construct d scopes) (parallel_in d parallel) items some) (few_parts (in_construct d scopes)
-        (constructing d flow) (parallel_in d parallel) items w) (whole inner known agrees))
-        (λ g hg. hg)
+        if_three (λ ps. 1 ≤ part_count ps) (λ ps. part_count ps ≤ 256) (AreWholeParts inner) found
+        (some_part (in_construct d scopes) (parallel_in d parallel) parts formed) (few_parts (in_construct d scopes)
+        (constructing d flow) (parallel_in d parallel) parts formed w) (whole inner known agrees)
 
     by : (cs : List ResolvedClauseTree) → Known around.globals around.functions (around.locals ++ flat_map copies_in
         cs) (in_construct d scopes) → (p : Bool)
         → All (IsWholeClause around (cond p of_parallel of_worksharing)) cs → HaveOneValue cs
-        → IfSome (option_map parts_of found >>= λ parts. Some
+        → IfSome (found >>= λ parts. Some
         (cond p (parallel_of d cs (resolved.Sections d.hash [] true parts))
         (resolved.Sections d.hash cs (has_nowait d) parts))) (IsWholeStatement around)
     by cs known true hc once =
         let outer = within (within around cs) [] in
         let deeper = known_more around.globals around.functions (around.locals ++ flat_map copies_in cs) []
         (in_construct d scopes) known in
-        if_then (AreGoodParts outer) (IsWholeStatement around) (option_map parts_of found) _
+        if_then (AreGoodParts outer) (IsWholeStatement around) found _
         (good outer deeper (record {
           breaks = refl;
           continues = refl;
@@ -247,18 +243,39 @@ sections_whole around scopes flow parallel d items f is some clauses w whole =
           once,
         ))
     by cs known false hc once =
-        if_then (AreGoodParts (within around cs)) (IsWholeStatement around) (option_map parts_of found) _
+        if_then (AreGoodParts (within around cs)) (IsWholeStatement around) found _
         (good (within around cs) known (agrees_construct around flow d cs f)) (λ parts hp. (hc, hp.0, hp.1, hp.2))
 
--- items of `sections`: those in front go on there, and each part begins here
-abbrev AreGoodItems : Around → Around → Grouped → Type 0
-AreGoodItems here there items = AreWholeItems there items.front × AreWholeParts here items.parts
+-- well-formed items in each of these parts, one at least
+abbrev HaveItems : PartsTree → Type 0
+HaveItems NoParts = Unit {0}
+HaveItems (Part section items rest) = AreSome items × AreStatements items × HaveItems rest
 
-good_item : (here there : Around) (begins : Bool) (t : ResolvedStatementTree) (rest : Grouped) → IsWholeStatement
-    (cond begins here there) t
-    → AreGoodItems here (after_item (cond begins here there) t) rest → AreGoodItems here there (grouped begins t rest)
-good_item here there true t rest ht hr = (tt, (tt, (ht, hr.0), hr.1))
-good_item here there false t rest ht hr = ((ht, hr.0), hr.1)
+items_formed : (ss : StatementsTree) → ArePartItems ss → AreStatements ss
+unfolding IsStatement
+items_formed NoStatements formed = tt
+items_formed (Statement s rest) formed = (formed.0, items_formed rest formed.2)
+
+further_items : (parts : PartsTree) → AreFurtherParts parts → HaveItems parts
+unfolding IsStatement
+further_items NoParts formed = tt
+further_items (Part section items rest) formed =
+    (formed.1, items_formed items formed.2, further_items rest formed.3)
+
+have_items : (parts : PartsTree) → AreParts parts → HaveItems parts
+unfolding IsStatement
+have_items NoParts formed = absurd formed
+have_items (Part section items rest) formed = (formed.1, items_formed items formed.2, further_items rest formed.3)
+
+some_item : (scopes : Scopes) (parallel : Option ℕ) (items : StatementsTree) → AreSome items
+    → IfSome (resolved_statements scopes parallel items) HasItem
+unfolding resolved_statements
+some_item scopes parallel NoStatements some = absurd some
+some_item scopes parallel (Statement s rest) some =
+    if_then (λ t. Unit {0}) HasItem (resolved_statement scopes parallel s) _
+    (if_any (resolved_statement scopes parallel s)) (λ t u.
+    if_then (λ ts. Unit {0}) HasItem (resolved_statements (after_statement scopes s) parallel rest) _
+    (if_any (resolved_statements (after_statement scopes s) parallel rest)) (λ ts u. tt))
 
 -- ---- statements
 
@@ -275,7 +292,7 @@ part around scopes parallel s h = if_more (IsGoodStatement around (inside scopes
 
 mutual
   unfolding statement_breaches statements_breaches body_breaches resolved_statement resolved_statements
-      resolved_repeated sections_breaches resolved_parts IsStatement AreStatements AreSectionItems
+      resolved_repeated parts_breaches resolved_parts IsStatement AreStatements
 
   pub whole_statement : (around : Around) (scopes : Scopes) (flow : Flow) (parallel : Option ℕ) (s : StatementTree)
       → Knows around scopes → Agrees around flow → IsStatement s
@@ -418,26 +435,18 @@ mutual
       if_more (IsWholeStatement around) (IsGoodStatement around scopes (StandAlone d))
       (resolved_alone scopes d d.name) (λ t ht. (ht, knows_item around scopes t h))
       (alone_whole around scopes d d.name h (back (directive_breaches scopes flow d) (flush_breaches scopes d.name) w))
-  whole_statement around scopes flow parallel (Sections d left items right) h f formed w =
+  whole_statement around scopes flow parallel (Sections d left parts right) h f formed w =
       let own = directive_breaches scopes flow d in
-      let others = sections_breaches (in_construct d scopes) (constructing d flow) 0 items in
+      let others = parts_breaches (in_construct d scopes) (constructing d flow) 0 parts in
       let clauses = once_too around d scopes formed.0 (whole_clauses around (admitted_by (has_nowait d) d.name) scopes
       h d (line_admitted (has_nowait d) d formed.0)
       (back (nesting_breaches flow d.name) (breaches_along (item_breaches scopes) directives.after_item
       nothing_listed d.clauses) (front own others w))) in
-      if_more (IsWholeStatement around) (IsGoodStatement around scopes (Sections d left items right))
-      (resolved_sections scopes parallel d items) (λ t ht. (ht, knows_item around scopes t h))
-      (sections_whole around scopes flow parallel d items f formed.1 formed.2 clauses (back own others w)
-      (λ inner known agrees.
-      if_more (AreGoodItems inner inner) (λ g. AreWholeParts inner g.parts) (resolved_parts (in_construct d scopes)
-      (parallel_in d parallel) 0 items) (λ g hg. hg.1)
-      (whole_parts inner inner (in_construct d scopes) (constructing d flow) (parallel_in d parallel) 0 items known
-      agrees known agrees formed.3 (back own others w))))
-  whole_statement around scopes flow parallel (Section d s) h f formed w =
-      if_more (IsGoodStatement around (inside scopes) s) (IsGoodStatement around scopes (Section d s))
-      (resolved_statement (inside scopes) parallel s) (λ t ht. (ht.0, knows_item around scopes t h))
-      (whole_statement around (inside scopes) flow parallel s (known_inside around.globals around.functions
-      around.locals scopes h) f formed.2 w)
+      if_more (IsWholeStatement around) (IsGoodStatement around scopes (Sections d left parts right))
+      (resolved_sections scopes parallel d parts) (λ t ht. (ht, knows_item around scopes t h))
+      (sections_whole around scopes flow parallel d parts f formed.1 formed.2 clauses (back own others w)
+      (λ inner known agrees. whole_parts inner (in_construct d scopes) (constructing d flow) (parallel_in d parallel) 0
+      parts known agrees (have_items parts formed.2) (back own others w)))
 
   -- what a canonical loop repeats
   whole_repeated : (inner : Around) (scopes : Scopes) (flow : Flow) (parallel : Option ℕ) (found : Loop)
@@ -462,7 +471,6 @@ mutual
   whole_repeated inner scopes flow parallel found (Construct d s) known agrees formed w = tt
   whole_repeated inner scopes flow parallel found (StandAlone d) known agrees formed w = tt
   whole_repeated inner scopes flow parallel found (Sections d left parts right) known agrees formed w = tt
-  whole_repeated inner scopes flow parallel found (Section d s) known agrees formed w = tt
 
   pub whole_items : (around : Around) (scopes : Scopes) (flow : Flow) (parallel : Option ℕ) (ss : StatementsTree)
       → Knows around scopes → Agrees around flow → AreStatements ss
@@ -476,28 +484,24 @@ mutual
       if_then (AreWholeItems (after_item around t)) (AreWholeItems around)
       (resolved_statements (after_statement scopes s) parallel rest) _
       (whole_items (after_item around t) (after_statement scopes s) flow parallel rest ht.1
-      (agrees_item around flow t f) formed.2 (back own others w)) (λ ts hts. (ht.0, hts)))
+      (agrees_item around flow t f) formed.1 (back own others w)) (λ ts hts. (ht.0, hts)))
 
-  -- the items of `sections`, each in the scopes of the construct
-  whole_parts : (here there : Around) (scopes : Scopes) (flow : Flow) (parallel : Option ℕ) (before : ℕ)
-      (items : StatementsTree) → Knows here scopes → Agrees here flow → Knows there scopes → Agrees there flow
-      → AreSectionItems items → sections_breaches scopes flow before items ≡ []
-      → IfSome (resolved_parts scopes parallel before items) (AreGoodItems here there)
-  whole_parts here there scopes flow parallel before NoStatements h f k g formed w = (tt, tt)
-  whole_parts here there scopes flow parallel before (Statement s rest) h f k g formed w =
-      let many = breach_if (begins_part before s && nat_le SECTION_LIMIT before) faults.TooMany (statement_start s) in
-      let own = statement_breaches (inside scopes) flow s in
-      let others = sections_breaches scopes flow (parts_behind before s) rest in
-      let at : Around = cond (begins_part before s) here there in
-      let known : Knows at scopes = if_either (λ a. Knows a scopes) (begins_part before s) here there h k in
-      let agrees : Agrees at flow = if_either (λ a. Agrees a flow) (begins_part before s) here there f g in
-      if_then (IsWholeStatement at) (AreGoodItems here there) (resolved_statement (inside scopes) parallel s) _
-      (part at scopes parallel s (whole_statement at (inside scopes) flow parallel s
-      (known_inside at.globals at.functions at.locals scopes known) agrees formed.0
-      (back many own (front (many ++ own) others w)))) (λ t ht.
-      if_then (AreGoodItems here (after_item at t)) (AreGoodItems here there)
-      (resolved_parts scopes parallel (parts_behind before s) rest) _
-      (whole_parts here (after_item at t) scopes flow parallel (parts_behind before s) rest h f
-      (knows_item at scopes t known) (agrees_item at flow t agrees) formed.2 (back (many ++ own) others w))
-      (λ items hi.
-      good_item here there (begins_part before s) t items ht hi))
+  -- the parts of `sections`, each in the scopes of the construct
+  whole_parts : (around : Around) (scopes : Scopes) (flow : Flow) (parallel : Option ℕ) (before : ℕ)
+      (parts : PartsTree) → Knows around scopes → Agrees around flow → HaveItems parts
+      → parts_breaches scopes flow before parts ≡ [] → IfSome (resolved_parts scopes parallel parts)
+      (AreWholeParts around)
+  whole_parts around scopes flow parallel before NoParts h f formed w = tt
+  whole_parts around scopes flow parallel before (Part section items rest) h f formed w =
+      let many = section_breaches before section in
+      let own = statements_breaches (inside scopes) flow items in
+      let others = parts_breaches scopes flow (before + 1) rest in
+      if_then (λ ss. HasItem ss × AreWholeItems around ss) (AreWholeParts around)
+      (resolved_statements (inside scopes) parallel items) _
+      (if_both HasItem (AreWholeItems around) (resolved_statements (inside scopes) parallel items)
+      (some_item (inside scopes) parallel items formed.0)
+      (whole_items around (inside scopes) flow parallel items (known_inside around.globals around.functions
+      around.locals scopes h) f formed.1 (back many own (front (many ++ own) others w)))) (λ ss hss.
+      if_then (AreWholeParts around) (AreWholeParts around) (resolved_parts scopes parallel rest) _
+      (whole_parts around scopes flow parallel (before + 1) rest h f formed.2 (back (many ++ own) others w))
+      (λ ps hps. (hss.0, hss.1, hps)))

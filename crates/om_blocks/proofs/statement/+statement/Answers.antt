@@ -1,11 +1,10 @@
-use Rattle.std.proofs.Common.{◌≡◌, Some, length, map, option_map, ap, sym, ◌∙◌, arith}
+use Rattle.std.proofs.Common.{◌≡◌, ◌+◌, [], ◌∷◌, ◌++◌, Some, length, length-append, map, option_map, ap, sym, ◌∙◌, arith}
 use Rattle.std.proofs.lemmas.List.{drop_all}
 use Rattle.std.proofs.lemmas.Result.{err_from_is_err_and}
-use Rattle.om_tree.specs.View.{view_directive, view_for_start, view_statement}
+use Rattle.om_tree.specs.View.{view_directive, view_for_start, view_part, view_statement}
 use Rattle.om_forms.specs.LoopViews.{view_loop}
 use Rattle.om_rules.specs.Loops.{loop_in}
 use Rattle.om_resolved.specs.ResolvedView.{view_resolved_part, view_resolved_statement}
-use Rattle.om_rules.specs.Grouping.{with_item}
 use Rattle.om_rules.specs.Scopes.{outside}
 use Rattle.om_rules.specs.StatementResolution.{resolved_statement}
 use Rattle.om_rules.specs.StatementRules.{after_for_start, after_statement, after_statements}
@@ -14,7 +13,7 @@ use Rattle.om_blocks.proofs.Blocks.{parts_step, statements_made, statements_refu
 use Rattle.om_blocks.proofs.Constructs.{view_construct}
 use Rattle.om_blocks.proofs.Founds.{ok_anyway, ok_then}
 use Rattle.om_blocks.proofs.Fronts.{bounds_refuse}
-use Rattle.om_blocks.proofs.MadeParts.{grouped_count, grouped_step, grouped_whole}
+use Rattle.om_blocks.proofs.MadeParts.{parts_made, parts_whole}
 use Rattle.om_blocks.specs.Items.{drop-item, length-map}
 use Rattle.om_regions.specs.Pushes.{map-push}
 use Rattle.om_blocks.proofs.statement.+statement.Goals as goal
@@ -93,51 +92,48 @@ resolve_statements-returns-clause-resolved t c =
     let left = rw none at c.loop-item.invariant in
     statements_whole _ _ _ _ left.2
 
-pub resolve_parts-returns-in_err-add_item-clause-checked : goal.resolve_parts-returns-in_err-add_item-clause-checked
-resolve_parts-returns-in_err-add_item-clause-checked t c =
+pub resolve_parts-returns-in_err-add-clause-checked : goal.resolve_parts-returns-in_err-add-clause-checked
+resolve_parts-returns-in_err-add-clause-checked t c =
     let p = err_from_is_err_and c.from_residual.result c.from_residual.ensures.1 in
-    let here = ap (map view_statement) (drop-item c.args.items.now c.loop-item.item-index c.item-item.result
-    c.loop-item-test.true c.item-item.is) in
-    let left = rw here at c.loop-item.invariant in
-    let count : c.len-in-loop-item.result ≡ length (map view_resolved_part c.loop-item.parts.items) =
-    omega (
+    let here = ap (map view_part) (drop-item c.args.sections.now c.loop-part.part-index c.part-item.result
+    c.loop-part-test.true c.part-item.is) in
+    let left = rw here at c.loop-part.invariant in
+    let count : c.len.result ≡ length (map view_resolved_part c.loop-part.resolved.items) = omega (
       arith,
-      c.len-in-loop-item.ensures,
-      c.loop-item.parts.ok.0,
-      length-map view_resolved_part
-          c.loop-item.parts.items,
+      c.len.ensures,
+      c.loop-part.resolved.ok.0,
+      length-map view_resolved_part c.loop-part.resolved.items,
     ) in
-    let checked = rw (left.1, count) at c.resolve_item-found.ensures.checked in
-    rw (p.1, p.2) (parts_refuse _ _ _ _ _ _ _ left.0 (c.in_err-add_item.ensures.checked _ checked))
+    let checked = rw (left.1, count) at c.resolve_part-found.ensures.checked in
+    rw (p.1, p.2) (parts_refuse _ _ _ _ _ _ _ left.0 (c.in_err-add.ensures.checked _ checked))
 
-pub resolve_parts-loop-item-preserved : goal.resolve_parts-loop-item-preserved
-resolve_parts-loop-item-preserved t c =
-    let here = ap (map view_statement) (drop-item c.args.items.now c.loop-item.item-index c.item-item.result
-    c.loop-item-test.true c.item-item.is) in
-    let left = rw here at c.loop-item.invariant in
-    let made = map view_resolved_part c.loop-item.parts.items in
-    let as_many = length-map view_resolved_part c.loop-item.parts.items in
-    let count : c.len-in-loop-item.result ≡ length made = omega (
+pub resolve_parts-loop-part-preserved : goal.resolve_parts-loop-part-preserved
+resolve_parts-loop-part-preserved t c =
+    let here = ap (map view_part) (drop-item c.args.sections.now c.loop-part.part-index c.part-item.result
+    c.loop-part-test.true c.part-item.is) in
+    let left = rw here at c.loop-part.invariant in
+    let made = map view_resolved_part c.loop-part.resolved.items in
+    let as_many = length-map view_resolved_part c.loop-part.resolved.items in
+    let count : c.len.result ≡ length made = omega (
       arith,
-      c.len-in-loop-item.ensures,
-      c.loop-item.parts.ok.0,
+      c.len.ensures,
+      c.loop-part.resolved.ok.0,
       as_many,
     ) in
-    let before : c.len.result ≡ length made = omega (arith, c.len.ensures, c.loop-item.parts.ok.0, as_many) in
-    let begun = rw before at c.begins_part-begins.ensures in
-    let added = c.in_ok-add_item.ensures.added in
-    let checked = rw (left.1, count, added.1) at c.resolve_item-found.ensures.checked in
-    let behind = rw added.1 at c.resolve_item-found.ensures.in_scope in
-    let found = rw (left.1, added.1) at c.resolve_item-found.ensures.resolved in
-    let grown = added.2 ∙ ap (λ begins. with_item begins (view_resolved_statement added.0.value) made) begun in
-    rw (grown, grouped_count (view_resolved_statement added.0.value) made _) (
+    let added = c.in_ok-add.ensures.added in
+    let checked = rw (left.1, count, added.1) at c.resolve_part-found.ensures.checked in
+    let behind = rw added.1 at c.resolve_part-found.ensures.in_scope in
+    let found = rw (left.1, added.1) at c.resolve_part-found.ensures.resolved in
+    let grown = ap (map view_resolved_part) added.2 ∙ map-push view_resolved_part c.loop-part.resolved.items added.0 in
+    let longer : length (made ++ view_resolved_part added.0 ∷ []) ≡ length made + 1 = length-append made _ in
+    rw (grown, longer) (
       parts_step _ _ _ _ _ _ left.0 checked,
       behind ∙ left.1,
-      grouped_step _ _ _ _ _ _ _ left.2 found,
+      parts_made _ _ _ _ _ _ _ left.2 found,
     )
 
 pub resolve_parts-returns-clause-resolved : goal.resolve_parts-returns-clause-resolved
 resolve_parts-returns-clause-resolved t c =
-    let none = ap (map view_statement) (drop_all c.loop-item.item-index c.args.items.now c.loop-item-test.false) in
-    let left = rw none at c.loop-item.invariant in
-    grouped_whole _ _ _ _ _ left.2
+    let none = ap (map view_part) (drop_all c.loop-part.part-index c.args.sections.now c.loop-part-test.false) in
+    let left = rw none at c.loop-part.invariant in
+    parts_whole _ _ _ _ left.2

@@ -1,9 +1,9 @@
 use Rattle.std.proofs.Common.{◌≡◌, length, map, drop}
-use Rattle.om_tree.specs.Tree.{statements}
-use Rattle.om_tree.specs.View.{view_statement}
+use Rattle.om_tree.specs.Tree.{parts, statements}
+use Rattle.om_tree.specs.View.{view_part, view_statement}
 use Rattle.om_resolved.specs.ResolvedView.{view_resolved_part, view_resolved_statement}
 use Rattle.om_rules.specs.StatementResolution.{resolved_parts, resolved_statements}
-use Rattle.om_rules.specs.StatementRules.{after_statements, sections_breaches, statements_breaches}
+use Rattle.om_rules.specs.StatementRules.{after_statements, parts_breaches, statements_breaches}
 use Rattle.om_blocks.proofs.MadeParts.{MadeParts}
 use Rattle.om_blocks.proofs.Statements.{Made}
 use Rattle.om_blocks.proofs.statement.+statement.Given as goal
@@ -19,14 +19,13 @@ invariant-resolve_statements-loop-item l =
     × Made (resolved_statements l.fn.symbols parallel (statements all)) (resolved_statements l.symbols parallel
     (statements left)) (map view_resolved_statement l.resolved.items)
 
-abbrev pub invariant-resolve_parts-loop-item : goal.invariant-resolve_parts-loop-item
-invariant-resolve_parts-loop-item l =
-    let all = map view_statement l.items in
-    let left = map view_statement (drop l.item-index l.items) in
+abbrev pub invariant-resolve_parts-loop-part : goal.invariant-resolve_parts-loop-part
+invariant-resolve_parts-loop-part l =
+    let all = map view_part l.sections in
+    let left = map view_part (drop l.part-index l.sections) in
     let parallel = l.flow.parallel in
-    let made = map view_resolved_part l.parts.items in
-    (sections_breaches l.fn.symbols l.flow 0 (statements all) ≡ sections_breaches l.fn.symbols l.flow (length made)
-    (statements left))
+    let made = map view_resolved_part l.resolved.items in
+    (parts_breaches l.fn.symbols l.flow 0 (parts all) ≡ parts_breaches l.fn.symbols l.flow (length made) (parts left))
     × (l.symbols ≡ l.fn.symbols)
-    × MadeParts (resolved_parts l.fn.symbols parallel 0 (statements all)) (resolved_parts l.fn.symbols parallel
-    (length made) (statements left)) made
+    × MadeParts (resolved_parts l.fn.symbols parallel (parts all)) (resolved_parts l.fn.symbols parallel (parts left))
+    made
