@@ -9,3 +9,4 @@ mod FunctionPlain
 mod UnitCut
 mod UnitRefusals
 mod Promises
+mod Asked

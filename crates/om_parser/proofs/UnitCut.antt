@@ -1,7 +1,7 @@
 -- Where a unit is refused by another code than that of syntax: at a limit its tokens up to there begin a
 -- well-formed one.
-use Rattle.std.proofs.Common.{◌≡◌, ◌≤◌, ℕ, zero, suc, List, [], ◌∷◌, ◌++◌, length, Err, sym, ap, subst, ◌∙◌, refl, inl}
-use Rattle.std.proofs.Common.{inr, All}
+use Rattle.std.proofs.Common.{◌≡◌, ◌≤◌, ℕ, zero, suc, List, [], ◌∷◌, ◌++◌, length, Option, Err, sym, ap, subst, ◌∙◌}
+use Rattle.std.proofs.Common.{refl, inl, inr, All}
 use Rattle.std.specs.List.{flat_map}
 use Rattle.std.proofs.lemmas.List.{append-nil}
 use Rattle.std.proofs.lemmas.List.Elements.{All-nil, All-cons}
@@ -16,7 +16,7 @@ use Rattle.om_tree.specs.declared.tree.ResultType.{ResultType}
 use Rattle.om_tree.specs.declared.tree.ResultType.TheVariants as results
 use Rattle.om_phrases.specs.Faults.{IsStopped}
 use Rattle.om_tree.specs.Formed.{IsFunction, IsItem, IsUnit}
-use Rattle.om_parser.specs.FunctionReading.{are_named, head_after}
+use Rattle.om_parser.specs.FunctionReading.{head_after, named_head}
 use Rattle.om_tree.specs.Limits.{Limits}
 use Rattle.om_parts.specs.PartReading.{global_at}
 use Rattle.om_parser.proofs.Given.{ReadingLaws}
@@ -24,38 +24,39 @@ use Rattle.om_phrases.specs.StatementReading.{block_at}
 use Rattle.om_tree.specs.Places.{IsOverInItem, IsOverInUnitItems, IsOverInUnit}
 use Rattle.om_parts.specs.Reading.{take_mark, take_word, mark_at, word_at, name_at}
 use Rattle.om_parts.specs.Repetition.{until}
-use Rattle.om_tree.specs.Spelling.{token, mark, word, name, result_spelling, block_spelling, head_spelling}
-use Rattle.om_tree.specs.Spelling.{item_spelling, unit_spelling}
+use Rattle.om_tree.specs.Spelling.{token, mark, word, name, result_spelling, block_spelling, definition_spelling}
+use Rattle.om_tree.specs.Spelling.{item_spelling, prototype_spelling, unit_spelling}
 use Rattle.om_tree.specs.Tree.{HeadTree, Function}
 use Rattle.om_parser.specs.UnitReading.{function_after, prototype_after, void_after, int_after, item_at, take_end}
 use Rattle.om_parser.specs.UnitReading.{unit_at}
 use Rattle.om_phrases.specs.Outcomes.{bind_err, choose_cases}
 use Rattle.om_phrases.specs.Taken.{take_mark_is, take_word_is, mark_at_is, word_at_is, name_at_is}
-use Rattle.om_parser.proofs.FunctionSound.{head_sound, named_is}
-use Rattle.om_parser.proofs.UnitSound.{or_else, item_sound}
+use Rattle.om_parser.proofs.FunctionSound.{head_sound, named_head_is}
+use Rattle.om_parser.proofs.UnitSound.{item_sound}
 use Rattle.om_parts.specs.Laws.{Stops}
 use Rattle.om_phrases.specs.Stopped.{IsPlain, syntax_plain, known_plain, bind_plain, within_larger}
-use Rattle.om_parser.proofs.FunctionPlain.{head_plain}
+use Rattle.om_parser.proofs.FunctionPlain.{head_plain, named_head_plain}
 
 module _ (laws : ReadingLaws) (l : Limits) (one : 1 ≤ l.nested) where
   abbrev IsItemCut : List Token → SourceFault → Type 0
   IsItemCut ts f = IsStopped item_spelling IsItem (IsOverInItem l) l ts f
 
-  function_cut : (h : HeadTree) (ts : List Token) (f : SourceFault) → function_after l h ts ≡ Err f → Stops f
-      → IsItemCut (head_spelling h ++ ts) f
+  function_cut : (h : HeadTree (Option names.Name)) (ts : List Token) (f : SourceFault)
+      → function_after l h ts ≡ Err f → Stops f → IsItemCut (prototype_spelling h ++ ts) f
   unfolding function_after item_spelling IsItem IsFunction
   function_cut h ts f e stops = elim (choose_cases (take_mark punctuators.Semicolon ts) _ _ (Err f) e) [
     | inl (s, taken, no_err) ↦ absurd cc
-    | inr (none, g) ↦
-        let named = or_else (are_named h.parameters) _ _ f g (λ d. syntax_plain ts f d stops) in
-        elim (bind_err (block_at l ts) _ f named.1) [
-          | inr (b, read, no_err) ↦ absurd cc
-          | inl d ↦ within_larger item_spelling IsItem (IsOverInItem l) (head_spelling h) []
-              (λ b. Function (record { head = h; body = b })) (head_spelling h ++ ts) ts f
-              (λ b is. (named_is h.parameters named.0, is)) (λ b. ap (λ w. head_spelling h ++ w)
-              (sym (append-nil (block_spelling b)))) (λ b before t over. (before, refl, over)) refl
-              (laws.stop l one ts f d stops)
-        ]
+    | inr (none, g) ↦ elim (bind_err (named_head ts h) _ f g) [
+      | inl wrong ↦ absurd (named_head_plain ts h f wrong stops)
+      | inr (k, named, u) ↦ elim (bind_err (block_at l ts) _ f u) [
+        | inr (b, read, no_err) ↦ absurd cc
+        | inl d ↦ within_larger item_spelling IsItem (IsOverInItem l) (definition_spelling k) []
+            (λ b. Function (record { head = k; body = b })) (prototype_spelling h ++ ts) ts f
+            (λ b is. is) (λ b. ap (λ w. definition_spelling k ++ w) (sym (append-nil (block_spelling b))))
+            (λ b before t over. (before, refl, over)) (ap (λ w. w ++ ts) (named_head_is ts h k named))
+            (laws.stop l one ts f d stops)
+      ]
+    ]
   ]
 
   prototype_cut : (result : ResultType) (n : names.Name) (left : Span) (ts : List Token) (f : SourceFault)

@@ -1,10 +1,9 @@
 -- A unit that is read is well-formed, within the limits, and spelled as the tokens were.
-use Rattle.std.proofs.Common.{◌≡◌, ◌<◌, ◌≤◌, ℕ, zero, suc, List, [], ◌∷◌, ◌++◌, length, Err, refl, sym, ap, subst, ◌∙◌}
-use Rattle.std.proofs.Common.{Bool, true, false, cond, arith, length-append, inl, inr, All}
+use Rattle.std.proofs.Common.{◌≡◌, ◌<◌, ◌≤◌, ℕ, zero, suc, List, [], ◌∷◌, ◌++◌, length, Option, refl, sym, ap, subst}
+use Rattle.std.proofs.Common.{◌∙◌, arith, length-append, inl, inr, All}
 use Rattle.std.specs.List.{flat_map}
 use Rattle.std.proofs.lemmas.List.{append-nil}
 use Rattle.std.proofs.lemmas.List.Elements.{All-weaker}
-use Rattle.om_lexer.specs.declared.fault.SourceFault.{SourceFault}
 use Rattle.om_lexer.specs.declared.token.Keyword.TheVariants as keywords
 use Rattle.om_lexer.specs.declared.token.Punctuator.TheVariants as punctuators
 use Rattle.om_lexer.specs.declared.token.Span.{Span}
@@ -15,12 +14,13 @@ use Rattle.om_pragma.specs.declared.name.Name as names
 use Rattle.om_tree.specs.declared.tree.ResultType.{ResultType}
 use Rattle.om_tree.specs.declared.tree.ResultType.TheVariants as results
 use Rattle.om_tree.specs.Formed.{IsFunction, IsItem, IsUnit}
-use Rattle.om_parser.specs.FunctionReading.{are_named, head_after}
+use Rattle.om_parser.specs.FunctionReading.{head_after, named_head}
 use Rattle.om_tree.specs.Limits.{Limits}
-use Rattle.om_parts.specs.Reading.{Reader, Outcome, take_mark, take_word, mark_at, word_at, name_at}
+use Rattle.om_parts.specs.Reading.{Reader, take_mark, take_word, mark_at, word_at, name_at}
 use Rattle.om_parts.specs.Repetition.{until}
 use Rattle.om_tree.specs.Spelling.{token, mark, word, name, result_spelling, block_spelling, declaration_spelling}
-use Rattle.om_tree.specs.Spelling.{head_spelling, item_spelling, unit_spelling}
+use Rattle.om_tree.specs.Spelling.{definition_spelling, given_name, head_spelling, item_spelling, perhaps}
+use Rattle.om_tree.specs.Spelling.{prototype_spelling, unit_spelling}
 use Rattle.om_parts.specs.PartReading.{global_at}
 use Rattle.om_phrases.specs.StatementReading.{block_at}
 use Rattle.om_tree.specs.Tree.{HeadTree, ItemTree, Declaration, Prototype, Function, UnitTree}
@@ -32,7 +32,7 @@ use Rattle.om_parts.specs.Laws.{IsRead, IsSound, GlobalsAreSound}
 use Rattle.om_phrases.specs.Laws.{BlocksAreSound}
 use Rattle.om_phrases.specs.ItemsSound.{until_sound}
 use Rattle.om_parser.proofs.Forms.{IsKeptItem}
-use Rattle.om_parser.proofs.FunctionSound.{head_sound, named_is}
+use Rattle.om_parser.proofs.FunctionSound.{head_sound, named_head_is}
 
 pub take_end_is : (ts : List Token) (s : Span) (us : List Token) → take_end ts ≡ some (s, us)
     → (ts ≡ token kinds.End s ∷ us) × (us ≡ [])
@@ -62,39 +62,31 @@ until_end item (suc k) ts x h = elim (choose_cases (take_end ts) _ _ (ok x) h) [
       sym (ap (λ y. y.2) (ok_is (a.0.0 ∷ b.0.0, b.0.1, b.0.2) x b.2)) ∙ until_end item k a.0.1 b.0 b.1
 ]
 
--- what goes on only where a test holds
-pub only_if : {A : Type 0} (b : Bool) (first other : Outcome A) (x : A) → cond b first other ≡ ok x
-    → ((y : A) → other ≡ ok y → ⊥) → (b ≡ true) × (first ≡ ok x)
-only_if true first other x h never = (refl, h)
-only_if false first other x h never = absurd (never x h)
-
-pub or_else : {A : Type 0} (b : Bool) (first other : Outcome A) (f : SourceFault) → cond b first other ≡ Err f
-    → (other ≡ Err f → ⊥) → (b ≡ true) × (first ≡ Err f)
-or_else true first other f h never = (refl, h)
-or_else false first other f h never = absurd (never h)
-
 module _ (sound : BlocksAreSound) (globals : GlobalsAreSound) (l : Limits) (one : 1 ≤ l.nested) where
   abbrev pub IsGoodItem : ItemTree → Type 0
   IsGoodItem i = IsItem i × IsKeptItem l i
 
-  function_sound : (h : HeadTree) (ts : List Token) (x : ItemTree × List Token) → function_after l h ts ≡ ok x
-      → IsRead item_spelling IsGoodItem (head_spelling h ++ ts) x
+  function_sound : (h : HeadTree (Option names.Name)) (ts : List Token) (x : ItemTree × List Token)
+      → function_after l h ts ≡ ok x → IsRead item_spelling IsGoodItem (prototype_spelling h ++ ts) x
   unfolding function_after item_spelling IsItem IsFunction
   function_sound h ts x e = elim (choose_cases (take_mark punctuators.Semicolon ts) _ _ (ok x) e) [
-    | inl s ↦ subst (IsRead item_spelling IsGoodItem (head_spelling h ++ ts)) (ok_is (Prototype h s.0.0, s.0.1) x
-        s.2) (record {
-          parts = after_front (head_spelling h ++ ts) (head_spelling h) ts (mark punctuators.Semicolon s.0.0 ∷ []) s.0.1
-              refl (take_mark_is punctuators.Semicolon ts s.0.0 s.0.1 s.1);
+    | inl s ↦ subst (IsRead item_spelling IsGoodItem (prototype_spelling h ++ ts))
+        (ok_is (Prototype h s.0.0, s.0.1) x s.2) (record {
+          parts = after_front (prototype_spelling h ++ ts) (prototype_spelling h) ts
+              (mark punctuators.Semicolon s.0.0 ∷ []) s.0.1 refl
+              (take_mark_is punctuators.Semicolon ts s.0.0 s.0.1 s.1);
           formed = (tt, (tt, tt));
         })
     | inr g ↦
-        let named = only_if (are_named h.parameters) _ _ x g.1 (λ y d. absurd cc) in
-        let b = bind_ok (block_at l ts) _ x named.1 in
+        let named = bind_ok (named_head ts h) _ x g.1 in
+        let b = bind_ok (block_at l ts) _ x named.2 in
         let body = sound l one ts b.0 b.1 in
-        subst (IsRead item_spelling IsGoodItem (head_spelling h ++ ts))
-        (ok_is (Function (record { head = h; body = b.0.0 }), b.0.1) x b.2) (record {
-          parts = after_front (head_spelling h ++ ts) (head_spelling h) ts (block_spelling b.0.0) b.0.1 refl body.parts;
-          formed = ((named_is h.parameters named.0, body.formed.formed), (body.formed.room_for, body.formed.forms));
+        subst (IsRead item_spelling IsGoodItem (prototype_spelling h ++ ts))
+        (ok_is (Function (record { head = named.0; body = b.0.0 }), b.0.1) x b.2) (record {
+          parts = ap (λ w. w ++ ts) (named_head_is ts h named.0 named.1)
+              ∙ after_front (definition_spelling named.0 ++ ts) (definition_spelling named.0) ts
+              (block_spelling b.0.0) b.0.1 refl body.parts;
+          formed = (body.formed.formed, (body.formed.room_for, body.formed.forms));
         })
   ]
 
@@ -166,15 +158,16 @@ module _ (sound : BlocksAreSound) (globals : GlobalsAreSound) (l : Limits) (one 
 
 -- ---- what is read takes a token at least
 
-head_some : (h : HeadTree) (ts : List Token) → 0 < length (head_spelling h ++ ts)
+head_some : {N : Type 0} (spell : N → List Token) (h : HeadTree N) (ts : List Token)
+    → 0 < length (head_spelling spell h ++ ts)
 unfolding head_spelling
-head_some h ts = omega arith
+head_some spell h ts = omega arith
 
 pub item_some : (i : ItemTree) → 0 < length (item_spelling i)
 unfolding item_spelling declaration_spelling
 item_some (Declaration d) = omega arith
-item_some (Prototype h semicolon) = head_some h (mark punctuators.Semicolon semicolon ∷ [])
-item_some (Function f) = head_some f.head (block_spelling f.body)
+item_some (Prototype h semicolon) = head_some (perhaps given_name) h (mark punctuators.Semicolon semicolon ∷ [])
+item_some (Function f) = head_some given_name f.head (block_spelling f.body)
 
 pub end_shorter : (ts : List Token) (s : Span) (us : List Token) → take_end ts ≡ some (s, us) → length us < length ts
 end_shorter ts s us e = omega (arith, ap length (take_end_is ts s us e).0)

@@ -1,5 +1,5 @@
 -- For proofs: reading functions, items and the whole source from the left.
-use Rattle.std.specs.Prelude.{List, [], ◌∷◌, length, Option, Some, None, Ok, Err, if◌then◌else◌}
+use Rattle.std.specs.Prelude.{List, [], ◌∷◌, length, Option, Some, None, Ok}
 use Rattle.om_lexer.specs.declared.token.Keyword.TheVariants as keywords
 use Rattle.om_lexer.specs.declared.token.Punctuator.TheVariants as punctuators
 use Rattle.om_lexer.specs.declared.token.Span.{Span}
@@ -10,9 +10,9 @@ use Rattle.om_pragma.specs.declared.name.Name as names
 use Rattle.om_tree.specs.declared.tree.ResultType.{ResultType}
 use Rattle.om_tree.specs.declared.tree.ResultType.TheVariants as results
 use Rattle.om_parts.specs.PartReading.{global_at}
-use Rattle.om_parser.specs.FunctionReading.{are_named, head_after}
+use Rattle.om_parser.specs.FunctionReading.{head_after, named_head}
 use Rattle.om_tree.specs.Limits.{Limits}
-use Rattle.om_parts.specs.Reading.{◌>>=◌, choose, Outcome, Reader, syntax, take_mark, take_word, mark_at, word_at}
+use Rattle.om_parts.specs.Reading.{◌>>=◌, choose, Outcome, Reader, take_mark, take_word, mark_at, word_at}
 use Rattle.om_parts.specs.Reading.{name_at}
 use Rattle.om_parts.specs.Repetition.{until}
 use Rattle.om_phrases.specs.StatementReading.{block_at}
@@ -21,13 +21,10 @@ use Rattle.om_tree.specs.Tree.{HeadTree, ItemTree, Declaration, Prototype, Funct
 -- ---- functions
 
 -- the semicolon of a prototype or the body of a function, behind its head (C17 6.9.1)
-unfoldable pub function_after : Limits → HeadTree → Reader ItemTree
+unfoldable pub function_after : Limits → HeadTree (Option names.Name) → Reader ItemTree
 function_after l head ts = choose (take_mark punctuators.Semicolon ts)
     (λ s. Ok (Prototype head s.0, s.1))
-    (if are_named head.parameters then (block_at l ts >>= λ b. Ok (
-      Function (record { head = head; body = b.0 }),
-      b.1,
-    )) else Err (syntax ts))
+    (named_head ts head >>= λ h. block_at l ts >>= λ b. Ok (Function (record { head = h; body = b.0 }), b.1))
 
 -- the rest of a prototype or function, behind its left parenthesis
 unfoldable pub prototype_after : Limits → ResultType → names.Name → Span → Reader ItemTree

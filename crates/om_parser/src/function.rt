@@ -1,16 +1,15 @@
 //! The heads of functions (C17 6.7.6.3).
 
-ghost use Rattle.std.specs.Prelude.{◌≡◌, length, is_some, Ok};
-ghost use Rattle.std.specs.List.{list_all};
+ghost use Rattle.std.specs.Prelude.{◌≡◌, length, Ok};
 ghost use Rattle.om_lexer.specs.declared.token.Punctuator.TheVariants.{CloseParen};
-ghost use Rattle.om_parser.specs.FunctionReading.{parameter_at, further_parameter_at, listed_at, parameters_at, head_after, are_named};
-ghost use Rattle.om_parts.specs.Reading.{take_mark, take_name, Reads};
+ghost use Rattle.om_parser.specs.FunctionReading.{parameter_at, further_parameter_at, listed_at, parameters_at, head_after, named_parameter, named_further, named_parameters, named_head};
+ghost use Rattle.om_parts.specs.Reading.{take_mark, take_name, Reads, ReadsAlways};
 ghost use Rattle.om_parts.specs.Repetition.{optional, until};
 ghost use Rattle.om_tree.specs.View.{view_parameters, view_head};
 
 use om_lexer::{Keyword, Punctuator, SourceFault, Span, Token, TokenKind};
-use om_parts::boxed::boxed_before;
-use om_parts::front::{mark, name, take_mark, take_word, word};
+use om_parts::boxed::{boxed, boxed_before};
+use om_parts::front::{mark, name, syntax, take_mark, take_word, word};
 use om_pragma::Name;
 use om_tree::{FunctionHead, Parameter, Parameters, ResultType};
 use std::alloc::Global;
@@ -23,7 +22,7 @@ pub fn head_after(
     name: Name,
     open_paren: Span,
     tokens: &[Token],
-) -> Result<(Box<FunctionHead>, &[Token]), SourceFault>
+) -> Result<(Box<FunctionHead<Option<Name>>>, &[Token]), SourceFault>
     ensures { Reads (λ x. (view_head x.0.value, x.1.now)) result
         (head_after result_type name open_paren tokens.now) }
 {
@@ -38,30 +37,85 @@ pub fn head_after(
     boxed_before(alloc, head, rest)
 }
 
-/// Whether all parameters have names, as those of a definition do.
-#[tactic(auto, unfolding(crate::specs::FunctionReading::are_named))]
-pub fn are_named(parameters: &Parameters) -> bool
-    ensures { result ≡ are_named (view_parameters parameters.now) }
+/// The head of a definition, whose parameters have names (C17 6.9.1): S3 at these tokens, its body,
+/// where one has none.
+#[tactic(auto, unfolding(crate::specs::FunctionReading::named_head))]
+pub fn named_head(
+    alloc: Global,
+    head: Box<FunctionHead<Option<Name>>>,
+    body: &[Token],
+) -> Result<Box<FunctionHead<Name>>, SourceFault>
+    ensures { Reads (λ x. view_head x.value) result (named_head body.now (view_head head.value)) }
+{
+    let head = Box::into_inner(head);
+    let parameters = named_parameters(alloc, head.parameters, body)?;
+    let named = FunctionHead {
+        result: head.result,
+        name: head.name,
+        open_paren: head.open_paren,
+        parameters,
+        close_paren: head.close_paren,
+    };
+    Ok(boxed(alloc, named)?)
+}
+
+/// The parameters of a definition: S3 at its body where one has no name.
+#[tactic(auto, unfolding(crate::specs::FunctionReading::named_parameters))]
+fn named_parameters(
+    alloc: Global,
+    parameters: Parameters<Option<Name>>,
+    body: &[Token],
+) -> Result<Parameters<Name>, SourceFault>
+    ensures { Reads (λ x. view_parameters x) result
+        (named_parameters body.now (view_parameters parameters)) }
 {
     match parameters {
-        Parameters::Nothing => true,
-        Parameters::Void(_) => true,
-        Parameters::Listed { first, rest } => first.name.is_some() && all_named(rest),
+        Parameters::Nothing => Ok(Parameters::Nothing),
+        Parameters::Void(void) => Ok(Parameters::Void(void)),
+        Parameters::Listed { first, rest } => {
+            let first = named_parameter(first, body)?;
+            let rest = named_further(alloc, rest, body)?;
+            Ok(Parameters::Listed { first, rest })
+        }
     }
 }
 
-/// Whether each of these parameters has a name.
-fn all_named(parameters: &[(Span, Parameter)]) -> bool
-    ensures { result ≡ list_all (λ x. is_some x.1.name) parameters.now }
+/// The parameters of a definition behind commas: S3 at its body where one has no name.
+fn named_further(
+    alloc: Global,
+    further: Vec<(Span, Parameter<Option<Name>>)>,
+    body: &[Token],
+) -> Result<Vec<(Span, Parameter<Name>)>, SourceFault>
+    ensures { Reads (λ x. x.items) result (named_further body.now further.items) }
 {
-    parameters
-        .iter()
-        .all(|(_, parameter)| parameter.name.is_some())
+    let mut named = Vec::new(alloc);
+    for (comma, parameter) in further {
+        named.push((comma, named_parameter(parameter, body)?))?;
+    }
+    Ok(named)
+}
+
+/// A parameter of a definition: S3 at its body where it has no name.
+#[tactic(auto, unfolding(crate::specs::FunctionReading::named_parameter))]
+fn named_parameter(
+    parameter: Parameter<Option<Name>>,
+    body: &[Token],
+) -> Result<Parameter<Name>, SourceFault>
+    ensures { ReadsAlways (λ x. x) result (named_parameter body.now parameter) }
+{
+    let Parameter { int, name } = parameter;
+    let Some(name) = name else {
+        return Err(syntax(body));
+    };
+    Ok(Parameter { int, name })
 }
 
 /// Parameters, the right parenthesis behind them, and the tokens behind that.
 #[tactic(auto, unfolding(crate::specs::FunctionReading::parameters_at))]
-fn parameters(alloc: Global, tokens: &[Token]) -> Result<(Parameters, Span, &[Token]), SourceFault>
+fn parameters(
+    alloc: Global,
+    tokens: &[Token],
+) -> Result<(Parameters<Option<Name>>, Span, &[Token]), SourceFault>
     ensures { Reads (λ x. ((view_parameters x.0, x.1), x.2.now)) result (parameters_at tokens.now) }
 {
     if let Some((close_paren, rest)) = take_mark(tokens, Punctuator::CloseParen) {
@@ -76,7 +130,10 @@ fn parameters(alloc: Global, tokens: &[Token]) -> Result<(Parameters, Span, &[To
 
 /// One parameter or several, the right parenthesis behind them, and the tokens behind that.
 #[tactic(auto, unfolding(crate::specs::FunctionReading::listed_at))]
-fn listed(alloc: Global, tokens: &[Token]) -> Result<(Parameters, Span, &[Token]), SourceFault>
+fn listed(
+    alloc: Global,
+    tokens: &[Token],
+) -> Result<(Parameters<Option<Name>>, Span, &[Token]), SourceFault>
     ensures { Reads (λ x. ((view_parameters x.0, x.1), x.2.now)) result (listed_at tokens.now) }
 {
     let (first, rest) = parameter(alloc, tokens)?;
@@ -95,7 +152,7 @@ fn listed(alloc: Global, tokens: &[Token]) -> Result<(Parameters, Span, &[Token]
 fn further_parameters(
     alloc: Global,
     tokens: &[Token],
-) -> Result<(Vec<(Span, Parameter)>, Span, &[Token]), SourceFault>
+) -> Result<(Vec<(Span, Parameter<Option<Name>>)>, Span, &[Token]), SourceFault>
     ensures { Reads (λ x. (x.0.items, x.1, x.2.now)) result
         (until (take_mark CloseParen) further_parameter_at (length tokens.now) tokens.now) }
 {
@@ -116,7 +173,7 @@ fn further_parameters(
 fn further_parameter(
     alloc: Global,
     tokens: &[Token],
-) -> Result<(Span, Parameter, &[Token]), SourceFault>
+) -> Result<(Span, Parameter<Option<Name>>, &[Token]), SourceFault>
     ensures { Reads (λ x. ((x.0, x.1), x.2.now)) result (further_parameter_at tokens.now) }
 {
     let (comma, rest) = mark(tokens, Punctuator::Comma)?;
@@ -126,7 +183,10 @@ fn further_parameter(
 
 /// `int` and the name behind it, where one stands, and the tokens behind them.
 #[tactic(auto, unfolding(crate::specs::FunctionReading::parameter_at))]
-fn parameter(alloc: Global, tokens: &[Token]) -> Result<(Parameter, &[Token]), SourceFault>
+fn parameter(
+    alloc: Global,
+    tokens: &[Token],
+) -> Result<(Parameter<Option<Name>>, &[Token]), SourceFault>
     ensures { Reads (λ x. (x.0, x.1.now)) result (parameter_at tokens.now) }
 {
     let (int, rest) = word(tokens, Keyword::Int)?;

@@ -17,9 +17,9 @@ ghost use Rattle.om_parts.specs.Repetition.{until};
 ghost use Rattle.om_parser.specs.UnitReading.{function_after, prototype_after, void_after, int_after, item_at, take_end, unit_at};
 ghost use Rattle.om_tree.specs.View.{view_head, view_item, view_unit};
 
-use crate::function::{are_named, head_after};
+use crate::function::{head_after, named_head};
 use om_lexer::{Keyword, Punctuator, SourceFault, Span, Token, TokenKind};
-use om_parts::front::{mark, name, syntax, take_mark, take_word, word};
+use om_parts::front::{mark, name, take_mark, take_word, word};
 use om_parts::laws::globals;
 use om_parts::part::global_declaration;
 use om_phrases::block;
@@ -198,7 +198,7 @@ fn prototype_after(
 #[tactic(auto, unfolding(crate::specs::UnitReading::function_after))]
 fn function_after(
     alloc: Global,
-    head: Box<FunctionHead>,
+    head: Box<FunctionHead<Option<Name>>>,
     tokens: &[Token],
 ) -> Result<(Item, &[Token]), SourceFault>
     ensures { Reads (λ x. (view_item x.0, x.1.now)) result
@@ -213,9 +213,7 @@ fn function_after(
             rest,
         ));
     }
-    if !are_named(&head.parameters) {
-        return Err(syntax(tokens));
-    }
+    let head = named_head(alloc, head, tokens)?;
     let (body, rest) = block(alloc, tokens)?;
     let head = Box::into_inner(head);
     Ok((Item::Function(Function { head, body }), rest))
