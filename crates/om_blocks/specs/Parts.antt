@@ -14,7 +14,7 @@ use Rattle.om_rules.specs.Sharing.{is_parallel}
 use Rattle.om_rules.specs.StatementResolution.{resolved_declarators, resolved_perhaps}
 
 -- of a declaration in a block
-abbrev pub resolved_declaration : Scopes → DeclarationTree → Option ResolvedStatementTree
+abbrev pub resolved_declaration : Scopes → DeclarationTree ExpressionTree → Option ResolvedStatementTree
 resolved_declaration scopes d = resolved_declarators scopes (declarators_of d) >>= λ ds. Some
     (resolved.Declaration d.int ds)
 

@@ -1,6 +1,6 @@
 -- Matter of proofs: what is declared in a construct or block stays within it, for this crate and those above it.
 use Rattle.std.proofs.Common.{◌≡◌, List, [], ◌∷◌, ◌++◌, refl, ap, ◌∙◌}
-use Rattle.om_tree.specs.Tree.{DeclaratorTree, StatementTree}
+use Rattle.om_tree.specs.Tree.{DeclaratorTree, ExpressionTree, StatementTree}
 use Rattle.om_tree.specs.Tree.{LocalDeclaration, Block, Empty, Expression, If, IfElse, While, Do, For, Return, Break}
 use Rattle.om_tree.specs.Tree.{Continue, Construct, StandAlone, Sections}
 use Rattle.om_resolved.specs.declared.resolved.Variable.TheVariants as variables
@@ -13,8 +13,8 @@ use Rattle.om_rules.specs.StatementRules.{after_statement, after_statements}
 abbrev pub StaysWithin : Region → Scopes → Scopes → Type 0
 StaysWithin region scopes behind = (inner : Scope) × (behind ≡ within inner region scopes)
 
-pub locals_within : (inner : Scope) (region : Region) (scopes : Scopes) (ds : List DeclaratorTree) → StaysWithin region
-    scopes (after_locals (within inner region scopes) ds)
+pub locals_within : (inner : Scope) (region : Region) (scopes : Scopes) (ds : List (DeclaratorTree ExpressionTree))
+    → StaysWithin region scopes (after_locals (within inner region scopes) ds)
 locals_within inner region scopes [] = (inner, refl)
 locals_within inner region scopes (d ∷ ds) = locals_within
     (inner ++ (d.name.text, meanings.Variable (variables.Local d.name.span.start) (shape_of d.array)) ∷ []) region

@@ -1,7 +1,7 @@
 //! Statements that have no statement in them.
 
 ghost use Rattle.std.specs.Prelude.{◌≡◌, ◌++◌, false, not, OnOk, IfOk, Some, option_map};
-ghost use Rattle.om_tree.specs.View.{view_declaration, view_directive, view_expression};
+ghost use Rattle.om_tree.specs.View.{view_directive, view_expression, view_local};
 ghost use Rattle.om_resolved.specs.ResolvedView.{view_resolved_expression, view_resolved_statement};
 ghost use Rattle.om_rules.specs.Checks.{Checks, ChecksExactly};
 ghost use Rattle.om_rules.specs.DirectiveRules.{flush_breaches};
@@ -28,15 +28,15 @@ use std::alloc::Global;
 pub fn resolve_declaration(
     alloc: Global,
     symbols: &mut Symbols,
-    declaration: &Declaration,
+    declaration: &Declaration<Expression>,
 ) -> Result<ResolvedStatement, SourceFault>
     ensures checked { Checks result
-        (locals_breaches symbols.old (declarators_of (view_declaration declaration.now))) }
+        (locals_breaches symbols.old (declarators_of (view_local declaration.now))) }
     ensures in_scope { OnOk result
         (symbols.new ≡ after_locals symbols.old
-        (declarators_of (view_declaration declaration.now))) }
+        (declarators_of (view_local declaration.now))) }
     ensures resolved { IfOk result
-        (λ found. resolved_declaration symbols.old (view_declaration declaration.now)
+        (λ found. resolved_declaration symbols.old (view_local declaration.now)
         ≡ Some (view_resolved_statement found)) }
 {
     let declared = resolve_locals(alloc, symbols, declaration)?;

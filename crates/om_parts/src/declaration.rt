@@ -24,6 +24,7 @@ pub trait Initial: Drop {
     /// What contracts see of it.
     ghost Tree: { Type 0 };
 
+    /// Its tree.
     ghost view: { Self → Tree };
 
     /// What reading gives, where brackets may nest so deep.

@@ -13,7 +13,7 @@ use Rattle.om_places.specs.Laws.{NamesStandBehind}
 use Rattle.om_pragma.specs.declared.tree.Directive.{Directive}
 use Rattle.om_pragma.specs.Spelling.{directive_spelling}
 use Rattle.om_tree.specs.Spelling.{block_spelling, condition_spelling, expression_spelling, for_head_spelling}
-use Rattle.om_tree.specs.Spelling.{head_spelling, item_spelling, statement_spelling, statements_spelling, unit_spelling}
+use Rattle.om_tree.specs.Spelling.{definition_spelling, item_spelling, statement_spelling, statements_spelling, unit_spelling}
 use Rattle.om_tree.specs.Spelling.{parts_spelling, section_spelling}
 use Rattle.om_tree.specs.Tree.{ExpressionTree, ItemTree, Declaration, Prototype, Function, StatementTree}
 use Rattle.om_tree.specs.Tree.{LocalDeclaration, Block, Empty, Expression, If, IfElse, While, Do, For, Return, Break}
@@ -90,7 +90,7 @@ unfolding item_spelling block_spelling
 item_behind (Declaration d) h = tt
 item_behind (Prototype head semicolon) h = tt
 item_behind (Function f) h =
-    let body = rises_back (head_spelling f.head) _ h in
+    let body = rises_back (definition_spelling f.head) _ h in
     listed_behind f.body.items (rises_front (flat_map statement_spelling f.body.items) _ body.1)
 
 items_behind : (items : List ItemTree) → Rises (flat_map item_spelling items) → All ItemNamesBehind items

@@ -1,16 +1,18 @@
 //! Functions: their rules, and their variables.
 
-ghost use Rattle.std.specs.Prelude.{◌≡◌, ◌++◌, ◌+◌, ◌<◌, OnOk, IfOk, Some, length, map};
-ghost use Rattle.std.specs.List.{flat_map, list_any};
+ghost use Rattle.std.specs.Prelude.{◌≡◌, ◌++◌, ◌+◌, ◌<◌, [], ◌∷◌, OnOk, IfOk, Some, length, map};
+ghost use Rattle.std.specs.List.{list_any};
 ghost use Rattle.std.specs.Str.{bytes_eq};
 ghost use Rattle.om_tree.specs.View.{view_function, view_head, view_parameters};
 ghost use Rattle.om_rules.specs.Checks.{Checks, ChecksExactly};
-ghost use Rattle.om_rules.specs.Scopes.{after_function, after_parameter, after_parameter_name, after_parameters, after_prototype, asks, inside, parameters_of, returns_value, signature_eq, signature_of};
+ghost use Rattle.om_rules.specs.Scopes.{after_function, after_optional, after_optionals, after_parameter, after_parameters, after_prototype, asks, inside, parameters_of, returns_value, signature_eq, signature_of, with_local};
 ghost use Rattle.om_rules.specs.Faults.{breaches_along};
 ghost use Rattle.om_resolved.specs.ResolvedTree as resolved;
 ghost use Rattle.om_resolved.specs.ResolvedView.{view_resolved_function, view_resolved_statement};
-ghost use Rattle.om_rules.specs.UnitResolution.{named_parameter, parameter_variable, resolved_function, resolved_inside};
-ghost use Rattle.om_rules.specs.UnitRules.{body_breaches, definition_breaches, flow_of, function_breaches, head_breaches, is_other_main, is_redeclared, next_parameter, parameter_breaches, parameter_name_breaches, parameters_breaches, prototype_breaches};
+ghost use Rattle.om_rules.specs.UnitResolution.{parameter_variable, resolved_function, resolved_inside};
+ghost use Rattle.om_rules.specs.UnitRules.{body_breaches, definition_breaches, flow_of, function_breaches, head_breaches, is_other_main, is_redeclared, next_optional, next_parameter, optional_breaches, optionals_breaches, parameter_breaches, parameters_breaches, prototype_breaches};
+ghost use Rattle.om_rules.specs.StatementRules.{redeclared_breaches};
+ghost use Rattle.om_resolved.specs.declared.resolved.Shape.TheVariants.{Scalar};
 
 use om_blocks::resolve_statements;
 use om_forms::head_first;
@@ -31,7 +33,7 @@ fn returns_value(kind: &ResultType) -> bool
 }
 
 /// How many parameters there are.
-fn parameter_count(parameters: &Parameters) -> usize
+fn parameter_count<N>(parameters: &Parameters<N>) -> usize
     ensures { result ≡ length (parameters_of (view_parameters parameters.now)) }
 {
     match parameters {
@@ -42,7 +44,7 @@ fn parameter_count(parameters: &Parameters) -> usize
 }
 
 /// What calls of a function need and give.
-fn signature_of(head: &FunctionHead) -> Signature
+fn signature_of<N>(head: &FunctionHead<N>) -> Signature
     ensures { result ≡ signature_of (view_head head.now) }
 {
     Signature {
@@ -87,7 +89,7 @@ fn is_other_main(name: &[u8], signature: Signature) -> bool
 
 /// The name and the signature of a function: S8, S9.
 #[tactic(auto, using(om_rules::specs::InRow::first_of_left))]
-fn check_head(symbols: &Symbols, head: &FunctionHead) -> Result<(), SourceFault>
+fn check_head<N>(symbols: &Symbols, head: &FunctionHead<N>) -> Result<(), SourceFault>
     ensures { ChecksExactly result (head_breaches symbols.now (view_head head.now)) }
 {
     let signature = signature_of(head);
@@ -99,7 +101,11 @@ fn check_head(symbols: &Symbols, head: &FunctionHead) -> Result<(), SourceFault>
 }
 
 /// Declares a function, unless an earlier declaration did.
-fn declare_head(alloc: Global, symbols: &mut Symbols, head: &FunctionHead) -> Result<(), AllocError>
+fn declare_head<N>(
+    alloc: Global,
+    symbols: &mut Symbols,
+    head: &FunctionHead<N>,
+) -> Result<(), AllocError>
     ensures { OnOk result (symbols.new ≡ after_prototype symbols.old (view_head head.now)) }
 {
     let name = head.name.text.as_slice();
@@ -113,36 +119,29 @@ fn declare_head(alloc: Global, symbols: &mut Symbols, head: &FunctionHead) -> Re
 fn declare_parameter_name(
     alloc: Global,
     symbols: &mut Symbols,
-    parameters: &mut Vec<LocalVariable>,
-    name: &Option<Name>,
+    name: &Name,
 ) -> Result<(), SourceFault>
-    ensures checked { Checks result (parameter_name_breaches symbols.old name.now) }
-    ensures in_scope { OnOk result (symbols.new ≡ after_parameter_name symbols.old name.now) }
-    ensures resolved { OnOk result
-        (parameters.new.items ≡ parameters.old.items ++ named_parameter name.now) }
+    ensures checked { Checks result (redeclared_breaches symbols.old name.now) }
+    ensures in_scope { OnOk result (symbols.new ≡ with_local symbols.old name.now Scalar) }
 {
-    let Some(name) = name else {
-        return Ok(());
-    };
     check_new(symbols, name)?;
     symbols.declare_local(alloc, name, Shape::Scalar)?;
-    parameters.push(local_of(alloc, name)?)?;
     Ok(())
 }
 
-/// Declares a parameter behind so many others: S8, S11.
+/// Declares a parameter of a definition behind so many others: S8, S11.
 #[tactic(auto, using(om_rules::specs::InRow::first_of_left))]
 fn declare_parameter(
     alloc: Global,
     symbols: &mut Symbols,
     parameters: &mut Vec<LocalVariable>,
     before: usize,
-    parameter: &Parameter,
+    parameter: &Parameter<Name>,
 ) -> Result<(), SourceFault>
     ensures checked { Checks result (parameter_breaches (before, symbols.old) parameter.now) }
     ensures in_scope { OnOk result (symbols.new ≡ after_parameter symbols.old parameter.now) }
     ensures resolved { OnOk result
-        (parameters.new.items ≡ parameters.old.items ++ parameter_variable parameter.now) }
+        (parameters.new.items ≡ parameters.old.items ++ parameter_variable parameter.now ∷ []) }
     ensures few { OnOk result (before < PARAMETER_LIMIT) }
 {
     refuse_if(
@@ -150,15 +149,17 @@ fn declare_parameter(
         FaultCode::TooMany,
         parameter.int.start,
     )?;
-    declare_parameter_name(alloc, symbols, parameters, &parameter.name)
+    declare_parameter_name(alloc, symbols, &parameter.name)?;
+    parameters.push(local_of(alloc, &parameter.name)?)?;
+    Ok(())
 }
 
-/// Declares the parameters behind the first.
+/// Declares the parameters of a definition behind the first.
 fn declare_further_parameters(
     alloc: Global,
     symbols: &mut Symbols,
     parameters: &mut Vec<LocalVariable>,
-    rest: &[(Span, Parameter)],
+    rest: &[(Span, Parameter<Name>)],
 ) -> Result<(), SourceFault>
     ensures checked { Checks result
         (breaches_along parameter_breaches next_parameter (1, symbols.old)
@@ -167,7 +168,7 @@ fn declare_further_parameters(
         (symbols.new ≡ after_parameters symbols.old (map (λ further. further.1) rest.now)) }
     ensures resolved { OnOk result
         (parameters.new.items ≡ parameters.old.items
-        ++ flat_map parameter_variable (map (λ further. further.1) rest.now)) }
+        ++ map parameter_variable (map (λ further. further.1) rest.now)) }
 {
     let mut before = 1;
     for further in rest {
@@ -177,13 +178,13 @@ fn declare_further_parameters(
     Ok(())
 }
 
-/// Declares the parameters of a function.
+/// Declares the parameters of a definition.
 #[tactic(auto, using(om_rules::specs::InRow::first_of_left))]
 fn declare_parameters(
     alloc: Global,
     symbols: &mut Symbols,
     found: &mut Vec<LocalVariable>,
-    parameters: &Parameters,
+    parameters: &Parameters<Name>,
 ) -> Result<(), SourceFault>
     ensures checked { Checks result
         (parameters_breaches symbols.old (parameters_of (view_parameters parameters.now))) }
@@ -192,7 +193,7 @@ fn declare_parameters(
         (parameters_of (view_parameters parameters.now))) }
     ensures resolved { OnOk result
         (found.new.items ≡ found.old.items
-        ++ flat_map parameter_variable (parameters_of (view_parameters parameters.now))) }
+        ++ map parameter_variable (parameters_of (view_parameters parameters.now))) }
 {
     let Parameters::Listed { first, rest } = parameters else {
         return Ok(());
@@ -201,12 +202,75 @@ fn declare_parameters(
     declare_further_parameters(alloc, symbols, found, rest.as_slice())
 }
 
+/// Declares a parameter of a prototype, if it has a name, behind so many others: S8, S11.
+#[tactic(auto, using(om_rules::specs::InRow::first_of_left))]
+fn declare_optional(
+    alloc: Global,
+    symbols: &mut Symbols,
+    before: usize,
+    parameter: &Parameter<Option<Name>>,
+) -> Result<(), SourceFault>
+    ensures checked { Checks result (optional_breaches (before, symbols.old) parameter.now) }
+    ensures in_scope { OnOk result (symbols.new ≡ after_optional symbols.old parameter.now) }
+    ensures few { OnOk result (before < PARAMETER_LIMIT) }
+{
+    refuse_if(
+        PARAMETER_LIMIT <= before,
+        FaultCode::TooMany,
+        parameter.int.start,
+    )?;
+    match &parameter.name {
+        None => Ok(()),
+        Some(name) => declare_parameter_name(alloc, symbols, name),
+    }
+}
+
+/// Declares the parameters of a prototype behind the first.
+fn declare_further_optionals(
+    alloc: Global,
+    symbols: &mut Symbols,
+    rest: &[(Span, Parameter<Option<Name>>)],
+) -> Result<(), SourceFault>
+    ensures checked { Checks result
+        (breaches_along optional_breaches next_optional (1, symbols.old)
+        (map (λ further. further.1) rest.now)) }
+    ensures in_scope { OnOk result
+        (symbols.new ≡ after_optionals symbols.old (map (λ further. further.1) rest.now)) }
+{
+    let mut before = 1;
+    for further in rest {
+        declare_optional(alloc, symbols, before, &further.1)?;
+        before += 1;
+    }
+    Ok(())
+}
+
+/// Declares the parameters of a prototype.
+#[tactic(auto, using(om_rules::specs::InRow::first_of_left))]
+fn declare_optionals(
+    alloc: Global,
+    symbols: &mut Symbols,
+    parameters: &Parameters<Option<Name>>,
+) -> Result<(), SourceFault>
+    ensures checked { Checks result
+        (optionals_breaches symbols.old (parameters_of (view_parameters parameters.now))) }
+    ensures in_scope { OnOk result
+        (symbols.new ≡ after_optionals symbols.old
+        (parameters_of (view_parameters parameters.now))) }
+{
+    let Parameters::Listed { first, rest } = parameters else {
+        return Ok(());
+    };
+    declare_optional(alloc, symbols, 0, first)?;
+    declare_further_optionals(alloc, symbols, rest.as_slice())
+}
+
 /// A function that is declared and not defined.
 #[tactic(auto, using(om_rules::specs::InRow::first_of_left))]
 pub fn check_prototype(
     alloc: Global,
     symbols: &mut Symbols,
-    head: &FunctionHead,
+    head: &FunctionHead<Option<Name>>,
 ) -> Result<(), SourceFault>
     ensures checked { Checks result (prototype_breaches symbols.old (view_head head.now)) }
     ensures in_scope { OnOk result
@@ -215,14 +279,14 @@ pub fn check_prototype(
     check_head(symbols, head)?;
     declare_head(alloc, symbols, head)?;
     symbols.enter(alloc)?;
-    declare_parameters(alloc, symbols, &mut Vec::new(alloc), &head.parameters)?;
+    declare_optionals(alloc, symbols, &head.parameters)?;
     symbols.leave();
     Ok(())
 }
 
 /// That a definition is not one too many, that of no function before, and keeps the rules of its name.
 #[tactic(auto, using(om_rules::specs::InRow::first_of_left))]
-fn check_definition(symbols: &Symbols, head: &FunctionHead) -> Result<(), SourceFault>
+fn check_definition(symbols: &Symbols, head: &FunctionHead<Name>) -> Result<(), SourceFault>
     ensures { ChecksExactly result (definition_breaches symbols.now (view_head head.now)) }
 {
     let full = symbols.defined_count() >= FUNCTION_LIMIT + 3;
@@ -233,7 +297,7 @@ fn check_definition(symbols: &Symbols, head: &FunctionHead) -> Result<(), Source
 }
 
 /// What a function's statements may do.
-fn flow_of(head: &FunctionHead) -> Flow
+fn flow_of(head: &FunctionHead<Name>) -> Flow
     ensures { result ≡ flow_of (view_head head.now) }
 {
     Flow {
@@ -251,7 +315,7 @@ fn flow_of(head: &FunctionHead) -> Flow
 fn begin_definition(
     alloc: Global,
     symbols: &mut Symbols,
-    head: &FunctionHead,
+    head: &FunctionHead<Name>,
 ) -> Result<(), SourceFault>
     ensures checked { Checks result (definition_breaches symbols.old (view_head head.now)) }
     ensures in_scope { OnOk result (symbols.new ≡ after_function symbols.old (view_head head.now)) }
@@ -274,7 +338,7 @@ fn resolve_inside(
     ensures in_scope { OnOk result (symbols.new ≡ symbols.old) }
     ensures parameters { OnOk result
         (parameters.new.items ≡ parameters.old.items
-        ++ flat_map parameter_variable
+        ++ map parameter_variable
         (parameters_of (view_function function.now).head.parameters)) }
     ensures resolved { IfOk result
         (λ body. resolved_inside symbols.old (view_function function.now)

@@ -181,7 +181,6 @@ fn check_main(unit: &Unit) -> Result<(), SourceFault>
 /// number; nothing is kept then.
 /// Refusals:
 /// - S0 at byte 0: no memory.
-/// - S3 at the first token of a global's initializer that is no constant.
 /// - S7 at a name that no declaration before it declares, or of a function that is never defined.
 /// - S8 at a name that is declared again as something else, or a function that is defined again.
 ///   `printf`, `omp_get_thread_num` and `omp_get_num_threads` count as defined before the source.
@@ -195,7 +194,7 @@ fn check_main(unit: &Unit) -> Result<(), SourceFault>
 ///   worksharing construct and no barrier may stand.
 /// - S15 at the end of the source: no function is named `main`.
 ///
-/// A tree that the parser made of the lexer's tokens meets neither S3 nor S10.
+/// A tree that the parser made of the lexer's tokens never meets S10.
 #[tactic(auto, using(om_rules::specs::InRow::first_of_left), unfolding(om_rules::specs::Breaches::breaches_of, om_rules::specs::UnitResolution::resolution_of))]
 pub fn resolve(alloc: Global, unit: Unit) -> Result<Resolved, SourceFault>
     ensures no_breach { OnOk result (breaches_of (view_unit unit) ≡ []) }

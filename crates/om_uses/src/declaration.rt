@@ -97,9 +97,11 @@ fn resolve_initializer(
     initializer: &Option<Initializer<Expression>>,
 ) -> Result<Option<Box<ResolvedExpression>>, SourceFault>
     ensures checked { Checks result
-        (initializer_breaches symbols.now (option_map (view_initializer view_expression) initializer.now)) }
+        (initializer_breaches symbols.now
+        (option_map (view_initializer view_expression) initializer.now)) }
     ensures resolved { IfOk result
-        (λ found. resolved_initial symbols.now (option_map (view_initializer view_expression) initializer.now)
+        (λ found. resolved_initial symbols.now
+        (option_map (view_initializer view_expression) initializer.now)
         ≡ Some (option_map (λ boxed. view_resolved_expression boxed.value) found)) }
 {
     let Some(initializer) = initializer else {
@@ -135,7 +137,8 @@ fn resolve_declarator(
     symbols: &mut Symbols,
     declarator: &Declarator<Expression>,
 ) -> Result<ResolvedDeclarator, SourceFault>
-    ensures checked { Checks result (local_breaches symbols.old (view_declarator view_expression declarator.now)) }
+    ensures checked { Checks result
+        (local_breaches symbols.old (view_declarator view_expression declarator.now)) }
     ensures in_scope { OnOk result
         (symbols.new ≡ after_local symbols.old (view_declarator view_expression declarator.now)) }
     ensures resolved { IfOk result
@@ -159,14 +162,16 @@ fn add_local(
     declared: &mut Vec<ResolvedDeclarator>,
     declarator: &Declarator<Expression>,
 ) -> Result<(), SourceFault>
-    ensures checked { Checks result (local_breaches symbols.old (view_declarator view_expression declarator.now)) }
+    ensures checked { Checks result
+        (local_breaches symbols.old (view_declarator view_expression declarator.now)) }
     ensures in_scope { OnOk result
         (symbols.new ≡ after_local symbols.old (view_declarator view_expression declarator.now)) }
     ensures resolved { let before = map view_resolved_declarator declared.old.items in
         let after = map view_resolved_declarator declared.new.items in
         OnOk result
         (option_map (λ own. before ++ own ∷ [])
-        (resolved_declarator symbols.old (view_declarator view_expression declarator.now)) ≡ Some after) }
+        (resolved_declarator symbols.old (view_declarator view_expression declarator.now))
+        ≡ Some after) }
 {
     add(declared, resolve_declarator(alloc, symbols, declarator))
 }
@@ -179,14 +184,17 @@ fn resolve_further_locals(
     rest: &[(Span, Declarator<Expression>)],
 ) -> Result<(), SourceFault>
     ensures checked { Checks result
-        (locals_breaches symbols.old (behind_commas (map (view_further view_expression) rest.now))) }
+        (locals_breaches symbols.old
+        (behind_commas (map (view_further view_expression) rest.now))) }
     ensures in_scope { OnOk result
-        (symbols.new ≡ after_locals symbols.old (behind_commas (map (view_further view_expression) rest.now))) }
+        (symbols.new ≡ after_locals symbols.old
+        (behind_commas (map (view_further view_expression) rest.now))) }
     ensures resolved { let before = map view_resolved_declarator declared.old.items in
         let after = map view_resolved_declarator declared.new.items in
         OnOk result
         (option_map (λ own. before ++ own)
-        (resolved_declarators symbols.old (behind_commas (map (view_further view_expression) rest.now)))
+        (resolved_declarators symbols.old
+        (behind_commas (map (view_further view_expression) rest.now)))
         ≡ Some after) }
 {
     for further in rest {

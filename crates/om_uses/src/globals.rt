@@ -94,7 +94,8 @@ fn add_global(
     ensures checked { Checks result
         (initial_breaches (view_declarator view_number declarator.now).initializer) }
     ensures declared { OnOk result
-        (globals.new.items ≡ globals.old.items ++ global_of (view_declarator view_number declarator.now) ∷ []) }
+        (globals.new.items ≡ globals.old.items
+        ++ global_of (view_declarator view_number declarator.now) ∷ []) }
 {
     let initial = initial_of(&declarator.initializer)?;
     globals.push(GlobalVariable {
@@ -114,11 +115,13 @@ fn declare_global(
     globals: &mut Vec<GlobalVariable>,
     declarator: &Declarator<SignedNumber>,
 ) -> Result<(), SourceFault>
-    ensures checked { Checks result (global_breaches symbols.old (view_declarator view_number declarator.now)) }
+    ensures checked { Checks result
+        (global_breaches symbols.old (view_declarator view_number declarator.now)) }
     ensures in_scope { OnOk result
         (symbols.new ≡ after_global symbols.old (view_declarator view_number declarator.now)) }
     ensures declared { OnOk result
-        (globals.new.items ≡ globals.old.items ++ global_of (view_declarator view_number declarator.now) ∷ []) }
+        (globals.new.items ≡ globals.old.items
+        ++ global_of (view_declarator view_number declarator.now) ∷ []) }
 {
     declare_global_name(alloc, symbols, declarator)?;
     add_global(alloc, globals, declarator)
@@ -134,7 +137,8 @@ fn declare_further_globals(
     ensures checked { Checks result
         (globals_breaches symbols.old (behind_commas (map (view_further view_number) rest.now))) }
     ensures in_scope { OnOk result
-        (symbols.new ≡ after_globals symbols.old (behind_commas (map (view_further view_number) rest.now))) }
+        (symbols.new ≡ after_globals symbols.old
+        (behind_commas (map (view_further view_number) rest.now))) }
     ensures declared { OnOk result
         (globals.new.items ≡ globals.old.items
         ++ map global_of (behind_commas (map (view_further view_number) rest.now))) }

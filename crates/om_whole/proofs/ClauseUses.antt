@@ -50,7 +50,7 @@ pub perhaps_uses : (n : ℕ) (scopes : Scopes) (e : Option ExpressionTree) → B
     → IfSome (resolved_perhaps scopes e) (PerhapsUsesVariables n)
 perhaps_uses n scopes e h = perhaps_use n (resolved_expression scopes) (λ x. expression_uses n scopes x h) e
 
-declarator_uses : (n : ℕ) (scopes : Scopes) (d : DeclaratorTree) → Below n scopes
+declarator_uses : (n : ℕ) (scopes : Scopes) (d : DeclaratorTree ExpressionTree) → Below n scopes
     → IfSome (resolved_declarator scopes d) (λ x. PerhapsUsesVariables n x.initial)
 unfolding resolved_declarator
 declarator_uses n scopes d h =
@@ -60,7 +60,7 @@ declarator_uses n scopes d h =
     (λ i. expression_uses n (after_local scopes d) i.value (below_after_local n scopes d h)) d.initializer)
     (λ x hx. hx)
 
-pub declarators_use : (n : ℕ) (scopes : Scopes) (ds : List DeclaratorTree) → Below n scopes
+pub declarators_use : (n : ℕ) (scopes : Scopes) (ds : List (DeclaratorTree ExpressionTree)) → Below n scopes
     → IfSome (resolved_declarators scopes ds) (DeclaratorsUseVariables n)
 declarators_use n scopes ds h =
     if_each_along (Below n) (λ x. PerhapsUsesVariables n x.initial) after_local

@@ -45,13 +45,14 @@ use Rattle.om_whole.proofs.Unbroken.{front, back, not_broken, not_false, left_fa
 
 -- ---- declarations
 
-has_initial : (scopes : Scopes) (initializer : Option InitializerTree) → initializer_breaches scopes initializer
+has_initial : (scopes : Scopes) (initializer : Option (InitializerTree ExpressionTree))
+    → initializer_breaches scopes initializer
     ≡ [] → IsSome (resolved_initial scopes initializer)
 has_initial scopes None whole = refl
 has_initial scopes (Some i) whole = some_then (resolved_expression scopes i.value) _
     (has_expression scopes true i.value whole) (λ x. refl)
 
-has_declarator : (scopes : Scopes) (d : DeclaratorTree) → local_breaches scopes d ≡ []
+has_declarator : (scopes : Scopes) (d : DeclaratorTree ExpressionTree) → local_breaches scopes d ≡ []
     → IsSome (resolved_declarator scopes d)
 unfolding local_breaches resolved_declarator
 has_declarator scopes d whole =
@@ -60,7 +61,7 @@ has_declarator scopes d whole =
     (back (redeclared_breaches scopes d.name ++ array_size_breaches d)
     (initializer_breaches (after_local scopes d) d.initializer) whole)) (λ x. refl)
 
-pub has_declarators : (scopes : Scopes) (ds : List DeclaratorTree) → locals_breaches scopes ds ≡ []
+pub has_declarators : (scopes : Scopes) (ds : List (DeclaratorTree ExpressionTree)) → locals_breaches scopes ds ≡ []
     → IsSome (resolved_declarators scopes ds)
 has_declarators scopes ds whole = some_each_along local_breaches after_local resolved_declarator has_declarator ds
     scopes whole

@@ -9,18 +9,15 @@ use Rattle.std.specs.Cmp.{IsEquivalence}
 use Rattle.std.specs.List.{AllByRecursion, IsDistinct, flat_map, list_any}
 use Rattle.std.specs.Map.{lookup}
 use Rattle.std.specs.Str.{bytes_eq}
-use Rattle.std.proofs.lemmas.List.{map-append}
+use Rattle.std.proofs.lemmas.List.{length-map, map-append}
 use Rattle.std.proofs.lemmas.List.Elements.{All-get_or, All-map, All-head, All-tail, All-cons}
 use Rattle.std.proofs.lemmas.List.Quantifiers.{position-Some}
 use Rattle.std.proofs.lemmas.Map.Keys.{IsDistinct-push, IsDistinct-tail}
 use Rattle.std.proofs.lemmas.Option.{slice_get-map, slice_get-get_or, slice_get_within, get_or_from_slice_get}
 use Rattle.std.proofs.lemmas.Slice.Eq.{bytes_eq-Decides}
 use Rattle.om_lexer.specs.declared.fault.FaultCode.TheVariants as faults
-use Rattle.om_pragma.specs.declared.name.Name as names
-use Rattle.om_tree.specs.declared.tree.Parameter.{Parameter}
-use Rattle.om_tree.specs.Formed.{AreNamed, IsFunction}
-use Rattle.om_tree.specs.Tree.{ParametersTree, NoParameters, Void, Listed, FunctionTree, ItemTree, Declaration}
-use Rattle.om_tree.specs.Tree.{Prototype, Function}
+use Rattle.om_tree.specs.Formed.{IsFunction}
+use Rattle.om_tree.specs.Tree.{FunctionTree, ItemTree, Declaration, Prototype, Function}
 use Rattle.om_resolved.specs.ResolvedTree.{ResolvedFunctionTree}
 use Rattle.om_resolved.specs.Whole.{IsMain, is_main, same_name}
 use Rattle.om_rules.specs.declared.meaning.Meaning.TheVariants as meanings
@@ -31,7 +28,7 @@ use Rattle.om_rules.specs.Perhaps.{all_along}
 use Rattle.om_rules.specs.Scopes.{Scopes, asks, after_definition, after_function, after_item, declarators_of}
 use Rattle.om_rules.specs.Scopes.{definitions_of, file_scope, parameters_of, predeclared, returns_value, signature_eq}
 use Rattle.om_rules.specs.Scopes.{signature_of, with_name}
-use Rattle.om_rules.specs.UnitResolution.{item_functions, named_parameter, parameter_variable, resolved_function}
+use Rattle.om_rules.specs.UnitResolution.{item_functions, parameter_variable, resolved_function}
 use Rattle.om_rules.specs.UnitResolution.{resolved_inside}
 use Rattle.om_rules.specs.UnitRules.{body_breaches, definition_breaches, function_breaches, head_breaches}
 use Rattle.om_rules.specs.UnitRules.{is_other_main, is_redeclared, item_breaches, items_breaches}
@@ -40,28 +37,6 @@ use Rattle.om_whole.proofs.Limits.{globals_defined, prototype_defined}
 use Rattle.om_whole.proofs.Steps.{if_any, if_then}
 use Rattle.om_whole.proofs.Unbroken.{back, front, not_broken, not_false}
 use Rattle.om_whole.proofs.Uses.{function_name as resolved_name}
-
--- ---- parameters
-
-one_named : (name : Option names.Name) → IsSome name → length (named_parameter name) ≡ 1
-one_named None h = cc
-one_named (Some name) h = refl
-
-all_named : (ps : List Parameter) → All (λ p. IsSome p.name) ps → length (flat_map parameter_variable ps) ≡ length ps
-all_named [] h = refl
-all_named (p ∷ ps) h =
-    let one = one_named p.name (All-head (λ p. IsSome p.name) p ps h) in
-    let rest = all_named ps (All-tail (λ p. IsSome p.name) p ps h) in
-    omega (arith, one, rest, length-append (named_parameter p.name) (flat_map parameter_variable ps))
-
-pub named_length : (ps : ParametersTree) → AreNamed ps → length (flat_map parameter_variable (parameters_of ps))
-    ≡ length (parameters_of ps)
-named_length NoParameters h = refl
-named_length (Void at) h = refl
-named_length (Listed first rest) h =
-    all_named (first ∷ map (λ further. further.1) rest)
-    (All-cons (λ p. IsSome p.name) first (map (λ further. further.1) rest) h.0
-    (All-map (λ p. IsSome p.name) (λ further. further.1) rest h.1))
 
 -- ---- signatures
 
@@ -88,7 +63,7 @@ signed definitions final scopes f rest h e formed w =
     if_then (λ body. Unit {0}) (IsSigned final) own _ (if_any own) (λ body u.
     function_means scopes f rest final e (head_unbroken scopes f w)
     ∙ ap (λ n. Some (meanings.Function (record { returns = returns_value f.head.result; parameters = n })))
-    (sym (named_length f.head.parameters formed.0)))
+    (sym (length-map (parameters_of f.head.parameters) parameter_variable)))
 
 -- ---- `main`
 
@@ -117,8 +92,8 @@ own_main definitions final scopes f rest h e formed w =
     let few : length (parameters_of f.head.parameters) ≡ 0 = ap (λ s. s.parameters) same in
     record {
       named = is;
-      parameters = none_there (flat_map parameter_variable (parameters_of f.head.parameters))
-          (named_length f.head.parameters formed.0 ∙ few);
+      parameters = none_there (map parameter_variable (parameters_of f.head.parameters))
+          (length-map (parameters_of f.head.parameters) parameter_variable ∙ few);
       returns = ap (λ s. s.returns) same;
     })
   where

@@ -9,6 +9,7 @@ use Rattle.std.specs.Str.{bytes_eq}
 use Rattle.std.proofs.lemmas.List.Elements.{All-nil, All-cons, All-append}
 use Rattle.std.proofs.lemmas.List.Sums.{fold-append}
 use Rattle.om_tree.specs.declared.tree.ArrayLength.{ArrayLength}
+use Rattle.om_tree.specs.declared.tree.SignedNumber.{SignedNumber}
 use Rattle.om_tree.specs.Tree.{DeclaratorTree, HeadTree, ItemTree, Declaration, Prototype, Function}
 use Rattle.om_resolved.specs.declared.resolved.GlobalVariable.{GlobalVariable}
 use Rattle.om_resolved.specs.declared.resolved.Shape.{Shape}
@@ -87,7 +88,8 @@ same_shape : (array : Option ArrayLength) → whole.shape_of (length_of array) �
 same_shape None = refl
 same_shape (Some array) = refl
 
-shapes_global : (globals : List GlobalVariable) (scopes : Scopes) (d : DeclaratorTree) → Shapes globals scopes
+shapes_global : (globals : List GlobalVariable) (scopes : Scopes) (d : DeclaratorTree SignedNumber)
+    → Shapes globals scopes
     → Shapes (globals ++ global_of d ∷ []) (after_global scopes d)
 shapes_global globals scopes d h = record {
   count = omega (arith, h.count, length-append globals (global_of d ∷ []));
@@ -99,7 +101,7 @@ shapes_global globals scopes d h = record {
       (ap (option_map shape_at) (slice_get-last globals (global_of d)) ∙ ap Some (same_shape d.array)));
 }
 
-shapes_globals : (ds : List DeclaratorTree) (globals : List GlobalVariable) (scopes : Scopes)
+shapes_globals : (ds : List (DeclaratorTree SignedNumber)) (globals : List GlobalVariable) (scopes : Scopes)
     → Shapes globals scopes → Shapes (globals ++ map global_of ds) (after_globals scopes ds)
 shapes_globals [] globals scopes h = rw append-nil h
 shapes_globals (d ∷ ds) globals scopes h =
@@ -107,7 +109,8 @@ shapes_globals (d ∷ ds) globals scopes h =
     (map global_of ds))
     (shapes_globals ds (globals ++ global_of d ∷ []) (after_global scopes d) (shapes_global globals scopes d h))
 
-shapes_prototype : (globals : List GlobalVariable) (scopes : Scopes) (head : HeadTree) → Shapes globals scopes
+shapes_prototype : {N : Type 0} (globals : List GlobalVariable) (scopes : Scopes) (head : HeadTree N)
+    → Shapes globals scopes
     → Shapes globals (after_prototype scopes head)
 shapes_prototype globals scopes head h =
     if_either (Shapes globals) (is_declared scopes head.name.text) scopes (with_function scopes head.name.text
@@ -170,7 +173,8 @@ cells_join start mid end xs ys h g = record {
 cells_none : (start : ℕ) → Cells start [] start
 cells_none start = record { total = refl; each = All-nil (λ global. 1 ≤ whole.cell_count global) }
 
-cells_globals : (ds : List DeclaratorTree) (scopes : Scopes) → scopes.cells ≤ 65536 → globals_breaches scopes ds ≡ []
+cells_globals : (ds : List (DeclaratorTree SignedNumber)) (scopes : Scopes) → scopes.cells ≤ 65536
+    → globals_breaches scopes ds ≡ []
     → Cells scopes.cells (map global_of ds) (after_globals scopes ds).cells × ((after_globals scopes ds).cells ≤ 65536)
 cells_globals [] scopes few w = (cells_none scopes.cells, few)
 cells_globals (d ∷ ds) scopes few w =
@@ -185,7 +189,7 @@ cells_globals (d ∷ ds) scopes few w =
       rest.1,
     )
 
-cells_prototype : (scopes : Scopes) (head : HeadTree) → scopes.cells ≤ 65536 → Cells scopes.cells []
+cells_prototype : {N : Type 0} (scopes : Scopes) (head : HeadTree N) → scopes.cells ≤ 65536 → Cells scopes.cells []
     (after_prototype scopes head).cells × ((after_prototype scopes head).cells ≤ 65536)
 cells_prototype scopes head few =
     if_either (λ behind. Cells scopes.cells [] behind.cells × (behind.cells ≤ 65536))

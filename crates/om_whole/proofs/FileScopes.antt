@@ -9,6 +9,8 @@ use Rattle.std.proofs.lemmas.List.Elements.{All-nil, All-cons, All-append, All-h
 use Rattle.std.proofs.lemmas.Slice.Eq.{bytes_eq-Decides}
 use Rattle.om_lexer.specs.declared.fault.FaultCode.TheVariants as faults
 use Rattle.om_tree.specs.Formed.{IsFunction, IsItem}
+use Rattle.om_pragma.specs.declared.name.Name as names
+use Rattle.om_tree.specs.declared.tree.SignedNumber.{SignedNumber}
 use Rattle.om_tree.specs.Tree.{DeclaratorTree, HeadTree, FunctionTree, ItemTree, Declaration, Prototype, Function}
 use Rattle.om_resolved.specs.ResolvedTree.{ResolvedFunctionTree}
 use Rattle.om_rules.specs.declared.meaning.Meaning.{Meaning}
@@ -57,13 +59,14 @@ lookup_last name m ((other, own) ∷ scope) e = by (bytes_eq name other) (lookup
 abbrev pub Means : Scopes → List ℕ → Meaning → Type 0
 Means scopes name m = lookup (bytes_eq name) scopes.inner ≡ Some m
 
-globals_keep : (ds : List DeclaratorTree) (scopes : Scopes) (name : List ℕ) (m : Meaning) → Means scopes name m
+globals_keep : (ds : List (DeclaratorTree SignedNumber)) (scopes : Scopes) (name : List ℕ) (m : Meaning)
+    → Means scopes name m
     → Means (after_globals scopes ds) name m
 globals_keep [] scopes name m e = e
 globals_keep (d ∷ ds) scopes name m e = globals_keep ds (after_global scopes d) name m
     (lookup_front name _ m scopes.inner e)
 
-prototype_keeps : (scopes : Scopes) (head : HeadTree) (name : List ℕ) (m : Meaning) → Means scopes name m
+prototype_keeps : {N : Type 0} (scopes : Scopes) (head : HeadTree N) (name : List ℕ) (m : Meaning) → Means scopes name m
     → Means (after_prototype scopes head) name m
 prototype_keeps scopes head name m e =
     if_either (λ behind. Means behind name m) (is_declared scopes head.name.text) scopes
@@ -87,19 +90,22 @@ pub record AtFile (definitions : List (List ℕ)) (scopes : Scopes) : Type 0 whe
   pub outer : scopes.outer ≡ []
   pub definitions_are : scopes.definitions ≡ definitions
 
-at_globals : (definitions : List (List ℕ)) (ds : List DeclaratorTree) (scopes : Scopes) → AtFile definitions scopes
+at_globals : (definitions : List (List ℕ)) (ds : List (DeclaratorTree SignedNumber)) (scopes : Scopes)
+    → AtFile definitions scopes
     → AtFile definitions (after_globals scopes ds)
 at_globals definitions [] scopes h = h
 at_globals definitions (d ∷ ds) scopes h = at_globals definitions ds (after_global scopes d)
     (record { outer = h.outer; definitions_are = h.definitions_are })
 
-at_prototype : (definitions : List (List ℕ)) (scopes : Scopes) (head : HeadTree) → AtFile definitions scopes
+at_prototype : {N : Type 0} (definitions : List (List ℕ)) (scopes : Scopes) (head : HeadTree N)
+    → AtFile definitions scopes
     → AtFile definitions (after_prototype scopes head)
 at_prototype definitions scopes head h =
     if_either (AtFile definitions) (is_declared scopes head.name.text) scopes (with_function scopes head.name.text
     (signature_of head)) h (record { outer = h.outer; definitions_are = h.definitions_are })
 
-pub at_function : (definitions : List (List ℕ)) (scopes : Scopes) (head : HeadTree) → AtFile definitions scopes
+pub at_function : (definitions : List (List ℕ)) (scopes : Scopes) (head : HeadTree names.Name)
+    → AtFile definitions scopes
     → AtFile definitions (after_function scopes head)
 at_function definitions scopes head h = let p = at_prototype definitions scopes head h in record
     { outer = p.outer; definitions_are = p.definitions_are }
@@ -126,7 +132,7 @@ same_signature a b e = by a.returns b.returns a.parameters b.parameters e
     by false false m n e = ap {B = Signature} (λ k. record { returns = false; parameters = k }) (same_number m n e)
 
 -- behind its declaration a function's name means its signature
-prototype_means : (scopes : Scopes) (head : HeadTree) → head_breaches scopes head ≡ []
+prototype_means : {N : Type 0} (scopes : Scopes) (head : HeadTree N) → head_breaches scopes head ≡ []
     → Means (after_prototype scopes head) head.name.text (meanings.Function (signature_of head))
 prototype_means scopes head w =
     by (lookup (bytes_eq head.name.text) scopes.inner) refl

@@ -26,7 +26,7 @@ use Rattle.om_rules.specs.Loops.{Loop}
 use Rattle.om_rules.specs.Resolution.{variable_of, variable_named}
 use Rattle.om_rules.specs.Scopes.{Binding, Scope, Enclosing, Scopes, meaning_outside, meaning_of, is_declared}
 use Rattle.om_rules.specs.Scopes.{with_local, with_function, signature_of, within, plain, inside, after_local}
-use Rattle.om_rules.specs.Scopes.{after_locals, declarators_of, after_parameter_name, after_parameter, after_parameters}
+use Rattle.om_rules.specs.Scopes.{after_locals, declarators_of, after_parameter, after_parameters}
 use Rattle.om_rules.specs.Scopes.{after_prototype, after_function}
 use Rattle.om_rules.specs.Sharing.{is_parallel}
 use Rattle.om_rules.specs.StatementResolution.{bounds_scopes}
@@ -128,25 +128,22 @@ below_local n scopes name shape h = record {
   outer = h.outer;
 }
 
-pub below_after_local : (n : ℕ) (scopes : Scopes) (d : DeclaratorTree) → Below n scopes → Below n (after_local scopes d)
+pub below_after_local : (n : ℕ) (scopes : Scopes) (d : DeclaratorTree ExpressionTree) → Below n scopes
+    → Below n (after_local scopes d)
 below_after_local n scopes d h = below_local n scopes d.name _ h
 
-below_locals : (n : ℕ) (ds : List DeclaratorTree) (scopes : Scopes) → Below n scopes → Below n (after_locals scopes ds)
+below_locals : (n : ℕ) (ds : List (DeclaratorTree ExpressionTree)) (scopes : Scopes) → Below n scopes
+    → Below n (after_locals scopes ds)
 below_locals n [] scopes h = h
 below_locals n (d ∷ ds) scopes h = below_locals n ds (after_local scopes d) (below_after_local n scopes d h)
 
-below_parameter : (n : ℕ) (scopes : Scopes) (name : Option names.Name) → Below n scopes
-    → Below n (after_parameter_name scopes name)
-below_parameter n scopes None h = h
-below_parameter n scopes (Some name) h = below_local n scopes name _ h
-
-pub below_parameters : (n : ℕ) (ps : List Parameter) (scopes : Scopes) → Below n scopes
+pub below_parameters : (n : ℕ) (ps : List (Parameter names.Name)) (scopes : Scopes) → Below n scopes
     → Below n (after_parameters scopes ps)
 below_parameters n [] scopes h = h
 below_parameters n (p ∷ ps) scopes h = below_parameters n ps (after_parameter scopes p)
-    (below_parameter n scopes p.name h)
+    (below_local n scopes p.name _ h)
 
-pub below_prototype : (n : ℕ) (scopes : Scopes) (head : HeadTree) → Below n scopes
+pub below_prototype : {N : Type 0} (n : ℕ) (scopes : Scopes) (head : HeadTree N) → Below n scopes
     → Below n (after_prototype scopes head)
 below_prototype n scopes head h =
     if_either (Below n) (is_declared scopes head.name.text) scopes (with_function scopes head.name.text
@@ -156,7 +153,8 @@ below_prototype n scopes head h =
       outer = h.outer;
     })
 
-pub below_function : (n : ℕ) (scopes : Scopes) (head : HeadTree) → Below n scopes → Below n (after_function scopes head)
+pub below_function : (n : ℕ) (scopes : Scopes) (head : HeadTree names.Name) → Below n scopes
+    → Below n (after_function scopes head)
 below_function n scopes head h = let p = below_prototype n scopes head h in record { inner = p.inner; outer = p.outer }
 
 -- ---- constructs

@@ -7,6 +7,7 @@ use Rattle.std.specs.Str.{bytes_eq}
 use Rattle.std.proofs.lemmas.Bool.Decides.{nat_tests}
 use Rattle.om_lexer.specs.declared.fault.FaultCode.TheVariants as faults
 use Rattle.om_tree.specs.declared.tree.ArrayLength.{ArrayLength}
+use Rattle.om_tree.specs.declared.tree.SignedNumber.{SignedNumber}
 use Rattle.om_tree.specs.Tree.{DeclaratorTree, HeadTree, FunctionTree, ItemTree, Declaration, Prototype, Function}
 use Rattle.om_rules.specs.declared.limits.TheConstants.{GLOBAL_CELL_LIMIT}
 use Rattle.om_rules.specs.declared.limits.TheConstants.{FUNCTION_LIMIT}
@@ -39,7 +40,8 @@ has_cells (Some array) h = by array.size.value h
     by (suc n) h = omega arith
 
 -- what a global adds to the cells: one at least, and the limit holds behind it
-pub global_fits : (scopes : Scopes) (d : DeclaratorTree) → global_breaches scopes d ≡ [] → (1 ≤ cells_of d.array)
+pub global_fits : (scopes : Scopes) (d : DeclaratorTree SignedNumber) → global_breaches scopes d ≡ []
+    → (1 ≤ cells_of d.array)
     × (scopes.cells + cells_of d.array ≤ 65536)
 global_fits scopes d none =
     let named = front (global_name_breaches scopes d) (initial_breaches d.initializer) none in
@@ -51,7 +53,8 @@ global_fits scopes d none =
     d.name.span.start (back _ too_many named) in
     (has_cells d.array full, below_limit 65536 (scopes.cells + cells_of d.array) room)
 
-globals_fit : (ds : List DeclaratorTree) (scopes : Scopes) → scopes.cells ≤ 65536 → globals_breaches scopes ds ≡ []
+globals_fit : (ds : List (DeclaratorTree SignedNumber)) (scopes : Scopes) → scopes.cells ≤ 65536
+    → globals_breaches scopes ds ≡ []
     → ((after_globals scopes ds).cells ≤ 65536)
     × (scopes.cells + length (map global_of ds) ≤ (after_globals scopes ds).cells)
 globals_fit [] scopes fits none = (fits, omega arith)
@@ -60,7 +63,8 @@ globals_fit (d ∷ ds) scopes fits none =
     let rest = globals_fit ds (after_global scopes d) one.1 (back (global_breaches scopes d) _ none) in
     (rest.0, omega (arith, one.0, rest.1))
 
-prototype_cells : (scopes : Scopes) (head : HeadTree) → (after_prototype scopes head).cells ≡ scopes.cells
+prototype_cells : {N : Type 0} (scopes : Scopes) (head : HeadTree N)
+    → (after_prototype scopes head).cells ≡ scopes.cells
 prototype_cells scopes head = by (is_declared scopes head.name.text)
   where
     by : (test : Bool) → (cond test scopes (with_function scopes head.name.text (signature_of head))).cells
@@ -91,7 +95,8 @@ items_fit (item ∷ items) scopes fits none =
 abbrev pub all_defined : Scopes → ℕ
 all_defined scopes = length scopes.defined
 
-pub prototype_defined : (scopes : Scopes) (head : HeadTree) → (after_prototype scopes head).defined ≡ scopes.defined
+pub prototype_defined : {N : Type 0} (scopes : Scopes) (head : HeadTree N)
+    → (after_prototype scopes head).defined ≡ scopes.defined
 prototype_defined scopes head = by (is_declared scopes head.name.text)
   where
     by : (test : Bool) → (cond test scopes (with_function scopes head.name.text (signature_of head))).defined
@@ -129,7 +134,8 @@ function_counts scopes f none =
       above (FUNCTION_LIMIT + length predeclared) (length scopes.defined) room,
     )
 
-pub globals_defined : (ds : List DeclaratorTree) (scopes : Scopes) → (after_globals scopes ds).defined ≡ scopes.defined
+pub globals_defined : (ds : List (DeclaratorTree SignedNumber)) (scopes : Scopes)
+    → (after_globals scopes ds).defined ≡ scopes.defined
 globals_defined [] scopes = refl
 globals_defined (d ∷ ds) scopes = globals_defined ds (after_global scopes d)
 

@@ -8,6 +8,7 @@ use Rattle.std.specs.Str.{bytes_eq}
 use Rattle.std.proofs.lemmas.List.{map-append}
 use Rattle.std.proofs.lemmas.Option.{slice_get-map}
 use Rattle.std.proofs.lemmas.Slice.Eq.{bytes_eq-Decides}
+use Rattle.om_tree.specs.declared.tree.SignedNumber.{SignedNumber}
 use Rattle.om_tree.specs.Tree.{DeclaratorTree, HeadTree, ItemTree, Declaration, Prototype, Function}
 use Rattle.om_resolved.specs.declared.resolved.GlobalVariable.{GlobalVariable}
 use Rattle.om_resolved.specs.declared.resolved.Variable.TheVariants as variables
@@ -90,7 +91,7 @@ means_one globals scopes name h =
 
 -- ---- declarations
 
-numbered_function : (globals : Names) (scopes : Scopes) (head : HeadTree) → Numbered globals scopes
+numbered_function : {N : Type 0} (globals : Names) (scopes : Scopes) (head : HeadTree N) → Numbered globals scopes
     → Numbered globals (after_prototype scopes head)
 numbered_function globals scopes head h =
     if_either (Numbered globals) (is_declared scopes head.name.text) scopes (with_function scopes head.name.text
@@ -105,7 +106,7 @@ numbered_function globals scopes head h =
       outer = h.outer;
     })
 
-numbered_global : (globals : Names) (scopes : Scopes) (d : DeclaratorTree) → Numbered globals scopes
+numbered_global : (globals : Names) (scopes : Scopes) (d : DeclaratorTree SignedNumber) → Numbered globals scopes
     → Numbered (globals ++ d.name.text ∷ []) (after_global scopes d)
 numbered_global globals scopes d h = record {
   count = omega (arith, h.count, length-append globals (d.name.text ∷ []));
@@ -120,7 +121,8 @@ numbered_global globals scopes d h = record {
 abbrev name_of : GlobalVariable → List ℕ
 name_of variable = variable.name
 
-numbered_globals : (ds : List DeclaratorTree) (globals : Names) (scopes : Scopes) → Numbered globals scopes
+numbered_globals : (ds : List (DeclaratorTree SignedNumber)) (globals : Names) (scopes : Scopes)
+    → Numbered globals scopes
     → Numbered (globals ++ map name_of (map global_of ds)) (after_globals scopes ds)
 numbered_globals [] globals scopes h = rw append-nil h
 numbered_globals (d ∷ ds) globals scopes h =

@@ -41,7 +41,8 @@ whole_perhaps around scopes for_value (Some e) h w =
     if_then (IsWhole around for_value) (IsWholeIfAny around for_value) (resolved_expression scopes e) _
     (whole_expression around scopes for_value e h w) (λ x hx. hx)
 
-whole_initial : (around : Around) (scopes : Scopes) (initializer : Option InitializerTree) → Knows around scopes
+whole_initial : (around : Around) (scopes : Scopes) (initializer : Option (InitializerTree ExpressionTree))
+    → Knows around scopes
     → initializer_breaches scopes initializer ≡ [] → IfSome (resolved_initial scopes initializer)
     (IsWholeIfAny around true)
 whole_initial around scopes None h w = tt
@@ -63,7 +64,8 @@ same_shape None = refl
 same_shape (Some array) = refl
 
 -- a declared variable is known behind its name
-known_declared : (around : Around) (scopes : Scopes) (d : DeclaratorTree) (initial : Option ResolvedExpressionTree)
+known_declared : (around : Around) (scopes : Scopes) (d : DeclaratorTree ExpressionTree)
+    (initial : Option ResolvedExpressionTree)
     → Knows around scopes
     → Knows (declared around (record { variable = local_of d.name; length = length_of d.array; initial = initial }))
     (after_local scopes d)
@@ -73,11 +75,11 @@ known_declared around scopes d initial h =
     (known_local around.globals around.functions around.locals scopes d.name (scoping.shape_of d.array) h)
 
 -- a resolved declarator, and what is known behind it
-abbrev IsGoodDeclarator : Around → Scopes → DeclaratorTree → ResolvedDeclaratorTree → Type 0
+abbrev IsGoodDeclarator : Around → Scopes → DeclaratorTree ExpressionTree → ResolvedDeclaratorTree → Type 0
 IsGoodDeclarator around scopes d r = IfSome r.length (λ length. 1 ≤ length) × IsWholeIfAny (declared around r) true
     r.initial × Knows (declared around r) (after_local scopes d)
 
-whole_declarator : (around : Around) (scopes : Scopes) (d : DeclaratorTree) → Knows around scopes
+whole_declarator : (around : Around) (scopes : Scopes) (d : DeclaratorTree ExpressionTree) → Knows around scopes
     → local_breaches scopes d ≡ [] → IfSome (resolved_declarator scopes d) (IsGoodDeclarator around scopes d)
 unfolding local_breaches resolved_declarator
 whole_declarator around scopes d h w =
@@ -99,11 +101,13 @@ whole_declarator around scopes d h w =
     (λ initial hi. (has_element d.array full, hi, behind))
 
 -- resolved declarators, and what is known behind them
-abbrev pub AreGoodDeclarators : Around → Scopes → List DeclaratorTree → List ResolvedDeclaratorTree → Type 0
+abbrev pub AreGoodDeclarators : Around → Scopes → List (DeclaratorTree ExpressionTree) → List ResolvedDeclaratorTree
+    → Type 0
 AreGoodDeclarators around scopes ds rs = AreWholeDeclarators around rs × Knows (after_declarators around rs)
     (after_locals scopes ds)
 
-pub whole_declarators : (ds : List DeclaratorTree) (around : Around) (scopes : Scopes) → Knows around scopes
+pub whole_declarators : (ds : List (DeclaratorTree ExpressionTree)) (around : Around) (scopes : Scopes)
+    → Knows around scopes
     → locals_breaches scopes ds ≡ [] → IfSome (resolved_declarators scopes ds) (AreGoodDeclarators around scopes ds)
 whole_declarators [] around scopes h w = (tt, h)
 whole_declarators (d ∷ ds) around scopes h w =

@@ -6,7 +6,7 @@ use Rattle.std.specs.List.{flat_map}
 use Rattle.std.specs.Map.{lookup}
 use Rattle.std.specs.Str.{bytes_eq}
 use Rattle.std.proofs.lemmas.Bool.Decides.{nat_tests}
-use Rattle.std.proofs.lemmas.List.{map-append}
+use Rattle.std.proofs.lemmas.List.{length-map}
 use Rattle.om_lexer.specs.declared.fault.FaultCode.TheVariants as faults
 use Rattle.om_pragma.specs.declared.name.Name as names
 use Rattle.om_tree.specs.declared.tree.Parameter.{Parameter}
@@ -24,16 +24,16 @@ use Rattle.om_rules.specs.Breaches.{breaches_of, main_breaches, rule_breaches}
 use Rattle.om_rules.specs.Faults.{breaches_along}
 use Rattle.om_whole.specs.Knowing.{Agrees, IsThere, Known}
 use Rattle.om_rules.specs.Perhaps.{◌>>=◌, all_along}
-use Rattle.om_rules.specs.Scopes.{Scopes, after_function, after_item, after_parameter_name, after_parameters}
+use Rattle.om_rules.specs.Scopes.{Scopes, after_function, after_item, after_parameter, after_parameters}
 use Rattle.om_rules.specs.Scopes.{definitions_of, file_scope, inside, meaning_outside, parameters_of, predeclared}
 use Rattle.om_rules.specs.Scopes.{returns_value}
-use Rattle.om_rules.specs.StatementRules.{statements_breaches}
-use Rattle.om_rules.specs.UnitResolution.{globals_of, item_functions, named_parameter, parameter_variable}
+use Rattle.om_rules.specs.StatementRules.{redeclared_breaches, statements_breaches}
+use Rattle.om_rules.specs.UnitResolution.{globals_of, item_functions, parameter_variable}
 use Rattle.om_rules.specs.UnitResolution.{resolution_of, resolved_function, resolved_inside}
 use Rattle.om_rules.specs.UnitRules.{body_breaches, definition_breaches, flow_of, function_breaches, next_parameter}
-use Rattle.om_rules.specs.UnitRules.{parameter_breaches, parameter_name_breaches, parameters_breaches}
+use Rattle.om_rules.specs.UnitRules.{parameter_breaches, parameters_breaches}
 use Rattle.om_whole.proofs.FileFunctions.{AreDefined, IsOwnMain, IsSigned, callee, distinct_functions, file_names}
-use Rattle.om_whole.proofs.FileFunctions.{function_name, named_length, own_main, signed}
+use Rattle.om_whole.proofs.FileFunctions.{function_name, own_main, signed}
 use Rattle.om_whole.proofs.FileGlobals.{IsShaped, cells_items, names_shaped}
 use Rattle.om_whole.proofs.FileScopes.{AtFile, Means, at_function, items_keep, of_items}
 use Rattle.om_whole.proofs.Knowing.{known_inside, known_local}
@@ -47,7 +47,7 @@ use Rattle.om_whole.proofs.Uses.{is_resolved, tree_of}
 above : (limit n : ℕ) → nat_le limit n ≡ false → n < limit
 above limit n h = grind (arith, nat_tests)
 
-few_parameters : (ps : List Parameter) (before : ℕ) (scopes : Scopes) → before ≤ 16
+few_parameters : (ps : List (Parameter names.Name)) (before : ℕ) (scopes : Scopes) → before ≤ 16
     → breaches_along parameter_breaches next_parameter (before, scopes) ps ≡ [] → before + length ps ≤ 16
 few_parameters [] before scopes few w = omega (arith, few)
 few_parameters (p ∷ ps) before scopes few w =
@@ -55,29 +55,23 @@ few_parameters (p ∷ ps) before scopes few w =
     let own = front (parameter_breaches (before, scopes) p) (breaches_along parameter_breaches next_parameter next
     ps) w in
     let room = above 16 before (not_broken (nat_le PARAMETER_LIMIT before) faults.TooMany p.int.start
-    (front _ (parameter_name_breaches scopes p.name) own)) in
+    (front _ (redeclared_breaches scopes p.name) own)) in
     let rest = few_parameters ps (before + 1) next.1 (omega (arith, room))
     (back (parameter_breaches (before, scopes) p) (breaches_along parameter_breaches next_parameter next ps) w) in
     omega (arith, rest)
 
 module _ (globals : List GlobalVariable) (functions : List ResolvedFunctionTree) where
-  one_parameter : (name : Option names.Name) (locals : List Local) (scopes : Scopes) → Known globals functions
-      locals scopes
-      → Known globals functions (locals ++ map scalar (named_parameter name)) (after_parameter_name scopes name)
-  one_parameter None locals scopes h = rw append-nil h
-  one_parameter (Some name) locals scopes h = known_local globals functions locals scopes name shapes.Scalar h
-
-  known_parameters : (ps : List Parameter) (locals : List Local) (scopes : Scopes) → Known globals functions locals
-      scopes
-      → Known globals functions (locals ++ map scalar (flat_map parameter_variable ps)) (after_parameters scopes ps)
+  known_parameters : (ps : List (Parameter names.Name)) (locals : List Local) (scopes : Scopes)
+      → Known globals functions locals scopes
+      → Known globals functions (locals ++ map scalar (map parameter_variable ps)) (after_parameters scopes ps)
   known_parameters [] locals scopes h = rw append-nil h
   known_parameters (p ∷ ps) locals scopes h =
-      let own = map scalar (named_parameter p.name) in
-      let rest = map scalar (flat_map parameter_variable ps) in
-      subst (λ all. Known globals functions all (after_parameters (after_parameter_name scopes p.name) ps))
-      (append_assoc locals own rest ∙ ap (λ all. locals ++ all)
-      (sym (map-append scalar (named_parameter p.name) (flat_map parameter_variable ps))))
-      (known_parameters ps (locals ++ own) (after_parameter_name scopes p.name) (one_parameter p.name locals scopes h))
+      let own = scalar (parameter_variable p) in
+      let rest = map scalar (map parameter_variable ps) in
+      subst (λ all. Known globals functions all (after_parameters (after_parameter scopes p) ps))
+      (append_assoc locals (own ∷ []) rest)
+      (known_parameters ps (locals ++ own ∷ []) (after_parameter scopes p)
+      (known_local globals functions locals scopes p.name shapes.Scalar h))
 
   -- ---- what is known at file scope
 
@@ -115,7 +109,7 @@ module _ (globals : List GlobalVariable) (functions : List ResolvedFunctionTree)
     body_around f = record {
       globals = globals;
       functions = functions;
-      locals = map scalar (flat_map parameter_variable (parameters_of f.head.parameters));
+      locals = map scalar (map parameter_variable (parameters_of f.head.parameters));
       returns = returns_value f.head.result;
       breaks = false;
       continues = false;
@@ -148,9 +142,9 @@ module _ (globals : List GlobalVariable) (functions : List ResolvedFunctionTree)
         if_then (AreWholeItems (body_around f)) (IsWholeFunction globals functions) (resolved_inside behind f) _
         (whole_items (body_around f) (after_parameters (inside behind) ps) (flow_of f.head) None
         (statements f.body.items)
-        (known_parameters ps [] (inside behind) (known_inside globals functions [] behind known)) agrees formed.1
+        (known_parameters ps [] (inside behind) (known_inside globals functions [] behind known)) agrees formed
         (back listed items body))
-        (λ body hb. record { parameters = omega (arith, few, named_length f.head.parameters formed.0); body = hb })
+        (λ body hb. record { parameters = omega (arith, few, length-map ps parameter_variable); body = hb })
 
 -- ---- `main`
 

@@ -7,6 +7,7 @@ use Rattle.std.specs.Str.{bytes_eq}
 use Rattle.std.proofs.lemmas.List.Elements.{All-nil, All-cons, All-append}
 use Rattle.std.proofs.lemmas.List.Folds.{Any-from_list_any, list_any-append}
 use Rattle.om_lexer.specs.declared.fault.FaultCode.TheVariants as faults
+use Rattle.om_tree.specs.declared.tree.SignedNumber.{SignedNumber}
 use Rattle.om_tree.specs.Tree.{statements, DeclaratorTree, HeadTree, FunctionTree, ItemTree, Declaration, Prototype}
 use Rattle.om_tree.specs.Tree.{Function, UnitTree}
 use Rattle.om_rules.specs.declared.meaning.Meaning.TheVariants as meanings
@@ -57,7 +58,8 @@ item_uses n scopes (Function f) h =
 abbrev Numbered : Scopes → Type 0
 Numbered scopes = Below scopes.globals scopes
 
-numbered_global : (scopes : Scopes) (d : DeclaratorTree) → Numbered scopes → Numbered (after_global scopes d)
+numbered_global : (scopes : Scopes) (d : DeclaratorTree SignedNumber) → Numbered scopes
+    → Numbered (after_global scopes d)
 numbered_global scopes d h =
     let further = more scopes.globals (scopes.globals + 1) scopes (omega arith) h in
     record {
@@ -67,14 +69,15 @@ numbered_global scopes d h =
       outer = further.outer;
     }
 
-numbered_globals : (ds : List DeclaratorTree) (scopes : Scopes) → Numbered scopes
+numbered_globals : (ds : List (DeclaratorTree SignedNumber)) (scopes : Scopes) → Numbered scopes
     → Numbered (after_globals scopes ds) × ((after_globals scopes ds).globals ≡ scopes.globals + length
     (map global_of ds))
 numbered_globals [] scopes h = (h, omega arith)
 numbered_globals (d ∷ ds) scopes h = let rest = numbered_globals ds (after_global scopes d)
     (numbered_global scopes d h) in (rest.0, omega (arith, rest.1))
 
-prototype_globals : (scopes : Scopes) (head : HeadTree) → (after_prototype scopes head).globals ≡ scopes.globals
+prototype_globals : {N : Type 0} (scopes : Scopes) (head : HeadTree N)
+    → (after_prototype scopes head).globals ≡ scopes.globals
 prototype_globals scopes head = if_either (λ behind. behind.globals ≡ scopes.globals)
     (is_declared scopes head.name.text) scopes (with_function scopes head.name.text (signature_of head)) refl refl
 

@@ -1,6 +1,6 @@
 use Rattle.std.proofs.Common.{ap, ◌∙◌}
 use Rattle.om_tree.specs.View.{view_head}
-use Rattle.om_rules.specs.Scopes.{after_parameters, outside, parameters_of}
+use Rattle.om_rules.specs.Scopes.{after_optionals, outside, parameters_of}
 use Rattle.std.proofs.lemmas.Result.{err_from_is_err_and}
 use Rattle.om_rules.specs.InRow.{first_of_left}
 use Rattle.om_scope.proofs.Parameters.{prototype_outside}
@@ -10,7 +10,7 @@ pub returns-clause-in_scope : goal.returns-clause-in_scope
 returns-clause-in_scope c =
     let ps = parameters_of (view_head c.args.head.now).parameters in
     c.leave.ensures
-    ∙ ap outside (c.in_ok-declare_parameters.ensures.in_scope ∙ ap (λ scopes. after_parameters scopes ps)
+    ∙ ap outside (c.in_ok-declare_optionals.ensures.in_scope ∙ ap (λ scopes. after_optionals scopes ps)
     c.in_ok-enter.ensures)
     ∙ prototype_outside _ ps
     ∙ c.in_ok-declare_head.ensures

@@ -1,5 +1,4 @@
 use Rattle.std.proofs.Common.{◌≡◌, ◌≤◌, ◌++◌, map, drop}
-use Rattle.std.specs.List.{flat_map}
 use Rattle.om_rules.specs.Scopes.{after_parameters}
 use Rattle.om_rules.specs.Faults.{breaches_along}
 use Rattle.om_rules.specs.UnitResolution.{parameter_variable}
@@ -13,6 +12,6 @@ invariant-loop-further l =
     (breaches_along parameter_breaches next_parameter (1, l.fn.symbols) all ≡ breaches_along parameter_breaches
     next_parameter (l.before, l.symbols) left)
     × (after_parameters l.fn.symbols all ≡ after_parameters l.symbols left)
-    × (l.parameters.items ++ flat_map parameter_variable left ≡ l.fn.parameters.items ++ flat_map parameter_variable
+    × (l.parameters.items ++ map parameter_variable left ≡ l.fn.parameters.items ++ map parameter_variable
     all)
     × (l.before ≤ 16)
