@@ -18,4 +18,6 @@ pub mod Resolution
 pub mod Updates
 pub mod Grouping
 pub mod StatementResolution
+pub mod Proper
+pub mod ProperConstructs
 pub mod UnitResolution

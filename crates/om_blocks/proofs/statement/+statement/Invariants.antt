@@ -2,6 +2,7 @@ use Rattle.std.proofs.Common.{◌≡◌, length, map, drop}
 use Rattle.om_tree.specs.Tree.{statements}
 use Rattle.om_tree.specs.View.{view_statement}
 use Rattle.om_resolved.specs.ResolvedView.{view_resolved_part, view_resolved_statement}
+use Rattle.om_rules.specs.Proper.{AreProper, AreProperParts}
 use Rattle.om_rules.specs.StatementResolution.{resolved_parts, resolved_statements}
 use Rattle.om_rules.specs.StatementRules.{after_statements, sections_breaches, statements_breaches}
 use Rattle.om_blocks.proofs.MadeParts.{MadeParts}
@@ -18,6 +19,7 @@ invariant-resolve_statements-loop-item l =
     × (after_statements l.fn.symbols all ≡ after_statements l.symbols left)
     × Made (resolved_statements l.fn.symbols parallel (statements all)) (resolved_statements l.symbols parallel
     (statements left)) (map view_resolved_statement l.resolved.items)
+    × AreProper (statements left)
 
 abbrev pub invariant-resolve_parts-loop-item : goal.invariant-resolve_parts-loop-item
 invariant-resolve_parts-loop-item l =
@@ -30,3 +32,4 @@ invariant-resolve_parts-loop-item l =
     × (l.symbols ≡ l.fn.symbols)
     × MadeParts (resolved_parts l.fn.symbols parallel 0 (statements all)) (resolved_parts l.fn.symbols parallel
     (length made) (statements left)) made
+    × AreProperParts (statements left)
