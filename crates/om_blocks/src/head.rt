@@ -6,7 +6,7 @@ ghost use Rattle.om_resolved.specs.ResolvedTree as resolved;
 ghost use Rattle.om_resolved.specs.ResolvedView.{view_resolved_expression, view_resolved_start, view_resolved_statement};
 ghost use Rattle.om_rules.specs.Checks.{Checks};
 ghost use Rattle.om_rules.specs.StatementResolution.{resolved_perhaps, resolved_start};
-ghost use Rattle.om_rules.specs.StatementRules.{after_for_start, for_start_breaches, for_turn_breaches, looping, perhaps_breaches};
+ghost use Rattle.om_rules.specs.StatementRules.{after_for_start, continuing, for_start_breaches, for_turn_breaches, looping, perhaps_breaches};
 
 use om_lexer::{SourceFault, Span};
 use om_names::Symbols;
@@ -168,5 +168,15 @@ pub(crate) fn looping(flow: Flow) -> Flow
         in_construct: flow.in_construct,
         is_closed: flow.is_closed,
         parallel: flow.parallel,
+    }
+}
+
+/// The same place, where a `continue` goes on with the next iteration.
+pub(crate) fn continuing(flow: Flow) -> Flow
+    ensures { result ≡ continuing flow }
+{
+    Flow {
+        may_continue: true,
+        ..flow
     }
 }

@@ -1,6 +1,7 @@
 //! Statements that have no statement in them.
 
-ghost use Rattle.std.specs.Prelude.{◌≡◌, ◌++◌, false, not, OnOk, IfOk, Some, option_map};
+ghost use Rattle.std.specs.Prelude.{◌≡◌, ◌++◌, true, false, not, OnOk, IfOk, Some, option_map};
+ghost use Rattle.om_pragma.specs.Questions.{is_stand_alone};
 ghost use Rattle.om_tree.specs.View.{view_directive, view_expression, view_local};
 ghost use Rattle.om_resolved.specs.ResolvedView.{view_resolved_expression, view_resolved_statement};
 ghost use Rattle.om_rules.specs.Checks.{Checks, ChecksExactly};
@@ -132,6 +133,7 @@ pub fn resolve_stand_alone(
     flow: Flow,
     directive: &Directive<Expression>,
 ) -> Result<ResolvedStatement, SourceFault>
+    requires stands_alone { is_stand_alone directive.now.name ≡ true }
     ensures checked { Checks result
         (stand_alone_breaches symbols.now flow (view_directive directive.now)) }
     ensures resolved { let tree = view_directive directive.now in
@@ -149,6 +151,7 @@ fn resolve_alone(
     symbols: &Symbols,
     directive: &Directive<Expression>,
 ) -> Result<ResolvedStatement, SourceFault>
+    requires stands_alone { is_stand_alone directive.now.name ≡ true }
     ensures checked { Checks result (flush_breaches symbols.now directive.now.name) }
     ensures resolved { let tree = view_directive directive.now in
         IfOk result
@@ -176,6 +179,6 @@ fn resolve_alone(
                 directive: flushed,
             })
         }
-        _ => Ok(ResolvedStatement::Empty(at)),
+        _ => unreachable!(),
     }
 }

@@ -1,19 +1,21 @@
 //! Statements: their rules, and the variables of their names.
 
-ghost use Rattle.std.specs.Prelude.{◌≡◌, true, OnOk, IfOk, Some, is_some, map, option_map};
-ghost use Rattle.om_tree.specs.Tree.{parts, statements};
+ghost use Rattle.std.specs.Prelude.{◌≡◌, true, false, OnOk, IfOk, Some, is_some, map, option_map};
+ghost use Rattle.om_tree.specs.Tree.{Construct, parts, statements};
 ghost use Rattle.om_tree.specs.View.{view_directive, view_for_head, view_part, view_statement};
 ghost use Rattle.om_resolved.specs.ResolvedTree as resolved;
 ghost use Rattle.om_resolved.specs.ResolvedView.{view_resolved_part, view_resolved_statement};
 ghost use Rattle.om_forms.specs.LoopViews.{view_loop};
 ghost use Rattle.om_rules.specs.Checks.{Checks};
+ghost use Rattle.om_rules.specs.DirectiveRules.{traits_of};
 ghost use Rattle.om_rules.specs.Loops.{loop_in};
+ghost use Rattle.om_rules.specs.Proper.{AreProper, AreProperParts, IsProper};
 ghost use Rattle.om_rules.specs.Scopes.{inside};
 ghost use Rattle.om_rules.specs.StatementResolution.{resolved_construct, resolved_for, resolved_loop_construct, resolved_parts, resolved_plain_construct, resolved_repeated, resolved_sections, resolved_statement, resolved_statements};
 ghost use Rattle.om_rules.specs.StatementRules.{after_statement, after_statements, body_breaches, construct_breaches, continuing, for_breaches, in_loop, loop_construct_breaches, looping, part_breaches, parts_breaches, plain_construct_breaches, section_breaches, sections_construct_breaches, statement_breaches, statements_breaches};
 
 use crate::entering::{enter_construct, enter_loop_construct};
-use crate::head::{for_of, looping, resolve_for_head};
+use crate::head::{continuing, for_of, looping, resolve_for_head};
 use crate::simple::{
     check_jump, resolve_declaration, resolve_effect, resolve_return, resolve_stand_alone,
 };
@@ -37,6 +39,7 @@ pub fn resolve_statements(
     flow: Flow,
     items: &[Statement],
 ) -> Result<Vec<ResolvedStatement>, SourceFault>
+    requires proper { AreProper (statements (map view_statement items.now)) }
     ensures checked { Checks result
         (statements_breaches symbols.old flow (statements (map view_statement items.now))) }
     ensures in_scope { OnOk result
@@ -55,7 +58,7 @@ pub fn resolve_statements(
 }
 
 /// A statement, or a declaration in a block.
-#[tactic(auto, using(om_rules::specs::InRow::first_of_left), unfolding(om_rules::specs::StatementRules::statement_breaches, om_rules::specs::StatementResolution::resolved_statement))]
+#[tactic(auto, using(om_rules::specs::InRow::first_of_left), unfolding(om_rules::specs::StatementRules::statement_breaches, om_rules::specs::StatementResolution::resolved_statement, om_tree::specs::Formed::IsStatement, om_tree::specs::Sizes::HasForms))]
 #[cycle(statement)]
 fn resolve_statement(
     alloc: Global,
@@ -63,6 +66,7 @@ fn resolve_statement(
     flow: Flow,
     statement: &Statement,
 ) -> Result<ResolvedStatement, SourceFault>
+    requires proper { IsProper (view_statement statement.now) }
     ensures checked { Checks result
         (statement_breaches symbols.old flow (view_statement statement.now)) }
     ensures in_scope { OnOk result
@@ -177,6 +181,7 @@ fn resolve_body(
     flow: Flow,
     body: &Statement,
 ) -> Result<Box<ResolvedStatement>, SourceFault>
+    requires proper { IsProper (view_statement body.now) }
     ensures checked { Checks result
         (statement_breaches (inside symbols.old) flow (view_statement body.now)) }
     ensures in_scope { OnOk result (symbols.new ≡ symbols.old) }
@@ -198,6 +203,7 @@ fn boxed_statement(
     flow: Flow,
     statement: &Statement,
 ) -> Result<Box<ResolvedStatement>, SourceFault>
+    requires proper { IsProper (view_statement statement.now) }
     ensures checked { Checks result
         (statement_breaches symbols.old flow (view_statement statement.now)) }
     ensures in_scope { OnOk result
@@ -217,6 +223,7 @@ fn resolve_block(
     flow: Flow,
     items: &[Statement],
 ) -> Result<Vec<ResolvedStatement>, SourceFault>
+    requires proper { AreProper (statements (map view_statement items.now)) }
     ensures checked { Checks result
         (statements_breaches (inside symbols.old) flow
         (statements (map view_statement items.now))) }
@@ -242,6 +249,7 @@ fn resolve_for(
     head: &ForHead,
     body: &Statement,
 ) -> Result<ResolvedStatement, SourceFault>
+    requires proper { IsProper (view_statement body.now) }
     ensures checked { Checks result
         (for_breaches symbols.old flow (view_for_head head.now) (view_statement body.now)) }
     ensures in_scope { OnOk result (symbols.new ≡ symbols.old) }
@@ -265,6 +273,8 @@ fn resolve_construct(
     directive: &Directive<Expression>,
     body: &Statement,
 ) -> Result<ResolvedStatement, SourceFault>
+    requires proper { IsProper (Construct (view_directive directive.now)
+        (view_statement body.now)) }
     ensures checked { Checks result
         (construct_breaches symbols.old flow (view_directive directive.now)
         (view_statement body.now)) }
@@ -290,6 +300,9 @@ fn resolve_plain_construct(
     directive: &Directive<Expression>,
     body: &Statement,
 ) -> Result<ResolvedStatement, SourceFault>
+    requires proper { IsProper (Construct (view_directive directive.now)
+        (view_statement body.now)) }
+    requires for_any { (traits_of directive.now.name).takes_loop ≡ false }
     ensures checked { Checks result
         (plain_construct_breaches symbols.old flow (view_directive directive.now)
         (view_statement body.now)) }
@@ -319,6 +332,7 @@ fn resolve_loop_construct(
     directive: &Directive<Expression>,
     body: &Statement,
 ) -> Result<ResolvedStatement, SourceFault>
+    requires proper { IsProper (view_statement body.now) }
     ensures checked { Checks result
         (loop_construct_breaches symbols.old flow (view_directive directive.now)
         (loop_in (view_statement body.now)) (view_statement body.now)) }
@@ -347,7 +361,7 @@ fn resolve_loop_construct(
 }
 
 /// The body of a canonical loop.
-#[tactic(auto, unfolding(om_rules::specs::StatementRules::body_breaches, om_rules::specs::StatementResolution::resolved_repeated))]
+#[tactic(auto, unfolding(om_rules::specs::StatementRules::body_breaches, om_rules::specs::StatementResolution::resolved_repeated, om_tree::specs::Formed::IsStatement, om_tree::specs::Sizes::HasForms))]
 #[cycle(statement)]
 fn resolve_loop_body(
     alloc: Global,
@@ -356,6 +370,7 @@ fn resolve_loop_body(
     found: &Loop<'_>,
     body: &Statement,
 ) -> Result<Box<ResolvedStatement>, SourceFault>
+    requires proper { IsProper (view_statement body.now) }
     requires is_loop { is_some (loop_in (view_statement body.now)) ≡ true }
     ensures checked { Checks result
         (body_breaches symbols.old inside (Some (view_loop found.now)) (view_statement body.now)) }
@@ -381,6 +396,7 @@ fn resolve_repeated(
     found: &Loop<'_>,
     repeated: &Statement,
 ) -> Result<Box<ResolvedStatement>, SourceFault>
+    requires proper { IsProper (view_statement repeated.now) }
     ensures checked { Checks result
         (statement_breaches (in_loop symbols.old (Some (view_loop found.now))) (continuing inside)
         (view_statement repeated.now)) }
@@ -395,16 +411,6 @@ fn resolve_repeated(
     Ok(repeated)
 }
 
-/// The same place, where a `continue` goes on with the next iteration.
-fn continuing(flow: Flow) -> Flow
-    ensures { result ≡ continuing flow }
-{
-    Flow {
-        may_continue: true,
-        ..flow
-    }
-}
-
 /// A construct of parts.
 #[tactic(auto, using(om_rules::specs::InRow::first_of_left))]
 #[cycle(statement)]
@@ -415,6 +421,7 @@ fn resolve_sections(
     directive: &Directive<Expression>,
     sections: &[Part],
 ) -> Result<ResolvedStatement, SourceFault>
+    requires proper { AreProperParts (parts (map view_part sections.now)) }
     ensures checked { Checks result
         (sections_construct_breaches symbols.old flow (view_directive directive.now)
         (parts (map view_part sections.now))) }
@@ -439,6 +446,7 @@ fn resolve_parts(
     flow: Flow,
     sections: &[Part],
 ) -> Result<Vec<ResolvedPart>, SourceFault>
+    requires proper { AreProperParts (parts (map view_part sections.now)) }
     ensures checked { Checks result
         (parts_breaches symbols.old flow 0 (parts (map view_part sections.now))) }
     ensures in_scope { OnOk result (symbols.new ≡ symbols.old) }
@@ -464,6 +472,7 @@ fn resolve_part(
     before: usize,
     part: &Part,
 ) -> Result<ResolvedPart, SourceFault>
+    requires proper { AreProper (view_part part.now).items }
     ensures checked { Checks result (part_breaches symbols.old flow before (view_part part.now)) }
     ensures in_scope { OnOk result (symbols.new ≡ symbols.old) }
     ensures resolved { IfOk result

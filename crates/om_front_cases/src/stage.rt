@@ -2,6 +2,7 @@
 
 ghost use Rattle.std.specs.Prelude.{IfOk};
 ghost use Rattle.om_tree.specs.Formed.{IsUnit};
+ghost use Rattle.om_tree.specs.Sizes.{AtomicsHaveForms};
 ghost use Rattle.om_tree.specs.View.{view_unit};
 
 use om_lexer::{SourceFault, Token, lex};
@@ -61,9 +62,10 @@ fn without_end(tokens: &[Token]) -> &[Token] {
     }
 }
 
-/// The tree of a source, which is well-formed.
+/// The tree of a source, which is well-formed and has the forms of `atomic`.
 fn parsed(alloc: Global, source: &[u8]) -> Result<Unit, SourceFault>
-    ensures { IfOk result (λ unit. IsUnit (view_unit unit)) }
+    ensures formed { IfOk result (λ unit. IsUnit (view_unit unit)) }
+    ensures atomics_have_forms { IfOk result (λ unit. AtomicsHaveForms (view_unit unit)) }
 {
     let tokens = lex(alloc, source)?;
     parse(alloc, tokens.as_slice())

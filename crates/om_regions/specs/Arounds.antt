@@ -1,5 +1,5 @@
 -- What a construct puts round its statement.
-use Rattle.std.specs.Prelude.{List}
+use Rattle.std.specs.Prelude.{List, Option, Some}
 use Rattle.om_lexer.specs.declared.token.Span.{Span}
 use Rattle.om_regions.specs.declared.assembly.Around.{Around}
 use Rattle.om_regions.specs.declared.assembly.Around.TheVariants as arounds
@@ -8,10 +8,10 @@ use Rattle.om_resolved.specs.ResolvedTree.{ResolvedClauseTree, ResolvedStatement
 use Rattle.om_rules.specs.StatementResolution.{with_update}
 use Rattle.om_rules.specs.Updates.{update_of}
 
--- a statement with what a construct puts round it
-abbrev pub with_around : Around → Span → List ResolvedClauseTree → ResolvedStatementTree → ResolvedStatementTree
-with_around (arounds.Parallel captures) at cs body = resolved.Parallel at cs captures body
-with_around (arounds.Task captures) at cs body = resolved.Task at cs captures body
-with_around (arounds.Construct kind) at cs body = resolved.Construct at kind cs body
+-- a statement with what a construct puts round it; an update takes the place of one that is an update
+abbrev pub with_around : Around → Span → List ResolvedClauseTree → ResolvedStatementTree
+    → Option ResolvedStatementTree
+with_around (arounds.Parallel captures) at cs body = Some (resolved.Parallel at cs captures body)
+with_around (arounds.Task captures) at cs body = Some (resolved.Task at cs captures body)
+with_around (arounds.Construct kind) at cs body = Some (resolved.Construct at kind cs body)
 with_around (arounds.Update side) at cs body = with_update at (update_of side body)
-with_around arounds.Nothing at cs body = body

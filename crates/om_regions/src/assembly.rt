@@ -1,6 +1,6 @@
 //! Constructs, put together of their clauses and their statement.
 
-ghost use Rattle.std.specs.Prelude.{◌≡◌, [], IfOk, List, map, option_map};
+ghost use Rattle.std.specs.Prelude.{◌≡◌, [], IfOk, IsSome, List, Some, map, option_map};
 ghost use Rattle.om_lexer.specs.declared.token.Span.{Span};
 ghost use Rattle.om_tree.specs.View.{view_directive, view_expression};
 ghost use Rattle.om_pragma.specs.Expressions.{map_clause, map_item};
@@ -99,8 +99,6 @@ pub enum Around {
     Construct(ConstructKind),
     /// An `atomic` that updates; its statement has the target on this side.
     Update(Side),
-    /// The statement stays as it is.
-    Nothing,
 }
 
 /// What a `task` in the `parallel` that begins there puts round a statement.
@@ -115,7 +113,7 @@ fn around_task(
         let tree = view_resolved_statement body.now in
         IfOk result
         (λ around. with_around around directive.now.hash cs tree
-        ≡ task_of parallel (view_directive directive.now) cs tree) }
+        ≡ Some (task_of parallel (view_directive directive.now) cs tree)) }
 {
     let sharing = TaskSharing {
         has_default: has_default(directive),
@@ -136,7 +134,7 @@ fn around_parallel(
         let tree = view_resolved_statement body.now in
         IfOk result
         (λ around. with_around around directive.now.hash cs tree
-        ≡ parallel_of (view_directive directive.now) cs tree) }
+        ≡ Some (parallel_of (view_directive directive.now) cs tree)) }
 {
     let captures = captures_of_parallel(alloc, directive.hash.start, clauses, body)?;
     Ok(Around::Parallel(captures))
@@ -181,6 +179,9 @@ fn around_of(
     clauses: &[ResolvedClause],
     body: &ResolvedStatement,
 ) -> Result<Around, AllocError>
+    requires is_there { let tree = view_directive directive.now in
+        IsSome (construct_of setting.parallel setting.side tree tree.name
+        (map view_resolved_clause clauses.now) (view_resolved_statement body.now)) }
     ensures { let tree = view_directive directive.now in
         let cs = map view_resolved_clause clauses.now in
         let inner = view_resolved_statement body.now in
@@ -202,7 +203,7 @@ fn around_of(
         DirectiveName::Critical(_, name) => around_critical(alloc, name),
         DirectiveName::Taskgroup(_) => Ok(Around::Construct(ConstructKind::Taskgroup)),
         DirectiveName::Atomic(_) => Ok(around_atomic(atomic_kind(directive), setting.side)),
-        _ => Ok(Around::Nothing),
+        _ => unreachable!(),
     }
 }
 
@@ -214,10 +215,11 @@ fn with_around(
     clauses: Vec<ResolvedClause>,
     body: Box<ResolvedStatement>,
 ) -> Result<ResolvedStatement, AllocError>
-    ensures { IfOk result
-        (λ found. view_resolved_statement found
-        ≡ with_around around at (map view_resolved_clause clauses.items)
+    requires is_there { IsSome (with_around around at (map view_resolved_clause clauses.items)
         (view_resolved_statement body.value)) }
+    ensures { IfOk result
+        (λ found. with_around around at (map view_resolved_clause clauses.items)
+        (view_resolved_statement body.value) ≡ Some (view_resolved_statement found)) }
 {
     match around {
         Around::Parallel(captures) => Ok(ResolvedStatement::Parallel {
@@ -239,31 +241,30 @@ fn with_around(
             body,
         }),
         Around::Update(side) => with_update(alloc, at, side, body),
-        Around::Nothing => Ok(Box::into_inner(body)),
     }
 }
 
-/// An `atomic` round the update that a statement is, whose target stands on that side. What is no
-/// update becomes an empty statement.
+/// An `atomic` round the update that a statement is, whose target stands on that side.
 fn with_update(
     alloc: Global,
     at: Span,
     side: Side,
     body: Box<ResolvedStatement>,
 ) -> Result<ResolvedStatement, AllocError>
+    requires is_update { IsSome (update_of side (view_resolved_statement body.value)) }
     ensures { IfOk result
-        (λ found. view_resolved_statement found
-        ≡ with_update at (update_of side (view_resolved_statement body.value))) }
+        (λ found. with_update at (update_of side (view_resolved_statement body.value))
+        ≡ Some (view_resolved_statement found)) }
 {
     let mut body = body;
     let Some(update) = update_of(side, &mut body) else {
-        return Ok(ResolvedStatement::Empty(at));
+        unreachable!()
     };
     let update = boxed(alloc, update)?;
     Ok(ResolvedStatement::Update { at, update })
 }
 
-/// A construct round a statement.
+/// A construct round a statement, which is one that it may have.
 pub fn construct_of(
     alloc: Global,
     setting: Setting,
@@ -271,12 +272,15 @@ pub fn construct_of(
     clauses: Vec<ResolvedClause>,
     body: Box<ResolvedStatement>,
 ) -> Result<ResolvedStatement, SourceFault>
+    requires is_there { let tree = view_directive directive.now in
+        IsSome (construct_of setting.parallel setting.side tree tree.name
+        (map view_resolved_clause clauses.items) (view_resolved_statement body.value)) }
     ensures checked { Checks result [] }
     ensures made { let tree = view_directive directive.now in
         IfOk result
-        (λ found. view_resolved_statement found
-        ≡ construct_of setting.parallel setting.side tree tree.name
-        (map view_resolved_clause clauses.items) (view_resolved_statement body.value)) }
+        (λ found. construct_of setting.parallel setting.side tree tree.name
+        (map view_resolved_clause clauses.items) (view_resolved_statement body.value)
+        ≡ Some (view_resolved_statement found)) }
 {
     let around = around_of(alloc, setting, directive, clauses.as_slice(), &body)?;
     Ok(with_around(alloc, around, directive.hash, clauses, body)?)

@@ -17,4 +17,6 @@ pub mod Breaches
 pub mod Resolution
 pub mod Updates
 pub mod StatementResolution
+pub mod Proper
+pub mod ProperConstructs
 pub mod UnitResolution

@@ -34,7 +34,7 @@ use Rattle.om_resolved.specs.Captures.{captures_of, listed_variables, taken_by_p
 use Rattle.om_rules.specs.DirectiveRules.{in_construct, names_in, parallel_in, traits_of}
 use Rattle.om_rules.specs.Loops.{Loop, loop_in}
 use Rattle.om_rules.specs.Perhaps.{◌>>=◌, perhaps, each, each_along, all_of}
-use Rattle.om_rules.specs.Places.{expression_first, statement_first}
+use Rattle.om_rules.specs.Places.{expression_first}
 use Rattle.om_rules.specs.Resolution.{resolved_expression, variable_named}
 use Rattle.om_resolved.specs.ResolvedTree as resolved
 use Rattle.om_resolved.specs.ResolvedTree.{ResolvedDeclaratorTree, ResolvedClauseTree, ResolvedLoopTree}
@@ -143,39 +143,32 @@ task_of parallel d cs body =
 abbrev pub critical_name : Option (Span × names.Name × Span) → Option (List ℕ)
 critical_name name = option_map (λ n. n.1.text) name
 
--- a statement that is no update does nothing
-abbrev pub with_update : Span → Option ResolvedUpdateTree → ResolvedStatementTree
-with_update at None = resolved.Empty at
-with_update at (Some update) = resolved.Update at update
+-- of an update alone, which the statement is where the `atomic` has one of its forms
+abbrev pub with_update : Span → Option ResolvedUpdateTree → Option ResolvedStatementTree
+with_update at None = None
+with_update at (Some update) = Some (resolved.Update at update)
 
 abbrev pub atomic_of : AtomicKind → Side → Span → List ResolvedClauseTree → ResolvedStatementTree
-    → ResolvedStatementTree
+    → Option ResolvedStatementTree
 atomic_of atomics.Update side at cs body = with_update at (update_of side body)
-atomic_of atomics.Read side at cs body = resolved.Construct at constructs.Atomic cs body
-atomic_of atomics.Write side at cs body = resolved.Construct at constructs.Atomic cs body
+atomic_of atomics.Read side at cs body = Some (resolved.Construct at constructs.Atomic cs body)
+atomic_of atomics.Write side at cs body = Some (resolved.Construct at constructs.Atomic cs body)
 
--- a directive that is no construct for one statement leaves its statement as it is
+-- of a directive for one statement, which every construct of a well-formed tree has; those for a loop stand below
 unfoldable pub construct_of : Option ℕ → Side → Directive ExpressionTree → DirectiveName → List ResolvedClauseTree
-    → ResolvedStatementTree → ResolvedStatementTree
-construct_of parallel side d (directives.Parallel s) cs body = parallel_of d cs body
-construct_of parallel side d (directives.Task s) cs body = task_of parallel d cs body
-construct_of parallel side d (directives.Taskgroup s) cs body = resolved.Construct d.hash constructs.Taskgroup cs body
-construct_of parallel side d (directives.Single s) cs body = resolved.Construct d.hash
-    (constructs.Single (has_nowait d)) cs body
-construct_of parallel side d (directives.Masked s) cs body = resolved.Construct d.hash constructs.Masked cs body
-construct_of parallel side d (directives.Master s) cs body = resolved.Construct d.hash constructs.Masked cs body
-construct_of parallel side d (directives.Critical s name) cs body = resolved.Construct d.hash
-    (constructs.Critical (critical_name name)) cs body
+    → ResolvedStatementTree → Option ResolvedStatementTree
+construct_of parallel side d (directives.Parallel s) cs body = Some (parallel_of d cs body)
+construct_of parallel side d (directives.Task s) cs body = Some (task_of parallel d cs body)
+construct_of parallel side d (directives.Taskgroup s) cs body = Some
+    (resolved.Construct d.hash constructs.Taskgroup cs body)
+construct_of parallel side d (directives.Single s) cs body = Some
+    (resolved.Construct d.hash (constructs.Single (has_nowait d)) cs body)
+construct_of parallel side d (directives.Masked s) cs body = Some (resolved.Construct d.hash constructs.Masked cs body)
+construct_of parallel side d (directives.Master s) cs body = Some (resolved.Construct d.hash constructs.Masked cs body)
+construct_of parallel side d (directives.Critical s name) cs body = Some
+    (resolved.Construct d.hash (constructs.Critical (critical_name name)) cs body)
 construct_of parallel side d (directives.Atomic s) cs body = atomic_of (atomic_kind d) side d.hash cs body
-construct_of parallel side d (directives.For s) cs body = body
-construct_of parallel side d (directives.Sections s) cs body = body
-construct_of parallel side d (directives.Section s) cs body = body
-construct_of parallel side d (directives.ParallelFor s t) cs body = body
-construct_of parallel side d (directives.ParallelSections s t) cs body = body
-construct_of parallel side d (directives.Barrier s) cs body = body
-construct_of parallel side d (directives.Taskwait s) cs body = body
-construct_of parallel side d (directives.Taskyield s) cs body = body
-construct_of parallel side d (directives.Flush s list) cs body = body
+construct_of parallel side d _ cs body = None
 
 -- the clauses of a `parallel for` belong to its `parallel`, at whose end its loop's threads wait for each other
 abbrev pub loop_construct_of : Directive ExpressionTree → List ResolvedClauseTree → ResolvedLoopTree
@@ -230,26 +223,14 @@ abbrev pub flushed : Scopes → Option NameList → Option (List Variable)
 flushed scopes None = Some []
 flushed scopes (Some list) = each (variable_named scopes) (names_in list.first list.rest)
 
--- any other directive that stands alone does nothing
+-- of a directive that stands alone; a well-formed tree has no other one there
 abbrev pub resolved_alone : Scopes → Directive ExpressionTree → DirectiveName → Option ResolvedStatementTree
 resolved_alone scopes d (directives.Barrier s) = Some (resolved.StandAlone d.hash alones.Barrier)
 resolved_alone scopes d (directives.Taskwait s) = Some (resolved.StandAlone d.hash alones.Taskwait)
 resolved_alone scopes d (directives.Taskyield s) = Some (resolved.StandAlone d.hash alones.Taskyield)
 resolved_alone scopes d (directives.Flush s list) = flushed scopes list >>= λ vs. Some
     (resolved.StandAlone d.hash (alones.Flush vs))
-resolved_alone scopes d (directives.Parallel s) = Some (resolved.Empty d.hash)
-resolved_alone scopes d (directives.For s) = Some (resolved.Empty d.hash)
-resolved_alone scopes d (directives.Sections s) = Some (resolved.Empty d.hash)
-resolved_alone scopes d (directives.Section s) = Some (resolved.Empty d.hash)
-resolved_alone scopes d (directives.Single s) = Some (resolved.Empty d.hash)
-resolved_alone scopes d (directives.ParallelFor s t) = Some (resolved.Empty d.hash)
-resolved_alone scopes d (directives.ParallelSections s t) = Some (resolved.Empty d.hash)
-resolved_alone scopes d (directives.Masked s) = Some (resolved.Empty d.hash)
-resolved_alone scopes d (directives.Master s) = Some (resolved.Empty d.hash)
-resolved_alone scopes d (directives.Critical s name) = Some (resolved.Empty d.hash)
-resolved_alone scopes d (directives.Atomic s) = Some (resolved.Empty d.hash)
-resolved_alone scopes d (directives.Task s) = Some (resolved.Empty d.hash)
-resolved_alone scopes d (directives.Taskgroup s) = Some (resolved.Empty d.hash)
+resolved_alone scopes d _ = None
 
 -- in the innermost `parallel` that begins there
 unfoldable mutual
@@ -291,8 +272,8 @@ unfoldable mutual
   resolved_statement scopes parallel (Construct d s) =
       if not (traits_of d.name).takes_loop
       then (resolved_clauses scopes d.clauses >>= λ cs.
-      resolved_statement (in_construct d scopes) (parallel_in d parallel) s >>= λ body. Some
-      (construct_of parallel (statement_side s) d d.name cs body))
+      resolved_statement (in_construct d scopes) (parallel_in d parallel) s >>= λ body.
+      construct_of parallel (statement_side s) d d.name cs body)
       else (resolved_clauses scopes d.clauses >>= λ cs.
       loop_in s >>= λ found. resolved_loop (round_bounds d scopes) (schedule_of d.clauses) found >>= λ l.
       resolved_repeated (in_construct d scopes) (parallel_in d parallel) found s >>= λ body. Some
@@ -311,32 +292,10 @@ unfoldable mutual
     ts ← resolved_statements (after_statement scopes s) parallel rest
     Some (resolved.Statement t ts)
 
-  -- of what a canonical loop repeats
+  -- of what a canonical loop repeats: the loop is a `for`
   pub resolved_repeated : Scopes → Option ℕ → Loop → StatementTree → Option ResolvedStatementTree
   resolved_repeated scopes parallel found (For h s) = resolved_statement (in_loop scopes (Some found)) parallel s
-  resolved_repeated scopes parallel found (LocalDeclaration d) =
-      Some (resolved.Empty (statement_first (LocalDeclaration d)))
-  resolved_repeated scopes parallel found (Block left items right) =
-      Some (resolved.Empty (statement_first (Block left items right)))
-  resolved_repeated scopes parallel found (Empty semicolon) = Some (resolved.Empty (statement_first (Empty semicolon)))
-  resolved_repeated scopes parallel found (Expression e semicolon) =
-      Some (resolved.Empty (statement_first (Expression e semicolon)))
-  resolved_repeated scopes parallel found (If at c s) = Some (resolved.Empty (statement_first (If at c s)))
-  resolved_repeated scopes parallel found (IfElse at c s other t) =
-      Some (resolved.Empty (statement_first (IfElse at c s other t)))
-  resolved_repeated scopes parallel found (While at c s) = Some (resolved.Empty (statement_first (While at c s)))
-  resolved_repeated scopes parallel found (Do at s again c semicolon) =
-      Some (resolved.Empty (statement_first (Do at s again c semicolon)))
-  resolved_repeated scopes parallel found (Return at value semicolon) =
-      Some (resolved.Empty (statement_first (Return at value semicolon)))
-  resolved_repeated scopes parallel found (Break at semicolon) =
-      Some (resolved.Empty (statement_first (Break at semicolon)))
-  resolved_repeated scopes parallel found (Continue at semicolon) =
-      Some (resolved.Empty (statement_first (Continue at semicolon)))
-  resolved_repeated scopes parallel found (Construct d s) = Some (resolved.Empty (statement_first (Construct d s)))
-  resolved_repeated scopes parallel found (StandAlone d) = Some (resolved.Empty (statement_first (StandAlone d)))
-  resolved_repeated scopes parallel found (Sections d left parts right) =
-      Some (resolved.Empty (statement_first (Sections d left parts right)))
+  resolved_repeated scopes parallel found _ = None
 
   -- of the parts of `sections`, each of which is a block of its own
   pub resolved_parts : Scopes → Option ℕ → PartsTree → Option ResolvedPartsTree
@@ -351,8 +310,8 @@ abbrev pub resolved_plain_construct : Scopes → Option ℕ → Directive Expres
     → Option ResolvedStatementTree
 resolved_plain_construct scopes parallel d s =
     resolved_clauses scopes d.clauses >>= λ cs.
-    resolved_statement (in_construct d scopes) (parallel_in d parallel) s >>= λ body. Some
-    (construct_of parallel (statement_side s) d d.name cs body)
+    resolved_statement (in_construct d scopes) (parallel_in d parallel) s >>= λ body.
+    construct_of parallel (statement_side s) d d.name cs body
 
 -- of one that is for a loop, which is this one
 abbrev pub resolved_loop_construct : Scopes → Option ℕ → Directive ExpressionTree → Option Loop → StatementTree

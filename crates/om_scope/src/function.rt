@@ -3,8 +3,10 @@
 ghost use Rattle.std.specs.Prelude.{◌≡◌, ◌++◌, ◌+◌, ◌<◌, [], ◌∷◌, OnOk, IfOk, Some, length, map};
 ghost use Rattle.std.specs.List.{list_any};
 ghost use Rattle.std.specs.Str.{bytes_eq};
+ghost use Rattle.om_tree.specs.Tree.{statements};
 ghost use Rattle.om_tree.specs.View.{view_function, view_head, view_parameters};
 ghost use Rattle.om_rules.specs.Checks.{Checks, ChecksExactly};
+ghost use Rattle.om_rules.specs.Proper.{AreProper};
 ghost use Rattle.om_rules.specs.Scopes.{after_function, after_optional, after_optionals, after_parameter, after_parameters, after_prototype, asks, inside, parameters_of, returns_value, signature_eq, signature_of, with_local};
 ghost use Rattle.om_rules.specs.Faults.{breaches_along};
 ghost use Rattle.om_resolved.specs.ResolvedTree as resolved;
@@ -334,6 +336,7 @@ fn resolve_inside(
     parameters: &mut Vec<LocalVariable>,
     function: &Function,
 ) -> Result<Vec<ResolvedStatement>, SourceFault>
+    requires proper { AreProper (statements (view_function function.now).body.items) }
     ensures checked { Checks result (body_breaches symbols.old (view_function function.now)) }
     ensures in_scope { OnOk result (symbols.new ≡ symbols.old) }
     ensures parameters { OnOk result
@@ -359,6 +362,7 @@ pub fn resolve_function(
     symbols: &mut Symbols,
     function: &Function,
 ) -> Result<ResolvedFunction, SourceFault>
+    requires proper { AreProper (statements (view_function function.now).body.items) }
     ensures checked { Checks result (function_breaches symbols.old (view_function function.now)) }
     ensures in_scope { OnOk result
         (symbols.new ≡ after_function symbols.old (view_function function.now).head) }

@@ -1,6 +1,6 @@
 //! A whole source.
 
-ghost use Rattle.std.specs.Prelude.{◌≡◌, ◌≢◌, ◌++◌, [], OnOk, IfOk, IfErr, Some, map, option_map};
+ghost use Rattle.std.specs.Prelude.{◌≡◌, ◌≢◌, ◌++◌, [], All, OnOk, IfOk, IfErr, Some, map, option_map};
 ghost use Rattle.std.specs.List.{flat_map, list_any};
 ghost use Rattle.om_lexer.specs.Faults.{no_memory};
 ghost use Rattle.om_tree.specs.Formed.{IsUnit};
@@ -10,6 +10,7 @@ ghost use Rattle.om_rules.specs.Breaches.{breaches_of, is_main, main_breaches};
 ghost use Rattle.om_rules.specs.Checks.{Checks, ChecksExactly};
 ghost use Rattle.om_rules.specs.Faults.{first_of};
 ghost use Rattle.om_rules.specs.Perhaps.{all_along};
+ghost use Rattle.om_rules.specs.Proper.{IsProperItem};
 ghost use Rattle.om_resolved.specs.ResolvedView.{view_resolved, view_resolved_function};
 ghost use Rattle.om_rules.specs.Scopes.{after_definition, after_item, definitions_of, file_scope, nothing_declared};
 ghost use Rattle.om_rules.specs.UnitResolution.{globals_of, item_functions, items_resolution, resolution_of};
@@ -61,7 +62,7 @@ fn definitions_of(alloc: Global, items: &[Item]) -> Result<Names, AllocError>
 }
 
 /// Resolves an item in the scopes behind those before it.
-#[tactic(auto, unfolding(om_rules::specs::UnitResolution::item_functions))]
+#[tactic(auto, unfolding(om_rules::specs::UnitResolution::item_functions, om_tree::specs::Formed::IsItem, om_tree::specs::Formed::IsFunction))]
 fn resolve_item(
     alloc: Global,
     symbols: &mut Symbols,
@@ -69,6 +70,7 @@ fn resolve_item(
     functions: &mut Vec<ResolvedFunction>,
     item: &Item,
 ) -> Result<(), SourceFault>
+    requires proper { IsProperItem (view_item item.now) }
     ensures checked { Checks result (item_breaches symbols.old (view_item item.now)) }
     ensures in_scope { OnOk result (symbols.new ≡ after_item symbols.old (view_item item.now)) }
     ensures declared { OnOk result
@@ -94,6 +96,7 @@ fn resolve_each(
     functions: &mut Vec<ResolvedFunction>,
     items: &[Item],
 ) -> Result<(), SourceFault>
+    requires proper { All IsProperItem (map view_item items.now) }
     ensures checked { Checks result (items_breaches symbols.old (map view_item items.now)) }
     ensures declared { OnOk result
         (globals.new.items ≡ globals.old.items ++ flat_map globals_of (map view_item items.now)) }
@@ -116,6 +119,7 @@ fn resolve_from(
     items: &[Item],
 ) -> Result<Resolved, SourceFault>
     requires is_empty { symbols.old ≡ nothing_declared (definitions_of (map view_item items.now)) }
+    requires proper { All IsProperItem (map view_item items.now) }
     ensures checked { let trees = map view_item items.now in
         Checks result (items_breaches (file_scope (definitions_of trees)) trees) }
     ensures resolved { IfOk result
@@ -133,6 +137,7 @@ fn resolve_from(
 
 /// Resolves the items of a source, in their order.
 fn resolve_items(alloc: Global, items: &[Item]) -> Result<Resolved, SourceFault>
+    requires proper { All IsProperItem (map view_item items.now) }
     ensures checked { let trees = map view_item items.now in
         Checks result (items_breaches (file_scope (definitions_of trees)) trees) }
     ensures resolved { IfOk result
@@ -176,6 +181,7 @@ fn check_main(unit: &Unit) -> Result<(), SourceFault>
 }
 
 /// The unit, resolved: each use of a name has the variable of its innermost declaration (C17 6.2.1).
+/// The unit is one that the parser may make: well-formed, and its `atomic`s have their forms.
 ///
 /// The first breach of a rule in the unit's text is answered, at one place that of the lowest
 /// number; nothing is kept then.
@@ -197,14 +203,14 @@ fn check_main(unit: &Unit) -> Result<(), SourceFault>
 /// A tree that the parser made of the lexer's tokens never meets S10.
 #[tactic(auto, using(om_rules::specs::InRow::first_of_left), unfolding(om_rules::specs::Breaches::breaches_of, om_rules::specs::UnitResolution::resolution_of))]
 pub fn resolve(alloc: Global, unit: Unit) -> Result<Resolved, SourceFault>
+    requires formed { IsUnit (view_unit unit) }
+    requires atomics_have_forms { AtomicsHaveForms (view_unit unit) }
     ensures no_breach { OnOk result (breaches_of (view_unit unit) ≡ []) }
     ensures resolved { IfOk result
         (λ resolved. resolution_of (view_unit unit) ≡ Some (view_resolved resolved)) }
     ensures is_resolved { IfOk result (λ resolved. IsResolved (view_resolved resolved)) }
-    ensures whole { IsUnit (view_unit unit) →
-        IfOk result (λ resolved. IsWholeTree (view_resolved resolved)) }
-    ensures atomics_assign { AtomicsHaveForms (view_unit unit) →
-        IfOk result (λ resolved. TreeAtomicsAssign (view_resolved resolved)) }
+    ensures whole { IfOk result (λ resolved. IsWholeTree (view_resolved resolved)) }
+    ensures atomics_assign { IfOk result (λ resolved. TreeAtomicsAssign (view_resolved resolved)) }
     ensures first_breach { IfErr result
         (λ fault. fault ≢ no_memory → first_of (breaches_of (view_unit unit)) ≡ Some fault) }
 {

@@ -95,12 +95,12 @@ atomic_body scopes parallel kinds.Write _ form = cc
 
 -- ---- constructs
 
-update_good : (at : Span) (u : Option ResolvedUpdateTree) → Good (with_update at u)
+update_good : (at : Span) (u : Option ResolvedUpdateTree) → IfSome (with_update at u) Good
 update_good at None = tt
 update_good at (Some u) = tt
 
 atomic_good : (kind : AtomicKind) (side : Side) (at : Span) (cs : List ResolvedClauseTree)
-    (body : ResolvedStatementTree) → IsBodyOf kind body → Good (atomic_of kind side at cs body)
+    (body : ResolvedStatementTree) → IsBodyOf kind body → IfSome (atomic_of kind side at cs body) Good
 atomic_good kinds.Update side at cs body h = update_good at (update_of side body)
 atomic_good kinds.Read side at cs body h = h
 atomic_good kinds.Write side at cs body h = h
@@ -112,7 +112,7 @@ IsGoodBody kind _ body = Good body
 
 construct_good : (parallel : Option ℕ) (side : Side) (d : Directive ExpressionTree) (name : DirectiveName)
     (cs : List ResolvedClauseTree) (body : ResolvedStatementTree)
-    → IsGoodBody (atomic_kind d) name body → Good (construct_of parallel side d name cs body)
+    → IsGoodBody (atomic_kind d) name body → IfSome (construct_of parallel side d name cs body) Good
 unfolding construct_of
 construct_good parallel side d (directives.Atomic s) cs body h = atomic_good (atomic_kind d) side d.hash cs body h
 construct_good parallel side d (directives.Parallel s) cs body h = (tt, h)
@@ -122,15 +122,7 @@ construct_good parallel side d (directives.Single s) cs body h = (tt, h)
 construct_good parallel side d (directives.Masked s) cs body h = (tt, h)
 construct_good parallel side d (directives.Master s) cs body h = (tt, h)
 construct_good parallel side d (directives.Critical s name) cs body h = (tt, h)
-construct_good parallel side d (directives.For s) cs body h = h
-construct_good parallel side d (directives.Sections s) cs body h = h
-construct_good parallel side d (directives.Section s) cs body h = h
-construct_good parallel side d (directives.ParallelFor s t) cs body h = h
-construct_good parallel side d (directives.ParallelSections s t) cs body h = h
-construct_good parallel side d (directives.Barrier s) cs body h = h
-construct_good parallel side d (directives.Taskwait s) cs body h = h
-construct_good parallel side d (directives.Taskyield s) cs body h = h
-construct_good parallel side d (directives.Flush s list) cs body h = h
+construct_good parallel side d _ cs body h = tt
 
 -- what is known of the statement of a directive of this name, by its form or in itself
 body_good : (kind : AtomicKind) (name : DirectiveName) (form : Bool) (found : Option ResolvedStatementTree)
@@ -193,21 +185,9 @@ alone_good : (scopes : Scopes) (d : Directive ExpressionTree) (name : DirectiveN
 alone_good scopes d (directives.Barrier s) = tt
 alone_good scopes d (directives.Taskwait s) = tt
 alone_good scopes d (directives.Taskyield s) = tt
-alone_good scopes d (directives.Parallel s) = tt
-alone_good scopes d (directives.For s) = tt
-alone_good scopes d (directives.Sections s) = tt
-alone_good scopes d (directives.Section s) = tt
-alone_good scopes d (directives.Single s) = tt
-alone_good scopes d (directives.ParallelFor s t) = tt
-alone_good scopes d (directives.ParallelSections s t) = tt
-alone_good scopes d (directives.Masked s) = tt
-alone_good scopes d (directives.Master s) = tt
-alone_good scopes d (directives.Critical s name) = tt
-alone_good scopes d (directives.Atomic s) = tt
-alone_good scopes d (directives.Task s) = tt
-alone_good scopes d (directives.Taskgroup s) = tt
 alone_good scopes d (directives.Flush s list) = if_then (λ vs. Unit {0}) Good (flushed scopes list) _
     (if_any (flushed scopes list)) (λ vs u. tt)
+alone_good scopes d _ = tt
 
 -- ---- statements
 

@@ -117,8 +117,8 @@ clauses_use n scopes items h = if_all_of (ClauseUsesVariables n) (resolved_item 
 
 pub construct_uses : (n : ℕ) (parallel : Option ℕ) (side : Side) (d : Directive ExpressionTree)
     (name : DirectiveName) (cs : List ResolvedClauseTree) (body : ResolvedStatementTree)
-    → ClausesUseVariables n cs → StatementUsesVariables n body → StatementUsesVariables n
-    (construct_of parallel side d name cs body)
+    → ClausesUseVariables n cs → StatementUsesVariables n body
+    → IfSome (construct_of parallel side d name cs body) (StatementUsesVariables n)
 unfolding construct_of
 construct_uses n parallel side d (directives.Parallel s) cs body hc h = (hc, h)
 construct_uses n parallel side d (directives.Task s) cs body hc h = (hc, h)
@@ -129,15 +129,7 @@ construct_uses n parallel side d (directives.Master s) cs body hc h = (hc, h)
 construct_uses n parallel side d (directives.Critical s name) cs body hc h = (hc, h)
 construct_uses n parallel side d (directives.Atomic s) cs body hc h = atomic_uses n (atomic_kind d) side d.hash cs
     body hc h
-construct_uses n parallel side d (directives.For s) cs body hc h = h
-construct_uses n parallel side d (directives.Sections s) cs body hc h = h
-construct_uses n parallel side d (directives.Section s) cs body hc h = h
-construct_uses n parallel side d (directives.ParallelFor s t) cs body hc h = h
-construct_uses n parallel side d (directives.ParallelSections s t) cs body hc h = h
-construct_uses n parallel side d (directives.Barrier s) cs body hc h = h
-construct_uses n parallel side d (directives.Taskwait s) cs body hc h = h
-construct_uses n parallel side d (directives.Taskyield s) cs body hc h = h
-construct_uses n parallel side d (directives.Flush s list) cs body hc h = h
+construct_uses n parallel side d _ cs body hc h = tt
 
 pub loop_construct_uses : (n : ℕ) (d : Directive ExpressionTree) (cs : List ResolvedClauseTree)
     (l : ResolvedLoopTree) (body : ResolvedStatementTree)
@@ -183,16 +175,4 @@ alone_uses n scopes d (directives.Taskwait s) h = tt
 alone_uses n scopes d (directives.Taskyield s) h = tt
 alone_uses n scopes d (directives.Flush s list) h = if_then (All (IsVariable n)) (StatementUsesVariables n)
     (flushed scopes list) _ (flushed_uses n scopes list h) (λ vs hvs. hvs)
-alone_uses n scopes d (directives.Parallel s) h = tt
-alone_uses n scopes d (directives.For s) h = tt
-alone_uses n scopes d (directives.Sections s) h = tt
-alone_uses n scopes d (directives.Section s) h = tt
-alone_uses n scopes d (directives.Single s) h = tt
-alone_uses n scopes d (directives.ParallelFor s t) h = tt
-alone_uses n scopes d (directives.ParallelSections s t) h = tt
-alone_uses n scopes d (directives.Masked s) h = tt
-alone_uses n scopes d (directives.Master s) h = tt
-alone_uses n scopes d (directives.Critical s name) h = tt
-alone_uses n scopes d (directives.Atomic s) h = tt
-alone_uses n scopes d (directives.Task s) h = tt
-alone_uses n scopes d (directives.Taskgroup s) h = tt
+alone_uses n scopes d _ h = tt

@@ -11,6 +11,7 @@ use Rattle.om_pragma.specs.declared.name.NameList.{NameList}
 use Rattle.om_pragma.specs.declared.tree.Directive.{Directive}
 use Rattle.om_pragma.specs.declared.tree.DirectiveName.{DirectiveName}
 use Rattle.om_pragma.specs.declared.tree.DirectiveName.TheVariants as directives
+use Rattle.om_pragma.specs.Questions.{is_stand_alone}
 use Rattle.om_tree.specs.Tree.{ExpressionTree, InitializerTree, DeclaratorTree, ForStartTree, Nothing, StartExpression}
 use Rattle.om_tree.specs.Tree.{StartDeclaration}
 use Rattle.om_rules.specs.declared.flow.Flow.{Flow}
@@ -179,23 +180,11 @@ has_flushed scopes None whole = refl
 has_flushed scopes (Some list) whole = some_each_flat (flushed_breaches scopes) (variable_named scopes)
     (λ name w. has_variable scopes lists.Shared nothing_listed name w) (names_in list.first list.rest) whole
 
-pub has_alone : (scopes : Scopes) (d : Directive ExpressionTree) (name : DirectiveName) → flush_breaches scopes name
-    ≡ [] → IsSome (resolved_alone scopes d name)
-has_alone scopes d (directives.Flush s list) whole = some_then (flushed scopes list) _
+pub has_alone : (scopes : Scopes) (d : Directive ExpressionTree) (name : DirectiveName) → is_stand_alone name ≡ true
+    → flush_breaches scopes name ≡ [] → IsSome (resolved_alone scopes d name)
+has_alone scopes d (directives.Flush s list) alone whole = some_then (flushed scopes list) _
     (has_flushed scopes list whole) (λ vs. refl)
-has_alone scopes d (directives.Barrier s) whole = refl
-has_alone scopes d (directives.Taskwait s) whole = refl
-has_alone scopes d (directives.Taskyield s) whole = refl
-has_alone scopes d (directives.Parallel s) whole = refl
-has_alone scopes d (directives.For s) whole = refl
-has_alone scopes d (directives.Sections s) whole = refl
-has_alone scopes d (directives.Section s) whole = refl
-has_alone scopes d (directives.Single s) whole = refl
-has_alone scopes d (directives.ParallelFor s t) whole = refl
-has_alone scopes d (directives.ParallelSections s t) whole = refl
-has_alone scopes d (directives.Masked s) whole = refl
-has_alone scopes d (directives.Master s) whole = refl
-has_alone scopes d (directives.Critical s name) whole = refl
-has_alone scopes d (directives.Atomic s) whole = refl
-has_alone scopes d (directives.Task s) whole = refl
-has_alone scopes d (directives.Taskgroup s) whole = refl
+has_alone scopes d (directives.Barrier s) alone whole = refl
+has_alone scopes d (directives.Taskwait s) alone whole = refl
+has_alone scopes d (directives.Taskyield s) alone whole = refl
+has_alone scopes d _ alone whole = cc

@@ -64,14 +64,14 @@ no_clauses around [] h = refl
 no_clauses around (c ∷ cs) h = absurd (never_admitted around c (h 0 c (omega arith)))
 
 with_update_whole : (around : Around) (at : Span) (update : Option ResolvedUpdateTree)
-    → IfSome update (IsWholeUpdate (within around [])) → IsWholeStatement around (with_update at update)
+    → IfSome update (IsWholeUpdate (within around [])) → IfSome (with_update at update) (IsWholeStatement around)
 with_update_whole around at None h = tt
 with_update_whole around at (Some update) h = h
 
 atomic_whole : (around : Around) (kind : AtomicKind) (side : Side) (at : Span) (cs : List ResolvedClauseTree)
     (body : ResolvedStatementTree) → All (IsWholeClause around nothing) cs
     → IsWholeStatement (within around cs) body → HaveOneValue cs
-    → IsWholeStatement around (atomic_of kind side at cs body)
+    → IfSome (atomic_of kind side at cs body) (IsWholeStatement around)
 atomic_whole around atomics.Update side at cs body hc hb once =
     with_update_whole around at (update_of side body) (whole_update (within around []) side body
     (subst (λ clauses. IsWholeStatement (within around clauses) body) (no_clauses around cs hc) hb))
@@ -84,7 +84,7 @@ pub construct_whole : (around : Around) (parallel : Option ℕ) (side : Side) (d
     (name : DirectiveName) (cs : List ResolvedClauseTree) (body : ResolvedStatementTree)
     → IsConstruct name → (traits_of name).takes_loop ≡ false
     → All (IsWholeClause around (admitted_by (has_nowait d) name)) cs → IsWholeStatement (within around cs) body
-    → HaveOneValue cs → IsWholeStatement around (construct_of parallel side d name cs body)
+    → HaveOneValue cs → IfSome (construct_of parallel side d name cs body) (IsWholeStatement around)
 unfolding construct_of
 construct_whole around parallel side d (directives.Parallel s) cs body is plain hc hb once =
     (hc, region _ d.hash.start cs body, hb, once)
@@ -154,16 +154,4 @@ alone_whole around scopes d (directives.Flush s list) h w = if_then (All (IsShar
 alone_whole around scopes d (directives.Barrier s) h w = tt
 alone_whole around scopes d (directives.Taskwait s) h w = tt
 alone_whole around scopes d (directives.Taskyield s) h w = tt
-alone_whole around scopes d (directives.Parallel s) h w = tt
-alone_whole around scopes d (directives.For s) h w = tt
-alone_whole around scopes d (directives.Sections s) h w = tt
-alone_whole around scopes d (directives.Section s) h w = tt
-alone_whole around scopes d (directives.Single s) h w = tt
-alone_whole around scopes d (directives.ParallelFor s t) h w = tt
-alone_whole around scopes d (directives.ParallelSections s t) h w = tt
-alone_whole around scopes d (directives.Masked s) h w = tt
-alone_whole around scopes d (directives.Master s) h w = tt
-alone_whole around scopes d (directives.Critical s name) h w = tt
-alone_whole around scopes d (directives.Atomic s) h w = tt
-alone_whole around scopes d (directives.Task s) h w = tt
-alone_whole around scopes d (directives.Taskgroup s) h w = tt
+alone_whole around scopes d _ h w = tt

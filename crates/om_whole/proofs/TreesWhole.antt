@@ -56,26 +56,13 @@ use Rattle.om_whole.proofs.StatementsWhole.{whole_perhaps, whole_return, not_tru
 use Rattle.om_whole.proofs.StatementsWhole.{agrees_item, agrees_construct, agrees_loop, knows_item}
 use Rattle.om_whole.proofs.PartCounts.{few_parts, some_part}
 use Rattle.om_whole.proofs.Steps.{if_any, if_then, if_either, if_both, if_three}
-use Rattle.om_whole.proofs.Unbroken.{front, back, not_broken, not_false, never_placed}
+use Rattle.om_whole.proofs.Unbroken.{front, back, by_cases, fails, not_broken, not_false, never_placed}
 use Rattle.om_tree.specs.Formed.{IsStatement, AreStatements, AreSome, AreParts, ArePartItems, AreFurtherParts}
 use Rattle.om_tree.specs.Tree.{ExpressionTree, StatementTree, LocalDeclaration, Block, Empty, Expression, If, IfElse}
 use Rattle.om_tree.specs.Tree.{While, Do, For, Return, Break, Continue, Construct, StandAlone, Sections}
 use Rattle.om_tree.specs.Tree.{StatementsTree, NoStatements, Statement, PartsTree, NoParts, Part}
 
 -- what a test decides of two
-by_cases : {A B : Type 0} (test : Bool) (P : A → B → Type 0) (a b : A) (x y : B) → (test ≡ true → P a x)
-    → (test ≡ false → P b y) → P (cond test a b) (cond test x y)
-by_cases true P a b x y h g = h refl
-by_cases false P a b x y h g = g refl
-
-takes_none : (a : Bool) → not a ≡ true → a ≡ false
-takes_none true e = cc
-takes_none false e = refl
-
-takes_some : (a : Bool) → not a ≡ false → a ≡ true
-takes_some true e = refl
-takes_some false e = cc
-
 -- resolved clauses, and what is known in their construct
 abbrev AreGood : Around → Directive ExpressionTree → Scopes → List ResolvedClauseTree → Type 0
 AreGood around d scopes cs = All (IsWholeClause around (admitted_by (has_nowait d) d.name)) cs
@@ -425,8 +412,8 @@ mutual
       (whole_statement (within around cs) (in_construct d scopes) (constructing d flow) (parallel_in d parallel) s
       hcs.1 (agrees_construct around flow d cs f) formed.2 v) (λ body hb.
       construct_whole around parallel (statement_side s) d d.name cs body formed.1
-      (takes_none (traits_of d.name).takes_loop e) hcs.0 hb.0 hcs.2)))
-      (λ e v. loop_whole around scopes flow parallel d s h f (takes_some (traits_of d.name).takes_loop e)
+      (fails (traits_of d.name).takes_loop e) hcs.0 hb.0 hcs.2)))
+      (λ e v. loop_whole around scopes flow parallel d s h f (not_false (traits_of d.name).takes_loop e)
       (good_schedule d formed.0) clauses (loop_in s) (goes_on s) plain
       (λ found inner known agrees u. whole_repeated inner (in_construct d scopes) (constructing d flow)
       (parallel_in d parallel) found s known agrees formed.2 u) v)

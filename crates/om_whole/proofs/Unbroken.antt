@@ -40,6 +40,12 @@ pub by_test : {A B : Type 0} (test : Bool) (P : A → B → Type 0) (a b : A) (x
 by_test true P a b x y h g = h
 by_test false P a b x y h g = g
 
+-- the same where the cases know the answer
+pub by_cases : {A B : Type 0} (test : Bool) (P : A → B → Type 0) (a b : A) (x y : B) → (test ≡ true → P a x)
+    → (test ≡ false → P b y) → P (cond test a b) (cond test x y)
+by_cases true P a b x y h g = h refl
+by_cases false P a b x y h g = g refl
+
 pub left_false : (a b : Bool) → (a || b) ≡ false → a ≡ false
 left_false true b e = cc
 left_false false b e = refl
@@ -47,6 +53,10 @@ left_false false b e = refl
 pub right_false : (a b : Bool) → (a || b) ≡ false → b ≡ false
 right_false true b e = cc
 right_false false b e = e
+
+pub fails : (a : Bool) → not a ≡ true → a ≡ false
+fails true e = cc
+fails false e = refl
 
 pub not_false : (a : Bool) → not a ≡ false → a ≡ true
 not_false true e = refl

@@ -98,14 +98,14 @@ update_uses n side (resolved.Update at u) h = tt
 update_uses n side (resolved.StandAlone at directive) h = tt
 
 with_update_uses : (n : ℕ) (at : Span) (update : Option ResolvedUpdateTree) → IfSome update (UpdateUsesVariables n)
-    → StatementUsesVariables n (with_update at update)
+    → IfSome (with_update at update) (StatementUsesVariables n)
 with_update_uses n at None h = tt
 with_update_uses n at (Some update) h = h
 
 pub atomic_uses : (n : ℕ) (kind : AtomicKind) (side : Side) (at : Span) (cs : List ResolvedClauseTree)
     (body : ResolvedStatementTree)
-    → ClausesUseVariables n cs → StatementUsesVariables n body → StatementUsesVariables n
-    (atomic_of kind side at cs body)
+    → ClausesUseVariables n cs → StatementUsesVariables n body
+    → IfSome (atomic_of kind side at cs body) (StatementUsesVariables n)
 atomic_uses n atomics.Update side at cs body hc h = with_update_uses n at (update_of side body)
     (update_uses n side body h)
 atomic_uses n atomics.Read side at cs body hc h = (hc, h)

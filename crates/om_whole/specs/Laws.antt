@@ -30,9 +30,10 @@ NumbersNameGlobals =
     ≡ Some (meanings.Variable (variables.Global number) shape)
     → option_map (λ global. global.name) (slice_get (flat_map globals_of items) number) ≡ Some name
 
--- A tree that breaks no rule has a resolution.
+-- A well-formed tree that has the forms of `atomic` and breaks no rule has a resolution.
 abbrev pub UnbrokenTreesResolve : Type 0
-UnbrokenTreesResolve = (unit : UnitTree) → breaches_of unit ≡ [] → IsSome (resolution_of unit)
+UnbrokenTreesResolve = (unit : UnitTree) → IsUnit unit → AtomicsHaveForms unit → breaches_of unit ≡ []
+    → IsSome (resolution_of unit)
 
 -- It knows each global by the number of one, and has a `main`.
 abbrev pub UnbrokenTreesAreResolved : Type 0

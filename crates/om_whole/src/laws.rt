@@ -7,8 +7,8 @@ pub fn numbers_name_globals()
     ensures { NumbersNameGlobals }
 {}
 
-/// A tree that breaks no rule has a resolution. It has only one, which is a
-/// function of the tree.
+/// A well-formed source that has the forms of `atomic` and breaks no rule has a resolution. It has only
+/// one, which is a function of the tree.
 pub fn unbroken_trees_resolve()
     ensures { UnbrokenTreesResolve }
 {}

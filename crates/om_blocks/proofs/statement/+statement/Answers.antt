@@ -1,10 +1,12 @@
-use Rattle.std.proofs.Common.{◌≡◌, ◌+◌, [], ◌∷◌, ◌++◌, Some, length, length-append, map, option_map, ap, sym, ◌∙◌, arith}
+use Rattle.std.proofs.Common.{◌≡◌, ◌+◌, [], ◌∷◌, ◌++◌, Some, length, length-append, map, option_map, ap, sym, ◌∙◌}
+use Rattle.std.proofs.Common.{arith, rules}
 use Rattle.std.proofs.lemmas.List.{drop_all}
 use Rattle.std.proofs.lemmas.Result.{err_from_is_err_and}
 use Rattle.om_tree.specs.View.{view_directive, view_for_start, view_part, view_statement}
 use Rattle.om_forms.specs.LoopViews.{view_loop}
 use Rattle.om_rules.specs.Loops.{loop_in}
 use Rattle.om_resolved.specs.ResolvedView.{view_resolved_part, view_resolved_statement}
+use Rattle.om_rules.specs.ProperConstructs.{construct_there, parts_proper, proper_inside}
 use Rattle.om_rules.specs.Scopes.{outside}
 use Rattle.om_rules.specs.StatementResolution.{resolved_statement}
 use Rattle.om_rules.specs.StatementRules.{after_for_start, after_statement, after_statements}
@@ -14,6 +16,7 @@ use Rattle.om_blocks.proofs.Constructs.{view_construct}
 use Rattle.om_blocks.proofs.Founds.{ok_anyway, ok_then}
 use Rattle.om_blocks.proofs.Fronts.{bounds_refuse}
 use Rattle.om_blocks.proofs.MadeParts.{parts_made, parts_whole}
+use Rattle.om_blocks.proofs.Propers.{left_parts_proper, left_proper, with_depth}
 use Rattle.om_blocks.specs.Items.{drop-item, length-map}
 use Rattle.om_regions.specs.Pushes.{map-push}
 use Rattle.om_blocks.proofs.statement.+statement.Goals as goal
@@ -23,6 +26,32 @@ unfolding resolved_statement
 resolve_statement-returns-in-Construct-clause-resolved t c =
     let h = rw (c.deref-in-Construct.ensures, c.deref-in-Construct-2.ensures) at c.resolve_construct.ensures.resolved in
     rw (c.in-Construct.is, view_construct c.in-Construct.directive c.in-Construct.body) h
+
+pub resolve_construct-resolve_loop_construct-requires : goal.resolve_construct-resolve_loop_construct-requires
+resolve_construct-resolve_loop_construct-requires t c = (
+  search rules,
+  proper_inside (view_directive c.args.directive.now) (view_statement c.args.body.now) c.requires.proper,
+)
+
+pub resolve_plain_construct-boxed_statement-requires : goal.resolve_plain_construct-boxed_statement-requires
+resolve_plain_construct-boxed_statement-requires t c = (
+  search rules,
+  proper_inside (view_directive c.args.directive.now) (view_statement c.args.body.now) c.requires.proper,
+)
+
+pub resolve_plain_construct-construct_of-requires : goal.resolve_plain_construct-construct_of-requires
+resolve_plain_construct-construct_of-requires t c = record {
+  is_there = construct_there _ _ _ (view_directive c.args.directive.now) (view_statement c.args.body.now) _ _ _
+      c.requires.proper c.requires.for_any c.in_ok-body.ensures.resolved;
+}
+
+pub resolve_statements-resolve_statement-found-requires : goal.resolve_statements-resolve_statement-found-requires
+resolve_statements-resolve_statement-found-requires t c = (
+  with_depth _ _ _ c.args.items.now c.loop-item.item-index c.item-item.result c.loop-item-test.true c.item-item.is
+      c.decreases (λ deep. omega (arith, deep, c.decreases)),
+  (left_proper c.args.items.now c.loop-item.item-index c.item-item.result c.loop-item-test.true c.item-item.is
+      c.loop-item.invariant.3).0,
+)
 
 pub resolve_body-returns-clause-in_scope : goal.resolve_body-returns-clause-in_scope
 resolve_body-returns-clause-in_scope t c =
@@ -51,7 +80,13 @@ resolve_statements-loop-item-preserved t c =
     let made = rw added.1 at c.resolve_statement-found.ensures.resolved in
     let grown = ap (map view_resolved_statement) added.2 ∙ map-push view_resolved_statement
     c.loop-item.resolved.items added.0 in
-    rw (behind, grown) (statements_step _ _ _ _ _ _ left.0 checked, left.1, statements_made _ _ _ _ _ _ _ left.2 made)
+    rw (behind, grown) (
+      statements_step _ _ _ _ _ _ left.0 checked,
+      left.1,
+      statements_made _ _ _ _ _ _ _ left.2 made,
+      (left_proper c.args.items.now c.loop-item.item-index c.item-item.result c.loop-item-test.true c.item-item.is
+          c.loop-item.invariant.3).1,
+    )
 
 pub resolve_block-returns-clause-in_scope : goal.resolve_block-returns-clause-in_scope
 resolve_block-returns-clause-in_scope t c =
@@ -107,6 +142,14 @@ resolve_parts-returns-in_err-add-clause-checked t c =
     let checked = rw (left.1, count) at c.resolve_part-found.ensures.checked in
     rw (p.1, p.2) (parts_refuse _ _ _ _ _ _ _ left.0 (c.in_err-add.ensures.checked _ checked))
 
+pub resolve_parts-resolve_part-found-requires : goal.resolve_parts-resolve_part-found-requires
+resolve_parts-resolve_part-found-requires t c = (
+  with_depth _ _ _ c.args.sections.now c.loop-part.part-index c.part-item.result c.loop-part-test.true c.part-item.is
+      c.decreases (λ deep. omega (arith, deep, c.decreases)),
+  (left_parts_proper c.args.sections.now c.loop-part.part-index c.part-item.result c.loop-part-test.true
+      c.part-item.is c.loop-part.invariant.3).0,
+)
+
 pub resolve_parts-loop-part-preserved : goal.resolve_parts-loop-part-preserved
 resolve_parts-loop-part-preserved t c =
     let here = ap (map view_part) (drop-item c.args.sections.now c.loop-part.part-index c.part-item.result
@@ -130,6 +173,8 @@ resolve_parts-loop-part-preserved t c =
       parts_step _ _ _ _ _ _ left.0 checked,
       behind ∙ left.1,
       parts_made _ _ _ _ _ _ _ left.2 found,
+      (left_parts_proper c.args.sections.now c.loop-part.part-index c.part-item.result c.loop-part-test.true
+          c.part-item.is c.loop-part.invariant.3).1,
     )
 
 pub resolve_parts-returns-clause-resolved : goal.resolve_parts-returns-clause-resolved

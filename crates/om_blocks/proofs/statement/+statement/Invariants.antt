@@ -2,6 +2,7 @@ use Rattle.std.proofs.Common.{◌≡◌, length, map, drop}
 use Rattle.om_tree.specs.Tree.{parts, statements}
 use Rattle.om_tree.specs.View.{view_part, view_statement}
 use Rattle.om_resolved.specs.ResolvedView.{view_resolved_part, view_resolved_statement}
+use Rattle.om_rules.specs.Proper.{AreProper, AreProperParts}
 use Rattle.om_rules.specs.StatementResolution.{resolved_parts, resolved_statements}
 use Rattle.om_rules.specs.StatementRules.{after_statements, parts_breaches, statements_breaches}
 use Rattle.om_blocks.proofs.MadeParts.{MadeParts}
@@ -18,6 +19,7 @@ invariant-resolve_statements-loop-item l =
     × (after_statements l.fn.symbols all ≡ after_statements l.symbols left)
     × Made (resolved_statements l.fn.symbols parallel (statements all)) (resolved_statements l.symbols parallel
     (statements left)) (map view_resolved_statement l.resolved.items)
+    × AreProper (statements left)
 
 abbrev pub invariant-resolve_parts-loop-part : goal.invariant-resolve_parts-loop-part
 invariant-resolve_parts-loop-part l =
@@ -29,3 +31,4 @@ invariant-resolve_parts-loop-part l =
     × (l.symbols ≡ l.fn.symbols)
     × MadeParts (resolved_parts l.fn.symbols parallel (parts all)) (resolved_parts l.fn.symbols parallel (parts left))
     made
+    × AreProperParts (parts left)

@@ -6,7 +6,14 @@ use Rattle.om_resolved.specs.ResolvedView.{view_resolved}
 use Rattle.om_resolved.specs.Whole.{IsWholeTree}
 use Rattle.om_rules.specs.Breaches.{breaches_of}
 use Rattle.om_rules.specs.UnitResolution.{resolution_of}
+use Rattle.om_scope.proofs.Propers.{unit_proper}
 use Rattle.om_scope.proofs.unit.resolve.Goals as goal
+
+pub resolve_items-requires : goal.resolve_items-requires
+resolve_items-requires c = record {
+  proper = rw c.as_slice.ensures.value (unit_proper (view_unit c.args.unit) c.requires.formed
+      c.requires.atomics_have_forms);
+}
 
 pub returns-clause-is_resolved : goal.returns-clause-is_resolved
 unfolding breaches_of resolution_of
@@ -18,14 +25,16 @@ returns-clause-is_resolved c =
 
 pub returns-clause-whole : goal.returns-clause-whole
 unfolding breaches_of resolution_of
-returns-clause-whole c = λ formed.
+returns-clause-whole c =
     let rules = rw c.as_slice.ensures.value at c.in_ok-resolved.ensures.checked in
     let made = rw c.as_slice.ensures.value at c.in_ok-resolved.ensures.resolved in
     subst (λ found. IfSome found IsWholeTree) made
-    (c.unbroken_trees_are_whole.ensures (view_unit c.args.unit) formed (rw (rules, c.in_ok-check_main.ensures) refl))
+    (c.unbroken_trees_are_whole.ensures (view_unit c.args.unit) c.requires.formed
+    (rw (rules, c.in_ok-check_main.ensures) refl))
 
 pub returns-clause-atomics_assign : goal.returns-clause-atomics_assign
 unfolding resolution_of
-returns-clause-atomics_assign c = λ forms.
+returns-clause-atomics_assign c =
     let made = rw c.as_slice.ensures.value at c.in_ok-resolved.ensures.resolved in
-    subst (λ found. IfSome found TreeAtomicsAssign) made (c.atomics_assign.ensures (view_unit c.args.unit) forms)
+    subst (λ found. IfSome found TreeAtomicsAssign) made (c.atomics_assign.ensures (view_unit c.args.unit)
+    c.requires.atomics_have_forms)

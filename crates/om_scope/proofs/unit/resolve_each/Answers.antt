@@ -7,7 +7,14 @@ use Rattle.om_rules.specs.UnitResolution.{globals_of, item_functions}
 use Rattle.om_rules.specs.UnitRules.{item_breaches}
 use Rattle.om_rules.specs.InRow.{all_along-step, unbroken-refuse, unbroken-step}
 use Rattle.om_blocks.specs.Items.{drop-item}
+use Rattle.om_scope.proofs.Propers.{item_proper}
 use Rattle.om_scope.proofs.unit.resolve_each.Goals as goal
+
+pub resolve_item-requires : goal.resolve_item-requires
+resolve_item-requires c = record {
+  proper = item_proper c.args.items.now c.loop-item.item-index c.item-item.result c.loop-item-test.true c.item-item.is
+      c.requires.proper;
+}
 
 pub returns-in_err-resolve_item-clause-checked : goal.returns-in_err-resolve_item-clause-checked
 returns-in_err-resolve_item-clause-checked c =

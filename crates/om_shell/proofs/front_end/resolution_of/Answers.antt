@@ -8,12 +8,6 @@ pub returns-clause-refused : goal.returns-clause-refused
 returns-clause-refused c = names_refuse c.args.source.now _ c.resolve.result c.in_ok-unit.ensures.tree
     c.resolve.ensures.first_breach
 
-pub returns-clause-whole : goal.returns-clause-whole
-returns-clause-whole c = c.resolve.ensures.whole c.in_ok-unit.ensures.tree.parsed.formed
-
-pub returns-clause-atomics_assign : goal.returns-clause-atomics_assign
-returns-clause-atomics_assign c = c.resolve.ensures.atomics_assign c.in_ok-unit.ensures.tree.forms
-
 pub returns-clause-copies_behind : goal.returns-clause-copies_behind
 returns-clause-copies_behind c =
     let tree = c.in_ok-unit.ensures.tree in
