@@ -51,7 +51,7 @@ use Rattle.om_whole.proofs.StatementsWhole.{AreGoodDeclarators, whole_declarator
 use Rattle.om_whole.proofs.StatementsWhole.{whole_perhaps, whole_return, not_true, agrees_looping, agrees_start}
 use Rattle.om_whole.proofs.StatementsWhole.{agrees_item, agrees_construct, agrees_loop, knows_item}
 use Rattle.om_whole.proofs.PartCounts.{few_parts, some_part}
-use Rattle.om_whole.proofs.Steps.{if_any, if_then, if_either, if_both, if_three}
+use Rattle.om_whole.proofs.Steps.{if_any, if_then, if_both, if_three}
 use Rattle.om_whole.proofs.Unbroken.{front, back, not_broken, not_false, never_placed}
 use Rattle.om_tree.specs.Formed.{IsStatement, AreStatements, AreSome, AreParts, ArePartItems, AreFurtherParts}
 use Rattle.om_tree.specs.Tree.{ExpressionTree, StatementTree, LocalDeclaration, Block, Empty, Expression, If, IfElse}
