@@ -274,7 +274,8 @@ module _ (p : Parts) (l : Limits) (one : 1 ≤ l.nested) (sound : ArePartsSound 
             room_for = record { high = omega arith; deep = omega arith; nested = omega (arith, r.formed.nested); long = r.formed.long; forms = tt };
           };
         })
-    | inr g ↦ good_item checked room blocks_left ts x (part_item_sound_with checked room blocks_left statement inner ts x g.1)
+    | inr g ↦ good_item checked room blocks_left ts x (part_item_sound_with checked room blocks_left statement inner ts
+        x g.1)
   ]
 
   pub block_items_sound : (checked : Bool) (room : ℕ) (statement : ℕ → Reader StatementTree) → AreSound checked room statement → (blocks_left : ℕ) (at : Span) (ts : List Token) (x : List StatementTree × Span × List Token) → block_items_after p statement blocks_left at ts ≡ ok x → AreItemsRead l checked room blocks_left ts x
@@ -373,7 +374,10 @@ module _ (p : Parts) (l : Limits) (one : 1 ≤ l.nested) (sound : ArePartsSound 
 
   -- ---- the braces of `sections`
 
-  pub braces_sound_with : (checked : Bool) (room : ℕ) (statement : ℕ → Reader StatementTree) → AreSound checked room statement → (blocks_left : ℕ) (left : Span) (ts : List Token) (x : (Span × PartsTree × Span) × List Token) → parts_after p statement blocks_left left ts ≡ ok x → IsRead braces_spelling (AreGoodBraces l checked (suc room) blocks_left) (mark punctuators.OpenBrace left ∷ ts) x
+  pub braces_sound_with : (checked : Bool) (room : ℕ) (statement : ℕ → Reader StatementTree)
+      → AreSound checked room statement → (blocks_left : ℕ) (left : Span) (ts : List Token) (x : (Span × PartsTree ×
+      Span) × List Token) → parts_after p statement blocks_left left ts ≡ ok x → IsRead braces_spelling (AreGoodBraces l
+      checked (suc room) blocks_left) (mark punctuators.OpenBrace left ∷ ts) x
   unfolding parts_after
   braces_sound_with checked room statement inner zero left ts x h = absurd cc
   braces_sound_with checked room statement inner (suc blocks_left) left ts x h =
@@ -391,7 +395,8 @@ module _ (p : Parts) (l : Limits) (one : 1 ≤ l.nested) (sound : ArePartsSound 
       let spelled = after_front ts (parts_spelling (trees.parts r.0.0)) r.0.1 (mark punctuators.CloseBrace c.0.0 ∷ [])
       c.0.1 (parts.parts ∙ ap (λ w. w ++ r.0.1) (sym (parts_flat r.0.0)))
       (mark_at_is punctuators.CloseBrace r.0.1 c.0 c.1) in
-      subst (IsRead braces_spelling (AreGoodBraces l checked (suc room) (suc blocks_left)) (mark punctuators.OpenBrace left ∷ ts)) (ok_is _ x c.2) (record {
+      subst (IsRead braces_spelling (AreGoodBraces l checked (suc room) (suc blocks_left)) (mark punctuators.OpenBrace
+      left ∷ ts)) (ok_is _ x c.2) (record {
         parts = ap (λ w. mark punctuators.OpenBrace left ∷ w) spelled;
         formed = record {
           formed = good.formed;

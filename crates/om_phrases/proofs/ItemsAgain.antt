@@ -1,5 +1,6 @@
 -- What well-formed items of a block, and parts of `sections`, spell is read again as these, within the limits.
-use Rattle.std.proofs.Common.{◌≡◌, ℕ, ◌≤◌, List, ◌∷◌, ◌++◌, length, Option, Some, None, Bool, true, false, is_some, ◌||◌, refl, sym, ap, subst, ◌∙◌, arith, append_assoc, inl, All}
+use Rattle.std.proofs.Common.{◌≡◌, ℕ, ◌≤◌, List, ◌∷◌, ◌++◌, length, Option, Some, None, Bool, true, false, is_some}
+use Rattle.std.proofs.Common.{◌||◌, refl, sym, ap, subst, ◌∙◌, arith, append_assoc, inl, All}
 use Rattle.std.specs.List.{flat_map}
 use Rattle.std.proofs.lemmas.List.Elements.{All-nil, All-cons, All-head, All-tail}
 use Rattle.om_lexer.specs.declared.token.Keyword.TheVariants as keywords
@@ -11,16 +12,19 @@ use Rattle.om_pragma.specs.Spelling.{directive_spelling, opening_spelling as lin
 use Rattle.om_phrases.specs.declared.construct.LineStart.{LineStart}
 use Rattle.om_phrases.specs.declared.construct.LineStart.TheVariants as lines
 use Rattle.om_parts.specs.PartReading.{Parts}
-use Rattle.om_phrases.specs.ConstructReading.{line_start, item_of, part_item_at, is_section_line, at_section, ends_part, ends_parts, section_of, part_at}
+use Rattle.om_phrases.specs.ConstructReading.{line_start, item_of, part_item_at, is_section_line, at_section, ends_part}
+use Rattle.om_phrases.specs.ConstructReading.{ends_parts, section_of, part_at}
 use Rattle.om_parts.specs.Reading.{Reader, take, same_word, take_mark, take_word}
 use Rattle.om_phrases.specs.OneOrMore.{one_or_more}
-use Rattle.om_tree.specs.Spelling.{expression_spelling, declaration_spelling, statement_spelling, statements_spelling, part_spelling, section_spelling}
+use Rattle.om_tree.specs.Spelling.{expression_spelling, declaration_spelling, statement_spelling, statements_spelling}
+use Rattle.om_tree.specs.Spelling.{part_spelling, section_spelling}
 use Rattle.om_tree.specs.Formed.{IsBody, IsPartItem, IsLine, AreSome, IsStatement, IsLocalDeclaration}
 use Rattle.om_tree.specs.Formed.{IsSection, IsOptionalSection, ArePartItems}
 use Rattle.om_tree.specs.Limits.{Limits}
 use Rattle.om_tree.specs.Sizes.{HasForms, HasRoom, HaveRoom, section_longest, section_nesting}
 use Rattle.om_phrases.specs.StatementReading.{block_item_at}
-use Rattle.om_tree.specs.Tree.{ExpressionTree, DeclarationTree, StatementTree, StatementsTree, LocalDeclaration, StandAlone, NoStatements, Statement, PartsTree, NoParts, Part, PartTree}
+use Rattle.om_tree.specs.Tree.{ExpressionTree, DeclarationTree, StatementTree, StatementsTree, LocalDeclaration}
+use Rattle.om_tree.specs.Tree.{StandAlone, NoStatements, Statement, PartsTree, NoParts, Part, PartTree}
 use Rattle.om_parts.specs.Laws.{IsAnswer, declaration_tail, ArePartsAgain}
 use Rattle.om_phrases.specs.Outcomes.{ok, some}
 use Rattle.om_phrases.specs.Again.{take_word_again, bind_answer}
@@ -28,20 +32,26 @@ use Rattle.om_phrases.specs.ItemsComplete.{AreAgain}
 use Rattle.om_phrases.proofs.OneOrMore.{AreSeveralAgain, several_again}
 use Rattle.om_phrases.proofs.StatementParts.{PartsHaveRoom}
 use Rattle.om_phrases.proofs.Shorter.{statement_some, part_some}
-use Rattle.om_phrases.proofs.StatementTokens.{BeginsBody, BeginsConstruct, BeginsNoLine, list_of, statements_of, list_flat, list_of_parts, stand_alone_starts, section_starts}
-use Rattle.om_phrases.proofs.ProductionsComplete.{AreAgainAt, stand_alone_again, NoElse, no_brace, no_else, no_int, body_begins}
+use Rattle.om_phrases.proofs.StatementTokens.{BeginsBody, BeginsConstruct, BeginsNoLine, list_of, statements_of}
+use Rattle.om_phrases.proofs.StatementTokens.{list_flat, list_of_parts, stand_alone_starts, section_starts}
+use Rattle.om_phrases.proofs.ProductionsComplete.{AreAgainAt, stand_alone_again, NoElse, no_brace, no_else, no_int}
+use Rattle.om_phrases.proofs.ProductionsComplete.{body_begins}
 
 module _ (p : Parts) (l : Limits) (again : ArePartsAgain p l) where
   -- ---- items
 
   -- an item of a block or of a part of `sections` is read again
   abbrev PartAgain : (checked : Bool) (room : ℕ) → (ℕ → Reader StatementTree) → StatementTree → Type 0
-  PartAgain checked room statement s = (blocks_left : ℕ) (rest : List Token) → (NoElse p l again) rest → IsAnswer (HasRoom l checked room blocks_left s) (part_item_at p.line (statement blocks_left) (statement_spelling s ++ rest)) (s, rest)
+  PartAgain checked room statement s = (blocks_left : ℕ) (rest : List Token) → (NoElse p l again) rest
+      → IsAnswer (HasRoom l checked room blocks_left s) (part_item_at p.line (statement blocks_left) (statement_spelling
+      s ++ rest)) (s, rest)
 
   -- a well-formed item of a block that is read again
-  pub record IsItemAgain (checked : Bool) (room : ℕ) (statement : ℕ → Reader StatementTree) (s : StatementTree) : Type 0 where
-    pub formed : IsStatement s
-    pub read : (blocks_left : ℕ) (rest : List Token) → (NoElse p l again) rest → IsAnswer (HasRoom l checked room blocks_left s) (block_item_at p (statement blocks_left) (statement_spelling s ++ rest)) (s, rest)
+  pub record IsItemAgain (checked : Bool) (room : ℕ) (statement : ℕ → Reader StatementTree) (s : StatementTree) : Type 0
+    where
+      pub formed : IsStatement s
+      pub read : (blocks_left : ℕ) (rest : List Token) → (NoElse p l again) rest → IsAnswer (HasRoom l checked room
+          blocks_left s) (block_item_at p (statement blocks_left) (statement_spelling s ++ rest)) (s, rest)
 
   -- the same of an item of a part of `sections`
   pub record IsPartItemAgain (checked : Bool) (room : ℕ) (statement : ℕ → Reader StatementTree)
@@ -50,35 +60,47 @@ module _ (p : Parts) (l : Limits) (again : ArePartsAgain p l) where
     pub part : IsPartItem s
     pub read : PartAgain checked room statement s
 
-  part_of_body : (s : StatementTree) → IsStatement s → IsBody s → (checked : Bool) (room : ℕ) (statement : ℕ → Reader StatementTree) → (AreAgainAt p l again) checked room statement s → PartAgain checked room statement s
+  part_of_body : (s : StatementTree) → IsStatement s → IsBody s → (checked : Bool) (room : ℕ) (statement : ℕ
+      → Reader StatementTree) → (AreAgainAt p l again) checked room statement s → PartAgain checked room statement s
   unfolding part_item_at item_of
-  part_of_body s f b checked room statement reads blocks_left rest none = go (line_start us) ((body_begins p l again) s rest f b)
+  part_of_body s f b checked room statement reads blocks_left rest none = go (line_start us) ((body_begins p l again) s
+      rest f b)
     where
       us : List Token
       us = statement_spelling s ++ rest
 
-      go : (start : LineStart) → BeginsBody start → IsAnswer (HasRoom l checked room blocks_left s) (item_of p.line (statement blocks_left) start us) (s, rest)
+      go : (start : LineStart) → BeginsBody start → IsAnswer (HasRoom l checked room blocks_left s) (item_of p.line
+          (statement blocks_left) start us) (s, rest)
       go _ BeginsConstruct = reads blocks_left rest (λ yes. none)
       go _ BeginsNoLine = reads blocks_left rest (λ yes. none)
 
-  part_of_line : (d : Directive ExpressionTree) → IsLine d → is_stand_alone d.name ≡ true → (checked : Bool) (room : ℕ) (statement : ℕ → Reader StatementTree) → PartAgain checked room statement (StandAlone d)
+  part_of_line : (d : Directive ExpressionTree) → IsLine d → is_stand_alone d.name ≡ true
+      → (checked : Bool) (room : ℕ) (statement : ℕ → Reader StatementTree) → PartAgain checked room statement
+      (StandAlone d)
   unfolding part_item_at item_of statement_spelling
-  part_of_line d f alone checked room statement blocks_left rest none = rw (stand_alone_starts d rest alone) ((stand_alone_again p l again) checked room blocks_left d rest f)
+  part_of_line d f alone checked room statement blocks_left rest none = rw (stand_alone_starts d rest alone)
+      ((stand_alone_again p l again) checked room blocks_left d rest f)
 
-  pub part_from : (s : StatementTree) → IsStatement s → IsPartItem s → (checked : Bool) (room : ℕ) (statement : ℕ → Reader StatementTree) → (IsBody s → (AreAgainAt p l again) checked room statement s) → PartAgain checked room statement s
+  pub part_from : (s : StatementTree) → IsStatement s → IsPartItem s → (checked : Bool) (room : ℕ) (statement : ℕ
+      → Reader StatementTree) → (IsBody s → (AreAgainAt p l again) checked room statement s)
+      → PartAgain checked room statement s
   unfolding IsStatement
   part_from (LocalDeclaration d) f b checked room statement reads = absurd b
   part_from (StandAlone d) f b checked room statement reads = part_of_line d f.0 f.1 checked room statement
   part_from s f b checked room statement reads = part_of_body s f tt checked room statement (reads tt)
 
-  pub declaration_item : (d : DeclarationTree ExpressionTree) → IsLocalDeclaration d → (checked : Bool) (room : ℕ) (statement : ℕ → Reader StatementTree) → IsItemAgain checked room statement (LocalDeclaration d)
+  pub declaration_item : (d : DeclarationTree ExpressionTree) → IsLocalDeclaration d → (checked : Bool) (room : ℕ) (statement : ℕ
+      → Reader StatementTree) → IsItemAgain checked room statement (LocalDeclaration d)
   unfolding IsStatement block_item_at statement_spelling declaration_spelling
   declaration_item d f checked room statement = record {
     formed = f;
-    read = λ blocks_left rest none. rw (take_word_again keywords.Int d.int (declaration_tail d ++ rest)) (bind_answer (p.declaration d.int (declaration_tail d ++ rest)) _ (d, rest) (LocalDeclaration d, rest) (λ w. record { nested = omega (arith, w.nested); long = w.long }) (again.declaration d rest f) (inl refl));
+    read = λ blocks_left rest none. rw (take_word_again keywords.Int d.int (declaration_tail d ++ rest))
+        (bind_answer (p.declaration d.int (declaration_tail d ++ rest)) _ (d, rest) (LocalDeclaration d, rest)
+        (λ w. record { nested = omega (arith, w.nested); long = w.long }) (again.declaration d rest f) (inl refl));
   }
 
-  pub block_item : (s : StatementTree) → IsStatement s → IsPartItem s → (checked : Bool) (room : ℕ) (statement : ℕ → Reader StatementTree) → PartAgain checked room statement s → IsItemAgain checked room statement s
+  pub block_item : (s : StatementTree) → IsStatement s → IsPartItem s → (checked : Bool) (room : ℕ) (statement : ℕ
+      → Reader StatementTree) → PartAgain checked room statement s → IsItemAgain checked room statement s
   unfolding block_item_at
   block_item s f b checked room statement reads = record {
     formed = f;
@@ -90,7 +112,8 @@ module _ (p : Parts) (l : Limits) (again : ArePartsAgain p l) where
     BeginsStatement : (start : LineStart) → BeginsBody start → BeginsItem start
     BeginsAlone : BeginsItem lines.StandAlone
 
-  item_begins : (s : StatementTree) (rest : List Token) → IsStatement s → IsPartItem s → BeginsItem (line_start (statement_spelling s ++ rest))
+  item_begins : (s : StatementTree) (rest : List Token) → IsStatement s → IsPartItem s
+      → BeginsItem (line_start (statement_spelling s ++ rest))
   unfolding statement_spelling IsStatement
   item_begins (LocalDeclaration d) rest f b = absurd b
   item_begins (StandAlone d) rest f b = subst BeginsItem (sym (stand_alone_starts d rest f.1)) BeginsAlone
@@ -104,10 +127,15 @@ module _ (p : Parts) (l : Limits) (again : ArePartsAgain p l) where
   goes_on : (s : StatementTree) (rest : List Token) → IsStatement s → IsPartItem s
       → ends_part (statement_spelling s ++ rest) ≡ false
   goes_on s rest f b =
-      rw ((no_brace p l again) s rest f, no_section (line_start (statement_spelling s ++ rest)) (item_begins s rest f b))
-      refl
+      rw (
+        (no_brace p l again) s rest f,
+        no_section (line_start (statement_spelling s ++ rest))
+            (item_begins s rest f b),
+      ) refl
 
-  pub items_again : (checked : Bool) (room blocks_left : ℕ) (statement : ℕ → Reader StatementTree) → AreAgain statement_spelling (IsItemAgain checked room statement) (HasRoom l checked room blocks_left) (NoElse p l again) (take_mark punctuators.CloseBrace) (block_item_at p (statement blocks_left))
+  pub items_again : (checked : Bool) (room blocks_left : ℕ) (statement : ℕ → Reader StatementTree)
+      → AreAgain statement_spelling (IsItemAgain checked room statement) (HasRoom l checked room blocks_left) (NoElse p
+      l again) (take_mark punctuators.CloseBrace) (block_item_at p (statement blocks_left))
   items_again checked room blocks_left statement = record {
     one = λ s rest f none. f.read blocks_left rest none;
     unended = λ s rest f. (no_brace p l again) s rest f.formed;
@@ -127,12 +155,26 @@ module _ (p : Parts) (l : Limits) (again : ArePartsAgain p l) where
     some_tokens = λ s f. statement_some s f.formed;
   }
 
-  pub have_room : (checked : Bool) (room blocks_left : ℕ) (ss : StatementsTree) → HaveRoom l checked room blocks_left ss → All (HasRoom l checked room blocks_left) (list_of ss)
+  pub have_room : (checked : Bool) (room blocks_left : ℕ) (ss : StatementsTree) → HaveRoom l checked room blocks_left ss
+      → All (HasRoom l checked room blocks_left) (list_of ss)
   unfolding HasForms
   have_room checked room blocks_left NoStatements w = All-nil (HasRoom l checked room blocks_left)
   have_room checked room blocks_left (Statement s rest) w =
-      All-cons (HasRoom l checked room blocks_left) s (list_of rest) (record { high = omega (arith, w.high); deep = omega (arith, w.deep); nested = omega (arith, w.nested); long = omega (arith, w.long); forms = w.forms.0 })
-      (have_room checked room blocks_left rest (record { high = omega (arith, w.high); deep = omega (arith, w.deep); nested = omega (arith, w.nested); long = omega (arith, w.long); forms = w.forms.1 }))
+      All-cons (HasRoom l checked room blocks_left) s (list_of rest) (record {
+        high = omega (arith, w.high);
+        deep =
+            omega (arith, w.deep);
+        nested = omega (arith, w.nested);
+        long = omega (arith, w.long);
+        forms = w.forms.0;
+      })
+      (have_room checked room blocks_left rest (record {
+        high = omega (arith, w.high);
+        deep = omega (arith, w.deep);
+        nested = omega (arith, w.nested);
+        long = omega (arith, w.long);
+        forms = w.forms.1;
+      }))
 
   -- ---- parts of `sections`
 
@@ -211,7 +253,8 @@ module _ (p : Parts) (l : Limits) (again : ArePartsAgain p l) where
   section_begins : (section : Option (Directive ExpressionTree)) (items : StatementsTree) (rest : List Token)
       → IsSection section → ends_parts ((section_spelling section ++ statements_spelling items) ++ rest) ≡ false
   section_begins None items rest f = absurd f
-  section_begins (Some d) items rest f = rw (append_assoc, section_starts d (statements_spelling items ++ rest) f.1) refl
+  section_begins (Some d) items rest f = rw (append_assoc, section_starts d (statements_spelling items ++ rest) f.1)
+      refl
 
   no_else_at_line : (d : Directive ExpressionTree) (items : StatementsTree) (rest : List Token)
       → (NoElse p l again) ((directive_spelling expression_spelling d ++ statements_spelling items) ++ rest)
@@ -251,7 +294,8 @@ module _ (p : Parts) (l : Limits) (again : ArePartsAgain p l) where
     some_tokens = λ part f. part_some part f.one_stands f.formed;
   }
 
-  pub parts_have_room : (checked : Bool) (room blocks_left : ℕ) (ps : PartsTree) → PartsHaveRoom l checked room blocks_left ps
+  pub parts_have_room : (checked : Bool) (room blocks_left : ℕ) (ps : PartsTree) → PartsHaveRoom l checked room
+      blocks_left ps
       → All (PartHasRoom checked room blocks_left) (list_of_parts ps)
   unfolding HasForms
   parts_have_room checked room blocks_left NoParts w = All-nil (PartHasRoom checked room blocks_left)

@@ -81,7 +81,8 @@ module _ (p : Parts) (l : Limits) (one : 1 ≤ l.nested) (sound : ArePartsSound 
   IsItemStopped depth nested ts f = IsStopped statement_spelling IsStatement (IsOverInStatement l depth nested) l ts f
 
   abbrev pub AreItemsStopped : (depth nested : ℕ) → List Token → SourceFault → Type 0
-  AreItemsStopped depth nested ts f = IsStopped statements_spelling AreSomeStatements (IsOverInItems l depth nested) l ts f
+  AreItemsStopped depth nested ts f = IsStopped statements_spelling AreSomeStatements (IsOverInItems l depth nested) l
+      ts f
 
   abbrev pub IsBlockStopped : List Token → SourceFault → Type 0
   IsBlockStopped ts f = IsStopped block_spelling (λ b. AreStatements (statements b.items)) (IsOverInBlock l) l ts f

@@ -144,7 +144,8 @@ no_room_asked l checked room blocks_left = record {
 
 room_for_one_more : (l : Limits) (checked : Bool) (room blocks_left : ℕ) (s : StatementTree)
     (rest : List StatementTree) → HasRoom l checked room blocks_left s
-    → HaveRoom l checked room blocks_left (statements rest) → HaveRoom l checked room blocks_left (statements (s ∷ rest))
+    → HaveRoom l checked room blocks_left (statements rest) → HaveRoom l checked room blocks_left (statements (s ∷
+    rest))
 unfolding HasForms
 room_for_one_more l checked room blocks_left s rest first others = record {
   high = omega (arith, first.high, others.high);

@@ -139,7 +139,8 @@ parts_of (Part section items rest) = ap (Part section items) (parts_of rest)
 pub list_of_parts_flat : (ps : PartsTree) → parts_spelling ps ≡ flat_map part_spelling (list_of_parts ps)
 unfolding statement_spelling
 list_of_parts_flat NoParts = refl
-list_of_parts_flat (Part section items rest) = ap (λ w. part_spelling (record { section = section; items = items }) ++ w)
+list_of_parts_flat (Part section items rest) = ap (λ w. part_spelling (record { section = section; items = items }) ++
+    w)
     (list_of_parts_flat rest)
 
 -- ---- what a line is seen to be

@@ -1,5 +1,5 @@
 -- Resolving keeps the places of the names that clauses list.
-use Rattle.std.proofs.Common.{ℕ, Bool, true, false, not, List, [], ◌∷◌, All, Option, None, Some}
+use Rattle.std.proofs.Common.{ℕ, true, not, List, [], ◌∷◌, All, Option, None, Some}
 use Rattle.std.specs.Prelude.{IfSome}
 use Rattle.std.proofs.lemmas.List.Elements.{All-nil, All-cons, All-append, All-head, All-tail}
 use Rattle.om_lexer.specs.declared.token.Span.{Span}

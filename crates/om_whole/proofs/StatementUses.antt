@@ -1,5 +1,5 @@
 -- A resolved statement uses globals that there are.
-use Rattle.std.proofs.Common.{ℕ, Bool, true, false, Option, Some, option_map}
+use Rattle.std.proofs.Common.{ℕ, Option, Some}
 use Rattle.std.specs.Prelude.{IfSome, not}
 use Rattle.om_tree.specs.Tree.{StatementTree, LocalDeclaration, Block, Empty, Expression, If, IfElse, While, Do, For}
 use Rattle.om_tree.specs.Tree.{Return, Break, Continue, Construct, StandAlone, Sections, PartsTree, NoParts, Part, StatementsTree}
@@ -7,7 +7,7 @@ use Rattle.om_tree.specs.Tree.{NoStatements, Statement}
 use Rattle.om_rules.specs.DirectiveRules.{in_construct, parallel_in, traits_of}
 use Rattle.om_rules.specs.Loops.{Loop, loop_in}
 use Rattle.om_rules.specs.Resolution.{resolved_expression}
-use Rattle.om_resolved.specs.ResolvedTree.{ResolvedLoopTree, ResolvedStatementTree}
+use Rattle.om_resolved.specs.ResolvedTree.{ResolvedLoopTree}
 use Rattle.om_rules.specs.Scopes.{Scopes, inside, declarators_of}
 use Rattle.om_rules.specs.StatementResolution.{resolved_declarators, resolved_clauses, resolved_loop, resolved_start}
 use Rattle.om_rules.specs.StatementResolution.{resolved_perhaps, schedule_of, resolved_statement, resolved_statements}
