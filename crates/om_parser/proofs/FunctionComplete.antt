@@ -13,7 +13,7 @@ use Rattle.om_parser.specs.FunctionReading.{parameter_at, further_parameter_at, 
 use Rattle.om_parser.specs.FunctionReading.{named_parameter, named_further, named_parameters, named_head}
 use Rattle.om_parts.specs.Reading.{Outcome, take, same_mark, same_word, take_mark, take_word, take_name}
 use Rattle.om_parts.specs.Repetition.{optional, until}
-use Rattle.om_tree.specs.Spelling.{mark, word, name, perhaps, behind_comma, parameter_spelling, parameters_spelling}
+use Rattle.om_tree.specs.Spelling.{mark, word, perhaps, behind_comma, parameter_spelling, parameters_spelling}
 use Rattle.om_tree.specs.Spelling.{given_name}
 use Rattle.om_tree.specs.Tree.{ParametersTree, NoParameters, Void, Listed, HeadTree}
 use Rattle.om_phrases.specs.Outcomes.{ok}

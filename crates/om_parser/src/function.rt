@@ -1,6 +1,6 @@
 //! The heads of functions (C17 6.7.6.3).
 
-ghost use Rattle.std.specs.Prelude.{◌≡◌, length, Ok};
+ghost use Rattle.std.specs.Prelude.{length, Ok};
 ghost use Rattle.om_lexer.specs.declared.token.Punctuator.TheVariants.{CloseParen};
 ghost use Rattle.om_parser.specs.FunctionReading.{parameter_at, further_parameter_at, listed_at, parameters_at, head_after, named_parameter, named_further, named_parameters, named_head};
 ghost use Rattle.om_parts.specs.Reading.{take_mark, take_name, Reads, ReadsAlways};

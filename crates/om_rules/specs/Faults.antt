@@ -3,7 +3,6 @@ use Rattle.std.specs.Prelude.{ℕ, List, [], ◌∷◌, ◌++◌, ◌&&◌, ◌|
 use Rattle.std.specs.Prelude.{if◌then◌else◌}
 use Rattle.om_lexer.specs.Faults.{number_of}
 use Rattle.om_lexer.specs.declared.fault.FaultCode.{FaultCode}
-use Rattle.om_lexer.specs.declared.fault.FaultCode.TheVariants as faults
 use Rattle.om_lexer.specs.declared.fault.SourceFault.{SourceFault}
 
 -- the first breach, if there is one
