@@ -3,3 +3,13 @@ mod ClauseNames
 mod Spelled
 mod Steps
 mod Copies
+mod Among
+mod Ascending
+mod CopyPlaces
+mod DeclaredPlaces
+mod LoopVariables
+mod ConstructPlaces
+mod StatementPlaces
+mod UnitPlaces
+mod StandingPlaces
+mod InOrder

@@ -33,7 +33,7 @@ rises_back (t ∷ ts) us h = rises_back ts us h.1
 
 -- ---- tokens in order
 
-wide : (k : TokenKind) (from to : ℕ) → HasWidth k from to → from ≤ to
+pub wide : (k : TokenKind) (from to : ℕ) → HasWidth k from to → from ≤ to
 wide kinds.DirectiveEnd from to h = omega arith
 wide kinds.End from to h = omega arith
 wide kinds.DirectiveBegin from to h = omega arith

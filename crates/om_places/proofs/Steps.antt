@@ -26,6 +26,11 @@ pub if_given : {A : Type 0} (P : A → Type 0) (o : Option A) (x : A) → IfSome
 if_given P None x h e = cc
 if_given P (Some y) x h e = let same : y ≡ x = cc in subst P same h
 
+-- of what gives something: what follows from what is true of it
+pub if_weaker : {A : Type 0} (P Q : A → Type 0) (o : Option A) → IfSome o P → ((x : A) → P x → Q x) → IfSome o Q
+if_weaker P Q None h next = tt
+if_weaker P Q (Some x) h next = next x h
+
 -- of all of several
 module _ {A B : Type 0} (P : A → Type 0) (Q : B → Type 0) where
   pub if_each : (f : A → Option B) → ((x : A) → P x → IfSome (f x) Q) → (xs : List A) → All P xs

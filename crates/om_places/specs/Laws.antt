@@ -1,8 +1,10 @@
--- Where the copies of regions stand, of every source.
-use Rattle.std.specs.Prelude.{◌≡◌, ℕ, List, Some, IfSome}
+-- Where variables, copies and regions stand, of every source.
+use Rattle.std.specs.Prelude.{◌≡◌, ℕ, List, Some, IfSome, All, map}
+use Rattle.std.specs.List.Sorted.{IsStrictlyIncreasing}
 use Rattle.om_lexer.specs.declared.token.Token.{Token}
 use Rattle.om_lexer.specs.Sources.{IsTokens}
 use Rattle.om_places.specs.Behind.{UnitNamesBehind}
+use Rattle.om_places.specs.Places.{StandsThere, byte_of, tree_places}
 use Rattle.om_resolved.specs.Beside.{TreeCopiesBehind}
 use Rattle.om_resolved.specs.ResolvedTree.{ResolvedTree}
 use Rattle.om_rules.specs.UnitResolution.{resolution_of}
@@ -25,3 +27,19 @@ SourcesHaveCopiesBehind =
     (source : List ℕ) (tokens : List Token) (unit : UnitTree) (resolved : ResolvedTree)
     → IsTokens source tokens → unit_spelling unit ≡ tokens → resolution_of unit ≡ Some resolved
     → TreeCopiesBehind resolved
+
+-- In the resolution of a tree of a source's tokens, the bytes rise strictly at which variables are declared, copies
+-- are asked for and regions begin. So no two variables have one byte, and a variable has a byte before that of a
+-- region exactly where it is declared before it.
+abbrev pub PlacesRise : Type 0
+PlacesRise =
+    (source : List ℕ) (tokens : List Token) (unit : UnitTree) (resolved : ResolvedTree)
+    → IsTokens source tokens → unit_spelling unit ≡ tokens → resolution_of unit ≡ Some resolved
+    → IsStrictlyIncreasing (map byte_of (tree_places resolved))
+
+-- At each of these bytes the source has the name of the variable, or the `#` of the directive.
+abbrev pub PlacesStandThere : Type 0
+PlacesStandThere =
+    (source : List ℕ) (tokens : List Token) (unit : UnitTree) (resolved : ResolvedTree)
+    → IsTokens source tokens → unit_spelling unit ≡ tokens → resolution_of unit ≡ Some resolved
+    → All (StandsThere source) (tree_places resolved)

@@ -1,7 +1,7 @@
 //! Laws of places, for every source.
 
 ghost use Rattle.om_places.specs.Laws.{CopiesStandBehind, NamesStandBehind};
-ghost use Rattle.om_places.specs.Laws.{SourcesHaveCopiesBehind};
+ghost use Rattle.om_places.specs.Laws.{PlacesRise, PlacesStandThere, SourcesHaveCopiesBehind};
 
 use om_lexer::tokens_in_order;
 
@@ -24,4 +24,15 @@ pub fn sources_have_copies_behind()
 {
     names_stand_behind();
     copies_stand_behind();
+}
+
+/// In the resolution of a source each byte is one variable at most, and bytes are in the order of
+/// the text: those of parameters, of what blocks and `for` declare, and of the copies that clauses
+/// and canonical loops ask for. So are those at which regions begin, between them. So a variable is
+/// declared before a region exactly where its byte stands before the region's.
+pub fn places_stand_in_order()
+    ensures rise { PlacesRise }
+    ensures stand { PlacesStandThere }
+{
+    tokens_in_order();
 }

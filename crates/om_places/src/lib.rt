@@ -1,4 +1,4 @@
-//! Where the copies of regions stand in a source.
+//! Where variables of functions are declared in a source, and where regions begin.
 #![tactic(auto)]
 
 pub mod laws;

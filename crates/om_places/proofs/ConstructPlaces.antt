@@ -1,0 +1,158 @@
+-- The places of a construct are among its tokens, where its copies and the places of its statement are.
+use Rattle.std.proofs.Common.{ℕ, Bool, true, false, List, [], ◌∷◌, ◌++◌, Option, None, Some, subst, append_assoc, sym}
+use Rattle.std.specs.List.{flat_map}
+use Rattle.std.specs.Prelude.{IfSome}
+use Rattle.om_lexer.specs.declared.token.Span.{Span}
+use Rattle.om_lexer.specs.declared.token.Token.{Token}
+use Rattle.om_places.proofs.Among.{AreAmong, none, further, begun, behind, last_of, together}
+use Rattle.om_places.proofs.CopyPlaces.{CopiesAmong, behind_hash, line}
+use Rattle.om_places.proofs.Steps.{either, if_behind}
+use Rattle.om_places.specs.Places.{Place, Declared, Begun}
+use Rattle.om_places.specs.Places.{clause_places, parts_places, statement_places, statements_places}
+use Rattle.om_pragma.specs.declared.tree.AtomicKind.{AtomicKind}
+use Rattle.om_pragma.specs.declared.tree.AtomicKind.TheVariants as kinds
+use Rattle.om_pragma.specs.declared.tree.Directive.{Directive}
+use Rattle.om_pragma.specs.declared.tree.DirectiveName.{DirectiveName}
+use Rattle.om_pragma.specs.declared.tree.DirectiveName.TheVariants as directives
+use Rattle.om_pragma.specs.Questions.{atomic_kind}
+use Rattle.om_pragma.specs.Spelling.{directive_spelling, opening_spelling}
+use Rattle.om_resolved.specs.declared.resolved.Side.{Side}
+use Rattle.om_resolved.specs.ResolvedTree as resolved
+use Rattle.om_resolved.specs.ResolvedTree.{ResolvedClauseTree, ResolvedLoopTree, ResolvedPartsTree}
+use Rattle.om_resolved.specs.ResolvedTree.{ResolvedStatementTree, ResolvedUpdateTree}
+use Rattle.om_rules.specs.DirectiveRules.{traits_of}
+use Rattle.om_rules.specs.Grouping.{Grouped, grouped}
+use Rattle.om_rules.specs.Scopes.{Scopes}
+use Rattle.om_rules.specs.Sharing.{is_parallel}
+use Rattle.om_rules.specs.StatementResolution.{atomic_of, construct_of, flushed, has_nowait, loop_construct_of}
+use Rattle.om_rules.specs.StatementResolution.{parallel_of, resolved_alone, sections_construct_of, with_update}
+use Rattle.om_rules.specs.Updates.{update_of}
+use Rattle.om_tree.specs.Tree.{ExpressionTree}
+
+-- the places of a statement, and of the parts of `sections`, are among these tokens
+abbrev pub PlacesAmong : List Token → ResolvedStatementTree → Type 0
+PlacesAmong ts s = AreAmong (statement_places s) ts
+
+abbrev pub PartsAmong : List Token → ResolvedPartsTree → Type 0
+PartsAmong ts parts = AreAmong (parts_places parts) ts
+
+-- ---- the tokens of a line, and of what stands behind it
+
+module _ (d : Directive ExpressionTree) (back : List Token) where
+  abbrev all : List Token
+  all = line d ++ back
+
+  -- a region begins with its line
+  region : (ps qs : List Place) → AreAmong ps (behind_hash d) → AreAmong qs back
+      → AreAmong (Begun d.hash ∷ (ps ++ qs)) all
+  unfolding directive_spelling opening_spelling
+  region ps qs hp hq = begun d.hash (ps ++ qs) (behind_hash d ++ back) (together ps qs (behind_hash d) back hp hq)
+
+  -- another construct has no place of its own
+  construct : (ps qs : List Place) → AreAmong ps (behind_hash d) → AreAmong qs back → AreAmong (ps ++ qs) all
+  unfolding directive_spelling opening_spelling
+  construct ps qs hp hq = further (ps ++ qs) _ _ (together ps qs (behind_hash d) back hp hq)
+
+  update_among : (at : Span) (u : Option ResolvedUpdateTree) → PlacesAmong all (with_update at u)
+  update_among at None = none all
+  update_among at (Some u) = none all
+
+  module _ (cs : List ResolvedClauseTree) (body : ResolvedStatementTree) (hc : CopiesAmong (behind_hash d) cs)
+      (h : PlacesAmong back body) where
+    as_region : AreAmong (Begun d.hash ∷ (flat_map clause_places cs ++ statement_places body)) all
+    as_region = region (flat_map clause_places cs) (statement_places body) hc h
+
+    plain : AreAmong (flat_map clause_places cs ++ statement_places body) all
+    plain = construct (flat_map clause_places cs) (statement_places body) hc h
+
+    body_alone : PlacesAmong all body
+    body_alone = behind (statement_places body) (line d) back h
+
+    atomic_among : (kind : AtomicKind) (side : Side) (at : Span) → PlacesAmong all (atomic_of kind side at cs body)
+    atomic_among kinds.Update side at = update_among at (update_of side body)
+    atomic_among kinds.Read side at = plain
+    atomic_among kinds.Write side at = plain
+
+    pub construct_among : (parallel : Option ℕ) (side : Side) (name : DirectiveName)
+        → PlacesAmong all (construct_of parallel side d name cs body)
+    unfolding construct_of
+    construct_among parallel side (directives.Parallel s) = as_region
+    construct_among parallel side (directives.Task s) = as_region
+    construct_among parallel side (directives.Atomic s) = atomic_among (atomic_kind d) side d.hash
+    construct_among parallel side (directives.Taskgroup s) = plain
+    construct_among parallel side (directives.Single s) = plain
+    construct_among parallel side (directives.Masked s) = plain
+    construct_among parallel side (directives.Master s) = plain
+    construct_among parallel side (directives.Critical s name) = plain
+    construct_among parallel side (directives.For s) = body_alone
+    construct_among parallel side (directives.Sections s) = body_alone
+    construct_among parallel side (directives.Section s) = body_alone
+    construct_among parallel side (directives.ParallelFor s t) = body_alone
+    construct_among parallel side (directives.ParallelSections s t) = body_alone
+    construct_among parallel side (directives.Barrier s) = body_alone
+    construct_among parallel side (directives.Taskwait s) = body_alone
+    construct_among parallel side (directives.Taskyield s) = body_alone
+    construct_among parallel side (directives.Flush s list) = body_alone
+
+  -- a loop, with its own variable behind the copies
+  pub loop_construct_among : (cs : List ResolvedClauseTree) (l : ResolvedLoopTree) (body : ResolvedStatementTree)
+      → CopiesAmong (behind_hash d) cs → AreAmong (Declared l.variable ∷ statement_places body) back
+      → PlacesAmong all (loop_construct_of d cs l body)
+  loop_construct_among cs l body hc h =
+      let copies = flat_map clause_places cs in
+      let own = Declared l.variable ∷ statement_places body in
+      either (PlacesAmong all) (is_parallel (traits_of d.name).region)
+      (parallel_of d cs (resolved.Loop d.hash [] true l body)) (resolved.Loop d.hash cs (has_nowait d) l body)
+      (region copies own hc h) (construct copies own hc h)
+
+  pub sections_among : (cs : List ResolvedClauseTree) (parts : ResolvedPartsTree)
+      → CopiesAmong (behind_hash d) cs → PartsAmong back parts → PlacesAmong all (sections_construct_of d cs parts)
+  sections_among cs parts hc h =
+      let copies = flat_map clause_places cs in
+      let own = parts_places parts in
+      either (PlacesAmong all) (is_parallel (traits_of d.name).region)
+      (parallel_of d cs (resolved.Sections d.hash [] true parts)) (resolved.Sections d.hash cs (has_nowait d) parts)
+      (region copies own hc h) (construct copies own hc h)
+
+-- a directive that stands alone has no places
+pub alone_among : (ts : List Token) (scopes : Scopes) (d : Directive ExpressionTree) (name : DirectiveName)
+    → IfSome (resolved_alone scopes d name) (PlacesAmong ts)
+alone_among ts scopes d (directives.Barrier s) = none ts
+alone_among ts scopes d (directives.Taskwait s) = none ts
+alone_among ts scopes d (directives.Taskyield s) = none ts
+alone_among ts scopes d (directives.Parallel s) = none ts
+alone_among ts scopes d (directives.For s) = none ts
+alone_among ts scopes d (directives.Sections s) = none ts
+alone_among ts scopes d (directives.Section s) = none ts
+alone_among ts scopes d (directives.Single s) = none ts
+alone_among ts scopes d (directives.ParallelFor s t) = none ts
+alone_among ts scopes d (directives.ParallelSections s t) = none ts
+alone_among ts scopes d (directives.Masked s) = none ts
+alone_among ts scopes d (directives.Master s) = none ts
+alone_among ts scopes d (directives.Critical s name) = none ts
+alone_among ts scopes d (directives.Atomic s) = none ts
+alone_among ts scopes d (directives.Task s) = none ts
+alone_among ts scopes d (directives.Taskgroup s) = none ts
+alone_among ts scopes d (directives.Flush s list) =
+    if_behind (PlacesAmong ts) (flushed scopes list) _ (λ vs. none ts)
+
+-- ---- items of `sections`
+
+abbrev items_places : Grouped → List Place
+items_places items = statements_places items.front ++ parts_places items.parts
+
+abbrev pub ItemsAmong : List Token → Grouped → Type 0
+ItemsAmong ts items = AreAmong (items_places items) ts
+
+-- those of an item, and of those behind it
+pub item_among : (ts : List Token) (begins : Bool) (s : ResolvedStatementTree) (rest : Grouped)
+    → AreAmong (statement_places s ++ items_places rest) ts → ItemsAmong ts (grouped begins s rest)
+item_among ts true s rest h =
+    subst (λ ps. AreAmong ps ts)
+    (sym (append_assoc (statement_places s) (statements_places rest.front) (parts_places rest.parts))) h
+item_among ts false s rest h =
+    subst (λ ps. AreAmong ps ts)
+    (sym (append_assoc (statement_places s) (statements_places rest.front) (parts_places rest.parts))) h
+
+pub parts_among : (ts : List Token) (items : Grouped) → ItemsAmong ts items → PartsAmong ts items.parts
+parts_among ts items h = last_of (statements_places items.front) (parts_places items.parts) ts h
