@@ -51,14 +51,6 @@ together (p ∷ ps) qs [] back h more = absurd h
 together (p ∷ ps) qs (t ∷ front) back (inl h) more = inl (h.0, together ps qs front back h.1 more)
 together (p ∷ ps) qs (t ∷ front) back (inr h) more = inr (together (p ∷ ps) qs front back h more)
 
--- the last of them
-pub last_of : (ps qs : List Place) (ts : List Token) → AreAmong (ps ++ qs) ts → AreAmong qs ts
-unfolding AreAmong
-last_of [] qs ts h = h
-last_of (p ∷ ps) qs [] h = absurd h
-last_of (p ∷ ps) qs (t ∷ ts) (inl h) = further qs t ts (last_of ps qs ts h.1)
-last_of (p ∷ ps) qs (t ∷ ts) (inr h) = further qs t ts (last_of (p ∷ ps) qs ts h)
-
 -- a name is that of its own variable, before those behind it
 pub named : (n : names.Name) (ps : List Place) (ts : List Token) → AreAmong ps ts
     → AreAmong (Declared (local_of n) ∷ ps) (name n ∷ ts)

@@ -1,14 +1,14 @@
 -- The places of a construct are among its tokens, where its copies and the places of its statement are.
-use Rattle.std.proofs.Common.{ℕ, Bool, true, false, List, [], ◌∷◌, ◌++◌, Option, None, Some, subst, append_assoc, sym}
+use Rattle.std.proofs.Common.{ℕ, true, List, [], ◌∷◌, ◌++◌, Option, None, Some}
 use Rattle.std.specs.List.{flat_map}
 use Rattle.std.specs.Prelude.{IfSome}
 use Rattle.om_lexer.specs.declared.token.Span.{Span}
 use Rattle.om_lexer.specs.declared.token.Token.{Token}
-use Rattle.om_places.proofs.Among.{AreAmong, none, further, begun, behind, last_of, together}
+use Rattle.om_places.proofs.Among.{AreAmong, none, further, begun, behind, together}
 use Rattle.om_places.proofs.CopyPlaces.{CopiesAmong, behind_hash, line}
 use Rattle.om_places.proofs.Steps.{either, if_behind}
 use Rattle.om_places.specs.Places.{Place, Declared, Begun}
-use Rattle.om_places.specs.Places.{clause_places, parts_places, statement_places, statements_places}
+use Rattle.om_places.specs.Places.{clause_places, parts_places, statement_places}
 use Rattle.om_pragma.specs.declared.tree.AtomicKind.{AtomicKind}
 use Rattle.om_pragma.specs.declared.tree.AtomicKind.TheVariants as kinds
 use Rattle.om_pragma.specs.declared.tree.Directive.{Directive}
@@ -21,7 +21,6 @@ use Rattle.om_resolved.specs.ResolvedTree as resolved
 use Rattle.om_resolved.specs.ResolvedTree.{ResolvedClauseTree, ResolvedLoopTree, ResolvedPartsTree}
 use Rattle.om_resolved.specs.ResolvedTree.{ResolvedStatementTree, ResolvedUpdateTree}
 use Rattle.om_rules.specs.DirectiveRules.{traits_of}
-use Rattle.om_rules.specs.Grouping.{Grouped, grouped}
 use Rattle.om_rules.specs.Scopes.{Scopes}
 use Rattle.om_rules.specs.Sharing.{is_parallel}
 use Rattle.om_rules.specs.StatementResolution.{atomic_of, construct_of, flushed, has_nowait, loop_construct_of}
@@ -135,24 +134,3 @@ alone_among ts scopes d (directives.Task s) = none ts
 alone_among ts scopes d (directives.Taskgroup s) = none ts
 alone_among ts scopes d (directives.Flush s list) =
     if_behind (PlacesAmong ts) (flushed scopes list) _ (λ vs. none ts)
-
--- ---- items of `sections`
-
-abbrev items_places : Grouped → List Place
-items_places items = statements_places items.front ++ parts_places items.parts
-
-abbrev pub ItemsAmong : List Token → Grouped → Type 0
-ItemsAmong ts items = AreAmong (items_places items) ts
-
--- those of an item, and of those behind it
-pub item_among : (ts : List Token) (begins : Bool) (s : ResolvedStatementTree) (rest : Grouped)
-    → AreAmong (statement_places s ++ items_places rest) ts → ItemsAmong ts (grouped begins s rest)
-item_among ts true s rest h =
-    subst (λ ps. AreAmong ps ts)
-    (sym (append_assoc (statement_places s) (statements_places rest.front) (parts_places rest.parts))) h
-item_among ts false s rest h =
-    subst (λ ps. AreAmong ps ts)
-    (sym (append_assoc (statement_places s) (statements_places rest.front) (parts_places rest.parts))) h
-
-pub parts_among : (ts : List Token) (items : Grouped) → ItemsAmong ts items → PartsAmong ts items.parts
-parts_among ts items h = last_of (statements_places items.front) (parts_places items.parts) ts h

@@ -19,7 +19,7 @@ use Rattle.om_tree.specs.declared.tree.ArrayLength.{ArrayLength}
 use Rattle.om_tree.specs.declared.tree.AssignOperator.{AssignOperator}
 use Rattle.om_tree.specs.declared.tree.AssignOperator.TheVariants as assigns
 use Rattle.om_tree.specs.Spelling.{declaration_spelling, declarator_spelling, expression_spelling, for_head_spelling}
-use Rattle.om_tree.specs.Spelling.{for_start_spelling, perhaps}
+use Rattle.om_tree.specs.Spelling.{for_start_spelling, local_spelling, perhaps}
 use Rattle.om_tree.specs.Tree.{ExpressionTree, Name, Constant, Text, Paren, Index, Call, Prefix, Postfix, Binary}
 use Rattle.om_tree.specs.Tree.{Conditional, Assign, DeclaratorTree, ForHeadTree, ForStartTree, InitializerTree}
 use Rattle.om_tree.specs.Tree.{Nothing, StartExpression, StartDeclaration}
@@ -82,13 +82,14 @@ assigned_among (Conditional c question a colon b) = tt
 -- ---- `int i = lb`
 
 initialized_among : (ts : List Token) (n : names.Name) (array : Option ArrayLength)
-    (initializer : Option InitializerTree) → NameAmong ts n
+    (initializer : Option (InitializerTree ExpressionTree)) → NameAmong ts n
     → IfSome (initialized_start n array initializer) (VariableAmong ts)
 initialized_among ts n None None h = tt
 initialized_among ts n None (Some i) h = h
 initialized_among ts n (Some array) initializer h = tt
 
-declared_among : (ts : List Token) (d : DeclaratorTree) (rest : List (Span × DeclaratorTree)) → NameAmong ts d.name
+declared_among : (ts : List Token) (d : DeclaratorTree ExpressionTree)
+    (rest : List (Span × DeclaratorTree ExpressionTree)) → NameAmong ts d.name
     → IfSome (declared_start d rest) (VariableAmong ts)
 declared_among ts d [] h = initialized_among ts d.name d.array d.initializer h
 declared_among ts d (next ∷ rest) h = tt
@@ -99,7 +100,7 @@ start_among (Nothing semicolon) = tt
 start_among (StartExpression e semicolon) =
     widened (expression_spelling e) _ (assigned_start e) (assigned_among e)
 start_among (StartDeclaration d) =
-    declared_among (declaration_spelling d) d.first d.rest (further _ _ _ (named d.first.name [] _ (none _)))
+    declared_among (local_spelling d) d.first d.rest (further _ _ _ (named d.first.name [] _ (none _)))
 
 -- ---- the loop
 

@@ -13,8 +13,8 @@ use Rattle.om_places.specs.Laws.{NamesStandBehind}
 use Rattle.om_pragma.specs.declared.tree.Directive.{Directive}
 use Rattle.om_pragma.specs.Spelling.{directive_spelling}
 use Rattle.om_tree.specs.Spelling.{block_spelling, condition_spelling, expression_spelling, for_head_spelling}
-use Rattle.om_tree.specs.Spelling.{definition_spelling, item_spelling, statement_spelling, statements_spelling, unit_spelling}
-use Rattle.om_tree.specs.Spelling.{parts_spelling, section_spelling}
+use Rattle.om_tree.specs.Spelling.{definition_spelling, item_spelling, parts_spelling, section_spelling}
+use Rattle.om_tree.specs.Spelling.{statement_spelling, statements_spelling, unit_spelling}
 use Rattle.om_tree.specs.Tree.{ExpressionTree, ItemTree, Declaration, Prototype, Function, StatementTree}
 use Rattle.om_tree.specs.Tree.{LocalDeclaration, Block, Empty, Expression, If, IfElse, While, Do, For, Return, Break}
 use Rattle.om_tree.specs.Tree.{Continue, Construct, StandAlone, Sections, StatementsTree, NoStatements}

@@ -4,30 +4,28 @@ use Rattle.std.specs.Prelude.{IfSome}
 use Rattle.om_lexer.specs.declared.token.Token.{Token}
 use Rattle.om_places.proofs.Among.{AreAmong, none, further, behind, before, together}
 use Rattle.om_places.proofs.CopyPlaces.{CopiesAmong, behind_hash, directive_among, line}
-use Rattle.om_places.proofs.ConstructPlaces.{ItemsAmong, PartsAmong, PlacesAmong, alone_among, construct_among}
-use Rattle.om_places.proofs.ConstructPlaces.{item_among, loop_construct_among, parts_among, sections_among}
+use Rattle.om_places.proofs.ConstructPlaces.{PartsAmong, PlacesAmong, alone_among, construct_among}
+use Rattle.om_places.proofs.ConstructPlaces.{loop_construct_among, sections_among}
 use Rattle.om_places.proofs.DeclaredPlaces.{DeclaratorsAmong, StartAmong, declaration_among, for_start_among}
 use Rattle.om_places.proofs.LoopVariables.{LoopAmong, is_its_variable, loop_among}
-use Rattle.om_places.proofs.Steps.{either, if_behind, if_mapped, if_then, if_weaker}
+use Rattle.om_places.proofs.Steps.{either, if_behind, if_then, if_weaker}
 use Rattle.om_places.specs.Places.{Declared}
 use Rattle.om_places.specs.Places.{parts_places, start_places, statement_places, statements_places}
 use Rattle.om_resolved.specs.ResolvedTree.{ResolvedLoopTree, ResolvedStatementTree, ResolvedStatementsTree}
 use Rattle.om_rules.specs.DirectiveRules.{in_construct, parallel_in, traits_of}
-use Rattle.om_rules.specs.Grouping.{parts_of}
 use Rattle.om_rules.specs.Loops.{Loop, loop_in, loop_of}
 use Rattle.om_rules.specs.Resolution.{resolved_expression}
 use Rattle.om_rules.specs.Scopes.{Scopes, inside}
 use Rattle.om_rules.specs.StatementResolution.{local_of, resolved_loop_construct, resolved_parts}
 use Rattle.om_rules.specs.StatementResolution.{resolved_perhaps, resolved_plain_construct, resolved_repeated}
 use Rattle.om_rules.specs.StatementResolution.{resolved_statement, resolved_statements, schedule_of}
-use Rattle.om_rules.specs.StatementRules.{after_for_start, after_statement, begins_part, in_loop, parts_behind}
-use Rattle.om_rules.specs.StatementRules.{round_bounds}
+use Rattle.om_rules.specs.StatementRules.{after_for_start, after_statement, in_loop, round_bounds}
 use Rattle.om_rules.specs.Updates.{statement_side}
-use Rattle.om_tree.specs.Spelling.{condition_spelling, declaration_spelling, for_head_spelling}
-use Rattle.om_tree.specs.Spelling.{statement_spelling, statements_spelling}
+use Rattle.om_tree.specs.Spelling.{condition_spelling, for_head_spelling, local_spelling}
+use Rattle.om_tree.specs.Spelling.{parts_spelling, section_spelling, statement_spelling, statements_spelling}
 use Rattle.om_tree.specs.Tree.{StatementTree, LocalDeclaration, Block, Empty, Expression, If, IfElse}
-use Rattle.om_tree.specs.Tree.{While, Do, For, Return, Break, Continue, Construct, StandAlone, Sections, Section}
-use Rattle.om_tree.specs.Tree.{StatementsTree, NoStatements, Statement}
+use Rattle.om_tree.specs.Tree.{While, Do, For, Return, Break, Continue, Construct, StandAlone, Sections}
+use Rattle.om_tree.specs.Tree.{StatementsTree, NoStatements, Statement, PartsTree, NoParts, Part}
 
 abbrev pub AllAmong : List Token → ResolvedStatementsTree → Type 0
 AllAmong ts ss = AreAmong (statements_places ss) ts
@@ -47,12 +45,12 @@ IsOf found l = local_of found.start.variable ≡ l.variable
 
 mutual
   unfolding resolved_statement resolved_statements resolved_repeated resolved_parts statement_spelling
-      statements_spelling
+      statements_spelling parts_spelling
 
   statement_among : (scopes : Scopes) (parallel : Option ℕ) (s : StatementTree)
       → IfSome (resolved_statement scopes parallel s) (PlacesAmong (statement_spelling s))
   statement_among scopes parallel (LocalDeclaration d) =
-      let ts = declaration_spelling d in
+      let ts = local_spelling d in
       if_then (DeclaratorsAmong ts) (PlacesAmong ts) _ _ (declaration_among scopes d) (λ ds h. h)
   statement_among scopes parallel (Block left items right) =
       let ts = statement_spelling (Block left items right) in
@@ -123,18 +121,12 @@ mutual
       loop_construct_among d own cs l body hc
       (subst (λ v. AreAmong (Declared v ∷ statement_places body) own) hl hb))))))
   statement_among scopes parallel (StandAlone d) = alone_among (line d) scopes d d.name
-  statement_among scopes parallel (Sections d left items right) =
-      let own = statements_spelling items in
-      let goal = PlacesAmong (statement_spelling (Sections d left items right)) in
+  statement_among scopes parallel (Sections d left parts right) =
+      let own = parts_spelling parts in
+      let goal = PlacesAmong (statement_spelling (Sections d left parts right)) in
       if_then (CopiesAmong (behind_hash d)) goal _ _ (directive_among scopes d) (λ cs hc.
-      if_then (PartsAmong own) goal _ _ (if_mapped (ItemsAmong own) (PartsAmong own) _ parts_of
-      (parts_of_among (in_construct d scopes) (parallel_in d parallel) 0 items) (λ g hg. parts_among own g hg))
-      (λ parts hp. sections_among d _ cs parts hc
-      (further (parts_places parts) _ _ (before (parts_places parts) own _ hp))))
-  statement_among scopes parallel (Section d s) =
-      let own = statement_spelling s in
-      if_weaker (PlacesAmong own) (PlacesAmong (line d ++ own)) _ (statement_among (inside scopes) parallel s)
-      (λ t h. behind (statement_places t) (line d) own h)
+      if_then (PartsAmong own) goal _ _ (parts_among (in_construct d scopes) (parallel_in d parallel) parts) (λ ps hp.
+      sections_among d _ cs ps hc (further (parts_places ps) _ _ (before (parts_places ps) own _ hp))))
 
   pub statements_among : (scopes : Scopes) (parallel : Option ℕ) (ss : StatementsTree)
       → IfSome (resolved_statements scopes parallel ss) (AllAmong (statements_spelling ss))
@@ -171,16 +163,16 @@ mutual
   repeated_among scopes parallel (Construct d s) = tt
   repeated_among scopes parallel (StandAlone d) = tt
   repeated_among scopes parallel (Sections d left parts right) = tt
-  repeated_among scopes parallel (Section d s) = tt
 
-  parts_of_among : (scopes : Scopes) (parallel : Option ℕ) (begun : ℕ) (items : StatementsTree)
-      → IfSome (resolved_parts scopes parallel begun items) (ItemsAmong (statements_spelling items))
-  parts_of_among scopes parallel begun NoStatements = none []
-  parts_of_among scopes parallel begun (Statement s rest) =
-      let own = statement_spelling s in
-      let tail = statements_spelling rest in
-      let goal = ItemsAmong (own ++ tail) in
-      if_then (PlacesAmong own) goal _ _ (statement_among (inside scopes) parallel s) (λ t ht.
-      if_then (ItemsAmong tail) goal _ _ (parts_of_among scopes parallel (parts_behind begun s) rest) (λ g hg.
-      item_among (own ++ tail) (begins_part begun s) t g
-      (together (statement_places t) (statements_places g.front ++ parts_places g.parts) own tail ht hg)))
+  parts_among : (scopes : Scopes) (parallel : Option ℕ) (parts : PartsTree)
+      → IfSome (resolved_parts scopes parallel parts) (PartsAmong (parts_spelling parts))
+  parts_among scopes parallel NoParts = none []
+  parts_among scopes parallel (Part section items rest) =
+      let own = statements_spelling items in
+      let front = section_spelling section ++ own in
+      let tail = parts_spelling rest in
+      let goal = PartsAmong (front ++ tail) in
+      if_then (AllAmong own) goal _ _ (statements_among (inside scopes) parallel items) (λ ss hs.
+      if_then (PartsAmong tail) goal _ _ (parts_among scopes parallel rest) (λ ps hp.
+      together (statements_places ss) (parts_places ps) front tail
+      (behind (statements_places ss) (section_spelling section) own hs) hp))

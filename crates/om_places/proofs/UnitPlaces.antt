@@ -9,14 +9,15 @@ use Rattle.om_places.proofs.DeclaredPlaces.{parameters_among}
 use Rattle.om_places.proofs.StatementPlaces.{AllAmong, statements_among}
 use Rattle.om_places.proofs.Steps.{if_then}
 use Rattle.om_places.specs.Places.{Place, Declared, function_places, statements_places, tree_places}
+use Rattle.om_pragma.specs.declared.name.Name as names
 use Rattle.om_resolved.specs.ResolvedTree.{ResolvedFunctionTree, ResolvedTree}
 use Rattle.om_rules.specs.Perhaps.{all_along}
 use Rattle.om_rules.specs.Scopes.{Scopes, after_function, after_item, after_parameters, definitions_of, file_scope}
 use Rattle.om_rules.specs.Scopes.{inside, parameters_of}
 use Rattle.om_rules.specs.StatementResolution.{resolved_statements}
 use Rattle.om_rules.specs.UnitResolution.{item_functions, parameter_variable, resolution_of, resolved_function}
-use Rattle.om_tree.specs.Spelling.{block_spelling, head_spelling, item_spelling, parameters_spelling}
-use Rattle.om_tree.specs.Spelling.{statement_spelling, statements_spelling, unit_spelling}
+use Rattle.om_tree.specs.Spelling.{block_spelling, definition_spelling, given_name, head_spelling, item_spelling}
+use Rattle.om_tree.specs.Spelling.{parameters_spelling, statement_spelling, statements_spelling, unit_spelling}
 use Rattle.om_tree.specs.Tree.{FunctionTree, HeadTree, ItemTree, Declaration, Prototype, Function, StatementTree}
 use Rattle.om_tree.specs.Tree.{UnitTree, statements}
 
@@ -25,15 +26,15 @@ use Rattle.om_tree.specs.Tree.{UnitTree, statements}
 abbrev FunctionAmong : List Token → ResolvedFunctionTree → Type 0
 FunctionAmong ts function = AreAmong (function_places function) ts
 
-abbrev parameter_places : HeadTree → List Place
-parameter_places h = map Declared (flat_map parameter_variable (parameters_of h.parameters))
+abbrev parameter_places : HeadTree names.Name → List Place
+parameter_places h = map Declared (map parameter_variable (parameters_of h.parameters))
 
-head_among : (h : HeadTree) → AreAmong (parameter_places h) (head_spelling h)
+head_among : (h : HeadTree names.Name) → AreAmong (parameter_places h) (definition_spelling h)
 unfolding head_spelling
 head_among h =
     let places = parameter_places h in
     further places _ _ (further places _ _ (further places _ _
-    (before places (parameters_spelling h.parameters) _ (parameters_among h.parameters))))
+    (before places (parameters_spelling given_name h.parameters) _ (parameters_among h.parameters))))
 
 -- the tokens of a list of statements
 spelled : (items : List StatementTree) → statements_spelling (statements items) ≡ flat_map statement_spelling items
@@ -54,7 +55,7 @@ function_among scopes f =
     (spelled f.body.items) all in
     if_then (AllAmong own) goal _ _ body_among (λ body hb.
     let places = statements_places body in
-    together (parameter_places f.head) places (head_spelling f.head) (block_spelling f.body) (head_among f.head)
+    together (parameter_places f.head) places (definition_spelling f.head) (block_spelling f.body) (head_among f.head)
     (further places _ _ (before places own _ hb)))
 
 -- ---- items
