@@ -52,8 +52,8 @@ module _ (d : Directive ExpressionTree) (back : List Token) where
   unfolding directive_spelling opening_spelling
   construct ps qs hp hq = further (ps ++ qs) _ _ (together ps qs (behind_hash d) back hp hq)
 
-  update_among : (at : Span) (u : Option ResolvedUpdateTree) → PlacesAmong all (with_update at u)
-  update_among at None = none all
+  update_among : (at : Span) (u : Option ResolvedUpdateTree) → IfSome (with_update at u) (PlacesAmong all)
+  update_among at None = tt
   update_among at (Some u) = none all
 
   module _ (cs : List ResolvedClauseTree) (body : ResolvedStatementTree) (hc : CopiesAmong (behind_hash d) cs)
@@ -64,16 +64,14 @@ module _ (d : Directive ExpressionTree) (back : List Token) where
     plain : AreAmong (flat_map clause_places cs ++ statement_places body) all
     plain = construct (flat_map clause_places cs) (statement_places body) hc h
 
-    body_alone : PlacesAmong all body
-    body_alone = behind (statement_places body) (line d) back h
-
-    atomic_among : (kind : AtomicKind) (side : Side) (at : Span) → PlacesAmong all (atomic_of kind side at cs body)
+    atomic_among : (kind : AtomicKind) (side : Side) (at : Span)
+        → IfSome (atomic_of kind side at cs body) (PlacesAmong all)
     atomic_among kinds.Update side at = update_among at (update_of side body)
     atomic_among kinds.Read side at = plain
     atomic_among kinds.Write side at = plain
 
     pub construct_among : (parallel : Option ℕ) (side : Side) (name : DirectiveName)
-        → PlacesAmong all (construct_of parallel side d name cs body)
+        → IfSome (construct_of parallel side d name cs body) (PlacesAmong all)
     unfolding construct_of
     construct_among parallel side (directives.Parallel s) = as_region
     construct_among parallel side (directives.Task s) = as_region
@@ -83,15 +81,15 @@ module _ (d : Directive ExpressionTree) (back : List Token) where
     construct_among parallel side (directives.Masked s) = plain
     construct_among parallel side (directives.Master s) = plain
     construct_among parallel side (directives.Critical s name) = plain
-    construct_among parallel side (directives.For s) = body_alone
-    construct_among parallel side (directives.Sections s) = body_alone
-    construct_among parallel side (directives.Section s) = body_alone
-    construct_among parallel side (directives.ParallelFor s t) = body_alone
-    construct_among parallel side (directives.ParallelSections s t) = body_alone
-    construct_among parallel side (directives.Barrier s) = body_alone
-    construct_among parallel side (directives.Taskwait s) = body_alone
-    construct_among parallel side (directives.Taskyield s) = body_alone
-    construct_among parallel side (directives.Flush s list) = body_alone
+    construct_among parallel side (directives.For s) = tt
+    construct_among parallel side (directives.Sections s) = tt
+    construct_among parallel side (directives.Section s) = tt
+    construct_among parallel side (directives.ParallelFor s t) = tt
+    construct_among parallel side (directives.ParallelSections s t) = tt
+    construct_among parallel side (directives.Barrier s) = tt
+    construct_among parallel side (directives.Taskwait s) = tt
+    construct_among parallel side (directives.Taskyield s) = tt
+    construct_among parallel side (directives.Flush s list) = tt
 
   -- a loop, with its own variable behind the copies
   pub loop_construct_among : (cs : List ResolvedClauseTree) (l : ResolvedLoopTree) (body : ResolvedStatementTree)
@@ -119,18 +117,18 @@ pub alone_among : (ts : List Token) (scopes : Scopes) (d : Directive ExpressionT
 alone_among ts scopes d (directives.Barrier s) = none ts
 alone_among ts scopes d (directives.Taskwait s) = none ts
 alone_among ts scopes d (directives.Taskyield s) = none ts
-alone_among ts scopes d (directives.Parallel s) = none ts
-alone_among ts scopes d (directives.For s) = none ts
-alone_among ts scopes d (directives.Sections s) = none ts
-alone_among ts scopes d (directives.Section s) = none ts
-alone_among ts scopes d (directives.Single s) = none ts
-alone_among ts scopes d (directives.ParallelFor s t) = none ts
-alone_among ts scopes d (directives.ParallelSections s t) = none ts
-alone_among ts scopes d (directives.Masked s) = none ts
-alone_among ts scopes d (directives.Master s) = none ts
-alone_among ts scopes d (directives.Critical s name) = none ts
-alone_among ts scopes d (directives.Atomic s) = none ts
-alone_among ts scopes d (directives.Task s) = none ts
-alone_among ts scopes d (directives.Taskgroup s) = none ts
+alone_among ts scopes d (directives.Parallel s) = tt
+alone_among ts scopes d (directives.For s) = tt
+alone_among ts scopes d (directives.Sections s) = tt
+alone_among ts scopes d (directives.Section s) = tt
+alone_among ts scopes d (directives.Single s) = tt
+alone_among ts scopes d (directives.ParallelFor s t) = tt
+alone_among ts scopes d (directives.ParallelSections s t) = tt
+alone_among ts scopes d (directives.Masked s) = tt
+alone_among ts scopes d (directives.Master s) = tt
+alone_among ts scopes d (directives.Critical s name) = tt
+alone_among ts scopes d (directives.Atomic s) = tt
+alone_among ts scopes d (directives.Task s) = tt
+alone_among ts scopes d (directives.Taskgroup s) = tt
 alone_among ts scopes d (directives.Flush s list) =
     if_behind (PlacesAmong ts) (flushed scopes list) _ (λ vs. none ts)

@@ -98,19 +98,19 @@ module _ (start : ℕ) where
 
 -- ---- constructs
 
-update_good : (at : Span) (u : Option ResolvedUpdateTree) → Good (with_update at u)
+update_good : (at : Span) (u : Option ResolvedUpdateTree) → IfSome (with_update at u) Good
 update_good at None = tt
 update_good at (Some u) = tt
 
 atomic_good : (kind : AtomicKind) (side : Side) (at : Span) (cs : List ResolvedClauseTree)
-    (body : ResolvedStatementTree) → Good body → Good (atomic_of kind side at cs body)
+    (body : ResolvedStatementTree) → Good body → IfSome (atomic_of kind side at cs body) Good
 atomic_good kinds.Update side at cs body h = update_good at (update_of side body)
 atomic_good kinds.Read side at cs body h = (tt, h)
 atomic_good kinds.Write side at cs body h = (tt, h)
 
 construct_good : (parallel : Option ℕ) (side : Side) (d : Directive ExpressionTree) (name : DirectiveName)
     (cs : List ResolvedClauseTree) (body : ResolvedStatementTree)
-    → All (IsCopyBehind d.hash.start) cs → Good body → Good (construct_of parallel side d name cs body)
+    → All (IsCopyBehind d.hash.start) cs → Good body → IfSome (construct_of parallel side d name cs body) Good
 unfolding construct_of
 construct_good parallel side d (directives.Parallel s) cs body hc h = (hc, h)
 construct_good parallel side d (directives.Task s) cs body hc h = (hc, h)
@@ -120,15 +120,15 @@ construct_good parallel side d (directives.Single s) cs body hc h = (tt, h)
 construct_good parallel side d (directives.Masked s) cs body hc h = (tt, h)
 construct_good parallel side d (directives.Master s) cs body hc h = (tt, h)
 construct_good parallel side d (directives.Critical s name) cs body hc h = (tt, h)
-construct_good parallel side d (directives.For s) cs body hc h = h
-construct_good parallel side d (directives.Sections s) cs body hc h = h
-construct_good parallel side d (directives.Section s) cs body hc h = h
-construct_good parallel side d (directives.ParallelFor s t) cs body hc h = h
-construct_good parallel side d (directives.ParallelSections s t) cs body hc h = h
-construct_good parallel side d (directives.Barrier s) cs body hc h = h
-construct_good parallel side d (directives.Taskwait s) cs body hc h = h
-construct_good parallel side d (directives.Taskyield s) cs body hc h = h
-construct_good parallel side d (directives.Flush s list) cs body hc h = h
+construct_good parallel side d (directives.For s) cs body hc h = tt
+construct_good parallel side d (directives.Sections s) cs body hc h = tt
+construct_good parallel side d (directives.Section s) cs body hc h = tt
+construct_good parallel side d (directives.ParallelFor s t) cs body hc h = tt
+construct_good parallel side d (directives.ParallelSections s t) cs body hc h = tt
+construct_good parallel side d (directives.Barrier s) cs body hc h = tt
+construct_good parallel side d (directives.Taskwait s) cs body hc h = tt
+construct_good parallel side d (directives.Taskyield s) cs body hc h = tt
+construct_good parallel side d (directives.Flush s list) cs body hc h = tt
 
 loop_good : (d : Directive ExpressionTree) (cs : List ResolvedClauseTree) (l : ResolvedLoopTree)
     (body : ResolvedStatementTree) → All (IsCopyBehind d.hash.start) cs → Good body
