@@ -1,6 +1,8 @@
 //! Statements: their rules, and the variables of their names.
 
 ghost use Rattle.std.specs.Prelude.{◌≡◌, true, false, OnOk, IfOk, Some, is_some, map, option_map};
+ghost use Rattle.om_tree.specs.Formed.{AreParts};
+ghost use Rattle.om_tree.specs.Sizes.{PartsHaveForms};
 ghost use Rattle.om_tree.specs.Tree.{Construct, parts, statements};
 ghost use Rattle.om_tree.specs.View.{view_directive, view_for_head, view_part, view_statement};
 ghost use Rattle.om_resolved.specs.ResolvedTree as resolved;
@@ -421,7 +423,8 @@ fn resolve_sections(
     directive: &Directive<Expression>,
     sections: &[Part],
 ) -> Result<ResolvedStatement, SourceFault>
-    requires proper { AreProperParts (parts (map view_part sections.now)) }
+    requires formed { AreParts (parts (map view_part sections.now)) }
+    requires forms { PartsHaveForms true (parts (map view_part sections.now)) }
     ensures checked { Checks result
         (sections_construct_breaches symbols.old flow (view_directive directive.now)
         (parts (map view_part sections.now))) }

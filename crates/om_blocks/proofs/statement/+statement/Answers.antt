@@ -6,13 +6,13 @@ use Rattle.om_tree.specs.View.{view_directive, view_for_start, view_part, view_s
 use Rattle.om_forms.specs.LoopViews.{view_loop}
 use Rattle.om_rules.specs.Loops.{loop_in}
 use Rattle.om_resolved.specs.ResolvedView.{view_resolved_part, view_resolved_statement}
-use Rattle.om_rules.specs.ProperConstructs.{construct_there, proper_inside}
+use Rattle.om_rules.specs.ProperConstructs.{construct_there, parts_proper, proper_inside}
 use Rattle.om_rules.specs.Scopes.{outside}
 use Rattle.om_rules.specs.StatementResolution.{resolved_statement}
 use Rattle.om_rules.specs.StatementRules.{after_for_start, after_statement, after_statements}
 use Rattle.om_blocks.proofs.Blocks.{block_outside, body_outside, construct_outside, for_outside, parts_refuse}
 use Rattle.om_blocks.proofs.Blocks.{parts_step, statements_made, statements_refuse, statements_step, statements_whole}
-use Rattle.om_blocks.proofs.Constructs.{sections_proper, view_construct}
+use Rattle.om_blocks.proofs.Constructs.{view_construct}
 use Rattle.om_blocks.proofs.Founds.{ok_anyway, ok_then}
 use Rattle.om_blocks.proofs.Fronts.{bounds_refuse}
 use Rattle.om_blocks.proofs.MadeParts.{parts_made, parts_whole}
@@ -45,10 +45,10 @@ resolve_plain_construct-construct_of-requires t c = record {
       c.requires.proper c.requires.for_any c.in_ok-body.ensures.resolved;
 }
 
-pub resolve_statement-resolve_sections-requires : goal.resolve_statement-resolve_sections-requires
-resolve_statement-resolve_sections-requires t c = (
+pub resolve_sections-resolve_parts-requires : goal.resolve_sections-resolve_parts-requires
+resolve_sections-resolve_parts-requires t c = (
   search rules,
-  rw c.as_slice-in-Sections.ensures.value (sections_proper _ _ _ _ (rw c.in-Sections.is at c.requires.proper)),
+  parts_proper _ c.requires.formed c.requires.forms,
 )
 
 pub resolve_statements-resolve_statement-found-requires : goal.resolve_statements-resolve_statement-found-requires
