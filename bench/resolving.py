@@ -41,6 +41,16 @@ KINDS = {
     "nested parallels": (
         "int x;\n" + LAST + "int y[9];\n" + "#pragma omp parallel default(none) shared(x, y)\n" * 1000 + "{\n", "y[1] = x;\n", "}}",
     ),
+    "a parallel in nested tasks": (
+        "int x;\n" + LAST + "int y[9];\n" + "#pragma omp task shared(y)\n" * 998 + "#pragma omp parallel\n#pragma omp task\n{\n",
+        "y[1] = x;\n",
+        "}}",
+    ),
+    "parallels and tasks in turn": (
+        "int x;\n" + LAST + "int y[9];\n" + "#pragma omp task shared(y)\n#pragma omp parallel\n" * 499 + "#pragma omp task\n{\n",
+        "y[1] = x;\n",
+        "}}",
+    ),
     "barriers": (LAST, "#pragma omp barrier\n", "}"),
     "data clauses of one line": (LISTED + LAST + "#pragma omp parallel " + CLAUSES + "\n{\n", "v7 = v1;\n", "}}"),
     "directives": ("int x;\n" + LAST + "int y;\n", "#pragma omp parallel default(none) shared(x) private(y)\ny = x;\n", "}"),

@@ -146,7 +146,7 @@ unlisted-innermost (scope ∷ outer) constructs name nested =
 
 -- ---- copies
 
--- a variable that is declared here
+-- where none stands so deep, none is a `parallel`
 pub alone-here : (constructs : List Construct) (depth : ℕ) → AreNested constructs depth → alone_since constructs depth
     ≡ true
 alone-here [] depth nested = refl
