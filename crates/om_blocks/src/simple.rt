@@ -9,7 +9,7 @@ ghost use Rattle.om_rules.specs.DirectiveRules.{flush_breaches};
 ghost use Rattle.om_rules.specs.ExpressionRules.{expression_breaches};
 ghost use Rattle.om_rules.specs.Scopes.{after_locals, declarators_of};
 ghost use Rattle.om_rules.specs.StatementResolution.{resolved_alone, resolved_perhaps};
-ghost use Rattle.om_rules.specs.StatementRules.{jump_breaches, locals_breaches, return_breaches, stand_alone_breaches};
+ghost use Rattle.om_rules.specs.StatementRules.{jump_breaches, locals_breaches, return_breaches, section_breaches, stand_alone_breaches};
 ghost use Rattle.om_blocks.specs.Parts.{resolved_declaration, resolved_effect, resolved_return};
 
 use om_forms::expression_first;
@@ -17,7 +17,7 @@ use om_lexer::{FaultCode, SourceFault, Span};
 use om_names::Symbols;
 use om_pragma::{Directive, DirectiveName};
 use om_resolved::{ResolvedExpression, ResolvedStatement, StandAlone};
-use om_rules::Flow;
+use om_rules::{Flow, SECTION_LIMIT};
 use om_tree::{Declaration, Expression};
 use om_uses::{
     boxed_expression, misplaced, refuse_if, resolve_directive, resolve_flush, resolve_locals,
@@ -180,5 +180,23 @@ fn resolve_alone(
             })
         }
         _ => unreachable!(),
+    }
+}
+
+/// Refuses a `section` that begins one part too many behind so many: S11.
+pub(crate) fn check_section(
+    before: usize,
+    section: &Option<Box<Directive<Expression>>>,
+) -> Result<(), SourceFault>
+    ensures { Checks result
+        (section_breaches before (option_map (λ d. view_directive d.value) section.now)) }
+{
+    match section {
+        Some(directive) => refuse_if(
+            SECTION_LIMIT <= before,
+            FaultCode::TooMany,
+            directive.hash.start,
+        ),
+        None => Ok(()),
     }
 }

@@ -1,6 +1,6 @@
 //! Statements: their rules, and the variables of their names.
 
-ghost use Rattle.std.specs.Prelude.{◌≡◌, true, false, OnOk, IfOk, Some, is_some, map, option_map};
+ghost use Rattle.std.specs.Prelude.{◌≡◌, true, false, OnOk, IfOk, Some, is_some, map};
 ghost use Rattle.om_tree.specs.Formed.{AreParts};
 ghost use Rattle.om_tree.specs.Sizes.{PartsHaveForms};
 ghost use Rattle.om_tree.specs.Tree.{Construct, parts, statements};
@@ -14,22 +14,23 @@ ghost use Rattle.om_rules.specs.Loops.{loop_in};
 ghost use Rattle.om_rules.specs.Proper.{AreProper, AreProperParts, IsProper};
 ghost use Rattle.om_rules.specs.Scopes.{inside};
 ghost use Rattle.om_rules.specs.StatementResolution.{resolved_construct, resolved_for, resolved_loop_construct, resolved_parts, resolved_plain_construct, resolved_repeated, resolved_sections, resolved_statement, resolved_statements};
-ghost use Rattle.om_rules.specs.StatementRules.{after_statement, after_statements, body_breaches, construct_breaches, continuing, for_breaches, in_loop, loop_construct_breaches, looping, part_breaches, parts_breaches, plain_construct_breaches, section_breaches, sections_construct_breaches, statement_breaches, statements_breaches};
+ghost use Rattle.om_rules.specs.StatementRules.{after_statement, after_statements, body_breaches, construct_breaches, continuing, for_breaches, in_loop, loop_construct_breaches, looping, part_breaches, parts_breaches, plain_construct_breaches, sections_construct_breaches, statement_breaches, statements_breaches};
 
 use crate::entering::{enter_construct, enter_loop_construct};
 use crate::head::{continuing, for_of, looping, resolve_for_head};
 use crate::simple::{
-    check_jump, resolve_declaration, resolve_effect, resolve_return, resolve_stand_alone,
+    check_jump, check_section, resolve_declaration, resolve_effect, resolve_return,
+    resolve_stand_alone,
 };
 use om_forms::{Loop, loop_in, statement_side, statement_start};
-use om_lexer::{FaultCode, SourceFault};
+use om_lexer::SourceFault;
 use om_names::{Symbols, constructing, traits_of};
 use om_pragma::Directive;
 use om_regions::{Setting, construct_of, loop_construct_of, sections_construct_of};
 use om_resolved::{ResolvedPart, ResolvedStatement};
-use om_rules::{Flow, SECTION_LIMIT};
+use om_rules::Flow;
 use om_tree::{Expression, ForHead, Part, Statement};
-use om_uses::{add, boxed, boxed_expression, enter_loop, loop_fault, refuse_if};
+use om_uses::{add, boxed, boxed_expression, enter_loop, loop_fault};
 use std::alloc::Global;
 
 /// The items of a block.
@@ -485,22 +486,4 @@ fn resolve_part(
     check_section(before, &part.section)?;
     let items = resolve_block(alloc, symbols, flow, part.items.as_slice())?;
     Ok(ResolvedPart { items })
-}
-
-/// Refuses a `section` that begins one part too many behind so many: S11.
-fn check_section(
-    before: usize,
-    section: &Option<Box<Directive<Expression>>>,
-) -> Result<(), SourceFault>
-    ensures { Checks result
-        (section_breaches before (option_map (λ d. view_directive d.value) section.now)) }
-{
-    match section {
-        Some(directive) => refuse_if(
-            SECTION_LIMIT <= before,
-            FaultCode::TooMany,
-            directive.hash.start,
-        ),
-        None => Ok(()),
-    }
 }

@@ -12,5 +12,6 @@ pub use om_pragma::{Name, Number};
 pub use tree::{
     ArrayLength, AssignOperator, BinaryOperator, Block, Condition, Declaration, Declarator,
     Expression, ForHead, ForStart, Function, FunctionHead, Initializer, Item, Parameter,
-    Parameters, Part, PostfixOperator, PrefixOperator, ResultType, SignedNumber, Statement, Text, Unit,
+    Parameters, Part, PostfixOperator, PrefixOperator, ResultType, SignedNumber, Statement, Text,
+    Unit,
 };
