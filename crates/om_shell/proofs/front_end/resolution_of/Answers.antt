@@ -4,6 +4,12 @@ use Rattle.om_resolved.specs.ResolvedView.{view_resolved}
 use Rattle.om_shell.proofs.Refusals.{names_refuse}
 use Rattle.om_shell.proofs.front_end.resolution_of.Goals as goal
 
+pub resolve-requires : goal.resolve-requires
+resolve-requires c = record {
+  formed = c.in_ok-unit.ensures.tree.parsed.formed;
+  atomics_have_forms = c.in_ok-unit.ensures.tree.forms;
+}
+
 pub returns-clause-refused : goal.returns-clause-refused
 returns-clause-refused c = names_refuse c.args.source.now _ c.resolve.result c.in_ok-unit.ensures.tree
     c.resolve.ensures.first_breach
