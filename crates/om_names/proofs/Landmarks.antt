@@ -11,27 +11,27 @@ use Rattle.std.specs.List.Sorted.{IsPartitionPoint}
 use Rattle.std.specs.Option.{option_copied, option_or}
 use Rattle.std.specs.Slice.{IsItemAt}
 use Rattle.om_names.specs.declared.landmark.Landmark.{Landmark}
-use Rattle.om_names.specs.Landmarks.{Descend, IsPlace, first_deeper, last_within}
+use Rattle.om_names.specs.Landmarks.{Descend, IsCountWithin, first_deeper, last_within}
 
 -- ---- the place that a binary search finds
 
 -- from what a binary search by this test answers
 pub searched-place : (landmarks : List Landmark) (depth place : ℕ) → IsPartitionPoint
     (λ landmark. leb landmark.depth depth ≡ true) (λ landmark. leb landmark.depth depth ≡ false) landmarks place
-    → IsPlace landmarks depth place
+    → IsCountWithin landmarks depth place
 searched-place landmarks depth place is = (
   λ k d le lt. leb-true _ _ (is.0 k d le lt),
   λ k d le lt. leb-false _ _ (is.1 k d le lt),
 )
 
-place-inner : (first : Landmark) (inner : List Landmark) (depth place : ℕ) → IsPlace (first ∷ inner) depth
-    (suc place) → IsPlace inner depth place
+place-inner : (first : Landmark) (inner : List Landmark) (depth place : ℕ) → IsCountWithin (first ∷ inner) depth
+    (suc place) → IsCountWithin inner depth place
 place-inner first inner depth place is = (
   λ k d le lt. is.0 (suc k) d (omega arith) (omega (arith, lt)),
   λ k d le lt. is.1 (suc k) d (omega (arith, le)) (omega (arith, lt)),
 )
 
-within-first : (first : Landmark) (inner : List Landmark) (depth place : ℕ) → IsPlace (first ∷ inner) depth
+within-first : (first : Landmark) (inner : List Landmark) (depth place : ℕ) → IsCountWithin (first ∷ inner) depth
     (suc place) → nat_lt depth first.depth ≡ false
 within-first first inner depth place is = le-ltb depth first.depth
     (is.0 0 first (omega arith) (omega arith))
@@ -42,7 +42,7 @@ pub lent : (landmarks : List Landmark) (index : ℕ) (found : Option (Bor Landma
 lent landmarks index None is = sym (slice_get_past landmarks index is.3)
 lent landmarks index (Some item) is = sym (slice_get_read landmarks (length landmarks) index item.now refl is.3.0 is.1)
 
-pub first-found : (landmarks : List Landmark) (place depth : ℕ) → IsPlace landmarks depth place
+pub first-found : (landmarks : List Landmark) (place depth : ℕ) → IsCountWithin landmarks depth place
     → slice_get landmarks place ≡ first_deeper landmarks depth
 first-found [] place depth is = refl
 first-found (first ∷ inner) zero depth is = sym (ap (λ b. if b then Some first else first_deeper inner depth)
@@ -51,7 +51,7 @@ first-found (first ∷ inner) (suc place) depth is = first-found inner place dep
     place is) ∙ sym (ap (λ b. if b then Some first else first_deeper inner depth)
     (within-first first inner depth place is))
 
-pub none-found : (landmarks : List Landmark) (depth : ℕ) → IsPlace landmarks depth 0 → last_within landmarks depth
+pub none-found : (landmarks : List Landmark) (depth : ℕ) → IsCountWithin landmarks depth 0 → last_within landmarks depth
     ≡ None
 none-found [] depth is = refl
 none-found (first ∷ inner) depth is =
@@ -62,7 +62,7 @@ none-found (first ∷ inner) depth is =
       λ k d le lt. is.1 (suc k) d (omega arith) (omega (arith, lt)),
     ))
 
-last-there : (landmarks : List Landmark) (place depth : ℕ) → IsPlace landmarks depth (suc place)
+last-there : (landmarks : List Landmark) (place depth : ℕ) → IsCountWithin landmarks depth (suc place)
     → place < length landmarks → slice_get landmarks place ≡ last_within landmarks depth
 last-there [] place depth is lt = absurd (omega (arith, lt))
 last-there (first ∷ inner) zero depth is lt =
@@ -74,7 +74,7 @@ last-there (first ∷ inner) (suc place) depth is lt =
     there ∙ sym (ap (λ found. option_or found (if nat_lt depth first.depth then None else Some first))
     (sym (last-there inner place depth (place-inner first inner depth (suc place) is) (omega (arith, lt))) ∙ there))
 
-pub last-found : (landmarks : List Landmark) (count depth : ℕ) → IsPlace landmarks depth count → 0 < count
+pub last-found : (landmarks : List Landmark) (count depth : ℕ) → IsCountWithin landmarks depth count → 0 < count
     → count ≤ length landmarks → slice_get landmarks (count - 1) ≡ last_within landmarks depth
 last-found landmarks zero depth is some le = absurd (omega (arith, some))
 last-found landmarks (suc place) depth is some le =

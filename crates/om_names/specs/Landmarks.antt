@@ -10,8 +10,8 @@ abbrev pub Descend : List Landmark → Type 0
 Descend landmarks = IsNonDecreasingBy (λ landmark. landmark.depth) landmarks
 
 -- so many do not stand deeper, and come first
-abbrev pub IsPlace : List Landmark → ℕ → ℕ → Type 0
-IsPlace landmarks depth = IsPartitionPoint (λ landmark. landmark.depth ≤ depth) (λ landmark. depth < landmark.depth)
+abbrev pub IsCountWithin : List Landmark → ℕ → ℕ → Type 0
+IsCountWithin landmarks depth = IsPartitionPoint (λ landmark. landmark.depth ≤ depth) (λ landmark. depth < landmark.depth)
     landmarks
 
 -- the outermost that does: round the scope in it stand more scopes than this

@@ -1,4 +1,5 @@
--- The constructs among the scopes round a place. In each list the first is the innermost.
+-- The constructs among the scopes round a place. In each list of constructs the first is the innermost, and in each
+-- list of landmarks the last.
 use Rattle.std.specs.Prelude.{◌≡◌, ℕ, suc, ◌<◌, List, [], ◌∷◌, ◌++◌, Bool, true, false, not, ◌&&◌}
 use Rattle.std.specs.Prelude.{◌||◌, if◌then◌else◌, is_some, length, nat_eq, nat_lt}
 use Rattle.std.specs.List.{list_any}
@@ -184,5 +185,5 @@ StandsIn constructs depth stands = outside_of constructs depth ≡ (if stands th
 
 -- what is true of all constructs round a place, with a table of those that list a name, and of each `parallel`
 abbrev pub AreHeld : List Construct → List (List ℕ × List Landmark) → List Landmark → Type 0
-AreHeld constructs table teams = AreMarked constructs × AreNested constructs (end_of constructs) × Lists table
-    constructs × (teams ≡ parallels constructs)
+AreHeld constructs table held = AreMarked constructs × AreNested constructs (end_of constructs) × Lists table
+    constructs × (held ≡ parallels constructs)

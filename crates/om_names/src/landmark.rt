@@ -2,7 +2,7 @@
 //! slice of them has the outermost first.
 
 ghost use Rattle.std.specs.Prelude.{◌≡◌, ◌≤◌, length};
-ghost use Rattle.om_names.specs.Landmarks.{Descend, IsPlace, deeper, first_deeper, last_within, marks_behind};
+ghost use Rattle.om_names.specs.Landmarks.{Descend, IsCountWithin, deeper, first_deeper, last_within, marks_behind};
 
 /// How many scopes stand round the one in the innermost construct that is such; 0 where none is.
 #[derive(Clone, Copy)]
@@ -27,7 +27,7 @@ pub struct Landmark {
 fn count_within(landmarks: &[Landmark], depth: usize) -> usize
     requires descend { Descend landmarks.now }
     ensures bound { result ≤ length landmarks.now }
-    ensures place { IsPlace landmarks.now depth result }
+    ensures place { IsCountWithin landmarks.now depth result }
 {
     landmarks.partition_point(|landmark| landmark.depth <= depth)
 }

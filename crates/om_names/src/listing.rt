@@ -1,7 +1,7 @@
 //! Which of the constructs round a place list a name as shared, and which of the others ask for a
 //! clause for it, or copy it: however many there are, the innermost is found at once.
 
-ghost use Rattle.std.specs.Prelude.{◌≡◌, OnOk};
+ghost use Rattle.std.specs.Prelude.{OnOk};
 ghost use Rattle.om_names.specs.Nesting.{ChangedFor, with_listing};
 ghost use Rattle.om_names.specs.Stacks.{without_innermost};
 

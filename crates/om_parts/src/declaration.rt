@@ -1,6 +1,6 @@
 //! Declarations of variables (C17 6.7).
 
-ghost use Rattle.std.specs.Prelude.{◌≡◌, ℕ, None, Some, length, map};
+ghost use Rattle.std.specs.Prelude.{ℕ, None, Some, length, map};
 ghost use Rattle.om_lexer.specs.declared.token.Punctuator.TheVariants.{Semicolon};
 ghost use Rattle.om_tree.specs.Limits.{accepted};
 ghost use Rattle.om_parts.specs.Reading.{take_mark, LeavesNoMore, Makes, Reader, Reads, ReadsAlways};

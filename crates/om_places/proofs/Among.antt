@@ -1,23 +1,12 @@
 -- Places at which tokens stand, in the order of these.
-use Rattle.std.proofs.Common.{◌≡◌, ◌⊎◌, List, [], ◌∷◌, ◌++◌, inl, inr, refl}
+use Rattle.std.proofs.Common.{List, [], ◌∷◌, ◌++◌, inl, inr, refl}
 use Rattle.om_lexer.specs.declared.token.Token.{Token}
 use Rattle.om_lexer.specs.declared.token.TokenKind.TheVariants as kinds
 use Rattle.om_lexer.specs.declared.token.Span.{Span}
-use Rattle.om_places.specs.Places.{Place, Declared, Begun}
+use Rattle.om_places.specs.Places.{Place, Declared, Begun, AreAmong}
 use Rattle.om_pragma.specs.declared.name.Name as names
 use Rattle.om_rules.specs.StatementResolution.{local_of}
 use Rattle.om_tree.specs.Spelling.{name, token}
-
--- a token is what stands at a place
-abbrev pub IsTokenOf : Place → Token → Type 0
-IsTokenOf (Declared v) t = (t.kind ≡ kinds.Name v.name) × (v.at ≡ t.span.start)
-IsTokenOf (Begun at) t = (t.kind ≡ kinds.DirectiveBegin) × (at.start ≡ t.span.start)
-
--- they stand at tokens among these, in their order
-unfoldable pub AreAmong : List Place → List Token → Type 0
-AreAmong [] ts = Unit {0}
-AreAmong (p ∷ ps) [] = ⊥
-AreAmong (p ∷ ps) (t ∷ ts) = (IsTokenOf p t × AreAmong ps ts) ⊎ AreAmong (p ∷ ps) ts
 
 pub none : (ts : List Token) → AreAmong [] ts
 unfolding AreAmong

@@ -5,7 +5,7 @@ use Rattle.om_lexer.specs.declared.token.Token.{Token}
 use Rattle.om_lexer.specs.declared.token.TokenKind.{TokenKind}
 use Rattle.om_lexer.specs.declared.token.TokenKind.TheVariants as kinds
 use Rattle.om_lexer.specs.Order.{AreInOrder, HasWidth}
-use Rattle.om_places.proofs.Among.{AreAmong, IsTokenOf}
+use Rattle.om_places.specs.Places.{AreAmong, IsTokenOf}
 use Rattle.om_places.proofs.Rising.{wide}
 use Rattle.om_places.specs.Places.{Place, Declared, Begun, byte_of}
 

@@ -4,7 +4,8 @@ use Rattle.std.specs.List.{flat_map}
 use Rattle.std.specs.Prelude.{IfSome}
 use Rattle.om_lexer.specs.declared.token.Span.{Span}
 use Rattle.om_lexer.specs.declared.token.Token.{Token}
-use Rattle.om_places.proofs.Among.{AreAmong, none, further, begun, behind, together}
+use Rattle.om_places.proofs.Among.{none, further, begun, behind, together}
+use Rattle.om_places.specs.Places.{AreAmong}
 use Rattle.om_places.proofs.CopyPlaces.{CopiesAmong, behind_hash, line}
 use Rattle.om_places.proofs.Steps.{either, if_behind}
 use Rattle.om_places.specs.Places.{Place, Declared, Begun}

@@ -6,7 +6,8 @@ use Rattle.std.proofs.lemmas.Grind.{flat_map-append}
 use Rattle.om_lexer.specs.declared.token.Span.{Span}
 use Rattle.om_lexer.specs.declared.token.Token.{Token}
 use Rattle.om_lexer.specs.declared.token.TokenKind.TheVariants as kinds
-use Rattle.om_places.proofs.Among.{AreAmong, none, further, behind, before, together, named}
+use Rattle.om_places.proofs.Among.{none, further, behind, before, together, named}
+use Rattle.om_places.specs.Places.{AreAmong}
 use Rattle.om_places.proofs.Steps.{if_behind, if_then, if_weaker}
 use Rattle.om_places.specs.Places.{clause_places}
 use Rattle.om_pragma.specs.declared.clause.Clause.{Clause}

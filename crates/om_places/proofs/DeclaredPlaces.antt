@@ -4,7 +4,8 @@ use Rattle.std.specs.List.{flat_map}
 use Rattle.std.specs.Prelude.{IfSome}
 use Rattle.om_lexer.specs.declared.token.Span.{Span}
 use Rattle.om_lexer.specs.declared.token.Token.{Token}
-use Rattle.om_places.proofs.Among.{AreAmong, none, further, before, together, named}
+use Rattle.om_places.proofs.Among.{none, further, before, together, named}
+use Rattle.om_places.specs.Places.{AreAmong}
 use Rattle.om_places.proofs.Steps.{if_behind, if_then, if_weaker}
 use Rattle.om_places.specs.Places.{Declared, declarator_place, start_places}
 use Rattle.om_pragma.specs.declared.name.Name as names

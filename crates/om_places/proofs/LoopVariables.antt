@@ -3,7 +3,8 @@ use Rattle.std.proofs.Common.{◌≡◌, List, [], ◌∷◌, ◌++◌, Option, 
 use Rattle.std.specs.Prelude.{IfSome}
 use Rattle.om_lexer.specs.declared.token.Span.{Span}
 use Rattle.om_lexer.specs.declared.token.Token.{Token}
-use Rattle.om_places.proofs.Among.{AreAmong, none, further, before, named}
+use Rattle.om_places.proofs.Among.{none, further, before, named}
+use Rattle.om_places.specs.Places.{AreAmong}
 use Rattle.om_places.proofs.Steps.{either, if_behind, if_then, if_weaker}
 use Rattle.om_places.specs.Places.{Declared}
 use Rattle.om_pragma.specs.declared.name.Name as names

@@ -5,7 +5,7 @@ use Rattle.std.proofs.lemmas.List.Elements.{All-nil, All-cons}
 use Rattle.om_lexer.specs.declared.token.Span.{Span}
 use Rattle.om_lexer.specs.declared.token.Token.{Token}
 use Rattle.om_lexer.specs.Order.{AreInOrder, IsInPlace, StandsAs}
-use Rattle.om_places.proofs.Among.{AreAmong, IsTokenOf}
+use Rattle.om_places.specs.Places.{AreAmong, IsTokenOf}
 use Rattle.om_places.proofs.Ascending.{place_wide}
 use Rattle.om_places.proofs.Rising.{wide}
 use Rattle.om_places.specs.Places.{Place, Declared, Begun, StandsThere}

@@ -2,7 +2,8 @@
 use Rattle.std.proofs.Common.{◌≡◌, ℕ, not, List, [], ◌∷◌, ◌++◌, Option, Some, subst}
 use Rattle.std.specs.Prelude.{IfSome}
 use Rattle.om_lexer.specs.declared.token.Token.{Token}
-use Rattle.om_places.proofs.Among.{AreAmong, none, further, behind, before, together}
+use Rattle.om_places.proofs.Among.{none, further, behind, before, together}
+use Rattle.om_places.specs.Places.{AreAmong}
 use Rattle.om_places.proofs.CopyPlaces.{CopiesAmong, behind_hash, directive_among, line}
 use Rattle.om_places.proofs.ConstructPlaces.{PartsAmong, PlacesAmong, alone_among, construct_among}
 use Rattle.om_places.proofs.ConstructPlaces.{loop_construct_among, sections_among}

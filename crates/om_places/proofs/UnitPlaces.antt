@@ -4,7 +4,8 @@ use Rattle.std.specs.List.{flat_map}
 use Rattle.std.specs.Prelude.{IfSome}
 use Rattle.std.proofs.lemmas.Grind.{flat_map-append}
 use Rattle.om_lexer.specs.declared.token.Token.{Token}
-use Rattle.om_places.proofs.Among.{AreAmong, none, further, before, together}
+use Rattle.om_places.proofs.Among.{none, further, before, together}
+use Rattle.om_places.specs.Places.{AreAmong}
 use Rattle.om_places.proofs.DeclaredPlaces.{parameters_among}
 use Rattle.om_places.proofs.StatementPlaces.{AllAmong, statements_among}
 use Rattle.om_places.proofs.Steps.{if_then}

@@ -1,10 +1,10 @@
--- Where variables, copies and regions stand, of every source.
+-- Where the variables of functions, their copies, and each `parallel` and `task` stand, of every source.
 use Rattle.std.specs.Prelude.{◌≡◌, ℕ, List, Some, IfSome, All, map}
 use Rattle.std.specs.List.Sorted.{IsStrictlyIncreasing}
 use Rattle.om_lexer.specs.declared.token.Token.{Token}
 use Rattle.om_lexer.specs.Sources.{IsTokens}
 use Rattle.om_places.specs.Behind.{UnitNamesBehind}
-use Rattle.om_places.specs.Places.{StandsThere, byte_of, tree_places}
+use Rattle.om_places.specs.Places.{AreAmong, StandsThere, byte_of, tree_places}
 use Rattle.om_resolved.specs.Beside.{TreeCopiesBehind}
 use Rattle.om_resolved.specs.ResolvedTree.{ResolvedTree}
 use Rattle.om_rules.specs.UnitResolution.{resolution_of}
@@ -28,9 +28,9 @@ SourcesHaveCopiesBehind =
     → IsTokens source tokens → unit_spelling unit ≡ tokens → resolution_of unit ≡ Some resolved
     → TreeCopiesBehind resolved
 
--- In the resolution of a tree of a source's tokens, the bytes rise strictly at which variables are declared, copies
--- are asked for and regions begin. So no two variables have one byte, and a variable has a byte before that of a
--- region exactly where it is declared before it.
+-- In the resolution of a tree of a source's tokens, the bytes rise strictly at which variables of functions are
+-- declared, copies are asked for, and each `parallel` and `task` begins. So no two variables have one byte, and a
+-- variable has a byte before that of a `parallel` or `task` exactly where it is declared before it.
 abbrev pub PlacesRise : Type 0
 PlacesRise =
     (source : List ℕ) (tokens : List Token) (unit : UnitTree) (resolved : ResolvedTree)
@@ -43,3 +43,8 @@ PlacesStandThere =
     (source : List ℕ) (tokens : List Token) (unit : UnitTree) (resolved : ResolvedTree)
     → IsTokens source tokens → unit_spelling unit ≡ tokens → resolution_of unit ≡ Some resolved
     → All (StandsThere source) (tree_places resolved)
+
+-- Each of them is at a token of its own, that of the name or of the beginning of the directive, in the tokens' order.
+abbrev pub PlacesHaveTokens : Type 0
+PlacesHaveTokens = (unit : UnitTree) → IfSome (resolution_of unit) (λ resolved. AreAmong (tree_places resolved)
+    (unit_spelling unit))

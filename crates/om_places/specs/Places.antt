@@ -1,7 +1,9 @@
 -- The bytes of a source that stand for something in its functions, in the order of the text.
-use Rattle.std.specs.Prelude.{◌≡◌, ℕ, ◌+◌, List, [], ◌∷◌, ◌++◌, length, map, slice_index, slice_range}
+use Rattle.std.specs.Prelude.{◌≡◌, ◌⊎◌, ℕ, ◌+◌, List, [], ◌∷◌, ◌++◌, length, map, slice_index, slice_range}
 use Rattle.std.specs.List.{flat_map}
 use Rattle.om_lexer.specs.declared.token.Span.{Span}
+use Rattle.om_lexer.specs.declared.token.Token.{Token}
+use Rattle.om_lexer.specs.declared.token.TokenKind.TheVariants as kinds
 use Rattle.om_resolved.specs.declared.resolved.LocalVariable.{LocalVariable}
 use Rattle.om_resolved.specs.ResolvedTree.{ResolvedDeclaratorTree, ResolvedClauseTree, ClauseValue, Shared, Copied}
 use Rattle.om_resolved.specs.ResolvedTree.{ResolvedStartTree, StartNothing, StartExpression, StartDeclaration}
@@ -28,7 +30,7 @@ start_places StartNothing = []
 start_places (StartExpression e) = []
 start_places (StartDeclaration ds) = map declarator_place ds
 
--- the copy that a clause asks for (OpenMP API 5.2, section 5.4)
+-- the copy that a clause asks for (OpenMP API 5.2, sections 5.4 and 5.5.8)
 abbrev pub clause_places : ResolvedClauseTree → List Place
 clause_places (ClauseValue kind e) = []
 clause_places (Shared v) = []
@@ -83,3 +85,16 @@ byte_of (Begun at) = at.start
 abbrev pub StandsThere : (source : List ℕ) → Place → Type 0
 StandsThere source (Declared v) = slice_range source v.at (v.at + length v.name) ≡ v.name
 StandsThere source (Begun at) = slice_index source at.start ≡ 35
+
+-- ---- at their tokens
+
+-- the name of the variable, or the beginning of the directive
+abbrev pub IsTokenOf : Place → Token → Type 0
+IsTokenOf (Declared v) t = (t.kind ≡ kinds.Name v.name) × (v.at ≡ t.span.start)
+IsTokenOf (Begun at) t = (t.kind ≡ kinds.DirectiveBegin) × (at.start ≡ t.span.start)
+
+-- they stand at tokens among these, each at one of its own, in their order
+unfoldable pub AreAmong : List Place → List Token → Type 0
+AreAmong [] ts = Unit {0}
+AreAmong (p ∷ ps) [] = ⊥
+AreAmong (p ∷ ps) (t ∷ ts) = (IsTokenOf p t × AreAmong ps ts) ⊎ AreAmong (p ∷ ps) ts

@@ -1,7 +1,7 @@
 //! Laws of places, for every source.
 
 ghost use Rattle.om_places.specs.Laws.{CopiesStandBehind, NamesStandBehind};
-ghost use Rattle.om_places.specs.Laws.{PlacesRise, PlacesStandThere, SourcesHaveCopiesBehind};
+ghost use Rattle.om_places.specs.Laws.{PlacesHaveTokens, PlacesRise, PlacesStandThere, SourcesHaveCopiesBehind};
 
 use om_lexer::tokens_in_order;
 
@@ -26,13 +26,15 @@ pub fn sources_have_copies_behind()
     copies_stand_behind();
 }
 
-/// In the resolution of a source each byte is one variable at most, and bytes are in the order of
-/// the text: those of parameters, of what blocks and `for` declare, and of the copies that clauses
-/// and canonical loops ask for. So are those at which regions begin, between them. So a variable is
-/// declared before a region exactly where its byte stands before the region's.
+/// In the resolution of a source each byte is one variable of its functions at most, and bytes are
+/// in the order of the text: those of parameters, of what blocks and `for` declare, and of the copies
+/// that clauses and canonical loops ask for. So are those at which each `parallel` and `task` begins,
+/// between them. So a variable is declared before one of these exactly where its byte stands before
+/// that one's.
 pub fn places_stand_in_order()
     ensures rise { PlacesRise }
     ensures stand { PlacesStandThere }
+    ensures at_tokens { PlacesHaveTokens }
 {
     tokens_in_order();
 }

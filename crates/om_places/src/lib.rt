@@ -1,4 +1,5 @@
-//! Where variables of functions are declared in a source, and where regions begin.
+//! Where variables of functions are declared in a source, and where each `parallel` and `task`
+//! begins.
 #![tactic(auto)]
 
 pub mod laws;

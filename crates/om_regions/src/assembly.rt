@@ -1,6 +1,6 @@
 //! Constructs, put together of their clauses and their statement.
 
-ghost use Rattle.std.specs.Prelude.{◌≡◌, [], IfOk, IsSome, List, Some, map, option_map};
+ghost use Rattle.std.specs.Prelude.{◌≡◌, [], IfOk, IsSome, List, Some, map};
 ghost use Rattle.om_lexer.specs.declared.token.Span.{Span};
 ghost use Rattle.om_tree.specs.View.{view_directive, view_expression};
 ghost use Rattle.om_pragma.specs.Expressions.{map_clause, map_item};
@@ -10,7 +10,7 @@ ghost use Rattle.om_regions.specs.Arounds.{with_around};
 ghost use Rattle.om_resolved.specs.ResolvedTree as resolved;
 ghost use Rattle.om_resolved.specs.ResolvedTree.{ResolvedClauseTree, ResolvedStatementTree};
 ghost use Rattle.om_resolved.specs.ResolvedView.{view_resolved_clause, view_resolved_loop, view_resolved_part, view_resolved_statement};
-ghost use Rattle.om_rules.specs.StatementResolution.{atomic_of, clause_schedule, construct_of, critical_name, has_default, has_nowait, loop_construct_of, parallel_of, plain_schedule, schedule_in, schedule_of, sections_construct_of, task_of, with_update};
+ghost use Rattle.om_rules.specs.StatementResolution.{atomic_of, clause_schedule, construct_of, critical_name, has_default, has_nowait, loop_construct_of, parallel_of, schedule_in, schedule_of, sections_construct_of, task_of, with_update};
 ghost use Rattle.om_rules.specs.Updates.{update_of};
 
 use om_forms::update_of;

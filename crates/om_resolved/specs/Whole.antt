@@ -174,7 +174,7 @@ after_declarators around (d ∷ ds) = after_declarators (declared around d) ds
 
 -- ---- clauses
 
--- what the clauses of a construct may say (OpenMP API 5.2, chapters 5, 10 and 11)
+-- what the clauses of a construct may say (OpenMP API 5.2, chapters 5 and 10 to 12)
 pub record Admitted : Type 0 where
   -- the value that it may have
   pub value : Option ValueClause
@@ -240,12 +240,13 @@ HaveNoValue (ClauseValue kind e ∷ rest) = ⊥
 HaveNoValue (Shared v ∷ rest) = HaveNoValue rest
 HaveNoValue (Copied kind original copy ∷ rest) = HaveNoValue rest
 
--- one value at most: `num_threads` and `filter` are unique (OpenMP API 5.2, sections 10.1.2 and 10.5.1)
-abbrev pub HaveOneValue : List ResolvedClauseTree → Type 0
-HaveOneValue [] = Unit {0}
-HaveOneValue (ClauseValue kind e ∷ rest) = HaveNoValue rest
-HaveOneValue (Shared v ∷ rest) = HaveOneValue rest
-HaveOneValue (Copied kind original copy ∷ rest) = HaveOneValue rest
+-- one value at most: `num_threads` and `filter` are unique (OpenMP API 5.2, sections 10.1.2 and 10.5.1), and no
+-- other construct admits a value
+abbrev pub HaveOneValueAtMost : List ResolvedClauseTree → Type 0
+HaveOneValueAtMost [] = Unit {0}
+HaveOneValueAtMost (ClauseValue kind e ∷ rest) = HaveNoValue rest
+HaveOneValueAtMost (Shared v ∷ rest) = HaveOneValueAtMost rest
+HaveOneValueAtMost (Copied kind original copy ∷ rest) = HaveOneValueAtMost rest
 
 -- the copies that clauses make, which are seen inside of the construct in place of the originals
 abbrev pub copies_in : ResolvedClauseTree → List Local
@@ -353,7 +354,7 @@ abbrev mutual
   IsWholeStatement around (Continue at) = around.continues ≡ true
   IsWholeStatement around (Parallel at clauses captures s) =
       AreWholeClauses around of_parallel clauses × IsRegion at.start clauses captures s × IsWholeStatement
-      (within around clauses) s × HaveOneValue clauses
+      (within around clauses) s × HaveOneValueAtMost clauses
   IsWholeStatement around (Task at clauses captures s) =
       AreWholeClauses around of_task clauses × IsRegion at.start clauses captures s × IsWholeStatement
       (within around clauses) s
@@ -364,7 +365,7 @@ abbrev mutual
       AreWholeClauses around of_worksharing clauses × (1 ≤ part_count parts) × (part_count parts ≤ 256)
       × AreWholeParts (within around clauses) parts
   IsWholeStatement around (Construct at kind clauses s) = AreWholeClauses around (of_construct kind) clauses
-      × IsWholeStatement (within around clauses) s × HaveOneValue clauses
+      × IsWholeStatement (within around clauses) s × HaveOneValueAtMost clauses
   IsWholeStatement around (Update at u) = IsWholeUpdate (within around []) u
   IsWholeStatement around (StandAlone at directive) = IsWholeAlone around directive
 

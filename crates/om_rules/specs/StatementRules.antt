@@ -224,7 +224,8 @@ unfoldable mutual
   body_breaches scopes flow found (StandAlone d) = []
   body_breaches scopes flow found (Sections d left parts right) = []
 
-  -- of the parts of `sections`, behind so many of them; a part is a block of its own (OpenMP API 5.2, section 11.3)
+  -- of the parts of `sections`, behind so many of them; a part is a block of its own, in which no
+  -- declaration stands (an own choice)
   pub parts_breaches : Scopes → Flow → (before : ℕ) → PartsTree → List SourceFault
   parts_breaches scopes flow before NoParts = []
   parts_breaches scopes flow before (Part section items rest) =

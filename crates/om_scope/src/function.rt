@@ -1,13 +1,11 @@
 //! Functions: their rules, and their variables.
 
 ghost use Rattle.std.specs.Prelude.{◌≡◌, ◌++◌, ◌+◌, ◌<◌, [], ◌∷◌, OnOk, IfOk, Some, length, map};
-ghost use Rattle.std.specs.List.{list_any};
-ghost use Rattle.std.specs.Str.{bytes_eq};
 ghost use Rattle.om_tree.specs.Tree.{statements};
 ghost use Rattle.om_tree.specs.View.{view_function, view_head, view_parameters};
 ghost use Rattle.om_rules.specs.Checks.{Checks, ChecksExactly};
 ghost use Rattle.om_rules.specs.Proper.{AreProper};
-ghost use Rattle.om_rules.specs.Scopes.{after_function, after_optional, after_optionals, after_parameter, after_parameters, after_prototype, asks, inside, parameters_of, returns_value, signature_eq, signature_of, with_local};
+ghost use Rattle.om_rules.specs.Scopes.{after_function, after_optional, after_optionals, after_parameter, after_parameters, after_prototype, asks, parameters_of, returns_value, signature_eq, signature_of, with_local};
 ghost use Rattle.om_rules.specs.Faults.{breaches_along};
 ghost use Rattle.om_resolved.specs.ResolvedTree as resolved;
 ghost use Rattle.om_resolved.specs.ResolvedView.{view_resolved_function, view_resolved_statement};

@@ -200,7 +200,7 @@ fn check_main(unit: &Unit) -> Result<(), SourceFault>
 ///   worksharing construct and no barrier may stand.
 /// - S15 at the end of the source: no function is named `main`.
 ///
-/// A tree that the parser made of the lexer's tokens never meets S10.
+/// A tree that the parser made of the lexer's tokens never meets S10; no clause says it.
 #[tactic(auto, using(om_rules::specs::InRow::first_of_left), unfolding(om_rules::specs::Breaches::breaches_of, om_rules::specs::UnitResolution::resolution_of))]
 pub fn resolve(alloc: Global, unit: Unit) -> Result<Resolved, SourceFault>
     requires formed { IsUnit (view_unit unit) }

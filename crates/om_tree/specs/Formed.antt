@@ -193,8 +193,8 @@ unfoldable mutual
   AreStatements NoStatements = Unit {0}
   AreStatements (Statement s rest) = IsStatement s × AreStatements rest
 
-  -- the parts of `sections` (OpenMP API 5.2, section 11.3), one at least: each begins with `section`, which the
-  -- first may lack
+  -- the parts of `sections` (OpenMP API 5.2, sections 11.3 and 11.3.1): each begins with `section`, which the first
+  -- may lack. That there is one at least, and an item in each, is an own choice.
   pub AreParts : PartsTree → Type 0
   AreParts NoParts = ⊥
   AreParts (Part section items rest) = IsOptionalSection section × AreSome items × ArePartItems items

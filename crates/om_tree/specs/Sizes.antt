@@ -36,7 +36,7 @@ line_longest d = most extent (expressions d)
 abbrev pub line_nesting : Directive ExpressionTree → ℕ
 line_nesting d = most (λ e. nesting e + 1) (expressions d)
 
--- the same of a `section`, if there is one
+-- the same of a `section`, if there is one: nothing where it is well-formed, as it has no clause
 abbrev pub section_longest : Option (Directive ExpressionTree) → ℕ
 section_longest None = 0
 section_longest (Some d) = line_longest d

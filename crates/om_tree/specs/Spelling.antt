@@ -186,7 +186,7 @@ for_head_spelling h =
     ∷ (for_start_spelling h.start ++ perhaps expression_spelling h.condition ++ mark punctuators.Semicolon h.semicolon
     ∷ (perhaps expression_spelling h.step ++ mark punctuators.CloseParen h.close_paren ∷ []))
 
--- a `section`, if there is one (OpenMP API 5.2, section 11.3)
+-- a `section`, if there is one (OpenMP API 5.2, section 11.3.1)
 abbrev pub section_spelling : Option (Directive ExpressionTree) → List Token
 section_spelling = perhaps (directive_spelling expression_spelling)
 

@@ -19,7 +19,7 @@ use Rattle.om_resolved.specs.declared.resolved.CopyKind.TheVariants as copies
 use Rattle.om_resolved.specs.declared.resolved.Variable.{Variable}
 use Rattle.om_resolved.specs.ResolvedTree as resolved
 use Rattle.om_resolved.specs.ResolvedTree.{ResolvedClauseTree, ResolvedExpressionTree}
-use Rattle.om_resolved.specs.Whole.{Admitted, HaveNoValue, HaveOneValue}
+use Rattle.om_resolved.specs.Whole.{Admitted, HaveNoValue, HaveOneValueAtMost}
 use Rattle.om_rules.specs.DirectiveRules.{names_in}
 use Rattle.om_rules.specs.Perhaps.{◌>>=◌, each, all_of}
 use Rattle.om_rules.specs.Resolution.{variable_named, resolved_expression}
@@ -39,7 +39,7 @@ none_joined (resolved.ClauseValue kind e ∷ xs) ys hx hy = absurd hx
 none_joined (resolved.Shared v ∷ xs) ys hx hy = none_joined xs ys hx hy
 none_joined (resolved.Copied kind original copy ∷ xs) ys hx hy = none_joined xs ys hx hy
 
-one_behind : (xs ys : List ResolvedClauseTree) → HaveNoValue xs → HaveOneValue ys → HaveOneValue (xs ++ ys)
+one_behind : (xs ys : List ResolvedClauseTree) → HaveNoValue xs → HaveOneValueAtMost ys → HaveOneValueAtMost (xs ++ ys)
 one_behind [] ys hx hy = hy
 one_behind (resolved.ClauseValue kind e ∷ xs) ys hx hy = absurd hx
 one_behind (resolved.Shared v ∷ xs) ys hx hy = one_behind xs ys hx hy
@@ -70,8 +70,8 @@ joined_none None rest hx hy = tt
 joined_none (Some xs) None hx hy = tt
 joined_none (Some xs) (Some ys) hx hy = none_joined xs ys hx hy
 
-joined_one : (front rest : Option (List ResolvedClauseTree)) → IfSome front HaveNoValue → IfSome rest HaveOneValue
-    → IfSome (front >>= λ xs. rest >>= λ ys. Some (xs ++ ys)) HaveOneValue
+joined_one : (front rest : Option (List ResolvedClauseTree)) → IfSome front HaveNoValue → IfSome rest HaveOneValueAtMost
+    → IfSome (front >>= λ xs. rest >>= λ ys. Some (xs ++ ys)) HaveOneValueAtMost
 joined_one None rest hx hy = tt
 joined_one (Some xs) None hx hy = tt
 joined_one (Some xs) (Some ys) hx hy = one_behind xs ys hx hy
@@ -79,16 +79,16 @@ joined_one (Some xs) (Some ys) hx hy = one_behind xs ys hx hy
 value_one : (kind : ValueClause) (value : Option ResolvedExpressionTree) (rest : Option (List ResolvedClauseTree))
     → IfSome rest HaveNoValue
     → IfSome ((value >>= λ e. Some (resolved.ClauseValue kind e ∷ [])) >>= λ xs. rest >>= λ ys. Some (xs ++ ys))
-    HaveOneValue
+    HaveOneValueAtMost
 value_one kind None rest h = tt
 value_one kind (Some e) None h = tt
 value_one kind (Some e) (Some ys) h = h
 
 -- where those behind a value give none, all give one at most
 one_step : (admitted : Admitted) (scopes : Scopes) (clause : Clause ExpressionTree)
-    (rest : Option (List ResolvedClauseTree)) → Admits admitted clause → IfSome rest HaveOneValue
+    (rest : Option (List ResolvedClauseTree)) → Admits admitted clause → IfSome rest HaveOneValueAtMost
     → ((k : ValueClause) → kind_of clause ≡ value_kind k → admitted.value ≡ Some k → IfSome rest HaveNoValue)
-    → IfSome (resolved_clause scopes clause >>= λ xs. rest >>= λ ys. Some (xs ++ ys)) HaveOneValue
+    → IfSome (resolved_clause scopes clause >>= λ xs. rest >>= λ ys. Some (xs ++ ys)) HaveOneValueAtMost
 unfolding resolved_clause
 one_step admitted scopes (clauses.Value kind s v) rest a one none =
     value_one kind (resolved_expression scopes v.expression) rest (none kind refl a)
@@ -174,7 +174,7 @@ none_behind admitted k scopes name (item ∷ items) before is there h a =
 pub one_value : (admitted : Admitted) (scopes : Scopes) (name : DirectiveName)
     (items before : List (ClauseItem ExpressionTree))
     → EachBehind (IsItem IsExpression name) before items → AdmitsAll admitted items
-    → IfSome (all_of (resolved_item scopes) items) HaveOneValue
+    → IfSome (all_of (resolved_item scopes) items) HaveOneValueAtMost
 unfolding EachBehind
 one_value admitted scopes name [] before h a = tt
 one_value admitted scopes name (item ∷ items) before h a =

@@ -19,7 +19,7 @@ use Rattle.om_resolved.specs.declared.resolved.Side.{Side}
 use Rattle.om_resolved.specs.declared.resolved.Taking.{Taking}
 use Rattle.om_resolved.specs.ResolvedTree as resolved
 use Rattle.om_resolved.specs.ResolvedTree.{ResolvedClauseTree, ResolvedUpdateTree, ResolvedStatementTree}
-use Rattle.om_resolved.specs.Whole.{HaveOneValue}
+use Rattle.om_resolved.specs.Whole.{HaveOneValueAtMost}
 use Rattle.om_resolved.specs.Whole.{Around, of_parallel, of_worksharing, nothing, IsShared, IsWholeClause, within}
 use Rattle.om_resolved.specs.Whole.{IsRegion, IsWholeUpdate, IsWholeStatement}
 use Rattle.om_rules.specs.DirectiveRules.{names_in, nothing_listed, flushed_breaches, list_breaches, flush_breaches}
@@ -70,7 +70,7 @@ with_update_whole around at (Some update) h = h
 
 atomic_whole : (around : Around) (kind : AtomicKind) (side : Side) (at : Span) (cs : List ResolvedClauseTree)
     (body : ResolvedStatementTree) → All (IsWholeClause around nothing) cs
-    → IsWholeStatement (within around cs) body → HaveOneValue cs
+    → IsWholeStatement (within around cs) body → HaveOneValueAtMost cs
     → IfSome (atomic_of kind side at cs body) (IsWholeStatement around)
 atomic_whole around atomics.Update side at cs body hc hb once =
     with_update_whole around at (update_of side body) (whole_update (within around []) side body
@@ -84,7 +84,7 @@ pub construct_whole : (around : Around) (parallel : Option ℕ) (side : Side) (d
     (name : DirectiveName) (cs : List ResolvedClauseTree) (body : ResolvedStatementTree)
     → IsConstruct name → (traits_of name).takes_loop ≡ false
     → All (IsWholeClause around (admitted_by (has_nowait d) name)) cs → IsWholeStatement (within around cs) body
-    → HaveOneValue cs → IfSome (construct_of parallel side d name cs body) (IsWholeStatement around)
+    → HaveOneValueAtMost cs → IfSome (construct_of parallel side d name cs body) (IsWholeStatement around)
 unfolding construct_of
 construct_whole around parallel side d (directives.Parallel s) cs body is plain hc hb once =
     (hc, region _ d.hash.start cs body, hb, once)

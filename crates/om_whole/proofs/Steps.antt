@@ -1,6 +1,6 @@
 -- What is true of all that steps give of which each may give nothing.
 use Rattle.std.proofs.Common.{◌≡◌, Bool, true, false, cond, List, [], ◌∷◌, All, Option, None, Some, subst}
-use Rattle.std.specs.Prelude.{IfSome}
+use Rattle.std.specs.Prelude.{IfSome, IsSome, IsSomeAnd}
 use Rattle.std.specs.Option.{option_or}
 use Rattle.std.proofs.lemmas.List.Elements.{All-nil, All-cons, All-append}
 use Rattle.om_rules.specs.Perhaps.{◌>>=◌, each, each_along, all_of}
@@ -21,6 +21,11 @@ pub if_three : {A : Type 0} (P Q R : A → Type 0) (o : Option A) → IfSome o P
     → IfSome o (λ x. P x × Q x × R x)
 if_three P Q R None hp hq hr = tt
 if_three P Q R (Some x) hp hq hr = (hp, hq, hr)
+
+-- there is one, and of it
+pub there_and : {A : Type 0} (P : A → Type 0) (o : Option A) → IsSome o → IfSome o P → IsSomeAnd o P
+there_and P None there h = cc
+there_and P (Some x) there h = h
 
 -- of whatever is given
 pub if_any : {A : Type 0} (o : Option A) → IfSome o (λ x. Unit {0})

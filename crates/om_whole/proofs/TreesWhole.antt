@@ -14,7 +14,7 @@ use Rattle.om_resolved.specs.declared.resolved.Shape.TheVariants as shapes
 use Rattle.om_resolved.specs.ResolvedTree as resolved
 use Rattle.om_resolved.specs.ResolvedTree.{ResolvedClauseTree, ResolvedLoopTree, ResolvedStatementTree}
 use Rattle.om_resolved.specs.ResolvedTree.{ResolvedPartsTree}
-use Rattle.om_resolved.specs.Whole.{HaveOneValue}
+use Rattle.om_resolved.specs.Whole.{HaveOneValueAtMost}
 use Rattle.om_resolved.specs.Whole.{Around, IsWhole, IsWholeIfAny, IsWholeClause, IsWholeReturn, of_parallel}
 use Rattle.om_resolved.specs.Whole.{of_worksharing, copies_in, scalar, within, with_locals, iterated, repeated}
 use Rattle.om_resolved.specs.Whole.{after_start, after_item, part_count, IsWholeStatement, AreWholeItems, AreWholeParts}
@@ -67,7 +67,7 @@ use Rattle.om_tree.specs.Tree.{StatementsTree, NoStatements, Statement, PartsTre
 abbrev AreGood : Around → Directive ExpressionTree → Scopes → List ResolvedClauseTree → Type 0
 AreGood around d scopes cs = All (IsWholeClause around (admitted_by (has_nowait d) d.name)) cs
     × Known around.globals around.functions (around.locals ++ flat_map copies_in cs) (in_construct d scopes)
-    × HaveOneValue cs
+    × HaveOneValueAtMost cs
 
 -- resolved clauses of a line give one value at most
 once_too : (around : Around) (d : Directive ExpressionTree) (scopes : Scopes) → IsLine d
@@ -84,7 +84,7 @@ once_too around d scopes formed good =
     if_both : (o : Option (List ResolvedClauseTree)) → IfSome o (λ cs.
         All (IsWholeClause around (admitted_by (has_nowait d) d.name)) cs
         × Known around.globals around.functions (around.locals ++ flat_map copies_in cs) (in_construct d scopes))
-        → IfSome o HaveOneValue → IfSome o (AreGood around d scopes)
+        → IfSome o HaveOneValueAtMost → IfSome o (AreGood around d scopes)
     if_both None g h = tt
     if_both (Some cs) g h = (g.0, g.1, h)
 
@@ -125,7 +125,7 @@ loop_whole around scopes flow parallel d s h f takes chunk clauses (Some found) 
   where
     by : (cs : List ResolvedClauseTree) → Known around.globals around.functions (around.locals ++ flat_map copies_in
         cs) (in_construct d scopes) → (p : Bool)
-        → All (IsWholeClause around (cond p of_parallel of_worksharing)) cs → HaveOneValue cs
+        → All (IsWholeClause around (cond p of_parallel of_worksharing)) cs → HaveOneValueAtMost cs
         → found_breaches (cond p (in_construct d scopes) scopes) found ≡ []
         → body_breaches (in_construct d scopes) (constructing d flow) (Some found) s ≡ []
         → IfSome (resolved_loop (cond p (in_construct d scopes) scopes) (schedule_of d.clauses) found >>= λ l.
@@ -208,7 +208,7 @@ sections_whole around scopes flow parallel d parts f is formed clauses w whole =
 
     by : (cs : List ResolvedClauseTree) → Known around.globals around.functions (around.locals ++ flat_map copies_in
         cs) (in_construct d scopes) → (p : Bool)
-        → All (IsWholeClause around (cond p of_parallel of_worksharing)) cs → HaveOneValue cs
+        → All (IsWholeClause around (cond p of_parallel of_worksharing)) cs → HaveOneValueAtMost cs
         → IfSome (found >>= λ parts. Some
         (cond p (parallel_of d cs (resolved.Sections d.hash [] true parts))
         (resolved.Sections d.hash cs (has_nowait d) parts))) (IsWholeStatement around)

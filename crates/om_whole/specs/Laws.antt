@@ -1,12 +1,12 @@
 -- What every resolution is.
-use Rattle.std.specs.Prelude.{◌≡◌, ℕ, Bool, List, [], Option, Some, IsSome, IfSome, fold, option_map, slice_get}
+use Rattle.std.specs.Prelude.{◌≡◌, ℕ, Bool, List, [], Option, Some, true, IsSome, IfSome, IsSomeAnd, fold, option_map, slice_get}
 use Rattle.std.specs.List.{flat_map}
 use Rattle.om_tree.specs.Formed.{AreStatements, IsUnit}
 use Rattle.om_tree.specs.Tree.{ExpressionTree, StatementsTree, ItemTree, UnitTree}
 use Rattle.om_resolved.specs.Beside.{TreeAtomicsAssign}
 use Rattle.om_resolved.specs.ResolvedTree.{ResolvedTree}
 use Rattle.om_resolved.specs.Uses.{IsResolved}
-use Rattle.om_tree.specs.Sizes.{AtomicsHaveForms}
+use Rattle.om_tree.specs.Sizes.{AtomicsHaveForms, HaveForms}
 use Rattle.om_resolved.specs.Whole.{Around, IsWhole, AreWholeItems, IsWholeTree}
 use Rattle.om_rules.specs.ExpressionRules.{expression_breaches}
 use Rattle.om_whole.specs.Knowing.{Agrees, Knows}
@@ -47,17 +47,18 @@ UnbrokenExpressionsAreWhole =
     → Knows around scopes → expression_breaches scopes is_used e ≡ [] → IfSome (resolved_expression scopes e)
     (IsWhole around is_used)
 
--- Well-formed statements without a breach, in scopes that are known, resolve to whole ones.
+-- Well-formed statements that have the forms of `atomic` and no breach, in scopes that are known, resolve to whole
+-- ones.
 abbrev pub UnbrokenStatementsAreWhole : Type 0
 UnbrokenStatementsAreWhole =
     (around : Around) (scopes : Scopes) (flow : Flow) (parallel : Option ℕ) (ss : StatementsTree)
-    → Knows around scopes → Agrees around flow → AreStatements ss → statements_breaches scopes flow ss ≡ []
-    → IfSome (resolved_statements scopes parallel ss) (AreWholeItems around)
+    → Knows around scopes → Agrees around flow → AreStatements ss → HaveForms true ss
+    → statements_breaches scopes flow ss ≡ [] → IsSomeAnd (resolved_statements scopes parallel ss) (AreWholeItems around)
 
--- A well-formed source without a breach resolves to a whole tree.
+-- A well-formed source that has the forms of `atomic` and no breach resolves to a whole tree.
 abbrev pub UnbrokenTreesAreWhole : Type 0
-UnbrokenTreesAreWhole = (unit : UnitTree) → IsUnit unit → breaches_of unit ≡ [] → IfSome (resolution_of unit)
-    IsWholeTree
+UnbrokenTreesAreWhole = (unit : UnitTree) → IsUnit unit → AtomicsHaveForms unit → breaches_of unit ≡ []
+    → IsSomeAnd (resolution_of unit) IsWholeTree
 
 -- Each `atomic` that reads or writes resolves to one of an assignment, where the source has the forms of `atomic`.
 abbrev pub AtomicsAssign : Type 0

@@ -25,12 +25,13 @@ pub fn unbroken_expressions_are_whole()
     ensures { UnbrokenExpressionsAreWhole }
 {}
 
-/// So do the well-formed statements of a block.
+/// So do the well-formed statements of a block whose `atomic`s have their forms.
 pub fn unbroken_statements_are_whole()
     ensures { UnbrokenStatementsAreWhole }
 {}
 
-/// A well-formed source that breaks no rule resolves to a whole tree.
+/// A well-formed source that breaks no rule, and whose `atomic`s have their forms, resolves to a whole
+/// tree.
 pub fn unbroken_trees_are_whole()
     ensures { UnbrokenTreesAreWhole }
 {}

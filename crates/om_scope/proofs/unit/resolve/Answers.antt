@@ -1,5 +1,5 @@
 use Rattle.std.proofs.Common.{refl, subst}
-use Rattle.std.specs.Prelude.{IfSome}
+use Rattle.std.specs.Prelude.{IfSome, IsSomeAnd}
 use Rattle.om_tree.specs.View.{view_unit}
 use Rattle.om_resolved.specs.Beside.{TreeAtomicsAssign}
 use Rattle.om_resolved.specs.ResolvedView.{view_resolved}
@@ -28,8 +28,8 @@ unfolding breaches_of resolution_of
 returns-clause-whole c =
     let rules = rw c.as_slice.ensures.value at c.in_ok-resolved.ensures.checked in
     let made = rw c.as_slice.ensures.value at c.in_ok-resolved.ensures.resolved in
-    subst (λ found. IfSome found IsWholeTree) made
-    (c.unbroken_trees_are_whole.ensures (view_unit c.args.unit) c.requires.formed
+    subst (λ found. IsSomeAnd found IsWholeTree) made
+    (c.unbroken_trees_are_whole.ensures (view_unit c.args.unit) c.requires.formed c.requires.atomics_have_forms
     (rw (rules, c.in_ok-check_main.ensures) refl))
 
 pub returns-clause-atomics_assign : goal.returns-clause-atomics_assign

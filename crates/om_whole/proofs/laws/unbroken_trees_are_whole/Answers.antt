@@ -1,5 +1,11 @@
+use Rattle.om_resolved.specs.Whole.{IsWholeTree}
+use Rattle.om_rules.specs.UnitResolution.{resolution_of}
+use Rattle.om_whole.proofs.Resolvable.{unbroken_trees_resolve}
+use Rattle.om_whole.proofs.Steps.{there_and}
 use Rattle.om_whole.proofs.UnitsWhole.{whole_unit}
 use Rattle.om_whole.proofs.laws.unbroken_trees_are_whole.Goals as goal
 
 pub returns : goal.returns
-returns c = whole_unit
+returns c = λ unit formed forms whole.
+    there_and IsWholeTree (resolution_of unit) (unbroken_trees_resolve unit formed forms whole)
+    (whole_unit unit formed whole)
