@@ -1,8 +1,7 @@
 //! Free runs of a program of tasks, until it has ended.
 
-use crate::session::written;
-use anyhow::Result;
-use std::alloc::Global;
+use crate::sessions::written;
+use std::alloc::{AllocError, Global};
 use std::sync::Wait;
 use std::thread::Threads;
 
@@ -47,7 +46,10 @@ const STEPS: u64 = 188;
 const END: &str = "worker 0 ended 0\noutput 2 bytes\n3\n\n";
 
 /// Whether free runs end the program, and say how many steps they made.
-pub(crate) fn free_runs_end_tasks<R: Threads + Wait + Sync>(rt: &R, alloc: Global) -> Result<bool> {
+pub(crate) fn free_runs_end_tasks<R: Threads + Wait + Sync>(
+    rt: &R,
+    alloc: Global,
+) -> Result<bool, AllocError> {
     let bytes = written(rt, alloc, 2, SESSION)?;
     let text = str::from_utf8(bytes.as_slice()).unwrap_or("no text");
     Ok(steps_freed(text) == STEPS && steps_shown(text) == STEPS && text.ends_with(END))

@@ -5,30 +5,6 @@
 //! cases between them, and in each the `=> S3 1:36` stands on a line of its own, below the source. A case
 //! without a refusal is accepted.
 
-use crate::stage::{Stage, stage_of};
-
-/// A section of the input.
-#[derive(Clone, Copy)]
-pub(crate) struct Section<'a> {
-    /// How far its sources are taken.
-    pub stage: Stage,
-    /// Its first line.
-    pub head: &'a str,
-    /// Its cases.
-    pub table: &'a str,
-}
-
-/// The section of a text, if its first line names a stage.
-pub(crate) fn section_of(text: &str) -> Option<Section<'_>> {
-    let (head, table) = cut(text, '\n');
-    let (stage, _) = cut(head, ' ');
-    Some(Section {
-        stage: stage_of(stage)?,
-        head,
-        table,
-    })
-}
-
 /// What stands between two cases of a table.
 pub(crate) fn divider(table: &str) -> &'static str {
     if table.contains("%%\n") { "%%\n" } else { "\n" }

@@ -1,4 +1,4 @@
-use Rattle.om_session_cases.proofs.driven.all_are_answered.Given as goal
+use Rattle.om_cases.proofs.driven.all_are_answered.Given as goal
 
 abbrev pub ghosts-drive_two-L-Ledger : goal.ghosts-drive_two-L-Ledger
 ghosts-drive_two-L-Ledger g a = record { name = a.blank.ledger.name; parts = a.blank.ledger.parts }

@@ -3,7 +3,6 @@
 ghost use Rattle.std.specs.Prelude.{◌≡◌, ◌++◌, ◌∷◌, [], IfOk, vec_len};
 
 use crate::orders::one_look;
-use anyhow::Result;
 use om_book::{CallError, Command, Reply};
 use om_drive::{Crew, Debuggee, Gate, Order, drive_over};
 use om_history::StepReply;
@@ -97,7 +96,7 @@ impl<'a> Gate for After<'a> {
 pub(crate) fn both_are_inside_at_once<R: Threads + Wait + Sync>(
     rt: &R,
     alloc: Global,
-) -> Result<bool> {
+) -> Result<bool, AllocError> {
     let (zero, one) = (AtomicBool::new(false), AtomicBool::new(false));
     let crew = Crew {
         debuggees: fakes(alloc, &zero, &one)?,

@@ -1,7 +1,19 @@
-//! The laws of the machine and of scripts.
+//! The laws of the front end, the machine and scripts.
 
 /// Calls each law.
 pub(crate) fn call_laws() {
+    om_lexer::one_reading();
+    om_lexer::tokens_in_order();
+    om_lexer::tokens_apart();
+    om_pragma::one_directive();
+    om_pragma::one_fault();
+    om_pragma::one_answer();
+    om_pragma::first_value();
+    om_parser::one_tree();
+    om_whole::laws::numbers_name_globals();
+    om_whole::laws::unbroken_trees_resolve();
+    om_whole::laws::unbroken_expressions_are_whole();
+    om_whole::laws::unbroken_statements_are_whole();
     om_share::laws::partition();
     om_share::laws::shares();
     om_task::laws::low_counters();

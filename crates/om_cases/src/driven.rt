@@ -3,7 +3,6 @@
 ghost use Rattle.std.specs.Prelude.{◌≡◌, IfOk, length, vec_len};
 
 use crate::orders::steps_of;
-use anyhow::Result;
 use om_book::Book;
 use om_drive::{Answer, Crew, Driven, Gate, Order, drive};
 use om_session::{Blank, Closed, Session, Sitting};
@@ -21,7 +20,10 @@ const SOURCE: &str = "int x;\nint main(void){\n#pragma omp parallel\nx = x + 1;\
 const ORDERS: u64 = 200;
 
 /// Whether each order of two seats is answered, with a record and a receipt that stands.
-pub(crate) fn all_are_answered<R: Threads + Wait + Sync>(rt: &R, alloc: Global) -> Result<bool> {
+pub(crate) fn all_are_answered<R: Threads + Wait + Sync>(
+    rt: &R,
+    alloc: Global,
+) -> Result<bool, AllocError> {
     let orders = two_lists(alloc)?;
     let Ok(debuggee) = debuggee_of(alloc, SOURCE.as_bytes()) else {
         return Ok(false);

@@ -1,0 +1,35 @@
+//! All checks, and what is said of each.
+
+use crate::driven::all_are_answered;
+use crate::ends::{ends_may_fail, source_may_be_handed_in};
+use crate::free_tasks::free_runs_end_tasks;
+use crate::gates::both_are_inside_at_once;
+use std::alloc::{AllocError, Global};
+use std::sync::Wait;
+use std::thread::Threads;
+
+/// Says of each check whether it is right.
+pub(crate) fn add_checks<R: Threads + Wait + Sync>(
+    rt: &R,
+    alloc: Global,
+    told: &mut String,
+) -> Result<(), AllocError> {
+    let checks = [
+        ("free runs end tasks", free_runs_end_tasks(rt, alloc)?),
+        ("all orders are answered", all_are_answered(rt, alloc)?),
+        (
+            "both workers are inside at once",
+            both_are_inside_at_once(rt, alloc)?,
+        ),
+        ("reads and writes may fail", ends_may_fail(rt, alloc)),
+        (
+            "a source may be handed in",
+            source_may_be_handed_in(rt, alloc),
+        ),
+    ];
+    for (check, is_right) in checks {
+        let verdict = if is_right { "" } else { " is WRONG" };
+        write!(told, "{check}{verdict}\n")?;
+    }
+    Ok(())
+}
