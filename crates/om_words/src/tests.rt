@@ -1,24 +1,36 @@
 //! What words ask for.
 
 use crate::words::words_in;
+use std::alloc::{AllocError, Global};
 use std::test::Fail;
+
+/// What words ask for, as `WORKERS FILE`, with `-` for no file; `wrong` where they ask for no run.
+fn told(alloc: Global, words: &[&str]) -> Result<String, AllocError> {
+    match words_in(alloc, words) {
+        Ok(asked) => {
+            let file = asked.file.unwrap_or("-");
+            format!(in alloc; "{} {file}", asked.workers)
+        }
+        Err(error) => {
+            drop(error);
+            String::from_str(alloc, "wrong")
+        }
+    }
+}
 
 #[test]
 fn takes_words(rt: HostRuntime) -> Result<(), Fail> {
-    let words = words_in(rt.alloc(), ["ompback"].as_slice())?;
-    assert_eq!(rt; words.workers, 2);
-    assert!(rt; words.file.is_none());
-    let words = words_in(rt.alloc(), ["ompback", "--threads", "32", "a.c"].as_slice())?;
-    assert_eq!(rt; words.workers, 32);
-    assert_eq!(rt; words.file, Some("a.c"));
-    for wrong in [
-        "--threads=0",
-        "--threads=33",
-        "--threads=x",
-        "--what",
-        "--help",
+    for (words, wanted) in [
+        (["ompback"].as_slice(), "2 -"),
+        (["ompback", "--threads", "32", "a.c"].as_slice(), "32 a.c"),
+        (["ompback", "--threads=0"].as_slice(), "wrong"),
+        (["ompback", "--threads=33"].as_slice(), "wrong"),
+        (["ompback", "--threads=x"].as_slice(), "wrong"),
+        (["ompback", "--what"].as_slice(), "wrong"),
+        (["ompback", "--help"].as_slice(), "wrong"),
     ] {
-        assert!(rt; words_in(rt.alloc(), ["ompback", wrong].as_slice()).is_err());
+        let found = told(rt.alloc(), words)?;
+        assert_eq!(rt; found.as_str(), wanted);
     }
     Ok(())
 }
