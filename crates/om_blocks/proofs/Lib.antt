@@ -1,3 +1,4 @@
+pub mod Clauses
 pub mod Fronts
 pub mod MadeParts
 pub mod Statements

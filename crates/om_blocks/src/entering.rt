@@ -10,11 +10,11 @@ ghost use Rattle.om_rules.specs.StatementResolution.{resolved_clauses, resolved_
 ghost use Rattle.om_rules.specs.StatementRules.{found_breaches, round_bounds};
 ghost use Rattle.om_blocks.specs.Parts.{round_listed};
 
+use crate::assembly::schedule_of;
 use om_forms::Loop;
 use om_lexer::SourceFault;
 use om_names::{Listed, Symbols, is_parallel, traits_of};
 use om_pragma::Directive;
-use om_regions::schedule_of;
 use om_resolved::{ResolvedClause, ResolvedLoop};
 use om_rules::{Flow, RegionKind};
 use om_tree::Expression;

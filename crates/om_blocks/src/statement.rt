@@ -16,6 +16,7 @@ ghost use Rattle.om_rules.specs.Scopes.{inside};
 ghost use Rattle.om_rules.specs.StatementResolution.{resolved_construct, resolved_for, resolved_loop_construct, resolved_parts, resolved_plain_construct, resolved_repeated, resolved_sections, resolved_statement, resolved_statements};
 ghost use Rattle.om_rules.specs.StatementRules.{after_statement, after_statements, body_breaches, construct_breaches, continuing, for_breaches, in_loop, loop_construct_breaches, looping, part_breaches, parts_breaches, plain_construct_breaches, sections_construct_breaches, statement_breaches, statements_breaches};
 
+use crate::assembly::{Setting, construct_of, loop_construct_of, sections_construct_of};
 use crate::entering::{enter_construct, enter_loop_construct};
 use crate::head::{continuing, for_of, looping, resolve_for_head};
 use crate::simple::{
@@ -26,7 +27,6 @@ use om_forms::{Loop, loop_in, statement_side, statement_start};
 use om_lexer::SourceFault;
 use om_names::{Symbols, constructing, traits_of};
 use om_pragma::Directive;
-use om_regions::{Setting, construct_of, loop_construct_of, sections_construct_of};
 use om_resolved::{ResolvedPart, ResolvedStatement};
 use om_rules::Flow;
 use om_tree::{Expression, ForHead, Part, Statement};

@@ -3,9 +3,9 @@ use Rattle.std.proofs.Common.{◌≡◌, ◌<◌, ◌≤◌, inl, inr, ℕ, zero
 use Rattle.std.proofs.Common.{Some, Any, length, map, slice_get, take, ◌+◌, false, refl, sym, ap, subst, ◌∙◌, arith}
 use Rattle.std.proofs.lemmas.List.{append_assoc, append-nil, map-append}
 use Rattle.std.specs.List.{flat_map}
-use Rattle.om_bodies.specs.declared.emitted.Emitted.{Emitted}
+use Rattle.om_lower.specs.declared.emitted.Emitted.{Emitted}
 use Rattle.om_emit.specs.declared.draft.PickList.{PickList}
-use Rattle.om_bodies.specs.Emitted.{HasLists, HasRow}
+use Rattle.om_lower.specs.Emitted.{HasLists, HasRow}
 use Rattle.om_emit.specs.Settled.{ListsStand, number_of}
 use Rattle.om_code.specs.declared.raw.Body.{Body}
 use Rattle.om_code.specs.declared.raw.Line.{Line}
@@ -18,7 +18,7 @@ use Rattle.om_lower.specs.declared.bodies.Bodies.{Bodies}
 use Rattle.om_lower.specs.declared.bodies.LoweredBody.{LoweredBody}
 use Rattle.om_lower.specs.declared.functions.Lowered.{Lowered}
 use Rattle.om_lower.proofs.Ascending.{body_table}
-use Rattle.om_picks.specs.Once.{site_picks}
+use Rattle.om_lower.specs.Once.{site_picks}
 use Rattle.om_lower.proofs.Items.{take_pushed, zip_pushed}
 use Rattle.om_lower.proofs.SlotTables.{slots_same}
 use Rattle.om_lower.proofs.FunctionBodies.{next_numbers, pushed, stand_behind, stand_front, wider_functions, wider_made}

@@ -1,3 +1,7 @@
+pub mod Settled
+pub mod Wholes
+pub mod Counting
+pub mod Filling
 pub mod Searches
 pub mod Cutting
 pub mod SlotTables

@@ -2,7 +2,7 @@
 use Rattle.std.specs.Prelude.{◌≡◌, ◌≤◌, ◌<◌, ◌⊎◌, ℕ, List, [], ◌∷◌, ◌++◌, Option, None, Some, Bool, true, false, All}
 use Rattle.std.specs.Prelude.{Any, length, map, slice_get, take}
 use Rattle.std.specs.List.{AllZip, flat_map}
-use Rattle.om_bodies.specs.declared.emitted.Emitted.{Emitted}
+use Rattle.om_lower.specs.declared.emitted.Emitted.{Emitted}
 use Rattle.om_code.specs.declared.raw.Body.{Body}
 use Rattle.om_code.specs.declared.raw.Line.{Line}
 use Rattle.om_emit.specs.declared.draft.PickList.{PickList}
@@ -12,7 +12,7 @@ use Rattle.om_lower.specs.declared.bodies.LoweredBody.{LoweredBody}
 use Rattle.om_lower.specs.declared.functions.Lowered.{Lowered}
 use Rattle.om_lower.specs.Heights.{AreLow, IsFirst}
 use Rattle.om_lower.specs.Limits.{HasRoom, IsCodeAt, IsOver}
-use Rattle.om_picks.specs.Once.{site_picks}
+use Rattle.om_lower.specs.Once.{site_picks}
 use Rattle.om_resolved.specs.ResolvedTree.{ResolvedFunctionTree, ResolvedTree}
 use Rattle.om_rows.specs.Bodies.{BodySite, Numbers, behind_function, behind_functions, bodies_from, first_numbers}
 use Rattle.om_rows.specs.Bodies.{function_bodies}

@@ -1,6 +1,6 @@
 -- The bodies of a function, as they are found.
 use Rattle.std.specs.Prelude.{◌≡◌, ◌≤◌, ℕ, List, [], Option, None, Some, length}
-use Rattle.om_bodies.specs.Regions.{parallel_tree, task_tree}
+use Rattle.om_lower.specs.Regions.{parallel_tree, task_tree}
 use Rattle.om_lower.specs.Limits.{HasFewSlots}
 use Rattle.om_lower.specs.declared.sites.BodyPart.{BodyPart}
 use Rattle.om_lower.specs.declared.sites.BodyPart.TheVariants as parts

@@ -1,7 +1,7 @@
 //! The bodies of a function, each within its limits.
 
 ghost use Rattle.std.specs.Prelude.{◌≡◌, ◌≤◌, ◌∷◌, ◌++◌, [], All, Any, IfOk, OnOk, Some, false, length, map, true};
-ghost use Rattle.om_bodies.specs.Emitted.{HasLists, HasRow};
+ghost use Rattle.om_lower.specs.Emitted.{HasLists, HasRow};
 ghost use Rattle.om_lower.specs.Frames.{FitsFrame};
 ghost use Rattle.om_lower.specs.Limits.{HasFewSlots, HasManySlots, HasSlots};
 ghost use Rattle.om_lower.specs.Made.{AddsBody, FitsBodies, FitsBody, FitsCode};
@@ -15,12 +15,12 @@ ghost use Rattle.om_rows.specs.Statements.{given_copies};
 ghost use Rattle.om_tables.specs.Scopes.{names_of};
 ghost use Rattle.om_tables.specs.Tables.{IsTablesOf};
 
+use crate::body::{function_body, parallel_body, task_body};
+use crate::emitted::Emitted;
 use crate::frames::{SLOT_LIMIT, frame_of};
 use crate::functions::{INSTRUCTION_LIMIT, Whole, is_main};
+use crate::region::Region;
 use crate::sites::{BodyPart, Site};
-use om_bodies::bodies::{function_body, parallel_body, task_body};
-use om_bodies::emitted::Emitted;
-use om_bodies::region::Region;
 use om_code::raw::{Body, Slot};
 use om_emit::draft::PickList;
 use om_resolved::{Capture, ResolvedFunction};

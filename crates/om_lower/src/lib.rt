@@ -2,11 +2,17 @@
 #![tactic(auto)]
 
 mod bodies;
+mod body;
+mod emitted;
 mod frames;
 mod functions;
 mod heights;
+pub mod laws;
+mod lists;
 pub mod look;
 pub mod lower;
 mod program;
+mod region;
 mod sites;
 pub mod texts;
+mod whole;

@@ -15,11 +15,11 @@ ghost use Rattle.om_tables.specs.Tables.{IsTablesOf};
 
 use crate::functions::{Lowered, Placed, Whole, lower_functions};
 use crate::heights::first_high;
+use crate::laws::each_once;
+use crate::lists::joined;
 use crate::program::program_of;
 use om_code::program::Program;
 use om_lexer::{FaultCode, SourceFault};
-use om_picks::joined;
-use om_picks::laws::each_once;
 use om_resolved::{Resolved, ResolvedFunction};
 use om_rows::laws::{body_is_level, whole_has_code};
 use om_tables::tables_of;

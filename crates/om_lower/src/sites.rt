@@ -7,7 +7,7 @@ ghost use Rattle.om_resolved.specs.ResolvedView.{view_resolved_function, view_re
 ghost use Rattle.om_rows.specs.Bodies as bodies;
 ghost use Rattle.om_tables.specs.Numbering.{numbers_of};
 
-use om_bodies::region::Region;
+use crate::region::Region;
 use om_resolved::{ResolvedFunction, ResolvedPart, ResolvedStatement};
 use om_tables::Numbers;
 use std::alloc::{AllocError, Global};

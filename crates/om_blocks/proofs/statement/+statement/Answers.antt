@@ -18,7 +18,7 @@ use Rattle.om_blocks.proofs.Fronts.{bounds_refuse}
 use Rattle.om_blocks.proofs.MadeParts.{parts_made, parts_whole}
 use Rattle.om_blocks.proofs.Propers.{left_parts_proper, left_proper, with_depth}
 use Rattle.om_blocks.specs.Items.{drop-item, length-map}
-use Rattle.om_regions.specs.Pushes.{map-push}
+use Rattle.om_blocks.specs.Pushes.{map-push}
 use Rattle.om_blocks.proofs.statement.+statement.Goals as goal
 
 pub resolve_statement-returns-in-Construct-clause-resolved : goal.resolve_statement-returns-in-Construct-clause-resolved

@@ -1,5 +1,5 @@
 use Rattle.std.proofs.Common.{sym, subst}
-use Rattle.om_bodies.specs.Emitted.{HasLists, HasRow}
+use Rattle.om_lower.specs.Emitted.{HasLists, HasRow}
 use Rattle.om_lower.specs.Sites.{part_tree, site_of}
 use Rattle.om_tables.specs.Scopes.{names_of}
 use Rattle.om_lower.proofs.bodies.emitted_in.Goals as goal

@@ -1,2 +1,0 @@
-pub mod Emitted
-pub mod Regions

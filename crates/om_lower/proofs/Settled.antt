@@ -1,0 +1,73 @@
+-- The code of a body, once all of it is written.
+use Rattle.std.proofs.Common.{◌≡◌, ℕ, zero, suc, List, [], ◌∷◌, Some, Contains, get_or, map, length, refl, sym, ap}
+use Rattle.std.proofs.Common.{subst, ◌∙◌}
+use Rattle.std.specs.Prelude.{slice_get}
+use Rattle.std.proofs.lemmas.List.{length-map}
+use Rattle.std.proofs.lemmas.Option.{slice_get_within}
+use Rattle.om_lower.specs.declared.emitted.Emitted.{Emitted}
+use Rattle.om_lower.specs.Emitted.{EmitsBody, HasLists, HasRow}
+use Rattle.om_emit.specs.declared.draft.Pick.{Pick}
+use Rattle.om_emit.specs.Drafts.{Labels, Written, known, nothing, place_in, settled, settled_code}
+use Rattle.om_emit.specs.Emits.{Finished, Fits}
+use Rattle.om_emit.specs.Settled.{ListsStand, number_of, settled_list, settled_lists}
+use Rattle.om_resolved.specs.ResolvedTree.{ResolvedFunctionTree}
+use Rattle.om_rows.specs.Bodies.{BodyTree, Numbers}
+use Rattle.om_rows.specs.Code.{body_row}
+use Rattle.om_statements.specs.Emits.{pick_number}
+use Rattle.om_tables.specs.Names.{Names, site_with}
+
+get_map : {A B : Type 0} → (f : A → B) (xs : List A) (k : ℕ) (x : A) → slice_get xs k ≡ Some x
+    → slice_get (map f xs) k ≡ Some (f x)
+get_map f [] k x at = cc
+get_map f (y ∷ xs) zero x at = cc
+get_map f (y ∷ xs) (suc k) x at = get_map f xs k x at
+
+get_there : {A : Type 0} (xs : List A) (k : ℕ) (x : A) → slice_get xs k ≡ Some x → get_or xs k x ≡ x
+get_there [] k x at = cc
+get_there (y ∷ xs) zero x at = cc
+get_there (y ∷ xs) (suc k) x at = get_there xs k x at
+
+found : {A : Type 0} (xs : List A) (k : ℕ) (x : A) → slice_get xs k ≡ Some x → Contains xs x
+found xs k x at = (k, slice_get_within xs k x at, get_there xs k x at)
+
+-- code with the place of each label fits what was written, where its lists stand in the program
+settled_fits : (d : Written) (picks : List (List ℕ)) → ListsStand (settled_lists d) picks
+    → Fits (record { code = settled_code d; picks = picks }) (place_in d.places) 0 d
+settled_fits d picks stand = record {
+  code = λ k x le e. get_map (settled (place_in d.places)) d.code k x e;
+  places = λ l x e. ap known e;
+  picks = λ k x e. stand (settled_list (place_in d.places) x)
+      (found (settled_lists d) k (settled_list (place_in d.places) x) (get_map (settled_list (place_in d.places))
+      d.picks k x e));
+}
+
+stands_in : (names : Names) (n : Numbers) (f : ResolvedFunctionTree) (tree : BodyTree) (final : Written)
+    (picks : List (List ℕ)) → EmitsBody names n f tree nothing final → ListsStand (settled_lists final) picks
+    → body_row (site_with names (settled_code final) picks) n f tree 0 (length (settled_code final))
+stands_in names n f tree final picks emitted stand =
+    let done : Finished = record { code = settled_code final; picks = picks } in
+    let row = emitted.writes.stands done (place_in final.places) (settled_fits final picks stand) in
+    subst (λ q. body_row (site_with names (settled_code final) picks) n f tree 0 q)
+    (sym (length-map final.code (settled (place_in final.places)))) row
+
+-- what is written of a body from nothing is its row, in its own code
+pub row_stands : (names : Names) (n : Numbers) (f : ResolvedFunctionTree) (tree : BodyTree)
+    (start final : Written) (made : Emitted) → start ≡ nothing → made.code ≡ settled_code final
+    → made.lists.items ≡ settled_lists final → EmitsBody names n f tree start final → HasRow names n f tree made
+row_stands names n f tree start final made first same lists emitted picks stand =
+    let whole = stands_in names n f tree final picks
+    (subst (λ d. EmitsBody names n f tree d final) first emitted)
+    (subst (λ all. ListsStand all picks) lists stand) in
+    subst (λ c. body_row (site_with names c picks) n f tree 0 (length c)) (sym same) whole
+
+numbers_same : (at : Labels) (xs : List Pick) → map number_of (map (settled_list at) xs) ≡ map pick_number xs
+numbers_same at [] = refl
+numbers_same at (x ∷ xs) = ap (λ z. x.number ∷ z) (numbers_same at xs)
+
+-- its lists are those of the `sections` in it
+pub lists_are : (names : Names) (n : Numbers) (f : ResolvedFunctionTree) (tree : BodyTree)
+    (start final : Written) (made : Emitted) → start ≡ nothing
+    → made.lists.items ≡ settled_lists final → EmitsBody names n f tree start final → HasLists n f tree made
+lists_are names n f tree start final made first lists emitted =
+    let whole = subst (λ d. EmitsBody names n f tree d final) first emitted in
+    ap (map number_of) lists ∙ numbers_same (place_in final.places) final.picks ∙ whole.adds

@@ -1,0 +1,113 @@
+-- All that stands in a body, one thing behind the other.
+use Rattle.std.proofs.Common.{◌≡◌, ◌≤◌, ℕ, List, Bool, true, false, None, length, sym, subst, arith}
+use Rattle.om_lower.specs.Emitted.{EmitsBody, EmitsRegion}
+use Rattle.om_code.specs.declared.instruction.Barrier.TheVariants as barriers
+use Rattle.om_code.specs.declared.instruction.Instr.{Instr}
+use Rattle.om_code.specs.declared.instruction.Instr.TheVariants as i
+use Rattle.om_emit.specs.Drafts.{Labels, Puts, Written}
+use Rattle.om_emit.specs.Emits.{Emits, EmitsRow, Finished, Goes, Part, site}
+use Rattle.om_emit.specs.Writing.{goes_end, goes_put}
+use Rattle.om_lexer.specs.declared.token.Span.{Span}
+use Rattle.om_resolved.specs.declared.resolved.Capture.{Capture}
+use Rattle.om_resolved.specs.ResolvedTree.{ResolvedClauseTree, ResolvedFunctionTree, ResolvedStatementTree}
+use Rattle.om_resolved.specs.ResolvedTree.{ResolvedStatementsTree}
+use Rattle.om_rows.specs.Bodies.{FunctionBody, ParallelBody, TaskBody}
+use Rattle.om_rows.specs.Code.{last_instruction}
+use Rattle.om_rows.specs.Rows.{end, ins, part}
+use Rattle.om_rows.specs.Statements.{nowhere, reduction_starts, reductions, statement, statements}
+use Rattle.om_constructs.specs.declared.labels.JumpLabels.{JumpLabels}
+use Rattle.om_constructs.specs.declared.spot.Spot.{Spot}
+use Rattle.om_statements.specs.Emits.{EmitsStatement, EmitsStatements, EmitsWith}
+use Rattle.om_statements.specs.Going.{before_with, goes_then, with_as, with_behind}
+use Rattle.om_tables.specs.declared.numbers.Numbers as tables
+use Rattle.om_tables.specs.Names.{Names}
+use Rattle.om_tables.specs.Numbering.{numbers_of}
+
+-- outside of loops
+abbrev no_jumps : JumpLabels
+no_jumps = record { over = None; next = None }
+
+abbrev IsOutside : tables.Numbers → Spot → Type 0
+IsOutside numbers spot = spot ≡ record { numbers = numbers; jumps = no_jumps }
+
+-- ---- one thing, and what stands behind it
+
+part_then : (xs : List ℕ) (r s : Part) (a b c : Written) → EmitsWith xs r a b → Emits s b c
+    → EmitsWith xs (λ done at. part (r done at) (s done at)) a c
+part_then xs r s a b c e g = with_behind _ _ _ xs r s a b c (omega arith) e.more e g
+
+last_two : (names : Names) (l : ℕ) (a b c : Written) → Puts l (i.Arrive barriers.Parallel) a b
+    → Puts l i.Leave b c
+    → EmitsRow names (λ at. ins at l (i.Arrive barriers.Parallel) (ins at l i.Leave end)) a c
+last_two names l a b c arrive leave =
+    goes_put names _ l (i.Arrive barriers.Parallel) (λ done at. ins (site names done) l i.Leave end) a b c arrive
+    (goes_put names _ l i.Leave (λ done at. end) b c c leave (goes_end _ c))
+
+last_one : (names : Names) (l : ℕ) (main : Bool) (a b : Written) → Puts l (last_instruction main) a b
+    → EmitsRow names (λ at. ins at l (last_instruction main) end) a b
+last_one names l true a b put = goes_put names _ l (i.Finish false) (λ done at. end) a b b put (goes_end _ b)
+last_one names l false a b put = goes_put names _ l i.ReturnNothing (λ done at. end) a b b put (goes_end _ b)
+
+-- ---- bodies
+
+pub function_emits : (names : Names) (f : ResolvedFunctionTree) (numbers : tables.Numbers) (spot : Spot)
+    (items : ResolvedStatementsTree) (last : Instr) (a b c : Written)
+    → IsOutside numbers spot → items ≡ f.body → last ≡ last_instruction names.is_main
+    → EmitsStatements names (numbers_of spot.numbers) items spot.jumps a b → Puts f.closing_line last b c
+    → EmitsBody names (numbers_of numbers) f FunctionBody a c
+function_emits names f numbers spot items last a b c outside all ends emitted put =
+    let here = subst (λ s. EmitsStatements names (numbers_of s.numbers) items s.jumps a b) outside emitted in
+    let whole = subst (λ xs. EmitsStatements names (numbers_of numbers) xs no_jumps a b) all here in
+    let closed = subst (λ x. Puts f.closing_line x b c) ends put in
+    part_then _ (λ done at. statements (site names done) (numbers_of numbers) f.body nowhere)
+    (λ done at. ins (site names done) f.closing_line (last_instruction names.is_main) end) a b c whole
+    (last_one names f.closing_line names.is_main b c closed)
+
+pub task_emits : (names : Names) (numbers : tables.Numbers) (spot : Spot) (first : Span)
+    (clauses : List ResolvedClauseTree) (captures : List Capture) (s : ResolvedStatementTree)
+    (a b c : Written) → IsOutside numbers spot
+    → EmitsStatement names (numbers_of spot.numbers) s spot.jumps a b → Puts first.line i.TaskEnd b c
+    → EmitsRegion names (numbers_of numbers) (TaskBody first clauses captures s) a c
+task_emits names numbers spot first clauses captures s a b c outside emitted put f =
+    part_then _ (λ done at. statement (site names done) (numbers_of numbers) s nowhere)
+    (λ done at. ins (site names done) first.line i.TaskEnd end) a b c
+    (subst (λ x. EmitsStatement names (numbers_of x.numbers) s x.jumps a b) outside emitted)
+    (goes_put names _ first.line i.TaskEnd (λ done at. end) b c c put (goes_end _ c))
+
+pub parallel_emits : (names : Names) (numbers : tables.Numbers) (spot : Spot) (first : Span)
+    (clauses : List ResolvedClauseTree) (captures : List Capture) (s : ResolvedStatementTree)
+    (a b c d e g h : Written) → IsOutside numbers spot → Puts first.line i.Begin a b
+    → EmitsRow names (λ at. reduction_starts at first.line clauses) b c
+    → EmitsStatement names (numbers_of spot.numbers) s spot.jumps c d
+    → EmitsRow names (λ at. reductions at first.line clauses) d e
+    → Puts first.line (i.Arrive barriers.Parallel) e g → Puts first.line i.Leave g h
+    → EmitsRegion names (numbers_of numbers) (ParallelBody first clauses captures s) a h
+parallel_emits names numbers spot first clauses captures s a b c d e g h outside begin starts emitted combined
+    arrive leave f =
+    with_as k _ (λ done at. part (ins (site names done) first.line i.Begin end) (begun done at)) _ a h
+    (λ done at p q r. (r.1.0, subst (λ m. begun done at m q) (sym r.1.1) r.2))
+    (before_with k k k _ _ begun a b h (omega arith) (omega arith) first_put
+    (before_with k _ k _ (λ done at. reduction_starts (site names done) first.line clauses) _ b c h
+    first_put.keeps.more (omega arith) starts
+    (with_behind k _ _ _ (λ done at. statement (site names done) (numbers_of numbers) s nowhere) _ c d h
+    (omega (arith, first_put.keeps.more, starts.keeps.more))
+    (omega (arith, first_put.keeps.more, starts.keeps.more, inside.more)) inside
+    (goes_then _ _ _ (λ done at. reductions (site names done) first.line clauses) _ d e h (omega arith)
+    combined.keeps.more combined (last_two names first.line e g h arrive leave)))))
+  where
+    k : ℕ
+    k = length a.places
+
+    begun : Finished → Labels → ℕ → ℕ → Type 0
+    begun done at =
+        part (reduction_starts (site names done) first.line clauses)
+        (part (statement (site names done) (numbers_of numbers) s nowhere)
+        (part (reductions (site names done) first.line clauses)
+        (ins (site names done) first.line (i.Arrive barriers.Parallel)
+        (ins (site names done) first.line i.Leave end))))
+
+    first_put : Goes k (λ done at. ins (site names done) first.line i.Begin end) a b
+    first_put = goes_put names k first.line i.Begin (λ done at. end) a b b begin (goes_end k b)
+
+    inside : EmitsStatement names (numbers_of numbers) s no_jumps c d
+    inside = subst (λ x. EmitsStatement names (numbers_of x.numbers) s x.jumps c d) outside emitted

@@ -1,0 +1,35 @@
+-- What is promised of the code of a body.
+use Rattle.std.specs.Prelude.{◌≡◌, ℕ, List, length, map}
+use Rattle.om_lower.specs.declared.emitted.Emitted.{Emitted}
+use Rattle.om_emit.specs.Drafts.{Written}
+use Rattle.om_emit.specs.Emits.{site}
+use Rattle.om_emit.specs.Settled.{ListsStand, number_of}
+use Rattle.om_resolved.specs.ResolvedTree.{ResolvedFunctionTree}
+use Rattle.om_rows.specs.Bodies.{BodyTree, Numbers}
+use Rattle.om_rows.specs.Code.{body_row}
+use Rattle.om_statements.specs.Emits.{EmitsWith}
+use Rattle.om_tables.specs.Names.{Names, site_with}
+use Rattle.om_tables.specs.Picks.{body_picks}
+
+-- the row of a body stands in its code, wherever its lists of PICK stand in the program
+abbrev pub HasRow : Names → Numbers → ResolvedFunctionTree → BodyTree → Emitted → Type 0
+HasRow names n f tree made = (picks : List (List ℕ)) → ListsStand made.lists.items picks
+    → body_row (site_with names made.code picks) n f tree 0 (length made.code)
+
+-- it has the lists of the `sections` in it
+abbrev pub HasLists : Numbers → ResolvedFunctionTree → BodyTree → Emitted → Type 0
+HasLists n f tree made = map number_of made.lists.items ≡ body_picks n f tree
+
+-- the same of a region, in whichever function it stands
+abbrev pub HasRegionRow : Names → Numbers → BodyTree → Emitted → Type 0
+HasRegionRow names n tree made = (f : ResolvedFunctionTree) → HasRow names n f tree made
+
+abbrev pub HasRegionLists : Numbers → BodyTree → Emitted → Type 0
+HasRegionLists n tree made = (f : ResolvedFunctionTree) → HasLists n f tree made
+
+-- all of a body is written, with the lists of the `sections` in it
+abbrev pub EmitsBody : Names → Numbers → ResolvedFunctionTree → BodyTree → Written → Written → Type 0
+EmitsBody names n f tree = EmitsWith (body_picks n f tree) (λ done at. body_row (site names done) n f tree)
+
+abbrev pub EmitsRegion : Names → Numbers → BodyTree → Written → Written → Type 0
+EmitsRegion names n tree old new = (f : ResolvedFunctionTree) → EmitsBody names n f tree old new

@@ -1,0 +1,80 @@
+//! The code of the bodies of functions, of `parallel` and of `task`.
+
+ghost use Rattle.std.specs.Prelude.{IfOk, false};
+ghost use Rattle.om_lower.specs.Emitted.{HasLists, HasRegionLists, HasRegionRow, HasRow};
+ghost use Rattle.om_lower.specs.Regions.{parallel_tree, statement_of, task_tree};
+ghost use Rattle.om_resolved.specs.ResolvedView.{view_resolved_function};
+ghost use Rattle.om_rows.specs.Bodies.{FunctionBody};
+ghost use Rattle.om_rows.specs.Coded.{BodyHasCode, StatementHasCode};
+ghost use Rattle.om_tables.specs.Numbering.{numbers_of};
+ghost use Rattle.om_tables.specs.Scopes.{names_of};
+
+use crate::emitted::{Emitted, settled};
+use crate::region::Region;
+use crate::whole::{write_function, write_parallel, write_task};
+use om_emit::draft::Draft;
+use om_resolved::ResolvedFunction;
+use om_tables::{Numbers, Scope};
+use std::alloc::{AllocError, Global};
+
+/// The code of a function's own body. The numbers are those of the next body, and of the next list
+/// of PICK, in it.
+///
+/// Its only error is out of memory.
+pub(crate) fn function_body(
+    alloc: Global,
+    scope: &Scope<'_>,
+    numbers: Numbers,
+    function: &ResolvedFunction,
+) -> Result<Emitted, AllocError>
+    requires { BodyHasCode (view_resolved_function function.now) FunctionBody }
+    ensures row { let seen = view_resolved_function function.now in
+        IfOk result (HasRow (names_of scope.now) (numbers_of numbers) seen FunctionBody) }
+    ensures lists { let seen = view_resolved_function function.now in
+        IfOk result (HasLists (numbers_of numbers) seen FunctionBody) }
+{
+    let mut draft = Draft::new(alloc);
+    write_function(alloc, &mut draft, scope, numbers, function)?;
+    let made = settled(alloc, &draft)?;
+    Ok(made)
+}
+
+/// The code of the body of a `parallel`, in whichever function it stands.
+///
+/// Its only error is out of memory.
+pub(crate) fn parallel_body(
+    alloc: Global,
+    scope: &Scope<'_>,
+    numbers: Numbers,
+    region: &Region<'_>,
+) -> Result<Emitted, AllocError>
+    requires { StatementHasCode false false (statement_of region.now) }
+    ensures row { let tree = parallel_tree region.now in
+        IfOk result (HasRegionRow (names_of scope.now) (numbers_of numbers) tree) }
+    ensures lists { IfOk result (HasRegionLists (numbers_of numbers) (parallel_tree region.now)) }
+{
+    let mut draft = Draft::new(alloc);
+    write_parallel(alloc, &mut draft, scope, numbers, region)?;
+    let made = settled(alloc, &draft)?;
+    Ok(made)
+}
+
+/// The code of the body of a `task`, in whichever function it stands.
+///
+/// Its only error is out of memory.
+pub(crate) fn task_body(
+    alloc: Global,
+    scope: &Scope<'_>,
+    numbers: Numbers,
+    region: &Region<'_>,
+) -> Result<Emitted, AllocError>
+    requires { StatementHasCode false false (statement_of region.now) }
+    ensures row { let tree = task_tree region.now in
+        IfOk result (HasRegionRow (names_of scope.now) (numbers_of numbers) tree) }
+    ensures lists { IfOk result (HasRegionLists (numbers_of numbers) (task_tree region.now)) }
+{
+    let mut draft = Draft::new(alloc);
+    write_task(alloc, &mut draft, scope, numbers, region)?;
+    let made = settled(alloc, &draft)?;
+    Ok(made)
+}

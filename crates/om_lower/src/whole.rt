@@ -1,0 +1,95 @@
+//! Writes all that stands in a body, from its first place to its last.
+
+ghost use Rattle.std.specs.Prelude.{◌≡◌, OnOk, false};
+ghost use Rattle.om_lower.specs.Emitted.{EmitsBody, EmitsRegion};
+ghost use Rattle.om_lower.specs.Regions.{parallel_tree, statement_of, task_tree};
+ghost use Rattle.om_resolved.specs.ResolvedView.{view_resolved_function};
+ghost use Rattle.om_rows.specs.Bodies.{FunctionBody};
+ghost use Rattle.om_rows.specs.Code as codes;
+ghost use Rattle.om_rows.specs.Coded.{BodyHasCode, StatementHasCode};
+ghost use Rattle.om_tables.specs.Numbering.{numbers_of};
+ghost use Rattle.om_tables.specs.Scopes.{names_of};
+
+use crate::region::Region;
+use om_code::instruction::{Barrier, Instr};
+use om_constructs::clause::{reduction_starts, reductions};
+use om_constructs::spot::Spot;
+use om_emit::draft::Draft;
+use om_resolved::ResolvedFunction;
+use om_statements::statement::{statement, statements};
+use om_tables::{Numbers, Scope};
+use std::alloc::{AllocError, Global};
+
+/// Writes the statements of a function, and its end.
+pub(crate) fn write_function(
+    alloc: Global,
+    draft: &mut Draft,
+    scope: &Scope<'_>,
+    numbers: Numbers,
+    function: &ResolvedFunction,
+) -> Result<(), AllocError>
+    requires { BodyHasCode (view_resolved_function function.now) FunctionBody }
+    ensures { let seen = view_resolved_function function.now in
+        let names = names_of scope.now in
+        OnOk result (EmitsBody names (numbers_of numbers) seen FunctionBody draft.old draft.new) }
+{
+    let spot = Spot::outside(numbers);
+    statements(alloc, draft, scope, spot, function.body.as_slice())?;
+    draft.put(function.closing_line, last_instruction(scope.is_main))?;
+    Ok(())
+}
+
+/// The end of a function: RETN, of `main` FIN 0.
+fn last_instruction(is_main: bool) -> Instr
+    ensures { result ≡ codes.last_instruction is_main }
+{
+    if is_main {
+        Instr::Finish { has_value: false }
+    } else {
+        Instr::ReturnNothing
+    }
+}
+
+/// Writes what each thread of a team does (OpenMP API 5.2, section 10.1): its implicit task begins,
+/// its copies are combined behind the statement, and all threads wait for each other.
+pub(crate) fn write_parallel(
+    alloc: Global,
+    draft: &mut Draft,
+    scope: &Scope<'_>,
+    numbers: Numbers,
+    region: &Region<'_>,
+) -> Result<(), AllocError>
+    requires { StatementHasCode false false (statement_of region.now) }
+    ensures { let tree = parallel_tree region.now in
+        let names = names_of scope.now in
+        OnOk result (EmitsRegion names (numbers_of numbers) tree draft.old draft.new) }
+{
+    let line = region.at.line;
+    draft.put(line, Instr::Begin)?;
+    reduction_starts(draft, scope, line, region.clauses)?;
+    let spot = Spot::outside(numbers);
+    statement(alloc, draft, scope, spot, region.statement)?;
+    reductions(draft, scope, line, region.clauses)?;
+    draft.put(line, Instr::Arrive(Barrier::Parallel))?;
+    draft.put(line, Instr::Leave)?;
+    Ok(())
+}
+
+/// Writes what a task does (OpenMP API 5.2, section 12.5), and its end.
+pub(crate) fn write_task(
+    alloc: Global,
+    draft: &mut Draft,
+    scope: &Scope<'_>,
+    numbers: Numbers,
+    region: &Region<'_>,
+) -> Result<(), AllocError>
+    requires { StatementHasCode false false (statement_of region.now) }
+    ensures { let tree = task_tree region.now in
+        let names = names_of scope.now in
+        OnOk result (EmitsRegion names (numbers_of numbers) tree draft.old draft.new) }
+{
+    let spot = Spot::outside(numbers);
+    statement(alloc, draft, scope, spot, region.statement)?;
+    draft.put(region.at.line, Instr::TaskEnd)?;
+    Ok(())
+}

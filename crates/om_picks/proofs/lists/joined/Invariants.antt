@@ -1,5 +1,0 @@
-use Rattle.om_picks.proofs.Filling.{Filled}
-use Rattle.om_picks.proofs.lists.joined.Given as goal
-
-abbrev pub invariant-loop-list : goal.invariant-loop-list
-invariant-loop-list l = Filled l.fn.lists.items l.count l.yielded l.list-iterator.rest.items l.picks.items

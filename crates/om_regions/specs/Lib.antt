@@ -1,2 +1,0 @@
-pub mod Arounds
-pub mod Pushes
