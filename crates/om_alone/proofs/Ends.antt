@@ -33,7 +33,7 @@ use Rattle.om_cells.specs.Edits.{value_given}
 use Rattle.om_cells.specs.Rules.{control_access}
 use Rattle.om_cells.specs.State.{State, state_after, updated}
 use Rattle.om_row.specs.Objects.{read, events, event, own_slot, own_from, own_cells, home_at, deaths}
-use Rattle.om_serial.specs.Rows.{return_row}
+use Rattle.om_row.specs.SerialRows.{return_row}
 use Rattle.om_spawn.specs.Rows.{finished_row, finished}
 use Rattle.om_spawn.specs.Tasks.{is_zero}
 use Rattle.om_meaning.specs.Running.{world_of}

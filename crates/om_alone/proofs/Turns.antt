@@ -34,7 +34,7 @@ use Rattle.om_row.specs.declared.row.Row.{Row}
 use Rattle.om_row.specs.declared.row.Row.TheVariants as row
 use Rattle.om_row.specs.Rows.{Asked}
 use Rattle.om_row.specs.Objects.{read, write, object_of, slot_cells}
-use Rattle.om_serial.specs.Rows.{row_of, touch_row, unsets}
+use Rattle.om_row.specs.SerialRows.{row_of, touch_row, unsets}
 use Rattle.om_task.specs.Rules.{outcome_after}
 use Rattle.om_meaning.specs.Running.{world_of}
 use Rattle.om_meaning.specs.Worlds.{World, with_held}

@@ -12,7 +12,7 @@ use Rattle.om_parser.specs.FunctionReading.{parameter_at, further_parameter_at, 
 use Rattle.om_parser.specs.FunctionReading.{named_parameter, named_further, named_parameters, named_head}
 use Rattle.om_parts.specs.Reading.{known, take_mark, mark_at, word_at}
 use Rattle.om_parts.specs.Repetition.{until}
-use Rattle.om_phrases.specs.Stopped.{IsPlain, ok_plain, known_plain, bind_plain, choose_plain, until_plain}
+use Rattle.om_parser.specs.Stopped.{IsPlain, ok_plain, known_plain, bind_plain, choose_plain, until_plain}
 
 parameter_plain : (ts : List Token) → IsPlain (parameter_at ts)
 unfolding parameter_at word_at

@@ -8,8 +8,8 @@ use Rattle.om_tree.specs.Spelling.{unit_spelling}
 use Rattle.om_tree.specs.Tree.{ItemTree, Declaration, Prototype, Function, UnitTree, statements}
 use Rattle.om_parser.specs.UnitReading.{unit_at}
 use Rattle.om_parts.specs.Laws.{GlobalsAreReadAgain}
-use Rattle.om_phrases.specs.Laws.{BlocksAreReadAgain, UncheckedHaveForms}
-use Rattle.om_phrases.specs.Outcomes.{ok, ok_is}
+use Rattle.om_parser.specs.Laws.{BlocksAreReadAgain, UncheckedHaveForms}
+use Rattle.om_parser.specs.Outcomes.{ok, ok_is}
 use Rattle.om_parser.proofs.Forms.{IsKeptItem}
 use Rattle.om_parser.proofs.UnitComplete.{unit_again}
 

@@ -18,16 +18,16 @@ use Rattle.om_parts.specs.Repetition.{until}
 use Rattle.om_tree.specs.Spelling.{token, mark, name, block_spelling, declarator_spelling, declaration_spelling}
 use Rattle.om_tree.specs.Spelling.{given_name, parameters_spelling, perhaps, head_spelling, prototype_spelling}
 use Rattle.om_tree.specs.Spelling.{item_spelling, unit_spelling}
-use Rattle.om_phrases.specs.StatementReading.{block_at}
+use Rattle.om_parser.specs.StatementReading.{block_at}
 use Rattle.om_tree.specs.Tree.{DeclarationTree, HeadTree, FunctionTree, ItemTree, Declaration, Prototype, Function}
 use Rattle.om_tree.specs.Tree.{UnitTree}
 use Rattle.om_parser.specs.UnitReading.{function_after, prototype_after, void_after, int_after, item_at, take_end}
 use Rattle.om_parser.specs.UnitReading.{unit_at}
-use Rattle.om_phrases.specs.Again.{take_mark_again, take_word_again, mark_again, word_again, name_again, bind_answer}
+use Rattle.om_parser.specs.Again.{take_mark_again, take_word_again, mark_again, word_again, name_again, bind_answer}
 use Rattle.om_parts.specs.Laws.{IsAnswer, GlobalsAreReadAgain}
-use Rattle.om_phrases.specs.Laws.{BlocksAreReadAgain}
-use Rattle.om_phrases.specs.Outcomes.{ok}
-use Rattle.om_phrases.specs.ItemsComplete.{AreAgain, until_again}
+use Rattle.om_parser.specs.Laws.{BlocksAreReadAgain}
+use Rattle.om_parser.specs.Outcomes.{ok}
+use Rattle.om_parser.specs.ItemsComplete.{AreAgain, until_again}
 use Rattle.om_parser.proofs.Forms.{IsKeptItem}
 use Rattle.om_parser.proofs.FunctionSound.{named_head_is}
 use Rattle.om_parser.proofs.FunctionComplete.{head_again, int_is_no_void, unasked_head, named_head_again}

@@ -9,7 +9,7 @@ use Rattle.om_parser.specs.Faults.{IsBadAtomic}
 use Rattle.om_tree.specs.Formed.{IsUnit}
 use Rattle.om_tree.specs.Limits.{Limits}
 use Rattle.om_parts.specs.WrongLines.{IsWrongLine}
-use Rattle.om_phrases.specs.LineFaults.{IsLineFault}
+use Rattle.om_parser.specs.BlockLineFaults.{IsLineFault}
 use Rattle.om_parser.specs.LineFaults.{IsPassedInLine, IsRefusedLine}
 use Rattle.om_tree.specs.Places.{IsOverInUnit, IsPassed}
 use Rattle.om_tree.specs.Spelling.{unit_spelling}

@@ -1,3 +1,17 @@
+pub mod OneOrMore
+pub mod ConstructReading
+pub mod StatementReading
+pub mod StatementView
+pub mod BlockLineFaults
+pub mod BlockFaults
+pub mod Laws
+pub mod Outcomes
+pub mod Taken
+pub mod Again
+pub mod Loops
+pub mod ItemsSound
+pub mod ItemsComplete
+pub mod Stopped
 pub mod Parsing
 pub mod FunctionReading
 pub mod LineFaults

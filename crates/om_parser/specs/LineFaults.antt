@@ -2,7 +2,7 @@
 use Rattle.std.specs.Prelude.{ℕ, List}
 use Rattle.om_lexer.specs.declared.fault.SourceFault.{SourceFault}
 use Rattle.om_lexer.specs.declared.token.Token.{Token}
-use Rattle.om_phrases.specs.LineFaults.{HasLine}
+use Rattle.om_parser.specs.BlockLineFaults.{HasLine}
 use Rattle.om_parts.specs.WrongLines.{IsPassedInClause}
 use Rattle.om_pragma.specs.Refusals.{IsWordFault}
 use Rattle.om_tree.specs.Formed.{IsUnit}

@@ -15,7 +15,7 @@ use Rattle.om_tree.specs.Limits.{Limits}
 use Rattle.om_parts.specs.Reading.{◌>>=◌, choose, Outcome, Reader, take_mark, take_word, mark_at, word_at}
 use Rattle.om_parts.specs.Reading.{name_at}
 use Rattle.om_parts.specs.Repetition.{until}
-use Rattle.om_phrases.specs.StatementReading.{block_at}
+use Rattle.om_parser.specs.StatementReading.{block_at}
 use Rattle.om_tree.specs.Tree.{HeadTree, ItemTree, Declaration, Prototype, Function, UnitTree}
 
 -- ---- functions

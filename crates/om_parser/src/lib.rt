@@ -1,7 +1,14 @@
 //! The parser: the tokens of a C source to its tree (C17 6.8, 6.9).
 #![tactic(auto)]
 
+mod assembly;
+mod construct;
 mod function;
+pub mod laws;
+mod opening;
+mod simple;
+mod start;
+mod statement;
 mod unit;
 
 pub use unit::{STACK_SIZE, one_tree, parse};

@@ -18,12 +18,12 @@ ghost use Rattle.om_parser.specs.UnitReading.{function_after, prototype_after, v
 ghost use Rattle.om_tree.specs.View.{view_head, view_item, view_unit};
 
 use crate::function::{head_after, named_head};
+use crate::laws::{blocks_are_read_again, blocks_are_sound, blocks_stop_so};
+use crate::statement::block;
 use om_lexer::{Keyword, Punctuator, SourceFault, Span, Token, TokenKind};
 use om_parts::front::{mark, name, take_mark, take_word, word};
 use om_parts::laws::globals;
 use om_parts::part::global_declaration;
-use om_phrases::block;
-use om_phrases::laws::{blocks_are_read_again, blocks_are_sound, blocks_stop_so};
 use om_pragma::Name;
 use om_tree::{Function, FunctionHead, Item, ResultType, Unit};
 use std::alloc::Global;

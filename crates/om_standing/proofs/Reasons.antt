@@ -31,7 +31,7 @@ use Rattle.om_cells.specs.declared.control.Stack.{Stack}
 use Rattle.om_cells.specs.declared.value.Val.{Val}
 use Rattle.om_cells.specs.Values.{cell_in}
 use Rattle.om_row.specs.Rows.{first_of}
-use Rattle.om_serial.specs.Rows.{row_of, touch_row, serial_row, slots_in, unsets, cells_of_slot}
+use Rattle.om_row.specs.SerialRows.{row_of, touch_row, serial_row, slots_in, unsets, cells_of_slot}
 use Rattle.om_standing.specs.Reasons.{HasNoValue, MayLack}
 use Rattle.om_standing.proofs.Operands.{no_int, no_ints}
 

@@ -35,7 +35,7 @@ use Rattle.om_row.specs.declared.row.Launch.{Launch}
 use Rattle.om_row.specs.declared.row.Row.{Row}
 use Rattle.om_row.specs.Rows.{Asked, first_of, rest_of}
 use Rattle.om_row.specs.Objects.{own_cells, homes_in, is_misplaced}
-use Rattle.om_serial.specs.Rows.{call_row, return_row, combined, reduced, reduce_row}
+use Rattle.om_row.specs.SerialRows.{call_row, return_row, combined, reduced, reduce_row}
 use Rattle.om_fork.specs.Barriers.{is_open}
 use Rattle.om_fork.specs.Teams.{first_frame, first_busy}
 use Rattle.om_fork.specs.Rows.{forked, team_of, named_row, sized_row, fork_row, is_misplaced_barrier, arrive_row}

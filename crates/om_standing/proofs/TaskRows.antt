@@ -45,8 +45,8 @@ use Rattle.om_cells.specs.Values.{cell_in, task_in, count_in}
 use Rattle.om_row.specs.declared.row.Launch.{Launch}
 use Rattle.om_row.specs.Rows.{first_of, rest_of}
 use Rattle.om_row.specs.Objects.{own_cells, deaths, puts, homes_in, innermost}
-use Rattle.om_serial.specs.Rows.{put_of, row_of, unsets, cells_of_slot, touch_row, serial_row, slots_in, call_row}
-use Rattle.om_serial.specs.Rows.{return_row, combined, reduced, reduce_row}
+use Rattle.om_row.specs.SerialRows.{put_of, row_of, unsets, cells_of_slot, touch_row, serial_row, slots_in, call_row}
+use Rattle.om_row.specs.SerialRows.{return_row, combined, reduced, reduce_row}
 use Rattle.om_fork.specs.Barriers.{is_open}
 use Rattle.om_fork.specs.Teams.{first_frame, first_busy, member, member_controls, member_puts}
 use Rattle.om_fork.specs.Rows.{forked, team_of, named_row, sized_row, fork_row, begin_row, is_misplaced_barrier}

@@ -24,7 +24,7 @@ use Rattle.om_cells.specs.declared.step.Choice.TheVariants.{Next, Start}
 use Rattle.om_cells.specs.declared.step.Label.{Label}
 use Rattle.om_cells.specs.declared.value.Val.{Val}
 use Rattle.om_row.specs.Objects.{innermost}
-use Rattle.om_serial.specs.Rows.{serial_row, slots_in}
+use Rattle.om_row.specs.SerialRows.{serial_row, slots_in}
 use Rattle.om_share.specs.Rows.{share_in}
 use Rattle.om_task.specs.Rules.{site, choice_row, leaving, admits_all, row_in}
 use Rattle.om_task.specs.Sites.{Site, context, operands, next, slots, line, launch, body_of, lock_of, targets_of}

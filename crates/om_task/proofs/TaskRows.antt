@@ -43,8 +43,8 @@ use Rattle.om_row.specs.declared.row.Launch.{Launch}
 use Rattle.om_row.specs.declared.row.Row.TheVariants.{Faults}
 use Rattle.om_row.specs.Rows.{first_of, rest_of}
 use Rattle.om_row.specs.Objects.{own_cells, deaths, puts, events, given_cells, innermost}
-use Rattle.om_serial.specs.Rows.{put_of, row_of, unsets, cells_of_slot, touch_row, serial_row, slots_in, number_row}
-use Rattle.om_serial.specs.Rows.{call_row, return_row, combined, reduced, reduce_row}
+use Rattle.om_row.specs.SerialRows.{put_of, row_of, unsets, cells_of_slot, touch_row, serial_row, slots_in, number_row}
+use Rattle.om_row.specs.SerialRows.{call_row, return_row, combined, reduced, reduce_row}
 use Rattle.om_fork.specs.Barriers.{barrier, is_open}
 use Rattle.om_fork.specs.Teams.{first_busy, member_controls, member_puts}
 use Rattle.om_fork.specs.Rows.{forked, team_row, team_of, named_row, sized_row, fork_row, begin_row, reached_row}

@@ -4,7 +4,7 @@ ghost use Rattle.std.specs.Prelude.{◌≡◌, ◌<◌, ◌+◌, ◌^◌, IfOk, 
 ghost use Rattle.om_cells.specs.Stores.{state_of};
 ghost use Rattle.om_code.specs.Places.{slots_of};
 ghost use Rattle.om_row.specs.Rows.{answered};
-ghost use Rattle.om_serial.specs.Rows.{serial_row};
+ghost use Rattle.om_row.specs.SerialRows.{serial_row};
 ghost use Rattle.om_task.specs.Ready.{IsReady};
 ghost use Rattle.om_task.specs.Rules.{site};
 ghost use Rattle.om_task.specs.Sites.{lock_of, targets_of};
@@ -77,26 +77,26 @@ fn frame_answer(
     let context = &stack.top;
     let operands = &context.frame.operands;
     match doing.instruction {
-        Instr::ThreadNumber => om_serial::number(alloc, context, context.team.get().number),
-        Instr::TeamSize => om_serial::number(alloc, context, context.team.get().size),
+        Instr::ThreadNumber => om_row::number(alloc, context, context.team.get().number),
+        Instr::TeamSize => om_row::number(alloc, context, context.team.get().size),
         Instr::Call { body, values } => {
             let ints = ints_on(alloc, usize::from(values), operands)?;
             let launch = launch(stack, u32::from(values), body);
-            om_serial::call(alloc, launch, program.body(body), context, ints)
+            om_row::call(alloc, launch, program.body(body), context, ints)
         }
         Instr::Return => {
             let value = int_at(operands, 0).map(Operand::Int);
-            om_serial::give_back(alloc, context, slots(program, stack), value)
+            om_row::give_back(alloc, context, slots(program, stack), value)
         }
         Instr::ReturnNothing => {
             let value = Some(Operand::NoValue);
-            om_serial::give_back(alloc, context, slots(program, stack), value)
+            om_row::give_back(alloc, context, slots(program, stack), value)
         }
         Instr::Reduce {
             reduction,
             copy,
             place,
-        } => om_serial::reduce(alloc, store, context, reduction, (copy, place)),
+        } => om_row::reduce(alloc, store, context, reduction, (copy, place)),
         _ => Ok(Answer::decided(alloc, Row::Lacks)),
     }
 }
@@ -115,7 +115,7 @@ fn serial_answer(
         (state_of store.now)) }
 {
     let raw = program.raw();
-    om_serial::serial(alloc, raw, store, &stack.top, doing.instruction)
+    om_row::serial(alloc, raw, store, &stack.top, doing.instruction)
 }
 
 /// Parallel regions and barriers.

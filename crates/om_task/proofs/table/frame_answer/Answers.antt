@@ -3,7 +3,7 @@ use Rattle.std.specs.Prelude.{IfOk}
 use Rattle.om_cells.specs.Stores.{state_of}
 use Rattle.om_cells.specs.declared.control.Team.{Team}
 use Rattle.om_row.specs.Rows.{answered}
-use Rattle.om_serial.specs.Rows.{number_row}
+use Rattle.om_row.specs.SerialRows.{number_row}
 use Rattle.om_task.specs.Rules.{site}
 use Rattle.om_task.specs.Table.{frame_row}
 use Rattle.om_task.proofs.Answers.{at_state}

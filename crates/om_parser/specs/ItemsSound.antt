@@ -1,0 +1,42 @@
+-- Matter of proofs, for om_parser too: several items that are read are each well-formed, and spelled as the
+-- tokens were.
+use Rattle.std.proofs.Common.{◌≡◌, ℕ, zero, suc, List, [], ◌∷◌, ◌++◌, subst, ◌∙◌, append_assoc, inl, inr, All}
+use Rattle.std.specs.List.{flat_map}
+use Rattle.std.proofs.lemmas.List.Elements.{All-nil, All-cons}
+use Rattle.om_lexer.specs.declared.token.Span.{Span}
+use Rattle.om_lexer.specs.declared.token.Token.{Token}
+use Rattle.om_parts.specs.Reading.{Reader}
+use Rattle.om_parts.specs.Repetition.{until}
+use Rattle.om_parser.specs.Outcomes.{ok, ok_is, some, bind_ok, choose_cases, after_front}
+use Rattle.om_parser.specs.Loops.{Ender}
+use Rattle.om_parts.specs.Laws.{IsSound}
+
+-- a token that ends a list of items, and what is behind it
+abbrev pub EndsBy : (Span → Token) → Ender → Type 0
+EndsBy last ender = (ts : List Token) (s : Span) (us : List Token) → ender ts ≡ some (s, us) → ts ≡ last s ∷ us
+
+pub record AreRead {A : Type 0} (spell : A → List Token) (P : A → Type 0) (last : Span → Token) (ts : List Token)
+    (x : List A × Span × List Token) : Type 0 where
+  pub parts : ts ≡ (flat_map spell x.0 ++ last x.1 ∷ []) ++ x.2
+  pub formed : All P x.0
+
+pub until_sound : {A : Type 0} (spell : A → List Token) (P : A → Type 0) (last : Span → Token) (ender : Ender)
+    (item : Reader A) → EndsBy last ender → IsSound spell P item → (k : ℕ) (ts : List Token) (x : List A × Span
+    × List Token) → until ender item k ts ≡ ok x → AreRead spell P last ts x
+unfolding until
+until_sound spell P last ender item ends sound zero ts x h = let a = bind_ok (item ts) _ x h in absurd cc
+until_sound spell P last ender item ends sound (suc k) ts x h =
+    elim (choose_cases (ender ts) _ _ (ok x) h) [
+      | inl g ↦ subst (AreRead spell P last ts) (ok_is ([], g.0.0, g.0.1) x g.2)
+          (record { parts = ends ts g.0.0 g.0.1 g.1; formed = All-nil P })
+      | inr g ↦
+          let a = bind_ok (item ts) _ x g.1 in
+          let b = bind_ok (until ender item k a.0.1) _ x a.2 in
+          let one = sound ts a.0 a.1 in
+          let more = until_sound spell P last ender item ends sound k a.0.1 b.0 b.1 in
+          subst (AreRead spell P last ts) (ok_is (a.0.0 ∷ b.0.0, b.0.1, b.0.2) x b.2) (record {
+            parts = after_front ts (spell a.0.0) a.0.1 (flat_map spell b.0.0 ++ last b.0.1 ∷ []) b.0.2 one.parts
+                more.parts ∙ simp append_assoc;
+            formed = All-cons P a.0.0 b.0.0 one.formed more.formed;
+          })
+    ]

@@ -1,0 +1,189 @@
+//! Items of a block, and lines, that have no statement in them (C17 6.8).
+
+ghost use Rattle.std.specs.Prelude.{option_map};
+ghost use Rattle.om_parser.specs.ConstructReading.{line_start, section_of, stand_alone_at, unknown_line};
+ghost use Rattle.om_parser.specs.StatementReading.{expression_statement_at, jump_after, local_item_after, return_after, simple_of};
+ghost use Rattle.om_parser.specs.StatementView.{ReadsStatement};
+ghost use Rattle.om_parts.specs.PartReading.{parts};
+ghost use Rattle.om_parts.specs.Reading.{Reads};
+ghost use Rattle.om_tree.specs.Limits.{accepted};
+ghost use Rattle.om_tree.specs.Tree as trees;
+ghost use Rattle.om_tree.specs.View.{view_directive};
+
+use crate::construct::{LineStart, line_start, misplaced};
+use crate::start::Start;
+use om_lexer::{Punctuator, SourceFault, Span, Token};
+use om_parts::boxed::{boxed, boxed_before};
+use om_parts::front::{mark, syntax, take_mark};
+use om_parts::part::{declaration, directive_line, expression};
+use om_pragma::Directive;
+use om_tree::{Expression, Statement};
+use std::alloc::Global;
+
+/// A statement of this start that has no statement in it, of which the first token is taken,
+/// and the tokens behind it.
+#[tactic(auto, unfolding(crate::specs::StatementReading::simple_of))]
+#[inline(never)]
+pub fn simple<'a>(
+    alloc: Global,
+    start: Start,
+    at: Span,
+    behind: &'a [Token],
+    whole: &'a [Token],
+) -> Result<(Box<Statement>, &'a [Token]), SourceFault>
+    ensures { ReadsStatement result (simple_of (parts accepted) start at behind.now whole.now) }
+{
+    match start {
+        Start::Empty => boxed_before(alloc, Statement::Empty(at), behind),
+        Start::Return => return_after(alloc, at, behind),
+        Start::Break => break_after(alloc, at, behind),
+        Start::Continue => continue_after(alloc, at, behind),
+        Start::Expression => expression_statement(alloc, whole),
+        _ => Err(syntax(whole)),
+    }
+}
+
+/// The value that is returned, if one is, its semicolon, and the tokens behind them.
+#[tactic(auto, unfolding(crate::specs::StatementReading::return_after, crate::specs::StatementReading::optional_before))]
+fn return_after(
+    alloc: Global,
+    at: Span,
+    tokens: &[Token],
+) -> Result<(Box<Statement>, &[Token]), SourceFault>
+    ensures { ReadsStatement result (return_after (parts accepted) at tokens.now) }
+{
+    if let Some((semicolon, rest)) = take_mark(tokens, Punctuator::Semicolon) {
+        return boxed_before(
+            alloc,
+            Statement::Return {
+                word: at,
+                value: None,
+                semicolon,
+            },
+            rest,
+        );
+    }
+    let (value, rest) = expression(alloc, tokens)?;
+    let (semicolon, rest) = mark(rest, Punctuator::Semicolon)?;
+    boxed_before(
+        alloc,
+        Statement::Return {
+            word: at,
+            value: Some(value),
+            semicolon,
+        },
+        rest,
+    )
+}
+
+/// A `break`, of which the word is taken, and the tokens behind it.
+#[tactic(auto, unfolding(crate::specs::StatementReading::jump_after))]
+fn break_after(
+    alloc: Global,
+    at: Span,
+    tokens: &[Token],
+) -> Result<(Box<Statement>, &[Token]), SourceFault>
+    ensures { ReadsStatement result (jump_after (trees.Break at) tokens.now) }
+{
+    let (semicolon, rest) = mark(tokens, Punctuator::Semicolon)?;
+    boxed_before(
+        alloc,
+        Statement::Break {
+            word: at,
+            semicolon,
+        },
+        rest,
+    )
+}
+
+/// A `continue`, of which the word is taken, and the tokens behind it.
+#[tactic(auto, unfolding(crate::specs::StatementReading::jump_after))]
+fn continue_after(
+    alloc: Global,
+    at: Span,
+    tokens: &[Token],
+) -> Result<(Box<Statement>, &[Token]), SourceFault>
+    ensures { ReadsStatement result (jump_after (trees.Continue at) tokens.now) }
+{
+    let (semicolon, rest) = mark(tokens, Punctuator::Semicolon)?;
+    boxed_before(
+        alloc,
+        Statement::Continue {
+            word: at,
+            semicolon,
+        },
+        rest,
+    )
+}
+
+/// An expression and its semicolon, and the tokens behind them.
+#[tactic(auto, unfolding(crate::specs::StatementReading::expression_statement_at))]
+fn expression_statement(
+    alloc: Global,
+    tokens: &[Token],
+) -> Result<(Box<Statement>, &[Token]), SourceFault>
+    ensures { ReadsStatement result (expression_statement_at (parts accepted) tokens.now) }
+{
+    let (value, rest) = expression(alloc, tokens)?;
+    let (semicolon, rest) = mark(rest, Punctuator::Semicolon)?;
+    boxed_before(alloc, Statement::Expression { value, semicolon }, rest)
+}
+
+/// A declaration in a block, of which `int` is taken, and the tokens behind it.
+#[inline(never)]
+pub fn declaration_item(
+    alloc: Global,
+    int: Span,
+    tokens: &[Token],
+) -> Result<(Box<Statement>, &[Token]), SourceFault>
+    ensures { ReadsStatement result (local_item_after (parts accepted) int tokens.now) }
+{
+    let (declaration, rest) = declaration(alloc, int, tokens)?;
+    let declaration = boxed(alloc, declaration)?;
+    boxed_before(alloc, Statement::Declaration(declaration), rest)
+}
+
+/// A directive that stands alone, and the tokens behind it.
+#[tactic(auto, unfolding(crate::specs::ConstructReading::stand_alone_at))]
+#[inline(never)]
+pub fn stand_alone(
+    alloc: Global,
+    tokens: &[Token],
+) -> Result<(Box<Statement>, &[Token]), SourceFault>
+    ensures { ReadsStatement result (stand_alone_at (parts accepted).line tokens.now) }
+{
+    let (directive, rest) = directive_line(alloc, tokens)?;
+    boxed_before(alloc, Statement::StandAlone(directive), rest)
+}
+
+/// Refuses a line whose word names no directive.
+#[tactic(auto, unfolding(crate::specs::ConstructReading::unknown_line, crate::specs::ConstructReading::misplaced))]
+#[inline(never)]
+pub fn unknown_line(
+    alloc: Global,
+    tokens: &[Token],
+) -> Result<(Box<Statement>, &[Token]), SourceFault>
+    ensures { ReadsStatement result (unknown_line (parts accepted).line tokens.now) }
+{
+    directive_line(alloc, tokens)?;
+    Err(misplaced(tokens))
+}
+
+/// A `section`, if it stands first, and the tokens behind it.
+#[tactic(auto, unfolding(crate::specs::ConstructReading::section_of))]
+#[inline(never)]
+pub fn section(
+    alloc: Global,
+    tokens: &[Token],
+) -> Result<(Option<Box<Directive<Expression>>>, &[Token]), SourceFault>
+    ensures { Reads (λ x. (option_map (λ d. view_directive d.value) x.0, x.1.now)) result
+        (section_of (parts accepted).line (line_start tokens.now) tokens.now) }
+{
+    match line_start(tokens) {
+        LineStart::Section => {
+            let (directive, rest) = directive_line(alloc, tokens)?;
+            Ok((Some(directive), rest))
+        }
+        _ => Ok((None, tokens)),
+    }
+}

@@ -1,0 +1,409 @@
+//! Statements and blocks (C17 6.8).
+
+ghost use Rattle.std.specs.Prelude.{◌≡◌, length, map, option_map};
+ghost use Rattle.om_lexer.specs.declared.token.Keyword.TheVariants.{Else};
+ghost use Rattle.om_parser.specs.ConstructReading.{atomic_after, construct_at, constructed_after, ends_part, ends_parts, line_of, line_start, part_at, part_item_at, sections_after};
+ghost use Rattle.om_parser.specs.OneOrMore.{one_or_more};
+ghost use Rattle.om_parser.specs.StatementReading.{behind_body, block_after, block_at, block_item_at, do_after, headed_of, items_at, parts_in, statement_at, statement_if, statement_in};
+ghost use Rattle.om_parser.specs.StatementView.{view_opening, ReadsStatement};
+ghost use Rattle.om_parts.specs.PartReading.{parts};
+ghost use Rattle.om_parts.specs.Reading.{take_word, Reads};
+ghost use Rattle.om_tree.specs.Limits.{accepted};
+ghost use Rattle.om_tree.specs.Tree as trees;
+ghost use Rattle.om_tree.specs.View.{view_block, view_directive, view_part, view_statement};
+
+use crate::assembly::{
+    atomic_of, block_of, construct_of, do_end, for_of, if_else_of, if_of, sections_of, while_of,
+};
+use crate::construct::{LineStart, at_section, ends_part, line_start, misplaced};
+use crate::opening::{Opening, opening_after};
+use crate::simple::{declaration_item, section, simple, stand_alone, unknown_line};
+use crate::start::{Start, no_room, start_of};
+use om_lexer::{Keyword, Punctuator, SourceFault, Span, Token};
+use om_parts::front::{mark, syntax, take_mark, take_word, too_deep};
+use om_parts::laws::parts_are_sound;
+use om_parts::part::directive_line;
+use om_pragma::Directive;
+use om_tree::{BLOCK_LIMIT, Block, Expression, Part, STATEMENT_LIMIT, Statement};
+use std::alloc::Global;
+
+/// What may still stand in one another.
+#[derive(Clone, Copy)]
+pub struct Room {
+    /// Whether each outermost `atomic` must have one of its forms.
+    checked: bool,
+    /// How many statements may stand in one another.
+    statements: usize,
+    /// How many blocks may stand in one another.
+    blocks: usize,
+}
+
+/// The block of a function, and the tokens behind it.
+#[tactic(auto, unfolding(crate::specs::StatementReading::block_at, crate::specs::StatementReading::block_with, crate::specs::StatementReading::block_items_after))]
+pub(crate) fn block(alloc: Global, tokens: &[Token]) -> Result<(Block, &[Token]), SourceFault>
+    ensures { Reads (λ x. (view_block x.0, x.1.now)) result (block_at accepted tokens.now) }
+{
+    let (open_brace, rest) = mark(tokens, Punctuator::OpenBrace)?;
+    let room = Room {
+        checked: true,
+        statements: STATEMENT_LIMIT,
+        blocks: BLOCK_LIMIT - 1,
+    };
+    let (items, close_brace, rest) = items(alloc, rest, room)?;
+    Ok((
+        Block {
+            open_brace,
+            items,
+            close_brace,
+        },
+        rest,
+    ))
+}
+
+/// Items of a block up to its closing brace, its span, and the tokens behind it.
+#[cycle(statement)]
+fn items(
+    alloc: Global,
+    tokens: &[Token],
+    room: Room,
+) -> Result<(Vec<Statement>, Span, &[Token]), SourceFault>
+    ensures { Reads (λ x. (map view_statement x.0.items, x.1, x.2.now)) result
+        (items_at (parts accepted) (statement_in room) tokens.now) }
+{
+    parts_are_sound();
+    let mut items = Vec::new(alloc);
+    let mut rest = tokens;
+    'items: loop {
+        if let Some((close_brace, after)) = take_mark(rest, Punctuator::CloseBrace) {
+            return Ok((items, close_brace, after));
+        }
+        let (next, after) = block_item(alloc, rest, room)?;
+        items.push(Box::into_inner(next))?;
+        rest = after;
+    }
+}
+
+/// A declaration, a statement or a directive that stands alone, and the tokens behind it.
+#[cycle(statement)]
+#[tactic(auto, unfolding(crate::specs::StatementReading::block_item_at))]
+fn block_item(
+    alloc: Global,
+    tokens: &[Token],
+    room: Room,
+) -> Result<(Box<Statement>, &[Token]), SourceFault>
+    ensures { ReadsStatement result
+        (block_item_at (parts accepted) (statement_in room) tokens.now) }
+{
+    match take_word(tokens, Keyword::Int) {
+        Some((int, rest)) => declaration_item(alloc, int, rest),
+        None => part_item(alloc, tokens, room),
+    }
+}
+
+/// A statement or a directive that stands alone, and the tokens behind it.
+#[cycle(statement)]
+#[tactic(auto, unfolding(crate::specs::ConstructReading::part_item_at, crate::specs::ConstructReading::item_of, crate::specs::ConstructReading::misplaced))]
+fn part_item(
+    alloc: Global,
+    tokens: &[Token],
+    room: Room,
+) -> Result<(Box<Statement>, &[Token]), SourceFault>
+    ensures { ReadsStatement result (part_item_at (parts accepted).line
+        (statement_in room) tokens.now) }
+{
+    match line_start(tokens) {
+        LineStart::StandAlone => stand_alone(alloc, tokens),
+        LineStart::Section => Err(misplaced(tokens)),
+        LineStart::Unknown => unknown_line(alloc, tokens),
+        _ => statement(alloc, tokens, room),
+    }
+}
+
+/// A statement, and the tokens behind it.
+#[cycle(statement)]
+#[tactic(auto, unfolding(crate::specs::StatementReading::statement_at, crate::specs::StatementReading::statement_of))]
+fn statement(
+    alloc: Global,
+    tokens: &[Token],
+    room: Room,
+) -> Result<(Box<Statement>, &[Token]), SourceFault>
+    ensures { ReadsStatement result (statement_in room tokens.now) }
+{
+    let [first, rest @ ..] = tokens else {
+        return Err(syntax(tokens));
+    };
+    let start = start_of(&first.kind);
+    let Some(statements) = room.statements.checked_sub(1) else {
+        return Err(no_room(start, tokens, first.span));
+    };
+    let room = Room { statements, ..room };
+    match start {
+        Start::Block => block_after(alloc, first.span, rest, room),
+        Start::If | Start::While | Start::For => { headed(alloc, start, first.span, rest, room) }
+        Start::Do => do_after(alloc, first.span, rest, room),
+        Start::Directive => directive(alloc, tokens, room),
+        _ => simple(alloc, start, first.span, rest, tokens),
+    }
+}
+
+/// A block, of which the left brace is taken, and the tokens behind it.
+#[cycle(statement)]
+#[tactic(auto, unfolding(crate::specs::StatementReading::block_after, crate::specs::StatementReading::block_items_after))]
+fn block_after(
+    alloc: Global,
+    open_brace: Span,
+    tokens: &[Token],
+    room: Room,
+) -> Result<(Box<Statement>, &[Token]), SourceFault>
+    ensures { ReadsStatement result (block_after (parts accepted)
+        (statement_at (parts accepted) room.checked room.statements) room.blocks open_brace
+        tokens.now) }
+{
+    let Some(blocks) = room.blocks.checked_sub(1) else {
+        return Err(too_deep(open_brace));
+    };
+    let room = Room { blocks, ..room };
+    let (items, close_brace, rest) = items(alloc, tokens, room)?;
+    block_of(alloc, open_brace, items, close_brace, rest)
+}
+
+/// A statement that begins with an opening, and the tokens behind it.
+#[cycle(statement)]
+#[tactic(auto, unfolding(crate::specs::StatementReading::headed_of, crate::specs::StatementReading::body_after))]
+fn headed(
+    alloc: Global,
+    start: Start,
+    at: Span,
+    tokens: &[Token],
+    room: Room,
+) -> Result<(Box<Statement>, &[Token]), SourceFault>
+    ensures { ReadsStatement result (headed_of (parts accepted)
+        (statement_in room) start at tokens.now) }
+{
+    let (opening, rest) = opening_after(alloc, start, at, tokens)?;
+    let (body, rest) = statement(alloc, rest, room)?;
+    behind_body(alloc, opening, body, rest, room)
+}
+
+/// What follows the body of a statement.
+#[cycle(statement)]
+#[tactic(auto, unfolding(crate::specs::StatementReading::behind_body, crate::specs::StatementReading::else_after))]
+fn behind_body(
+    alloc: Global,
+    opening: Opening,
+    body: Box<Statement>,
+    tokens: &[Token],
+    room: Room,
+) -> Result<(Box<Statement>, &[Token]), SourceFault>
+    ensures { ReadsStatement result (behind_body (statement_in room) (view_opening opening)
+        (view_statement body.value) tokens.now) }
+{
+    match opening {
+        Opening::If(at, condition) => match take_else(tokens) {
+            Some((other, rest)) => {
+                let (second, rest) = statement(alloc, rest, room)?;
+                if_else_of(alloc, (at, condition), body, (other, second), rest)
+            }
+            None => if_of(alloc, at, condition, body, tokens),
+        },
+        Opening::While(at, condition) => while_of(alloc, at, condition, body, tokens),
+        Opening::For(head) => for_of(alloc, head, body, tokens),
+    }
+}
+
+/// An `else`, if it stands first, and the tokens behind it.
+fn take_else(tokens: &[Token]) -> Option<(Span, &[Token])>
+    ensures { option_map (λ x. (x.0, x.1.now)) result ≡ take_word Else tokens.now }
+{
+    take_word(tokens, Keyword::Else)
+}
+
+/// A `do`, of which the word is taken, and the tokens behind it.
+#[cycle(statement)]
+#[tactic(auto, unfolding(crate::specs::StatementReading::do_after))]
+fn do_after(
+    alloc: Global,
+    at: Span,
+    tokens: &[Token],
+    room: Room,
+) -> Result<(Box<Statement>, &[Token]), SourceFault>
+    ensures { ReadsStatement result (do_after (parts accepted) (statement_in room) at tokens.now) }
+{
+    let (body, rest) = statement(alloc, tokens, room)?;
+    do_end(alloc, at, body, rest)
+}
+
+/// A construct whose line stands first, and the tokens behind it.
+#[cycle(statement)]
+#[tactic(auto, unfolding(crate::specs::ConstructReading::line_of, crate::specs::ConstructReading::misplaced))]
+fn directive(
+    alloc: Global,
+    tokens: &[Token],
+    room: Room,
+) -> Result<(Box<Statement>, &[Token]), SourceFault>
+    ensures { ReadsStatement result (line_of (parts accepted).line room.checked (statement_if room)
+        (parts_in room) (line_start tokens.now) tokens.now) }
+{
+    match line_start(tokens) {
+        LineStart::Construct => construct(alloc, tokens, room),
+        LineStart::Unknown => unknown_line(alloc, tokens),
+        _ => Err(misplaced(tokens)),
+    }
+}
+
+/// A construct, and the tokens behind it.
+#[cycle(statement)]
+#[tactic(auto, unfolding(crate::specs::ConstructReading::construct_at, crate::specs::ConstructReading::construct_after))]
+fn construct(
+    alloc: Global,
+    tokens: &[Token],
+    room: Room,
+) -> Result<(Box<Statement>, &[Token]), SourceFault>
+    ensures { ReadsStatement result (construct_at (parts accepted).line room.checked
+        (statement_if room) (parts_in room) tokens.now) }
+{
+    let (directive, rest) = directive_line(alloc, tokens)?;
+    if directive.name.kind().has_parts() {
+        sections(alloc, directive, rest, room)
+    } else if directive.name.kind().is_atomic() {
+        atomic(alloc, directive, rest, room)
+    } else {
+        constructed(alloc, directive, rest, room)
+    }
+}
+
+/// A construct with one statement, of which the line is taken, and the tokens behind it.
+#[cycle(statement)]
+#[tactic(auto, unfolding(crate::specs::ConstructReading::constructed_after))]
+fn constructed(
+    alloc: Global,
+    directive: Box<Directive<Expression>>,
+    tokens: &[Token],
+    room: Room,
+) -> Result<(Box<Statement>, &[Token]), SourceFault>
+    ensures { ReadsStatement result (constructed_after (statement_in room)
+        (view_directive directive.value) tokens.now) }
+{
+    let (body, rest) = statement(alloc, tokens, room)?;
+    construct_of(alloc, directive, body, rest)
+}
+
+/// An `atomic`, of which the line is taken, and the tokens behind it.
+#[cycle(statement)]
+#[tactic(auto, unfolding(crate::specs::ConstructReading::atomic_after))]
+fn atomic(
+    alloc: Global,
+    directive: Box<Directive<Expression>>,
+    tokens: &[Token],
+    room: Room,
+) -> Result<(Box<Statement>, &[Token]), SourceFault>
+    ensures { ReadsStatement result (atomic_after room.checked (statement_if room)
+        (view_directive directive.value) tokens.now) }
+{
+    let unchecked = Room {
+        checked: false,
+        ..room
+    };
+    let (body, rest) = statement(alloc, tokens, unchecked)?;
+    atomic_of(alloc, room.checked, directive, body, rest)
+}
+
+/// A `sections`, of which the line is taken, and the tokens behind it.
+#[cycle(statement)]
+#[tactic(auto, unfolding(crate::specs::ConstructReading::sections_after))]
+fn sections(
+    alloc: Global,
+    directive: Box<Directive<Expression>>,
+    tokens: &[Token],
+    room: Room,
+) -> Result<(Box<Statement>, &[Token]), SourceFault>
+    ensures { ReadsStatement result (sections_after (parts_in room)
+        (view_directive directive.value) tokens.now) }
+{
+    let (open_brace, parts, close_brace, rest) = braces(alloc, tokens, room)?;
+    sections_of(alloc, directive, (open_brace, parts, close_brace), rest)
+}
+
+/// The braces of `sections`, the parts in them, and the tokens behind them.
+#[cycle(statement)]
+#[tactic(auto, unfolding(crate::specs::StatementReading::parts_at, crate::specs::StatementReading::parts_after))]
+fn braces(
+    alloc: Global,
+    tokens: &[Token],
+    room: Room,
+) -> Result<(Span, Vec<Part>, Span, &[Token]), SourceFault>
+    ensures { Reads (λ x. ((x.0, trees.parts (map view_part x.1.items), x.2), x.3.now))
+        result (parts_in room tokens.now) }
+{
+    let (open_brace, rest) = mark(tokens, Punctuator::OpenBrace)?;
+    let Some(statements) = room.statements.checked_sub(1) else {
+        return Err(too_deep(open_brace));
+    };
+    let Some(blocks) = room.blocks.checked_sub(1) else {
+        return Err(too_deep(open_brace));
+    };
+    let room = Room {
+        statements,
+        blocks,
+        ..room
+    };
+    let (parts, rest) = parts(alloc, rest, room)?;
+    let (close_brace, rest) = mark(rest, Punctuator::CloseBrace)?;
+    Ok((open_brace, parts, close_brace, rest))
+}
+
+/// The parts of `sections`, one at least, and the tokens behind them.
+#[cycle(statement)]
+fn parts(alloc: Global, tokens: &[Token], room: Room) -> Result<(Vec<Part>, &[Token]), SourceFault>
+    ensures { Reads (λ x. (map view_part x.0.items, x.1.now)) result
+        (one_or_more ends_parts (part_at (parts accepted).line (statement_in room))
+        (length tokens.now) tokens.now) }
+{
+    parts_are_sound();
+    let mut parts = Vec::new(alloc);
+    let mut rest = tokens;
+    'parts: loop {
+        let (next, after) = part(alloc, rest, room)?;
+        parts.push(next)?;
+        rest = after;
+        if !at_section(rest) {
+            return Ok((parts, rest));
+        }
+    }
+}
+
+/// A part of `sections`: its `section`, if it has one, its items, and the tokens behind them.
+#[cycle(statement)]
+#[tactic(auto, unfolding(crate::specs::ConstructReading::part_at))]
+fn part(alloc: Global, tokens: &[Token], room: Room) -> Result<(Part, &[Token]), SourceFault>
+    ensures { Reads (λ x. (view_part x.0, x.1.now)) result
+        (part_at (parts accepted).line (statement_in room) tokens.now) }
+{
+    let (section, rest) = section(alloc, tokens)?;
+    let (items, rest) = part_items(alloc, rest, room)?;
+    Ok((Part { section, items }, rest))
+}
+
+/// The items of a part, one at least, and the tokens behind them.
+#[cycle(statement)]
+fn part_items(
+    alloc: Global,
+    tokens: &[Token],
+    room: Room,
+) -> Result<(Vec<Statement>, &[Token]), SourceFault>
+    ensures { Reads (λ x. (map view_statement x.0.items, x.1.now)) result
+        (one_or_more ends_part (part_item_at (parts accepted).line (statement_in room))
+        (length tokens.now) tokens.now) }
+{
+    parts_are_sound();
+    let mut items = Vec::new(alloc);
+    let mut rest = tokens;
+    'items: loop {
+        let (next, after) = part_item(alloc, rest, room)?;
+        items.push(Box::into_inner(next))?;
+        rest = after;
+        if ends_part(rest) {
+            return Ok((items, rest));
+        }
+    }
+}

@@ -1,5 +1,0 @@
-use Rattle.om_phrases.proofs.Blocks.{blocks_sound}
-use Rattle.om_phrases.proofs.laws.blocks_are_sound.Goals as goal
-
-pub returns : goal.returns
-returns c = blocks_sound c.parts_are_sound.ensures
