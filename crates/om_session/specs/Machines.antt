@@ -6,10 +6,10 @@ use Rattle.om_cells.specs.contracts.store.Store as store
 use Rattle.om_history.specs.contracts.history.History as history
 use Rattle.om_history.specs.contracts.kept.Kept as kept
 use Rattle.om_undo.specs.contracts.machine.Machine as machine
-use Rattle.om_crossing.specs.Lists.{seq_send}
-use Rattle.om_crossing.specs.Names.{name_send, object_send, access_send}
-use Rattle.om_crossing.specs.Programs.{program_send}
-use Rattle.om_crossing.specs.Values.{value_send, update_send}
+use Rattle.om_session.specs.Lists.{seq_send}
+use Rattle.om_session.specs.Names.{name_send, object_send, access_send}
+use Rattle.om_session.specs.Programs.{program_send}
+use Rattle.om_session.specs.Values.{value_send, update_send}
 
 store_send : IsSend store.the_field.row
 store_send = search (object_send, value_send, maps, crosses, sendable) depth 40
