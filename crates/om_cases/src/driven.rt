@@ -34,7 +34,7 @@ pub(crate) fn all_are_answered<R: Threads + Wait + Sync>(
 }
 
 /// Drives two seats over a book without records.
-#[tactic(auto, using(om_recorder::proofs::Freeing::seats_differ, om_recorder::proofs::Freeing::seats_count))]
+#[tactic(auto, using(om_drive::proofs::Freeing::seats_differ, om_drive::proofs::Freeing::seats_count))]
 fn drive_two<L: Sitting + Send + Sync, R: Threads + Wait + Sync>(
     rt: &R,
     alloc: Global,

@@ -1,3 +1,7 @@
+mod Inserted
+mod Touched
+mod ReadyNames
+pub mod Freeing
 pub mod Rounding
 pub mod Places
 pub mod Backed

@@ -1,10 +1,13 @@
-//! Threads that carry orders to the seats of a session, and bring the answers back.
+//! Threads that carry orders to the seats of a session, and bring the answers back; and a machine whose calls
+//! are recorded, those of one thread and those of free runs.
 #![tactic(auto)]
 
 mod backing;
 mod driving;
+mod free_run;
 mod freely;
 mod order;
+mod recorder;
 mod rounds;
 mod runner;
 mod seats;
@@ -12,8 +15,10 @@ mod sitter;
 mod worker;
 
 pub use driving::{Crew, DrivenOver, drive_over};
+pub use free_run::{Count, Errand};
 pub use freely::{Freed, free};
 pub use order::{Answer, Fault, Order};
+pub use recorder::{Recorder, ready_in};
 pub use rounds::{Gathered, gather};
 pub use seats::{Driven, drive};
 pub use worker::{Debuggee, Gate, Worker};

@@ -15,8 +15,8 @@ use Rattle.om_rows.specs.Bodies.{FunctionBody, ParallelBody, TaskBody}
 use Rattle.om_rows.specs.Code.{last_instruction}
 use Rattle.om_rows.specs.Rows.{end, ins, part}
 use Rattle.om_rows.specs.Statements.{nowhere, reduction_starts, reductions, statement, statements}
-use Rattle.om_constructs.specs.declared.labels.JumpLabels.{JumpLabels}
-use Rattle.om_constructs.specs.declared.spot.Spot.{Spot}
+use Rattle.om_statements.specs.declared.labels.JumpLabels.{JumpLabels}
+use Rattle.om_statements.specs.declared.spot.Spot.{Spot}
 use Rattle.om_statements.specs.Emits.{EmitsStatement, EmitsStatements, EmitsWith}
 use Rattle.om_statements.specs.Going.{before_with, goes_then, with_as, with_behind}
 use Rattle.om_tables.specs.declared.numbers.Numbers as tables

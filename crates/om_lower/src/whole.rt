@@ -12,10 +12,10 @@ ghost use Rattle.om_tables.specs.Scopes.{names_of};
 
 use crate::region::Region;
 use om_code::instruction::{Barrier, Instr};
-use om_constructs::clause::{reduction_starts, reductions};
-use om_constructs::spot::Spot;
 use om_emit::draft::Draft;
 use om_resolved::ResolvedFunction;
+use om_statements::clause::{reduction_starts, reductions};
+use om_statements::spot::Spot;
 use om_statements::statement::{statement, statements};
 use om_tables::{Numbers, Scope};
 use std::alloc::{AllocError, Global};

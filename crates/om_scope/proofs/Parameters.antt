@@ -10,7 +10,7 @@ use Rattle.om_resolved.specs.declared.resolved.Shape.TheVariants as shapes
 use Rattle.om_rules.specs.Scopes.{Scope, Scopes, inside, outside, plain, within}
 use Rattle.om_rules.specs.Scopes.{after_optional_name, after_optionals, after_parameters}
 use Rattle.om_rules.specs.StatementRules.{after_statements}
-use Rattle.om_blocks.specs.Within.{StaysWithin, statements_within}
+use Rattle.om_scope.specs.Within.{StaysWithin, statements_within}
 
 -- what a name that is declared leaves in the innermost scope
 abbrev with_name : Scope → names.Name → Scope

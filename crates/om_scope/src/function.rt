@@ -14,7 +14,7 @@ ghost use Rattle.om_rules.specs.UnitRules.{body_breaches, definition_breaches, f
 ghost use Rattle.om_rules.specs.StatementRules.{redeclared_breaches};
 ghost use Rattle.om_resolved.specs.declared.resolved.Shape.TheVariants.{Scalar};
 
-use om_blocks::resolve_statements;
+use crate::statement::resolve_statements;
 use om_forms::head_first;
 use om_lexer::{FaultCode, SourceFault, Span};
 use om_names::Symbols;

@@ -1,3 +1,5 @@
+pub mod Leaves
+pub mod Opened
 pub mod Lists
 pub mod Views
 pub mod Forms

@@ -8,16 +8,16 @@ use Rattle.om_resolved.specs.declared.resolved.ResolvedStatement.{ResolvedStatem
 use Rattle.om_resolved.specs.ResolvedTree as trees
 use Rattle.om_resolved.specs.ResolvedTree.{ResolvedStatementTree, ResolvedStatementsTree, NoStatements, Statement}
 use Rattle.om_resolved.specs.ResolvedView.{view_resolved_statement}
-use Rattle.om_constructs.specs.Stretches.{IsNoAtomic}
+use Rattle.om_statements.specs.Stretches.{IsNoAtomic}
 use Rattle.om_resolved.specs.declared.resolved.ConstructKind.{ConstructKind}
 use Rattle.om_resolved.specs.declared.resolved.ConstructKind.TheVariants as constructs
 use Rattle.om_rows.specs.Bodies.{Numbers, behind, behind_all}
 use Rattle.om_rows.specs.Coded.{StatementsHaveCode}
-use Rattle.om_constructs.specs.declared.spot.Spot.{Spot}
+use Rattle.om_statements.specs.declared.spot.Spot.{Spot}
 use Rattle.om_tables.specs.Numbering.{numbers_of}
 use Rattle.om_rows.specs.Rows.{end}
 use Rattle.om_rows.specs.Statements.{statement, statements}
-use Rattle.om_constructs.specs.declared.labels.JumpLabels.{JumpLabels}
+use Rattle.om_statements.specs.declared.labels.JumpLabels.{JumpLabels}
 use Rattle.om_statements.specs.Emits.{jumps_at, EmitsStatement, GoesWith}
 use Rattle.om_statements.specs.Going.{then_with, with_none}
 use Rattle.om_tables.specs.Picks.{own_picks, all_own_picks}

@@ -19,8 +19,8 @@ use Rattle.om_rows.specs.Coded.{PartsHaveCode}
 use Rattle.om_rows.specs.Rows.{end, here, ins, part}
 use Rattle.om_rows.specs.Statements.{nowhere, parts, statements}
 use Rattle.om_statements.specs.declared.sections.PartsSpot.{PartsSpot}
-use Rattle.om_constructs.specs.declared.labels.JumpLabels.{JumpLabels}
-use Rattle.om_constructs.specs.declared.spot.Spot.{Spot}
+use Rattle.om_statements.specs.declared.labels.JumpLabels.{JumpLabels}
+use Rattle.om_statements.specs.declared.spot.Spot.{Spot}
 use Rattle.om_statements.specs.Emits.{EmitsStatements}
 use Rattle.om_statements.specs.Parts.{AreFree, EmitsParts, GoesParts, OpensParts, part_head, part_labels}
 use Rattle.om_statements.specs.Going.{before_with, free_with, free_within, goes_place, then_with, with_as, with_none}

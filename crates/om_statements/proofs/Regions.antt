@@ -2,7 +2,7 @@
 use Rattle.std.proofs.Common.{◌≡◌, ℕ, List, Bool, length, sym, ap, ◌∙◌, subst, arith}
 use Rattle.std.specs.Prelude.{is_some}
 use Rattle.std.proofs.lemmas.List.{length-map}
-use Rattle.om_constructs.specs.Stretches.{EmitsRow, fork_row, spawn_row}
+use Rattle.om_statements.specs.Stretches.{EmitsRow, fork_row, spawn_row}
 use Rattle.om_emit.specs.Drafts.{Written}
 use Rattle.om_emit.specs.Emits.{site}
 use Rattle.om_lexer.specs.declared.token.Span.{Span}
@@ -13,7 +13,7 @@ use Rattle.om_rows.specs.Expressions.{value}
 use Rattle.om_rows.specs.Rows.{each, perhaps}
 use Rattle.om_rows.specs.Slots as rows
 use Rattle.om_rows.specs.Statements.{clause_value, given_copies, load_original}
-use Rattle.om_constructs.specs.declared.labels.JumpLabels.{JumpLabels}
+use Rattle.om_statements.specs.declared.labels.JumpLabels.{JumpLabels}
 use Rattle.om_statements.specs.Emits.{EmitsStatement}
 use Rattle.om_statements.specs.Going.{goes_then, with_none}
 use Rattle.om_tables.specs.declared.copies.FirstCopy.{FirstCopy}

@@ -1,3 +1,4 @@
+pub mod Stretches
 pub mod Emits
 pub mod Parts
 pub mod Going

@@ -1,6 +1,6 @@
 -- What is promised of the begin of a `sections`, and of its parts.
 use Rattle.std.specs.Prelude.{◌≡◌, ◌<◌, ◌≤◌, ℕ, ◌+◌, ◌^◌, List, [], ◌∷◌, None, Some, length, map, slice_get}
-use Rattle.om_constructs.specs.Stretches.{sections_begin}
+use Rattle.om_statements.specs.Stretches.{sections_begin}
 use Rattle.om_emit.specs.Drafts.{Written, labels_from}
 use Rattle.om_emit.specs.Emits as emits
 use Rattle.om_emit.specs.Emits.{site}

@@ -1,8 +1,8 @@
 //! A `parallel` and a `task`, in the body that meets them.
 
 ghost use Rattle.std.specs.Prelude.{◌≡◌, IfOk, IfSome, OnOk, length, map};
-ghost use Rattle.om_constructs.specs.declared.labels.JumpLabels.{JumpLabels};
-ghost use Rattle.om_constructs.specs.Stretches.{EmitsRow};
+ghost use Rattle.om_statements.specs.declared.labels.JumpLabels.{JumpLabels};
+ghost use Rattle.om_statements.specs.Stretches.{EmitsRow};
 ghost use Rattle.om_resolved.specs.ResolvedTree as trees;
 ghost use Rattle.om_resolved.specs.ResolvedView.{view_resolved_clause, view_resolved_statement};
 ghost use Rattle.om_rows.specs.Bodies as rows;
@@ -13,7 +13,7 @@ ghost use Rattle.om_statements.specs.Emits.{EmitsStatement};
 ghost use Rattle.om_tables.specs.Numbering.{numbers_of};
 ghost use Rattle.om_tables.specs.Scopes.{names_of};
 
-use om_constructs::region::{fork, load_originals, spawn, team_size};
+use crate::stand_in::{fork, load_originals, spawn, team_size};
 use om_emit::draft::Draft;
 use om_lexer::Span;
 use om_resolved::{Capture, ResolvedClause, ResolvedStatement};

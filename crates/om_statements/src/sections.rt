@@ -5,7 +5,7 @@ ghost use Rattle.om_resolved.specs.ResolvedView.{view_resolved_clause};
 ghost use Rattle.om_statements.specs.Parts.{OpensParts, part_head};
 ghost use Rattle.om_tables.specs.Scopes.{names_of};
 
-use om_constructs::worksharing::{Parts, begin_sections};
+use crate::worksharing::{Parts, begin_sections};
 use om_emit::draft::Draft;
 use om_resolved::{ResolvedClause, ResolvedPart};
 use om_tables::{Numbers, Scope};

@@ -10,8 +10,8 @@ use Rattle.om_undo.specs.Machines.{MachineView}
 use Rattle.om_view.specs.declared.marks.Marks.{Marks}
 use Rattle.om_view.specs.declared.runs.Moved.{Moved}
 use Rattle.om_view.specs.Moves.{goes_on, steps_within, undoes_within, next_within, back_within}
-use Rattle.om_recorder.specs.Recorded.{Recorded, is_full, label_of, recorded_step, recorded_undo, step_reply_of}
-use Rattle.om_recorder.specs.Recorded.{undo_reply_of}
+use Rattle.om_drive.specs.Recorded.{Recorded, is_full, label_of, recorded_step, recorded_undo, step_reply_of}
+use Rattle.om_drive.specs.Recorded.{undo_reply_of}
 use Rattle.om_view.specs.Runs.{after_move, can_step, move_among, move_of, moved_of, ran, run_within, said_by}
 use Rattle.om_view.specs.Runs.{start_among}
 use Rattle.om_view.specs.Said.{Said}

@@ -1,8 +1,8 @@
 -- Free runs: all workers step at once, in whatever order they come to the lock.
 use Rattle.std.specs.Prelude.{Bool, false, cond, List, []}
 use Rattle.om_book.specs.declared.command.Command.{Command}
-use Rattle.om_recorder.specs.Calls.{recorded_calls, steps_made}
-use Rattle.om_recorder.specs.Recorded.{Recorded}
+use Rattle.om_drive.specs.RecordedCalls.{recorded_calls, steps_made}
+use Rattle.om_drive.specs.Recorded.{Recorded}
 use Rattle.om_replies.specs.Steps.{full_text}
 use Rattle.om_replies.specs.Stops.{freed_text}
 use Rattle.om_view.specs.Said.{Said}

@@ -5,8 +5,8 @@ use Rattle.om_cells.specs.declared.step.Choice.TheVariants.{Next}
 use Rattle.om_history.specs.declared.reply.UndoReply.{UndoReply}
 use Rattle.om_history.specs.declared.reply.UndoReply.TheVariants as undo_reply
 use Rattle.om_history.specs.Cones.{reply_to_roll}
-use Rattle.om_recorder.specs.Recorded.{Recorded, is_done, label_of, recorded_step, recorded_undo, recorded_roll}
-use Rattle.om_recorder.specs.Recorded.{step_reply_of, undo_reply_of}
+use Rattle.om_drive.specs.Recorded.{Recorded, is_done, label_of, recorded_step, recorded_undo, recorded_roll}
+use Rattle.om_drive.specs.Recorded.{step_reply_of, undo_reply_of}
 use Rattle.om_replies.specs.Steps.{step_text, undo_text}
 use Rattle.om_replies.specs.Lists.{roll_text}
 use Rattle.om_undo.specs.Machines.{rules_for}

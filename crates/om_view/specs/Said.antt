@@ -1,6 +1,6 @@
 -- What a command says, and what it leaves of the machine and its records.
 use Rattle.std.specs.Prelude.{ℕ, List, cond}
-use Rattle.om_recorder.specs.Recorded.{Recorded, is_full}
+use Rattle.om_drive.specs.Recorded.{Recorded, is_full}
 use Rattle.om_replies.specs.Steps.{full_text}
 
 pub record Said : Type 0 where

@@ -16,7 +16,7 @@ use Rattle.om_undo.specs.Machines.{MachineView, state_in}
 use Rattle.om_view.specs.declared.marks.Marks.{Marks}
 use Rattle.om_view.specs.declared.stops.Watched.{Watched}
 use Rattle.om_view.specs.Looks.{line_at}
-use Rattle.om_recorder.specs.Recorded.{step_reply_of, stepped}
+use Rattle.om_drive.specs.Recorded.{step_reply_of, stepped}
 
 -- the first of two that is there
 abbrev pub or_else : Option Stop → Option Stop → Option Stop

@@ -17,7 +17,7 @@ use crate::runs::run;
 use crate::variable::cell_of;
 use om_cells::Choice;
 use om_command::{Command, CommandFault, Request, Variable, request_of};
-use om_recorder::Recorder;
+use om_drive::Recorder;
 use om_replies::{push_break, push_command_fault, push_deleted, push_watch};
 use om_seq::Seq;
 use om_undo::Machine;

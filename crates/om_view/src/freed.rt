@@ -3,7 +3,7 @@
 ghost use Rattle.std.specs.Prelude.{◌≡◌, ◌++◌, OnOk};
 ghost use Rattle.om_view.specs.Freed.{FreeRun, free_said};
 
-use om_recorder::{Errand, Recorder};
+use om_drive::{Errand, Recorder};
 use om_replies::{push_freed, push_full};
 use std::alloc::{AllocError, Global};
 use std::sync::Wait;

@@ -12,8 +12,8 @@ ghost use Rattle.om_view.specs.Looks.{line_at, local_said, print_said, where_sai
 use om_cells::value::Task;
 use om_cells::{Control, Val};
 use om_command::Variable;
+use om_drive::Recorder;
 use om_foot::{Name, Obj};
-use om_recorder::Recorder;
 use om_replies::{
     GlobalCell, push_events, push_full, push_history, push_local, push_no_tasks, push_output,
     push_print, push_task, push_where,

@@ -3,13 +3,13 @@
 ghost use Rattle.std.specs.Prelude.{◌≡◌, ◌<◌, ◌≤◌, nat_le, map, IfOk, OnOk};
 ghost use Rattle.om_undo.specs.Machines.{state_in};
 ghost use Rattle.om_view.specs.Looks.{line_at};
-ghost use Rattle.om_recorder.specs.Recorded.{recorded_step};
+ghost use Rattle.om_drive.specs.Recorded.{recorded_step};
 ghost use Rattle.om_view.specs.Stops.{or_else, fault_stop, break_stop, cell_eq, value_of, watched, watch_stop, stop_behind};
 
 use crate::marks::{Marks, has_line};
 use om_cells::Label;
 use om_code::frame::Cell;
-use om_recorder::Recorder;
+use om_drive::Recorder;
 use om_replies::{GlobalCell, Stop};
 use om_undo::{Machine, StepReply};
 use std::alloc::{AllocError, Global};

@@ -6,7 +6,7 @@ use Rattle.om_rules.specs.Scopes.{after_item}
 use Rattle.om_rules.specs.UnitResolution.{globals_of, item_functions}
 use Rattle.om_rules.specs.UnitRules.{item_breaches}
 use Rattle.om_rules.specs.InRow.{all_along-step, unbroken-refuse, unbroken-step}
-use Rattle.om_blocks.specs.Items.{drop-item}
+use Rattle.om_scope.specs.Items.{drop-item}
 use Rattle.om_scope.proofs.Propers.{item_proper}
 use Rattle.om_scope.proofs.unit.resolve_each.Goals as goal
 

@@ -1,8 +1,0 @@
-pub mod Clauses
-pub mod Fronts
-pub mod MadeParts
-pub mod Statements
-pub mod Blocks
-pub mod Propers
-pub mod Founds
-pub mod Constructs

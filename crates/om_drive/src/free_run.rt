@@ -1,0 +1,89 @@
+//! Free runs: all workers step at once, each in a thread of its own.
+
+ghost use Rattle.std.specs.Prelude.{◌≡◌, ◌≤◌, IfOk, vec_len};
+
+use crate::{Crew, Freed, Gate, free};
+use om_book::Book;
+use om_session::{Blank, Closed, NotOpened, Session, Sitting};
+use std::alloc::{AllocError, Global};
+use std::sync::Wait;
+use std::thread::Threads;
+
+/// What a free run needs.
+#[derive(Drop)]
+pub struct Errand<'a, R> {
+    /// The handle by which it starts its threads and waits for them.
+    pub rt: &'a R,
+    /// Where its memory comes from.
+    pub alloc: Global,
+    /// How many rounds each worker makes.
+    pub rounds: u32,
+}
+
+/// What a free run came to.
+#[derive(Clone, Copy)]
+pub struct Count {
+    /// How many steps were made.
+    pub done: u64,
+    /// Whether a worker found no room for a record.
+    pub full: bool,
+}
+
+/// A gate that holds nobody back.
+#[derive(Clone, Copy, Drop)]
+pub(crate) struct Open;
+
+impl Gate for Open {
+    fn may_answer(&mut self, _order: u64) -> bool {
+        true
+    }
+}
+
+/// Gates that are open, as many as there are workers.
+pub(crate) fn open_gates(alloc: Global, workers: u8) -> Result<Vec<Open>, AllocError>
+    ensures { IfOk result (λ gates. vec_len gates ≡ workers) }
+{
+    let mut gates = Vec::new(alloc);
+    while gates.len() < usize::from(workers) {
+        gates.push(Open)?;
+    }
+    Ok(gates)
+}
+
+/// Runs freely through a session over a book. Whether a worker found no room for a record; or
+/// there was no memory, or no thread.
+#[tactic(auto, using(crate::proofs::Freeing::seats_differ, crate::proofs::Freeing::seats_count, crate::proofs::Freeing::as_many_back))]
+pub(crate) fn run_through<L: Sitting + Send + Sync, R: Threads + Wait + Sync>(
+    errand: Errand<'_, R>,
+    gates: Vec<Open>,
+    blank: Blank,
+    book: Book,
+) -> (Book, Result<bool, AllocError>)
+    requires name { blank.ledger.name ≡ L.name }
+    requires parts { blank.ledger.parts ≡ L.parts }
+    requires opened { book ≡ L.opened }
+    requires workers { book.start.workers ≡ L.workers }
+    requires seats { blank.seats ≡ book.start.workers }
+    requires gates { vec_len gates ≡ blank.seats }
+    ensures start { result.0.start ≡ book.start }
+    ensures before { result.0.before ≡ book.before }
+{
+    let (session, debuggees) = match Session::<L>::new(errand.alloc, blank, book) {
+        Ok(opened) => opened,
+        Err(NotOpened { book }) => return (book, Err(AllocError)),
+    };
+    let crew = Crew { debuggees, gates };
+    let Freed {
+        seats,
+        full,
+        fault,
+        ..
+    } = free(errand.rt, errand.alloc, &session, crew, errand.rounds);
+    match session.close(seats) {
+        Ok(Closed { book, .. }) => match fault {
+            None => (book, Ok(full)),
+            Some(_) => (book, Err(AllocError)),
+        },
+        Err(_) => unreachable!(),
+    }
+}

@@ -1,4 +1,0 @@
-mod Inserted
-mod Touched
-mod ReadyNames
-pub mod Freeing

@@ -1,0 +1,190 @@
+use Rattle.std.proofs.Common.{◌≡◌, ◌+◌, [], ◌∷◌, ◌++◌, Some, length, length-append, map, option_map, ap, sym, ◌∙◌}
+use Rattle.std.proofs.Common.{arith, rules}
+use Rattle.std.proofs.lemmas.List.{drop_all}
+use Rattle.std.proofs.lemmas.Result.{err_from_is_err_and}
+use Rattle.om_tree.specs.View.{view_directive, view_for_start, view_part, view_statement}
+use Rattle.om_forms.specs.LoopViews.{view_loop}
+use Rattle.om_rules.specs.Loops.{loop_in}
+use Rattle.om_resolved.specs.ResolvedView.{view_resolved_part, view_resolved_statement}
+use Rattle.om_rules.specs.ProperConstructs.{construct_there, parts_proper, proper_inside}
+use Rattle.om_rules.specs.Scopes.{outside}
+use Rattle.om_rules.specs.StatementResolution.{resolved_statement}
+use Rattle.om_rules.specs.StatementRules.{after_for_start, after_statement, after_statements}
+use Rattle.om_scope.proofs.Blocks.{block_outside, body_outside, construct_outside, for_outside, parts_refuse}
+use Rattle.om_scope.proofs.Blocks.{parts_step, statements_made, statements_refuse, statements_step, statements_whole}
+use Rattle.om_scope.proofs.Constructs.{view_construct}
+use Rattle.om_scope.proofs.Founds.{ok_anyway, ok_then}
+use Rattle.om_scope.proofs.Fronts.{bounds_refuse}
+use Rattle.om_scope.proofs.MadeParts.{parts_made, parts_whole}
+use Rattle.om_scope.proofs.BlockPropers.{left_parts_proper, left_proper, with_depth}
+use Rattle.om_scope.specs.Items.{drop-item, length-map}
+use Rattle.om_scope.specs.Pushes.{map-push}
+use Rattle.om_scope.proofs.statement.+statement.Goals as goal
+
+pub resolve_statement-returns-in-Construct-clause-resolved : goal.resolve_statement-returns-in-Construct-clause-resolved
+unfolding resolved_statement
+resolve_statement-returns-in-Construct-clause-resolved t c =
+    let h = rw (c.deref-in-Construct.ensures, c.deref-in-Construct-2.ensures) at c.resolve_construct.ensures.resolved in
+    rw (c.in-Construct.is, view_construct c.in-Construct.directive c.in-Construct.body) h
+
+pub resolve_construct-resolve_loop_construct-requires : goal.resolve_construct-resolve_loop_construct-requires
+resolve_construct-resolve_loop_construct-requires t c = (
+  search rules,
+  proper_inside (view_directive c.args.directive.now) (view_statement c.args.body.now) c.requires.proper,
+)
+
+pub resolve_plain_construct-boxed_statement-requires : goal.resolve_plain_construct-boxed_statement-requires
+resolve_plain_construct-boxed_statement-requires t c = (
+  search rules,
+  proper_inside (view_directive c.args.directive.now) (view_statement c.args.body.now) c.requires.proper,
+)
+
+pub resolve_plain_construct-construct_of-requires : goal.resolve_plain_construct-construct_of-requires
+resolve_plain_construct-construct_of-requires t c = record {
+  is_there = construct_there _ _ _ (view_directive c.args.directive.now) (view_statement c.args.body.now) _ _ _
+      c.requires.proper c.requires.for_any c.in_ok-body.ensures.resolved;
+}
+
+pub resolve_sections-resolve_parts-requires : goal.resolve_sections-resolve_parts-requires
+resolve_sections-resolve_parts-requires t c = (
+  search rules,
+  parts_proper _ c.requires.formed c.requires.forms,
+)
+
+pub resolve_statements-resolve_statement-found-requires : goal.resolve_statements-resolve_statement-found-requires
+resolve_statements-resolve_statement-found-requires t c = (
+  with_depth _ _ _ c.args.items.now c.loop-item.item-index c.item-item.result c.loop-item-test.true c.item-item.is
+      c.decreases (λ deep. omega (arith, deep, c.decreases)),
+  (left_proper c.args.items.now c.loop-item.item-index c.item-item.result c.loop-item-test.true c.item-item.is
+      c.loop-item.invariant.3).0,
+)
+
+pub resolve_body-returns-clause-in_scope : goal.resolve_body-returns-clause-in_scope
+resolve_body-returns-clause-in_scope t c =
+    ok_then c.boxed_statement-found.result c.boxed_statement-found.ensures.in_scope
+    (λ behind. c.leave.ensures
+    ∙ ap outside (behind ∙ ap (λ scopes. after_statement scopes (view_statement c.args.body.now))
+    c.in_ok-enter.ensures) ∙ body_outside c.args.symbols.now (view_statement c.args.body.now))
+
+pub resolve_statements-returns-in_err-add-clause-checked : goal.resolve_statements-returns-in_err-add-clause-checked
+resolve_statements-returns-in_err-add-clause-checked t c =
+    let p = err_from_is_err_and c.from_residual.result c.from_residual.ensures.1 in
+    let here = ap (map view_statement) (drop-item c.args.items.now c.loop-item.item-index c.item-item.result
+    c.loop-item-test.true c.item-item.is) in
+    let left = rw here at c.loop-item.invariant in
+    rw (p.1, p.2) (statements_refuse _ _ _ _ _ _ _ left.0
+    (c.in_err-add.ensures.checked _ c.resolve_statement-found.ensures.checked))
+
+pub resolve_statements-loop-item-preserved : goal.resolve_statements-loop-item-preserved
+resolve_statements-loop-item-preserved t c =
+    let here = ap (map view_statement) (drop-item c.args.items.now c.loop-item.item-index c.item-item.result
+    c.loop-item-test.true c.item-item.is) in
+    let left = rw here at c.loop-item.invariant in
+    let added = c.in_ok-add.ensures.added in
+    let checked = rw added.1 at c.resolve_statement-found.ensures.checked in
+    let behind = rw added.1 at c.resolve_statement-found.ensures.in_scope in
+    let made = rw added.1 at c.resolve_statement-found.ensures.resolved in
+    let grown = ap (map view_resolved_statement) added.2 ∙ map-push view_resolved_statement
+    c.loop-item.resolved.items added.0 in
+    rw (behind, grown) (
+      statements_step _ _ _ _ _ _ left.0 checked,
+      left.1,
+      statements_made _ _ _ _ _ _ _ left.2 made,
+      (left_proper c.args.items.now c.loop-item.item-index c.item-item.result c.loop-item-test.true c.item-item.is
+          c.loop-item.invariant.3).1,
+    )
+
+pub resolve_block-returns-clause-in_scope : goal.resolve_block-returns-clause-in_scope
+resolve_block-returns-clause-in_scope t c =
+    let ss = map view_statement c.args.items.now in
+    ok_then c.resolve_statements-items.result c.resolve_statements-items.ensures.in_scope
+    (λ behind. c.leave.ensures ∙ ap outside (behind ∙ ap (λ scopes. after_statements scopes ss)
+    c.in_ok-enter.ensures) ∙ block_outside c.args.symbols.now ss)
+
+pub resolve_for-returns-clause-in_scope : goal.resolve_for-returns-clause-in_scope
+resolve_for-returns-clause-in_scope t c =
+    let start = view_for_start c.args.head.now.start in
+    c.leave.ensures
+    ∙ ap outside (c.in_ok-body.ensures.in_scope ∙ c.in_ok-turn.ensures.in_scope
+    ∙ ap (λ scopes. after_for_start scopes start) c.in_ok-enter.ensures)
+    ∙ for_outside c.args.symbols.now start
+
+pub resolve_plain_construct-returns-clause-in_scope : goal.resolve_plain_construct-returns-clause-in_scope
+resolve_plain_construct-returns-clause-in_scope t c =
+    ok_anyway c.construct_of.result
+    (c.leave.ensures
+    ∙ ap outside (c.in_ok-body.ensures.in_scope
+    ∙ ap (λ scopes. after_statement scopes (view_statement c.args.body.now)) c.in_ok-clauses.ensures.in_scope)
+    ∙ construct_outside _ _ c.args.symbols.now (view_statement c.args.body.now))
+
+pub resolve_loop_construct-returns-in_err-clauses-in-Some-clause-checked :
+    goal.resolve_loop_construct-returns-in_err-clauses-in-Some-clause-checked
+resolve_loop_construct-returns-in_err-clauses-in-Some-clause-checked t c =
+    let p = err_from_is_err_and c.from_residual-in_err-clauses-in-Some.result
+    c.from_residual-in_err-clauses-in-Some.ensures.1 in
+    let same : loop_in (view_statement c.args.body.now) ≡ Some (view_loop c.in-Some.found) = sym c.loop_in.ensures
+    ∙ ap (option_map view_loop) c.in-Some.is in
+    rw (p.1, p.2, same) (bounds_refuse c.args.symbols.now c.args.flow (view_directive c.args.directive.now)
+    (view_loop c.in-Some.found) (view_statement c.args.body.now) _ c.in_err-clauses-in-Some.ensures.checked)
+
+pub resolve_statements-returns-clause-resolved : goal.resolve_statements-returns-clause-resolved
+resolve_statements-returns-clause-resolved t c =
+    let none = ap (map view_statement) (drop_all c.loop-item.item-index c.args.items.now c.loop-item-test.false) in
+    let left = rw none at c.loop-item.invariant in
+    statements_whole _ _ _ _ left.2
+
+pub resolve_parts-returns-in_err-add-clause-checked : goal.resolve_parts-returns-in_err-add-clause-checked
+resolve_parts-returns-in_err-add-clause-checked t c =
+    let p = err_from_is_err_and c.from_residual.result c.from_residual.ensures.1 in
+    let here = ap (map view_part) (drop-item c.args.sections.now c.loop-part.part-index c.part-item.result
+    c.loop-part-test.true c.part-item.is) in
+    let left = rw here at c.loop-part.invariant in
+    let count : c.len.result ≡ length (map view_resolved_part c.loop-part.resolved.items) = omega (
+      arith,
+      c.len.ensures,
+      c.loop-part.resolved.ok.0,
+      length-map view_resolved_part c.loop-part.resolved.items,
+    ) in
+    let checked = rw (left.1, count) at c.resolve_part-found.ensures.checked in
+    rw (p.1, p.2) (parts_refuse _ _ _ _ _ _ _ left.0 (c.in_err-add.ensures.checked _ checked))
+
+pub resolve_parts-resolve_part-found-requires : goal.resolve_parts-resolve_part-found-requires
+resolve_parts-resolve_part-found-requires t c = (
+  with_depth _ _ _ c.args.sections.now c.loop-part.part-index c.part-item.result c.loop-part-test.true c.part-item.is
+      c.decreases (λ deep. omega (arith, deep, c.decreases)),
+  (left_parts_proper c.args.sections.now c.loop-part.part-index c.part-item.result c.loop-part-test.true
+      c.part-item.is c.loop-part.invariant.3).0,
+)
+
+pub resolve_parts-loop-part-preserved : goal.resolve_parts-loop-part-preserved
+resolve_parts-loop-part-preserved t c =
+    let here = ap (map view_part) (drop-item c.args.sections.now c.loop-part.part-index c.part-item.result
+    c.loop-part-test.true c.part-item.is) in
+    let left = rw here at c.loop-part.invariant in
+    let made = map view_resolved_part c.loop-part.resolved.items in
+    let as_many = length-map view_resolved_part c.loop-part.resolved.items in
+    let count : c.len.result ≡ length made = omega (
+      arith,
+      c.len.ensures,
+      c.loop-part.resolved.ok.0,
+      as_many,
+    ) in
+    let added = c.in_ok-add.ensures.added in
+    let checked = rw (left.1, count, added.1) at c.resolve_part-found.ensures.checked in
+    let behind = rw added.1 at c.resolve_part-found.ensures.in_scope in
+    let found = rw (left.1, added.1) at c.resolve_part-found.ensures.resolved in
+    let grown = ap (map view_resolved_part) added.2 ∙ map-push view_resolved_part c.loop-part.resolved.items added.0 in
+    let longer : length (made ++ view_resolved_part added.0 ∷ []) ≡ length made + 1 = length-append made _ in
+    rw (grown, longer) (
+      parts_step _ _ _ _ _ _ left.0 checked,
+      behind ∙ left.1,
+      parts_made _ _ _ _ _ _ _ left.2 found,
+      (left_parts_proper c.args.sections.now c.loop-part.part-index c.part-item.result c.loop-part-test.true
+          c.part-item.is c.loop-part.invariant.3).1,
+    )
+
+pub resolve_parts-returns-clause-resolved : goal.resolve_parts-returns-clause-resolved
+resolve_parts-returns-clause-resolved t c =
+    let none = ap (map view_part) (drop_all c.loop-part.part-index c.args.sections.now c.loop-part-test.false) in
+    let left = rw none at c.loop-part.invariant in
+    parts_whole _ _ _ _ left.2

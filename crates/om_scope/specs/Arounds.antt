@@ -1,0 +1,17 @@
+-- What a construct puts round its statement.
+use Rattle.std.specs.Prelude.{List, Option, Some}
+use Rattle.om_lexer.specs.declared.token.Span.{Span}
+use Rattle.om_scope.specs.declared.assembly.Around.{Around}
+use Rattle.om_scope.specs.declared.assembly.Around.TheVariants as arounds
+use Rattle.om_resolved.specs.ResolvedTree as resolved
+use Rattle.om_resolved.specs.ResolvedTree.{ResolvedClauseTree, ResolvedStatementTree}
+use Rattle.om_rules.specs.StatementResolution.{with_update}
+use Rattle.om_rules.specs.Updates.{update_of}
+
+-- a statement with what a construct puts round it; an update takes the place of one that is an update
+abbrev pub with_around : Around → Span → List ResolvedClauseTree → ResolvedStatementTree
+    → Option ResolvedStatementTree
+with_around (arounds.Parallel captures) at cs body = Some (resolved.Parallel at cs captures body)
+with_around (arounds.Task captures) at cs body = Some (resolved.Task at cs captures body)
+with_around (arounds.Construct kind) at cs body = Some (resolved.Construct at kind cs body)
+with_around (arounds.Update side) at cs body = with_update at (update_of side body)

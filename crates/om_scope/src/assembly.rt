@@ -1,0 +1,413 @@
+//! Constructs, put together of their clauses and their statement.
+
+ghost use Rattle.std.specs.Prelude.{◌≡◌, [], IfOk, IsSome, List, Some, map};
+ghost use Rattle.om_lexer.specs.declared.token.Span.{Span};
+ghost use Rattle.om_tree.specs.View.{view_directive, view_expression};
+ghost use Rattle.om_pragma.specs.Expressions.{map_clause, map_item};
+ghost use Rattle.om_pragma.specs.Questions.{atomic_kind};
+ghost use Rattle.om_rules.specs.Checks.{Checks};
+ghost use Rattle.om_scope.specs.Arounds.{with_around};
+ghost use Rattle.om_resolved.specs.ResolvedTree as resolved;
+ghost use Rattle.om_resolved.specs.ResolvedTree.{ResolvedClauseTree, ResolvedStatementTree};
+ghost use Rattle.om_resolved.specs.ResolvedView.{view_resolved_clause, view_resolved_loop, view_resolved_part, view_resolved_statement};
+ghost use Rattle.om_rules.specs.StatementResolution.{atomic_of, clause_schedule, construct_of, critical_name, has_default, has_nowait, loop_construct_of, parallel_of, schedule_in, schedule_of, sections_construct_of, task_of, with_update};
+ghost use Rattle.om_rules.specs.Updates.{update_of};
+
+use om_forms::update_of;
+use om_lexer::{SourceFault, Span};
+use om_names::{is_parallel, traits_of};
+use om_pragma::{
+    AtomicKind, Clause, ClauseItem, ClauseKind, Directive, DirectiveName, Schedule, ScheduleKind,
+};
+use om_resolved::{
+    Capture, ConstructKind, ResolvedClause, ResolvedLoop, ResolvedPart, ResolvedSchedule,
+    ResolvedStatement, Side, TaskSharing, captures_of_parallel, captures_of_task,
+};
+use om_seq::Seq;
+use om_tree::{Expression, Name};
+use om_uses::copy_of;
+use std::alloc::{AllocError, Global};
+
+/// Whether a directive is `nowait`.
+#[tactic(auto, using(crate::proofs::Clauses::has_clause_viewed))]
+fn has_nowait(directive: &Directive<Expression>) -> bool
+    ensures { result ≡ has_nowait (view_directive directive.now) }
+{
+    directive.has(ClauseKind::Nowait)
+}
+
+/// Whether a directive has a `default`.
+#[tactic(auto, using(crate::proofs::Clauses::has_clause_viewed))]
+fn has_default(directive: &Directive<Expression>) -> bool
+    ensures { result ≡ has_default (view_directive directive.now) }
+{
+    directive.has(ClauseKind::Default)
+}
+
+/// What an `atomic` does with its variable.
+#[tactic(auto, using(crate::proofs::Clauses::has_clause_viewed))]
+fn atomic_kind(directive: &Directive<Expression>) -> AtomicKind
+    ensures { result ≡ atomic_kind (view_directive directive.now) }
+{
+    directive.atomic_kind()
+}
+
+/// A `parallel` round a statement.
+fn parallel_of(
+    alloc: Global,
+    directive: &Directive<Expression>,
+    clauses: Vec<ResolvedClause>,
+    inner: ResolvedStatement,
+) -> Result<ResolvedStatement, SourceFault>
+    ensures checked { Checks result [] }
+    ensures made { IfOk result
+        (λ found. view_resolved_statement found
+        ≡ parallel_of (view_directive directive.now) (map view_resolved_clause clauses.items)
+        (view_resolved_statement inner)) }
+{
+    let at = directive.hash;
+    let body = boxed(alloc, inner)?;
+    let captures = captures_of_parallel(alloc, at.start, clauses.as_slice(), &body)?;
+    Ok(ResolvedStatement::Parallel {
+        at,
+        clauses,
+        captures,
+        body,
+    })
+}
+
+/// The name of a `critical`, if it has one.
+fn critical_name(
+    alloc: Global,
+    name: &Option<(Span, Name, Span)>,
+) -> Result<Option<Seq<u8>>, AllocError>
+    ensures { IfOk result (λ found. found ≡ critical_name name.now) }
+{
+    let Some((_, name, _)) = name else {
+        return Ok(None);
+    };
+    Ok(Some(copy_of(alloc, name)?))
+}
+
+/// What a construct puts round its statement, beside its clauses.
+#[derive(Drop)]
+pub(crate) enum Around {
+    /// A `parallel`, with what it takes from outside.
+    Parallel(Seq<Capture>),
+    /// A `task`, with what it takes from outside.
+    Task(Seq<Capture>),
+    Construct(ConstructKind),
+    /// An `atomic` that updates; its statement has the target on this side.
+    Update(Side),
+}
+
+/// What a `task` in the `parallel` that begins there puts round a statement.
+fn around_task(
+    alloc: Global,
+    parallel: Option<u32>,
+    directive: &Directive<Expression>,
+    clauses: &[ResolvedClause],
+    body: &ResolvedStatement,
+) -> Result<Around, AllocError>
+    ensures { let cs = map view_resolved_clause clauses.now in
+        let tree = view_resolved_statement body.now in
+        IfOk result
+        (λ around. with_around around directive.now.hash cs tree
+        ≡ Some (task_of parallel (view_directive directive.now) cs tree)) }
+{
+    let sharing = TaskSharing {
+        has_default: has_default(directive),
+        parallel,
+    };
+    let captures = captures_of_task(alloc, sharing, directive.hash.start, clauses, body)?;
+    Ok(Around::Task(captures))
+}
+
+/// What a `parallel` puts round a statement.
+fn around_parallel(
+    alloc: Global,
+    directive: &Directive<Expression>,
+    clauses: &[ResolvedClause],
+    body: &ResolvedStatement,
+) -> Result<Around, AllocError>
+    ensures { let cs = map view_resolved_clause clauses.now in
+        let tree = view_resolved_statement body.now in
+        IfOk result
+        (λ around. with_around around directive.now.hash cs tree
+        ≡ Some (parallel_of (view_directive directive.now) cs tree)) }
+{
+    let captures = captures_of_parallel(alloc, directive.hash.start, clauses, body)?;
+    Ok(Around::Parallel(captures))
+}
+
+/// What a `critical` of this name puts round a statement.
+fn around_critical(alloc: Global, name: &Option<(Span, Name, Span)>) -> Result<Around, AllocError>
+    ensures { IfOk result
+        (λ around. around ≡ Around.Construct (ConstructKind.Critical (critical_name name.now))) }
+{
+    let name = critical_name(alloc, name)?;
+    Ok(Around::Construct(ConstructKind::Critical { name }))
+}
+
+/// What an `atomic` puts round its statement, which has the target on that side.
+fn around_atomic(kind: AtomicKind, side: Side) -> Around
+    ensures { (at : Span) (cs : List ResolvedClauseTree) (body : ResolvedStatementTree) →
+        with_around result at cs body ≡ atomic_of kind side at cs body }
+{
+    match kind {
+        AtomicKind::Update => Around::Update(side),
+        AtomicKind::Read => Around::Construct(ConstructKind::Atomic),
+        AtomicKind::Write => Around::Construct(ConstructKind::Atomic),
+    }
+}
+
+/// What a construct depends on besides its clauses and its statement.
+#[derive(Clone, Copy)]
+pub(crate) struct Setting {
+    /// The byte of the source where the innermost `parallel` round it begins.
+    pub(crate) parallel: Option<u32>,
+    /// On which side an atomic update has its target.
+    pub(crate) side: Side,
+}
+
+/// What a construct puts round its statement.
+#[tactic(auto, unfolding(om_rules::specs::StatementResolution::construct_of))]
+fn around_of(
+    alloc: Global,
+    setting: Setting,
+    directive: &Directive<Expression>,
+    clauses: &[ResolvedClause],
+    body: &ResolvedStatement,
+) -> Result<Around, AllocError>
+    requires is_there { let tree = view_directive directive.now in
+        IsSome (construct_of setting.parallel setting.side tree tree.name
+        (map view_resolved_clause clauses.now) (view_resolved_statement body.now)) }
+    ensures { let tree = view_directive directive.now in
+        let cs = map view_resolved_clause clauses.now in
+        let inner = view_resolved_statement body.now in
+        IfOk result
+        (λ around. with_around around tree.hash cs inner
+        ≡ construct_of setting.parallel setting.side tree tree.name cs inner) }
+{
+    match &directive.name {
+        DirectiveName::Parallel(_) => around_parallel(alloc, directive, clauses, body),
+        DirectiveName::Task(_) => around_task(alloc, setting.parallel, directive, clauses, body),
+        DirectiveName::Single(_) => {
+            let kind = ConstructKind::Single {
+                nowait: has_nowait(directive),
+            };
+            Ok(Around::Construct(kind))
+        }
+        DirectiveName::Masked(_) => Ok(Around::Construct(ConstructKind::Masked)),
+        DirectiveName::Master(_) => Ok(Around::Construct(ConstructKind::Masked)),
+        DirectiveName::Critical(_, name) => around_critical(alloc, name),
+        DirectiveName::Taskgroup(_) => Ok(Around::Construct(ConstructKind::Taskgroup)),
+        DirectiveName::Atomic(_) => Ok(around_atomic(atomic_kind(directive), setting.side)),
+        _ => unreachable!(),
+    }
+}
+
+/// A statement with what is put round it.
+fn with_around(
+    alloc: Global,
+    around: Around,
+    at: Span,
+    clauses: Vec<ResolvedClause>,
+    body: Box<ResolvedStatement>,
+) -> Result<ResolvedStatement, AllocError>
+    requires is_there { IsSome (with_around around at (map view_resolved_clause clauses.items)
+        (view_resolved_statement body.value)) }
+    ensures { IfOk result
+        (λ found. with_around around at (map view_resolved_clause clauses.items)
+        (view_resolved_statement body.value) ≡ Some (view_resolved_statement found)) }
+{
+    match around {
+        Around::Parallel(captures) => Ok(ResolvedStatement::Parallel {
+            at,
+            clauses,
+            captures,
+            body,
+        }),
+        Around::Task(captures) => Ok(ResolvedStatement::Task {
+            at,
+            clauses,
+            captures,
+            body,
+        }),
+        Around::Construct(kind) => Ok(ResolvedStatement::Construct {
+            at,
+            kind,
+            clauses,
+            body,
+        }),
+        Around::Update(side) => with_update(alloc, at, side, body),
+    }
+}
+
+/// An `atomic` round the update that a statement is, whose target stands on that side.
+fn with_update(
+    alloc: Global,
+    at: Span,
+    side: Side,
+    body: Box<ResolvedStatement>,
+) -> Result<ResolvedStatement, AllocError>
+    requires is_update { IsSome (update_of side (view_resolved_statement body.value)) }
+    ensures { IfOk result
+        (λ found. with_update at (update_of side (view_resolved_statement body.value))
+        ≡ Some (view_resolved_statement found)) }
+{
+    let mut body = body;
+    let Some(update) = update_of(side, &mut body) else {
+        unreachable!()
+    };
+    let update = boxed(alloc, update)?;
+    Ok(ResolvedStatement::Update { at, update })
+}
+
+/// A construct round a statement, which is one that it may have.
+pub(crate) fn construct_of(
+    alloc: Global,
+    setting: Setting,
+    directive: &Directive<Expression>,
+    clauses: Vec<ResolvedClause>,
+    body: Box<ResolvedStatement>,
+) -> Result<ResolvedStatement, SourceFault>
+    requires is_there { let tree = view_directive directive.now in
+        IsSome (construct_of setting.parallel setting.side tree tree.name
+        (map view_resolved_clause clauses.items) (view_resolved_statement body.value)) }
+    ensures checked { Checks result [] }
+    ensures made { let tree = view_directive directive.now in
+        IfOk result
+        (λ found. construct_of setting.parallel setting.side tree tree.name
+        (map view_resolved_clause clauses.items) (view_resolved_statement body.value)
+        ≡ Some (view_resolved_statement found)) }
+{
+    let around = around_of(alloc, setting, directive, clauses.as_slice(), &body)?;
+    Ok(with_around(alloc, around, directive.hash, clauses, body)?)
+}
+
+/// A construct that is for a loop, and what the loop repeats.
+pub(crate) fn loop_construct_of(
+    alloc: Global,
+    directive: &Directive<Expression>,
+    clauses: Vec<ResolvedClause>,
+    repeated: Box<ResolvedLoop>,
+    body: Box<ResolvedStatement>,
+) -> Result<ResolvedStatement, SourceFault>
+    ensures checked { Checks result [] }
+    ensures made { IfOk result
+        (λ found. view_resolved_statement found
+        ≡ loop_construct_of (view_directive directive.now) (map view_resolved_clause clauses.items)
+        (view_resolved_loop repeated.value) (view_resolved_statement body.value)) }
+{
+    let at = directive.hash;
+    if is_parallel(traits_of(&directive.name).region) {
+        let inner = shared_loop(at, Vec::new(alloc), true, repeated, body);
+        return parallel_of(alloc, directive, clauses, inner);
+    }
+    let nowait = has_nowait(directive);
+    Ok(shared_loop(at, clauses, nowait, repeated, body))
+}
+
+/// A loop whose iterations threads share, and whether they do not wait behind it.
+fn shared_loop(
+    at: Span,
+    clauses: Vec<ResolvedClause>,
+    nowait: bool,
+    repeated: Box<ResolvedLoop>,
+    body: Box<ResolvedStatement>,
+) -> ResolvedStatement
+    ensures { view_resolved_statement result
+        ≡ resolved.Loop at (map view_resolved_clause clauses.items) nowait
+        (view_resolved_loop repeated.value) (view_resolved_statement body.value) }
+{
+    ResolvedStatement::Loop {
+        at,
+        clauses,
+        nowait,
+        repeated,
+        body,
+    }
+}
+
+/// An item in a box. When out of memory, it is gone.
+fn boxed<T: Drop>(alloc: Global, item: T) -> Result<Box<T>, AllocError>
+    ensures { IfOk result (λ made. made.value ≡ item) }
+{
+    Ok(Box::new(alloc, item)?)
+}
+
+/// A construct of parts.
+pub(crate) fn sections_construct_of(
+    alloc: Global,
+    directive: &Directive<Expression>,
+    clauses: Vec<ResolvedClause>,
+    parts: Vec<ResolvedPart>,
+) -> Result<ResolvedStatement, SourceFault>
+    ensures checked { Checks result [] }
+    ensures made { IfOk result
+        (λ found. view_resolved_statement found
+        ≡ sections_construct_of (view_directive directive.now)
+        (map view_resolved_clause clauses.items)
+        (resolved.parts (map view_resolved_part parts.items))) }
+{
+    let at = directive.hash;
+    if is_parallel(traits_of(&directive.name).region) {
+        let inner = shared_parts(at, Vec::new(alloc), true, parts);
+        return parallel_of(alloc, directive, clauses, inner);
+    }
+    let nowait = has_nowait(directive);
+    Ok(shared_parts(at, clauses, nowait, parts))
+}
+
+/// Parts that threads share, and whether they do not wait behind them.
+fn shared_parts(
+    at: Span,
+    clauses: Vec<ResolvedClause>,
+    nowait: bool,
+    parts: Vec<ResolvedPart>,
+) -> ResolvedStatement
+    ensures { view_resolved_statement result
+        ≡ resolved.Sections at (map view_resolved_clause clauses.items) nowait
+        (resolved.parts (map view_resolved_part parts.items)) }
+{
+    ResolvedStatement::Sections {
+        at,
+        clauses,
+        nowait,
+        parts,
+    }
+}
+
+/// What a clause `schedule` asks for.
+fn schedule_in(schedule: &Schedule) -> ResolvedSchedule
+    ensures { result ≡ schedule_in schedule.now }
+{
+    ResolvedSchedule {
+        kind: schedule.kind,
+        chunk: schedule.chunk.map(|chunk| chunk.1.value),
+    }
+}
+
+/// What a clause asks for, where it is a `schedule`.
+fn clause_schedule(otherwise: ResolvedSchedule, clause: &Clause<Expression>) -> ResolvedSchedule
+    ensures { result ≡ clause_schedule otherwise (map_clause view_expression clause.now) }
+{
+    match clause {
+        Clause::Schedule(_, schedule) => schedule_in(schedule),
+        _ => otherwise,
+    }
+}
+
+/// The schedule that clauses ask for: static where none does.
+pub(crate) fn schedule_of(items: &[ClauseItem<Expression>]) -> ResolvedSchedule
+    ensures { result ≡ schedule_of (map (map_item view_expression) items.now) }
+{
+    match items {
+        [] => ResolvedSchedule {
+            kind: ScheduleKind::Static,
+            chunk: None,
+        },
+        [item, rest @ ..] => clause_schedule(schedule_of(rest), &item.clause),
+    }
+}

@@ -1,0 +1,489 @@
+//! Statements: their rules, and the variables of their names.
+
+ghost use Rattle.std.specs.Prelude.{◌≡◌, true, false, OnOk, IfOk, Some, is_some, map};
+ghost use Rattle.om_tree.specs.Formed.{AreParts};
+ghost use Rattle.om_tree.specs.Sizes.{PartsHaveForms};
+ghost use Rattle.om_tree.specs.Tree.{Construct, parts, statements};
+ghost use Rattle.om_tree.specs.View.{view_directive, view_for_head, view_part, view_statement};
+ghost use Rattle.om_resolved.specs.ResolvedTree as resolved;
+ghost use Rattle.om_resolved.specs.ResolvedView.{view_resolved_part, view_resolved_statement};
+ghost use Rattle.om_forms.specs.LoopViews.{view_loop};
+ghost use Rattle.om_rules.specs.Checks.{Checks};
+ghost use Rattle.om_rules.specs.DirectiveRules.{traits_of};
+ghost use Rattle.om_rules.specs.Loops.{loop_in};
+ghost use Rattle.om_rules.specs.Proper.{AreProper, AreProperParts, IsProper};
+ghost use Rattle.om_rules.specs.Scopes.{inside};
+ghost use Rattle.om_rules.specs.StatementResolution.{resolved_construct, resolved_for, resolved_loop_construct, resolved_parts, resolved_plain_construct, resolved_repeated, resolved_sections, resolved_statement, resolved_statements};
+ghost use Rattle.om_rules.specs.StatementRules.{after_statement, after_statements, body_breaches, construct_breaches, continuing, for_breaches, in_loop, loop_construct_breaches, looping, part_breaches, parts_breaches, plain_construct_breaches, sections_construct_breaches, statement_breaches, statements_breaches};
+
+use crate::assembly::{Setting, construct_of, loop_construct_of, sections_construct_of};
+use crate::entering::{enter_construct, enter_loop_construct};
+use crate::head::{continuing, for_of, looping, resolve_for_head};
+use crate::simple::{
+    check_jump, check_section, resolve_declaration, resolve_effect, resolve_return,
+    resolve_stand_alone,
+};
+use om_forms::{Loop, loop_in, statement_side, statement_start};
+use om_lexer::SourceFault;
+use om_names::{Symbols, constructing, traits_of};
+use om_pragma::Directive;
+use om_resolved::{ResolvedPart, ResolvedStatement};
+use om_rules::Flow;
+use om_tree::{Expression, ForHead, Part, Statement};
+use om_uses::{add, boxed, boxed_expression, enter_loop, loop_fault};
+use std::alloc::Global;
+
+/// The items of a block.
+#[tactic(auto, unfolding(om_rules::specs::StatementRules::statements_breaches, om_rules::specs::StatementResolution::resolved_statements))]
+#[cycle(statement)]
+pub(crate) fn resolve_statements(
+    alloc: Global,
+    symbols: &mut Symbols,
+    flow: Flow,
+    items: &[Statement],
+) -> Result<Vec<ResolvedStatement>, SourceFault>
+    requires proper { AreProper (statements (map view_statement items.now)) }
+    ensures checked { Checks result
+        (statements_breaches symbols.old flow (statements (map view_statement items.now))) }
+    ensures in_scope { OnOk result
+        (symbols.new ≡ after_statements symbols.old (map view_statement items.now)) }
+    ensures resolved { IfOk result
+        (λ found. resolved_statements symbols.old flow.parallel
+        (statements (map view_statement items.now))
+        ≡ Some (resolved.statements (map view_resolved_statement found.items))) }
+{
+    let mut resolved = Vec::new(alloc);
+    for item in items {
+        let found = resolve_statement(alloc, symbols, flow, item);
+        add(&mut resolved, found)?;
+    }
+    Ok(resolved)
+}
+
+/// A statement, or a declaration in a block.
+#[tactic(auto, using(om_rules::specs::InRow::first_of_left), unfolding(om_rules::specs::StatementRules::statement_breaches, om_rules::specs::StatementResolution::resolved_statement, om_tree::specs::Formed::IsStatement, om_tree::specs::Sizes::HasForms))]
+#[cycle(statement)]
+fn resolve_statement(
+    alloc: Global,
+    symbols: &mut Symbols,
+    flow: Flow,
+    statement: &Statement,
+) -> Result<ResolvedStatement, SourceFault>
+    requires proper { IsProper (view_statement statement.now) }
+    ensures checked { Checks result
+        (statement_breaches symbols.old flow (view_statement statement.now)) }
+    ensures in_scope { OnOk result
+        (symbols.new ≡ after_statement symbols.old (view_statement statement.now)) }
+    ensures resolved { IfOk result
+        (λ found. resolved_statement symbols.old flow.parallel (view_statement statement.now)
+        ≡ Some (view_resolved_statement found)) }
+{
+    match statement {
+        Statement::Declaration(declaration) => resolve_declaration(alloc, symbols, declaration),
+        Statement::Block {
+            open_brace: left,
+            items,
+            ..
+        } => {
+            let items = resolve_block(alloc, symbols, flow, items.as_slice())?;
+            Ok(ResolvedStatement::Block { at: *left, items })
+        }
+        Statement::Empty(semicolon) => Ok(ResolvedStatement::Empty(*semicolon)),
+        Statement::Expression {
+            value: expression,
+            ..
+        } => resolve_effect(alloc, symbols, expression),
+        Statement::If {
+            word: at,
+            condition,
+            body: then,
+        } => {
+            let condition = boxed_expression(alloc, symbols, true, &condition.value)?;
+            let then = resolve_body(alloc, symbols, flow, then)?;
+            Ok(ResolvedStatement::If {
+                at: *at,
+                condition: Box::into_inner(condition),
+                then,
+            })
+        }
+        Statement::IfElse {
+            word: at,
+            condition,
+            body: then,
+            else_body: other,
+            ..
+        } => {
+            let condition = boxed_expression(alloc, symbols, true, &condition.value)?;
+            let then = resolve_body(alloc, symbols, flow, then)?;
+            let other = resolve_body(alloc, symbols, flow, other)?;
+            Ok(ResolvedStatement::IfElse {
+                at: *at,
+                condition: Box::into_inner(condition),
+                then,
+                other,
+            })
+        }
+        Statement::While {
+            word: at,
+            condition,
+            body,
+        } => {
+            let condition = boxed_expression(alloc, symbols, true, &condition.value)?;
+            let body = resolve_body(alloc, symbols, looping(flow), body)?;
+            Ok(ResolvedStatement::While {
+                at: *at,
+                condition: Box::into_inner(condition),
+                body,
+            })
+        }
+        Statement::Do {
+            word: at,
+            body,
+            condition,
+            ..
+        } => {
+            let body = resolve_body(alloc, symbols, looping(flow), body)?;
+            let condition = boxed_expression(alloc, symbols, true, &condition.value)?;
+            Ok(ResolvedStatement::Do {
+                at: *at,
+                body,
+                condition: Box::into_inner(condition),
+            })
+        }
+        Statement::For { head, body } => resolve_for(alloc, symbols, flow, head, body),
+        Statement::Return {
+            word: at,
+            value,
+            ..
+        } => resolve_return(alloc, symbols, flow, *at, value),
+        Statement::Break { word: at, .. } => {
+            check_jump(flow.may_break, at.start)?;
+            Ok(ResolvedStatement::Break(*at))
+        }
+        Statement::Continue { word: at, .. } => {
+            check_jump(flow.may_continue, at.start)?;
+            Ok(ResolvedStatement::Continue(*at))
+        }
+        Statement::Construct { directive, body } => {
+            resolve_construct(alloc, symbols, flow, directive, body)
+        }
+        Statement::StandAlone(directive) => resolve_stand_alone(alloc, symbols, flow, directive),
+        Statement::Sections {
+            directive,
+            parts,
+            ..
+        } => { resolve_sections(alloc, symbols, flow, directive, parts.as_slice()) }
+    }
+}
+
+/// A statement that is part of another one, which is a block of its own (C17 6.8.4p3, 6.8.5p5).
+#[cycle(statement)]
+fn resolve_body(
+    alloc: Global,
+    symbols: &mut Symbols,
+    flow: Flow,
+    body: &Statement,
+) -> Result<Box<ResolvedStatement>, SourceFault>
+    requires proper { IsProper (view_statement body.now) }
+    ensures checked { Checks result
+        (statement_breaches (inside symbols.old) flow (view_statement body.now)) }
+    ensures in_scope { OnOk result (symbols.new ≡ symbols.old) }
+    ensures resolved { IfOk result
+        (λ found. resolved_statement (inside symbols.old) flow.parallel (view_statement body.now)
+        ≡ Some (view_resolved_statement found.value)) }
+{
+    symbols.enter(alloc)?;
+    let found = boxed_statement(alloc, symbols, flow, body);
+    symbols.leave();
+    found
+}
+
+/// The same, where it lies in a box.
+#[cycle(statement)]
+fn boxed_statement(
+    alloc: Global,
+    symbols: &mut Symbols,
+    flow: Flow,
+    statement: &Statement,
+) -> Result<Box<ResolvedStatement>, SourceFault>
+    requires proper { IsProper (view_statement statement.now) }
+    ensures checked { Checks result
+        (statement_breaches symbols.old flow (view_statement statement.now)) }
+    ensures in_scope { OnOk result
+        (symbols.new ≡ after_statement symbols.old (view_statement statement.now)) }
+    ensures resolved { IfOk result
+        (λ found. resolved_statement symbols.old flow.parallel (view_statement statement.now)
+        ≡ Some (view_resolved_statement found.value)) }
+{
+    boxed(alloc, resolve_statement(alloc, symbols, flow, statement))
+}
+
+/// The items of a block, in a scope of their own.
+#[cycle(statement)]
+fn resolve_block(
+    alloc: Global,
+    symbols: &mut Symbols,
+    flow: Flow,
+    items: &[Statement],
+) -> Result<Vec<ResolvedStatement>, SourceFault>
+    requires proper { AreProper (statements (map view_statement items.now)) }
+    ensures checked { Checks result
+        (statements_breaches (inside symbols.old) flow
+        (statements (map view_statement items.now))) }
+    ensures in_scope { OnOk result (symbols.new ≡ symbols.old) }
+    ensures resolved { IfOk result
+        (λ found. resolved_statements (inside symbols.old) flow.parallel
+        (statements (map view_statement items.now))
+        ≡ Some (resolved.statements (map view_resolved_statement found.items))) }
+{
+    symbols.enter(alloc)?;
+    let items = resolve_statements(alloc, symbols, flow, items);
+    symbols.leave();
+    items
+}
+
+/// A `for`, in a scope of its own.
+#[tactic(auto, using(om_rules::specs::InRow::first_of_left))]
+#[cycle(statement)]
+fn resolve_for(
+    alloc: Global,
+    symbols: &mut Symbols,
+    flow: Flow,
+    head: &ForHead,
+    body: &Statement,
+) -> Result<ResolvedStatement, SourceFault>
+    requires proper { IsProper (view_statement body.now) }
+    ensures checked { Checks result
+        (for_breaches symbols.old flow (view_for_head head.now) (view_statement body.now)) }
+    ensures in_scope { OnOk result (symbols.new ≡ symbols.old) }
+    ensures resolved { IfOk result
+        (λ found. resolved_for symbols.old flow.parallel (view_for_head head.now)
+        (view_statement body.now) ≡ Some (view_resolved_statement found)) }
+{
+    symbols.enter(alloc)?;
+    let turn = resolve_for_head(alloc, symbols, head)?;
+    let body = resolve_body(alloc, symbols, looping(flow), body)?;
+    symbols.leave();
+    Ok(for_of(head.word, turn, body))
+}
+
+/// A construct and its statement.
+#[cycle(statement)]
+fn resolve_construct(
+    alloc: Global,
+    symbols: &mut Symbols,
+    flow: Flow,
+    directive: &Directive<Expression>,
+    body: &Statement,
+) -> Result<ResolvedStatement, SourceFault>
+    requires proper { IsProper (Construct (view_directive directive.now)
+        (view_statement body.now)) }
+    ensures checked { Checks result
+        (construct_breaches symbols.old flow (view_directive directive.now)
+        (view_statement body.now)) }
+    ensures in_scope { OnOk result (symbols.new ≡ symbols.old) }
+    ensures resolved { IfOk result
+        (λ found. resolved_construct symbols.old flow.parallel (view_directive directive.now)
+        (view_statement body.now) ≡ Some (view_resolved_statement found)) }
+{
+    if !traits_of(&directive.name).takes_loop {
+        resolve_plain_construct(alloc, symbols, flow, directive, body)
+    } else {
+        resolve_loop_construct(alloc, symbols, flow, directive, body)
+    }
+}
+
+/// A construct that is for any statement.
+#[tactic(auto, using(om_rules::specs::InRow::first_of_left))]
+#[cycle(statement)]
+fn resolve_plain_construct(
+    alloc: Global,
+    symbols: &mut Symbols,
+    flow: Flow,
+    directive: &Directive<Expression>,
+    body: &Statement,
+) -> Result<ResolvedStatement, SourceFault>
+    requires proper { IsProper (Construct (view_directive directive.now)
+        (view_statement body.now)) }
+    requires for_any { (traits_of directive.now.name).takes_loop ≡ false }
+    ensures checked { Checks result
+        (plain_construct_breaches symbols.old flow (view_directive directive.now)
+        (view_statement body.now)) }
+    ensures in_scope { OnOk result (symbols.new ≡ symbols.old) }
+    ensures resolved { IfOk result
+        (λ found. resolved_plain_construct symbols.old flow.parallel (view_directive directive.now)
+        (view_statement body.now) ≡ Some (view_resolved_statement found)) }
+{
+    let inside = constructing(directive, flow);
+    let setting = Setting {
+        parallel: flow.parallel,
+        side: statement_side(body),
+    };
+    let clauses = enter_construct(alloc, symbols, flow, directive)?;
+    let body = boxed_statement(alloc, symbols, inside, body)?;
+    symbols.leave();
+    construct_of(alloc, setting, directive, clauses, body)
+}
+
+/// A construct that is for a loop: S12.
+#[tactic(auto, using(om_rules::specs::InRow::first_of_left))]
+#[cycle(statement)]
+fn resolve_loop_construct(
+    alloc: Global,
+    symbols: &mut Symbols,
+    flow: Flow,
+    directive: &Directive<Expression>,
+    body: &Statement,
+) -> Result<ResolvedStatement, SourceFault>
+    requires proper { IsProper (view_statement body.now) }
+    ensures checked { Checks result
+        (loop_construct_breaches symbols.old flow (view_directive directive.now)
+        (loop_in (view_statement body.now)) (view_statement body.now)) }
+    ensures in_scope { OnOk result (symbols.new ≡ symbols.old) }
+    ensures resolved { IfOk result
+        (λ found. resolved_loop_construct symbols.old flow.parallel (view_directive directive.now)
+        (loop_in (view_statement body.now)) (view_statement body.now)
+        ≡ Some (view_resolved_statement found)) }
+{
+    let inside = constructing(directive, flow);
+    match loop_in(body) {
+        None => {
+            enter_construct(alloc, symbols, flow, directive)?;
+            let checked = boxed_statement(alloc, symbols, inside, body);
+            Err(loop_fault(checked, statement_start(body)))
+        }
+        Some(found) => {
+            let (clauses, repeated) = enter_loop_construct(
+                alloc, symbols, flow, directive, &found,
+            )?;
+            let body = resolve_loop_body(alloc, symbols, inside, &found, body)?;
+            symbols.leave();
+            loop_construct_of(alloc, directive, clauses, repeated, body)
+        }
+    }
+}
+
+/// The body of a canonical loop.
+#[tactic(auto, unfolding(om_rules::specs::StatementRules::body_breaches, om_rules::specs::StatementResolution::resolved_repeated, om_tree::specs::Formed::IsStatement, om_tree::specs::Sizes::HasForms))]
+#[cycle(statement)]
+fn resolve_loop_body(
+    alloc: Global,
+    symbols: &mut Symbols,
+    inside: Flow,
+    found: &Loop<'_>,
+    body: &Statement,
+) -> Result<Box<ResolvedStatement>, SourceFault>
+    requires proper { IsProper (view_statement body.now) }
+    requires is_loop { is_some (loop_in (view_statement body.now)) ≡ true }
+    ensures checked { Checks result
+        (body_breaches symbols.old inside (Some (view_loop found.now)) (view_statement body.now)) }
+    ensures in_scope { OnOk result (symbols.new ≡ symbols.old) }
+    ensures resolved { IfOk result
+        (λ made. resolved_repeated symbols.old inside.parallel (view_loop found.now)
+        (view_statement body.now) ≡ Some (view_resolved_statement made.value)) }
+{
+    match body {
+        Statement::For { body: repeated, .. } => resolve_repeated(
+            alloc, symbols, inside, found, repeated,
+        ),
+        _ => unreachable!(),
+    }
+}
+
+/// What a canonical loop repeats.
+#[cycle(statement)]
+fn resolve_repeated(
+    alloc: Global,
+    symbols: &mut Symbols,
+    inside: Flow,
+    found: &Loop<'_>,
+    repeated: &Statement,
+) -> Result<Box<ResolvedStatement>, SourceFault>
+    requires proper { IsProper (view_statement repeated.now) }
+    ensures checked { Checks result
+        (statement_breaches (in_loop symbols.old (Some (view_loop found.now))) (continuing inside)
+        (view_statement repeated.now)) }
+    ensures in_scope { OnOk result (symbols.new ≡ symbols.old) }
+    ensures resolved { IfOk result
+        (λ made. resolved_statement (in_loop symbols.old (Some (view_loop found.now)))
+        inside.parallel (view_statement repeated.now) ≡ Some (view_resolved_statement made.value)) }
+{
+    enter_loop(alloc, symbols, found)?;
+    let repeated = resolve_body(alloc, symbols, continuing(inside), repeated)?;
+    symbols.leave();
+    Ok(repeated)
+}
+
+/// A construct of parts.
+#[tactic(auto, using(om_rules::specs::InRow::first_of_left))]
+#[cycle(statement)]
+fn resolve_sections(
+    alloc: Global,
+    symbols: &mut Symbols,
+    flow: Flow,
+    directive: &Directive<Expression>,
+    sections: &[Part],
+) -> Result<ResolvedStatement, SourceFault>
+    requires formed { AreParts (parts (map view_part sections.now)) }
+    requires forms { PartsHaveForms true (parts (map view_part sections.now)) }
+    ensures checked { Checks result
+        (sections_construct_breaches symbols.old flow (view_directive directive.now)
+        (parts (map view_part sections.now))) }
+    ensures in_scope { OnOk result (symbols.new ≡ symbols.old) }
+    ensures resolved { IfOk result
+        (λ found. resolved_sections symbols.old flow.parallel (view_directive directive.now)
+        (parts (map view_part sections.now)) ≡ Some (view_resolved_statement found)) }
+{
+    let inside = constructing(directive, flow);
+    let clauses = enter_construct(alloc, symbols, flow, directive)?;
+    let parts = resolve_parts(alloc, symbols, inside, sections)?;
+    symbols.leave();
+    sections_construct_of(alloc, directive, clauses, parts)
+}
+
+/// The parts of `sections`.
+#[tactic(auto, unfolding(om_rules::specs::StatementRules::parts_breaches, om_rules::specs::StatementResolution::resolved_parts))]
+#[cycle(statement)]
+fn resolve_parts(
+    alloc: Global,
+    symbols: &mut Symbols,
+    flow: Flow,
+    sections: &[Part],
+) -> Result<Vec<ResolvedPart>, SourceFault>
+    requires proper { AreProperParts (parts (map view_part sections.now)) }
+    ensures checked { Checks result
+        (parts_breaches symbols.old flow 0 (parts (map view_part sections.now))) }
+    ensures in_scope { OnOk result (symbols.new ≡ symbols.old) }
+    ensures resolved { IfOk result
+        (λ found. resolved_parts symbols.old flow.parallel (parts (map view_part sections.now))
+        ≡ Some (resolved.parts (map view_resolved_part found.items))) }
+{
+    let mut resolved = Vec::new(alloc);
+    for part in sections {
+        let found = resolve_part(alloc, symbols, flow, resolved.len(), part);
+        add(&mut resolved, found)?;
+    }
+    Ok(resolved)
+}
+
+/// A part of `sections` behind so many of them, which is a block of its own.
+#[tactic(auto, using(om_rules::specs::InRow::first_of_left))]
+#[cycle(statement)]
+fn resolve_part(
+    alloc: Global,
+    symbols: &mut Symbols,
+    flow: Flow,
+    before: usize,
+    part: &Part,
+) -> Result<ResolvedPart, SourceFault>
+    requires proper { AreProper (view_part part.now).items }
+    ensures checked { Checks result (part_breaches symbols.old flow before (view_part part.now)) }
+    ensures in_scope { OnOk result (symbols.new ≡ symbols.old) }
+    ensures resolved { IfOk result
+        (λ found. resolved_statements (inside symbols.old) flow.parallel (view_part part.now).items
+        ≡ Some (view_resolved_part found)) }
+{
+    check_section(before, &part.section)?;
+    let items = resolve_block(alloc, symbols, flow, part.items.as_slice())?;
+    Ok(ResolvedPart { items })
+}

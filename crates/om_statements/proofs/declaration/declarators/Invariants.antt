@@ -1,0 +1,11 @@
+use Rattle.std.proofs.Common.{drop, length}
+use Rattle.om_resolved.specs.ResolvedView.{view_resolved_declarator}
+use Rattle.om_rows.specs.Statements.{declarator}
+use Rattle.om_tables.specs.Scopes.{names_of}
+use Rattle.om_statements.proofs.Leaves.{GoesOn}
+use Rattle.om_statements.proofs.declaration.declarators.Given as goal
+
+abbrev pub invariant-loop-one : goal.invariant-loop-one
+invariant-loop-one l =
+    GoesOn (length l.fn.draft.places) (names_of l.scope) (λ at. declarator at l.line) view_resolved_declarator
+    l.declared (drop l.one-index l.declared) l.fn.draft l.draft

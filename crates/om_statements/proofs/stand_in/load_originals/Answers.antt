@@ -1,0 +1,14 @@
+use Rattle.std.proofs.lemmas.List.{drop_all}
+use Rattle.om_statements.proofs.Leaves.{begin_each, end_each, got, next_each}
+use Rattle.om_statements.proofs.stand_in.load_originals.Goals as goal
+
+pub loop-copy-init : goal.loop-copy-init
+loop-copy-init c = begin_each _ _ _ _ _
+
+pub loop-copy-preserved : goal.loop-copy-preserved
+loop-copy-preserved c = next_each _ _ _ _ _ _ _ _ _ _ c.loop-copy-test.true (got _ _ _ c.loop-copy-test.true)
+    c.loop-copy.invariant c.in_ok-load.ensures
+
+pub returns : goal.returns
+returns c = end_each _ _ _ _ _ _ _ _ (drop_all c.loop-copy.copy-index c.args.copies.now c.loop-copy-test.false)
+    c.loop-copy.invariant

@@ -1,0 +1,203 @@
+-- Stretches of rows: what stands before the statement of a form, and what stands behind it.
+use Rattle.std.specs.Prelude.{◌≡◌, ◌≤◌, ◌<◌, ℕ, ◌+◌, pos, List, Option, Some, None, Bool, true, false, IfSome, length}
+use Rattle.std.specs.Prelude.{option_map, slice_get}
+use Rattle.om_code.specs.declared.instruction.Instr.{Instr}
+use Rattle.om_code.specs.declared.instruction.Instr.TheVariants as i
+use Rattle.om_code.specs.declared.instruction.Comparison.{Comparison}
+use Rattle.om_statements.specs.declared.labels.LoopLabels.{LoopLabels}
+use Rattle.om_statements.specs.declared.labels.TurnLabels.{TurnLabels}
+use Rattle.om_statements.specs.declared.worksharing.Parts.{Parts}
+use Rattle.om_emit.specs.Drafts.{Written, Fresh}
+use Rattle.om_emit.specs.Emits.{Part, site, Goes, Emits}
+use Rattle.om_pragma.specs.declared.clause.ReductionOperator.{ReductionOperator}
+use Rattle.om_resolved.specs.declared.resolved.ConstructKind.{ConstructKind}
+use Rattle.om_resolved.specs.declared.resolved.ConstructKind.TheVariants as constructs
+use Rattle.om_resolved.specs.declared.resolved.LocalVariable.{LocalVariable}
+use Rattle.om_resolved.specs.declared.resolved.Variable as variables
+use Rattle.om_resolved.specs.declared.resolved.Variable.TheVariants as named
+use Rattle.om_resolved.specs.ResolvedTree.{ResolvedExpressionTree, ResolvedClauseTree, ResolvedLoopTree}
+use Rattle.om_resolved.specs.ResolvedTree.{ResolvedStartTree}
+use Rattle.om_rows.specs.Coded.{ValueHasCode}
+use Rattle.om_rows.specs.Expressions.{value, effect}
+use Rattle.om_rows.specs.Operators.{comparison_of, form_with, identity_of}
+use Rattle.om_rows.specs.Rows.{Site, Row, end, never, ins, part, here, ◌▸◌, given, perhaps}
+use Rattle.om_rows.specs.Slots.{place, slot}
+use Rattle.om_rows.specs.Statements.{test, start, starts, filter_row, lock_number, reductions, worksharing_end}
+use Rattle.om_rows.specs.Statements.{clause_value, jump}
+use Rattle.om_tables.specs.Names.{Names}
+
+-- ---- rows that name no label
+
+-- a row is written, by the numbers of a scope
+abbrev pub EmitsRow : Names → (Site → Row) → Written → Written → Type 0
+EmitsRow names row = Emits (λ done at. row (site names done))
+
+-- a row is written that is the same in every scope
+abbrev pub EmitsAnywhere : (Site → Row) → Written → Written → Type 0
+EmitsAnywhere row old new = (names : Names) → EmitsRow names row old new
+
+-- what a `return` is at the end: in `main` it ends the program
+abbrev pub leaving : (is_main has_value : Bool) → Instr
+leaving true has_value = i.Finish has_value
+leaving false true = i.Return
+leaving false false = i.ReturnNothing
+
+-- a copy of a reduction begins with the operator's identity, and a firstprivate one with its original's value
+abbrev pub identity_start : ℕ → ReductionOperator → LocalVariable → Site → Row
+identity_start l operator copy at =
+    ins at l (i.Constant (identity_of operator)) ▸ ins at l (i.Store (place at (named.Local copy.at)) false) ▸ end
+
+abbrev pub original_start : ℕ → variables.Variable → LocalVariable → Site → Row
+original_start l original copy at =
+    ins at l (i.Load (place at original)) ▸ ins at l (i.Store (place at (named.Local copy.at)) false) ▸ end
+
+-- the bounds of a worksharing loop, and what its copies begin with
+abbrev pub bounds_row : ℕ → List ResolvedClauseTree → ResolvedLoopTree → Site → Row
+bounds_row l clauses loop at = part (value at loop.at.line loop.from) ▸ part (value at loop.at.line loop.to) ▸
+    starts at l clauses
+
+-- what stands behind a worksharing loop, or the parts of `sections`
+abbrev pub close_row : ℕ → List ResolvedClauseTree → (nowait : Bool) → Site → Row
+close_row l clauses nowait at = part (reductions at l clauses) ▸ worksharing_end at l nowait
+
+-- FORK and SPAWN
+abbrev pub fork_row : ℕ → ℕ → Bool → ℕ → Site → Row
+fork_row l body sized values at = ins at l (i.Fork body sized values) ▸ end
+
+abbrev pub spawn_row : ℕ → ℕ → ℕ → Site → Row
+spawn_row l body values at = ins at l (i.Spawn body values) ▸ end
+
+-- ---- stretches whose labels are placed later
+
+-- a stretch is written, and this label, which is none of those below n, is still to be placed
+pub record Opens (n label : ℕ) (r : Part) (old new : Written) : Type 0 where
+  pub goes : Goes n r old new
+  pub above : n ≤ label
+  pub free : slice_get new.places label ≡ Some None
+
+-- the same, where the label is none of those from before
+abbrev pub Begins : (label : ℕ) → Part → Written → Written → Type 0
+Begins label r old new = Opens (length old.places) label r old new
+
+-- the same, with two labels that are still to be placed
+pub record BeginsTurn (labels : TurnLabels) (r : Part) (old new : Written) : Type 0 where
+  pub next : Begins labels.next r old new
+  pub over : Begins labels.over r old new
+  pub apart : labels.next < labels.over
+
+-- a stretch is written, which places this label and perhaps some above it
+abbrev pub Ends : ℕ → Part → Written → Written → Type 0
+Ends label r old new = Goes label r old new
+
+-- three labels are new
+pub record FreshTurn (labels : TurnLabels) (old new : Written) : Type 0 where
+  pub second : Written
+  pub third : Written
+  pub again : Fresh labels.again old second
+  pub next : Fresh labels.next second third
+  pub over : Fresh labels.over third new
+
+-- c, JZ E
+abbrev pub test_at : Names → ℕ → (otherwise : ℕ) → ResolvedExpressionTree → Part
+test_at names l otherwise c done at = test (site names done) l (at otherwise) c
+
+abbrev pub EmitsTest : Names → ℕ → (otherwise : ℕ) → ResolvedExpressionTree → Written → Written → Type 0
+EmitsTest names l otherwise c = Emits (test_at names l otherwise c)
+
+abbrev pub EmitsPerhapsTest : Names → ℕ → (otherwise : ℕ) → Option ResolvedExpressionTree → Written → Written → Type 0
+EmitsPerhapsTest names l otherwise c = Emits (λ done at. perhaps (test (site names done) l (at otherwise)) c)
+
+-- `break` and `continue`: JMP to a label that is there
+abbrev pub EmitsJump : ℕ → Option ℕ → Written → Written → Type 0
+EmitsJump l label old new = (names : Names)
+    → Emits (λ done at. given (option_map at label) (jump (site names done) l)) old new
+
+-- JMP E, L:
+abbrev pub else_begin : Names → ℕ → (head behind : ℕ) → Part
+else_begin names l head behind done at = ins (site names done) l (i.Jump (at behind)) ▸ here (at head) ▸ end
+
+-- L: c, JZ E
+abbrev pub while_begin : Names → ℕ → ResolvedExpressionTree → LoopLabels → Part
+while_begin names l c labels done at = here (at labels.again) ▸ test (site names done) l (at labels.over) c
+
+-- JMP L, E:
+abbrev pub loop_end : Names → ℕ → LoopLabels → Part
+loop_end names l labels done at = ins (site names done) l (i.Jump (at labels.again)) ▸ here (at labels.over) ▸ end
+
+abbrev pub loop_labels : TurnLabels → LoopLabels
+loop_labels labels = record { again = labels.again; over = labels.over }
+
+-- L:
+abbrev pub do_begin : TurnLabels → Part
+do_begin labels done at = here (at labels.again) ▸ end
+
+-- C: c, JZ E, JMP L, E:
+abbrev pub do_end : Names → ℕ → TurnLabels → ResolvedExpressionTree → Part
+do_end names l labels c done at =
+    here (at labels.next) ▸ part (test (site names done) l (at labels.over) c) ▸ loop_end names l
+    (loop_labels labels) done at
+
+-- i, L: c, JZ E
+abbrev pub for_begin : Names → ℕ → ResolvedStartTree → Option ResolvedExpressionTree → TurnLabels → Part
+for_begin names l begin c labels done at =
+    part (start (site names done) l begin) ▸ here (at labels.again) ▸ perhaps
+    (test (site names done) l (at labels.over)) c
+
+-- C: p, JMP L, E:
+abbrev pub for_end : Names → ℕ → TurnLabels → Option ResolvedExpressionTree → Part
+for_end names l labels step done at =
+    here (at labels.next) ▸ part (perhaps (effect (site names done) l) step) ▸ loop_end names l (loop_labels labels)
+    done at
+
+-- bounds and starts, LOOP, G: GRAB E, I: ITER i G
+abbrev pub worksharing_rest : Names → ℕ → List ResolvedClauseTree → ResolvedLoopTree → LoopLabels → (chunk : ℕ)
+    → Comparison → Part
+worksharing_rest names l clauses loop labels chunk comparison done at =
+    part (bounds_row l clauses loop (site names done)) ▸ ins (site names done) l (i.Loop (form_with loop comparison))
+    ▸ here (at chunk) ▸ ins (site names done) l (i.Grab (at labels.over))
+    ▸ here (at labels.again) ▸ ins (site names done) l (i.Iterate (slot (site names done) loop.variable) (at chunk))
+    ▸ end
+
+abbrev pub worksharing_begin : Names → ℕ → List ResolvedClauseTree → ResolvedLoopTree → LoopLabels → Part
+worksharing_begin names l clauses loop labels done at = λ p q. (chunk : ℕ) ×
+    given (comparison_of loop.comparison) (λ comparison. worksharing_rest names l clauses loop labels chunk
+    comparison done at) p q
+
+-- starts, SECT n, G: GRAB E, PICK
+abbrev pub sections_begin : Names → ℕ → List ResolvedClauseTree → Parts → LoopLabels → Part
+sections_begin names l clauses sections labels done at =
+    part (starts (site names done) l clauses) ▸ ins (site names done) l (i.Sections sections.count)
+    ▸ here (at labels.again) ▸ ins (site names done) l (i.Grab (at labels.over)) ▸ ins (site names done) l
+    (i.Pick sections.number) ▸ end
+
+-- what stands before the statement of a construct that is no `atomic`
+abbrev pub construct_begin : Names → ℕ → ConstructKind → List ResolvedClauseTree → (label : ℕ) → Part
+construct_begin names l (constructs.Single nowait) clauses label done at =
+    ins (site names done) l (i.Single (at label)) ▸ starts (site names done) l clauses
+construct_begin names l constructs.Masked clauses label done at =
+    part (filter_row (site names done) l (clause_value clauses)) ▸ ins (site names done) l (i.Masked (at label)) ▸ end
+construct_begin names l (constructs.Critical name) clauses label done at =
+    ins (site names done) l (i.AskCritical (lock_number (site names done) name))
+    ▸ ins (site names done) l (i.EnterCritical (lock_number (site names done) name)) ▸ end
+construct_begin names l constructs.Atomic clauses label done at = never
+construct_begin names l constructs.Taskgroup clauses label done at = ins (site names done) l i.GroupBegin ▸ end
+
+-- what stands behind it
+abbrev pub construct_end : Names → ℕ → ConstructKind → (label : ℕ) → Part
+construct_end names l (constructs.Single nowait) label done at = here (at label) ▸ worksharing_end (site names done)
+    l nowait
+construct_end names l constructs.Masked label done at = ins (site names done) l i.EndMasked ▸ here (at label) ▸ end
+construct_end names l (constructs.Critical name) label done at =
+    ins (site names done) l (i.LeaveCritical (lock_number (site names done) name)) ▸ end
+construct_end names l constructs.Atomic label done at = never
+construct_end names l constructs.Taskgroup label done at = ins (site names done) l i.GroupEnd ▸ end
+
+abbrev pub IsNoAtomic : ConstructKind → Type 0
+IsNoAtomic constructs.Atomic = ⊥
+IsNoAtomic _ = Unit {0}
+
+-- a construct that is no `atomic`, with a filter that has code
+abbrev pub BeginHasCode : ConstructKind → List ResolvedClauseTree → Type 0
+BeginHasCode constructs.Atomic clauses = ⊥
+BeginHasCode constructs.Masked clauses = IfSome (clause_value clauses) ValueHasCode
+BeginHasCode _ clauses = Unit {0}

@@ -1,0 +1,224 @@
+//! What clauses make of their copies.
+
+ghost use Rattle.std.specs.Prelude.{◌≡◌, OnOk, map, option_map};
+ghost use Rattle.om_statements.specs.Stretches.{EmitsRow, identity_start, original_start};
+ghost use Rattle.om_resolved.specs.ResolvedView.{view_resolved_clause, view_resolved_expression};
+ghost use Rattle.om_rows.specs.Statements as rows;
+ghost use Rattle.om_rows.specs.Statements.{clause_combined, clause_reduction_start, clause_start};
+ghost use Rattle.om_tables.specs.Scopes.{names_of};
+
+use crate::operator::{identity_of, reduction_of};
+use om_code::instruction::Instr;
+use om_emit::draft::Draft;
+use om_pragma::ReductionOperator;
+use om_resolved::{CopyKind, LocalVariable, ResolvedClause, ResolvedExpression, Variable};
+use om_tables::Scope;
+use std::alloc::AllocError;
+
+/// The value of `num_threads` or `filter`, where there is one.
+pub fn clause_value(clauses: &[ResolvedClause]) -> Option<&ResolvedExpression>
+    ensures { option_map (λ value. view_resolved_expression value.now) result
+        ≡ rows.clause_value (map view_resolved_clause clauses.now) }
+{
+    for clause in clauses {
+        if let ResolvedClause::Value { value, .. } = clause {
+            return Some(value);
+        }
+    }
+    None
+}
+
+/// Gives the copy of a reduction the value that it begins with.
+fn set_identity(
+    draft: &mut Draft,
+    scope: &Scope<'_>,
+    line: u32,
+    operator: ReductionOperator,
+    copy: &LocalVariable,
+) -> Result<(), AllocError>
+    ensures { let begin = identity_start line operator copy.now in
+        OnOk result (EmitsRow (names_of scope.now) begin draft.old draft.new) }
+{
+    let identity = identity_of(operator);
+    draft.put(line, identity)?;
+    let place = scope.place(Variable::Local(copy.at));
+    draft.put(
+        line,
+        Instr::Store {
+            place,
+            keeps: false,
+        },
+    )?;
+    Ok(())
+}
+
+/// Gives a copy the value of its original.
+fn set_original(
+    draft: &mut Draft,
+    scope: &Scope<'_>,
+    line: u32,
+    original: Variable,
+    copy: &LocalVariable,
+) -> Result<(), AllocError>
+    ensures { let begin = original_start line original copy.now in
+        OnOk result (EmitsRow (names_of scope.now) begin draft.old draft.new) }
+{
+    let from = scope.place(original);
+    draft.put(line, Instr::Load(from))?;
+    let place = scope.place(Variable::Local(copy.at));
+    draft.put(
+        line,
+        Instr::Store {
+            place,
+            keeps: false,
+        },
+    )?;
+    Ok(())
+}
+
+/// Writes what the copy of a clause of a worksharing construct begins with (OpenMP API 5.2, section 5.4).
+fn clause_start(
+    draft: &mut Draft,
+    scope: &Scope<'_>,
+    line: u32,
+    clause: &ResolvedClause,
+) -> Result<(), AllocError>
+    ensures { let tree = view_resolved_clause clause.now in
+        OnOk result
+        (EmitsRow (names_of scope.now) (λ at. clause_start at line tree) draft.old draft.new) }
+{
+    let ResolvedClause::Copied {
+        kind,
+        original,
+        copy,
+    } = clause
+    else {
+        return Ok(());
+    };
+    match kind {
+        CopyKind::Private => {
+            draft.put(line, Instr::Clear(scope.slot(copy)))?;
+            Ok(())
+        }
+        CopyKind::Firstprivate => {
+            set_original(draft, scope, line, *original, copy)?;
+            Ok(())
+        }
+        CopyKind::Reduction(operator) => {
+            set_identity(draft, scope, line, *operator, copy)?;
+            Ok(())
+        }
+    }
+}
+
+/// Writes what the copies of a worksharing construct begin with, in clause order.
+pub fn starts(
+    draft: &mut Draft,
+    scope: &Scope<'_>,
+    line: u32,
+    clauses: &[ResolvedClause],
+) -> Result<(), AllocError>
+    ensures { let trees = map view_resolved_clause clauses.now in
+        OnOk result
+        (EmitsRow (names_of scope.now) (λ at. rows.starts at line trees) draft.old draft.new) }
+{
+    for clause in clauses {
+        clause_start(draft, scope, line, clause)?;
+    }
+    Ok(())
+}
+
+/// Writes what the copy of a clause of a `parallel` begins with, if it is combined. FORK gives the
+/// firstprivate ones their values, and the others are new with their frame.
+fn clause_reduction_start(
+    draft: &mut Draft,
+    scope: &Scope<'_>,
+    line: u32,
+    clause: &ResolvedClause,
+) -> Result<(), AllocError>
+    ensures { let tree = view_resolved_clause clause.now in
+        OnOk result
+        (EmitsRow (names_of scope.now) (λ at. clause_reduction_start at line tree) draft.old
+        draft.new) }
+{
+    let ResolvedClause::Copied { kind, copy, .. } = clause else {
+        return Ok(());
+    };
+    let CopyKind::Reduction(operator) = kind else {
+        return Ok(());
+    };
+    set_identity(draft, scope, line, *operator, copy)?;
+    Ok(())
+}
+
+/// Writes what those copies of a `parallel` begin with that are combined, in clause order.
+pub fn reduction_starts(
+    draft: &mut Draft,
+    scope: &Scope<'_>,
+    line: u32,
+    clauses: &[ResolvedClause],
+) -> Result<(), AllocError>
+    ensures { let trees = map view_resolved_clause clauses.now in
+        OnOk result
+        (EmitsRow (names_of scope.now) (λ at. rows.reduction_starts at line trees) draft.old
+        draft.new) }
+{
+    for clause in clauses {
+        clause_reduction_start(draft, scope, line, clause)?;
+    }
+    Ok(())
+}
+
+/// Combines the copy of a clause with its original, if the clause is a reduction.
+fn clause_combined(
+    draft: &mut Draft,
+    scope: &Scope<'_>,
+    line: u32,
+    clause: &ResolvedClause,
+) -> Result<(), AllocError>
+    ensures { let tree = view_resolved_clause clause.now in
+        OnOk result
+        (EmitsRow (names_of scope.now) (λ at. clause_combined at line tree) draft.old draft.new) }
+{
+    let ResolvedClause::Copied {
+        kind,
+        original,
+        copy,
+    } = clause
+    else {
+        return Ok(());
+    };
+    let CopyKind::Reduction(operator) = kind else {
+        return Ok(());
+    };
+    let reduction = reduction_of(*operator);
+    let place = scope.place(*original);
+    let copy = scope.slot(copy);
+    draft.put(
+        line,
+        Instr::Reduce {
+            reduction,
+            copy,
+            place,
+        },
+    )?;
+    Ok(())
+}
+
+/// Combines the copies of reductions with their originals, in clause order (OpenMP API 5.2, section
+/// 5.5.5).
+pub fn reductions(
+    draft: &mut Draft,
+    scope: &Scope<'_>,
+    line: u32,
+    clauses: &[ResolvedClause],
+) -> Result<(), AllocError>
+    ensures { let trees = map view_resolved_clause clauses.now in
+        OnOk result
+        (EmitsRow (names_of scope.now) (λ at. rows.reductions at line trees) draft.old draft.new) }
+{
+    for clause in clauses {
+        clause_combined(draft, scope, line, clause)?;
+    }
+    Ok(())
+}

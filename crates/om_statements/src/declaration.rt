@@ -1,0 +1,186 @@
+//! Declarations, tests, and what leaves a function.
+
+ghost use Rattle.std.specs.Prelude.{◌≡◌, All, IfSome, OnOk, map, option_map};
+ghost use Rattle.om_statements.specs.Stretches.{EmitsPerhapsTest, EmitsRow, EmitsTest, leaving};
+ghost use Rattle.om_resolved.specs.ResolvedView.{view_resolved_declarator, view_resolved_expression, view_resolved_start};
+ghost use Rattle.om_rows.specs.Coded.{DeclaratorHasCode, EffectHasCode, StartHasCode, ValueHasCode};
+ghost use Rattle.om_rows.specs.Expressions.{effect};
+ghost use Rattle.om_rows.specs.Rows.{each, perhaps};
+ghost use Rattle.om_rows.specs.Statements as rows;
+ghost use Rattle.om_rows.specs.Statements.{declarator, returned};
+ghost use Rattle.om_tables.specs.Scopes.{names_of};
+
+use om_code::instruction::Instr;
+use om_emit::draft::Draft;
+use om_emit::{effect, value};
+use om_resolved::{ResolvedDeclarator, ResolvedExpression, ResolvedStart, Variable};
+use om_tables::Scope;
+use std::alloc::AllocError;
+
+/// Writes the code of a declared name: it is made unset, or gets its initializer (C17 6.7.9).
+pub fn declarator(
+    draft: &mut Draft,
+    scope: &Scope<'_>,
+    line: u32,
+    declared: &ResolvedDeclarator,
+) -> Result<(), AllocError>
+    requires { DeclaratorHasCode (view_resolved_declarator declared.now) }
+    ensures { let tree = view_resolved_declarator declared.now in
+        OnOk result
+        (EmitsRow (names_of scope.now) (λ at. declarator at line tree) draft.old draft.new) }
+{
+    match &declared.initial {
+        None => {
+            draft.put(line, Instr::Clear(scope.slot(&declared.variable)))?;
+            Ok(())
+        }
+        Some(initial) => {
+            value(draft, scope, line, initial)?;
+            let place = scope.place(Variable::Local(declared.variable.at));
+            draft.put(
+                line,
+                Instr::Store {
+                    place,
+                    keeps: false,
+                },
+            )?;
+            Ok(())
+        }
+    }
+}
+
+/// Writes the code of the names of a declaration, in their order.
+pub fn declarators(
+    draft: &mut Draft,
+    scope: &Scope<'_>,
+    line: u32,
+    declared: &[ResolvedDeclarator],
+) -> Result<(), AllocError>
+    requires { All DeclaratorHasCode (map view_resolved_declarator declared.now) }
+    ensures { let trees = map view_resolved_declarator declared.now in
+        OnOk result
+        (EmitsRow (names_of scope.now) (λ at. each (declarator at line) trees) draft.old
+        draft.new) }
+{
+    for one in declared {
+        declarator(draft, scope, line, one)?;
+    }
+    Ok(())
+}
+
+/// Writes what a `for` begins with (C17 6.8.5.3).
+pub fn start(
+    draft: &mut Draft,
+    scope: &Scope<'_>,
+    line: u32,
+    start: &ResolvedStart,
+) -> Result<(), AllocError>
+    requires { StartHasCode (view_resolved_start start.now) }
+    ensures { let tree = view_resolved_start start.now in
+        OnOk result
+        (EmitsRow (names_of scope.now) (λ at. rows.start at line tree) draft.old draft.new) }
+{
+    match start {
+        ResolvedStart::Nothing => Ok(()),
+        ResolvedStart::Expression(expression) => effect(draft, scope, line, expression),
+        ResolvedStart::Declaration(declared) => {
+            declarators(draft, scope, line, declared.as_slice())
+        }
+    }
+}
+
+/// Writes a test: where the condition is 0, the code goes on at the label (C17 6.8.4.1p2).
+pub fn test(
+    draft: &mut Draft,
+    scope: &Scope<'_>,
+    line: u32,
+    condition: &ResolvedExpression,
+    otherwise: u32,
+) -> Result<(), AllocError>
+    requires { ValueHasCode (view_resolved_expression condition.now) }
+    ensures { let tree = view_resolved_expression condition.now in
+        OnOk result (EmitsTest (names_of scope.now) line otherwise tree draft.old draft.new) }
+{
+    value(draft, scope, line, condition)?;
+    draft.put(line, Instr::JumpIfZero(otherwise))?;
+    Ok(())
+}
+
+/// Writes a test that may be left out (C17 6.8.5.3p2).
+pub fn perhaps_test(
+    draft: &mut Draft,
+    scope: &Scope<'_>,
+    line: u32,
+    condition: &Option<ResolvedExpression>,
+    otherwise: u32,
+) -> Result<(), AllocError>
+    requires { IfSome (option_map view_resolved_expression condition.now) ValueHasCode }
+    ensures { let tree = option_map view_resolved_expression condition.now in
+        OnOk result
+        (EmitsPerhapsTest (names_of scope.now) line otherwise tree draft.old draft.new) }
+{
+    let Some(condition) = condition else {
+        return Ok(());
+    };
+    test(draft, scope, line, condition, otherwise)
+}
+
+/// Writes the code of an expression that may be left out, and whose value nothing uses.
+pub fn perhaps_effect(
+    draft: &mut Draft,
+    scope: &Scope<'_>,
+    line: u32,
+    expression: &Option<ResolvedExpression>,
+) -> Result<(), AllocError>
+    requires { IfSome (option_map view_resolved_expression expression.now) EffectHasCode }
+    ensures { let tree = option_map view_resolved_expression expression.now in
+        OnOk result
+        (EmitsRow (names_of scope.now) (λ at. perhaps (effect at line) tree) draft.old draft.new) }
+{
+    let Some(expression) = expression else {
+        return Ok(());
+    };
+    effect(draft, scope, line, expression)
+}
+
+/// Writes a `return`, which in `main` ends the program (C17 6.8.6.4, 5.1.2.2.3).
+pub fn returned(
+    draft: &mut Draft,
+    scope: &Scope<'_>,
+    line: u32,
+    answer: &Option<ResolvedExpression>,
+) -> Result<(), AllocError>
+    requires { IfSome (option_map view_resolved_expression answer.now) ValueHasCode }
+    ensures { let tree = option_map view_resolved_expression answer.now in
+        OnOk result
+        (EmitsRow (names_of scope.now) (λ at. returned at line at.is_main tree) draft.old
+        draft.new) }
+{
+    let is_main = scope.is_main();
+    match answer {
+        None => {
+            let last = last_instruction(is_main, false);
+            draft.put(line, last)?;
+            Ok(())
+        }
+        Some(answer) => {
+            value(draft, scope, line, answer)?;
+            let last = last_instruction(is_main, true);
+            draft.put(line, last)?;
+            Ok(())
+        }
+    }
+}
+
+/// What ends the frame of a function, with a value or without.
+fn last_instruction(is_main: bool, has_value: bool) -> Instr
+    ensures { result ≡ leaving is_main has_value }
+{
+    if is_main {
+        Instr::Finish { has_value }
+    } else if has_value {
+        Instr::Return
+    } else {
+        Instr::ReturnNothing
+    }
+}

@@ -1,0 +1,124 @@
+//! The begins and the ends of worksharing loops and of `sections`.
+
+ghost use Rattle.std.specs.Prelude.{IfOk, OnOk, map};
+ghost use Rattle.om_statements.specs.Stretches.{Begins, EmitsRow, bounds_row, close_row, sections_begin, worksharing_begin};
+ghost use Rattle.om_resolved.specs.ResolvedView.{view_resolved_clause, view_resolved_loop};
+ghost use Rattle.om_rows.specs.Coded.{LoopHasCode};
+ghost use Rattle.om_tables.specs.Scopes.{names_of};
+
+use crate::barrier::worksharing_end;
+use crate::clause::{reductions, starts};
+use crate::labels::LoopLabels;
+use crate::operator::{comparison_of, form_with};
+use om_code::instruction::Instr;
+use om_emit::draft::Draft;
+use om_emit::value;
+use om_resolved::{ResolvedClause, ResolvedLoop};
+use om_tables::Scope;
+use std::alloc::AllocError;
+
+/// The list of a PICK, and how many parts it has.
+#[derive(Clone, Copy)]
+pub struct Parts {
+    /// The number of the list in the program.
+    pub number: u32,
+    /// How many parts there are.
+    pub count: u32,
+}
+
+/// Writes the bounds of a loop, on the line of its `for`, and what its copies begin with.
+fn bounds(
+    draft: &mut Draft,
+    scope: &Scope<'_>,
+    line: u32,
+    clauses: &[ResolvedClause],
+    repeated: &ResolvedLoop,
+) -> Result<(), AllocError>
+    requires { LoopHasCode (view_resolved_loop repeated.now) }
+    ensures { let row = bounds_row line (map view_resolved_clause clauses.now)
+        (view_resolved_loop repeated.now) in
+        OnOk result (EmitsRow (names_of scope.now) row draft.old draft.new) }
+{
+    value(draft, scope, repeated.at.line, &repeated.from)?;
+    value(draft, scope, repeated.at.line, &repeated.to)?;
+    starts(draft, scope, line, clauses)?;
+    Ok(())
+}
+
+/// Writes the begin of a worksharing loop (OpenMP API 5.2, section 11.5): chunks of iterations are
+/// taken, and each iteration puts its value into the loop's variable.
+pub fn begin_worksharing(
+    draft: &mut Draft,
+    scope: &Scope<'_>,
+    line: u32,
+    clauses: &[ResolvedClause],
+    repeated: &ResolvedLoop,
+) -> Result<LoopLabels, AllocError>
+    requires { LoopHasCode (view_resolved_loop repeated.now) }
+    ensures { let trees = map view_resolved_clause clauses.now in
+        let begin = worksharing_begin (names_of scope.now) line trees
+        (view_resolved_loop repeated.now) in
+        IfOk result (λ labels. Begins labels.over (begin labels) draft.old draft.new) }
+{
+    let Some(comparison) = comparison_of(repeated.comparison) else {
+        unreachable!();
+    };
+    let chunk = draft.fresh()?;
+    let again = draft.fresh()?;
+    let over = draft.fresh()?;
+    bounds(draft, scope, line, clauses, repeated)?;
+    draft.put(line, Instr::Loop(form_with(repeated, comparison)))?;
+    draft.define(chunk);
+    draft.put(line, Instr::Grab(over))?;
+    draft.define(again);
+    let slot = scope.slot(&repeated.variable);
+    draft.put(
+        line,
+        Instr::Iterate {
+            slot,
+            otherwise: chunk,
+        },
+    )?;
+    Ok(LoopLabels { again, over })
+}
+
+/// Writes the begin of `sections` (OpenMP API 5.2, section 11.3): a section is taken, and its part is
+/// gone to.
+pub fn begin_sections(
+    draft: &mut Draft,
+    scope: &Scope<'_>,
+    line: u32,
+    clauses: &[ResolvedClause],
+    parts: Parts,
+) -> Result<LoopLabels, AllocError>
+    ensures { let begin = sections_begin (names_of scope.now) line
+        (map view_resolved_clause clauses.now) parts in
+        IfOk result (λ labels. Begins labels.over (begin labels) draft.old draft.new) }
+{
+    let again = draft.fresh()?;
+    let over = draft.fresh()?;
+    starts(draft, scope, line, clauses)?;
+    draft.put(line, Instr::Sections(parts.count))?;
+    draft.define(again);
+    draft.put(line, Instr::Grab(over))?;
+    draft.put(line, Instr::Pick(parts.number))?;
+    Ok(LoopLabels { again, over })
+}
+
+/// Writes what stands behind a worksharing loop or the parts of `sections`: the copies of reductions
+/// are combined, and all threads wait for each other, unless it is `nowait`.
+pub fn end_worksharing(
+    draft: &mut Draft,
+    scope: &Scope<'_>,
+    line: u32,
+    clauses: &[ResolvedClause],
+    nowait: bool,
+) -> Result<(), AllocError>
+    ensures { let trees = map view_resolved_clause clauses.now in
+        OnOk result
+        (EmitsRow (names_of scope.now) (close_row line trees nowait) draft.old draft.new) }
+{
+    reductions(draft, scope, line, clauses)?;
+    worksharing_end(draft, line, nowait)?;
+    Ok(())
+}
