@@ -1,5 +1,8 @@
 //! Why a run stops before its end.
 
+ghost use Rattle.std.specs.Prelude.{◌≡◌};
+
+use std::alloc::AllocError;
 use thiserror::Error;
 
 /// A fault of a run. The run is over then, and nothing of it is kept but what was written.
@@ -16,4 +19,14 @@ pub enum ShellFault {
     /// There was no memory, wherever it was asked for.
     #[error("H5")]
     Memory,
+}
+
+impl From<AllocError> for ShellFault {
+    ghost use Rattle.om_shell.specs.declared.fault.ShellFault.{ShellFault};
+
+    ghost from_gives = { λ _ fault. fault ≡ ShellFault.Memory };
+
+    fn from(_error: AllocError) -> ShellFault {
+        ShellFault::Memory
+    }
 }

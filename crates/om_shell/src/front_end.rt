@@ -1,6 +1,8 @@
 //! From a source to its program and its names: lexer, parser, names, code.
 ghost use Rattle.std.specs.Prelude.{◌≡◌, ◌≢◌, IfOk, IfErr};
 ghost use Rattle.om_lexer.specs.Faults.{no_memory};
+ghost use Rattle.om_lower.specs.Limits.{AreWithin, IsTooMany};
+ghost use Rattle.om_rows.specs.Code.{IsCodeOf};
 ghost use Rattle.om_tree.specs.View.{view_unit};
 ghost use Rattle.om_resolved.specs.ResolvedView.{view_resolved};
 ghost use Rattle.om_resolved.specs.Beside.{TreeAtomicsAssign, TreeCopiesBehind};
@@ -8,7 +10,7 @@ ghost use Rattle.om_resolved.specs.Whole.{IsWholeTree};
 ghost use Rattle.om_visible.specs.Scopes.{tree_names};
 ghost use Rattle.om_shell.specs.Verdict.{IsTreeOfSource, IsResolutionOfSource, IsDebuggeeOf, IsRefused};
 
-use om_lexer::{FaultCode, SourceFault, lex};
+use om_lexer::{SourceFault, lex};
 use om_lower::lower::lower;
 use om_parser::parse;
 use om_places::laws::sources_have_copies_behind;
@@ -16,7 +18,7 @@ use om_resolved::Resolved;
 use om_scope::resolve;
 use om_tree::Unit;
 use om_view::Debuggee;
-use om_visible::{Names, names_of};
+use om_visible::names_of;
 use std::alloc::Global;
 
 // The tree of a source.
@@ -42,15 +44,20 @@ fn resolution_of(alloc: Global, source: &[u8]) -> Result<Resolved, SourceFault>
     resolve(alloc, unit)
 }
 
-// The names of a program.
-fn names_in(alloc: Global, resolved: &Resolved) -> Result<Names, SourceFault>
-    ensures names { IfOk result (λ names. names ≡ tree_names (view_resolved resolved.now)) }
-    ensures memory { IfErr result (λ fault. fault ≡ no_memory) }
+// The program of a resolved tree, and its names.
+fn debuggee_in(alloc: Global, resolved: &Resolved) -> Result<Debuggee, SourceFault>
+    requires whole { IsWholeTree (view_resolved resolved.now) }
+    requires atomics_assign { TreeAtomicsAssign (view_resolved resolved.now) }
+    requires copies_behind { TreeCopiesBehind (view_resolved resolved.now) }
+    ensures made { let tree = view_resolved resolved.now in
+        IfOk result (λ debuggee. AreWithin tree × IsCodeOf tree debuggee.program
+        × (debuggee.names ≡ tree_names tree)) }
+    ensures refused { let tree = view_resolved resolved.now in
+        IfErr result (λ fault. fault ≢ no_memory → IsTooMany tree fault) }
 {
-    names_of(alloc, resolved).map_err(|_| SourceFault {
-        code: FaultCode::Memory,
-        at: 0,
-    })
+    let program = lower(alloc, resolved)?;
+    let names = names_of(alloc, resolved)?;
+    Ok(Debuggee { program, names })
 }
 
 /// The program of a source, and its names.
@@ -62,7 +69,5 @@ pub fn debuggee_of(alloc: Global, source: &[u8]) -> Result<Debuggee, SourceFault
     ensures refused { IfErr result (λ fault. fault ≢ no_memory → IsRefused source.now fault) }
 {
     let resolved = resolution_of(alloc, source)?;
-    let program = lower(alloc, &resolved)?;
-    let names = names_in(alloc, &resolved)?;
-    Ok(Debuggee { program, names })
+    debuggee_in(alloc, &resolved)
 }

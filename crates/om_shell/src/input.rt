@@ -64,9 +64,7 @@ impl Input {
         match reader.read(&mut chunk) {
             Ok(0) => Ok(false),
             Ok(n) => {
-                self.pending
-                    .extend_from_slice(&chunk[..n])
-                    .map_err(|_| ShellFault::Memory)?;
+                self.pending.extend_from_slice(&chunk[..n])?;
                 Ok(true)
             }
             Err(e) if e.kind() == ErrorKind::Interrupted => Ok(true),

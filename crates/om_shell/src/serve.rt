@@ -39,7 +39,7 @@ fn tell<W: Write>(
         (refusal_text source.now fault)) }
 {
     let mut text = Vec::new(alloc);
-    push_refusal(&mut text, source, fault).map_err(|_| ShellFault::Memory)?;
+    push_refusal(&mut text, source, fault)?;
     send(writer, &text)
 }
 
@@ -63,9 +63,7 @@ fn answer_commands<H: Threads + Wait + Sync, R: Read, W: Write>(
         (W.contents writer.new)
         input.old.pending.items (due (opened debuggee host.now.workers) runs) fault) }
 {
-    let mut session = Session::new(host.alloc, debuggee, host.workers).map_err(
-        |_| ShellFault::Memory,
-    )?;
+    let mut session = Session::new(host.alloc, debuggee, host.workers)?;
     converse(host, &mut session, input, reader, writer)?;
     Ok(Ended::accepted(session.into_debugger()))
 }
@@ -121,7 +119,7 @@ pub(crate) fn serve_alone<W: Write>(
 {
     match debuggee_of(alloc, source) {
         Ok(debuggee) => {
-            let session = Session::new(alloc, debuggee, workers).map_err(|_| ShellFault::Memory)?;
+            let session = Session::new(alloc, debuggee, workers)?;
             Ok(Ended::accepted(session.into_debugger()))
         }
         Err(fault) => {

@@ -60,7 +60,7 @@ impl Session {
             × ((runs : List FreeRun) × AppendsPart (W.contents writer.old) (W.contents writer.new)
             (answered self.old.debugger runs line.now).text)) }
     {
-        let quits = self.follow(host, line).map_err(|_| ShellFault::Memory)?;
+        let quits = self.follow(host, line)?;
         send(writer, &self.text)?;
         Ok(quits)
     }

@@ -21,7 +21,7 @@ fn source_bytes(alloc: Global, bytes: &[u8], end: usize) -> Result<Vec<u8>, Shel
     ensures source { IfOk result (λ source. source.items ≡ take end bytes.now) }
     ensures want_of_memory { IfErr result (λ fault. fault ≡ ShellFault.Memory) }
 {
-    Vec::from_slice(alloc, &bytes[..end]).map_err(|_| ShellFault::Memory)
+    Ok(Vec::from_slice(alloc, &bytes[..end])?)
 }
 
 // A run whose source stands at the front of the input.

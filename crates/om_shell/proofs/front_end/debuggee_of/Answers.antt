@@ -1,8 +1,17 @@
-use Rattle.std.proofs.lemmas.Result.{err_from_is_err_and}
+use Rattle.std.proofs.lemmas.Result.{IfOk-weaker, IfErr-weaker}
+use Rattle.om_resolved.specs.ResolvedView.{view_resolved}
 use Rattle.om_shell.specs.Verdict.{by_code}
 use Rattle.om_shell.proofs.front_end.debuggee_of.Goals as goal
 
-pub returns-in_err-program-clause-refused : goal.returns-in_err-program-clause-refused
-returns-in_err-program-clause-refused c =
-    let p = err_from_is_err_and c.from_residual-in_err-program.result c.from_residual-in_err-program.ensures.1 in
-    rw (p.1, p.2) (λ memory. by_code _ c.in_ok-resolved.ensures.resolution (c.in_err-program.ensures.refused memory))
+pub returns-clause-debuggee : goal.returns-clause-debuggee
+returns-clause-debuggee c = IfOk-weaker c.debuggee_in.result _ _ (λ debuggee made. record {
+  resolved = view_resolved c.in_ok-resolved.resolved;
+  has_resolution = c.in_ok-resolved.ensures.resolution;
+  within = made.0;
+  code = made.1.0;
+  names = made.1.1;
+}) c.debuggee_in.ensures.made
+
+pub returns-clause-refused : goal.returns-clause-refused
+returns-clause-refused c = IfErr-weaker c.debuggee_in.result _ _ (λ _ refused memory.
+    by_code _ c.in_ok-resolved.ensures.resolution (refused memory)) c.debuggee_in.ensures.refused

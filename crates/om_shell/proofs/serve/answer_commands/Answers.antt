@@ -1,14 +1,14 @@
 use Rattle.std.proofs.Common.{rules, ◌≡◌, ◌≢◌, Some}
 use Rattle.std.proofs.lemmas.Result.{err_from_is_err_and}
 use Rattle.om_view.specs.Views.{opened}
-use Rattle.om_shell.specs.declared.fault.ShellFault.TheVariants.{Read}
+use Rattle.om_shell.specs.declared.fault.ShellFault.TheVariants.{Memory, Read}
 use Rattle.om_shell.proofs.ServeLaws.{Breaks_unread}
 use Rattle.om_shell.proofs.serve.answer_commands.Goals as goal
 
 pub returns-in_err-session-clause-broken_off : goal.returns-in_err-session-clause-broken_off
 returns-in_err-session-clause-broken_off g c =
     let p = err_from_is_err_and c.from_residual.result c.from_residual.ensures.1 in
-    let other : c.in_err-session.field-0.0 ≢ Read = search rules in
+    let other : Memory ≢ Read = search rules in
     rw (p.1, p.2) (Breaks_unread _ _ _ _ _ other)
 
 pub returns-in_err-converse-clause-broken_off : goal.returns-in_err-converse-clause-broken_off
