@@ -40,7 +40,8 @@ pub sum_last : {A : Type 0} (f : A → ℕ) (all xs : List A) (x : A) → all �
 sum_last f all xs x e = ap (sum_by f) e ∙ sum_by-append f xs (x ∷ []) ∙ omega arith
 
 -- one debuggee more is back, with its steps
-pub one_back : {A : Type 0} (f : A → ℕ) (now back back' old all waiting : List A) (x y : A) (before mid mid' told done : ℕ)
+pub one_back : {A : Type 0} (f : A → ℕ) (now back back' old all waiting : List A) (x y : A)
+    (before mid mid' told done : ℕ)
     → now ≡ back ++ y ∷ [] → all ≡ waiting ++ x ∷ [] → sum_by f back' + before ≡ sum_by f old + sum_by f waiting + mid
     → back ≡ back' → mid' ≡ mid → f y ≡ f x + told → done ≡ mid' + told
     → sum_by f now + before ≡ sum_by f old + sum_by f all + done

@@ -1,4 +1,4 @@
-use Rattle.std.proofs.Common.{◌≡◌, ◌+◌, refl}
+use Rattle.std.proofs.Common.{◌≡◌, ◌+◌}
 use Rattle.om_drive.specs.Steps.{steps_in}
 use Rattle.om_drive.proofs.Stepping.{one_back}
 use Rattle.om_drive.proofs.freely.+free_from.Goals.{in-Ok, in-Err}
@@ -10,15 +10,16 @@ returns-clause-done g t c =
     let line = c.match-started.line in
     let ran = c.match-started.ran in
     let back : line.back.items ≡ c.free_from.new.line.back.items =
-        elim c.match-started.branch [ | in-Ok w ↦ rw w.line-is | in-Err w ↦ rw w.line-is ] in
+    elim c.match-started.branch [ in-Ok w ↦ rw w.line-is | in-Err w ↦ rw w.line-is ] in
     let tally : line.tally.done ≡ c.free_from.new.line.tally.done =
-        elim c.match-started.branch [ | in-Ok w ↦ rw w.line-is | in-Err w ↦ rw w.line-is w.broken_off-line.ensures ] in
+    elim c.match-started.branch [ in-Ok w ↦ rw w.line-is | in-Err w ↦ rw w.line-is w.broken_off-line.ensures ] in
     let told : f ran.debuggee ≡ f c.in-Some.debuggee + ran.done =
-        elim c.match-started.branch [
+    elim c.match-started.branch [
       | in-Ok w ↦ rw w.ran-is (rw w.in-Ok.ensures.started at w.join-ran.ensures.1)
       | in-Err w ↦ rw w.ran-is w.in-Err.ensures.steps
     ] in
-    one_back f c.take_back.new.self.back.items line.back.items c.free_from.new.line.back.items c.args.line.now.back.items
-    c.args.line.now.waiting.items c.pop.new.self.items c.in-Some.debuggee ran.debuggee c.args.line.now.tally.done
-    c.free_from.new.line.tally.done line.tally.done ran.done c.take_back.new.self.tally.done
-    c.take_back.ensures.back c.in-Some.ensures.items c.free_from.ensures.done back tally told c.take_back.ensures.done
+    one_back f c.take_back.new.self.back.items line.back.items c.free_from.new.line.back.items
+    c.args.line.now.back.items c.args.line.now.waiting.items c.pop.new.self.items c.in-Some.debuggee ran.debuggee
+    c.args.line.now.tally.done c.free_from.new.line.tally.done line.tally.done ran.done
+    c.take_back.new.self.tally.done c.take_back.ensures.back c.in-Some.ensures.items c.free_from.ensures.done back
+    tally told c.take_back.ensures.done
