@@ -40,12 +40,13 @@ impl Same for TaskFlag {
     }
 }
 
-// Whether two records are the same, by a table of the kinds and their fields.
+// Whether two records are the same, by a table of the kinds and their fields. These are small, and
+// each `&&` would be one more way out of the function.
 macro_rules! same_kinds {
     ($one:expr, $two:expr; $($kind:ident { $($field:ident $other:ident),* })*) => {
         match ($one, $two) {
             $((Record::$kind { $($field),* }, Record::$kind { $($field: $other),* }) => {
-                true $(&& $field.is_same($other))*
+                true $(& $field.is_same($other))*
             })*
             _ => false,
         }
