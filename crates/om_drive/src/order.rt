@@ -25,7 +25,7 @@ pub struct Answer {
 }
 
 /// What breaks a drive off.
-#[derive(Clone, Copy, PartialEq, Eq)]
+#[derive(Clone, Copy)]
 pub enum Fault {
     /// V1: an answer of a strange number, or one for which its seat has no receipt.
     Strange,
