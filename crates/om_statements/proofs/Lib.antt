@@ -6,3 +6,4 @@ pub mod Forms
 pub mod Regions
 pub mod SectionsRow
 pub mod PartLists
+pub mod Inside

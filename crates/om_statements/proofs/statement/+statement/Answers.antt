@@ -23,6 +23,9 @@ use Rattle.om_statements.proofs.Forms.{emits_if, emits_if_else, emits_loop, emit
 use Rattle.om_statements.proofs.PartLists.{free_first, free_start, items_are, left_count, left_part, onward_parts_begin}
 use Rattle.om_statements.proofs.PartLists.{onward_parts_done, opens_are, parts_are, parts_next}
 use Rattle.om_statements.proofs.SectionsRow.{emits_sections, labels_are}
+use Rattle.om_statements.proofs.Inside.{code_at, construct_code, construct_inside, do_code, do_inside, else_inside}
+use Rattle.om_statements.proofs.Inside.{for_code, for_inside, if_code, if_else_code, if_inside, loop_code, loop_inside}
+use Rattle.om_statements.proofs.Inside.{then_inside, while_code, while_inside}
 use Rattle.om_statements.specs.Parts.{AreFree}
 use Rattle.om_statements.proofs.statement.+statement.Goals as goal
 
@@ -62,84 +65,120 @@ statement-end_construct-requires t c =
       kind = no_atomic c.in-Construct.kind c.in_default.not-Atomic;
     }
 
-pub statement-returns-in_ok-after-in-If-clause-emitted : goal.statement-returns-in_ok-after-in-If-clause-emitted
-statement-returns-in_ok-after-in-If-clause-emitted t c =
-    statement_is (names_of c.args.scope.now) (numbers_of c.args.spot.numbers) _ _ c.args.spot.jumps _ _
-    (ap (λ z. trees.If c.in-If.at (view_resolved_expression c.in-If.condition) (view_resolved_statement z))
+pub statement-returns-in_ok-after-in-If : goal.statement-returns-in_ok-after-in-If
+statement-returns-in_ok-after-in-If t c =
+    let seen = (ap (λ z. trees.If c.in-If.at (view_resolved_expression c.in-If.condition) (view_resolved_statement z))
     c.deref.ensures ∙ sym (ap view_resolved_statement c.in-If.is ∙ view_if c.in-If.at c.in-If.condition
-    c.in-If.then))
-    (emits_if (names_of c.args.scope.now) (numbers_of c.args.spot.numbers) c.in-If.at
-    (view_resolved_expression c.in-If.condition) (view_resolved_statement c.deref.result.now) c.args.spot.jumps
-    c.in_ok-end-in-If.end _ _ _ _
-    c.in_ok-end-in-If.ensures c.in_ok-after-in-If.ensures.emitted c.define.ensures)
+    c.in-If.then)) in
+    record {
+      behind = c.in_ok-after-in-If.ensures.behind
+          ∙ ap (λ z. rows.behind (numbers_of c.args.spot.numbers) z) seen;
+      emitted = statement_is (names_of c.args.scope.now) (numbers_of c.args.spot.numbers) _ _ c.args.spot.jumps _ _
+          seen
+          (emits_if (names_of c.args.scope.now) (numbers_of c.args.spot.numbers) c.in-If.at
+          (view_resolved_expression c.in-If.condition) (view_resolved_statement c.deref.result.now) c.args.spot.jumps
+          c.in_ok-end-in-If.end _ _ _ _
+          c.in_ok-end-in-If.ensures c.in_ok-after-in-If.ensures.emitted c.define.ensures);
+    }
 
-pub statement-returns-in_ok-after-in-IfElse-clause-emitted : goal.statement-returns-in_ok-after-in-IfElse-clause-emitted
-statement-returns-in_ok-after-in-IfElse-clause-emitted t c =
-    statement_is (names_of c.args.scope.now) (numbers_of c.args.spot.numbers) _ _ c.args.spot.jumps _ _
-    (ap (λ z. trees.IfElse c.in-IfElse.at (view_resolved_expression c.in-IfElse.condition)
+pub statement-returns-in_ok-after-in-IfElse : goal.statement-returns-in_ok-after-in-IfElse
+statement-returns-in_ok-after-in-IfElse t c =
+    let seen = (ap (λ z. trees.IfElse c.in-IfElse.at (view_resolved_expression c.in-IfElse.condition)
     (view_resolved_statement z) (view_resolved_statement c.deref-in-IfElse-2.result.now)) c.deref-in-IfElse.ensures
     ∙ ap (λ z. trees.IfElse c.in-IfElse.at (view_resolved_expression c.in-IfElse.condition)
     (view_resolved_statement c.in-IfElse.then.value) (view_resolved_statement z)) c.deref-in-IfElse-2.ensures
     ∙ sym (ap view_resolved_statement c.in-IfElse.is ∙ view_if_else c.in-IfElse.at c.in-IfElse.condition
-    c.in-IfElse.then c.in-IfElse.other))
-    (emits_if_else (names_of c.args.scope.now) (numbers_of c.args.spot.numbers) c.in-IfElse.at
-    (view_resolved_expression c.in-IfElse.condition) (view_resolved_statement c.deref-in-IfElse.result.now)
-    (view_resolved_statement c.deref-in-IfElse-2.result.now) c.args.spot.jumps c.in_ok-head-in-IfElse.head
-    c.in_ok-end-in-IfElse.end _ _ _ _ _ _
-    c.in_ok-head-in-IfElse.ensures c.in_ok-between-in-IfElse.ensures.emitted
-    (c.in_ok-end-in-IfElse.ensures (names_of c.args.scope.now))
-    (numbers_are (names_of c.args.scope.now) _ _ (view_resolved_statement c.deref-in-IfElse-2.result.now)
-    c.args.spot.jumps _ _ c.in_ok-between-in-IfElse.ensures.behind (spot_is (names_of c.args.scope.now)
-    (view_resolved_statement c.deref-in-IfElse-2.result.now) _ _ _ _ c.behind.ensures
-    c.in_ok-after-in-IfElse.ensures.emitted))
-    c.define-in-IfElse.ensures)
+    c.in-IfElse.then c.in-IfElse.other)) in
+    record {
+      behind = c.in_ok-after-in-IfElse.ensures.behind
+          ∙ ap (λ x. rows.behind (numbers_of x.numbers) (view_resolved_statement c.deref-in-IfElse-2.result.now))
+          c.behind.ensures
+          ∙ ap (λ n. rows.behind n (view_resolved_statement c.deref-in-IfElse-2.result.now))
+          c.in_ok-between-in-IfElse.ensures.behind
+          ∙ ap (λ z. rows.behind (numbers_of c.args.spot.numbers) z) seen;
+      emitted = statement_is (names_of c.args.scope.now) (numbers_of c.args.spot.numbers) _ _ c.args.spot.jumps _ _
+          seen
+          (emits_if_else (names_of c.args.scope.now) (numbers_of c.args.spot.numbers) c.in-IfElse.at
+          (view_resolved_expression c.in-IfElse.condition) (view_resolved_statement c.deref-in-IfElse.result.now)
+          (view_resolved_statement c.deref-in-IfElse-2.result.now) c.args.spot.jumps c.in_ok-head-in-IfElse.head
+          c.in_ok-end-in-IfElse.end _ _ _ _ _ _
+          c.in_ok-head-in-IfElse.ensures c.in_ok-between-in-IfElse.ensures.emitted
+          (c.in_ok-end-in-IfElse.ensures (names_of c.args.scope.now))
+          (numbers_are (names_of c.args.scope.now) _ _ (view_resolved_statement c.deref-in-IfElse-2.result.now)
+          c.args.spot.jumps _ _ c.in_ok-between-in-IfElse.ensures.behind (spot_is (names_of c.args.scope.now)
+          (view_resolved_statement c.deref-in-IfElse-2.result.now) _ _ _ _ c.behind.ensures
+          c.in_ok-after-in-IfElse.ensures.emitted))
+          c.define-in-IfElse.ensures);
+    }
 
-pub statement-returns-in_ok-end_loop-in-While-clause-emitted :
-    goal.statement-returns-in_ok-end_loop-in-While-clause-emitted
-statement-returns-in_ok-end_loop-in-While-clause-emitted t c =
-    statement_is (names_of c.args.scope.now) (numbers_of c.args.spot.numbers) _ _ c.args.spot.jumps _ _
-    (ap (λ z. trees.While c.in-While.at (view_resolved_expression c.in-While.condition) (view_resolved_statement z))
+pub statement-returns-in_ok-end_loop-in-While : goal.statement-returns-in_ok-end_loop-in-While
+statement-returns-in_ok-end_loop-in-While t c =
+    let seen = (ap (λ z. trees.While c.in-While.at (view_resolved_expression c.in-While.condition)
+    (view_resolved_statement z))
     c.deref-in-While.ensures ∙ sym (ap view_resolved_statement c.in-While.is ∙ view_while c.in-While.at
-    c.in-While.condition c.in-While.body))
-    (emits_while (names_of c.args.scope.now) (numbers_of c.args.spot.numbers) c.in-While.at
-    (view_resolved_expression c.in-While.condition) (view_resolved_statement c.deref-in-While.result.now)
-    c.args.spot.jumps c.in_ok-labels-in-While.labels _ _ _ _
-    c.in_ok-labels-in-While.ensures (spot_is (names_of c.args.scope.now)
-    (view_resolved_statement c.deref-in-While.result.now) _ _ _ _ c.in_loop-inside.ensures
-    c.in_ok-after-in-While.ensures.emitted) (c.in_ok-end_loop-in-While.ensures (names_of c.args.scope.now)))
+    c.in-While.condition c.in-While.body)) in
+    record {
+      behind = c.in_ok-after-in-While.ensures.behind
+          ∙ ap (λ x. rows.behind (numbers_of x.numbers) (view_resolved_statement c.deref-in-While.result.now))
+          c.in_loop-inside.ensures
+          ∙ ap (λ z. rows.behind (numbers_of c.args.spot.numbers) z) seen;
+      emitted = statement_is (names_of c.args.scope.now) (numbers_of c.args.spot.numbers) _ _ c.args.spot.jumps _ _
+          seen
+          (emits_while (names_of c.args.scope.now) (numbers_of c.args.spot.numbers) c.in-While.at
+          (view_resolved_expression c.in-While.condition) (view_resolved_statement c.deref-in-While.result.now)
+          c.args.spot.jumps c.in_ok-labels-in-While.labels _ _ _ _
+          c.in_ok-labels-in-While.ensures (spot_is (names_of c.args.scope.now)
+          (view_resolved_statement c.deref-in-While.result.now) _ _ _ _ c.in_loop-inside.ensures
+          c.in_ok-after-in-While.ensures.emitted) (c.in_ok-end_loop-in-While.ensures (names_of c.args.scope.now)));
+    }
 
-pub statement-returns-in_ok-end_do-in-Do-clause-emitted : goal.statement-returns-in_ok-end_do-in-Do-clause-emitted
-statement-returns-in_ok-end_do-in-Do-clause-emitted t c =
-    statement_is (names_of c.args.scope.now) (numbers_of c.args.spot.numbers) _ _ c.args.spot.jumps _ _
-    (ap (λ z. trees.Do c.in-Do.at (view_resolved_statement z) (view_resolved_expression c.in-Do.condition))
+pub statement-returns-in_ok-end_do-in-Do : goal.statement-returns-in_ok-end_do-in-Do
+statement-returns-in_ok-end_do-in-Do t c =
+    let seen = (ap (λ z. trees.Do c.in-Do.at (view_resolved_statement z) (view_resolved_expression c.in-Do.condition))
     c.deref-in-Do.ensures ∙ sym (ap view_resolved_statement c.in-Do.is ∙ view_do c.in-Do.at c.in-Do.body
-    c.in-Do.condition))
-    (emits_do (names_of c.args.scope.now) (numbers_of c.args.spot.numbers) c.in-Do.at
-    (view_resolved_expression c.in-Do.condition) (view_resolved_statement c.deref-in-Do.result.now)
-    c.args.spot.jumps c.in_ok-labels-in-Do.labels _ _ _ _
-    c.in_ok-labels-in-Do.ensures (spot_is (names_of c.args.scope.now)
-    (view_resolved_statement c.deref-in-Do.result.now) _ _ _ _ c.in_loop-inside-in-Do.ensures
-    c.in_ok-after-in-Do.ensures.emitted) c.in_ok-end_do-in-Do.ensures)
+    c.in-Do.condition)) in
+    record {
+      behind = c.in_ok-after-in-Do.ensures.behind
+          ∙ ap (λ x. rows.behind (numbers_of x.numbers) (view_resolved_statement c.deref-in-Do.result.now))
+          c.in_loop-inside-in-Do.ensures
+          ∙ ap (λ z. rows.behind (numbers_of c.args.spot.numbers) z) seen;
+      emitted = statement_is (names_of c.args.scope.now) (numbers_of c.args.spot.numbers) _ _ c.args.spot.jumps _ _
+          seen
+          (emits_do (names_of c.args.scope.now) (numbers_of c.args.spot.numbers) c.in-Do.at
+          (view_resolved_expression c.in-Do.condition) (view_resolved_statement c.deref-in-Do.result.now)
+          c.args.spot.jumps c.in_ok-labels-in-Do.labels _ _ _ _
+          c.in_ok-labels-in-Do.ensures (spot_is (names_of c.args.scope.now)
+          (view_resolved_statement c.deref-in-Do.result.now) _ _ _ _ c.in_loop-inside-in-Do.ensures
+          c.in_ok-after-in-Do.ensures.emitted) c.in_ok-end_do-in-Do.ensures);
+    }
 
-pub statement-returns-in_ok-end_for-in-For-clause-emitted : goal.statement-returns-in_ok-end_for-in-For-clause-emitted
-statement-returns-in_ok-end_for-in-For-clause-emitted t c =
-    statement_is (names_of c.args.scope.now) (numbers_of c.args.spot.numbers) _ _ c.args.spot.jumps _ _
-    (ap (λ z. trees.For c.in-For.at (view_resolved_start z.start) (option_map view_resolved_expression z.condition)
+pub statement-returns-in_ok-end_for-in-For : goal.statement-returns-in_ok-end_for-in-For
+statement-returns-in_ok-end_for-in-For t c =
+    let seen = (ap (λ z. trees.For c.in-For.at (view_resolved_start z.start) (option_map view_resolved_expression
+    z.condition)
     (option_map view_resolved_expression z.step) (view_resolved_statement c.deref-in-For.result.now))
     c.deref-head.ensures
     ∙ ap (λ z. trees.For c.in-For.at (view_resolved_start c.in-For.head.value.start) (option_map
     view_resolved_expression c.in-For.head.value.condition) (option_map view_resolved_expression
     c.in-For.head.value.step) (view_resolved_statement z)) c.deref-in-For.ensures
-    ∙ sym (ap view_resolved_statement c.in-For.is ∙ view_for c.in-For.at c.in-For.head c.in-For.body))
-    (emits_for (names_of c.args.scope.now) (numbers_of c.args.spot.numbers) c.in-For.at
-    (view_resolved_start c.deref-head.result.now.start) (option_map view_resolved_expression
-    c.deref-head.result.now.condition)
-    (option_map view_resolved_expression c.deref-head.result.now.step) (view_resolved_statement
-    c.deref-in-For.result.now)
-    c.args.spot.jumps c.in_ok-labels-in-For.labels _ _ _ _
-    c.in_ok-labels-in-For.ensures (spot_is (names_of c.args.scope.now)
-    (view_resolved_statement c.deref-in-For.result.now) _ _ _ _ c.in_loop-inside-in-For.ensures
-    c.in_ok-after-in-For.ensures.emitted) c.in_ok-end_for-in-For.ensures)
+    ∙ sym (ap view_resolved_statement c.in-For.is ∙ view_for c.in-For.at c.in-For.head c.in-For.body)) in
+    record {
+      behind = c.in_ok-after-in-For.ensures.behind
+          ∙ ap (λ x. rows.behind (numbers_of x.numbers) (view_resolved_statement c.deref-in-For.result.now))
+          c.in_loop-inside-in-For.ensures
+          ∙ ap (λ z. rows.behind (numbers_of c.args.spot.numbers) z) seen;
+      emitted = statement_is (names_of c.args.scope.now) (numbers_of c.args.spot.numbers) _ _ c.args.spot.jumps _ _
+          seen
+          (emits_for (names_of c.args.scope.now) (numbers_of c.args.spot.numbers) c.in-For.at
+          (view_resolved_start c.deref-head.result.now.start) (option_map view_resolved_expression
+          c.deref-head.result.now.condition)
+          (option_map view_resolved_expression c.deref-head.result.now.step) (view_resolved_statement
+          c.deref-in-For.result.now)
+          c.args.spot.jumps c.in_ok-labels-in-For.labels _ _ _ _
+          c.in_ok-labels-in-For.ensures (spot_is (names_of c.args.scope.now)
+          (view_resolved_statement c.deref-in-For.result.now) _ _ _ _ c.in_loop-inside-in-For.ensures
+          c.in_ok-after-in-For.ensures.emitted) c.in_ok-end_for-in-For.ensures);
+    }
 
 pub statement-returns-in_ok-leave_loop-in-Break-clause-emitted :
     goal.statement-returns-in_ok-leave_loop-in-Break-clause-emitted
@@ -163,27 +202,35 @@ statement-returns-in_ok-stand_alone-in-StandAlone-clause-emitted t c =
     c.in-StandAlone.directive))
     (with_none _ _ _ _ (c.in_ok-stand_alone-in-StandAlone.ensures (names_of c.args.scope.now)))
 
-pub statement-returns-in_ok-end_worksharing-in-Loop-clause-emitted :
-    goal.statement-returns-in_ok-end_worksharing-in-Loop-clause-emitted
-statement-returns-in_ok-end_worksharing-in-Loop-clause-emitted t c =
-    statement_is (names_of c.args.scope.now) (numbers_of c.args.spot.numbers) _ _ c.args.spot.jumps _ _
-    (ap (λ z. trees.Loop c.in-Loop.at (map view_resolved_clause c.in-Loop.clauses.items) c.in-Loop.nowait
+pub statement-returns-in_ok-end_worksharing-in-Loop : goal.statement-returns-in_ok-end_worksharing-in-Loop
+statement-returns-in_ok-end_worksharing-in-Loop t c =
+    let seen = (ap (λ z. trees.Loop c.in-Loop.at (map view_resolved_clause c.in-Loop.clauses.items) c.in-Loop.nowait
     (view_resolved_loop z) (view_resolved_statement c.deref-in-Loop-2.result.now)) c.deref-in-Loop.ensures
     ∙ ap (λ z. trees.Loop c.in-Loop.at (map view_resolved_clause c.in-Loop.clauses.items) c.in-Loop.nowait
     (view_resolved_loop c.in-Loop.repeated.value) (view_resolved_statement z)) c.deref-in-Loop-2.ensures
     ∙ sym (ap view_resolved_statement c.in-Loop.is ∙ view_loop c.in-Loop.at c.in-Loop.clauses c.in-Loop.nowait
-    c.in-Loop.repeated c.in-Loop.body))
-    (emits_loop (names_of c.args.scope.now) (numbers_of c.args.spot.numbers) c.in-Loop.at
-    (map view_resolved_clause c.in-Loop.clauses.items) c.in-Loop.nowait (view_resolved_loop
-    c.deref-in-Loop.result.now)
-    (view_resolved_statement c.deref-in-Loop-2.result.now) c.args.spot.jumps c.in_ok-labels-in-Loop.labels _ _ _ _ _
-    (loop_clauses_are (names_of c.args.scope.now) c.in-Loop.at.line (view_resolved_loop c.deref-in-Loop.result.now)
-    c.in_ok-labels-in-Loop.labels _ _ _ _ c.as_slice-in-Loop.ensures.value c.in_ok-labels-in-Loop.ensures)
-    (spot_is (names_of c.args.scope.now) (view_resolved_statement c.deref-in-Loop-2.result.now) _ _ _ _
-    c.in_iteration-inside.ensures c.in_ok-after-in-Loop.ensures.emitted)
-    (c.in_ok-end_loop-in-Loop.ensures (names_of c.args.scope.now))
-    (close_clauses_are (names_of c.args.scope.now) c.in-Loop.at.line c.in-Loop.nowait _ _ _ _
-    c.as_slice-in-Loop-2.ensures.value c.in_ok-end_worksharing-in-Loop.ensures))
+    c.in-Loop.repeated c.in-Loop.body)) in
+    record {
+      behind = c.in_ok-after-in-Loop.ensures.behind
+          ∙ ap (λ x. rows.behind (numbers_of x.numbers) (view_resolved_statement c.deref-in-Loop-2.result.now))
+          c.in_iteration-inside.ensures
+          ∙ ap (λ z. rows.behind (numbers_of c.args.spot.numbers) z) seen;
+      emitted = statement_is (names_of c.args.scope.now) (numbers_of c.args.spot.numbers) _ _ c.args.spot.jumps _ _
+          seen
+          (emits_loop (names_of c.args.scope.now) (numbers_of c.args.spot.numbers) c.in-Loop.at
+          (map view_resolved_clause c.in-Loop.clauses.items) c.in-Loop.nowait (view_resolved_loop
+          c.deref-in-Loop.result.now)
+          (view_resolved_statement c.deref-in-Loop-2.result.now) c.args.spot.jumps c.in_ok-labels-in-Loop.labels _ _
+          _ _ _
+          (loop_clauses_are (names_of c.args.scope.now) c.in-Loop.at.line (view_resolved_loop
+          c.deref-in-Loop.result.now)
+          c.in_ok-labels-in-Loop.labels _ _ _ _ c.as_slice-in-Loop.ensures.value c.in_ok-labels-in-Loop.ensures)
+          (spot_is (names_of c.args.scope.now) (view_resolved_statement c.deref-in-Loop-2.result.now) _ _ _ _
+          c.in_iteration-inside.ensures c.in_ok-after-in-Loop.ensures.emitted)
+          (c.in_ok-end_loop-in-Loop.ensures (names_of c.args.scope.now))
+          (close_clauses_are (names_of c.args.scope.now) c.in-Loop.at.line c.in-Loop.nowait _ _ _ _
+          c.as_slice-in-Loop-2.ensures.value c.in_ok-end_worksharing-in-Loop.ensures));
+    }
 
 pub statement-returns-in_ok-end_construct-in-Construct : goal.statement-returns-in_ok-end_construct-in-Construct
 statement-returns-in_ok-end_construct-in-Construct t c =
@@ -195,7 +242,8 @@ statement-returns-in_ok-end_construct-in-Construct t c =
       behind = c.in_ok-after-in-Construct-2.ensures.behind
           ∙ ap (λ x. rows.behind (numbers_of x.numbers) (view_resolved_statement c.deref-in-Construct.result.now))
           c.outside-inside.ensures ∙ ap (λ z. rows.behind (numbers_of c.args.spot.numbers) z) seen;
-      emitted = statement_is (names_of c.args.scope.now) (numbers_of c.args.spot.numbers) _ _ c.args.spot.jumps _ _ seen
+      emitted = statement_is (names_of c.args.scope.now) (numbers_of c.args.spot.numbers) _ _ c.args.spot.jumps _ _
+          seen
           (emits_construct (names_of c.args.scope.now) (numbers_of c.args.spot.numbers) c.in-Construct.at
           c.in-Construct.kind (map view_resolved_clause c.in-Construct.clauses.items)
           (view_resolved_statement c.deref-in-Construct.result.now) c.args.spot.jumps
@@ -269,7 +317,8 @@ parts-loop-index-init t c =
 
 pub parts-define-requires : goal.parts-define-requires
 parts-define-requires t c =
-    let left = left_count c.args.sections.now c.loop-index.index c.index-sections-index.result c.loop-index-test.true in
+    let left = left_count c.args.sections.now c.loop-index.index c.index-sections-index.result c.loop-index-test.true
+    in
     free_first (c.args.spot.first + c.loop-index.index) (length (drop c.loop-index.index c.args.sections.now)) _
     c.loop-index.draft refl (omega (arith, left)) c.loop-index.invariant.2
 
@@ -277,7 +326,8 @@ pub parts-loop-index-preserved : goal.parts-loop-index-preserved
 parts-loop-index-preserved t c =
     let here = left_part c.args.sections.now c.loop-index.index c.index-sections-index.result c.loop-index-test.true
     c.index-sections-index.is in
-    let left = left_count c.args.sections.now c.loop-index.index c.index-sections-index.result c.loop-index-test.true in
+    let left = left_count c.args.sections.now c.loop-index.index c.index-sections-index.result c.loop-index-test.true
+    in
     let label = c.args.spot.first + c.loop-index.index in
     let next = c.args.spot.first + (c.loop-index.index + 1) in
     let items = (out-ResolvedPart c.index-sections-index.result).items.items in
@@ -310,7 +360,8 @@ statement-parts-requires t c =
     let opened = c.in_ok-inside-in-Sections.ensures in
     let same = ap length (c.as_slice-in-Sections-2.ensures.value ∙ sym c.as_slice-in-Sections-3.ensures.value) in (
       (let h1 = ap size-ResolvedStatement c.in-Sections.is in
-          let h2 = sized-Sections c.in-Sections.at c.in-Sections.clauses c.in-Sections.nowait c.in-Sections.sections in
+          let h2 = sized-Sections c.in-Sections.at c.in-Sections.clauses c.in-Sections.nowait c.in-Sections.sections
+          in
           let h3 = ap (most size-ResolvedPart) c.as_slice-in-Sections-3.ensures.value in
           omega (arith, h1, h2, h3, c.decreases)),
       (
@@ -344,3 +395,89 @@ statement-returns-in_ok-end_worksharing-in-Sections-clause-emitted t c =
     c.define-in-Sections.ensures
     (close_clauses_are (names_of c.args.scope.now) c.in-Sections.at.line c.in-Sections.nowait _ _ _ _
     c.as_slice-in-Sections-4.ensures.value c.in_ok-end_worksharing-in-Sections.ensures))
+
+pub statement-statement-requires : goal.statement-statement-requires
+statement-statement-requires t c =
+    let smaller = if_inside c.args.tree.now c.deref.result.now c.in-If.at c.in-If.condition c.in-If.then c.in-If.is
+    c.deref.ensures in
+    let code = if_code (is_some c.args.spot.jumps.over) (is_some c.args.spot.jumps.next) c.args.tree.now c.in-If.at
+    c.in-If.condition c.in-If.then c.in-If.is c.requires.code in
+    (omega (arith, smaller, c.decreases), code_at c.args.spot c.args.spot _ _ refl c.deref.ensures code.1)
+
+pub statement-statement-requires-in-IfElse : goal.statement-statement-requires-in-IfElse
+statement-statement-requires-in-IfElse t c =
+    let smaller = then_inside c.args.tree.now c.deref-in-IfElse.result.now c.in-IfElse.at c.in-IfElse.condition
+    c.in-IfElse.then c.in-IfElse.other c.in-IfElse.is c.deref-in-IfElse.ensures in
+    let code = if_else_code (is_some c.args.spot.jumps.over) (is_some c.args.spot.jumps.next) c.args.tree.now
+    c.in-IfElse.at c.in-IfElse.condition c.in-IfElse.then c.in-IfElse.other c.in-IfElse.is c.requires.code in
+    (omega (arith, smaller, c.decreases), code_at c.args.spot c.args.spot _ _ refl c.deref-in-IfElse.ensures code.1)
+
+pub statement-statement-requires-in-IfElse-2 : goal.statement-statement-requires-in-IfElse-2
+statement-statement-requires-in-IfElse-2 t c =
+    let smaller = else_inside c.args.tree.now c.deref-in-IfElse-2.result.now c.in-IfElse.at c.in-IfElse.condition
+    c.in-IfElse.then c.in-IfElse.other c.in-IfElse.is c.deref-in-IfElse-2.ensures in
+    let code = if_else_code (is_some c.args.spot.jumps.over) (is_some c.args.spot.jumps.next) c.args.tree.now
+    c.in-IfElse.at c.in-IfElse.condition c.in-IfElse.then c.in-IfElse.other c.in-IfElse.is c.requires.code in
+    (omega (arith, smaller, c.decreases), code_at _ _ _ _ c.behind.ensures c.deref-in-IfElse-2.ensures code.2)
+
+pub statement-statement-requires-in-While : goal.statement-statement-requires-in-While
+statement-statement-requires-in-While t c =
+    let smaller = while_inside c.args.tree.now c.deref-in-While.result.now c.in-While.at c.in-While.condition
+    c.in-While.body c.in-While.is c.deref-in-While.ensures in
+    let code = while_code (is_some c.args.spot.jumps.over) (is_some c.args.spot.jumps.next) c.args.tree.now
+    c.in-While.at c.in-While.condition c.in-While.body c.in-While.is c.requires.code in
+    (omega (arith, smaller, c.decreases), code_at _ _ _ _ c.in_loop-inside.ensures c.deref-in-While.ensures code.1)
+
+pub statement-statement-requires-in-Do : goal.statement-statement-requires-in-Do
+statement-statement-requires-in-Do t c =
+    let smaller = do_inside c.args.tree.now c.deref-in-Do.result.now c.in-Do.at c.in-Do.body c.in-Do.condition
+    c.in-Do.is c.deref-in-Do.ensures in
+    let code = do_code (is_some c.args.spot.jumps.over) (is_some c.args.spot.jumps.next) c.args.tree.now c.in-Do.at
+    c.in-Do.body c.in-Do.condition c.in-Do.is c.requires.code in
+    (omega (arith, smaller, c.decreases), code_at _ _ _ _ c.in_loop-inside-in-Do.ensures c.deref-in-Do.ensures code.0)
+
+pub statement-statement-requires-in-For : goal.statement-statement-requires-in-For
+statement-statement-requires-in-For t c =
+    let smaller = for_inside c.args.tree.now c.deref-in-For.result.now c.in-For.at c.in-For.head c.in-For.body
+    c.in-For.is c.deref-in-For.ensures in
+    let code = for_code (is_some c.args.spot.jumps.over) (is_some c.args.spot.jumps.next) c.args.tree.now c.in-For.at
+    c.in-For.head c.in-For.body c.in-For.is c.requires.code in (
+      omega (arith, smaller, c.decreases),
+      code_at _ _ _ _ c.in_loop-inside-in-For.ensures c.deref-in-For.ensures
+          code.3,
+    )
+
+pub statement-statement-requires-in-Loop : goal.statement-statement-requires-in-Loop
+statement-statement-requires-in-Loop t c =
+    let smaller = loop_inside c.args.tree.now c.deref-in-Loop-2.result.now c.in-Loop.at c.in-Loop.clauses
+    c.in-Loop.nowait c.in-Loop.repeated c.in-Loop.body c.in-Loop.is c.deref-in-Loop-2.ensures in
+    let code = loop_code (is_some c.args.spot.jumps.over) (is_some c.args.spot.jumps.next) c.args.tree.now
+    c.in-Loop.at c.in-Loop.clauses c.in-Loop.nowait c.in-Loop.repeated c.in-Loop.body c.in-Loop.is c.requires.code in (
+      omega (arith, smaller, c.decreases),
+      code_at _ _ _ _ c.in_iteration-inside.ensures c.deref-in-Loop-2.ensures
+          code.1,
+    )
+
+pub statement-statement-requires-in-Construct : goal.statement-statement-requires-in-Construct
+statement-statement-requires-in-Construct t c =
+    let smaller = construct_inside c.args.tree.now c.deref-in-Construct.result.now c.in-Construct.at
+    c.in-Construct.kind c.in-Construct.clauses c.in-Construct.body c.in-Construct.is c.deref-in-Construct.ensures in
+    let code = construct_code (is_some c.args.spot.jumps.over) (is_some c.args.spot.jumps.next) c.args.tree.now
+    c.in-Construct.at c.in-Construct.kind c.in-Construct.clauses c.in-Construct.body (no_atomic c.in-Construct.kind
+    c.in_default.not-Atomic) c.in-Construct.is c.requires.code in
+    (omega (arith, smaller, c.decreases), code_at _ _ _ _ c.outside-inside.ensures c.deref-in-Construct.ensures code)
+
+pub statement-begin_if-requires : goal.statement-begin_if-requires
+statement-begin_if-requires t c =
+    (if_code (is_some c.args.spot.jumps.over) (is_some c.args.spot.jumps.next) c.args.tree.now c.in-If.at
+    c.in-If.condition c.in-If.then c.in-If.is c.requires.code).0
+
+pub statement-begin_if-requires-in-IfElse : goal.statement-begin_if-requires-in-IfElse
+statement-begin_if-requires-in-IfElse t c =
+    (if_else_code (is_some c.args.spot.jumps.over) (is_some c.args.spot.jumps.next) c.args.tree.now c.in-IfElse.at
+    c.in-IfElse.condition c.in-IfElse.then c.in-IfElse.other c.in-IfElse.is c.requires.code).0
+
+pub statement-begin_while-requires : goal.statement-begin_while-requires
+statement-begin_while-requires t c =
+    (while_code (is_some c.args.spot.jumps.over) (is_some c.args.spot.jumps.next) c.args.tree.now c.in-While.at
+    c.in-While.condition c.in-While.body c.in-While.is c.requires.code).0

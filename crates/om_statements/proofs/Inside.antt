@@ -1,0 +1,134 @@
+-- What is in a statement is smaller than it, and has code where that does.
+use Rattle.std.proofs.Common.{◌≡◌, ◌<◌, Bool, true, false, map, option_map, sym, ap, ◌∙◌, subst, arith}
+use Rattle.std.specs.Prelude.{IfSome, is_some}
+use Rattle.om_constructs.specs.declared.spot.Spot.{Spot}
+use Rattle.om_constructs.specs.Stretches.{IsNoAtomic}
+use Rattle.om_resolved.specs.declared.resolved.ConstructKind.{ConstructKind}
+use Rattle.om_resolved.specs.declared.resolved.ConstructKind.TheVariants as constructs
+use Rattle.om_resolved.specs.declared.resolved.ResolvedStatement.{ResolvedStatement}
+use Rattle.om_resolved.specs.declared.resolved.ResolvedStatement.TheVariants as v
+use Rattle.om_resolved.specs.declared.resolved.ResolvedStatement.TheViews.{size-ResolvedStatement, sized-Construct}
+use Rattle.om_resolved.specs.declared.resolved.ResolvedStatement.TheViews.{sized-Do, sized-For, sized-If, sized-IfElse}
+use Rattle.om_resolved.specs.declared.resolved.ResolvedStatement.TheViews.{sized-Loop, sized-While}
+use Rattle.om_resolved.specs.ResolvedTree as trees
+use Rattle.om_resolved.specs.ResolvedTree.{ResolvedStatementTree}
+use Rattle.om_resolved.specs.ResolvedView.{view_resolved_clause, view_resolved_expression, view_resolved_loop}
+use Rattle.om_resolved.specs.ResolvedView.{view_resolved_start, view_resolved_statement}
+use Rattle.om_rows.specs.Coded.{EffectHasCode, LoopHasCode, StartHasCode, StatementHasCode, ValueHasCode}
+use Rattle.om_statements.proofs.Views.{view_construct, view_do, view_for, view_if, view_if_else, view_loop, view_while}
+
+-- ---- smaller
+
+pub if_inside : (tree x : ResolvedStatement) (at : _) (c : _) (s : _) → tree ≡ v.If at c s → x ≡ s.value
+    → size-ResolvedStatement x < size-ResolvedStatement tree
+if_inside tree x at c s is same =
+    omega (arith, ap size-ResolvedStatement is, sized-If at c s, ap size-ResolvedStatement same)
+
+pub then_inside : (tree x : ResolvedStatement) (at : _) (c : _) (s : _) (t : _) → tree ≡ v.IfElse at c s t
+    → x ≡ s.value
+    → size-ResolvedStatement x < size-ResolvedStatement tree
+then_inside tree x at c s t is same =
+    omega (arith, ap size-ResolvedStatement is, sized-IfElse at c s t, ap size-ResolvedStatement same)
+
+pub else_inside : (tree x : ResolvedStatement) (at : _) (c : _) (s : _) (t : _) → tree ≡ v.IfElse at c s t
+    → x ≡ t.value
+    → size-ResolvedStatement x < size-ResolvedStatement tree
+else_inside tree x at c s t is same =
+    omega (arith, ap size-ResolvedStatement is, sized-IfElse at c s t, ap size-ResolvedStatement same)
+
+pub while_inside : (tree x : ResolvedStatement) (at : _) (c : _) (s : _) → tree ≡ v.While at c s → x ≡ s.value
+    → size-ResolvedStatement x < size-ResolvedStatement tree
+while_inside tree x at c s is same =
+    omega (arith, ap size-ResolvedStatement is, sized-While at c s, ap size-ResolvedStatement same)
+
+pub do_inside : (tree x : ResolvedStatement) (at : _) (s : _) (c : _) → tree ≡ v.Do at s c → x ≡ s.value
+    → size-ResolvedStatement x < size-ResolvedStatement tree
+do_inside tree x at s c is same =
+    omega (arith, ap size-ResolvedStatement is, sized-Do at s c, ap size-ResolvedStatement same)
+
+pub for_inside : (tree x : ResolvedStatement) (at : _) (h : _) (s : _) → tree ≡ v.For at h s → x ≡ s.value
+    → size-ResolvedStatement x < size-ResolvedStatement tree
+for_inside tree x at h s is same =
+    omega (arith, ap size-ResolvedStatement is, sized-For at h s, ap size-ResolvedStatement same)
+
+pub loop_inside : (tree x : ResolvedStatement) (at : _) (clauses : _) (nowait : _) (l : _) (s : _)
+    → tree ≡ v.Loop at clauses nowait l s → x ≡ s.value
+    → size-ResolvedStatement x < size-ResolvedStatement tree
+loop_inside tree x at clauses nowait l s is same =
+    omega (arith, ap size-ResolvedStatement is, sized-Loop at clauses nowait l s, ap size-ResolvedStatement same)
+
+pub construct_inside : (tree x : ResolvedStatement) (at : _) (kind : _) (clauses : _) (s : _)
+    → tree ≡ v.Construct at kind clauses s → x ≡ s.value
+    → size-ResolvedStatement x < size-ResolvedStatement tree
+construct_inside tree x at kind clauses s is same =
+    omega (arith, ap size-ResolvedStatement is, sized-Construct at kind clauses s, ap size-ResolvedStatement same)
+
+-- ---- code
+
+pub if_code : (breaks continues : Bool) (tree : ResolvedStatement) (at : _) (c : _) (s : _) → tree ≡ v.If at c s
+    → StatementHasCode breaks continues (view_resolved_statement tree)
+    → ValueHasCode (view_resolved_expression c) × StatementHasCode breaks continues (view_resolved_statement s.value)
+if_code breaks continues tree at c s is code =
+    subst (λ z. StatementHasCode breaks continues z) (ap view_resolved_statement is ∙ view_if at c s) code
+
+pub if_else_code : (breaks continues : Bool) (tree : ResolvedStatement) (at : _) (c : _) (s : _) (t : _)
+    → tree ≡ v.IfElse at c s t → StatementHasCode breaks continues (view_resolved_statement tree)
+    → ValueHasCode (view_resolved_expression c) × StatementHasCode breaks continues (view_resolved_statement s.value)
+    × StatementHasCode breaks continues (view_resolved_statement t.value)
+if_else_code breaks continues tree at c s t is code =
+    subst (λ z. StatementHasCode breaks continues z) (ap view_resolved_statement is ∙ view_if_else at c s t) code
+
+pub while_code : (breaks continues : Bool) (tree : ResolvedStatement) (at : _) (c : _) (s : _)
+    → tree ≡ v.While at c s → StatementHasCode breaks continues (view_resolved_statement tree)
+    → ValueHasCode (view_resolved_expression c) × StatementHasCode true true (view_resolved_statement s.value)
+while_code breaks continues tree at c s is code =
+    subst (λ z. StatementHasCode breaks continues z) (ap view_resolved_statement is ∙ view_while at c s) code
+
+pub do_code : (breaks continues : Bool) (tree : ResolvedStatement) (at : _) (s : _) (c : _) → tree ≡ v.Do at s c
+    → StatementHasCode breaks continues (view_resolved_statement tree)
+    → StatementHasCode true true (view_resolved_statement s.value) × ValueHasCode (view_resolved_expression c)
+do_code breaks continues tree at s c is code =
+    subst (λ z. StatementHasCode breaks continues z) (ap view_resolved_statement is ∙ view_do at s c) code
+
+pub for_code : (breaks continues : Bool) (tree : ResolvedStatement) (at : _) (h : _) (s : _) → tree ≡ v.For at h s
+    → StatementHasCode breaks continues (view_resolved_statement tree)
+    → StartHasCode (view_resolved_start h.value.start)
+    × IfSome (option_map view_resolved_expression h.value.condition) ValueHasCode
+    × IfSome (option_map view_resolved_expression h.value.step) EffectHasCode
+    × StatementHasCode true true (view_resolved_statement s.value)
+for_code breaks continues tree at h s is code =
+    subst (λ z. StatementHasCode breaks continues z) (ap view_resolved_statement is ∙ view_for at h s) code
+
+pub loop_code : (breaks continues : Bool) (tree : ResolvedStatement) (at : _) (clauses : _) (nowait : _) (l : _)
+    (s : _) → tree ≡ v.Loop at clauses nowait l s
+    → StatementHasCode breaks continues (view_resolved_statement tree)
+    → LoopHasCode (view_resolved_loop l.value) × StatementHasCode false true (view_resolved_statement s.value)
+loop_code breaks continues tree at clauses nowait l s is code =
+    subst (λ z. StatementHasCode breaks continues z) (ap view_resolved_statement is
+    ∙ view_loop at clauses nowait l s) code
+
+kind_code : (breaks continues : Bool) (at : _) (kind : ConstructKind) (clauses : _) (s : ResolvedStatementTree)
+    → IsNoAtomic kind → StatementHasCode breaks continues (trees.Construct at kind clauses s)
+    → StatementHasCode false false s
+kind_code breaks continues at (constructs.Single nowait) clauses s h code = code
+kind_code breaks continues at constructs.Masked clauses s h code = code.1
+kind_code breaks continues at (constructs.Critical name) clauses s h code = code
+kind_code breaks continues at constructs.Atomic clauses s h code = absurd h
+kind_code breaks continues at constructs.Taskgroup clauses s h code = code
+
+pub construct_code : (breaks continues : Bool) (tree : ResolvedStatement) (at : _) (kind : ConstructKind)
+    (clauses : _) (s : _) → IsNoAtomic kind → tree ≡ v.Construct at kind clauses s
+    → StatementHasCode breaks continues (view_resolved_statement tree)
+    → StatementHasCode false false (view_resolved_statement s.value)
+construct_code breaks continues tree at kind clauses s h is code =
+    kind_code breaks continues at kind (map view_resolved_clause clauses.items) (view_resolved_statement s.value) h
+    (subst (λ z. StatementHasCode breaks continues z) (ap view_resolved_statement is
+    ∙ view_construct at kind clauses s) code)
+
+-- where it stands at a spot
+pub code_at : (x y : Spot) (s t : ResolvedStatement) → x ≡ y → s ≡ t
+    → StatementHasCode (is_some y.jumps.over) (is_some y.jumps.next) (view_resolved_statement t)
+    → StatementHasCode (is_some x.jumps.over) (is_some x.jumps.next) (view_resolved_statement s)
+code_at x y s t e f h =
+    subst (λ z. StatementHasCode (is_some z.jumps.over) (is_some z.jumps.next) (view_resolved_statement s)) (sym e)
+    (subst (λ z. StatementHasCode (is_some y.jumps.over) (is_some y.jumps.next) (view_resolved_statement z)) (sym f) h)
