@@ -1,4 +1,10 @@
 use Rattle.std.proofs.Common.{◌+◌, ◌∷◌, [], drop, map, ap, arith}
+use denote.Param.Weighed.{most}
+use Rattle.om_resolved.specs.declared.resolved.ResolvedStatement.TheViews.{size-ResolvedPart, size-ResolvedStatement}
+use Rattle.om_resolved.specs.declared.resolved.ResolvedStatement.TheViews.{sized-Block, sized-Construct, sized-Do}
+use Rattle.om_resolved.specs.declared.resolved.ResolvedStatement.TheViews.{sized-For, sized-If, sized-IfElse}
+use Rattle.om_resolved.specs.declared.resolved.ResolvedStatement.TheViews.{sized-Loop, sized-Parallel, sized-Sections}
+use Rattle.om_resolved.specs.declared.resolved.ResolvedStatement.TheViews.{sized-Task, sized-While}
 use Rattle.om_resolved.specs.ResolvedTree as trees
 use Rattle.om_resolved.specs.ResolvedView.{view_resolved_clause, view_resolved_loop, view_resolved_part}
 use Rattle.om_resolved.specs.ResolvedView.{view_resolved_statement}
@@ -71,3 +77,183 @@ add_sections-returns n c =
     walked_end_at _ _ _ _ _ _ (omega (arith, c.len-height.ensures, c.args.walk.now.opened.ok.0))
     (walked_size _ _ _ (sections_size clauses c.args.nowait parts) _ (omega (arith, c.end_own.ensures)) copies)
     c.in_ok-close.ensures
+
+pub add_statement-add_block-requires : goal.add_statement-add_block-requires
+add_statement-add_block-requires n c = (
+  omega (
+    arith,
+    ap size-ResolvedStatement c.in-Block.is,
+    sized-Block c.in-Block.at c.in-Block.items,
+    ap (most size-ResolvedStatement) c.as_slice-in-Block.ensures.value,
+    c.decreases,
+  ),
+  tt,
+)
+
+pub add_statement-add_inner-requires : goal.add_statement-add_inner-requires
+add_statement-add_inner-requires n c = (
+  omega (
+    arith,
+    ap size-ResolvedStatement c.in-If.is,
+    sized-If c.in-If.at c.in-If.condition c.in-If.then,
+    ap size-ResolvedStatement c.deref.ensures,
+    c.decreases,
+  ),
+  tt,
+)
+
+pub add_statement-add_inner-requires-in-IfElse : goal.add_statement-add_inner-requires-in-IfElse
+add_statement-add_inner-requires-in-IfElse n c = (
+  omega (
+    arith,
+    ap size-ResolvedStatement c.in-IfElse.is,
+    sized-IfElse c.in-IfElse.at c.in-IfElse.condition c.in-IfElse.then c.in-IfElse.other,
+    ap size-ResolvedStatement c.deref-in-IfElse.ensures,
+    c.decreases,
+  ),
+  tt,
+)
+
+pub add_statement-add_inner-requires-in-IfElse-2 : goal.add_statement-add_inner-requires-in-IfElse-2
+add_statement-add_inner-requires-in-IfElse-2 n c = (
+  omega (
+    arith,
+    ap size-ResolvedStatement c.in-IfElse.is,
+    sized-IfElse c.in-IfElse.at c.in-IfElse.condition c.in-IfElse.then c.in-IfElse.other,
+    ap size-ResolvedStatement c.deref-in-IfElse-2.ensures,
+    c.decreases,
+  ),
+  tt,
+)
+
+pub add_statement-add_inner-requires-in-While : goal.add_statement-add_inner-requires-in-While
+add_statement-add_inner-requires-in-While n c = (
+  omega (
+    arith,
+    ap size-ResolvedStatement c.in-While.is,
+    sized-While c.in-While.at c.in-While.condition c.in-While.body,
+    ap size-ResolvedStatement c.deref-in-While.ensures,
+    c.decreases,
+  ),
+  tt,
+)
+
+pub add_statement-add_inner-requires-in-Do : goal.add_statement-add_inner-requires-in-Do
+add_statement-add_inner-requires-in-Do n c = (
+  omega (
+    arith,
+    ap size-ResolvedStatement c.in-Do.is,
+    sized-Do c.in-Do.at c.in-Do.body c.in-Do.condition,
+    ap size-ResolvedStatement c.deref-in-Do.ensures,
+    c.decreases,
+  ),
+  tt,
+)
+
+pub add_statement-add_inner-requires-in-For : goal.add_statement-add_inner-requires-in-For
+add_statement-add_inner-requires-in-For n c = (
+  omega (
+    arith,
+    ap size-ResolvedStatement c.in-For.is,
+    sized-For c.in-For.at c.in-For.head c.in-For.body,
+    ap size-ResolvedStatement c.deref-in-For-3.ensures,
+    c.decreases,
+  ),
+  tt,
+)
+
+pub add_statement-add_parallel-requires : goal.add_statement-add_parallel-requires
+add_statement-add_parallel-requires n c = (
+  omega (
+    arith,
+    ap size-ResolvedStatement c.in-Parallel.is,
+    sized-Parallel c.in-Parallel.at c.in-Parallel.clauses c.in-Parallel.captures c.in-Parallel.body,
+    ap size-ResolvedStatement c.deref-in-Parallel.ensures,
+    c.decreases,
+  ),
+  tt,
+)
+
+pub add_statement-add_task-requires : goal.add_statement-add_task-requires
+add_statement-add_task-requires n c = (
+  omega (
+    arith,
+    ap size-ResolvedStatement c.in-Task.is,
+    sized-Task c.in-Task.at c.in-Task.clauses c.in-Task.captures c.in-Task.body,
+    ap size-ResolvedStatement c.deref-in-Task.ensures,
+    c.decreases,
+  ),
+  tt,
+)
+
+pub add_statement-add_loop-requires : goal.add_statement-add_loop-requires
+add_statement-add_loop-requires n c = (
+  omega (
+    arith,
+    ap size-ResolvedStatement c.in-Loop.is,
+    sized-Loop c.in-Loop.at c.in-Loop.clauses c.in-Loop.nowait c.in-Loop.head c.in-Loop.body,
+    ap size-ResolvedStatement c.deref-in-Loop-2.ensures,
+    c.decreases,
+  ),
+  tt,
+)
+
+pub add_statement-add_sections-requires : goal.add_statement-add_sections-requires
+add_statement-add_sections-requires n c = (
+  omega (
+    arith,
+    ap size-ResolvedStatement c.in-Sections.is,
+    sized-Sections c.in-Sections.at c.in-Sections.clauses c.in-Sections.nowait c.in-Sections.parts,
+    ap (most size-ResolvedPart) c.as_slice-in-Sections-2.ensures.value,
+    c.decreases,
+  ),
+  tt,
+)
+
+pub add_statement-add_construct-requires : goal.add_statement-add_construct-requires
+add_statement-add_construct-requires n c = (
+  omega (
+    arith,
+    ap size-ResolvedStatement c.in-Construct.is,
+    sized-Construct c.in-Construct.at c.in-Construct.kind c.in-Construct.clauses c.in-Construct.body,
+    ap size-ResolvedStatement c.deref-in-Construct.ensures,
+    c.decreases,
+  ),
+  tt,
+)
+
+pub add_inner-add_statement-requires : goal.add_inner-add_statement-requires
+add_inner-add_statement-requires n c = (omega (arith, c.decreases), tt)
+
+pub add_construct-add_inner-requires : goal.add_construct-add_inner-requires
+add_construct-add_inner-requires n c = (omega (arith, c.decreases), tt)
+
+pub add_construct-add_inner-requires-in-Masked : goal.add_construct-add_inner-requires-in-Masked
+add_construct-add_inner-requires-in-Masked n c = (omega (arith, c.decreases), tt)
+
+pub add_construct-add_inner-requires-in-Critical : goal.add_construct-add_inner-requires-in-Critical
+add_construct-add_inner-requires-in-Critical n c = (omega (arith, c.decreases), tt)
+
+pub add_construct-add_inner-requires-in-Taskgroup : goal.add_construct-add_inner-requires-in-Taskgroup
+add_construct-add_inner-requires-in-Taskgroup n c = (omega (arith, c.decreases), tt)
+
+pub add_parallel_body-add_inner-requires : goal.add_parallel_body-add_inner-requires
+add_parallel_body-add_inner-requires n c = (omega (arith, c.decreases), tt)
+
+pub add_task_body-add_inner-requires : goal.add_task_body-add_inner-requires
+add_task_body-add_inner-requires n c = (omega (arith, c.decreases), tt)
+
+pub add_loop-add_inner-requires : goal.add_loop-add_inner-requires
+add_loop-add_inner-requires n c = (omega (arith, c.decreases), tt)
+
+pub add_sections-add_parts-requires : goal.add_sections-add_parts-requires
+add_sections-add_parts-requires n c = (omega (arith, c.decreases), tt)
+
+pub add_block-add_statements-requires : goal.add_block-add_statements-requires
+add_block-add_statements-requires n c = (omega (arith, c.decreases), tt)
+
+pub add_parallel-add_parallel_body-requires : goal.add_parallel-add_parallel_body-requires
+add_parallel-add_parallel_body-requires n c = (omega (arith, c.decreases), c.in_ok-here.ensures.place)
+
+pub add_task-add_task_body-requires : goal.add_task-add_task_body-requires
+add_task-add_task_body-requires n c = (omega (arith, c.decreases), c.in_ok-here.ensures.place)
