@@ -1,5 +1,5 @@
 -- The first breach of a part in which a further rule is broken.
-use Rattle.std.proofs.Common.{◌≡◌, Bool, true, false, ℕ, zero, suc, List, [], ◌∷◌, ◌++◌, Some, refl, sym, ap, ◌∙◌}
+use Rattle.std.proofs.Common.{◌≡◌, Bool, true, false, ℕ, zero, suc, List, [], ◌∷◌, Some, refl, sym, ap, ◌∙◌}
 use Rattle.std.proofs.Common.{arith}
 use Rattle.std.specs.Prelude.{◌||◌, ◌&&◌, nat_lt, nat_le, nat_eq, if◌then◌else◌, Result, Ok, Err}
 use Rattle.std.specs.Result.{result_err}

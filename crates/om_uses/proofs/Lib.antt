@@ -1,3 +1,5 @@
 pub mod Firsts
 pub mod Items
+pub mod Rows
+pub mod Targets
 pub mod Arguments

@@ -1,4 +1,4 @@
-use Rattle.std.proofs.Common.{◌≡◌, ◌<◌, map, ap, ◌∙◌, arith}
+use Rattle.std.proofs.Common.{◌≡◌, ◌<◌, ◌++◌, true, map, refl, sym, ap, ◌∙◌, arith}
 use Rattle.std.proofs.lemmas.List.{drop_all}
 use Rattle.std.proofs.lemmas.Result.{err_from_is_err_and}
 use Rattle.om_tree.specs.Tree.{arguments}
@@ -9,6 +9,17 @@ use Rattle.om_uses.specs.Views.{view_argument}
 use Rattle.om_uses.proofs.Arguments.{arguments_refuse, arguments_step, made_all, made_step, printed_all, printed_behind}
 use Rattle.om_uses.proofs.Arguments.{printed_format, printed_made, printed_refuse, printed_step, view_call}
 use Rattle.om_uses.proofs.Items.{drop-item, map-push}
+use Rattle.om_tree.specs.declared.tree.Expression.{fold-roll-Expression}
+use Rattle.om_tree.specs.declared.tree.Expression.TheVariants as expressions
+use Rattle.om_tree.specs.View.{view_expression}
+use Rattle.om_resolved.specs.declared.resolved.ResolvedExpression.{fold-roll-ResolvedExpression}
+use Rattle.om_resolved.specs.declared.resolved.ResolvedExpression.TheVariants as made
+use Rattle.om_rules.specs.ExpressionRules.{argument_count, arguments_breaches, array_breaches, call_breaches}
+use Rattle.om_rules.specs.ExpressionRules.{misprint_breaches, printed_breaches, target_breaches}
+use Rattle.om_rules.specs.Faults.{first_of}
+use Rattle.om_rules.specs.InRow.{first_of_left}
+use Rattle.om_uses.proofs.Rows.{both_whole, first_refuses, second_refuses}
+use Rattle.om_uses.proofs.Targets.{no_target, no_target_inside}
 use Rattle.om_uses.proofs.expression.+expression.Goals as goal
 
 pub resolve_expression-returns-in-Call-clause-checked : goal.resolve_expression-returns-in-Call-clause-checked
@@ -50,7 +61,8 @@ resolve_values-returns-clause-resolved t c =
     c.args.values.now (omega (arith, c.loop-argument-test.false))) in
     made_all _ _ _ _ none c.loop-argument.invariant.1
 
-pub resolve_printed-loop-argument-preserved-then-place-eq0 : goal.resolve_printed-loop-argument-preserved-then-place-eq0
+pub resolve_printed-loop-argument-preserved-then-place-eq0 :
+    goal.resolve_printed-loop-argument-preserved-then-place-eq0
 resolve_printed-loop-argument-preserved-then-place-eq0 t c =
     let here = ap (map view_argument) (drop-item c.args.values.now c.loop-argument.argument-index
     c.argument-item.result c.loop-argument-test.true c.argument-item.is) in
@@ -89,3 +101,289 @@ resolve_printed-returns-clause-resolved t c =
     let none = ap (λ vs. arguments (map view_argument vs)) (drop_all c.loop-argument.argument-index
     c.args.values.now (omega (arith, c.loop-argument-test.false))) in
     printed_all _ _ _ _ _ none c.loop-argument.invariant.1
+
+pub resolve_expression-returns-in_err-left-in-Binary-clause-checked :
+    goal.resolve_expression-returns-in_err-left-in-Binary-clause-checked
+unfolding expression_breaches
+resolve_expression-returns-in_err-left-in-Binary-clause-checked t c =
+    let p = err_from_is_err_and c.from_residual-in_err-left-in-Binary.result
+    c.from_residual-in_err-left-in-Binary.ensures.1 in
+    let left = expression_breaches c.args.symbols.now true (view_expression c.in-Binary.left.value) in
+    let right = expression_breaches c.args.symbols.now true (view_expression c.in-Binary.right.value) in
+    rw (p.1, p.2, c.in-Binary.is, ← expressions.rolls-Binary, fold-roll-Expression)
+    (first_refuses left right _ (rw c.deref-in-Binary.ensures at c.in_err-left-in-Binary.ensures.checked))
+
+pub resolve_expression-returns-in_err-right-in-Binary-clause-checked :
+    goal.resolve_expression-returns-in_err-right-in-Binary-clause-checked
+unfolding expression_breaches
+resolve_expression-returns-in_err-right-in-Binary-clause-checked t c =
+    let p = err_from_is_err_and c.from_residual-in_err-right-in-Binary.result
+    c.from_residual-in_err-right-in-Binary.ensures.1 in
+    let left = expression_breaches c.args.symbols.now true (view_expression c.in-Binary.left.value) in
+    let right = expression_breaches c.args.symbols.now true (view_expression c.in-Binary.right.value) in
+    rw (p.1, p.2, c.in-Binary.is, ← expressions.rolls-Binary, fold-roll-Expression)
+    (second_refuses left right _ (rw c.deref-in-Binary.ensures at c.in_ok-left-in-Binary.ensures.checked)
+    (rw c.deref-in-Binary-2.ensures at c.in_err-right-in-Binary.ensures.checked))
+
+pub resolve_expression-returns-in_ok-right-in-Binary-clause-checked :
+    goal.resolve_expression-returns-in_ok-right-in-Binary-clause-checked
+unfolding expression_breaches
+resolve_expression-returns-in_ok-right-in-Binary-clause-checked t c =
+    let left = expression_breaches c.args.symbols.now true (view_expression c.in-Binary.left.value) in
+    let right = expression_breaches c.args.symbols.now true (view_expression c.in-Binary.right.value) in
+    rw (c.in-Binary.is, ← expressions.rolls-Binary, fold-roll-Expression)
+    (both_whole left right (rw c.deref-in-Binary.ensures at c.in_ok-left-in-Binary.ensures.checked)
+    (rw c.deref-in-Binary-2.ensures at c.in_ok-right-in-Binary.ensures.checked))
+
+pub resolve_expression-returns-in_ok-right-in-Binary-clause-resolved :
+    goal.resolve_expression-returns-in_ok-right-in-Binary-clause-resolved
+unfolding resolved_expression
+resolve_expression-returns-in_ok-right-in-Binary-clause-resolved t c =
+    let left = rw c.deref-in-Binary.ensures at c.in_ok-left-in-Binary.ensures.resolved in
+    let right = rw c.deref-in-Binary-2.ensures at c.in_ok-right-in-Binary.ensures.resolved in
+    rw (
+      c.in-Binary.is,
+      ← expressions.rolls-Binary,
+      fold-roll-Expression,
+      left,
+      right,
+      ← made.rolls-Binary,
+      fold-roll-ResolvedExpression,
+    ) refl
+
+pub resolve_expression-returns-in_err-condition-in-Conditional-clause-checked :
+    goal.resolve_expression-returns-in_err-condition-in-Conditional-clause-checked
+unfolding expression_breaches
+resolve_expression-returns-in_err-condition-in-Conditional-clause-checked t c =
+    let p = err_from_is_err_and c.from_residual-in_err-condition-in-Conditional.result
+    c.from_residual-in_err-condition-in-Conditional.ensures.1 in
+    let condition = expression_breaches c.args.symbols.now true (view_expression c.in-Conditional.condition.value) in
+    let value = expression_breaches c.args.symbols.now true (view_expression c.in-Conditional.then.value) in
+    let other = expression_breaches c.args.symbols.now true (view_expression c.in-Conditional.other.value) in
+    rw (p.1, p.2, c.in-Conditional.is, ← expressions.rolls-Conditional, fold-roll-Expression)
+    (first_refuses (condition ++ value) other _ (first_refuses condition value _
+    (rw c.deref-in-Conditional.ensures at c.in_err-condition-in-Conditional.ensures.checked)))
+
+pub resolve_expression-returns-in_err-then-in-Conditional-clause-checked :
+    goal.resolve_expression-returns-in_err-then-in-Conditional-clause-checked
+unfolding expression_breaches
+resolve_expression-returns-in_err-then-in-Conditional-clause-checked t c =
+    let p = err_from_is_err_and c.from_residual-in_err-then-in-Conditional.result
+    c.from_residual-in_err-then-in-Conditional.ensures.1 in
+    let condition = expression_breaches c.args.symbols.now true (view_expression c.in-Conditional.condition.value) in
+    let value = expression_breaches c.args.symbols.now true (view_expression c.in-Conditional.then.value) in
+    let other = expression_breaches c.args.symbols.now true (view_expression c.in-Conditional.other.value) in
+    rw (p.1, p.2, c.in-Conditional.is, ← expressions.rolls-Conditional, fold-roll-Expression)
+    (first_refuses (condition ++ value) other _ (second_refuses condition value _
+    (rw c.deref-in-Conditional.ensures at c.in_ok-condition-in-Conditional.ensures.checked)
+    (rw c.deref-in-Conditional-2.ensures at c.in_err-then-in-Conditional.ensures.checked)))
+
+pub resolve_expression-returns-in_err-other-in-Conditional-clause-checked :
+    goal.resolve_expression-returns-in_err-other-in-Conditional-clause-checked
+unfolding expression_breaches
+resolve_expression-returns-in_err-other-in-Conditional-clause-checked t c =
+    let p = err_from_is_err_and c.from_residual-in_err-other-in-Conditional.result
+    c.from_residual-in_err-other-in-Conditional.ensures.1 in
+    let condition = expression_breaches c.args.symbols.now true (view_expression c.in-Conditional.condition.value) in
+    let value = expression_breaches c.args.symbols.now true (view_expression c.in-Conditional.then.value) in
+    let other = expression_breaches c.args.symbols.now true (view_expression c.in-Conditional.other.value) in
+    rw (p.1, p.2, c.in-Conditional.is, ← expressions.rolls-Conditional, fold-roll-Expression)
+    (second_refuses (condition ++ value) other _ (both_whole condition value
+    (rw c.deref-in-Conditional.ensures at c.in_ok-condition-in-Conditional.ensures.checked)
+    (rw c.deref-in-Conditional-2.ensures at c.in_ok-then-in-Conditional.ensures.checked))
+    (rw c.deref-in-Conditional-3.ensures at c.in_err-other-in-Conditional.ensures.checked))
+
+pub resolve_expression-returns-in_ok-other-in-Conditional-clause-checked :
+    goal.resolve_expression-returns-in_ok-other-in-Conditional-clause-checked
+unfolding expression_breaches
+resolve_expression-returns-in_ok-other-in-Conditional-clause-checked t c =
+    let condition = expression_breaches c.args.symbols.now true (view_expression c.in-Conditional.condition.value) in
+    let value = expression_breaches c.args.symbols.now true (view_expression c.in-Conditional.then.value) in
+    let other = expression_breaches c.args.symbols.now true (view_expression c.in-Conditional.other.value) in
+    rw (c.in-Conditional.is, ← expressions.rolls-Conditional, fold-roll-Expression)
+    (both_whole (condition ++ value) other (both_whole condition value
+    (rw c.deref-in-Conditional.ensures at c.in_ok-condition-in-Conditional.ensures.checked)
+    (rw c.deref-in-Conditional-2.ensures at c.in_ok-then-in-Conditional.ensures.checked))
+    (rw c.deref-in-Conditional-3.ensures at c.in_ok-other-in-Conditional.ensures.checked))
+
+pub resolve_expression-returns-in_ok-other-in-Conditional-clause-resolved :
+    goal.resolve_expression-returns-in_ok-other-in-Conditional-clause-resolved
+unfolding resolved_expression
+resolve_expression-returns-in_ok-other-in-Conditional-clause-resolved t c =
+    let condition = rw c.deref-in-Conditional.ensures at c.in_ok-condition-in-Conditional.ensures.resolved in
+    let value = rw c.deref-in-Conditional-2.ensures at c.in_ok-then-in-Conditional.ensures.resolved in
+    let other = rw c.deref-in-Conditional-3.ensures at c.in_ok-other-in-Conditional.ensures.resolved in
+    rw (
+      c.in-Conditional.is,
+      ← expressions.rolls-Conditional,
+      fold-roll-Expression,
+      condition,
+      value,
+      other,
+      ← made.rolls-Conditional,
+      fold-roll-ResolvedExpression,
+    ) refl
+
+pub resolve_expression-returns-in_err-target-in-Assign-clause-checked :
+    goal.resolve_expression-returns-in_err-target-in-Assign-clause-checked
+unfolding expression_breaches
+resolve_expression-returns-in_err-target-in-Assign-clause-checked t c =
+    let p = err_from_is_err_and c.from_residual-in_err-target-in-Assign.result
+    c.from_residual-in_err-target-in-Assign.ensures.1 in
+    let target = target_breaches c.args.symbols.now (view_expression c.in-Assign.target.value) in
+    let value = expression_breaches c.args.symbols.now true (view_expression c.in-Assign.value.value) in
+    rw (p.1, p.2, c.in-Assign.is, ← expressions.rolls-Assign, fold-roll-Expression)
+    (first_refuses target value _ (rw c.deref-in-Assign.ensures at c.in_err-target-in-Assign.ensures.checked))
+
+pub resolve_expression-returns-in_err-value-in-Assign-clause-checked :
+    goal.resolve_expression-returns-in_err-value-in-Assign-clause-checked
+unfolding expression_breaches
+resolve_expression-returns-in_err-value-in-Assign-clause-checked t c =
+    let p = err_from_is_err_and c.from_residual-in_err-value-in-Assign.result
+    c.from_residual-in_err-value-in-Assign.ensures.1 in
+    let target = target_breaches c.args.symbols.now (view_expression c.in-Assign.target.value) in
+    let value = expression_breaches c.args.symbols.now true (view_expression c.in-Assign.value.value) in
+    rw (p.1, p.2, c.in-Assign.is, ← expressions.rolls-Assign, fold-roll-Expression)
+    (second_refuses target value _ (rw c.deref-in-Assign.ensures at c.in_ok-target-in-Assign.ensures.checked)
+    (rw c.deref-in-Assign-2.ensures at c.in_err-value-in-Assign.ensures.checked))
+
+pub resolve_expression-returns-in_ok-value-in-Assign-clause-checked :
+    goal.resolve_expression-returns-in_ok-value-in-Assign-clause-checked
+unfolding expression_breaches
+resolve_expression-returns-in_ok-value-in-Assign-clause-checked t c =
+    let target = target_breaches c.args.symbols.now (view_expression c.in-Assign.target.value) in
+    let value = expression_breaches c.args.symbols.now true (view_expression c.in-Assign.value.value) in
+    rw (c.in-Assign.is, ← expressions.rolls-Assign, fold-roll-Expression)
+    (both_whole target value (rw c.deref-in-Assign.ensures at c.in_ok-target-in-Assign.ensures.checked)
+    (rw c.deref-in-Assign-2.ensures at c.in_ok-value-in-Assign.ensures.checked))
+
+pub resolve_expression-returns-in_ok-value-in-Assign-clause-resolved :
+    goal.resolve_expression-returns-in_ok-value-in-Assign-clause-resolved
+unfolding resolved_expression
+resolve_expression-returns-in_ok-value-in-Assign-clause-resolved t c =
+    let target = rw c.deref-in-Assign.ensures at c.in_ok-target-in-Assign.ensures.resolved in
+    let value = rw c.deref-in-Assign-2.ensures at c.in_ok-value-in-Assign.ensures.resolved in
+    rw (c.in-Assign.is, ← expressions.rolls-Assign, fold-roll-Expression, target, value, c.assigned.ensures) refl
+
+pub resolve_expression-returns-in_err-target-in-Postfix-clause-checked :
+    goal.resolve_expression-returns-in_err-target-in-Postfix-clause-checked
+unfolding expression_breaches
+resolve_expression-returns-in_err-target-in-Postfix-clause-checked t c =
+    let p = err_from_is_err_and c.from_residual-in_err-target-in-Postfix.result
+    c.from_residual-in_err-target-in-Postfix.ensures.1 in
+    rw (p.1, p.2, c.in-Postfix.is, ← expressions.rolls-Postfix, fold-roll-Expression)
+    (rw c.deref-in-Postfix.ensures at c.in_err-target-in-Postfix.ensures.checked)
+
+pub resolve_expression-returns-in_ok-target-in-Postfix-clause-resolved :
+    goal.resolve_expression-returns-in_ok-target-in-Postfix-clause-resolved
+unfolding resolved_expression
+resolve_expression-returns-in_ok-target-in-Postfix-clause-resolved t c =
+    let target = rw c.deref-in-Postfix.ensures at c.in_ok-target-in-Postfix.ensures.resolved in
+    rw (c.in-Postfix.is, ← expressions.rolls-Postfix, fold-roll-Expression, target, c.stepped.ensures) refl
+
+pub resolve_expression-returns-in_err-array-in-Index-clause-checked :
+    goal.resolve_expression-returns-in_err-array-in-Index-clause-checked
+unfolding expression_breaches
+resolve_expression-returns-in_err-array-in-Index-clause-checked t c =
+    let p = err_from_is_err_and c.from_residual-in_err-array-in-Index.result
+    c.from_residual-in_err-array-in-Index.ensures.1 in
+    rw (p.1, p.2, c.in-Index.is, ← expressions.rolls-Index, fold-roll-Expression)
+    (rw c.deref-in-Index.ensures at c.in_err-array-in-Index.ensures.checked)
+
+pub resolve_expression-returns-in_err-resolve_scalar-in-Name-clause-checked :
+    goal.resolve_expression-returns-in_err-resolve_scalar-in-Name-clause-checked
+unfolding expression_breaches
+resolve_expression-returns-in_err-resolve_scalar-in-Name-clause-checked t c =
+    let p = err_from_is_err_and c.from_residual.result c.from_residual.ensures.1 in
+    rw (p.1, p.2, c.in-Name.is, ← expressions.rolls-Name, fold-roll-Expression)
+    (λ other. c.in_err-resolve_scalar-in-Name.ensures.checked)
+
+pub resolve_expression-returns-in_err-constant_of-in-Constant-clause-checked :
+    goal.resolve_expression-returns-in_err-constant_of-in-Constant-clause-checked
+unfolding expression_breaches
+resolve_expression-returns-in_err-constant_of-in-Constant-clause-checked t c =
+    let p = err_from_is_err_and c.from_residual-in_err-constant_of-in-Constant.result
+    c.from_residual-in_err-constant_of-in-Constant.ensures.1 in
+    rw (p.1, p.2, c.in-Constant.is, ← expressions.rolls-Constant, fold-roll-Expression)
+    (λ other. c.in_err-constant_of-in-Constant.ensures.checked)
+
+pub resolve_element-returns-in_err-array-clause-checked : goal.resolve_element-returns-in_err-array-clause-checked
+resolve_element-returns-in_err-array-clause-checked t c =
+    let p = err_from_is_err_and c.from_residual.result c.from_residual.ensures.1 in
+    let array = array_breaches c.args.symbols.now c.args.name.now in
+    let index = expression_breaches c.args.symbols.now true (view_expression c.args.index.now) in
+    rw (p.1, p.2) (λ other. first_of_left array index _ c.in_err-array.ensures.checked)
+
+pub resolve_element-returns-in_err-index-clause-checked : goal.resolve_element-returns-in_err-index-clause-checked
+resolve_element-returns-in_err-index-clause-checked t c =
+    let p = err_from_is_err_and c.from_residual-in_err-index.result c.from_residual-in_err-index.ensures.1 in
+    let array = array_breaches c.args.symbols.now c.args.name.now in
+    let index = expression_breaches c.args.symbols.now true (view_expression c.args.index.now) in
+    rw (p.1, p.2) (second_refuses array index _ c.in_ok-array.ensures.checked c.in_err-index.ensures.checked)
+
+pub resolve_print-returns-in_err-format-clause-checked : goal.resolve_print-returns-in_err-format-clause-checked
+resolve_print-returns-in_err-format-clause-checked t c =
+    let p = err_from_is_err_and c.from_residual.result c.from_residual.ensures.1 in
+    let given = arguments (map view_argument c.args.values.now) in
+    let format = misprint_breaches c.args.for_value c.args.name.now given in
+    let printed = printed_breaches c.args.symbols.now 0 given in
+    rw (p.1, p.2) (first_refuses format printed _ c.in_err-format.ensures.checked)
+
+pub resolve_print-returns-in_err-printed-clause-checked : goal.resolve_print-returns-in_err-printed-clause-checked
+resolve_print-returns-in_err-printed-clause-checked t c =
+    let p = err_from_is_err_and c.from_residual-in_err-printed.result c.from_residual-in_err-printed.ensures.1 in
+    let given = arguments (map view_argument c.args.values.now) in
+    let format = misprint_breaches c.args.for_value c.args.name.now given in
+    let printed = printed_breaches c.args.symbols.now 0 given in
+    rw (p.1, p.2) (second_refuses format printed _ c.in_ok-format.ensures.checked
+    c.in_err-printed.ensures.checked)
+
+pub resolve_own_call-returns-in_err-place-clause-checked : goal.resolve_own_call-returns-in_err-place-clause-checked
+resolve_own_call-returns-in_err-place-clause-checked t c =
+    let p = err_from_is_err_and c.from_residual.result c.from_residual.ensures.1 in
+    let given = arguments (map view_argument c.args.values.now) in
+    let called = call_breaches c.args.symbols.now c.args.for_value c.args.name.now (argument_count given) in
+    let values = arguments_breaches c.args.symbols.now given in
+    rw (p.1, p.2) (λ other. first_of_left called values _
+    (rw c.argument_count.ensures at c.in_err-place.ensures.checked))
+
+pub resolve_own_call-returns-in_err-values-clause-checked : goal.resolve_own_call-returns-in_err-values-clause-checked
+resolve_own_call-returns-in_err-values-clause-checked t c =
+    let p = err_from_is_err_and c.from_residual-in_err-values.result c.from_residual-in_err-values.ensures.1 in
+    let given = arguments (map view_argument c.args.values.now) in
+    let called = call_breaches c.args.symbols.now c.args.for_value c.args.name.now (argument_count given) in
+    let values = arguments_breaches c.args.symbols.now given in
+    rw (p.1, p.2) (second_refuses called values _
+    (rw c.argument_count.ensures at c.in_ok-place.ensures.checked) c.in_err-values.ensures.checked)
+
+pub resolve_target-returns-in_err-resolve_scalar-in-Name-clause-checked :
+    goal.resolve_target-returns-in_err-resolve_scalar-in-Name-clause-checked
+unfolding target_breaches
+resolve_target-returns-in_err-resolve_scalar-in-Name-clause-checked t c =
+    let p = err_from_is_err_and c.from_residual.result c.from_residual.ensures.1 in
+    rw (p.1, p.2, c.in-Name.is, ← expressions.rolls-Name, fold-roll-Expression)
+    (λ other. c.in_err-resolve_scalar-in-Name.ensures.checked)
+
+pub resolve_target-returns-in_err-array-in-Index-clause-checked :
+    goal.resolve_target-returns-in_err-array-in-Index-clause-checked
+unfolding target_breaches
+resolve_target-returns-in_err-array-in-Index-clause-checked t c =
+    let p = err_from_is_err_and c.from_residual-in_err-array-in-Index.result
+    c.from_residual-in_err-array-in-Index.ensures.1 in
+    rw (p.1, p.2, c.in-Index.is, ← expressions.rolls-Index, fold-roll-Expression)
+    (rw c.deref.ensures at c.in_err-array-in-Index.ensures.checked)
+
+pub resolve_target-returns-else-is_target-clause-checked : goal.resolve_target-returns-else-is_target-clause-checked
+resolve_target-returns-else-is_target-clause-checked t c =
+    let none = rw c.deref-in-Paren.ensures at (sym c.is_target.ensures ∙ c.if-is_target.false) in
+    let inside = no_target_inside c.args.symbols.now c.in-Paren.open_paren (view_expression c.in-Paren.inner.value)
+    c.in-Paren.close_paren none in
+    let misplaced = rw (c.in-Paren.is, ← expressions.rolls-Paren, fold-roll-Expression) at c.misplaced.ensures in
+    rw (c.in-Paren.is, ← expressions.rolls-Paren, fold-roll-Expression)
+    (λ other. ap first_of inside ∙ misplaced)
+
+pub resolve_target-returns-in_default : goal.resolve_target-returns-in_default
+resolve_target-returns-in_default t c =
+    let same = no_target c.args.symbols.now c.args.target.now c.in_default.not-Name c.in_default.not-Paren
+    c.in_default.not-Index in
+    record { checked = λ other. ap first_of same ∙ c.misplaced-in_default.ensures; resolved = tt }
