@@ -1,7 +1,7 @@
 //! The words behind the first one: numbers, workers, names of tasks and variables.
 
 ghost use Rattle.std.specs.Prelude.{◌≡◌, ◌==◌, ◌<◌, map, position, length, IfOk, IfSome};
-ghost use Rattle.om_command.specs.Arguments.{number_of, worker_of, parts_of, task_of, task_behind, variable_of, indexed, index_of, one_worker, one_number, one_count, one_variable, worker_and_task};
+ghost use Rattle.om_command.specs.Arguments.{number_of, worker_of, parts_of, task_of, task_behind, variable_of, indexed, index_of, one_worker, one_number, one_count, one_variable};
 
 use crate::command::Variable;
 use om_foot::Name;
@@ -31,7 +31,7 @@ fn number(word: &[u8]) -> Option<u64>
     Some(value)
 }
 
-// The worker of this number, of those that there are.
+/// The worker of this number, of those that there are.
 pub(crate) fn worker(workers: u8, word: &[u8]) -> Option<u8>
     ensures named { result ≡ worker_of workers word.now }
     ensures in_range { IfSome result (λ worker. worker < workers) }
@@ -94,31 +94,12 @@ fn parts_of(alloc: Global, word: &[u8]) -> Result<Vec<&[u8]>, AllocError>
     word.split(|byte| *byte == b'.').collect(alloc)
 }
 
-// The name of a task: numbers with dots between them.
-fn task(alloc: Global, word: &[u8]) -> Result<Option<Name>, AllocError>
+/// The name of a task: numbers with dots between them.
+pub(crate) fn task(alloc: Global, word: &[u8]) -> Result<Option<Name>, AllocError>
     ensures { IfOk result (λ task. task ≡ task_of word.now) }
 {
     let parts = parts_of(alloc, word)?;
     Ok(task_behind(Name::empty(), &parts))
-}
-
-/// Two words, a worker and the name of a task.
-pub(crate) fn worker_and_task(
-    alloc: Global,
-    workers: u8,
-    words: &[&[u8]],
-) -> Result<Option<(u8, Name)>, AllocError>
-    ensures named { IfOk result
-        (λ found. found ≡ worker_and_task workers (map (λ word. word.now) words.now)) }
-    ensures in_range { IfOk result (λ found. IfSome found (λ pair. pair.0 < workers)) }
-{
-    let [first, second] = words else {
-        return Ok(None);
-    };
-    let Some(worker) = worker(workers, first) else {
-        return Ok(None);
-    };
-    Ok(task(alloc, second)?.map(|task| (worker, task)))
 }
 
 // The index that stands behind a `[` and before the `]` that ends a word.

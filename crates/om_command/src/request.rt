@@ -5,7 +5,7 @@ ghost use Rattle.om_command.specs.Commands.{command_of, start_of, print_of, alon
 ghost use Rattle.om_command.specs.Words.{words_of};
 
 use crate::arguments::{
-    one_count, one_number, one_variable, one_worker, variable_of, worker, worker_and_task,
+    one_count, one_number, one_variable, one_worker, task, variable_of, worker,
 };
 use crate::command::{Command, CommandFault, Request};
 use crate::task::TaskName;
@@ -30,7 +30,13 @@ fn start(alloc: Global, workers: u8, words: &[&[u8]]) -> Result<Option<Command>,
         (λ command. command ≡ start_of workers (map (λ word. word.now) words.now)) }
     ensures in_range { IfOk result (λ command. IfSome command (HasWorkerBelow workers)) }
 {
-    let Some((worker, task)) = worker_and_task(alloc, workers, words)? else {
+    let [first, second] = words else {
+        return Ok(None);
+    };
+    let Some(worker) = worker(workers, first) else {
+        return Ok(None);
+    };
+    let Some(task) = task(alloc, second)? else {
         return Ok(None);
     };
     let task = TaskName::new(alloc, task)?;
@@ -48,10 +54,12 @@ fn print(alloc: Global, workers: u8, words: &[&[u8]]) -> Result<Option<Command>,
             let Some(worker) = worker(workers, first) else {
                 return Ok(None);
             };
-            let variable = variable_of(alloc, second)?;
-            Ok(variable.map(|variable| Command::PrintLocal { worker, variable }))
+            let Some(variable) = variable_of(alloc, second)? else {
+                return Ok(None);
+            };
+            Ok(Some(Command::PrintLocal { worker, variable }))
         }
-        _ => Ok(one_variable(alloc, words)?.map(|variable| Command::Print(variable))),
+        _ => Ok(one_variable(alloc, words)?.map(Command::Print)),
     }
 }
 
@@ -59,11 +67,7 @@ fn print(alloc: Global, workers: u8, words: &[&[u8]]) -> Result<Option<Command>,
 fn alone(command: Command, words: &[&[u8]]) -> Option<Command>
     ensures { result ≡ alone command (map (λ word. word.now) words.now) }
 {
-    if words.is_empty() {
-        Some(command)
-    } else {
-        None
-    }
+    words.is_empty().then_some(command)
 }
 
 // What a verb asks for with the words behind it; `None` where they are not what it takes.
@@ -78,23 +82,23 @@ fn command_by(
     ensures in_range { IfOk result (λ command. IfSome command (HasWorkerBelow workers)) }
 {
     match verb {
-        Verb::Step => Ok(one_worker(workers, words).map(|worker| Command::Step(worker))),
+        Verb::Step => Ok(one_worker(workers, words).map(Command::Step)),
         Verb::Start => start(alloc, workers, words),
-        Verb::Undo => Ok(one_worker(workers, words).map(|worker| Command::Undo(worker))),
-        Verb::Next => Ok(one_worker(workers, words).map(|worker| Command::Next(worker))),
-        Verb::Back => Ok(one_worker(workers, words).map(|worker| Command::Back(worker))),
+        Verb::Undo => Ok(one_worker(workers, words).map(Command::Undo)),
+        Verb::Next => Ok(one_worker(workers, words).map(Command::Next)),
+        Verb::Back => Ok(one_worker(workers, words).map(Command::Back)),
         Verb::Print => print(alloc, workers, words),
-        Verb::Where => Ok(one_worker(workers, words).map(|worker| Command::Where(worker))),
+        Verb::Where => Ok(one_worker(workers, words).map(Command::Where)),
         Verb::History => Ok(alone(Command::History, words)),
-        Verb::Events => Ok(one_worker(workers, words).map(|worker| Command::Events(worker))),
+        Verb::Events => Ok(one_worker(workers, words).map(Command::Events)),
         Verb::Output => Ok(alone(Command::Output, words)),
         Verb::Tasks => Ok(alone(Command::Tasks, words)),
-        Verb::Break => Ok(one_number(words).map(|line| Command::Break(line))),
-        Verb::Watch => Ok(one_variable(alloc, words)?.map(|variable| Command::Watch(variable))),
-        Verb::Delete => Ok(one_number(words).map(|line| Command::Delete(line))),
-        Verb::Run => Ok(one_count(words).map(|steps| Command::Run(steps))),
-        Verb::Free => Ok(one_number(words).map(|rounds| Command::Free(rounds))),
-        Verb::Roll => Ok(one_number(words).map(|serial| Command::Roll(serial))),
+        Verb::Break => Ok(one_number(words).map(Command::Break)),
+        Verb::Watch => Ok(one_variable(alloc, words)?.map(Command::Watch)),
+        Verb::Delete => Ok(one_number(words).map(Command::Delete)),
+        Verb::Run => Ok(one_count(words).map(Command::Run)),
+        Verb::Free => Ok(one_number(words).map(Command::Free)),
+        Verb::Roll => Ok(one_number(words).map(Command::Roll)),
         Verb::Quit => Ok(alone(Command::Quit, words)),
     }
 }
