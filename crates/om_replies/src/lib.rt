@@ -10,7 +10,7 @@ mod stop;
 mod value;
 
 pub use list::{push_events, push_history, push_no_tasks, push_output, push_roll, push_task};
-pub use number::push_number;
+pub use number::{push_number, push_numbered};
 pub use place::push_where;
 pub use step::{push_command_fault, push_full, push_step, push_undo};
 pub use stop::{Stop, push_break, push_deleted, push_freed, push_ran, push_watch};

@@ -3,8 +3,9 @@
 ghost use Rattle.std.specs.Prelude.{◌≡◌, ◌++◌, OnOk};
 ghost use Rattle.om_replies.specs.Lists.{joined, entry_line, history_text, event_line, events_text, output_text, task_text, no_tasks_text, taken_line, roll_text};
 
-use crate::number::push_number;
-use crate::step::push_entry;
+use crate::number::push_numbered;
+use crate::object::push_named;
+use crate::step::{push_entry, push_undone};
 use om_cells::Entry;
 use om_events::{Record, text_of};
 use om_foot::Name;
@@ -44,8 +45,9 @@ fn push_event_line(text: &mut Vec<u8>, event: &Record) -> Result<(), AllocError>
     text.extend_from_slice(b"\n")
 }
 
-fn push_event_lines(text: &mut Vec<u8>, events: &[Record]) -> Result<(), AllocError>
-    ensures { OnOk result (text.new.items ≡ text.old.items ++ joined event_line events.now) }
+/// Appends event records, each on a line, in their order.
+pub fn push_events(text: &mut Vec<u8>, events: &[Record]) -> Result<(), AllocError>
+    ensures { OnOk result (text.new.items ≡ text.old.items ++ events_text events.now) }
 {
     for event in events {
         push_event_line(text, event)?;
@@ -53,19 +55,11 @@ fn push_event_lines(text: &mut Vec<u8>, events: &[Record]) -> Result<(), AllocEr
     Ok(())
 }
 
-/// Appends event records, each on a line, in their order.
-pub fn push_events(text: &mut Vec<u8>, events: &[Record]) -> Result<(), AllocError>
-    ensures { OnOk result (text.new.items ≡ text.old.items ++ events_text events.now) }
-{
-    push_event_lines(text, events)
-}
-
 /// Appends how many bytes the program printed, and these.
 pub fn push_output(text: &mut Vec<u8>, bytes: &[u8]) -> Result<(), AllocError>
     ensures { OnOk result (text.new.items ≡ text.old.items ++ output_text bytes.now) }
 {
-    text.extend_from_slice(b"output ")?;
-    push_number(text, bytes.len())?;
+    push_numbered(text, b"output ", bytes.len())?;
     text.extend_from_slice(b" bytes\n")?;
     text.extend_from_slice(bytes)?;
     text.extend_from_slice(b"\n")
@@ -75,10 +69,8 @@ pub fn push_output(text: &mut Vec<u8>, bytes: &[u8]) -> Result<(), AllocError>
 pub fn push_task(text: &mut Vec<u8>, name: &Name, line: u32) -> Result<(), AllocError>
     ensures { OnOk result (text.new.items ≡ text.old.items ++ task_text name.now line) }
 {
-    text.extend_from_slice(b"ready ")?;
-    name.text(text)?;
-    text.extend_from_slice(b" line ")?;
-    push_number(text, line)?;
+    push_named(text, b"ready ", name)?;
+    push_numbered(text, b" line ", line)?;
     text.extend_from_slice(b"\n")
 }
 
@@ -89,19 +81,11 @@ pub fn push_no_tasks(text: &mut Vec<u8>) -> Result<(), AllocError>
     text.extend_from_slice(b"no tasks\n")
 }
 
-fn push_taken_line(text: &mut Vec<u8>, taken: &Taken) -> Result<(), AllocError>
-    ensures { OnOk result (text.new.items ≡ text.old.items ++ taken_line taken.now) }
-{
-    text.extend_from_slice(b"undone ")?;
-    push_entry(text, taken.serial, taken.worker, taken.line)?;
-    text.extend_from_slice(b"\n")
-}
-
 fn push_members(text: &mut Vec<u8>, members: &[Taken]) -> Result<(), AllocError>
     ensures { OnOk result (text.new.items ≡ text.old.items ++ joined taken_line members.now) }
 {
     for taken in members {
-        push_taken_line(text, taken)?;
+        push_undone(text, taken.serial, taken.worker, taken.line)?;
     }
     Ok(())
 }
@@ -113,8 +97,7 @@ pub fn push_roll(text: &mut Vec<u8>, serial: u64, reply: &RollReply) -> Result<(
     match reply {
         RollReply::Rolled(members) => push_members(text, members.as_slice()),
         RollReply::NoEntry => {
-            text.extend_from_slice(b"no step #")?;
-            push_number(text, serial)?;
+            push_numbered(text, b"no step #", serial)?;
             text.extend_from_slice(b"\n")
         }
     }

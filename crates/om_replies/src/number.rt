@@ -11,3 +11,15 @@ pub fn push_number<I: Integer>(text: &mut Vec<u8>, number: I) -> Result<(), Allo
     let mut buffer = Buffer::new();
     text.extend_from_slice(buffer.format(number).as_bytes())
 }
+
+/// Appends bytes, and behind them a number in decimal.
+pub fn push_numbered<I: Integer>(
+    text: &mut Vec<u8>,
+    before: &[u8],
+    number: I,
+) -> Result<(), AllocError>
+    ensures { OnOk result (text.new.items ≡ text.old.items ++ (before.now ++ I.text number)) }
+{
+    text.extend_from_slice(before)?;
+    push_number(text, number)
+}

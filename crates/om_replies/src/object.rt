@@ -1,9 +1,9 @@
 //! The texts of objects, as a reply names them.
-ghost use Rattle.std.specs.Prelude.{◌≡◌, ◌++◌, decimal, OnOk, codes};
+ghost use Rattle.std.specs.Prelude.{◌≡◌, ◌++◌, OnOk, codes};
 ghost use Rattle.om_foot.specs.Names.{name_text};
-ghost use Rattle.om_replies.specs.Objects.{cell_place_text, index_text, length_of, lock_text, name_of, object_text, place_text, variable_text};
+ghost use Rattle.om_replies.specs.Objects.{cell_place_text, index_text, lock_text, object_text, place_text, variable_text};
 
-use crate::number::push_number;
+use crate::number::push_numbered;
 use crate::value::GlobalCell;
 use om_code::program::Program;
 use om_foot::{Name, Obj};
@@ -18,7 +18,7 @@ pub(crate) fn push_object(
     ensures { OnOk result (text.new.items ≡ text.old.items ++ object_text program.now object.now) }
 {
     match object {
-        Obj::Control(worker) => push_worker(text, b"control ", *worker),
+        Obj::Control(worker) => push_numbered(text, b"control ", *worker),
         Obj::Cell {
             task,
             frame,
@@ -41,20 +41,12 @@ pub(crate) fn push_object(
         Obj::Lock(lock) => push_lock(text, program, *lock),
         Obj::Group(group) => push_named(text, b"group ", group),
         Obj::Output => text.extend_from_slice(b"output"),
-        Obj::Events(worker) => push_worker(text, b"events ", *worker),
+        Obj::Events(worker) => push_numbered(text, b"events ", *worker),
     }
 }
 
-// What one worker has alone.
-fn push_worker(text: &mut Vec<u8>, kind: &[u8], worker: u8) -> Result<(), AllocError>
-    ensures { OnOk result (text.new.items ≡ text.old.items ++ (kind.now ++ decimal worker)) }
-{
-    text.extend_from_slice(kind)?;
-    push_number(text, worker)
-}
-
-// What is named as a task or a team.
-fn push_named(text: &mut Vec<u8>, kind: &[u8], name: &Name) -> Result<(), AllocError>
+/// Appends bytes, and behind them a name.
+pub(crate) fn push_named(text: &mut Vec<u8>, kind: &[u8], name: &Name) -> Result<(), AllocError>
     ensures { OnOk result (text.new.items ≡ text.old.items ++ (kind.now ++ name_text name.now)) }
 {
     text.extend_from_slice(kind)?;
@@ -67,8 +59,7 @@ fn push_place(text: &mut Vec<u8>, kind: &[u8], team: &Name, number: u64) -> Resu
         (text.new.items ≡ text.old.items ++ (kind.now ++ place_text team.now number)) }
 {
     push_named(text, kind, team)?;
-    text.extend_from_slice(b" ")?;
-    push_number(text, number)
+    push_numbered(text, b" ", number)
 }
 
 // A cell of a local variable.
@@ -84,15 +75,13 @@ fn push_cell_place(
         ++ (codes "cell " ++ cell_place_text task.now frame slot index)) }
 {
     push_named(text, b"cell ", task)?;
-    text.extend_from_slice(b"/")?;
-    push_number(text, frame)?;
-    text.extend_from_slice(b"/")?;
-    push_number(text, slot)?;
-    text.extend_from_slice(b"/")?;
-    push_number(text, index)
+    push_numbered(text, b"/", frame)?;
+    push_numbered(text, b"/", slot)?;
+    push_numbered(text, b"/", index)
 }
 
-/// Appends a cell of a global as the source writes it: `x`, or `a[2]`.
+/// Appends a cell of a global as the source writes it: `x`, or `a[2]`. Nothing is written where the
+/// program has no such global.
 pub(crate) fn push_variable(
     text: &mut Vec<u8>,
     program: &Program,
@@ -100,8 +89,11 @@ pub(crate) fn push_variable(
 ) -> Result<(), AllocError>
     ensures { OnOk result (text.new.items ≡ text.old.items ++ variable_text program.now cell) }
 {
-    push_name(text, program, cell.variable)?;
-    push_index(text, length_in(program, cell.variable), cell.index)
+    let Some(variable) = program.globals().get(cell.variable as usize) else {
+        return Ok(());
+    };
+    text.extend_from_slice(variable.name.as_slice())?;
+    push_index(text, variable.length, cell.index)
 }
 
 // A cell of a global.
@@ -113,23 +105,6 @@ fn push_global(text: &mut Vec<u8>, program: &Program, cell: GlobalCell) -> Resul
     push_variable(text, program, cell)
 }
 
-// The name of a global, which is empty where the program has no such global.
-fn push_name(text: &mut Vec<u8>, program: &Program, global: u32) -> Result<(), AllocError>
-    ensures { OnOk result (text.new.items ≡ text.old.items ++ name_of program.now global) }
-{
-    let Some(variable) = program.globals().get(global as usize) else {
-        return Ok(());
-    };
-    text.extend_from_slice(variable.name.as_slice())
-}
-
-// The length of a global, where it is an array.
-fn length_in(program: &Program, global: u32) -> Option<u32>
-    ensures { result ≡ length_of program.now global }
-{
-    program.globals().get(global as usize)?.length
-}
-
 // The index of an array's cell; a scalar has none.
 fn push_index(text: &mut Vec<u8>, length: Option<u32>, index: u32) -> Result<(), AllocError>
     ensures { OnOk result (text.new.items ≡ text.old.items ++ index_text length index) }
@@ -137,8 +112,7 @@ fn push_index(text: &mut Vec<u8>, length: Option<u32>, index: u32) -> Result<(),
     let Some(_) = length else {
         return Ok(());
     };
-    text.extend_from_slice(b"[")?;
-    push_number(text, index)?;
+    push_numbered(text, b"[", index)?;
     text.extend_from_slice(b"]")
 }
 

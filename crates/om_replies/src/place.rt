@@ -3,7 +3,8 @@
 ghost use Rattle.std.specs.Prelude.{◌≡◌, ◌++◌, OnOk, codes};
 ghost use Rattle.om_replies.specs.Places.{context_text, control_text, where_text};
 
-use crate::number::push_number;
+use crate::number::push_numbered;
+use crate::object::push_named;
 use om_cells::{Context, Control};
 use std::alloc::AllocError;
 
@@ -11,16 +12,11 @@ use std::alloc::AllocError;
 fn push_context(text: &mut Vec<u8>, context: &Context, line: u32) -> Result<(), AllocError>
     ensures { OnOk result (text.new.items ≡ text.old.items ++ context_text context.now line) }
 {
-    text.extend_from_slice(b"task ")?;
-    context.task.get().text(text)?;
-    text.extend_from_slice(b" team ")?;
-    context.team.get().name.text(text)?;
-    text.extend_from_slice(b" number ")?;
-    push_number(text, context.team.get().number)?;
-    text.extend_from_slice(b" of ")?;
-    push_number(text, context.team.get().size)?;
-    text.extend_from_slice(b" line ")?;
-    push_number(text, line)
+    push_named(text, b"task ", context.task.get())?;
+    push_named(text, b" team ", &context.team.get().name)?;
+    push_numbered(text, b" number ", context.team.get().number)?;
+    push_numbered(text, b" of ", context.team.get().size)?;
+    push_numbered(text, b" line ", line)
 }
 
 fn push_control(text: &mut Vec<u8>, control: &Control, line: u32) -> Result<(), AllocError>
@@ -30,15 +26,10 @@ fn push_control(text: &mut Vec<u8>, control: &Control, line: u32) -> Result<(), 
         Control::Idle => text.extend_from_slice(b"idle"),
         Control::Running(stack) => push_context(text, &stack.top, line),
         Control::Faulted(fault, _) => {
-            text.extend_from_slice(b"fault F")?;
-            push_number(text, fault.number())?;
-            text.extend_from_slice(b" line ")?;
-            push_number(text, line)
+            push_numbered(text, b"fault F", fault.number())?;
+            push_numbered(text, b" line ", line)
         }
-        Control::Ended(value) => {
-            text.extend_from_slice(b"ended ")?;
-            push_number(text, *value)
-        }
+        Control::Ended(value) => { push_numbered(text, b"ended ", *value) }
     }
 }
 
@@ -51,8 +42,7 @@ pub fn push_where(
 ) -> Result<(), AllocError>
     ensures { OnOk result (text.new.items ≡ text.old.items ++ where_text worker control.now line) }
 {
-    text.extend_from_slice(b"worker ")?;
-    push_number(text, worker)?;
+    push_numbered(text, b"worker ", worker)?;
     text.extend_from_slice(b" ")?;
     push_control(text, control, line)?;
     text.extend_from_slice(b"\n")

@@ -3,7 +3,7 @@ ghost use Rattle.std.specs.Prelude.{◌≡◌, ◌++◌, decimal, OnOk, codes};
 ghost use Rattle.om_replies.specs.Objects.{object_text};
 ghost use Rattle.om_replies.specs.Steps.{entry_text, fault_text, blocker_text, step_text, undo_text, command_fault_text, full_text};
 
-use crate::number::push_number;
+use crate::number::{push_number, push_numbered};
 use crate::object::push_object;
 use om_cells::Blocked;
 use om_code::frame::Fault;
@@ -22,12 +22,9 @@ pub(crate) fn push_entry(
 ) -> Result<(), AllocError>
     ensures { OnOk result (text.new.items ≡ text.old.items ++ entry_text serial worker line) }
 {
-    text.extend_from_slice(b"#")?;
-    push_number(text, serial)?;
-    text.extend_from_slice(b" worker ")?;
-    push_number(text, worker)?;
-    text.extend_from_slice(b" line ")?;
-    push_number(text, line)
+    push_numbered(text, b"#", serial)?;
+    push_numbered(text, b" worker ", worker)?;
+    push_numbered(text, b" line ", line)
 }
 
 // ` fault F1`, where there is a fault.
@@ -37,8 +34,7 @@ pub(crate) fn push_fault(text: &mut Vec<u8>, fault: Option<Fault>) -> Result<(),
     let Some(fault) = fault else {
         return Ok(());
     };
-    text.extend_from_slice(b" fault F")?;
-    push_number(text, fault.number())
+    push_numbered(text, b" fault F", fault.number())
 }
 
 // The worker that holds the lock, or has to be idle.
@@ -48,8 +44,7 @@ fn push_blocker(text: &mut Vec<u8>, why: Blocked) -> Result<(), AllocError>
     let (Blocked::Critical(worker) | Blocked::Busy(worker)) = why else {
         return Ok(());
     };
-    text.extend_from_slice(b" by ")?;
-    push_number(text, worker)
+    push_numbered(text, b" by ", worker)
 }
 
 /// Appends the reply to a step.
@@ -67,8 +62,7 @@ pub fn push_step(text: &mut Vec<u8>, worker: u8, reply: StepReply) -> Result<(),
             text.extend_from_slice(b"\n")
         }
         StepReply::Blocked(why) => {
-            text.extend_from_slice(b"blocked B")?;
-            push_number(text, why.number())?;
+            push_numbered(text, b"blocked B", why.number())?;
             push_blocker(text, why)?;
             text.extend_from_slice(b"\n")
         }
@@ -98,6 +92,22 @@ fn push_conflict(
     text.extend_from_slice(b"\n")
 }
 
+/// Appends a step that was taken out, on a line.
+pub(crate) fn push_undone(
+    text: &mut Vec<u8>,
+    serial: u64,
+    worker: u8,
+    line: u32,
+) -> Result<(), AllocError>
+    ensures { OnOk result
+        (text.new.items ≡ text.old.items
+        ++ (codes "undone " ++ entry_text serial worker line ++ codes "\n")) }
+{
+    text.extend_from_slice(b"undone ")?;
+    push_entry(text, serial, worker, line)?;
+    text.extend_from_slice(b"\n")
+}
+
 /// Appends the reply to an undo.
 pub fn push_undo(
     text: &mut Vec<u8>,
@@ -109,11 +119,7 @@ pub fn push_undo(
         (text.new.items ≡ text.old.items ++ undo_text program.now worker reply.now) }
 {
     match reply {
-        UndoReply::Undone { serial, line } => {
-            text.extend_from_slice(b"undone ")?;
-            push_entry(text, *serial, worker, *line)?;
-            text.extend_from_slice(b"\n")
-        }
+        UndoReply::Undone { serial, line } => push_undone(text, *serial, worker, *line),
         UndoReply::Conflict {
             serial,
             worker,

@@ -1,9 +1,9 @@
 //! Breaks, watches, why a run stopped, and what a free run did.
 
 ghost use Rattle.std.specs.Prelude.{◌≡◌, ◌++◌, OnOk};
-ghost use Rattle.om_replies.specs.Stops.{break_text, watch_text, deleted_text, by_worker, stop_text, ran_text, freed_text};
+ghost use Rattle.om_replies.specs.Stops.{break_text, watch_text, deleted_text, stop_text, ran_text, freed_text};
 
-use crate::number::push_number;
+use crate::number::push_numbered;
 use crate::object::push_variable;
 use crate::value::GlobalCell;
 use om_code::frame::Fault;
@@ -31,8 +31,7 @@ pub enum Stop {
 pub fn push_break(text: &mut Vec<u8>, line: u64) -> Result<(), AllocError>
     ensures { OnOk result (text.new.items ≡ text.old.items ++ break_text line) }
 {
-    text.extend_from_slice(b"break ")?;
-    push_number(text, line)?;
+    push_numbered(text, b"break ", line)?;
     text.extend_from_slice(b"\n")
 }
 
@@ -49,21 +48,9 @@ pub fn push_watch(text: &mut Vec<u8>, program: &Program, cell: GlobalCell) -> Re
 pub fn push_deleted(text: &mut Vec<u8>, line: u64, was_there: bool) -> Result<(), AllocError>
     ensures { OnOk result (text.new.items ≡ text.old.items ++ deleted_text line was_there) }
 {
-    if was_there {
-        text.extend_from_slice(b"deleted ")?;
-    } else {
-        text.extend_from_slice(b"no break ")?;
-    }
-    push_number(text, line)?;
+    let before: &[u8] = if was_there { b"deleted " } else { b"no break " };
+    push_numbered(text, before, line)?;
     text.extend_from_slice(b"\n")
-}
-
-// The worker whose step a run stopped behind.
-fn push_by_worker(text: &mut Vec<u8>, worker: u8) -> Result<(), AllocError>
-    ensures { OnOk result (text.new.items ≡ text.old.items ++ by_worker worker) }
-{
-    text.extend_from_slice(b" worker ")?;
-    push_number(text, worker)
 }
 
 fn push_stop(text: &mut Vec<u8>, program: &Program, stop: Stop) -> Result<(), AllocError>
@@ -71,19 +58,17 @@ fn push_stop(text: &mut Vec<u8>, program: &Program, stop: Stop) -> Result<(), Al
 {
     match stop {
         Stop::Fault { fault, worker } => {
-            text.extend_from_slice(b"fault F")?;
-            push_number(text, fault.number())?;
-            push_by_worker(text, worker)
+            push_numbered(text, b"fault F", fault.number())?;
+            push_numbered(text, b" worker ", worker)
         }
         Stop::Break { line, worker } => {
-            text.extend_from_slice(b"break ")?;
-            push_number(text, line)?;
-            push_by_worker(text, worker)
+            push_numbered(text, b"break ", line)?;
+            push_numbered(text, b" worker ", worker)
         }
         Stop::Watch { cell, worker } => {
             text.extend_from_slice(b"watch ")?;
             push_variable(text, program, cell)?;
-            push_by_worker(text, worker)
+            push_numbered(text, b" worker ", worker)
         }
         Stop::Limit => text.extend_from_slice(b"limit"),
         Stop::Ended => text.extend_from_slice(b"ended"),
@@ -100,8 +85,7 @@ pub fn push_ran(
 ) -> Result<(), AllocError>
     ensures { OnOk result (text.new.items ≡ text.old.items ++ ran_text program.now steps stop) }
 {
-    text.extend_from_slice(b"ran ")?;
-    push_number(text, steps)?;
+    push_numbered(text, b"ran ", steps)?;
     text.extend_from_slice(b" ")?;
     push_stop(text, program, stop)?;
     text.extend_from_slice(b"\n")
@@ -111,7 +95,6 @@ pub fn push_ran(
 pub fn push_freed(text: &mut Vec<u8>, steps: u64) -> Result<(), AllocError>
     ensures { OnOk result (text.new.items ≡ text.old.items ++ freed_text steps) }
 {
-    text.extend_from_slice(b"freed ")?;
-    push_number(text, steps)?;
+    push_numbered(text, b"freed ", steps)?;
     text.extend_from_slice(b"\n")
 }

@@ -4,7 +4,7 @@ ghost use Rattle.std.specs.Prelude.{◌≡◌, ◌++◌, OnOk};
 ghost use Rattle.om_replies.specs.Objects.{variable_text};
 ghost use Rattle.om_replies.specs.Values.{cell_text, local_text, print_text, written_index};
 
-use crate::number::push_number;
+use crate::number::{push_number, push_numbered};
 use crate::object::push_variable;
 use om_cells::Val;
 use om_code::frame::Cell;
@@ -67,8 +67,7 @@ fn push_written_index(text: &mut Vec<u8>, index: Option<u64>) -> Result<(), Allo
     let Some(index) = index else {
         return Ok(());
     };
-    text.extend_from_slice(b"[")?;
-    push_number(text, index)?;
+    push_numbered(text, b"[", index)?;
     text.extend_from_slice(b"]")
 }
 
