@@ -42,14 +42,20 @@ impl Debugger {
         ensures { IfOk result (λ debugger. debugger ≡ opened debuggee workers) }
     {
         let Debuggee { program, names } = debuggee;
-        Ok(Debugger {
-            recorder: Recorder::new(alloc, program, workers)?,
-            names,
-            marks: Marks {
-                breaks: Seq::new(alloc),
-                watches: Seq::new(alloc),
-            },
-        })
+        match Recorder::new(alloc, program, workers) {
+            Ok(recorder) => Ok(Debugger {
+                recorder,
+                names,
+                marks: Marks {
+                    breaks: Seq::new(alloc),
+                    watches: Seq::new(alloc),
+                },
+            }),
+            Err(error) => {
+                drop(names);
+                Err(error)
+            }
+        }
     }
 
     /// Its machine.

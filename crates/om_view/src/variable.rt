@@ -61,7 +61,8 @@ pub(crate) fn element_at(length: Option<u32>, index: Option<u64>) -> Option<u32>
 fn cell_at(variable: u32, length: Option<u32>, index: Option<u64>) -> Option<GlobalCell>
     ensures { result ≡ cell_at variable length index }
 {
-    element_at(length, index).map(|index| GlobalCell { variable, index })
+    let index = element_at(length, index)?;
+    Some(GlobalCell { variable, index })
 }
 
 /// The cell that a variable names; `None` exactly where the program has no such global, or where
