@@ -56,20 +56,21 @@ pub fn words_in<'a>(alloc: Global, words: &'a [&'a str]) -> Result<Words<'a>, Er
         .default_value("2")
         .action(ArgAction::Set)
         .value_parser(clap::value_parser!(u8).range(1..=32));
+    let command = Command::new(alloc, "ompback")
+        .about(ABOUT)
+        .after_help(COMMANDS)
+        .arg(threads)?;
     let file = Arg::new(alloc, "file")
         .value_name("FILE")
         .help("The C source")
         .action(ArgAction::Set);
-    let command = Command::new(alloc, "ompback")
-        .about(ABOUT)
-        .after_help(COMMANDS)
-        .arg(threads)?
-        .arg(file)?;
-    let matches = command.try_get_matches_from(words)?;
-    Ok(Words {
+    let matches = command.arg(file)?.try_get_matches_from(words)?;
+    let asked = Words {
         workers: workers_or_two(matches.get_one::<u8>("threads")),
         file: matches.get_str("file"),
-    })
+    };
+    drop(matches);
+    Ok(asked)
 }
 
 // The number of workers that is given, if it is one; it always is, by the parse.
