@@ -1,8 +1,8 @@
 -- What is in a statement is smaller than it, and has code where that does.
 use Rattle.std.proofs.Common.{◌≡◌, ◌<◌, Bool, true, false, map, option_map, sym, ap, ◌∙◌, subst, arith}
 use Rattle.std.specs.Prelude.{IfSome, is_some}
-use Rattle.om_constructs.specs.declared.spot.Spot.{Spot}
-use Rattle.om_constructs.specs.Stretches.{IsNoAtomic}
+use Rattle.om_statements.specs.declared.spot.Spot.{Spot}
+use Rattle.om_statements.specs.Stretches.{IsNoAtomic}
 use Rattle.om_resolved.specs.declared.resolved.ConstructKind.{ConstructKind}
 use Rattle.om_resolved.specs.declared.resolved.ConstructKind.TheVariants as constructs
 use Rattle.om_resolved.specs.declared.resolved.ResolvedStatement.{ResolvedStatement}
