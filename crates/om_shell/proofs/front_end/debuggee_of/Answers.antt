@@ -8,8 +8,8 @@ returns-clause-debuggee c = IfOk-weaker c.debuggee_in.result _ _ (λ debuggee ma
   resolved = view_resolved c.in_ok-resolved.resolved;
   has_resolution = c.in_ok-resolved.ensures.resolution;
   within = made.0;
-  code = made.1.0;
-  names = made.1.1;
+  code = made.1;
+  names = made.2;
 }) c.debuggee_in.ensures.made
 
 pub returns-clause-refused : goal.returns-clause-refused
