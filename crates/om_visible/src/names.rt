@@ -3,6 +3,7 @@
 ghost use Rattle.std.specs.Prelude.{◌≡◌, ◌+◌, IfOk, OnOk, length, map, nat_eq, position, slice_get};
 ghost use Rattle.om_resolved.specs.ResolvedTree as trees;
 ghost use Rattle.om_resolved.specs.ResolvedView.{view_resolved, view_resolved_function, view_resolved_statement};
+ghost use Rattle.om_rows.specs.Bodies.{function_variables};
 ghost use Rattle.om_rows.specs.Sizes.{statements_size};
 ghost use Rattle.om_visible.specs.Meant.{around_in, innermost, is_visible, local_at, local_in, meant};
 ghost use Rattle.om_visible.specs.Scopes.{function_body_names, function_names, functions_names, opened_at, opening, tree_names};
@@ -11,6 +12,7 @@ ghost use Rattle.om_visible.specs.Walks.{Added, Walked};
 use crate::statement::add_statements;
 use crate::walk::{Around, BodyNames, Scope, Walk, close, open, skip};
 use om_resolved::{LocalVariable, Resolved, ResolvedFunction};
+use om_seq::Seq;
 use om_tables::function_variables;
 use std::alloc::{AllocError, Global};
 use std::marker::Model;
@@ -169,6 +171,16 @@ fn add_function_body(walk: &mut Walk, function: &ResolvedFunction) -> Result<(),
     close(walk, height)
 }
 
+/// The variables of a function's body, by their slots.
+fn slots_of_function(alloc: Global, function: &ResolvedFunction) -> Result<Seq<u32>, AllocError>
+    ensures { IfOk result
+        (λ made. made ≡ function_variables (view_resolved_function function.now)) }
+{
+    let variables = function_variables(alloc, function)?;
+    let slots = Vec::from_slice(alloc, variables.as_slice())?;
+    Ok(Seq::of(slots))
+}
+
 /// Adds a function's body, and the names in it.
 fn add_function(walk: &mut Walk, function: &ResolvedFunction) -> Result<(), AllocError>
     ensures { OnOk result
@@ -177,7 +189,7 @@ fn add_function(walk: &mut Walk, function: &ResolvedFunction) -> Result<(), Allo
     let Ok(number) = u32::try_from(walk.bodies.len()) else {
         return Err(AllocError);
     };
-    let variables = function_variables(walk.alloc, function)?;
+    let variables = slots_of_function(walk.alloc, function)?;
     walk.bodies.push(BodyNames {
         around: None,
         variables,

@@ -16,7 +16,7 @@ use om_resolved::{
     ResolvedStart, ResolvedStatement,
 };
 use om_seq::Seq;
-use om_tables::{Variables, given_copies, region_variables};
+use om_tables::{given_copies, region_variables};
 use std::alloc::{AllocError, Global};
 
 /// A variable whose scope has begun.
@@ -57,7 +57,8 @@ pub(crate) struct Around {
 pub(crate) struct BodyNames {
     /// That of a function stands in no other.
     pub(crate) around: Option<Around>,
-    pub(crate) variables: Variables,
+    /// The variables that it has, in the order of their slots.
+    pub(crate) variables: Seq<u32>,
 }
 
 /// A walk over the tree, in the order of the text.
@@ -351,6 +352,20 @@ fn add_task_copy(walk: &mut Walk, clause: &ResolvedClause) -> Result<(), AllocEr
     open(walk, copy, 0)
 }
 
+/// The variables of the body of a `parallel` or a `task`, by their slots.
+fn slots_of_region(
+    alloc: Global,
+    clauses: &[ResolvedClause],
+    statement: &ResolvedStatement,
+) -> Result<Seq<u32>, AllocError>
+    ensures { IfOk result (λ made. made ≡ region_variables
+        (map view_resolved_clause clauses.now) (view_resolved_statement statement.now)) }
+{
+    let variables = region_variables(alloc, clauses, statement)?;
+    let slots = Vec::from_slice(alloc, variables.as_slice())?;
+    Ok(Seq::of(slots))
+}
+
 /// Begins the body of a region that stands here.
 pub(crate) fn begin_region(
     walk: &mut Walk,
@@ -368,7 +383,7 @@ pub(crate) fn begin_region(
     let Ok(number) = u32::try_from(walk.bodies.len()) else {
         return Err(AllocError);
     };
-    let variables = region_variables(walk.alloc, clauses, statement)?;
+    let variables = slots_of_region(walk.alloc, clauses, statement)?;
     walk.bodies.push(BodyNames {
         around: Some(here),
         variables,
