@@ -49,7 +49,14 @@ fn drive_two<L: Sitting + Send + Sync, R: Threads + Wait + Sync>(
     requires two { blank.seats ≡ 2 }
     requires lists { length orders.now ≡ 2 }
 {
-    let gates = two_gates(alloc)?;
+    let gates = match two_gates(alloc) {
+        Ok(gates) => gates,
+        Err(error) => {
+            drop(blank);
+            drop(book);
+            return Err(error);
+        }
+    };
     let Ok((session, debuggees)) = Session::<L>::new(alloc, blank, book) else {
         return Err(AllocError);
     };

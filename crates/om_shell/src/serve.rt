@@ -19,7 +19,7 @@ use crate::output::send;
 use crate::refusal::push_refusal;
 use crate::session::Session;
 use om_lexer::{FaultCode, SourceFault};
-use om_view::Debuggee;
+use om_view::{Debuggee, Debugger};
 use std::alloc::Global;
 use std::io::{Read, Write};
 use std::sync::Wait;
@@ -64,8 +64,13 @@ fn answer_commands<H: Threads + Wait + Sync, R: Read, W: Write>(
         input.old.pending.items (due (opened debuggee host.now.workers) runs) fault) }
 {
     let mut session = Session::new(host.alloc, debuggee, host.workers)?;
-    converse(host, &mut session, input, reader, writer)?;
-    Ok(Ended::accepted(session.into_debugger()))
+    match converse(host, &mut session, input, reader, writer) {
+        Ok(()) => Ok(Ended::accepted(session.into_debugger())),
+        Err(fault) => {
+            drop(session);
+            Err(fault)
+        }
+    }
 }
 
 /// Serves a source and the commands behind it.
@@ -119,8 +124,8 @@ pub(crate) fn serve_alone<W: Write>(
 {
     match debuggee_of(alloc, source) {
         Ok(debuggee) => {
-            let session = Session::new(alloc, debuggee, workers)?;
-            Ok(Ended::accepted(session.into_debugger()))
+            let debugger = Debugger::new(alloc, debuggee, workers)?;
+            Ok(Ended::accepted(debugger))
         }
         Err(fault) => {
             if fault.code == FaultCode::Memory {

@@ -11,15 +11,14 @@ returns-in_err-session-clause-broken_off g c =
     let other : Memory ≢ Read = search rules in
     rw (p.1, p.2) (Breaks_unread _ _ _ _ _ other)
 
-pub returns-in_err-converse-clause-broken_off : goal.returns-in_err-converse-clause-broken_off
-returns-in_err-converse-clause-broken_off g c =
-    let p = err_from_is_err_and c.from_residual-in_err-converse.result c.from_residual-in_err-converse.ensures.1 in
+pub returns-in-Err-clause-broken_off : goal.returns-in-Err-clause-broken_off
+returns-in-Err-clause-broken_off g c =
     let new : c.in_ok-session.session.debugger ≡ opened c.args.debuggee c.args.host.now.workers = search rules in
-    rw (p.1, p.2) (rw new at c.in_err-converse.ensures.broken_off)
+    rw new at c.in-Err.ensures.broken_off
 
-pub returns-clause-done : goal.returns-clause-done
-returns-clause-done g c =
+pub returns-in-Ok-clause-done : goal.returns-in-Ok-clause-done
+returns-in-Ok-clause-done g c =
     let new : c.in_ok-session.session.debugger ≡ opened c.args.debuggee c.args.host.now.workers = search rules in
-    let done = rw new at c.in_ok-converse.ensures.done in
+    let done = rw new at c.in-Ok.ensures.done in
     let left : c.accepted.result.debugger ≡ Some c.converse.new.session.debugger = search rules in
     (done.0, rw left done.1)
