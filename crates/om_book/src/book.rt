@@ -8,7 +8,7 @@ ghost use Rattle.om_book.specs.Books.{machine_of, records_of, with_record};
 use crate::command::Command;
 use crate::replies::done;
 use crate::reply::Reply;
-use om_code::program::Program;
+use om_code::Program;
 use om_undo::Machine;
 use std::alloc::{AllocError, Global};
 use std::marker::Model;

@@ -3,9 +3,9 @@
 ghost use Rattle.std.specs.Prelude.{◌≡◌, ◌↔◌, IsTrue};
 ghost use Rattle.om_book.specs.Runs.{IsInRange};
 
-use om_cells::Choice;
 use om_foot::Obj;
 use om_same::Same;
+use om_task::Choice;
 
 /// What is asked about the state where the machine stands.
 #[derive(Clone, Copy)]

@@ -5,9 +5,8 @@ ghost use Rattle.om_book.specs.Runs.{IsInRange, IsAnswer, IsReply, after};
 
 use crate::command::{Command, Query};
 use crate::reply::Reply;
-use om_history::{RollReply, StepReply, UndoReply};
 use om_seq::Seq;
-use om_undo::Machine;
+use om_undo::{Machine, RollReply, StepReply, UndoReply};
 use std::alloc::{AllocError, Global};
 
 /// One reply, three times.

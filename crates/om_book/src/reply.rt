@@ -3,11 +3,11 @@
 ghost use Rattle.std.specs.Prelude.{◌≡◌, IfOk};
 ghost use Rattle.om_book.specs.Runs.{is_done};
 
-use om_cells::{Entry, Val};
+use om_cells::Val;
 use om_foot::Name;
-use om_history::{RollReply, StepReply, UndoReply};
 use om_same::Same;
 use om_seq::Seq;
+use om_undo::{Entry, RollReply, StepReply, UndoReply};
 use std::alloc::{AllocError, Global};
 
 /// What is answered to a command: to each kind its own kind of reply.

@@ -5,8 +5,8 @@ ghost use Rattle.std.specs.Prelude.{◌≡◌, ◌++◌, ◌∷◌, [], IfOk, ve
 use crate::orders::one_look;
 use om_book::{CallError, Command, Reply};
 use om_drive::{Crew, Debuggee, Gate, Order, drive_over};
-use om_history::StepReply;
 use om_session::Receipt;
+use om_undo::StepReply;
 use std::alloc::{AllocError, Global};
 use std::mem;
 use std::sync::Wait;

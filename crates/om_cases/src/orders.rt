@@ -1,9 +1,9 @@
 //! Orders for the seats of a session.
 
 use om_book::{Command, Query};
-use om_cells::Choice;
 use om_drive::Order;
 use om_foot::Obj;
+use om_task::Choice;
 use std::alloc::{AllocError, Global};
 
 /// A list of one order: a look at what was printed.

@@ -6,10 +6,9 @@ ghost use Rattle.om_tree.specs.Sizes.{AtomicsHaveForms};
 ghost use Rattle.om_tree.specs.View.{view_unit};
 
 use om_lexer::{SourceFault, Token, lex};
-use om_parser::parse;
+use om_parser::{Unit, parse};
 use om_pragma::directive;
 use om_scope::resolve;
-use om_tree::Unit;
 use std::alloc::Global;
 
 /// How far a source is taken.

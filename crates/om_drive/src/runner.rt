@@ -6,9 +6,10 @@ ghost use Rattle.om_drive.specs.Steps.{makes_step, steps_in, waits_for_tasks};
 
 use crate::worker::{Debuggee, Gate, says_yes};
 use om_book::{CallError, Command, Query, Reply};
-use om_cells::{Blocked, Choice};
+use om_cells::Blocked;
 use om_foot::Name;
-use om_history::StepReply;
+use om_task::Choice;
+use om_undo::StepReply;
 use std::sync::Wait;
 
 /// A debuggee of which one worker is driven.

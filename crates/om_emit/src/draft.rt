@@ -4,7 +4,7 @@ ghost use Rattle.std.specs.Prelude.{◌≡◌, IfOk, OnOk, None, Some, slice_get
 ghost use Rattle.om_emit.specs.Drafts.{Defines, Fresh, FreshLabels, FreshList, Puts, moved, nothing, place_in, settled, settled_code};
 ghost use Rattle.om_emit.specs.Settled.{settled_list, settled_lists};
 
-use om_code::instruction::Instr;
+use om_code::Instr;
 use om_code::raw::Line;
 use om_seq::Seq;
 use std::alloc::{AllocError, Global};

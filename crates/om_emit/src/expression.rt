@@ -15,7 +15,7 @@ use crate::operator::{Form, compound_of, form_of};
 use crate::single::{
     load, load_element, postfix, postfix_element, store, store_element, unary_end,
 };
-use om_code::instruction::Instr;
+use om_code::Instr;
 use om_resolved::{ResolvedExpression, UnaryOperator, Variable};
 use om_tables::Scope;
 use om_tree::AssignOperator;

@@ -15,7 +15,7 @@ ghost use Rattle.om_tables.specs.Scopes.{names_of};
 
 use crate::draft::Draft;
 use crate::operator::{step_of, undo_of};
-use om_code::instruction::{self, Instr};
+use om_code::{Instr, instruction};
 use om_resolved::{UnaryOperator, Variable};
 use om_tables::Scope;
 use om_tree::PostfixOperator;

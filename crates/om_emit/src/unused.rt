@@ -12,7 +12,7 @@ ghost use Rattle.om_tables.specs.Scopes.{names_of};
 use crate::draft::Draft;
 use crate::expression::{Target, assign, assign_element, call, value, values};
 use crate::single::{Stepped, step, step_element};
-use om_code::instruction::Instr;
+use om_code::Instr;
 use om_resolved::{ResolvedExpression, Variable};
 use om_tables::Scope;
 use om_tree::{AssignOperator, PostfixOperator};

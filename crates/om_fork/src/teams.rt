@@ -13,9 +13,9 @@ use crate::members::{
     busy, first_frame, member, name_members, name_workers, put_given, put_members,
 };
 use om_cells::{Blocked, Context, Edit, Frame, Shared, Store, Team, Update};
+use om_code::Body;
 use om_code::frame::Fault;
 use om_code::print::ints_on;
-use om_code::raw::Body;
 use om_code::serial::int_at;
 use om_events::Record;
 use om_foot::{Access, Name};

@@ -12,7 +12,7 @@ ghost use Rattle.om_tables.specs.Tables.{IsTablesOf};
 
 use crate::bodies::{Bodies, have_few_slots, lower_bodies};
 use crate::sites::{Site, sites_of};
-use om_code::raw::Body;
+use om_code::Body;
 use om_emit::draft::PickList;
 use om_resolved::{Resolved, ResolvedFunction};
 use om_seq::Seq;

@@ -5,9 +5,9 @@ ghost use Rattle.om_code.specs.Validity.{IsLow};
 ghost use Rattle.om_lower.specs.Heights.{AreLevel, AreLow, IsFirstHigh, IsHigh, IsLevelBody};
 ghost use Rattle.om_rows.specs.Laws.{IsLevel};
 
-use om_code::fault::CodeFault;
 use om_code::height::check_heights;
-use om_code::raw::{Body, Line};
+use om_code::raw::Line;
+use om_code::{Body, CodeFault};
 use om_seq::Seq;
 use std::alloc::{AllocError, Global};
 

@@ -9,10 +9,13 @@ mod functions;
 mod heights;
 pub mod laws;
 mod lists;
-pub mod look;
-pub mod lower;
+mod look;
+mod lowering;
 mod program;
 mod region;
 mod sites;
 pub mod texts;
 mod whole;
+
+pub use look::{global_named, line_of};
+pub use lowering::lower;

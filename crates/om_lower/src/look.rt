@@ -4,7 +4,7 @@ ghost use Rattle.std.specs.Prelude.{◌≡◌, ◌<◌, IfSome, position, length
 ghost use Rattle.std.specs.Str.{bytes_eq};
 ghost use Rattle.om_code.specs.Places.{line_at};
 
-use om_code::program::Program;
+use om_code::Program;
 use om_code::raw::GlobalVariable;
 
 /// The source line of the instruction at a place of a body, counted from 1: that of the first token of its

@@ -18,8 +18,8 @@ ghost use Rattle.om_tables.specs.Tables.{IsTablesOf};
 
 use crate::functions::{Placed, Whole, is_main};
 use crate::texts::text_of;
-use om_code::program::Program;
-use om_code::raw::{self, Body, Piece, Raw};
+use om_code::raw::{self, Piece};
+use om_code::{Body, Program, Raw};
 use om_lexer::SourceFault;
 use om_resolved::{GlobalVariable, Resolved, ResolvedFunction};
 use om_rows::laws::code_is_valid;

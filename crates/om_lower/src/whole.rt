@@ -11,7 +11,8 @@ ghost use Rattle.om_tables.specs.Numbering.{numbers_of};
 ghost use Rattle.om_tables.specs.Scopes.{names_of};
 
 use crate::region::Region;
-use om_code::instruction::{Barrier, Instr};
+use om_code::Instr;
+use om_code::instruction::Barrier;
 use om_emit::draft::Draft;
 use om_resolved::ResolvedFunction;
 use om_statements::clause::{reduction_starts, reductions};

@@ -11,4 +11,5 @@ mod start;
 mod statement;
 mod unit;
 
+pub use om_tree::Unit;
 pub use unit::{STACK_SIZE, one_tree, parse};

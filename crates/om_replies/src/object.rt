@@ -5,7 +5,7 @@ ghost use Rattle.om_replies.specs.Objects.{cell_place_text, index_text, lock_tex
 
 use crate::number::push_numbered;
 use crate::value::GlobalCell;
-use om_code::program::Program;
+use om_code::Program;
 use om_foot::{Name, Obj};
 use std::alloc::AllocError;
 

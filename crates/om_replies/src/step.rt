@@ -6,8 +6,8 @@ ghost use Rattle.om_replies.specs.Steps.{entry_text, fault_text, blocker_text, s
 use crate::number::{push_number, push_numbered};
 use crate::object::push_object;
 use om_cells::Blocked;
+use om_code::Program;
 use om_code::frame::Fault;
-use om_code::program::Program;
 use om_command::CommandFault;
 use om_foot::Obj;
 use om_history::{StepReply, UndoReply};

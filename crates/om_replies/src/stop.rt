@@ -6,8 +6,8 @@ ghost use Rattle.om_replies.specs.Stops.{break_text, watch_text, deleted_text, s
 use crate::number::push_numbered;
 use crate::object::push_variable;
 use crate::value::GlobalCell;
+use om_code::Program;
 use om_code::frame::Fault;
-use om_code::program::Program;
 use std::alloc::AllocError;
 
 /// Why a run stopped.

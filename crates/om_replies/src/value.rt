@@ -7,8 +7,8 @@ ghost use Rattle.om_replies.specs.Values.{cell_text, local_text, print_text, wri
 use crate::number::{push_number, push_numbered};
 use crate::object::push_variable;
 use om_cells::Val;
+use om_code::Program;
 use om_code::frame::Cell;
-use om_code::program::Program;
 use om_command::Variable;
 use om_foot::Obj;
 use std::alloc::AllocError;

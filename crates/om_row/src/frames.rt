@@ -11,10 +11,11 @@ use crate::names::{homes_in, name, name_given, object_of, own_cells};
 use crate::updates::{put_cell, put_deaths, put_ints};
 use crate::{Answer, Launch, Row};
 use om_cells::{Context, Edit, Shared, Store, Update};
+use om_code::Body;
 use om_code::arithmetic::combine;
 use om_code::frame::{Cell, Fault, Operand};
 use om_code::instruction::{Place, Reduction};
-use om_code::raw::{Body, Slot};
+use om_code::raw::Slot;
 use om_seq::Seq;
 use std::alloc::{AllocError, Global};
 

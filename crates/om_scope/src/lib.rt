@@ -9,5 +9,6 @@ mod simple;
 mod statement;
 mod unit;
 
+pub use om_resolved::Resolved;
 pub use om_rules::GLOBAL_CELL_LIMIT;
 pub use unit::resolve;

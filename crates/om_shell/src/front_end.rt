@@ -11,12 +11,10 @@ ghost use Rattle.om_visible.specs.Scopes.{tree_names};
 ghost use Rattle.om_shell.specs.Verdict.{IsTreeOfSource, IsResolutionOfSource, IsDebuggeeOf, IsRefused};
 
 use om_lexer::{SourceFault, lex};
-use om_lower::lower::lower;
-use om_parser::parse;
+use om_lower::lower;
+use om_parser::{Unit, parse};
 use om_places::laws::sources_have_copies_behind;
-use om_resolved::Resolved;
-use om_scope::resolve;
-use om_tree::Unit;
+use om_scope::{Resolved, resolve};
 use om_view::Debuggee;
 use om_visible::names_of;
 use std::alloc::Global;

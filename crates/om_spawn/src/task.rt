@@ -12,9 +12,10 @@ ghost use Rattle.om_spawn.specs.Rows.{made_names, values_given, made_row, spawn_
 use crate::count::{add_to_counts, name_counts};
 use crate::part::{go_and, name_one};
 use om_cells::{Context, Edit, Kind, Ready, Shared, Stack, Task, Update, Val};
+use om_code::Body;
 use om_code::frame::Fault;
 use om_code::print::ints_on;
-use om_code::raw::{Body, Slot};
+use om_code::raw::Slot;
 use om_events::{Record, TaskStatus};
 use om_foot::{Access, Mode, Name, Obj};
 use om_row::names::{group_of, homes_in, name_events, name_given, own_cells};

@@ -9,7 +9,8 @@ ghost use Rattle.om_tables.specs.Scopes.{names_of};
 
 use crate::barrier::barrier;
 use crate::operator::{side_of, update_of};
-use om_code::instruction::{Barrier, Instr};
+use om_code::Instr;
+use om_code::instruction::Barrier;
 use om_emit::draft::Draft;
 use om_emit::{effect, value};
 use om_resolved::{ResolvedStatement, ResolvedUpdate, StandAlone};

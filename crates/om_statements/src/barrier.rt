@@ -4,7 +4,8 @@ ghost use Rattle.std.specs.Prelude.{OnOk};
 ghost use Rattle.om_statements.specs.Stretches.{EmitsAnywhere};
 ghost use Rattle.om_rows.specs.Statements.{barrier, worksharing_end};
 
-use om_code::instruction::{Barrier, Instr};
+use om_code::Instr;
+use om_code::instruction::Barrier;
 use om_emit::draft::Draft;
 use std::alloc::AllocError;
 

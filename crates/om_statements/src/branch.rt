@@ -8,7 +8,7 @@ ghost use Rattle.om_tables.specs.Names.{Names};
 ghost use Rattle.om_tables.specs.Scopes.{names_of};
 
 use crate::declaration::test;
-use om_code::instruction::Instr;
+use om_code::Instr;
 use om_emit::draft::Draft;
 use om_resolved::ResolvedExpression;
 use om_tables::Scope;

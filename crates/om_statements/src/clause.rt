@@ -8,7 +8,7 @@ ghost use Rattle.om_rows.specs.Statements.{clause_combined, clause_reduction_sta
 ghost use Rattle.om_tables.specs.Scopes.{names_of};
 
 use crate::operator::{identity_of, reduction_of};
-use om_code::instruction::Instr;
+use om_code::Instr;
 use om_emit::draft::Draft;
 use om_pragma::ReductionOperator;
 use om_resolved::{CopyKind, LocalVariable, ResolvedClause, ResolvedExpression, Variable};

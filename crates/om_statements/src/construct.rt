@@ -11,7 +11,7 @@ ghost use Rattle.om_tables.specs.Scopes.{names_of};
 
 use crate::barrier::worksharing_end;
 use crate::clause::{clause_value, starts};
-use om_code::instruction::Instr;
+use om_code::Instr;
 use om_emit::draft::Draft;
 use om_emit::value;
 use om_resolved::{ConstructKind, ResolvedClause};

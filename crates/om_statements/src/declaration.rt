@@ -10,7 +10,7 @@ ghost use Rattle.om_rows.specs.Statements as rows;
 ghost use Rattle.om_rows.specs.Statements.{declarator, returned};
 ghost use Rattle.om_tables.specs.Scopes.{names_of};
 
-use om_code::instruction::Instr;
+use om_code::Instr;
 use om_emit::draft::Draft;
 use om_emit::{effect, value};
 use om_resolved::{ResolvedDeclarator, ResolvedExpression, ResolvedStart, Variable};

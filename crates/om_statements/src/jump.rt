@@ -4,7 +4,7 @@ ghost use Rattle.std.specs.Prelude.{◌≡◌, OnOk, Some, is_some, true};
 ghost use Rattle.om_statements.specs.Stretches.{EmitsJump};
 
 use crate::labels::JumpLabels;
-use om_code::instruction::Instr;
+use om_code::Instr;
 use om_emit::draft::Draft;
 use std::alloc::AllocError;
 

@@ -5,7 +5,8 @@ ghost use Rattle.om_code.specs.declared.instruction.Instr.TheVariants as i;
 ghost use Rattle.om_resolved.specs.ResolvedView.{view_resolved_loop};
 ghost use Rattle.om_rows.specs.Operators.{comparison_of, form_with, identity_of, reduction_of, schedule_in, schedule_of, side_of, update_of};
 
-use om_code::instruction::{AtomicOperator, Comparison, Instr, LoopForm, Reduction, Schedule};
+use om_code::Instr;
+use om_code::instruction::{AtomicOperator, Comparison, LoopForm, Reduction, Schedule};
 use om_pragma::{ReductionOperator, ScheduleKind};
 use om_resolved::{ResolvedLoop, ResolvedSchedule, Side, UpdateOperator};
 use om_tree::BinaryOperator;

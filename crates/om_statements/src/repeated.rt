@@ -9,7 +9,7 @@ ghost use Rattle.om_tables.specs.Scopes.{names_of};
 
 use crate::declaration::{perhaps_effect, perhaps_test, start, test};
 use crate::labels::{LoopLabels, TurnLabels};
-use om_code::instruction::Instr;
+use om_code::Instr;
 use om_emit::draft::Draft;
 use om_resolved::{ResolvedExpression, ResolvedStart};
 use om_tables::Scope;

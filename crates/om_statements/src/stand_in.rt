@@ -12,7 +12,7 @@ ghost use Rattle.om_tables.specs.Copies.{first_copies_of, first_copy};
 ghost use Rattle.om_tables.specs.Scopes.{names_of};
 
 use crate::clause::clause_value;
-use om_code::instruction::Instr;
+use om_code::Instr;
 use om_emit::draft::Draft;
 use om_emit::value;
 use om_resolved::ResolvedClause;

@@ -20,7 +20,7 @@ use crate::repeated::{begin_do, begin_for, begin_while, end_do, end_for, end_loo
 use crate::sections::{PartsSpot, SectionsHead, begin_parts};
 use crate::spot::Spot;
 use crate::worksharing::{begin_worksharing, end_worksharing};
-use om_code::instruction::Instr;
+use om_code::Instr;
 use om_emit::draft::Draft;
 use om_emit::effect;
 use om_resolved::{ConstructKind, ResolvedHead, ResolvedPart, ResolvedStatement};

@@ -10,7 +10,7 @@ use crate::barrier::worksharing_end;
 use crate::clause::{reductions, starts};
 use crate::labels::LoopLabels;
 use crate::operator::{comparison_of, form_with};
-use om_code::instruction::Instr;
+use om_code::Instr;
 use om_emit::draft::Draft;
 use om_emit::value;
 use om_resolved::{ResolvedClause, ResolvedLoop};

@@ -6,8 +6,7 @@ ghost use Rattle.om_code.specs.Places.{instruction_at};
 ghost use Rattle.om_task.specs.Rules.{leaving, departs, admits_on, admits_all};
 
 use om_cells::{Context, SharedPile, Stack};
-use om_code::instruction::Instr;
-use om_code::program::Program;
+use om_code::{Instr, Program};
 use om_events::TaskStatus;
 use om_foot::{Name, is_descendant};
 

@@ -18,7 +18,7 @@ ghost use Rattle.om_spawn.specs.Rows.{start_row};
 use crate::admit::{admits, instruction, leaving};
 use crate::table::{Doing, answer};
 use om_cells::{Blocked, Choice, Control, Edit, Label, Outcome, Stack, Step, Store, Update, Val};
-use om_code::program::Program;
+use om_code::Program;
 use om_foot::{Access, Mode, Obj};
 use om_row::{Answer, Row};
 use om_seq::Seq;

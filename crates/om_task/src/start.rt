@@ -13,8 +13,8 @@ use om_cells::{
     Construct, Context, Control, Frame, Kind, Shared, SharedPile, Stack, Store, Team, Val,
 };
 use om_code::frame::Cell;
-use om_code::program::Program;
-use om_code::raw::{Body, GlobalVariable};
+use om_code::raw::GlobalVariable;
+use om_code::{Body, Program};
 use om_events::{Endpoint, Record, TaskFlag, Thread};
 use om_foot::{Name, Obj};
 use om_row::names::homes_for;

@@ -12,11 +12,10 @@ ghost use Rattle.om_task.specs.Table.{frame_row, team_row, share_row, region_row
 
 use om_cells::{Stack, Store};
 use om_code::frame::Operand;
-use om_code::instruction::Instr;
 use om_code::print::ints_on;
-use om_code::program::Program;
 use om_code::raw::Slot;
 use om_code::serial::int_at;
+use om_code::{Instr, Program};
 use om_fork::rows::{Going, arrive, begin, depart, leave};
 use om_fork::teams::{Forking, fork};
 use om_row::{Answer, Launch, Row};

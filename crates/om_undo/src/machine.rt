@@ -13,10 +13,11 @@ ghost use Rattle.om_history.specs.Pasts.{past_in, IsHeld};
 ghost use Rattle.om_undo.specs.Machines.{rules_for, state_in};
 
 use crate::laws::steady_rules;
-use om_cells::{Choice, Control, Entry, Label, Step, Val};
-use om_code::program::Program;
+use om_cells::{Control, Entry, Label, Step, Val};
+use om_code::Program;
 use om_foot::{Name, Obj};
 use om_history::{History, RollReply, StepReply, Taken, UndoReply};
+use om_task::Choice;
 use om_task::laws::low_counters;
 use om_task::plan::{line, plan};
 use om_task::start::started;

@@ -1,6 +1,6 @@
 //! What is debugged: a program and its names.
 
-use om_code::program::Program;
+use om_code::Program;
 use om_visible::Names;
 
 /// A program, and which variable each name means at its instructions.

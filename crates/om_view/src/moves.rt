@@ -5,9 +5,9 @@ ghost use Rattle.om_view.specs.Looks.{line_at};
 ghost use Rattle.om_drive.specs.Recorded.{is_done};
 ghost use Rattle.om_view.specs.Moves.{goes_on, is_undone, step_said, undo_said, next_within, next_said, back_within, back_said, roll_said};
 
-use om_cells::Choice;
 use om_drive::Recorder;
 use om_replies::{push_full, push_roll, push_step, push_undo};
+use om_task::Choice;
 use om_undo::{Machine, StepReply, UndoReply};
 use std::alloc::{AllocError, Global};
 

@@ -11,10 +11,11 @@ ghost use Rattle.om_view.specs.Runs.{can_step, start_among, move_of, move_among,
 use crate::marks::Marks;
 use crate::moves::is_done;
 use crate::stops::step_and_stop;
-use om_cells::{Choice, Control, Label, Val};
+use om_cells::{Control, Label, Val};
 use om_drive::{Recorder, ready_in};
 use om_foot::{Name, Obj};
 use om_replies::{Stop, push_full, push_ran};
+use om_task::Choice;
 use om_undo::Machine;
 use std::alloc::{AllocError, Global};
 

@@ -5,7 +5,7 @@ ghost use Rattle.std.specs.Str.{bytes_eq};
 ghost use Rattle.om_replies.specs.Objects.{length_of};
 ghost use Rattle.om_view.specs.Variables.{cell_at, cell_of, element_at, global_named};
 
-use om_code::program::Program;
+use om_code::Program;
 use om_code::raw::GlobalVariable;
 use om_command::Variable;
 use om_replies::GlobalCell;

@@ -3,7 +3,7 @@ use Rattle.om_lower.specs.Heights.{AreLevel}
 use Rattle.om_resolved.specs.ResolvedView.{view_resolved}
 use Rattle.om_rows.specs.Bodies.{first_numbers}
 use Rattle.om_lower.proofs.Assembled.{level_functions}
-use Rattle.om_lower.proofs.lower.over_at.Goals as goal
+use Rattle.om_lower.proofs.lowering.over_at.Goals as goal
 
 pub first_high-requires : goal.first_high-requires
 first_high-requires c =

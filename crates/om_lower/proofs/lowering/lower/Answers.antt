@@ -1,5 +1,5 @@
 use Rattle.om_resolved.specs.ResolvedView.{view_resolved}
-use Rattle.om_lower.proofs.lower.lower.Goals as goal
+use Rattle.om_lower.proofs.lowering.lower.Goals as goal
 
 pub lower_tree-requires-clause-has_code : goal.lower_tree-requires-clause-has_code
 lower_tree-requires-clause-has_code c =

@@ -18,7 +18,7 @@ use crate::heights::first_high;
 use crate::laws::each_once;
 use crate::lists::joined;
 use crate::program::program_of;
-use om_code::program::Program;
+use om_code::Program;
 use om_lexer::{FaultCode, SourceFault};
 use om_resolved::{Resolved, ResolvedFunction};
 use om_rows::laws::{body_is_level, whole_has_code};

@@ -4,7 +4,7 @@ use Rattle.om_lower.specs.Made.{IsOverAt}
 use Rattle.om_resolved.specs.ResolvedView.{view_resolved, view_resolved_function}
 use Rattle.om_lower.proofs.Items.{item_at}
 use Rattle.om_lower.proofs.Refusing.{refused}
-use Rattle.om_lower.proofs.lower.within_limits.Goals as goal
+use Rattle.om_lower.proofs.lowering.within_limits.Goals as goal
 
 pub returns-in-Some-clause-refused : goal.returns-in-Some-clause-refused
 returns-in-Some-clause-refused c =

@@ -2,7 +2,7 @@ use Rattle.std.proofs.Common.{subst}
 use Rattle.om_lower.specs.Made.{IsLowered}
 use Rattle.om_resolved.specs.ResolvedView.{view_resolved}
 use Rattle.om_lower.proofs.Assembled.{all_within, ok_anyway}
-use Rattle.om_lower.proofs.lower.program_within.Goals as goal
+use Rattle.om_lower.proofs.lowering.program_within.Goals as goal
 
 pub program_of-requires-clause-lowered : goal.program_of-requires-clause-lowered
 program_of-requires-clause-lowered c =

@@ -2,7 +2,7 @@ use Rattle.std.proofs.Common.{subst}
 use Rattle.std.specs.Prelude.{◌↔◌, IsTrue}
 use Rattle.om_code.specs.Search.{AreWithin}
 use Rattle.om_code.proofs.Staying.{where_exits, tests_one, tests_second, tests_first, all_within}
-use Rattle.om_code.proofs.validate.leads_inside.Goals as goal
+use Rattle.om_code.proofs.validator.leads_inside.Goals as goal
 
 pub returns-in-Next : goal.returns-in-Next
 returns-in-Next c = where_exits _ _ _ _ _ c.in-Next.is (tests_one _ _)
