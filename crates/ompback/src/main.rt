@@ -5,6 +5,8 @@ ghost use Rattle.std.specs.Prelude.{◌<◌, ◌≤◌};
 
 mod file;
 mod outcome;
+#[cfg(test)]
+mod tests;
 
 use crate::file::read_all;
 use crate::outcome::{Outcome, status};
@@ -13,6 +15,7 @@ use om_shell::{Options, ShellFault, run};
 use om_words::{Words, words_in};
 use std::alloc::{AllocError, Global};
 use std::io;
+use std::io::{Read, Write};
 use std::process::ExitCode;
 use std::rt::{Files, Runtime};
 use std::sync::Wait;
@@ -33,24 +36,41 @@ fn source_in<R: Files>(
     }
 }
 
-// Runs the shell over standard input and output, and answers its status.
+// Runs the shell over these ends, and tells how it ended.
+fn run_over<H: Threads + Wait + Sync, R: Read, W: Write>(
+    rt: &H,
+    alloc: Global,
+    reader: &mut R,
+    writer: &mut W,
+    options: Options<'_>,
+) -> Outcome
+    requires least { 0 < options.workers }
+    requires most { options.workers ≤ 32 }
+{
+    match run(rt, alloc, reader, writer, options) {
+        Ok(ended) => Outcome::Ran(ended.into_status()),
+        Err(fault) => Outcome::Fault(fault),
+    }
+}
+
+// Runs the shell over standard input and output, and tells how it ended.
 fn session<R: Files + Input + Print + Threads + Wait + Sync>(
     rt: &R,
     alloc: Global,
     words: Words,
-) -> Result<u8, ShellFault>
+) -> Outcome
     requires least { 0 < words.workers }
     requires most { words.workers ≤ 32 }
 {
-    let source = source_in(rt, alloc, words.file)?;
-    let mut reader = rt.reader();
-    let mut writer = io::writer(rt);
+    let source = match source_in(rt, alloc, words.file) {
+        Ok(source) => source,
+        Err(fault) => return Outcome::Fault(fault),
+    };
     let options = Options {
         workers: words.workers,
         source: source.as_ref().map(|bytes| bytes.as_slice()),
     };
-    let ended = run(rt, alloc, &mut reader, &mut writer, options)?;
-    Ok(ended.into_status())
+    run_over(rt, alloc, &mut rt.reader(), &mut io::writer(rt), options)
 }
 
 // Does what the words of the command line ask for, the first of which names the program.
@@ -60,10 +80,7 @@ fn outcome_for<R: Runtime + AllocGlobal + Threads + Wait + Sync>(
     words: &[&str],
 ) -> Result<Outcome, AllocError> {
     match words_in(alloc, words) {
-        Ok(words) => match session(rt, alloc, words) {
-            Ok(status) => Ok(Outcome::Ran(status)),
-            Err(fault) => Ok(Outcome::Fault(fault)),
-        },
+        Ok(words) => Ok(session(rt, alloc, words)),
         Err(error) if error.kind() == clap::error::ErrorKind::OutOfMemory => Err(AllocError),
         Err(error) => {
             let _ = rt.eprint(&error);
