@@ -1,16 +1,19 @@
 -- What is true of the runs of every program.
-use Rattle.std.specs.Prelude.{◌≡◌, ℕ, ◌≤◌, ℤ, pos, Some, List, ◌∷◌, length}
+use Rattle.std.specs.Prelude.{◌≡◌, ℕ, ◌≤◌, ℤ, pos, true, Some, List, ◌∷◌, length}
 use Rattle.om_code.specs.declared.raw.Raw.{Raw}
+use Rattle.om_cells.specs.declared.step.Choice.TheVariants.{Start}
 use Rattle.om_cells.specs.declared.step.Label.{Label}
 use Rattle.om_cells.specs.declared.step.Outcome.TheVariants.{Updates}
 use Rattle.om_cells.specs.declared.step.Update.{Update}
 use Rattle.om_cells.specs.declared.value.Val.{Val}
 use Rattle.om_cells.specs.declared.value.Val.TheVariants.{Count}
-use Rattle.om_cells.specs.Rules.{Rules, replay, control_access}
+use Rattle.om_cells.specs.Rules.{Rules, replay, step_at, control_access}
 use Rattle.om_cells.specs.State.{State}
+use Rattle.om_cells.specs.Values.{control_in}
 use Rattle.om_foot.specs.declared.object.Obj.{Obj}
+use Rattle.om_foot.specs.declared.object.Obj.TheVariants as obj
 use Rattle.om_task.specs.Counters.{StateWithin}
-use Rattle.om_task.specs.Rules.{rules_of}
+use Rattle.om_task.specs.Rules.{rules_of, is_at_scheduling_point}
 use Rattle.om_task.specs.Steps.{AddOnce, AreModest}
 
 -- after n steps from the start no counter is above n
@@ -26,3 +29,9 @@ pub record IsCalm (r : Rules) : Type 0 where
 
 abbrev pub CalmRules : Type 0
 CalmRules = (program : Raw) (workers : ℕ) → IsCalm (rules_of program workers)
+
+-- a start that is a step is made at a scheduling point
+abbrev pub StartsAtSchedulingPoints : Type 0
+StartsAtSchedulingPoints = (program : Raw) (workers worker : ℕ) (task : List ℕ) (s : State) (us : List Update)
+    → (step_at (rules_of program workers) s (record { worker = worker; choice = Start task })).outcome ≡ Updates us
+    → is_at_scheduling_point program (control_in (s (obj.Control worker))) ≡ true

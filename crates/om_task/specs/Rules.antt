@@ -1,6 +1,6 @@
 -- The rules of a program: the state that it starts in, and what each worker's step names, does and shows as its line.
 use Rattle.std.specs.Prelude.{ℕ, pos, ℤ, Bool, true, false, nat_eq, nat_lt, if◌then◌else◌, Option, None, Some}
-use Rattle.std.specs.Prelude.{option_map, unwrap_or, List, [], ◌∷◌, slice_get}
+use Rattle.std.specs.Prelude.{option_map, unwrap_or, is_some, List, [], ◌∷◌, slice_get}
 use Rattle.om_foot.specs.Names.{is_below}
 use Rattle.om_foot.specs.declared.footprint.Access.{Access}
 use Rattle.om_foot.specs.declared.object.Obj.TheVariants as obj
@@ -96,6 +96,12 @@ leaving (Some i.GroupEnd) = Some status.Switch
 leaving (Some (i.Finish has_value)) = Some status.Switch
 leaving (Some i.Yield) = Some status.Yield
 leaving _ = None
+
+-- whether a worker of this control is at a scheduling point
+abbrev pub is_at_scheduling_point : Raw → controls.Control → Bool
+is_at_scheduling_point program (Running stack) = is_some (leaving (instruction_at program stack.top.frame.body
+    stack.top.frame.next))
+is_at_scheduling_point program _ = false
 
 -- whether an instruction departs from a barrier
 abbrev pub departs : Option Instr → Bool

@@ -1,6 +1,6 @@
 //! Laws of the rules of every program.
 
-ghost use Rattle.om_task.specs.Laws.{LowCounters, CalmRules};
+ghost use Rattle.om_task.specs.Laws.{LowCounters, CalmRules, StartsAtSchedulingPoints};
 
 /// A state that n steps lead to has no counter above n: so fewer than 2^63 steps leave room in each
 /// for a plan.
@@ -12,4 +12,10 @@ pub fn low_counters()
 /// object that it touches.
 pub fn calm_rules()
     ensures { CalmRules }
+{}
+
+/// A worker starts a task at a scheduling point alone, which `plan::is_at_scheduling_point` tells:
+/// elsewhere no start is a step.
+pub fn starts_at_scheduling_points()
+    ensures { StartsAtSchedulingPoints }
 {}

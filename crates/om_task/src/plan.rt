@@ -12,7 +12,7 @@ ghost use Rattle.om_cells.specs.Values.{control_in};
 ghost use Rattle.om_row.specs.Rows.{answered};
 ghost use Rattle.om_task.specs.Counters.{IsWithin, ControlWithin, StateWithin};
 ghost use Rattle.om_task.specs.Plans.{answer_in, step_by, RowHasRoom};
-ghost use Rattle.om_task.specs.Rules.{site, asked, next_row, choice_row, outcome_after, line_in, rules_of};
+ghost use Rattle.om_task.specs.Rules.{site, asked, next_row, choice_row, is_at_scheduling_point, outcome_after, line_in, rules_of};
 ghost use Rattle.om_spawn.specs.Rows.{start_row};
 
 use crate::admit::{admits, instruction, leaving};
@@ -177,6 +177,16 @@ pub fn line(program: &Program, control: &Control) -> u32
         Control::Running(stack) => program.line(stack.top.frame.body, stack.top.frame.next),
         Control::Faulted(_, stack) => program.line(stack.top.frame.body, stack.top.frame.next),
         Control::Idle | Control::Ended(_) => 0,
+    }
+}
+
+/// Whether a worker of this control is at a scheduling point, where it may start a task.
+pub fn is_at_scheduling_point(program: &Program, control: &Control) -> bool
+    ensures { result ≡ is_at_scheduling_point program.now control.now }
+{
+    match control {
+        Control::Running(stack) => leaving(instruction(program, &stack.top)).is_some(),
+        Control::Idle | Control::Faulted(_, _) | Control::Ended(_) => false,
     }
 }
 

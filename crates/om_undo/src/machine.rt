@@ -5,7 +5,7 @@ ghost use Rattle.om_foot.specs.declared.object.Obj.TheVariants as obj;
 ghost use Rattle.om_cells.specs.Ready.{AreReady};
 ghost use Rattle.om_cells.specs.Rules.{replay, step_at};
 ghost use Rattle.om_cells.specs.Values.{control_in};
-ghost use Rattle.om_task.specs.Rules.{rules_of, line_in};
+ghost use Rattle.om_task.specs.Rules.{rules_of, line_in, is_at_scheduling_point};
 ghost use Rattle.om_history.specs.Runs.{no_history, label_of, reply_to_step, after_step, reply_to_undo, after_undo};
 ghost use Rattle.om_history.specs.Cones.{taken_by_roll, reply_to_roll, after_roll};
 ghost use Rattle.om_history.specs.Commands.{IsRun, IsGone, Rise, TakesCone};
@@ -20,7 +20,7 @@ use om_foot::{Name, Obj};
 use om_history::{History, RollReply, StepReply, Taken, UndoReply};
 use om_task::Choice;
 use om_task::laws::low_counters;
-use om_task::plan::{line, plan};
+use om_task::plan::{is_at_scheduling_point, line, plan};
 use om_task::start::started;
 use std::alloc::{AllocError, Global};
 use std::marker::Model;
@@ -246,6 +246,18 @@ impl Machine {
         match self.history.store().control(worker) {
             Some(control) => line(&self.program, control),
             None => line(&self.program, &Control::Idle),
+        }
+    }
+
+    /// Whether a worker is at a scheduling point, where it may start a task (OpenMP 5.2, 12.9).
+    pub fn is_at_scheduling_point(&self, worker: u8) -> bool
+        requires { worker < self.now.workers }
+        ensures { result ≡ is_at_scheduling_point self.now.program
+            (control_in (state_in self.now (obj.Control worker))) }
+    {
+        match self.history.store().control(worker) {
+            Some(control) => is_at_scheduling_point(&self.program, control),
+            None => false,
         }
     }
 
