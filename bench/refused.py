@@ -1,12 +1,15 @@
 #!/usr/bin/env python3
 """refused.py PROGRAM [INPUT]: each request for memory, each read and each write of a run is refused in turn.
 refused.py CASES --case TITLE: each request for memory of one case is refused in turn.
+refused.py PROGRAM --requests: counts the requests for memory of the first load in frame 900 of a recursion.
 
 INPUT is the standard input (the stored run, crates/ompback/stdin, if not given). A small library is compiled with cc and
 loaded before the C library; it refuses the N-th call of one kind. Of each such run three things are wanted: that it ends,
 that it ends with status 3 and the right fault on standard error (or as the whole run does, where nothing was lost), and
 that what it wrote is a beginning of what the whole run writes.
-CASES is the program of cases, crates/om_cases/out/om_cases, and TITLE that of a section of its stdin. Each of its runs ends as the whole run does, or out of memory: an answer that changes in place of that is wrong.
+CASES is the program of cases, crates/om_cases/out/om_cases, and TITLE that of a section of its stdin. Each of its
+runs ends as the whole run does, or out of memory: an answer that changes in place of that is wrong.
+With --requests the library refuses nothing: it counts the requests between two answers. More than 20 of them are wrong.
 The last line counts the runs; the status is 1 where one of them is wrong.
 """
 import itertools, os, subprocess, sys, tempfile
@@ -17,9 +20,11 @@ SHIM = r"""
 #include <errno.h>
 #include <fcntl.h>
 #include <stddef.h>
+#include <stdio.h>
 #include <stdlib.h>
 #include <unistd.h>
 #include <sys/types.h>
+static long requests;
 static int refused(const char *name, long *count) {
     const char *which = getenv(name);
     if (!which || ++*count != atol(which)) return 0;
@@ -29,12 +34,14 @@ static int refused(const char *name, long *count) {
 void *malloc(size_t size) {
     static void *(*real)(size_t); static long count;
     if (!real) real = dlsym(RTLD_NEXT, "malloc");
+    requests++;
     if (refused("REFUSE_MEMORY", &count)) { errno = ENOMEM; return NULL; }
     return real(size);
 }
 void *realloc(void *old, size_t size) {
     static void *(*real)(void *, size_t); static long count;
     if (!real) real = dlsym(RTLD_NEXT, "realloc");
+    requests++;
     if (refused("REFUSE_GROWTH", &count)) { errno = ENOMEM; return NULL; }
     return real(old, size);
 }
@@ -48,10 +55,21 @@ ssize_t write(int fd, const void *from, size_t size) {
     static ssize_t (*real)(int, const void *, size_t); static long count;
     if (!real) real = dlsym(RTLD_NEXT, "write");
     if (fd == 1 && refused("REFUSE_WRITE", &count)) { errno = EIO; return -1; }
+    if (fd == 1 && getenv("REQUESTS")) {
+        char line[32];
+        int length = snprintf(line, sizeof line, "%ld\n", requests);
+        int to = open(getenv("REQUESTS"), O_WRONLY | O_CREAT | O_APPEND, 0600);
+        if (real(to, line, length) != length) abort();
+        close(to);
+    }
     return real(fd, from, size);
 }
 """
 FAULTS = {"REFUSE_MEMORY": b"H5\n", "REFUSE_GROWTH": b"H5\n", "REFUSE_READ": b"H3\n", "REFUSE_WRITE": b"H4\n"}
+# The frame of f(n) has the number n: 2 steps lead into the first, and 8 from each to the next, whose first step loads n.
+RECURSION = b"int f(int n){ if (n < 2000) return f(n + 1); return n; }\nint main(void){ f(1); }\n%%\n"
+INTO_FRAME_900 = 2 + 899 * 8
+MOST_REQUESTS = 20
 # The second is of the input; the third of the thread, which can't be made then.
 OUT_OF_MEMORY = (b"Error: memory allocation failed\n", b"Error: out of memory\n", b"Error: operation would block\n")
 
@@ -110,6 +128,22 @@ def is_judged_or_wants_memory(_kind, whole, got):
     return got == whole or (whole[0] == 0 and got[:2] == (1, b"") and got[2] in OUT_OF_MEMORY)
 
 
+def count_requests(program):
+    """Counts what the first load in frame 900 asks for, with its command and its answer; gives 1 where that is too much."""
+    text = RECURSION + b"run %d\nstep 0\n" % INTO_FRAME_900
+    wanted = b"ran %d limit\n#%d worker 0 line 1\n" % (INTO_FRAME_900, INTO_FRAME_900 + 1)
+    with tempfile.TemporaryDirectory() as folder:
+        compile_shim(folder)
+        told = os.path.join(folder, "requests")
+        status, output, _ = run([program], text, {"LD_PRELOAD": os.path.join(folder, "refuse.so"), "REQUESTS": told})
+        with open(told) as f:
+            counts = [int(line) for line in f]
+    requests = counts[-1] - counts[-2]
+    wrong = (status, output, len(counts)) != (0, wanted, 2) or requests > MOST_REQUESTS
+    print(f"{requests} requests of the first load in frame 900, {int(wrong)} wrong")
+    return int(wrong)
+
+
 def case_of(program, title):
     """The input of the section of a title, which may stand behind a word."""
     with open(os.path.join(os.path.dirname(program), "../stdin"), "rb") as f:
@@ -126,6 +160,8 @@ def main():
     if len(words) == 3 and words[1] == "--case":
         case = case_of(words[0], words[2])
         sys.exit(count_runs([words[0]], case, ["REFUSE_MEMORY", "REFUSE_GROWTH"], is_judged_or_wants_memory))
+    if len(words) == 2 and words[1] == "--requests":
+        sys.exit(count_requests(words[0]))
     if len(words) not in (1, 2):
         sys.exit(__doc__)
     here = os.path.dirname(os.path.abspath(__file__))

@@ -6,6 +6,8 @@ use Rattle.std.specs.List.{AllByRecursion}
 use Rattle.std.specs.List.Sorted.{IsStrictlySortedBy}
 use Rattle.std.specs.Map.{lookup}
 use Rattle.std.specs.BTreeMap.{is_at}
+use Rattle.std.specs.BTreeMap.Range.{range_contains, entries_between}
+use Rattle.std.specs.declared.ops.Bound.TheVariants.{Included, Excluded}
 use Rattle.std.specs.Ordering.{nat_cmp}
 use Rattle.std.specs.Cmp.Lexicographic.{slice_cmp}
 use Rattle.std.specs.declared.cmp.Ordering.TheVariants.{Less}
@@ -27,6 +29,40 @@ Entries = List (Obj × Val)
 
 abbrev keys : Entries → List Obj
 keys es = map (λ (e : Obj × Val). e.0) es
+
+-- in the order of objects the tasks stand together: what lies between these two ends has the names of all
+
+abbrev is_between : Obj → Bool
+is_between q = range_contains cmp-value.it (Included (obj.Task [])) (Excluded (obj.Kids [])) q
+
+abbrev pub tasks_among : Entries → Entries
+tasks_among es = entries_between cmp-value.it (Included (obj.Task [])) (Excluded (obj.Kids [])) es
+
+no_name_outside : (q : Obj) (v : Val) → is_between q ≡ false → name_if_ready q v ≡ None
+no_name_outside (obj.Task []) v h = cc
+no_name_outside (obj.Task (n ∷ ns)) v h = cc
+no_name_outside (obj.Control w) v h = refl
+no_name_outside (obj.Cell t f s i) v h = refl
+no_name_outside (obj.Global g i) v h = refl
+no_name_outside (obj.Kids t) v h = refl
+no_name_outside (obj.Pending t p) v h = refl
+no_name_outside (obj.Arrived t n) v h = refl
+no_name_outside (obj.Work t r) v h = refl
+no_name_outside (obj.Lock l) v h = refl
+no_name_outside (obj.Group g) v h = refl
+no_name_outside obj.Output v h = refl
+no_name_outside (obj.Events w) v h = refl
+
+next_between : (q : Obj) (v : Val) (b : Bool) (part es : Entries) → names_ready part ≡ names_ready es
+    → (b ≡ false → name_if_ready q v ≡ None)
+    → names_ready (cond b ((q, v) ∷ part) part) ≡ option_to_list (name_if_ready q v) ++ names_ready es
+next_between q v true part es same h = ap (λ names. option_to_list (name_if_ready q v) ++ names) same
+next_between q v false part es same h = same ∙ ap (λ o. option_to_list o ++ names_ready es) (sym (h refl))
+
+pub names_between : (es : Entries) → names_ready (tasks_among es) ≡ names_ready es
+names_between [] = refl
+names_between (e ∷ es) = next_between e.0 e.1 (is_between e.0) (tasks_among es) es (names_between es)
+    (no_name_outside e.0 e.1)
 
 -- a name is below those of these entries, where its object is below theirs
 

@@ -1,18 +1,19 @@
 //! The machine: a program's run, which goes forwards by steps and backwards by undos and rolls.
 
-ghost use Rattle.std.specs.Prelude.{◌≡◌, ◌<◌, ◌≤◌, ◌^◌, ℕ, IfOk, OnOk, OnErr, IsNone, IfSome, ◌↔◌};
+ghost use Rattle.std.specs.Prelude.{◌≡◌, ◌<◌, ◌≤◌, ◌^◌, ℕ, IfOk, OnOk, OnErr, IsNone, IfSome, ◌↔◌, Some, map};
 ghost use Rattle.om_foot.specs.declared.object.Obj.TheVariants as obj;
 ghost use Rattle.om_cells.specs.Ready.{AreReady};
-ghost use Rattle.om_cells.specs.Rules.{step_at};
+ghost use Rattle.om_cells.specs.Rules.{replay, step_at};
 ghost use Rattle.om_cells.specs.Values.{control_in};
 ghost use Rattle.om_task.specs.Rules.{rules_of, line_in};
-ghost use Rattle.om_history.specs.Runs.{no_history, reply_to_step, after_step, reply_to_undo, after_undo};
+ghost use Rattle.om_history.specs.Runs.{no_history, label_of, reply_to_step, after_step, reply_to_undo, after_undo};
 ghost use Rattle.om_history.specs.Cones.{taken_by_roll, reply_to_roll, after_roll};
 ghost use Rattle.om_history.specs.Commands.{IsRun, IsGone, Rise, TakesCone};
 ghost use Rattle.om_history.specs.Pasts.{past_in, IsHeld};
+ghost use Rattle.om_undo.specs.Headline.{Headline};
 ghost use Rattle.om_undo.specs.Machines.{rules_for, state_in};
 
-use crate::laws::steady_rules;
+use crate::laws::{headline, steady_rules};
 use om_cells::{Control, Entry, Label, Step, Val};
 use om_code::Program;
 use om_foot::{Name, Obj};
@@ -219,13 +220,19 @@ impl Machine {
     }
 
     /// A copy of the entries that stand, in their order. Their serials rise, to the number of steps
-    /// ever made at most, and what is true after every run is true of them. Its only error is out
-    /// of memory.
+    /// ever made at most, and what is true after every run is true of them.
+    ///
+    /// They can be made in turn from the start, and what they give is the state. The headline holds
+    /// of the program and its number of workers. Its only error is out of memory.
     pub fn history(&self, alloc: Global) -> Result<Vec<Entry>, AllocError>
         ensures entries { IfOk result (λ v. v.items ≡ self.now.history.entries) }
         ensures numbered { Rise 0 self.now.history.entries self.now.history.made }
         ensures reached { IsRun (rules_for self.now) self.now.history }
+        ensures replayed { replay (rules_for self.now) (map label_of self.now.history.entries)
+            ≡ Some (state_in self.now) }
+        ensures headline { Headline self.now.program self.now.workers }
     {
+        headline();
         self.history.entries(alloc)
     }
 

@@ -1,0 +1,91 @@
+//! All checks, and what is said of each.
+
+use crate::counts::counts_follow_an_undo;
+use crate::driven::{all_are_answered, places_are_those_of_the_journal};
+use crate::free_runs::free_runs_are_recorded;
+use crate::full::journal_gets_full;
+use crate::gates::both_are_inside_at_once;
+use crate::gathered::faults_are_told;
+use crate::holding::{drives_are_side_by_side, free_runs_are_side_by_side};
+use crate::late::answers_may_be_late;
+use crate::laws::call_laws;
+use crate::undos::long_history_is_undone;
+use crate::valid::code_is_judged;
+use std::alloc::{AllocError, Global};
+use std::sync::Wait;
+use std::thread::Threads;
+
+/// Makes all checks. A line of the text says of each whether it is right.
+pub(crate) fn checked<R: Threads + Wait + Sync>(
+    rt: &R,
+    alloc: Global,
+) -> Result<String, AllocError> {
+    call_laws();
+    let mut told = String::new(alloc);
+    match add_checks(rt, alloc, &mut told) {
+        Ok(()) => Ok(told),
+        Err(error) => Err(error),
+    }
+}
+
+/// Adds the lines of all checks.
+fn add_checks<R: Threads + Wait + Sync>(
+    rt: &R,
+    alloc: Global,
+    told: &mut String,
+) -> Result<(), AllocError> {
+    add_machine_checks(alloc, told)?;
+    add_drive_checks(rt, alloc, told)
+}
+
+/// Adds the lines of the checks of one thread: of code, the machine and the book.
+fn add_machine_checks(alloc: Global, told: &mut String) -> Result<(), AllocError> {
+    add_line(told, "code is judged", code_is_judged(alloc)?)?;
+    add_line(told, "counts follow an undo", counts_follow_an_undo(alloc)?)?;
+    add_line(
+        told,
+        "a long history is undone",
+        long_history_is_undone(alloc)?,
+    )?;
+    add_line(told, "a journal gets full", journal_gets_full(alloc)?)
+}
+
+/// Adds the lines of the checks of several threads.
+fn add_drive_checks<R: Threads + Wait + Sync>(
+    rt: &R,
+    alloc: Global,
+    told: &mut String,
+) -> Result<(), AllocError> {
+    let checks = [
+        ("faults of a round are told", faults_are_told(rt, alloc)?),
+        ("all orders are answered", all_are_answered(rt, alloc)?),
+        (
+            "the places of answers are those of the journal",
+            places_are_those_of_the_journal(rt, alloc)?,
+        ),
+        (
+            "both workers are inside at once",
+            both_are_inside_at_once(rt, alloc)?,
+        ),
+        ("answers may be late", answers_may_be_late(rt, alloc)?),
+        (
+            "drives are side by side",
+            drives_are_side_by_side(rt, alloc)?,
+        ),
+        (
+            "free runs are side by side",
+            free_runs_are_side_by_side(rt, alloc)?,
+        ),
+        ("free runs are recorded", free_runs_are_recorded(rt, alloc)?),
+    ];
+    for (check, is_right) in checks {
+        add_line(told, check, is_right)?;
+    }
+    Ok(())
+}
+
+/// Adds the line of a check.
+fn add_line(told: &mut String, check: &str, is_right: bool) -> Result<(), AllocError> {
+    let verdict = if is_right { "" } else { " is WRONG" };
+    write!(told, "{check}{verdict}\n")
+}

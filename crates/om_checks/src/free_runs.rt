@@ -1,0 +1,99 @@
+//! Free runs of programs of tasks, one behind the other, until the programs have ended.
+
+use crate::book_of_two::{BookOfTwo, Lengths};
+use crate::counts::TASKS;
+use crate::driven::two_gates;
+use crate::table::{Ran, Table};
+use om_drive::Errand;
+use std::alloc::{AllocError, Global};
+use std::sync::Wait;
+use std::thread::Threads;
+
+/// The fourth Fibonacci number by a task for each call.
+const FIBONACCI: &str = r#"#include <stdio.h>
+int fib(int n){
+int a, b;
+if (n < 2) return n;
+#pragma omp task shared(a)
+a = fib(n - 1);
+#pragma omp task shared(b)
+b = fib(n - 2);
+#pragma omp taskwait
+return a + b;
+}
+int main(void){
+#pragma omp parallel
+#pragma omp single
+printf("%d\n", fib(4));
+}
+"#;
+
+/// How many steps `FIBONACCI` makes, whoever makes them.
+const FIBONACCI_STEPS: u64 = 188;
+
+/// How many steps `TASKS` makes: FORK and FIN, BEGIN, SPAWN, ARRIVE and LEAVE of each thread, and of each task its
+/// start and TEND.
+const TASKS_STEPS: u64 = 14;
+
+/// How many free runs there are. Behind each at least one more of a program's waits has ended: so they suffice, in
+/// whatever order the workers come.
+const RUNS: u32 = 10;
+
+/// Whether free runs end two programs of tasks, and tell how many steps and calls were made.
+pub(crate) fn free_runs_are_recorded<R: Threads + Wait + Sync>(
+    rt: &R,
+    alloc: Global,
+) -> Result<bool, AllocError> {
+    Ok(runs_end(rt, alloc, TASKS, TASKS_STEPS)? && runs_end(rt, alloc, FIBONACCI, FIBONACCI_STEPS)?)
+}
+
+/// Whether free runs make so many steps of a program, and each tells them rightly.
+fn runs_end<R: Threads + Wait + Sync>(
+    rt: &R,
+    alloc: Global,
+    source: &str,
+    steps: u64,
+) -> Result<bool, AllocError> {
+    let Some(mut book) = BookOfTwo::of(alloc, source) else {
+        return Ok(false);
+    };
+    let mut made = 0u64;
+    for _ in 0..RUNS {
+        let Some((next, done)) = run_once(rt, alloc, book)? else {
+            return Ok(false);
+        };
+        book = next;
+        made = made.saturating_add(done);
+    }
+    Ok(made == steps)
+}
+
+/// Lets both workers of a book run freely. The book behind it, and how many steps were made; `None` where these are
+/// told wrongly.
+fn run_once<R: Threads + Wait + Sync>(
+    rt: &R,
+    alloc: Global,
+    book: BookOfTwo,
+) -> Result<Option<(BookOfTwo, u64)>, AllocError> {
+    let before = book.lengths(alloc)?;
+    let gates = two_gates(alloc)?;
+    let errand = Errand {
+        rt,
+        alloc,
+        rounds: 1000,
+    };
+    let Some(ran) = (Table { book, gates }).free(errand) else {
+        return Ok(None);
+    };
+    let is_recorded = is_recorded(alloc, &ran, before)?;
+    let Ran { book, done, .. } = ran;
+    Ok(is_recorded.then_some((book, done)))
+}
+
+/// Whether the journal grew by the calls that its session counted, and the history by the steps that the run counted.
+fn is_recorded(alloc: Global, ran: &Ran, before: Lengths) -> Result<bool, AllocError> {
+    let lengths = ran.book.lengths(alloc)?;
+    let calls = lengths.records.saturating_sub(before.records);
+    let steps = lengths.entries.saturating_sub(before.entries) as u64;
+    Ok(ran.fault.is_none() && !ran.full && calls == ran.calls && steps == ran.done)
+}

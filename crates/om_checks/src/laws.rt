@@ -1,0 +1,26 @@
+//! The laws of the machine.
+
+/// Calls each law.
+pub(crate) fn call_laws() {
+    om_share::laws::partition();
+    om_share::laws::shares();
+    om_task::laws::low_counters();
+    om_task::laws::calm_rules();
+    om_history::laws::dependence();
+    om_history::laws::commutation();
+    om_history::laws::removal();
+    om_history::laws::step_then_undo();
+    om_history::laws::remaining_steps();
+    om_history::laws::exactly_where();
+    om_history::laws::serials_rise();
+    om_history::laws::serials_identify();
+    om_history::laws::roll_is_cone();
+    om_history::laws::roll_takes_cone();
+    om_history::laws::roll_is_undos();
+    om_history::laws::least();
+    om_history::laws::small_counts();
+    om_undo::laws::headline();
+    om_undo::laws::steady_rules();
+    om_undo::laws::small_counts();
+    om_undo::laws::one_ready_list();
+}

@@ -1,0 +1,111 @@
+//! What the validator says of code.
+
+use om_code::instruction::Place;
+use om_code::raw::{Line, Slot, Source};
+use om_code::{Body, CodeFault, Instr, Program, Raw, validate};
+use om_seq::Seq;
+use std::alloc::{AllocError, Global};
+
+/// Whether the validator refuses code by the rule that it breaks, and leaves valid code as it is.
+pub(crate) fn code_is_judged(alloc: Global) -> Result<bool, AllocError> {
+    Ok(
+        refuses_jumps_out(alloc)?
+            && refuses_missing_operands(alloc)?
+            && refuses_high_stacks(alloc)?
+            && refuses_unknown_slots(alloc)?
+            && accepts_valid_code(alloc)?,
+    )
+}
+
+/// Ends the program without a value.
+const END: Instr = Instr::Finish { has_value: false };
+
+/// Ends the program with the top operand.
+const END_WITH: Instr = Instr::Finish { has_value: true };
+
+fn refuses_jumps_out(alloc: Global) -> Result<bool, AllocError> {
+    let judged = judged(alloc, &[Instr::Jump(7), END], 0)?;
+    Ok(matches!(judged, Err(CodeFault::JumpOut)))
+}
+
+fn refuses_missing_operands(alloc: Global) -> Result<bool, AllocError> {
+    let judged = judged(alloc, &[Instr::Pop, END], 0)?;
+    Ok(matches!(judged, Err(CodeFault::Heights)))
+}
+
+fn refuses_high_stacks(alloc: Global) -> Result<bool, AllocError> {
+    let mut code = Vec::new(alloc);
+    for _ in 0..257 {
+        code.push(Instr::Constant(1))?;
+    }
+    code.push(END_WITH)?;
+    let judged = judged(alloc, code.as_slice(), 0)?;
+    Ok(matches!(judged, Err(CodeFault::TooHigh)))
+}
+
+fn refuses_unknown_slots(alloc: Global) -> Result<bool, AllocError> {
+    let load = Instr::Load(Place::Slot(3));
+    let judged = judged(alloc, &[load, END_WITH], 2)?;
+    Ok(matches!(judged, Err(CodeFault::Unknown)))
+}
+
+fn accepts_valid_code(alloc: Global) -> Result<bool, AllocError> {
+    let load = Instr::Load(Place::Slot(1));
+    match judged(alloc, &[Instr::Constant(5), Instr::Pop, load, END_WITH], 2)? {
+        Ok(program) => Ok(is_as_given(&program)),
+        Err(_) => Ok(false),
+    }
+}
+
+/// Whether a program has the valid code, and nothing else.
+fn is_as_given(program: &Program) -> bool {
+    program.bodies().len() == 1
+        && matches!(program.instruction(0, 0), Some(Instr::Constant(5)))
+        && matches!(program.instruction(0, 1), Some(Instr::Pop))
+        && matches!(program.instruction(0, 2), Some(Instr::Load(Place::Slot(1))))
+        && matches!(
+            program.instruction(0, 3),
+            Some(Instr::Finish { has_value: true })
+        )
+        && program.instruction(0, 4).is_none()
+}
+
+/// What the validator says of a program of one body, with so many slots of one cell.
+fn judged(
+    alloc: Global,
+    code: &[Instr],
+    slots: u32,
+) -> Result<Result<Program, CodeFault>, AllocError> {
+    let body = body_of(alloc, code, slots)?;
+    let raw = Raw {
+        globals: Seq::new(alloc),
+        bodies: Seq::one(alloc, body)?,
+        main: 0,
+        texts: Seq::new(alloc),
+        picks: Seq::new(alloc),
+        locks: Seq::new(alloc),
+    };
+    Ok(validate(alloc, raw))
+}
+
+/// A body of this code, all on line 1, with so many slots of one cell.
+fn body_of(alloc: Global, code: &[Instr], slots: u32) -> Result<Body, AllocError> {
+    let lines: Vec<Line> = code
+        .iter()
+        .map(|instruction| Line {
+            instruction: *instruction,
+            line: 1,
+        })
+        .collect(alloc)?;
+    let slots: Vec<Slot> = (0..slots)
+        .map(|_| Slot {
+            cells: 1,
+            source: Source::Own,
+        })
+        .collect(alloc)?;
+    Ok(Body {
+        code: Seq::of(lines),
+        slots: Seq::of(slots),
+        given: Seq::new(alloc),
+    })
+}
