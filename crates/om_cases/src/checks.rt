@@ -1,9 +1,8 @@
 //! All checks, and what is said of each.
 
-use crate::driven::all_are_answered;
+use crate::code::lines_and_names_are_found;
 use crate::ends::{ends_may_fail, source_may_be_handed_in};
 use crate::free_tasks::free_runs_end_tasks;
-use crate::gates::both_are_inside_at_once;
 use std::alloc::{AllocError, Global};
 use std::sync::Wait;
 use std::thread::Threads;
@@ -16,10 +15,9 @@ pub(crate) fn add_checks<R: Threads + Wait + Sync>(
 ) -> Result<(), AllocError> {
     let checks = [
         ("free runs end tasks", free_runs_end_tasks(rt, alloc)?),
-        ("all orders are answered", all_are_answered(rt, alloc)?),
         (
-            "both workers are inside at once",
-            both_are_inside_at_once(rt, alloc)?,
+            "lines and names of code are found",
+            lines_and_names_are_found(alloc)?,
         ),
         ("reads and writes may fail", ends_may_fail(rt, alloc)),
         (

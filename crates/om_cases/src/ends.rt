@@ -1,9 +1,8 @@
-//! Sessions over readers and writers that give or take little at a time, or fail.
+//! Sessions over ends that give or take little at a time, or fail.
 
-use om_shell::{Options, ShellFault, run};
+use crate::memory::{Pieces, Sink, session_over};
+use om_shell::ShellFault;
 use std::alloc::Global;
-use std::io;
-use std::io::{ErrorKind, Read, Write};
 use std::sync::Wait;
 use std::thread::Threads;
 
@@ -12,9 +11,13 @@ use std::thread::Threads;
 struct Script {
     input: &'static str,
     output: &'static str,
+    /// How many reads there are at two bytes each. The last one tells the end.
+    reads: u64,
+    /// How many writes and flushes there are: one of each for a command, and a flush at the end.
+    calls: u64,
 }
 
-/// One worker's steps, two workers' lost update, and Fibonacci numbers by tasks.
+/// One worker's steps, two workers' lost update, and a Fibonacci number by tasks.
 const SCRIPTS: [Script; 3] = [
     Script {
         input: r#"int x; int main(void){ x = 1; x = x + 2; return x; }
@@ -39,6 +42,8 @@ x = 3
 undone #6 worker 0 line 1
 x = 1
 "#,
+        reads: 62,
+        calls: 19,
     },
     Script {
         input: r#"int x;
@@ -81,6 +86,8 @@ undone #11 worker 1 line 4
 undone #8 worker 0 line 4
 x = 0
 "#,
+        reads: 88,
+        calls: 33,
     },
     Script {
         input: r#"#include <stdio.h>
@@ -97,120 +104,66 @@ return a + b;
 int main(void){
 #pragma omp parallel
 #pragma omp single
-printf("%d\n", fib(4));
+printf("%d\n", fib(2));
 }
 %%
 run 100000
 output
+events 0
+undo 1
+undo 1
+undo 0
+undo 0
 "#,
-        output: r#"ran 188 ended
+        output: r#"ran 68 ended
 output 2 bytes
-3
+1
 
+1 thread_begin 1
+7 implicit_task 1 - 0 1 1 1
+3 parallel_begin 0 0.1 2
+7 implicit_task 1 0.1 0.1.0 2 0 2
+20 work 3 1 0.1 0.1.0 1
+5 task_create 0.1.0 0.1.0.1 4
+5 task_create 0.1.0 0.1.0.2 4
+23 sync_region 5 1 0.1 0.1.0
+6 task_schedule 0.1.0 7 0.1.0.1
+6 task_schedule 0.1.0.1 1 0.1.0
+6 task_schedule 0.1.0 7 0.1.0.2
+6 task_schedule 0.1.0.2 1 0.1.0
+23 sync_region 5 2 0.1 0.1.0
+20 work 3 2 0.1 0.1.0 1
+23 sync_region 8 1 0.1 0.1.0
+23 sync_region 8 2 0.1 0.1.0
+23 sync_region 9 1 0.1 0.1.0
+23 sync_region 9 2 - 0.1.0
+7 implicit_task 2 - 0.1.0 0 0 2
+4 parallel_end 0.1 0
+7 implicit_task 2 - 0 0 1 1
+undone #68 worker 1 line 13
+refused by #66 worker 0 on arrived 0.1 1
+undone #67 worker 0 line 16
+undone #66 worker 0 line 13
 "#,
+        reads: 166,
+        calls: 15,
     },
 ];
 
-/// More reads or writes than any of these sessions makes.
+/// More calls of an end than any of these sessions makes.
 const MANY: u64 = 10_000;
 
-/// Gives its bytes at most `most` at a time, and fails at the read after `reads_left` of them.
-#[derive(Drop)]
-struct Pieces<'a> {
-    bytes: &'a [u8],
-    most: usize,
-    reads_left: u64,
-}
-
-impl Read for Pieces<'_> {
-    fn read(&mut self, buf: &mut [u8]) -> io::Result<usize> {
-        if self.reads_left == 0 {
-            return Err(io::Error::from(ErrorKind::BrokenPipe));
-        }
-        self.reads_left -= 1;
-        let n = self.bytes.len().min(self.most).min(buf.len());
-        let (front, rest) = self.bytes.split_at(n);
-        buf[..n].copy_from_slice(front);
-        self.bytes = rest;
-        Ok(n)
-    }
-}
-
-/// Keeps what it is given, and fails at the write after `writes_left` of them.
-#[derive(Drop)]
-struct Sink {
-    bytes: Vec<u8>,
-    writes_left: u64,
-}
-
-impl Write for Sink {
-    fn write(&mut self, buf: &[u8]) -> io::Result<usize> {
-        if self.writes_left == 0 {
-            return Err(io::Error::from(ErrorKind::BrokenPipe));
-        }
-        self.writes_left -= 1;
-        self.bytes.extend_from_slice(buf)?;
-        Ok(buf.len())
-    }
-
-    fn flush(&mut self) -> io::Result<()> {
-        Ok(())
-    }
-}
-
-/// How a session ended, and what was written in it.
-#[derive(Drop)]
-struct Told {
-    status: Result<u8, ShellFault>,
-    text: Vec<u8>,
-}
-
-impl Told {
-    /// Whether the session ended well, and nothing else was written.
-    fn is_whole(&self, output: &str) -> bool {
-        matches!(self.status, Ok(0)) && self.text.as_slice() == output.as_bytes()
-    }
-
-    /// Whether the session was broken off by this fault, behind a beginning of what is to be written.
-    fn is_broken_off(&self, fault: ShellFault, output: &str) -> bool {
-        let begun = output.as_bytes().starts_with(self.text.as_slice());
-        begun && matches!(self.status, Err(met) if met == fault)
-    }
-}
-
-/// A session of two workers over these ends.
-fn session_over<R: Threads + Wait + Sync>(
-    rt: &R,
-    alloc: Global,
-    source: Option<&[u8]>,
-    mut reader: Pieces<'_>,
-    writes_left: u64,
-) -> Told {
-    let mut writer = Sink {
-        bytes: Vec::new(alloc),
-        writes_left,
-    };
-    let options = Options { workers: 2, source };
-    let status = match run(rt, alloc, &mut reader, &mut writer, options) {
-        Ok(ended) => Ok(ended.into_status()),
-        Err(fault) => Err(fault),
-    };
-    Told {
-        status,
-        text: writer.bytes,
-    }
-}
-
 impl Script {
-    /// Its commands.
-    fn commands(&self) -> &'static str {
-        match self.input.split_once("\n%%\n") {
-            Some((_, commands)) => commands,
-            None => "",
+    /// Its input, two bytes a read; the read after so many of them fails.
+    fn reader(&self, reads_left: u64) -> Pieces<'static> {
+        Pieces {
+            bytes: self.input.as_bytes(),
+            most: 2,
+            reads_left,
         }
     }
 
-    /// Whether the answers are the same for any number of bytes that a read gives.
+    /// Whether the answers are the same for any number of bytes that a read gives or a write takes.
     fn takes_any_pieces<R: Threads + Wait + Sync>(&self, rt: &R, alloc: Global) -> bool {
         let mut all = true;
         for most in [1, 2, 3, 7, 4096] {
@@ -219,44 +172,34 @@ impl Script {
                 most,
                 reads_left: MANY,
             };
-            all &= session_over(rt, alloc, None, reader, MANY).is_whole(self.output);
+            let writer = Sink::new(alloc, most, MANY);
+            all &= session_over(rt, alloc, None, reader, writer).is_whole(self.output);
         }
         all
     }
 
-    /// Whether a read that fails, each in turn, breaks the session off.
+    /// Whether a read that fails, each in turn, breaks the session off, and there are no others.
     fn meets_failing_reads<R: Threads + Wait + Sync>(&self, rt: &R, alloc: Global) -> bool {
         let mut all = true;
-        // Two bytes a read; the one that tells the end is one more.
-        for reads_left in 0..(self.input.len() / 2) as u64 {
-            let reader = Pieces {
-                bytes: self.input.as_bytes(),
-                most: 2,
-                reads_left,
-            };
-            all &= session_over(rt, alloc, None, reader, MANY).is_broken_off(
-                ShellFault::Read,
-                self.output,
-            );
+        for reads_left in 0..self.reads {
+            let writer = Sink::new(alloc, 4096, MANY);
+            let met = session_over(rt, alloc, None, self.reader(reads_left), writer);
+            all &= met.is_broken_off(ShellFault::Read, self.output);
         }
-        all
+        let writer = Sink::new(alloc, 4096, MANY);
+        all && session_over(rt, alloc, None, self.reader(self.reads), writer).is_whole(self.output)
     }
 
-    /// Whether a write that fails, each in turn, breaks the session off.
+    /// Whether a write or flush that fails, each in turn, breaks the session off, and there are no others.
     fn meets_failing_writes<R: Threads + Wait + Sync>(&self, rt: &R, alloc: Global) -> bool {
         let mut all = true;
-        for writes_left in 0..self.commands().lines().count() as u64 {
-            let reader = Pieces {
-                bytes: self.input.as_bytes(),
-                most: 4096,
-                reads_left: MANY,
-            };
-            all &= session_over(rt, alloc, None, reader, writes_left).is_broken_off(
-                ShellFault::Write,
-                self.output,
-            );
+        for calls_left in 0..self.calls {
+            let writer = Sink::new(alloc, 4096, calls_left);
+            let met = session_over(rt, alloc, None, self.reader(MANY), writer);
+            all &= met.is_broken_off(ShellFault::Write, self.output);
         }
-        all
+        let writer = Sink::new(alloc, 4096, self.calls);
+        all && session_over(rt, alloc, None, self.reader(MANY), writer).is_whole(self.output)
     }
 }
 
@@ -279,7 +222,12 @@ pub(crate) fn source_may_be_handed_in<R: Threads + Wait + Sync>(rt: &R, alloc: G
         reads_left: MANY,
     };
     let source = b"int x = -3; int main(void) { }";
-    session_over(rt, alloc, Some(source), reader, MANY).is_whole(
-        "H1 unknown command\n#1 worker 0 line 1\nH2 bad argument\nx = -3\n",
+    session_over(
+        rt,
+        alloc,
+        Some(source),
+        reader,
+        Sink::new(alloc, 4096, MANY),
     )
+    .is_whole("H1 unknown command\n#1 worker 0 line 1\nH2 bad argument\nx = -3\n")
 }

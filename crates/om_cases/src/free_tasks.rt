@@ -1,6 +1,6 @@
 //! Free runs of a program of tasks, until it has ended.
 
-use crate::sessions::written;
+use crate::sessions::told_of;
 use std::alloc::{AllocError, Global};
 use std::sync::Wait;
 use std::thread::Threads;
@@ -50,8 +50,8 @@ pub(crate) fn free_runs_end_tasks<R: Threads + Wait + Sync>(
     rt: &R,
     alloc: Global,
 ) -> Result<bool, AllocError> {
-    let bytes = written(rt, alloc, 2, SESSION)?;
-    let text = str::from_utf8(bytes.as_slice()).unwrap_or("no text");
+    let told = told_of(rt, alloc, 2, SESSION.as_bytes())?;
+    let text = str::from_utf8(told.text.as_slice()).unwrap_or("no text");
     Ok(steps_freed(text) == STEPS && steps_shown(text) == STEPS && text.ends_with(END))
 }
 

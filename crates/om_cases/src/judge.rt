@@ -1,8 +1,10 @@
 //! The judgement of all sections.
 //!
 //! A section of the input begins with a line `== HEAD`. Where the first word of the head is a stage of the
-//! front end, sources stand below it, and otherwise the input of a session.
+//! front end, sources stand below it; where it is `beginnings`, one source that is cut behind each of its
+//! bytes; and otherwise the input of a session.
 
+use crate::beginnings::add_beginnings;
 use crate::checks::add_checks;
 use crate::laws::call_laws;
 use crate::sessions::add_session;
@@ -69,6 +71,7 @@ fn add_section<R: Threads + Wait + Sync>(
     match stage_of(word) {
         Some(stage) => add_table(alloc, report, stage, head, body),
         None if head == "checks" => add_checks(rt, alloc, &mut report.text),
+        None if word == "beginnings" => add_beginnings(rt, alloc, &mut report.text, head, body),
         None => add_session(rt, alloc, &mut report.text, head, body),
     }
 }

@@ -1,18 +1,17 @@
 //! Runs the cases of its standard input, and prints what is said of them: C sources, of which each has the
-//! verdict that is wanted of the front end beside it, and whole sessions of several workers, of which it
-//! tells what the debugger writes. Where the last line is `== checks`, it then says of sessions what no
-//! contract says: that threads of their own step the workers, that seats are answered, and that reads and
-//! writes may fail.
+//! verdict that is wanted of the front end beside it, the beginnings of a source, and whole sessions of
+//! several workers, of which it tells what the debugger writes. Where the last line is `== checks`, it then
+//! says of sessions what no contract says: that free runs end, and that reads and writes may fail.
 #![tactic(auto)]
 
+mod beginnings;
 mod checks;
-mod driven;
+mod code;
 mod ends;
 mod free_tasks;
-mod gates;
 mod judge;
 mod laws;
-mod orders;
+mod memory;
 mod sessions;
 mod sources;
 mod stage;

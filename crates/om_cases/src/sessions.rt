@@ -14,42 +14,56 @@ use std::thread::Threads;
 /// A line that stands more often than this in a row is told once.
 const OFTEN: u32 = 1_000;
 
-/// Adds the head of a session, and what is written in it.
+/// What was written in a session, and its exit status.
+#[derive(Drop)]
+pub(crate) struct Told {
+    pub status: u8,
+    pub text: Vec<u8>,
+}
+
+/// Adds the head of a session, what is written in it, and its status, where that is not 0.
 pub(crate) fn add_session<R: Threads + Wait + Sync>(
     rt: &R,
     alloc: Global,
-    told: &mut String,
+    report: &mut String,
     head: &str,
     body: &str,
 ) -> Result<(), AllocError> {
     let mut input = String::new(alloc);
     write_out(&mut input, body)?;
-    let bytes = written(rt, alloc, workers_of(head), input.as_str())?;
-    write!(told, "== {head}\n")?;
-    add_lines(told, str::from_utf8(bytes.as_slice()).unwrap_or("no text"))
+    let told = told_of(rt, alloc, workers_of(head), input.as_bytes())?;
+    write!(report, "== {head}\n")?;
+    add_lines(
+        report,
+        str::from_utf8(told.text.as_slice()).unwrap_or("no text"),
+    )?;
+    if told.status != 0 {
+        write!(report, "status {}\n", told.status)?;
+    }
+    Ok(())
 }
 
 /// What the debugger writes. It reads from a slice and writes to a vector, so only memory can be wanting.
-pub(crate) fn written<R: Threads + Wait + Sync>(
+pub(crate) fn told_of<R: Threads + Wait + Sync>(
     rt: &R,
     alloc: Global,
     workers: u8,
-    input: &str,
-) -> Result<Vec<u8>, AllocError>
+    input: &[u8],
+) -> Result<Told, AllocError>
     requires at_least_one { 0 < workers }
     requires at_most_32 { workers ≤ 32 }
 {
-    let mut reader = input.as_bytes();
+    let mut reader = input;
     let mut writer = Vec::new(alloc);
     let options = Options {
         workers,
         source: None,
     };
     match run(rt, alloc, &mut reader, &mut writer, options) {
-        Ok(ended) => {
-            let _status = ended.into_status();
-            Ok(writer)
-        }
+        Ok(ended) => Ok(Told {
+            status: ended.into_status(),
+            text: writer,
+        }),
         Err(_) => Err(AllocError),
     }
 }

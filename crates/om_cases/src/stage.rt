@@ -9,6 +9,7 @@ use om_lexer::{SourceFault, Token, lex};
 use om_parser::{Unit, parse};
 use om_pragma::directive;
 use om_scope::resolve;
+use om_shell::debuggee_of;
 use std::alloc::Global;
 
 /// How far a source is taken.
@@ -22,6 +23,8 @@ pub(crate) enum Stage {
     Parser,
     /// To its resolution, behind which no rule on names, values and directives is broken.
     Resolver,
+    /// To its code, which is within its limits.
+    Code,
 }
 
 /// The stage of a word.
@@ -31,6 +34,7 @@ pub(crate) fn stage_of(word: &str) -> Option<Stage> {
         "line" => Some(Stage::Line),
         "parser" => Some(Stage::Parser),
         "resolver" => Some(Stage::Resolver),
+        "code" => Some(Stage::Code),
         _ => None,
     }
 }
@@ -42,6 +46,7 @@ pub(crate) fn refusal(alloc: Global, stage: Stage, source: &[u8]) -> Option<Sour
         Stage::Line => line_refusal(alloc, source),
         Stage::Parser => parsed(alloc, source).err(),
         Stage::Resolver => resolver_refusal(alloc, source),
+        Stage::Code => debuggee_of(alloc, source).err(),
     }
 }
 
