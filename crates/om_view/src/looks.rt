@@ -4,16 +4,19 @@ ghost use Rattle.std.specs.Prelude.{◌≡◌, ◌<◌, ◌++◌, unwrap_or, OnO
 ghost use Rattle.std.specs.Option.{option_copied};
 ghost use Rattle.om_cells.specs.declared.value.Task.TheVariants as tasks;
 ghost use Rattle.om_replies.specs.Lists.{joined};
+ghost use Rattle.om_task.specs.Rules.{line_in};
 ghost use Rattle.om_undo.specs.Machines.{state_in};
 ghost use Rattle.om_replies.specs.Places.{where_text};
 ghost use Rattle.om_cells.specs.Values.{control_in};
-ghost use Rattle.om_view.specs.Looks.{line_at, local_said, print_said, where_said, history_said, events_said, output_said, directive_line, ready_line, tasks_text, tasks_said};
+ghost use Rattle.om_view.specs.Looks.{local_said, print_said, where_said, history_said, events_said, output_said, directive_line, ready_line, tasks_text, tasks_said};
 
 use om_cells::value::Task;
 use om_cells::{Control, Val};
+use om_code::Program;
 use om_command::Variable;
 use om_drive::Recorder;
 use om_foot::{Name, Obj};
+use om_lower::line_of;
 use om_replies::{
     GlobalCell, push_events, push_full, push_history, push_local, push_no_tasks, push_output,
     push_print, push_task, push_where,
@@ -63,22 +66,32 @@ pub(crate) fn print_local(
     pushed
 }
 
+// The line of the instruction at which a worker of this control stands; 0 where it is idle or has
+// ended.
+fn line_in(program: &Program, control: &Control) -> u32
+    ensures { result ≡ line_in program.now control.now }
+{
+    match control {
+        Control::Running(stack) => line_of(program, stack.top.frame.body, stack.top.frame.next),
+        Control::Faulted(_, stack) => line_of(program, stack.top.frame.body, stack.top.frame.next),
+        Control::Idle | Control::Ended(_) => 0,
+    }
+}
+
 // What a worker is doing, by the value of its control.
 fn push_control(
     text: &mut Vec<u8>,
-    machine: &Machine,
+    program: &Program,
     worker: u8,
     value: &Val,
 ) -> Result<(), AllocError>
-    requires { worker < machine.now.workers }
     ensures { OnOk result
         (text.new.items ≡ text.old.items
-        ++ where_text worker (control_in value.now) (line_at machine.now worker)) }
+        ++ where_text worker (control_in value.now) (line_in program.now (control_in value.now))) }
 {
-    let line = machine.line(worker);
     match value.control() {
-        Some(control) => push_where(text, worker, control, line),
-        None => push_where(text, worker, &Control::Idle, line),
+        Some(control) => push_where(text, worker, control, line_in(program, control)),
+        None => push_where(text, worker, &Control::Idle, 0),
     }
 }
 
@@ -98,7 +111,7 @@ pub(crate) fn place(
         return push_full(text);
     }
     let value = recorder.look(alloc, &Obj::Control(worker))?;
-    let pushed = push_control(text, recorder.machine(), worker, &value);
+    let pushed = push_control(text, recorder.machine().program(), worker, &value);
     drop(value);
     pushed
 }

@@ -1,37 +1,13 @@
 //! The cell of a global variable that a command names.
 
-ghost use Rattle.std.specs.Prelude.{◌≡◌, ◌<◌, IfSome, position, length};
-ghost use Rattle.std.specs.Str.{bytes_eq};
+ghost use Rattle.std.specs.Prelude.{◌≡◌};
 ghost use Rattle.om_replies.specs.Objects.{length_of};
-ghost use Rattle.om_view.specs.Variables.{cell_at, cell_of, element_at, global_named};
+ghost use Rattle.om_view.specs.Variables.{cell_at, cell_of, element_at};
 
 use om_code::Program;
-use om_code::raw::GlobalVariable;
 use om_command::Variable;
+use om_lower::global_named;
 use om_replies::GlobalCell;
-
-// Whether a global variable has this name.
-fn is_named(global: &GlobalVariable, name: &[u8]) -> bool
-    ensures { result ≡ bytes_eq global.now.name name.now }
-{
-    global.name.as_slice() == name
-}
-
-// The index of the first global variable of this name.
-fn index_of(globals: &[GlobalVariable], name: &[u8]) -> Option<usize>
-    ensures index { result ≡ position (λ global. bytes_eq global.name name.now) globals.now }
-    ensures within { IfSome result (λ index. index < length globals.now) }
-{
-    globals.iter().position(|global| is_named(global, name))
-}
-
-// The number of the first global variable of this name.
-fn global_named(program: &Program, name: &[u8]) -> Option<u32>
-    ensures { result ≡ global_named program.now name.now }
-{
-    let index = index_of(program.globals(), name)?;
-    Some(index as u32)
-}
 
 // How many cells a global variable has, where it is an array.
 fn length_of(program: &Program, variable: u32) -> Option<u32>
