@@ -25,30 +25,53 @@ pub(crate) fn counts_follow_an_undo(alloc: Global) -> Result<bool, AllocError> {
         && machine.makes(alloc, 1, 1)?
         && machine.makes(alloc, 0, 1)?
         && machine.makes(alloc, 1, 1)?;
-    let before = counts(alloc, &machine)?;
+    let before = are_counts(alloc, &machine, 2, 1)?;
     let undone = machine.undo(0) == UndoReply::Undone { serial: 4, line: 4 };
-    let behind = counts(alloc, &machine)?;
-    Ok(made && before == Some([2, 1, 1]) && undone && behind == Some([1, 0, 1]))
+    Ok(made && before && undone && are_counts(alloc, &machine, 1, 0)?)
 }
 
-/// The counts of the team's pending tasks, and of the children of the tasks of its two members.
-fn counts(alloc: Global, machine: &MachineOfTwo) -> Result<Option<[i128; 3]>, AllocError> {
-    let (Some(team), Some(first), Some(second)) = (
-        Name::of(&[0, 1]),
-        Name::of(&[0, 1, 0]),
-        Name::of(&[0, 1, 1]),
-    ) else {
-        return Ok(None);
+/// Whether the team has so many pending tasks, its first member so many children, and its second one.
+fn are_counts(
+    alloc: Global,
+    machine: &MachineOfTwo,
+    pending: i128,
+    of_first: i128,
+) -> Result<bool, AllocError> {
+    Ok(
+        is_pending(alloc, machine, pending)?
+            && has_children(alloc, machine, &[0, 1, 0], of_first)?
+            && has_children(alloc, machine, &[0, 1, 1], 1)?,
+    )
+}
+
+/// Whether the team has so many tasks that are pending in its first phase.
+fn is_pending(alloc: Global, machine: &MachineOfTwo, wanted: i128) -> Result<bool, AllocError> {
+    let Some(team) = Name::of(&[0, 1]) else {
+        return Ok(false);
     };
-    let pending = machine
-        .look(alloc, &Obj::Pending { team, phase: 0 })?
-        .count();
-    let of_first = machine.look(alloc, &Obj::Kids(first))?.count();
-    let of_second = machine.look(alloc, &Obj::Kids(second))?.count();
-    match (pending, of_first, of_second) {
-        (Some(pending), Some(of_first), Some(of_second)) => {
-            Ok(Some([pending, of_first, of_second]))
-        }
-        _ => Ok(None),
-    }
+    is_count(alloc, machine, &Obj::Pending { team, phase: 0 }, wanted)
+}
+
+/// Whether the task of this name has so many children.
+fn has_children(
+    alloc: Global,
+    machine: &MachineOfTwo,
+    name: &[u64],
+    wanted: i128,
+) -> Result<bool, AllocError> {
+    let Some(task) = Name::of(name) else {
+        return Ok(false);
+    };
+    is_count(alloc, machine, &Obj::Kids(task), wanted)
+}
+
+/// Whether an object holds this count.
+fn is_count(
+    alloc: Global,
+    machine: &MachineOfTwo,
+    object: &Obj,
+    wanted: i128,
+) -> Result<bool, AllocError> {
+    let held = machine.look(alloc, object)?;
+    Ok(held.count() == Some(wanted))
 }
