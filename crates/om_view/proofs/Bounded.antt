@@ -1,16 +1,24 @@
 -- Commands of many steps, one step at a time.
 use Rattle.std.proofs.Common.{◌≡◌, refl, sym, ap, ◌∙◌, ◌<◌, ◌≤◌, ◌-◌, ◌+◌, zero, suc, true, false, None, Some, ℕ, List}
-use Rattle.std.proofs.Common.{[], ◌∷◌, ◌++◌, length, drop, get_or, append_assoc, arith}
+use Rattle.std.proofs.Common.{[], ◌∷◌, ◌++◌, length, drop, get_or, append_assoc, arith, Bool}
 use Rattle.om_cells.specs.declared.step.Choice.{Choice}
 use Rattle.om_cells.specs.declared.step.Choice.TheVariants.{Next, Start}
+use Rattle.om_cells.specs.declared.step.Outcome.{Outcome}
+use Rattle.om_cells.specs.declared.step.Outcome.TheVariants as outcome
+use Rattle.om_cells.specs.declared.step.Update.{Update}
 use Rattle.om_replies.specs.Steps.{full_text, step_text, undo_text}
 use Rattle.om_replies.specs.Lists.{joined}
 use Rattle.om_replies.specs.declared.stop.Stop.TheVariants as stop
-use Rattle.om_undo.specs.Machines.{MachineView}
+use Rattle.om_cells.specs.Values.{control_in}
+use Rattle.om_foot.specs.declared.object.Obj.TheVariants as object
+use Rattle.om_history.specs.Runs.{reply_for}
+use Rattle.om_task.specs.Laws.{StartsAtSchedulingPoints}
+use Rattle.om_task.specs.Rules.{is_at_scheduling_point}
+use Rattle.om_undo.specs.Machines.{MachineView, state_in}
 use Rattle.om_view.specs.declared.marks.Marks.{Marks}
 use Rattle.om_view.specs.declared.runs.Moved.{Moved}
 use Rattle.om_view.specs.Moves.{goes_on, steps_within, undoes_within, next_within, back_within}
-use Rattle.om_drive.specs.Recorded.{Recorded, is_full, label_of, recorded_step, recorded_undo, step_reply_of}
+use Rattle.om_drive.specs.Recorded.{Recorded, is_done, is_full, label_of, recorded_step, recorded_undo, step_reply_of}
 use Rattle.om_drive.specs.Recorded.{undo_reply_of}
 use Rattle.om_view.specs.Runs.{after_move, can_step, move_among, move_of, moved_of, ran, run_within, said_by}
 use Rattle.om_view.specs.Runs.{start_among}
@@ -117,6 +125,26 @@ pub start_behind : (m : MachineView) (worker : ℕ) (name : List ℕ) (names : L
     (Start name) ≡ false
     → start_among m worker (name ∷ names) ≡ start_among m worker names
 start_behind m worker name names e = rw e refl
+
+-- a worker that is at no scheduling point can begin no task
+
+abbrev is_at_point : MachineView → ℕ → Bool
+is_at_point m worker = is_at_scheduling_point m.program (control_in (state_in m (object.Control worker)))
+
+not_done : (o : Outcome) (serial line : ℕ) (at : Bool) → at ≡ false → ((us : List Update) → o ≡ outcome.Updates us
+    → at ≡ true)
+    → is_done (reply_for serial line o) ≡ false
+not_done (outcome.Updates us) serial line at elsewhere h = sym (h us refl) ∙ elsewhere
+not_done (outcome.Blocked b) serial line at elsewhere h = refl
+not_done outcome.Ended serial line at elsewhere h = refl
+
+pub no_start : StartsAtSchedulingPoints → (m : MachineView) (worker : ℕ) (names : List (List ℕ)) → is_at_point m worker
+    ≡ false → start_among m worker names ≡ None
+no_start law m worker [] elsewhere = refl
+no_start law m worker (name ∷ names) elsewhere =
+    start_behind m worker name names (not_done _ _ _ (is_at_point m worker) elsewhere
+    (law m.program m.workers worker name (state_in m)))
+    ∙ no_start law m worker names elsewhere
 
 -- lists, an item at a time
 

@@ -4,6 +4,7 @@ ghost use Rattle.std.specs.Prelude.{◌≡◌, ◌<◌, ◌≤◌, ◌+◌, ◌+
 ghost use Rattle.std.specs.Option.{option_copied};
 ghost use Rattle.om_cells.specs.declared.control.Control.TheVariants as controls;
 ghost use Rattle.om_cells.specs.Values.{control_in};
+ghost use Rattle.om_drive.specs.Ready.{ready_names};
 ghost use Rattle.om_replies.specs.Stops.{ran_text};
 ghost use Rattle.om_undo.specs.Machines.{state_in};
 ghost use Rattle.om_view.specs.Runs.{can_step, start_among, move_of, move_among, first_move, has_ended, stop_without_move, moved_by, left_by, moved_of, after_move, run_within};
@@ -16,6 +17,7 @@ use om_drive::{Recorder, ready_in};
 use om_foot::{Name, Obj};
 use om_replies::{Stop, push_full, push_ran};
 use om_task::Choice;
+use om_task::laws::starts_at_scheduling_points;
 use om_undo::Machine;
 use std::alloc::{AllocError, Global};
 
@@ -51,6 +53,21 @@ fn start_among(
     Ok(None)
 }
 
+// The start of the least ready task that a worker can begin. Only at a scheduling point is it asked
+// which tasks are ready.
+fn first_start(alloc: Global, machine: &Machine, worker: u8) -> Result<Option<Choice>, AllocError>
+    requires { worker < machine.now.workers }
+    ensures { IfOk result
+        (λ choice. choice ≡ start_among machine.now worker (ready_names machine.now)) }
+{
+    starts_at_scheduling_points();
+    if !machine.is_at_scheduling_point(worker) {
+        return Ok(None);
+    }
+    let names = ready_in(alloc, machine)?;
+    start_among(alloc, machine, worker, &names)
+}
+
 // A worker's move: its next step, else the start of the least task that it can begin.
 fn move_of(alloc: Global, machine: &Machine, worker: u8) -> Result<Option<Choice>, AllocError>
     requires { worker < machine.now.workers }
@@ -59,8 +76,7 @@ fn move_of(alloc: Global, machine: &Machine, worker: u8) -> Result<Option<Choice
     if can_step(alloc, machine, worker, Choice::Next)? {
         return Ok(Some(Choice::Next));
     }
-    let names = ready_in(alloc, machine)?;
-    start_among(alloc, machine, worker, &names)
+    first_start(alloc, machine, worker)
 }
 
 // The move of the least of the last so many workers that has one.
