@@ -9,6 +9,7 @@ from timing import compared, filled, seconds, words
 
 FUNCTIONS = 200
 LOCALS = 200
+NESTED = 1000
 
 MAIN = "int main(void) { return 0; }\n"
 GLOBALS = "int x, y, a[100];\nint g(int p) { return p; }\n"
@@ -30,12 +31,21 @@ KINDS = {
     "worksharing": ("int i;\n", "#pragma omp for private(y)\nfor (i = 0; i < 9; i++) x = y;\n#pragma omp sections\n{ x = 1; }\n", ""),
 }
 
+# the same, all in one function
+IN_ONE = {
+    "regions, all in one function": ("int v;\n", "#pragma omp parallel\nx = 1;\n", ""),
+    "regions in a region, all in one function": ("int v;\n#pragma omp parallel\n{\n", "#pragma omp parallel\nv = 1;\n", "}\n"),
+    "tasks, all in one function": ("", "#pragma omp task\n;\n", ""),
+    "nested regions round one block": ("#pragma omp parallel\n" * NESTED + "{\n", ";", "}\n"),
+}
+
 
 def source(kind, size):
-    """A source of that many bytes: `FUNCTIONS` functions of one kind, and a `main`."""
-    begin, part, end = KINDS[kind]
-    room = (size - len(GLOBALS) - len(MAIN)) // FUNCTIONS
-    bodies = (filled(f"void f{k}(void) {{\n" + begin, part, end + "}\n", room) for k in range(FUNCTIONS))
+    """A source of that many bytes: functions of one kind, `FUNCTIONS` of them or one, and a `main`."""
+    begin, part, end = KINDS.get(kind) or IN_ONE[kind]
+    count = FUNCTIONS if kind in KINDS else 1
+    room = (size - len(GLOBALS) - len(MAIN)) // count
+    bodies = (filled(f"void f{k}(void) {{\n" + begin, part, end + "}\n", room) for k in range(count))
     return GLOBALS.encode() + b"".join(bodies) + MAIN.encode()
 
 
@@ -45,7 +55,7 @@ def time_of(program, kind, size):
 
 def main():
     program, size = words(__doc__, 1048576)
-    for kind in KINDS:
+    for kind in [*KINDS, *IN_ONE]:
         print(f"{kind}: {compared(time_of(program, kind, size), time_of(program, kind, size // 2))}")
 
 
