@@ -9,6 +9,7 @@ pub mod Ascending
 pub mod Items
 pub mod High
 pub mod Coding
+pub mod SiteBodies
 pub mod FunctionBodies
 pub mod Rounds
 pub mod Ready

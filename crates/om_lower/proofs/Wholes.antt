@@ -1,5 +1,5 @@
 -- All that stands in a body, one thing behind the other.
-use Rattle.std.proofs.Common.{◌≡◌, ◌≤◌, ℕ, List, Bool, true, false, None, length, sym, subst, arith}
+use Rattle.std.proofs.Common.{◌≡◌, ℕ, List, Bool, true, false, None, length, sym, subst, arith}
 use Rattle.om_lower.specs.Emitted.{EmitsBody, EmitsRegion}
 use Rattle.om_code.specs.declared.instruction.Barrier.TheVariants as barriers
 use Rattle.om_code.specs.declared.instruction.Instr.{Instr}

@@ -5,7 +5,7 @@ ghost use Rattle.om_lower.specs.Emitted.{HasLists, HasRow};
 ghost use Rattle.om_lower.specs.Frames.{FitsFrame};
 ghost use Rattle.om_lower.specs.Limits.{HasFewSlots, HasManySlots, HasSlots};
 ghost use Rattle.om_lower.specs.Made.{AddsBody, FitsBodies, FitsBody, FitsCode};
-ghost use Rattle.om_lower.specs.Sites.{IsReady, part_tree, site_of, variables_at};
+ghost use Rattle.om_lower.specs.Sites.{IsReady, bodies_in, body_in, body_round, innermost, part_tree, round_with, seen_body, variables_at};
 ghost use Rattle.om_resolved.specs.ResolvedView.{view_resolved, view_resolved_clause, view_resolved_function, view_resolved_statement};
 ghost use Rattle.om_rows.specs.Bodies.{region_variables, variables_of};
 ghost use Rattle.om_rows.specs.Code.{captures_of, given_of, slots_of};
@@ -24,7 +24,7 @@ use crate::sites::{BodyPart, Site};
 use om_code::Body;
 use om_code::raw::Slot;
 use om_emit::draft::PickList;
-use om_resolved::{Capture, ResolvedFunction};
+use om_resolved::Capture;
 use om_seq::Seq;
 use om_tables::{
     Extents, Scope, Variables, copy_slots, function_variables, given_copies_in, parameter_slots,
@@ -34,9 +34,9 @@ use std::alloc::{AllocError, Global};
 
 /// Whether none of these bodies has more than 256 slots.
 pub(crate) fn have_few_slots(alloc: Global, sites: &[Site<'_>]) -> Result<bool, AllocError>
-    ensures few { IfOk result (λ few. few ≡ true → All HasFewSlots (map site_of sites.now)) }
+    ensures few { IfOk result (λ few. few ≡ true → All HasFewSlots (bodies_in [] sites.now)) }
     ensures many { IfOk result (λ few.
-        few ≡ false → Any HasManySlots (map site_of sites.now)) }
+        few ≡ false → Any HasManySlots (bodies_in [] sites.now)) }
 {
     for site in sites {
         if !has_few_slots(alloc, site)? {
@@ -48,9 +48,9 @@ pub(crate) fn have_few_slots(alloc: Global, sites: &[Site<'_>]) -> Result<bool, 
 
 /// Whether a body has at most 256 slots.
 fn has_few_slots(alloc: Global, site: &Site<'_>) -> Result<bool, AllocError>
-    ensures { IfOk result (λ few. HasSlots few (site_of site.now)) }
+    ensures { IfOk result (λ few. HasSlots few (body_in [] site.now)) }
 {
-    let variables = variables_in(alloc, site.function, &site.part)?;
+    let variables = variables_in(alloc, site)?;
     Ok(variables.len() <= SLOT_LIMIT)
 }
 
@@ -68,6 +68,15 @@ pub(crate) struct LoweredBody {
     pub(crate) lists: Vec<PickList>,
 }
 
+/// A body that is lowered, with its variables and those of the body round it; a function's own body
+/// has none round it.
+#[derive(Clone, Copy)]
+pub(crate) struct SeenBody<'a> {
+    pub(crate) site: &'a Site<'a>,
+    pub(crate) variables: &'a Variables,
+    pub(crate) outer: &'a Variables,
+}
+
 /// These bodies of a function; `None` where one passes a limit on cells or instructions.
 pub(crate) fn lower_bodies(
     whole: &Whole<'_>,
@@ -75,20 +84,62 @@ pub(crate) fn lower_bodies(
     sites: &[Site<'_>],
 ) -> Result<Option<Bodies>, AllocError>
     requires tables { IsTablesOf (view_resolved whole.now.resolved.now) whole.now.tables.now }
-    requires ready { All (IsReady extents.now) (map site_of sites.now) }
+    requires ready { All (IsReady extents.now) (bodies_in [] sites.now) }
     ensures { let tree = view_resolved whole.now.resolved.now in
-        IfOk result (λ made. FitsBodies tree (map site_of sites.now) made) }
+        IfOk result (λ made. FitsBodies tree (bodies_in [] sites.now) made) }
 {
     let mut made = Bodies {
         bodies: Seq::new(whole.alloc),
         lists: Seq::new(whole.alloc),
     };
+    let mut round = Vec::new(whole.alloc);
     for site in sites {
-        if !add_body(&mut made, whole, extents, site)? {
+        if !add_next(&mut made, &mut round, whole, extents, site)? {
             return Ok(None);
         }
     }
     Ok(Some(made))
+}
+
+/// Adds the next body; false where it passes a limit on cells or instructions. The variables of the
+/// bodies that are not yet over are kept, from the outermost in: so each body's are found once.
+fn add_next(
+    made: &mut Bodies,
+    round: &mut Vec<Variables>,
+    whole: &Whole<'_>,
+    extents: &Extents,
+    site: &Site<'_>,
+) -> Result<bool, AllocError>
+    requires tables { IsTablesOf (view_resolved whole.now.resolved.now) whole.now.tables.now }
+    requires ready { IsReady extents.now (body_round round.old.items site.now) }
+    ensures adds { let tree = view_resolved whole.now.resolved.now in
+        let b = body_round round.old.items site.now in
+        IfOk result (λ fits. AddsBody tree b made.old made.new fits) }
+    ensures round { OnOk result (round.new.items ≡ round_with round.old.items site.now) }
+{
+    round.truncate(site.depth);
+    let variables = variables_in(whole.alloc, site)?;
+    let none = Variables::new(whole.alloc);
+    let outer = innermost(round.as_slice(), &none);
+    let seen = SeenBody {
+        site,
+        variables: &variables,
+        outer,
+    };
+    let fits = add_body(made, whole, extents, &seen)?;
+    round.push(variables)?;
+    Ok(fits)
+}
+
+/// The variables of the innermost body, if there is one, and these otherwise.
+fn innermost<'a>(round: &'a [Variables], none: &'a Variables) -> &'a Variables
+    requires { none.now ≡ [] }
+    ensures { result.now ≡ innermost round.now }
+{
+    match round.last() {
+        None => none,
+        Some(variables) => variables,
+    }
 }
 
 /// Adds a body; false where it passes a limit on cells or instructions.
@@ -96,14 +147,15 @@ fn add_body(
     made: &mut Bodies,
     whole: &Whole<'_>,
     extents: &Extents,
-    site: &Site<'_>,
+    seen: &SeenBody<'_>,
 ) -> Result<bool, AllocError>
     requires tables { IsTablesOf (view_resolved whole.now.resolved.now) whole.now.tables.now }
-    requires ready { IsReady extents.now (site_of site.now) }
+    requires ready { IsReady extents.now (seen_body seen.now) }
+    requires variables { seen.now.variables.now ≡ variables_of (seen_body seen.now) }
     ensures { let tree = view_resolved whole.now.resolved.now in
-        IfOk result (λ fits. AddsBody tree (site_of site.now) made.old made.new fits) }
+        IfOk result (λ fits. AddsBody tree (seen_body seen.now) made.old made.new fits) }
 {
-    match lower_body(whole, extents, site)? {
+    match lower_body(whole, extents, seen)? {
         None => Ok(false),
         Some(body) => {
             put_body(made, body)?;
@@ -126,55 +178,38 @@ fn put_body(made: &mut Bodies, lowered: LoweredBody) -> Result<(), AllocError>
 fn lower_body(
     whole: &Whole<'_>,
     extents: &Extents,
-    site: &Site<'_>,
+    seen: &SeenBody<'_>,
 ) -> Result<Option<LoweredBody>, AllocError>
     requires tables { IsTablesOf (view_resolved whole.now.resolved.now) whole.now.tables.now }
-    requires ready { IsReady extents.now (site_of site.now) }
+    requires ready { IsReady extents.now (seen_body seen.now) }
+    requires variables { seen.now.variables.now ≡ variables_of (seen_body seen.now) }
     ensures { let tree = view_resolved whole.now.resolved.now in
-        IfOk result (λ made. FitsBody tree (site_of site.now) made) }
+        IfOk result (λ made. FitsBody tree (seen_body seen.now) made) }
 {
-    let variables = variables_in(whole.alloc, site.function, &site.part)?;
-    body_with(whole, extents, site, &variables)
-}
-
-/// The same, where its variables are known.
-fn body_with(
-    whole: &Whole<'_>,
-    extents: &Extents,
-    site: &Site<'_>,
-    variables: &Variables,
-) -> Result<Option<LoweredBody>, AllocError>
-    requires tables { IsTablesOf (view_resolved whole.now.resolved.now) whole.now.tables.now }
-    requires ready { IsReady extents.now (site_of site.now) }
-    requires variables { variables.now ≡ variables_of (site_of site.now) }
-    ensures { let tree = view_resolved whole.now.resolved.now in
-        IfOk result (λ made. FitsBody tree (site_of site.now) made) }
-{
-    let Some(slots) = frame_in(whole.alloc, extents, site, variables)? else {
+    let Some(slots) = frame_in(whole.alloc, extents, seen)? else {
         return Ok(None);
     };
-    body_on(whole, site, variables, slots)
+    body_on(whole, seen, slots)
 }
 
 /// The same, where its slots are made.
 fn body_on(
     whole: &Whole<'_>,
-    site: &Site<'_>,
-    variables: &Variables,
+    seen: &SeenBody<'_>,
     slots: Seq<Slot>,
 ) -> Result<Option<LoweredBody>, AllocError>
     requires tables { IsTablesOf (view_resolved whole.now.resolved.now) whole.now.tables.now }
-    requires code { BodyHasCode (site_of site.now).function (site_of site.now).tree }
-    requires slots { FitsFrame (variables_of (site_of site.now)) (slots_of (site_of site.now))
+    requires code { BodyHasCode (seen_body seen.now).function (seen_body seen.now).tree }
+    requires slots { FitsFrame (variables_of (seen_body seen.now)) (slots_of (seen_body seen.now))
         (Some slots) }
-    requires variables { variables.now ≡ variables_of (site_of site.now) }
+    requires variables { seen.now.variables.now ≡ variables_of (seen_body seen.now) }
     ensures { let tree = view_resolved whole.now.resolved.now in
-        IfOk result (λ made. FitsBody tree (site_of site.now) made) }
+        IfOk result (λ made. FitsBody tree (seen_body seen.now) made) }
 {
-    match code_in(whole, site, variables)? {
+    match code_in(whole, seen)? {
         None => Ok(None),
         Some(emitted) => {
-            let given = given_in(whole.alloc, site, variables)?;
+            let given = given_in(whole.alloc, seen)?;
             Ok(Some(body_of(slots, given, emitted)))
         }
     }
@@ -193,28 +228,14 @@ fn body_of(slots: Seq<Slot>, given: Seq<u32>, emitted: Emitted) -> LoweredBody
 }
 
 /// The variables of a body, by their slots.
-fn variables_in(
-    alloc: Global,
-    function: &ResolvedFunction,
-    part: &BodyPart<'_>,
-) -> Result<Variables, AllocError>
-    ensures { let f = view_resolved_function function.now in
-        IfOk result (λ made. made ≡ variables_at f part.now) }
+fn variables_in(alloc: Global, site: &Site<'_>) -> Result<Variables, AllocError>
+    ensures { let f = view_resolved_function site.now.function.now in
+        IfOk result (λ made. made ≡ variables_at f site.now.part) }
 {
-    match part {
-        BodyPart::Function => function_variables(alloc, function),
+    match &site.part {
+        BodyPart::Function => function_variables(alloc, site.function),
         BodyPart::Parallel(region) => region_variables(alloc, region.clauses, region.statement),
         BodyPart::Task(region) => region_variables(alloc, region.clauses, region.statement),
-    }
-}
-
-/// The variables of the body round another, if there is one.
-fn variables_round(alloc: Global, site: &Site<'_>) -> Result<Variables, AllocError>
-    ensures { IfOk result (λ made. made ≡ (site_of site.now).outer) }
-{
-    match &site.outer {
-        None => Ok(Variables::new(alloc)),
-        Some(part) => variables_in(alloc, site.function, part),
     }
 }
 
@@ -233,34 +254,34 @@ fn captures_in<'a>(part: &BodyPart<'a>) -> &'a [Capture]
 fn frame_in(
     alloc: Global,
     extents: &Extents,
-    site: &Site<'_>,
-    variables: &Variables,
+    seen: &SeenBody<'_>,
 ) -> Result<Option<Seq<Slot>>, AllocError>
-    requires ready { IsReady extents.now (site_of site.now) }
-    requires variables { variables.now ≡ variables_of (site_of site.now) }
-    ensures { let b = site_of site.now in
+    requires ready { IsReady extents.now (seen_body seen.now) }
+    requires variables { seen.now.variables.now ≡ variables_of (seen_body seen.now) }
+    ensures { let b = seen_body seen.now in
         IfOk result (λ frame. FitsFrame (variables_of b) (slots_of b) frame) }
 {
-    let outer = variables_round(alloc, site)?;
-    frame_of(alloc, extents, &outer, captures_in(&site.part), variables)
+    frame_of(
+        alloc,
+        extents,
+        seen.outer,
+        captures_in(&seen.site.part),
+        seen.variables,
+    )
 }
 
 /// The code of a body; `None` where it has too many instructions.
-fn code_in(
-    whole: &Whole<'_>,
-    site: &Site<'_>,
-    variables: &Variables,
-) -> Result<Option<Emitted>, AllocError>
+fn code_in(whole: &Whole<'_>, seen: &SeenBody<'_>) -> Result<Option<Emitted>, AllocError>
     requires tables { IsTablesOf (view_resolved whole.now.resolved.now) whole.now.tables.now }
-    requires code { BodyHasCode (site_of site.now).function (site_of site.now).tree }
-    requires few { HasFewSlots (site_of site.now) }
-    requires variables { variables.now ≡ variables_of (site_of site.now) }
+    requires code { BodyHasCode (seen_body seen.now).function (seen_body seen.now).tree }
+    requires few { HasFewSlots (seen_body seen.now) }
+    requires variables { seen.now.variables.now ≡ variables_of (seen_body seen.now) }
     ensures { let tree = view_resolved whole.now.resolved.now in
-        IfOk result (λ code. FitsCode tree (site_of site.now) code) }
+        IfOk result (λ code. FitsCode tree (seen_body seen.now) code) }
 {
-    let is_main = is_main(site.function);
-    let scope = Scope::new(whole.resolved, whole.tables, variables, is_main);
-    let emitted = emitted_in(whole.alloc, &scope, site)?;
+    let is_main = is_main(seen.site.function);
+    let scope = Scope::new(whole.resolved, whole.tables, seen.variables, is_main);
+    let emitted = emitted_in(whole.alloc, &scope, seen.site)?;
     if emitted.code.len() > INSTRUCTION_LIMIT {
         return Ok(None);
     }
@@ -269,10 +290,10 @@ fn code_in(
 
 /// The code of a body, of whatever length.
 fn emitted_in(alloc: Global, scope: &Scope<'_>, site: &Site<'_>) -> Result<Emitted, AllocError>
-    requires code { BodyHasCode (site_of site.now).function (site_of site.now).tree }
-    ensures row { let b = site_of site.now in
+    requires code { BodyHasCode (body_in [] site.now).function (body_in [] site.now).tree }
+    ensures row { let b = body_in [] site.now in
         IfOk result (HasRow (names_of scope.now) b.numbers b.function b.tree) }
-    ensures lists { let b = site_of site.now in
+    ensures lists { let b = body_in [] site.now in
         IfOk result (HasLists b.numbers b.function b.tree) }
 {
     match &site.part {
@@ -289,17 +310,18 @@ fn emitted_in(alloc: Global, scope: &Scope<'_>, site: &Site<'_>) -> Result<Emitt
 }
 
 /// The slots that the values go to with which a frame of a body begins.
-fn given_in(alloc: Global, site: &Site<'_>, variables: &Variables) -> Result<Seq<u32>, AllocError>
-    requires few { HasFewSlots (site_of site.now) }
-    requires variables { variables.now ≡ variables_of (site_of site.now) }
-    ensures { IfOk result (λ slots. slots ≡ given_of (site_of site.now)) }
+fn given_in(alloc: Global, seen: &SeenBody<'_>) -> Result<Seq<u32>, AllocError>
+    requires few { HasFewSlots (seen_body seen.now) }
+    requires variables { seen.now.variables.now ≡ variables_of (seen_body seen.now) }
+    ensures { IfOk result (λ slots. slots ≡ given_of (seen_body seen.now)) }
 {
+    let site = seen.site;
     match &site.part {
         BodyPart::Function => {
-            parameter_slots(alloc, variables, site.function.parameters.as_slice())
+            parameter_slots(alloc, seen.variables, site.function.parameters.as_slice())
         }
-        BodyPart::Parallel(region) => copies_given(alloc, region, variables),
-        BodyPart::Task(region) => copies_given(alloc, region, variables),
+        BodyPart::Parallel(region) => copies_given(alloc, region, seen.variables),
+        BodyPart::Task(region) => copies_given(alloc, region, seen.variables),
     }
 }
 

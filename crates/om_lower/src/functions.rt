@@ -2,7 +2,7 @@
 
 ghost use Rattle.std.specs.Prelude.{◌≡◌, ◌∷◌, ◌++◌, [], All, IfOk, OnOk, map};
 ghost use Rattle.om_lower.specs.Made.{AddsFunction, FitsFunction, IsGathered};
-ghost use Rattle.om_lower.specs.Sites.{site_of};
+ghost use Rattle.om_lower.specs.Sites.{bodies_in};
 ghost use Rattle.om_resolved.specs.ResolvedView.{view_resolved, view_resolved_function};
 ghost use Rattle.om_resolved.specs.Uses.{is_main_function};
 ghost use Rattle.om_rows.specs.Bodies.{function_bodies};
@@ -157,7 +157,7 @@ fn lower_sites(
 ) -> Result<Option<Bodies>, AllocError>
     requires tables { IsTablesOf (view_resolved whole.now.resolved.now) whole.now.tables.now }
     requires sites { let f = view_resolved_function function.now in
-        map site_of sites.now ≡ function_bodies (numbers_of numbers) f }
+        bodies_in [] sites.now ≡ function_bodies (numbers_of numbers) f }
     requires has_code { let f = view_resolved_function function.now in
         All (λ b. BodyHasCode b.function b.tree) (function_bodies (numbers_of numbers) f) }
     ensures { let tree = view_resolved_function function.now in

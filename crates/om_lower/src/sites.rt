@@ -1,7 +1,7 @@
 //! The bodies of a function: its own, and those of the regions in it.
 
-ghost use Rattle.std.specs.Prelude.{◌≡◌, ◌∷◌, ◌++◌, [], OnOk, IfOk, map};
-ghost use Rattle.om_lower.specs.Sites.{part_tree, site_of, variables_at};
+ghost use Rattle.std.specs.Prelude.{◌≡◌, ◌<◌, ◌∷◌, ◌++◌, ◌+◌, [], OnOk, IfOk, length, map};
+ghost use Rattle.om_lower.specs.Sites.{IsRound, KeepsRound, bodies_in, part_tree, variables_at};
 ghost use Rattle.om_resolved.specs.ResolvedTree as trees;
 ghost use Rattle.om_resolved.specs.ResolvedView.{view_resolved_function, view_resolved_part, view_resolved_statement};
 ghost use Rattle.om_rows.specs.Bodies as bodies;
@@ -20,12 +20,13 @@ pub(crate) enum BodyPart<'a> {
     Task(Region<'a>),
 }
 
-/// A body of a function, the body round it, if there is one, and the numbers at its begin.
+/// A body of a function, and the numbers at its begin.
 #[derive(Clone, Copy)]
 pub(crate) struct Site<'a> {
     pub(crate) function: &'a ResolvedFunction,
     pub(crate) part: BodyPart<'a>,
-    pub(crate) outer: Option<BodyPart<'a>>,
+    /// How many bodies it stands in.
+    pub(crate) depth: usize,
     pub(crate) numbers: Numbers,
 }
 
@@ -34,6 +35,8 @@ pub(crate) struct Site<'a> {
 struct Round<'a> {
     function: &'a ResolvedFunction,
     part: BodyPart<'a>,
+    /// How many bodies it stands in.
+    depth: usize,
 }
 
 /// The bodies of a function, in the order of the text.
@@ -44,53 +47,81 @@ pub(crate) fn sites_of<'a>(
 ) -> Result<Vec<Site<'a>>, AllocError>
     ensures { let tree = view_resolved_function function.now in
         IfOk result (λ sites.
-        map site_of sites.items ≡ bodies.function_bodies (numbers_of numbers) tree) }
+        bodies_in [] sites.items ≡ bodies.function_bodies (numbers_of numbers) tree) }
 {
     let mut sites = Vec::new(alloc);
     let inner = numbers.next_body()?;
     sites.push(Site {
         function,
         part: BodyPart::Function,
-        outer: None,
+        depth: 0,
         numbers: inner,
     })?;
     let round = Round {
         function,
         part: BodyPart::Function,
+        depth: 0,
     };
     see_statements(&mut sites, &round, inner, function.body.as_slice())?;
     Ok(sites)
 }
 
-/// Adds the body of a region, and answers the numbers at its begin.
+/// Where a region begins: how many bodies it stands in, and the numbers at its begin.
+#[derive(Clone, Copy)]
+struct Begin {
+    depth: usize,
+    numbers: Numbers,
+}
+
+/// Adds the body of a region.
+#[tactic(auto, using(crate::proofs::SiteBodies::region_keeps, crate::proofs::SiteBodies::round_below))]
 fn add_region<'a>(
     sites: &mut Vec<Site<'a>>,
     round: &Round<'a>,
     numbers: Numbers,
     part: &BodyPart<'a>,
-) -> Result<Numbers, AllocError>
-    ensures behind { IfOk result
-        (λ inner. numbers_of inner ≡ bodies.next_body (numbers_of numbers)) }
+) -> Result<Begin, AllocError>
+    requires round { let f = view_resolved_function round.now.function.now in
+        IsRound round.now.depth (variables_at f round.now.part) sites.old.items }
+    ensures numbers { IfOk result (λ begin. numbers_of begin.numbers
+        ≡ bodies.next_body (numbers_of numbers)) }
+    ensures depth { IfOk result (λ begin. begin.depth ≡ round.now.depth + 1) }
     ensures sites { let f = view_resolved_function round.now.function.now in
-        OnOk result (map site_of sites.new.items
-        ≡ map site_of sites.old.items ++ record {
+        OnOk result (bodies_in [] sites.new.items
+        ≡ bodies_in [] sites.old.items ++ record {
           function = f;
           tree = part_tree part.now;
           outer = variables_at f round.now.part;
           numbers = bodies.next_body (numbers_of numbers);
         } ∷ []) }
+    ensures within { let f = view_resolved_function round.now.function.now in
+        IfOk result (λ begin. IsRound begin.depth (variables_at f part.now) sites.new.items) }
+    ensures kept { OnOk result (KeepsRound round.now.depth sites.old.items sites.new.items) }
 {
     let inner = numbers.next_body()?;
+    let depth = depth_in(sites.as_slice(), round.depth);
     sites.push(Site {
         function: round.function,
         part: *part,
-        outer: Some(round.part),
+        depth,
         numbers: inner,
     })?;
-    Ok(inner)
+    Ok(Begin {
+        depth,
+        numbers: inner,
+    })
 }
 
-#[tactic(auto, unfolding(om_rows::specs::Bodies::regions))]
+/// How many bodies a region stands in, where the body round it stands in so many.
+fn depth_in(sites: &[Site<'_>], depth: usize) -> usize
+    requires { depth < length sites.now }
+    ensures { result ≡ depth + 1 }
+{
+    let _count = sites.len();
+    depth + 1
+}
+
+#[tactic(auto, unfolding(om_rows::specs::Bodies::regions), using(crate::proofs::SiteBodies::round_kept, crate::proofs::SiteBodies::kept_then, crate::proofs::SiteBodies::kept_outer))]
 /// Adds the bodies of the regions in a statement, and answers the numbers behind it.
 #[cycle(statement)]
 fn see_statement<'a>(
@@ -99,12 +130,15 @@ fn see_statement<'a>(
     numbers: Numbers,
     statement: &'a ResolvedStatement,
 ) -> Result<Numbers, AllocError>
+    requires round { let f = view_resolved_function round.now.function.now in
+        IsRound round.now.depth (variables_at f round.now.part) sites.old.items }
     ensures behind { let tree = view_resolved_statement statement.now in
         IfOk result (λ behind. numbers_of behind ≡ bodies.behind (numbers_of numbers) tree) }
     ensures sites { let tree = view_resolved_statement statement.now in
         let f = view_resolved_function round.now.function.now in
-        OnOk result (map site_of sites.new.items ≡ map site_of sites.old.items
+        OnOk result (bodies_in [] sites.new.items ≡ bodies_in [] sites.old.items
         ++ bodies.regions f (variables_at f round.now.part) (numbers_of numbers) tree) }
+    ensures kept { OnOk result (KeepsRound round.now.depth sites.old.items sites.new.items) }
 {
     match statement {
         ResolvedStatement::Declaration { .. } => Ok(numbers),
@@ -136,12 +170,13 @@ fn see_statement<'a>(
                 captures: captures.as_slice(),
                 statement: body,
             });
-            let inner = add_region(sites, round, numbers, &part)?;
+            let begin = add_region(sites, round, numbers, &part)?;
             let within = Round {
                 function: round.function,
                 part,
+                depth: begin.depth,
             };
-            see_statement(sites, &within, inner, body)
+            see_statement(sites, &within, begin.numbers, body)
         }
         ResolvedStatement::Task {
             at,
@@ -155,12 +190,13 @@ fn see_statement<'a>(
                 captures: captures.as_slice(),
                 statement: body,
             });
-            let inner = add_region(sites, round, numbers, &part)?;
+            let begin = add_region(sites, round, numbers, &part)?;
             let within = Round {
                 function: round.function,
                 part,
+                depth: begin.depth,
             };
-            see_statement(sites, &within, inner, body)
+            see_statement(sites, &within, begin.numbers, body)
         }
         ResolvedStatement::Loop { body, .. } => see_statement(sites, round, numbers, body),
         ResolvedStatement::Sections { parts, .. } => {
@@ -172,7 +208,7 @@ fn see_statement<'a>(
     }
 }
 
-#[tactic(auto, unfolding(om_rows::specs::Bodies::all_regions))]
+#[tactic(auto, unfolding(om_rows::specs::Bodies::all_regions), using(crate::proofs::SiteBodies::round_kept, crate::proofs::SiteBodies::kept_then))]
 /// Adds the bodies of the regions in statements, and answers the numbers behind them.
 #[cycle(statement)]
 fn see_statements<'a>(
@@ -181,12 +217,15 @@ fn see_statements<'a>(
     numbers: Numbers,
     items: &'a [ResolvedStatement],
 ) -> Result<Numbers, AllocError>
+    requires round { let f = view_resolved_function round.now.function.now in
+        IsRound round.now.depth (variables_at f round.now.part) sites.old.items }
     ensures behind { let tree = trees.statements (map view_resolved_statement items.now) in
         IfOk result (λ behind. numbers_of behind ≡ bodies.behind_all (numbers_of numbers) tree) }
     ensures sites { let tree = trees.statements (map view_resolved_statement items.now) in
         let f = view_resolved_function round.now.function.now in
-        OnOk result (map site_of sites.new.items ≡ map site_of sites.old.items
+        OnOk result (bodies_in [] sites.new.items ≡ bodies_in [] sites.old.items
         ++ bodies.all_regions f (variables_at f round.now.part) (numbers_of numbers) tree) }
+    ensures kept { OnOk result (KeepsRound round.now.depth sites.old.items sites.new.items) }
 {
     let mut behind = numbers;
     for item in items {
@@ -195,7 +234,7 @@ fn see_statements<'a>(
     Ok(behind)
 }
 
-#[tactic(auto, unfolding(om_rows::specs::Bodies::parts_regions))]
+#[tactic(auto, unfolding(om_rows::specs::Bodies::parts_regions), using(crate::proofs::SiteBodies::round_kept, crate::proofs::SiteBodies::kept_then))]
 /// Adds the bodies of the regions in the parts of `sections`, and answers the numbers behind them.
 #[cycle(statement)]
 fn see_parts<'a>(
@@ -204,12 +243,15 @@ fn see_parts<'a>(
     numbers: Numbers,
     parts: &'a [ResolvedPart],
 ) -> Result<Numbers, AllocError>
+    requires round { let f = view_resolved_function round.now.function.now in
+        IsRound round.now.depth (variables_at f round.now.part) sites.old.items }
     ensures behind { let tree = trees.parts (map view_resolved_part parts.now) in
         IfOk result (λ behind. numbers_of behind ≡ bodies.behind_parts (numbers_of numbers) tree) }
     ensures sites { let tree = trees.parts (map view_resolved_part parts.now) in
         let f = view_resolved_function round.now.function.now in
-        OnOk result (map site_of sites.new.items ≡ map site_of sites.old.items
+        OnOk result (bodies_in [] sites.new.items ≡ bodies_in [] sites.old.items
         ++ bodies.parts_regions f (variables_at f round.now.part) (numbers_of numbers) tree) }
+    ensures kept { OnOk result (KeepsRound round.now.depth sites.old.items sites.new.items) }
 {
     let mut behind = numbers;
     for part in parts {

@@ -1,10 +1,11 @@
-use Rattle.std.proofs.Common.{map, take}
+use Rattle.std.proofs.Common.{◌≡◌, [], take}
 use Rattle.om_lower.specs.Made.{AreListsOf, AreMade}
-use Rattle.om_lower.specs.Sites.{site_of}
+use Rattle.om_lower.specs.Sites.{bodies_in, round_behind}
 use Rattle.om_resolved.specs.ResolvedView.{view_resolved}
 use Rattle.om_lower.proofs.bodies.lower_bodies.Given as goal
 
 abbrev pub invariant-loop-site : goal.invariant-loop-site
 invariant-loop-site l =
-    AreMade (view_resolved l.whole.resolved.now) l.made.lists (take l.site-index (map site_of l.sites)) l.made.bodies
-    × AreListsOf (take l.site-index (map site_of l.sites)) l.made.lists
+    AreMade (view_resolved l.whole.resolved.now) l.made.lists (take l.site-index (bodies_in [] l.sites)) l.made.bodies
+    × AreListsOf (take l.site-index (bodies_in [] l.sites)) l.made.lists
+    × (l.round.items ≡ round_behind [] (take l.site-index l.sites))

@@ -1,5 +1,5 @@
-use Rattle.std.proofs.Common.{◌≡◌, ◌++◌, map, drop}
-use Rattle.om_lower.specs.Sites.{site_of, variables_at}
+use Rattle.std.proofs.Common.{◌≡◌, ◌++◌, [], map, drop}
+use Rattle.om_lower.specs.Sites.{KeepsRound, bodies_in, variables_at}
 use Rattle.om_resolved.specs.ResolvedTree as trees
 use Rattle.om_resolved.specs.ResolvedView.{view_resolved_function, view_resolved_part, view_resolved_statement}
 use Rattle.om_rows.specs.Bodies as bodies
@@ -13,8 +13,9 @@ invariant-see_statements-loop-item l =
     let f = view_resolved_function l.round.function.now in
     let outer = variables_at f l.round.part in
     (bodies.behind_all (numbers_of l.behind) left ≡ bodies.behind_all (numbers_of l.fn.numbers) all)
-    × (map site_of l.sites.items ++ bodies.all_regions f outer (numbers_of l.behind) left
-    ≡ map site_of l.fn.sites.items ++ bodies.all_regions f outer (numbers_of l.fn.numbers) all)
+    × (bodies_in [] l.sites.items ++ bodies.all_regions f outer (numbers_of l.behind) left
+    ≡ bodies_in [] l.fn.sites.items ++ bodies.all_regions f outer (numbers_of l.fn.numbers) all)
+    × KeepsRound l.round.depth l.fn.sites.items l.sites.items
 
 abbrev pub invariant-see_parts-loop-part : goal.invariant-see_parts-loop-part
 invariant-see_parts-loop-part l =
@@ -23,5 +24,6 @@ invariant-see_parts-loop-part l =
     let f = view_resolved_function l.round.function.now in
     let outer = variables_at f l.round.part in
     (bodies.behind_parts (numbers_of l.behind) left ≡ bodies.behind_parts (numbers_of l.fn.numbers) all)
-    × (map site_of l.sites.items ++ bodies.parts_regions f outer (numbers_of l.behind) left
-    ≡ map site_of l.fn.sites.items ++ bodies.parts_regions f outer (numbers_of l.fn.numbers) all)
+    × (bodies_in [] l.sites.items ++ bodies.parts_regions f outer (numbers_of l.behind) left
+    ≡ bodies_in [] l.fn.sites.items ++ bodies.parts_regions f outer (numbers_of l.fn.numbers) all)
+    × KeepsRound l.round.depth l.fn.sites.items l.sites.items
