@@ -32,7 +32,8 @@ pub(crate) fn add_beginnings<R: Threads + Wait + Sync>(
     let source = body.trim_end().as_bytes();
     let mut last = None;
     for end in 0..=source.len() {
-        let told = told_of(rt, alloc, 2, &source[..end])?;
+        let beginning = source.get(..end).unwrap_or(source);
+        let told = told_of(rt, alloc, 2, beginning)?;
         let answer = answer_in(&told);
         if last != Some(answer) {
             add_answer(report, end, answer)?;
