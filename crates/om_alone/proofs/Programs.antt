@@ -12,6 +12,7 @@ use Rattle.om_code.specs.declared.raw.Source.{Source}
 use Rattle.om_code.specs.declared.raw.Source.TheVariants as source
 use Rattle.om_code.specs.Frames as frames
 use Rattle.om_code.specs.Frames.{FrameTurn, Finished}
+use Rattle.om_code.specs.Places.{no_body}
 use Rattle.om_code.specs.Validity.{IsKnown, IsValid, IsValidBody, CanBegin, FitsOuter}
 use Rattle.om_cells.specs.declared.control.Control.{Control}
 use Rattle.om_cells.specs.declared.control.Control.TheVariants.{Running, Faulted, Ended}
@@ -143,7 +144,7 @@ first_owns program valid = there (slice_get program.bodies program.main) refl va
     there (Some body) is b =
         λ slot.
         ap (λ (o : Option Body). slice_index_or
-        (homes_for (0 ∷ []) 0 [] (unwrap_or o (record { code = []; slots = []; given = [] })).slots) slot Own) is
+        (homes_for (0 ∷ []) 0 [] (unwrap_or o no_body).slots) slot Own) is
         ∙ homes_own (0 ∷ []) 0 [] body.slots b.fits slot
 
 pub programs_start : ProgramsStart

@@ -1,11 +1,11 @@
 //! Whether what a program names exists.
 
 ghost use Rattle.std.specs.Prelude.{◌≡◌, ◌↔◌, ◌≤◌, ◌<◌, [], IsTrue, All, length};
-ghost use Rattle.om_code.specs.Validity.{HasTables, HasLength, IsKnown, IsGiven, NamesKnown, IsKnownPlace, IsKnownText, IsKnownBody, CanBegin, FitsOuter, value_count};
+ghost use Rattle.om_code.specs.Validity.{HasTables, HasLength, IsKnown, IsGiven, NamesKnown, IsKnownPlace, IsKnownText, IsKnownBody, CanBegin, FitsOuter, HasNames, IsScopeOf, value_count};
 
 use crate::instruction::{Instr, Place};
 use crate::program::NUMBERS;
-use crate::raw::{Body, GlobalVariable, Line, Piece, Raw, Slot, Source};
+use crate::raw::{Body, GlobalVariable, Line, Names, Piece, Raw, Scope, Slot, Source};
 use om_seq::Seq;
 
 /// Whether each global has a number and a length, and the main body begins from nothing.
@@ -43,6 +43,32 @@ pub(crate) fn is_known(raw: &Raw, body: &Body) -> bool
         && have_cells(slots)
         && are_given(slots, body.given.as_slice())
         && name_known(raw, slots, body.code.as_slice())
+        && has_names(slots, &body.names)
+}
+
+/// Whether the variables that names mean in a body, and those that it has from the body round it, are
+/// slots of it.
+fn has_names(slots: &[Slot], names: &Names) -> bool
+    ensures { IsTrue result ↔ HasNames slots.now names.now }
+{
+    are_scopes(slots, names.scopes.as_slice()) && names.outer.len() <= slots.len()
+}
+
+/// Whether the variable of each scope is a slot of its body, where it has one.
+fn are_scopes(slots: &[Slot], scopes: &[Scope]) -> bool
+    ensures { IsTrue result ↔ All (λ scope. IsScopeOf slots.now scope) scopes.now }
+{
+    scopes.iter().all(|scope| is_scope(slots, scope))
+}
+
+/// Whether the variable of a scope is a slot of its body, where it has one.
+fn is_scope(slots: &[Slot], scope: &Scope) -> bool
+    ensures { IsTrue result ↔ IsScopeOf slots.now scope.now }
+{
+    match scope.slot {
+        None => true,
+        Some(slot) => (slot as usize) < slots.len(),
+    }
 }
 
 /// Whether each slot has a cell.

@@ -12,7 +12,7 @@ use Rattle.om_cells.specs.declared.control.Control as controls
 use Rattle.om_cells.specs.declared.control.Control.TheVariants.{Running}
 use Rattle.om_cells.specs.State.{State}
 use Rattle.om_cells.specs.Values.{control_in}
-use Rattle.om_code.specs.Places.{slots_of}
+use Rattle.om_code.specs.Places.{slots_of, no_body}
 use Rattle.om_code.specs.Validity.{FitsOuter, CanBegin, IsKnownBody}
 use Rattle.om_code.specs.Ways.{starts}
 use Rattle.om_cells.specs.declared.control.Home.{Home}
@@ -120,7 +120,7 @@ begun_stands : (program : Raw) (owned : Owned) (around : List Slot) (homes : Lis
 begun_stands program owned around homes task frame number values ordinal None a e fits = absurd fits
 begun_stands program owned around homes task frame number values ordinal (Some body) a e fits =
     let same : body_of program number ≡ body =
-    ap (λ o. unwrap_or o (record { code = []; slots = []; given = [] })) e in
+    ap (λ o. unwrap_or o no_body) e in
     record {
       body = body;
       found = e;

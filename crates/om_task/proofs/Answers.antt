@@ -3,6 +3,7 @@ use Rattle.std.proofs.Common.{◌≡◌, subst, sym, ap, ℕ, [], Some}
 use Rattle.std.specs.Prelude.{Result, Ok, Err, IfOk, slice_get, unwrap_or}
 use Rattle.om_code.specs.declared.raw.Body.{Body}
 use Rattle.om_code.specs.declared.raw.Raw.{Raw}
+use Rattle.om_code.specs.Places.{no_body}
 use Rattle.om_cells.specs.declared.control.Context.{Context}
 use Rattle.om_cells.specs.State.{State}
 use Rattle.om_row.specs.declared.row.Answer.{Answer}
@@ -19,7 +20,7 @@ at_state (Err e) a s h = tt
 
 -- the body that is found is that of the number
 pub body_is : (raw : Raw) (n : ℕ) (b : Body) → slice_get raw.bodies n ≡ Some b → b ≡ body_of raw n
-body_is raw n b h = sym (ap (λ o. unwrap_or o (record { code = []; slots = []; given = [] })) h)
+body_is raw n b h = sym (ap (λ o. unwrap_or o no_body) h)
 
 -- equal makings of equal bodies have equal answers
 pub same_spawn : {E : Type 0} (r : Result Answer E) (m n : Making) (b d : Body) (c : Context) (s : State) → m ≡ n

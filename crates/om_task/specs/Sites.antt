@@ -4,7 +4,7 @@ use Rattle.om_code.specs.declared.raw.Raw.{Raw}
 use Rattle.om_code.specs.declared.raw.Body.{Body}
 use Rattle.om_code.specs.declared.raw.Slot.{Slot}
 use Rattle.om_code.specs.declared.frame.Operand.{Operand}
-use Rattle.om_code.specs.Places.{slots_of, line_at}
+use Rattle.om_code.specs.Places.{slots_of, line_at, no_body}
 use Rattle.om_cells.specs.declared.control.Stack.{Stack}
 use Rattle.om_cells.specs.declared.control.Context.{Context}
 use Rattle.om_row.specs.declared.row.Launch.{Launch}
@@ -39,7 +39,7 @@ launch s takes body = record { to = next s; takes = takes; body = body }
 
 -- the body of a number; where there is none, one without code
 abbrev pub body_of : Raw → ℕ → Body
-body_of raw number = unwrap_or (slice_get raw.bodies number) (record { code = []; slots = []; given = [] })
+body_of raw number = unwrap_or (slice_get raw.bodies number) no_body
 
 -- the name of a lock, and the targets of a PICK
 abbrev pub lock_of : Raw → ℕ → List ℕ
