@@ -1,5 +1,5 @@
 -- What is in a statement is smaller than it, and has code where that does.
-use Rattle.std.proofs.Common.{◌≡◌, ◌<◌, Bool, true, false, map, option_map, sym, ap, ◌∙◌, subst, arith}
+use Rattle.std.proofs.Common.{◌≡◌, ◌<◌, Bool, true, false, List, None, map, option_map, sym, ap, ◌∙◌, subst, arith}
 use Rattle.std.specs.Prelude.{IfSome, is_some}
 use Rattle.om_statements.specs.declared.spot.Spot.{Spot}
 use Rattle.om_statements.specs.Stretches.{IsNoAtomic}
@@ -11,10 +11,12 @@ use Rattle.om_resolved.specs.declared.resolved.ResolvedStatement.TheViews.{size-
 use Rattle.om_resolved.specs.declared.resolved.ResolvedStatement.TheViews.{sized-Do, sized-For, sized-If, sized-IfElse}
 use Rattle.om_resolved.specs.declared.resolved.ResolvedStatement.TheViews.{sized-Loop, sized-While}
 use Rattle.om_resolved.specs.ResolvedTree as trees
-use Rattle.om_resolved.specs.ResolvedTree.{ResolvedStatementTree}
+use Rattle.om_resolved.specs.ResolvedTree.{ResolvedPartsTree, ResolvedStatementTree, ResolvedStatementsTree}
 use Rattle.om_resolved.specs.ResolvedView.{view_resolved_clause, view_resolved_expression, view_resolved_loop}
 use Rattle.om_resolved.specs.ResolvedView.{view_resolved_start, view_resolved_statement}
-use Rattle.om_rows.specs.Coded.{EffectHasCode, LoopHasCode, StartHasCode, StatementHasCode, ValueHasCode}
+use Rattle.om_rows.specs.Coded.{EffectHasCode, LoopHasCode, PartsHaveCode, StartHasCode, StatementHasCode}
+use Rattle.om_rows.specs.Coded.{StatementsHaveCode, ValueHasCode}
+use Rattle.om_tables.specs.declared.numbers.Numbers as tables
 use Rattle.om_statements.proofs.Views.{view_construct, view_do, view_for, view_if, view_if_else, view_loop, view_while}
 
 -- ---- smaller
@@ -132,3 +134,25 @@ pub code_at : (x y : Spot) (s t : ResolvedStatement) → x ≡ y → s ≡ t
 code_at x y s t e f h =
     subst (λ z. StatementHasCode (is_some z.jumps.over) (is_some z.jumps.next) (view_resolved_statement s)) (sym e)
     (subst (λ z. StatementHasCode (is_some y.jumps.over) (is_some y.jumps.next) (view_resolved_statement z)) (sym f) h)
+
+-- ---- code in a loop
+
+pub code_here : (x y : Spot) (left rest : ResolvedStatementsTree) (s : ResolvedStatementTree) → x ≡ y
+    → left ≡ trees.Statement s rest → StatementsHaveCode (is_some y.jumps.over) (is_some y.jumps.next) left
+    → StatementHasCode (is_some x.jumps.over) (is_some x.jumps.next) s
+code_here x y left rest s e here code =
+    let both : StatementsHaveCode (is_some y.jumps.over) (is_some y.jumps.next) (trees.Statement s rest) =
+    subst (λ z. StatementsHaveCode (is_some y.jumps.over) (is_some y.jumps.next) z) here code in
+    subst (λ z. StatementHasCode (is_some z.jumps.over) (is_some z.jumps.next) s) (sym e) both.0
+
+pub parts_code_here : (x : Spot) (n : tables.Numbers) (left rest : ResolvedPartsTree) (xs ys : List ResolvedStatement)
+    → x ≡ record { numbers = n; jumps = record { over = None; next = None } } → xs ≡ ys
+    → left ≡ trees.Part (trees.statements (map view_resolved_statement ys)) rest → PartsHaveCode left
+    → StatementsHaveCode (is_some x.jumps.over) (is_some x.jumps.next)
+    (trees.statements (map view_resolved_statement xs))
+parts_code_here x n left rest xs ys e same here code =
+    let both : PartsHaveCode (trees.Part (trees.statements (map view_resolved_statement ys)) rest) =
+    subst (λ z. PartsHaveCode z) here code in
+    subst (λ z. StatementsHaveCode (is_some z.jumps.over) (is_some z.jumps.next)
+    (trees.statements (map view_resolved_statement xs))) (sym e)
+    (subst (λ zs. StatementsHaveCode false false (trees.statements (map view_resolved_statement zs))) (sym same) both.0)

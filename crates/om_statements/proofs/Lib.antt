@@ -7,3 +7,5 @@ pub mod Regions
 pub mod SectionsRow
 pub mod PartLists
 pub mod Inside
+pub mod RegionEnds
+pub mod Within

@@ -76,6 +76,11 @@ view_task at clauses captures s = ap view_resolved_statement (sym (v.rolls-Task 
     ∙ fold-roll-ResolvedStatement ResolvedStatementTree ResolvedStatementsTree statement_layer part_layer
     (ResolvedStatement-F.Task at clauses captures s)
 
+pub view_block : (at : _) (items : _) → view_resolved_statement (v.Block at items)
+    ≡ trees.Block at (trees.statements (map view_resolved_statement items.items))
+view_block at items = ap view_resolved_statement (sym (v.rolls-Block at items)) ∙ fold-roll-ResolvedStatement
+    ResolvedStatementTree ResolvedStatementsTree statement_layer part_layer (ResolvedStatement-F.Block at items)
+
 pub view_sections : (at : _) (clauses : _) (nowait : _) (parts : _) → view_resolved_statement
     (v.Sections at clauses nowait parts)
     ≡ trees.Sections at (map view_resolved_clause clauses.items) nowait

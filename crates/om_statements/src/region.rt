@@ -1,6 +1,6 @@
 //! A `parallel` and a `task`, in the body that meets them.
 
-ghost use Rattle.std.specs.Prelude.{◌≡◌, IfOk, IfSome, OnOk, length, map};
+ghost use Rattle.std.specs.Prelude.{◌≡◌, IfOk, IfSome, OnOk, Some, length, map, slice_get};
 ghost use Rattle.om_statements.specs.declared.labels.JumpLabels.{JumpLabels};
 ghost use Rattle.om_statements.specs.Stretches.{EmitsRow};
 ghost use Rattle.om_resolved.specs.ResolvedTree as trees;
@@ -12,12 +12,13 @@ ghost use Rattle.om_rows.specs.Statements.{clause_value, given_copies, load_orig
 ghost use Rattle.om_statements.specs.Emits.{EmitsStatement};
 ghost use Rattle.om_tables.specs.Numbering.{numbers_of};
 ghost use Rattle.om_tables.specs.Scopes.{names_of};
+ghost use Rattle.om_tables.specs.Tables.{ends_in};
 
 use crate::stand_in::{fork, load_originals, spawn, team_size};
 use om_emit::draft::Draft;
 use om_lexer::Span;
 use om_resolved::{Capture, ResolvedClause, ResolvedStatement};
-use om_tables::{Numbers, Scope, behind, given_copies};
+use om_tables::{Numbers, Scope, given_copies};
 use std::alloc::{AllocError, Global};
 
 /// A `parallel` or a `task`, by its parts.
@@ -39,8 +40,11 @@ pub(crate) fn parallel(
     numbers: Numbers,
     region: &RegionHead<'_>,
 ) -> Result<Numbers, AllocError>
-    requires { IfSome (clause_value (map view_resolved_clause region.now.clauses.now))
+    requires code { IfSome (clause_value (map view_resolved_clause region.now.clauses.now))
         ValueHasCode }
+    requires ends { let body = view_resolved_statement region.now.statement.now in
+        slice_get (ends_in scope.now.tables.now) numbers.bodies
+        ≡ Some (rows.behind (rows.next_body (numbers_of numbers)) body) }
     ensures behind { let body = view_resolved_statement region.now.statement.now in
         IfOk result
         (λ after. numbers_of after ≡ rows.behind (rows.next_body (numbers_of numbers)) body) }
@@ -54,9 +58,7 @@ pub(crate) fn parallel(
     let sized = team_size(draft, scope, line, region.clauses)?;
     let count = load_given(alloc, draft, scope, region)?;
     fork(draft, line, numbers.bodies, sized, count)?;
-    let inner = numbers.next_body()?;
-    let after = behind(inner, region.statement)?;
-    Ok(after)
+    Ok(scope.behind_region(numbers.bodies))
 }
 
 /// Writes what stands in the place of a `task`, and gives the numbers behind it. Its body gets the
@@ -68,6 +70,9 @@ pub(crate) fn task(
     numbers: Numbers,
     region: &RegionHead<'_>,
 ) -> Result<Numbers, AllocError>
+    requires ends { let body = view_resolved_statement region.now.statement.now in
+        slice_get (ends_in scope.now.tables.now) numbers.bodies
+        ≡ Some (rows.behind (rows.next_body (numbers_of numbers)) body) }
     ensures behind { let body = view_resolved_statement region.now.statement.now in
         IfOk result
         (λ after. numbers_of after ≡ rows.behind (rows.next_body (numbers_of numbers)) body) }
@@ -79,9 +84,7 @@ pub(crate) fn task(
 {
     let count = load_given(alloc, draft, scope, region)?;
     spawn(draft, region.at.line, numbers.bodies, count)?;
-    let inner = numbers.next_body()?;
-    let after = behind(inner, region.statement)?;
-    Ok(after)
+    Ok(scope.behind_region(numbers.bodies))
 }
 
 /// Loads the originals of the firstprivate copies of a region, and says how many there are.

@@ -3,3 +3,4 @@ pub mod Cells
 pub mod Copied
 pub mod Called
 pub mod Noting
+pub mod Ending

@@ -1,6 +1,7 @@
 pub mod Names
 pub mod Scopes
 pub mod Numbering
+pub mod Ends
 pub mod Sighted
 pub mod Noted
 pub mod Copies

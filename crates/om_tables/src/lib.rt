@@ -2,6 +2,7 @@
 #![tactic(auto)]
 
 mod copies;
+mod ends;
 mod extents;
 mod formats;
 mod mentions;

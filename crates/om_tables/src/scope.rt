@@ -5,6 +5,7 @@ ghost use Rattle.om_resolved.specs.ResolvedView.{view_resolved_function};
 ghost use Rattle.om_rows.specs.Bodies as rows;
 ghost use Rattle.om_tables.specs.Numbering.{function_numbers};
 
+use crate::numbers::Numbers;
 use crate::tables::Tables;
 use crate::variables::Variables;
 use om_code::instruction::Place;
@@ -27,7 +28,7 @@ pub struct Scope<'a> {
 }
 
 impl<'a> Scope<'a> {
-    ghost use Rattle.std.specs.Prelude.{◌≡◌, ◌≤◌, length};
+    ghost use Rattle.std.specs.Prelude.{◌≡◌, ◌≤◌, ◌<◌, Some, length, slice_get};
     ghost use Rattle.std.specs.Str.{bytes_eq};
     ghost use Rattle.om_resolved.specs.ResolvedView.{view_resolved};
     ghost use Rattle.om_rows.specs.Bodies as rows;
@@ -36,7 +37,8 @@ impl<'a> Scope<'a> {
     ghost use Rattle.om_rows.specs.Tables.{number_in};
     ghost use Rattle.om_tables.specs.Names.{names_in};
     ghost use Rattle.om_tables.specs.Scopes.{names_of};
-    ghost use Rattle.om_tables.specs.Tables.{IsTablesOf};
+    ghost use Rattle.om_tables.specs.Numbering.{numbers_of};
+    ghost use Rattle.om_tables.specs.Tables.{IsTablesOf, ends_in};
 
     /// That of a body of `main`, or of another function, with at most 256 variables.
     pub fn new(
@@ -47,7 +49,9 @@ impl<'a> Scope<'a> {
     ) -> Scope<'a>
         requires few { length variables.now ≤ 256 }
         requires tables { IsTablesOf (view_resolved resolved.now) tables.now }
-        ensures { names_of result ≡ names_in (view_resolved resolved.now) variables.now is_main }
+        ensures names { names_of result
+            ≡ names_in (view_resolved resolved.now) variables.now is_main }
+        ensures tables { result.tables.now ≡ tables.now }
     {
         Scope {
             functions: resolved.functions.as_slice(),
@@ -105,6 +109,14 @@ impl<'a> Scope<'a> {
     {
         let number = number_at(self.tables.bodies.as_slice(), function);
         number.unwrap_or(self.tables.behind.bodies)
+    }
+
+    /// The numbers behind the region whose body gets this number.
+    pub fn behind_region(&self, body: u32) -> Numbers
+        requires { body < length (ends_in self.now.tables.now) }
+        ensures { slice_get (ends_in self.now.tables.now) body ≡ Some (numbers_of result) }
+    {
+        self.tables.ends[body as usize]
     }
 
     /// Whether the body stands in `main`.

@@ -9,6 +9,7 @@ ghost use Rattle.om_tables.specs.Noted.{noted};
 ghost use Rattle.om_tables.specs.Numbering.{function_numbers, numbers_of};
 ghost use Rattle.om_tables.specs.Tables.{IsTablesOf};
 
+use crate::ends::ends_of;
 use crate::mentions::{Mentions, note_statements};
 use crate::numbers::{Numbers, behind_function};
 use crate::texts::Texts;
@@ -26,21 +27,26 @@ pub struct Tables {
     pub bodies: Vec<u32>,
     /// The numbers behind all functions.
     pub behind: Numbers,
+    /// The numbers behind each body, by its number.
+    pub ends: Vec<Numbers>,
 }
 
 /// The tables of a tree.
+#[tactic(auto, using(crate::proofs::Ending::all_ends))]
 pub fn tables_of(alloc: Global, resolved: &Resolved) -> Result<Tables, AllocError>
     ensures { IfOk result (λ tables. IsTablesOf (view_resolved resolved.now) tables) }
 {
     let functions = resolved.functions.as_slice();
     let mut bodies = Vec::new(alloc);
     let behind = number_functions(&mut bodies, functions)?;
+    let ends = ends_of(alloc, functions)?;
     let Mentions { formats, locks, .. } = mentions_of(alloc, functions)?;
     Ok(Tables {
         formats,
         locks,
         bodies,
         behind,
+        ends,
     })
 }
 

@@ -1,20 +1,19 @@
 use Rattle.std.proofs.Common.{◌≤◌, ◌+◌, ◌^◌, arith, drop, refl, length, map, option_map, sym, ap, subst, ◌∙◌}
 use denote.Param.Weighed.{most}
 use Rattle.std.proofs.lemmas.List.{drop_all}
-use Rattle.std.specs.Prelude.{is_some}
 use Rattle.om_resolved.specs.declared.resolved.ResolvedPart.{out-ResolvedPart}
-use Rattle.om_resolved.specs.declared.resolved.ResolvedStatement.TheViews.{size-ResolvedPart, size-ResolvedStatement}
-use Rattle.om_resolved.specs.declared.resolved.ResolvedStatement.TheViews.{sized-Sections}
+use Rattle.om_resolved.specs.declared.resolved.ResolvedStatement.TheViews.{size-ResolvedStatement, size_is-ResolvedPart}
 use Rattle.om_resolved.specs.ResolvedTree as trees
 use Rattle.om_resolved.specs.ResolvedView.{view_resolved_clause, view_resolved_expression, view_resolved_loop}
 use Rattle.om_resolved.specs.ResolvedView.{view_resolved_part, view_resolved_start, view_resolved_statement}
 use Rattle.om_rows.specs.Bodies as rows
-use Rattle.om_rows.specs.Coded.{PartsHaveCode, StatementHasCode}
 use Rattle.om_tables.specs.Numbering.{numbers_of}
 use Rattle.om_tables.specs.Scopes.{names_of}
 use Rattle.om_statements.specs.Going.{free_with, with_none}
 use Rattle.om_statements.proofs.Lists.{left_item, left_next, no_atomic, numbers_are, onward_begin, onward_done, spot_is}
 use Rattle.om_statements.proofs.Lists.{statement_is}
+use Rattle.om_statements.proofs.RegionEnds.{ends_here, ends_next, parallel_ends, parts_ends_here, parts_ends_next}
+use Rattle.om_statements.proofs.RegionEnds.{task_ends}
 use Rattle.om_statements.proofs.Views.{view_break, view_construct, view_continue, view_do, view_for, view_if}
 use Rattle.om_statements.proofs.Views.{view_if_else, view_loop, view_parallel, view_sections, view_stand_alone}
 use Rattle.om_statements.proofs.Views.{view_task, view_while}
@@ -23,9 +22,9 @@ use Rattle.om_statements.proofs.Forms.{emits_if, emits_if_else, emits_loop, emit
 use Rattle.om_statements.proofs.PartLists.{free_first, free_start, items_are, left_count, left_part, onward_parts_begin}
 use Rattle.om_statements.proofs.PartLists.{onward_parts_done, opens_are, parts_are, parts_next}
 use Rattle.om_statements.proofs.SectionsRow.{emits_sections, labels_are}
-use Rattle.om_statements.proofs.Inside.{code_at, construct_code, construct_inside, do_code, do_inside, else_inside}
-use Rattle.om_statements.proofs.Inside.{for_code, for_inside, if_code, if_else_code, if_inside, loop_code, loop_inside}
-use Rattle.om_statements.proofs.Inside.{then_inside, while_code, while_inside}
+use Rattle.om_statements.proofs.Inside.{code_here, if_code, if_else_code, parts_code_here, while_code}
+use Rattle.om_statements.proofs.Within.{block_within, construct_within, do_within, else_within, for_within, if_within}
+use Rattle.om_statements.proofs.Within.{loop_within, parts_within, then_within, while_within, with_depth}
 use Rattle.om_statements.specs.Parts.{AreFree}
 use Rattle.om_statements.proofs.statement.+statement.Goals as goal
 
@@ -258,19 +257,31 @@ statement-returns-in_ok-end_construct-in-Construct t c =
 
 pub statements-loop-item-init : goal.statements-loop-item-init
 statements-loop-item-init t c =
-    (c.requires.code, refl, onward_begin _ _ _ _ _)
+    (c.requires.code, refl, onward_begin _ _ _ _ _, c.requires.ends)
+
+pub statements-statement-requires : goal.statements-statement-requires
+statements-statement-requires t c =
+    let here = left_item c.args.items.now c.loop-item.item-index c.item-item.result c.loop-item-test.true
+    c.item-item.is in (
+      with_depth _ _ _ c.args.items.now c.loop-item.item-index c.item-item.result c.loop-item-test.true c.item-item.is
+          c.decreases (λ deep. omega (arith, deep, c.decreases)),
+      (
+        code_here _ _ _ _ _ c.behind-here.ensures here c.loop-item.invariant.0,
+        ends_here _ _ _ _ _ _ c.behind-here.ensures here c.loop-item.invariant.3,
+      ),
+    )
 
 pub statements-loop-item-preserved : goal.statements-loop-item-preserved
 statements-loop-item-preserved t c =
     let here = left_item c.args.items.now c.loop-item.item-index c.item-item.result c.loop-item-test.true
     c.item-item.is in
-    let next = left_next _ _ _ (names_of c.args.scope.now) c.args.spot.jumps _ _ _ _ _ _ _ _ _ _ here
-    (c.in_ok-after.ensures.behind
+    let after = c.in_ok-after.ensures.behind
     ∙ ap (λ x. rows.behind (numbers_of x.numbers) (view_resolved_statement c.item-item.result))
-    c.behind-here.ensures)
+    c.behind-here.ensures in
+    let next = left_next _ _ _ (names_of c.args.scope.now) c.args.spot.jumps _ _ _ _ _ _ _ _ _ _ here after
     (spot_is (names_of c.args.scope.now) _ _ _ _ _ c.behind-here.ensures c.in_ok-after.ensures.emitted)
     c.loop-item.invariant.0 c.loop-item.invariant.1 c.loop-item.invariant.2 in
-    (next.0, next.1, next.2)
+    (next.0, next.1, next.2, ends_next _ _ _ _ _ _ here after c.loop-item.invariant.3)
 
 pub statements-returns-clause-emitted : goal.statements-returns-clause-emitted
 statements-returns-clause-emitted t c =
@@ -313,6 +324,7 @@ parts-loop-index-init t c =
       free_start c.args.spot.first (length c.args.sections.now) c.args.draft.now c.requires.free,
       onward_parts_begin (names_of c.args.scope.now) c.args.spot (numbers_of c.args.spot.numbers) all
           (c.args.spot.first + 0) c.args.draft.now (omega arith),
+      c.requires.ends,
     )
 
 pub parts-define-requires : goal.parts-define-requires
@@ -321,6 +333,22 @@ parts-define-requires t c =
     in
     free_first (c.args.spot.first + c.loop-index.index) (length (drop c.loop-index.index c.args.sections.now)) _
     c.loop-index.draft refl (omega (arith, left)) c.loop-index.invariant.2
+
+pub parts-statements-requires : goal.parts-statements-requires
+parts-statements-requires t c =
+    let here = left_part c.args.sections.now c.loop-index.index c.index-sections-index.result c.loop-index-test.true
+    c.index-sections-index.is in
+    let size = size_is-ResolvedPart c.index-sections-index.result in
+    let items = ap (most size-ResolvedStatement) c.as_slice.ensures.value in (
+      with_depth _ _ _ c.args.sections.now c.loop-index.index c.index-sections-index.result c.loop-index-test.true
+          c.index-sections-index.is c.decreases (λ deep. omega (arith, deep, size, items, c.decreases)),
+      (
+        parts_code_here _ _ _ _ _ _ c.outside-inside.ensures c.as_slice.ensures.value here
+            c.loop-index.invariant.0,
+        parts_ends_here _ _ _ _ _ _ _ c.outside-inside.ensures c.as_slice.ensures.value here
+            c.loop-index.invariant.4,
+      ),
+    )
 
 pub parts-loop-index-preserved : goal.parts-loop-index-preserved
 parts-loop-index-preserved t c =
@@ -332,19 +360,20 @@ parts-loop-index-preserved t c =
     let next = c.args.spot.first + (c.loop-index.index + 1) in
     let items = (out-ResolvedPart c.index-sections-index.result).items.items in
     let seen = trees.statements (map view_resolved_statement items) in
-    parts_next (names_of c.args.scope.now) c.args.spot (numbers_of c.args.spot.numbers)
-    (numbers_of c.loop-index.numbers) (numbers_of c.in_ok-after.after) _ _ _ seen
-    label next (length (drop (c.loop-index.index + 1) c.args.sections.now)) _ _ _ _ _ here
-    (c.in_ok-after.ensures.behind
+    let after = c.in_ok-after.ensures.behind
     ∙ ap (λ x. rows.behind_all (numbers_of x.numbers)
     (trees.statements (map view_resolved_statement c.as_slice.result.now))) c.outside-inside.ensures
     ∙ ap (λ xs. rows.behind_all (numbers_of c.loop-index.numbers)
-    (trees.statements (map view_resolved_statement xs))) c.as_slice.ensures.value)
+    (trees.statements (map view_resolved_statement xs))) c.as_slice.ensures.value in
+    let written = parts_next (names_of c.args.scope.now) c.args.spot (numbers_of c.args.spot.numbers)
+    (numbers_of c.loop-index.numbers) (numbers_of c.in_ok-after.after) _ _ _ seen
+    label next (length (drop (c.loop-index.index + 1) c.args.sections.now)) _ _ _ _ _ here after
     (omega arith) (omega arith) c.define.ensures
     (items_are (names_of c.args.scope.now) _ _ _ items _ _ c.outside-inside.ensures c.as_slice.ensures.value
     c.in_ok-after.ensures.emitted)
     c.in_ok-put.ensures c.loop-index.invariant.0 c.loop-index.invariant.1
-    (subst (λ n. AreFree label n c.loop-index.draft) left c.loop-index.invariant.2) c.loop-index.invariant.3
+    (subst (λ n. AreFree label n c.loop-index.draft) left c.loop-index.invariant.2) c.loop-index.invariant.3 in
+    (written.0, written.1, written.2, written.3, parts_ends_next _ _ _ _ _ seen here after c.loop-index.invariant.4)
 
 pub parts-returns-clause-emitted : goal.parts-returns-clause-emitted
 parts-returns-clause-emitted t c =
@@ -355,26 +384,14 @@ parts-returns-clause-emitted t c =
 
 pub statement-parts-requires : goal.statement-parts-requires
 statement-parts-requires t c =
-    let seen = ap view_resolved_statement c.in-Sections.is ∙ view_sections c.in-Sections.at c.in-Sections.clauses
-    c.in-Sections.nowait c.in-Sections.sections in
     let opened = c.in_ok-inside-in-Sections.ensures in
-    let same = ap length (c.as_slice-in-Sections-2.ensures.value ∙ sym c.as_slice-in-Sections-3.ensures.value) in (
-      (let h1 = ap size-ResolvedStatement c.in-Sections.is in
-          let h2 = sized-Sections c.in-Sections.at c.in-Sections.clauses c.in-Sections.nowait c.in-Sections.sections
-          in
-          let h3 = ap (most size-ResolvedPart) c.as_slice-in-Sections-3.ensures.value in
-          omega (arith, h1, h2, h3, c.decreases)),
-      (
-        subst (λ xs. PartsHaveCode (trees.parts (map view_resolved_part xs)))
-            (sym c.as_slice-in-Sections-3.ensures.value)
-            (subst (λ z. StatementHasCode (is_some c.args.spot.jumps.over) (is_some c.args.spot.jumps.next) z) seen
-            c.requires.code),
-        (
-          subst (λ n. AreFree c.in_ok-inside-in-Sections.inside.first n c.begin_parts.new.draft) same opened.free,
-          subst (λ n. c.in_ok-inside-in-Sections.inside.first + n ≤ 2 ^ 32) same opened.fit,
-        ),
-      ),
-    )
+    let same = ap length (c.as_slice-in-Sections-2.ensures.value ∙ sym c.as_slice-in-Sections-3.ensures.value) in
+    let part = parts_within _ _ c.args.spot c.args.tree.now _ c.in-Sections.at c.in-Sections.clauses c.in-Sections.nowait
+    c.in-Sections.sections c.in-Sections.is c.as_slice-in-Sections-3.ensures.value opened.numbers c.requires.code
+    c.requires.ends in
+    let free = subst (λ n. AreFree c.in_ok-inside-in-Sections.inside.first n c.begin_parts.new.draft) same opened.free in
+    let fit = subst (λ n. c.in_ok-inside-in-Sections.inside.first + n ≤ 2 ^ 32) same opened.fit in
+    (omega (arith, part.0, c.decreases), (part.1, (part.2, (free, fit))))
 
 pub statement-returns-in_ok-end_worksharing-in-Sections-clause-emitted :
     goal.statement-returns-in_ok-end_worksharing-in-Sections-clause-emitted
@@ -396,88 +413,84 @@ statement-returns-in_ok-end_worksharing-in-Sections-clause-emitted t c =
     (close_clauses_are (names_of c.args.scope.now) c.in-Sections.at.line c.in-Sections.nowait _ _ _ _
     c.as_slice-in-Sections-4.ensures.value c.in_ok-end_worksharing-in-Sections.ensures))
 
+pub statement-statements-requires : goal.statement-statements-requires
+statement-statements-requires t c =
+    let part = block_within _ c.args.spot c.args.tree.now _ c.in-Block.at c.in-Block.items c.in-Block.is
+    c.as_slice-in-Block.ensures.value c.requires.code c.requires.ends in
+    (omega (arith, part.0, c.decreases), (part.1, part.2))
+
 pub statement-statement-requires : goal.statement-statement-requires
 statement-statement-requires t c =
-    let smaller = if_inside c.args.tree.now c.deref.result.now c.in-If.at c.in-If.condition c.in-If.then c.in-If.is
-    c.deref.ensures in
-    let code = if_code (is_some c.args.spot.jumps.over) (is_some c.args.spot.jumps.next) c.args.tree.now c.in-If.at
-    c.in-If.condition c.in-If.then c.in-If.is c.requires.code in
-    (omega (arith, smaller, c.decreases), code_at c.args.spot c.args.spot _ _ refl c.deref.ensures code.1)
+    let part = if_within _ c.args.spot c.args.tree.now _ c.in-If.at c.in-If.condition c.in-If.then c.in-If.is c.deref.ensures
+    c.requires.code c.requires.ends in
+    (omega (arith, part.0, c.decreases), (part.1, part.2))
 
 pub statement-statement-requires-in-IfElse : goal.statement-statement-requires-in-IfElse
 statement-statement-requires-in-IfElse t c =
-    let smaller = then_inside c.args.tree.now c.deref-in-IfElse.result.now c.in-IfElse.at c.in-IfElse.condition
-    c.in-IfElse.then c.in-IfElse.other c.in-IfElse.is c.deref-in-IfElse.ensures in
-    let code = if_else_code (is_some c.args.spot.jumps.over) (is_some c.args.spot.jumps.next) c.args.tree.now
-    c.in-IfElse.at c.in-IfElse.condition c.in-IfElse.then c.in-IfElse.other c.in-IfElse.is c.requires.code in
-    (omega (arith, smaller, c.decreases), code_at c.args.spot c.args.spot _ _ refl c.deref-in-IfElse.ensures code.1)
+    let part = then_within _ c.args.spot c.args.tree.now _ c.in-IfElse.at c.in-IfElse.condition c.in-IfElse.then
+    c.in-IfElse.other c.in-IfElse.is c.deref-in-IfElse.ensures c.requires.code c.requires.ends in
+    (omega (arith, part.0, c.decreases), (part.1, part.2))
 
 pub statement-statement-requires-in-IfElse-2 : goal.statement-statement-requires-in-IfElse-2
 statement-statement-requires-in-IfElse-2 t c =
-    let smaller = else_inside c.args.tree.now c.deref-in-IfElse-2.result.now c.in-IfElse.at c.in-IfElse.condition
-    c.in-IfElse.then c.in-IfElse.other c.in-IfElse.is c.deref-in-IfElse-2.ensures in
-    let code = if_else_code (is_some c.args.spot.jumps.over) (is_some c.args.spot.jumps.next) c.args.tree.now
-    c.in-IfElse.at c.in-IfElse.condition c.in-IfElse.then c.in-IfElse.other c.in-IfElse.is c.requires.code in
-    (omega (arith, smaller, c.decreases), code_at _ _ _ _ c.behind.ensures c.deref-in-IfElse-2.ensures code.2)
+    let part = else_within _ _ c.args.spot _ c.args.tree.now _ _ c.in-IfElse.at c.in-IfElse.condition c.in-IfElse.then
+    c.in-IfElse.other c.in-IfElse.is c.deref-in-IfElse.ensures c.deref-in-IfElse-2.ensures c.behind.ensures
+    c.in_ok-between-in-IfElse.ensures.behind c.requires.code c.requires.ends in
+    (omega (arith, part.0, c.decreases), (part.1, part.2))
 
 pub statement-statement-requires-in-While : goal.statement-statement-requires-in-While
 statement-statement-requires-in-While t c =
-    let smaller = while_inside c.args.tree.now c.deref-in-While.result.now c.in-While.at c.in-While.condition
-    c.in-While.body c.in-While.is c.deref-in-While.ensures in
-    let code = while_code (is_some c.args.spot.jumps.over) (is_some c.args.spot.jumps.next) c.args.tree.now
-    c.in-While.at c.in-While.condition c.in-While.body c.in-While.is c.requires.code in
-    (omega (arith, smaller, c.decreases), code_at _ _ _ _ c.in_loop-inside.ensures c.deref-in-While.ensures code.1)
+    let part = while_within _ _ c.args.spot _ _ c.args.tree.now _ c.in-While.at c.in-While.condition c.in-While.body
+    c.in-While.is c.deref-in-While.ensures c.in_loop-inside.ensures c.requires.code c.requires.ends in
+    (omega (arith, part.0, c.decreases), (part.1, part.2))
 
 pub statement-statement-requires-in-Do : goal.statement-statement-requires-in-Do
 statement-statement-requires-in-Do t c =
-    let smaller = do_inside c.args.tree.now c.deref-in-Do.result.now c.in-Do.at c.in-Do.body c.in-Do.condition
-    c.in-Do.is c.deref-in-Do.ensures in
-    let code = do_code (is_some c.args.spot.jumps.over) (is_some c.args.spot.jumps.next) c.args.tree.now c.in-Do.at
-    c.in-Do.body c.in-Do.condition c.in-Do.is c.requires.code in
-    (omega (arith, smaller, c.decreases), code_at _ _ _ _ c.in_loop-inside-in-Do.ensures c.deref-in-Do.ensures code.0)
+    let part = do_within _ _ c.args.spot _ _ c.args.tree.now _ c.in-Do.at c.in-Do.body c.in-Do.condition c.in-Do.is
+    c.deref-in-Do.ensures c.in_loop-inside-in-Do.ensures c.requires.code c.requires.ends in
+    (omega (arith, part.0, c.decreases), (part.1, part.2))
 
 pub statement-statement-requires-in-For : goal.statement-statement-requires-in-For
 statement-statement-requires-in-For t c =
-    let smaller = for_inside c.args.tree.now c.deref-in-For.result.now c.in-For.at c.in-For.head c.in-For.body
-    c.in-For.is c.deref-in-For.ensures in
-    let code = for_code (is_some c.args.spot.jumps.over) (is_some c.args.spot.jumps.next) c.args.tree.now c.in-For.at
-    c.in-For.head c.in-For.body c.in-For.is c.requires.code in (
-      omega (arith, smaller, c.decreases),
-      code_at _ _ _ _ c.in_loop-inside-in-For.ensures c.deref-in-For.ensures
-          code.3,
-    )
+    let part = for_within _ _ c.args.spot _ _ c.args.tree.now _ c.in-For.at c.in-For.head c.in-For.body c.in-For.is
+    c.deref-in-For.ensures c.in_loop-inside-in-For.ensures c.requires.code c.requires.ends in
+    (omega (arith, part.0, c.decreases), (part.1, part.2))
 
 pub statement-statement-requires-in-Loop : goal.statement-statement-requires-in-Loop
 statement-statement-requires-in-Loop t c =
-    let smaller = loop_inside c.args.tree.now c.deref-in-Loop-2.result.now c.in-Loop.at c.in-Loop.clauses
-    c.in-Loop.nowait c.in-Loop.repeated c.in-Loop.body c.in-Loop.is c.deref-in-Loop-2.ensures in
-    let code = loop_code (is_some c.args.spot.jumps.over) (is_some c.args.spot.jumps.next) c.args.tree.now
-    c.in-Loop.at c.in-Loop.clauses c.in-Loop.nowait c.in-Loop.repeated c.in-Loop.body c.in-Loop.is c.requires.code in (
-      omega (arith, smaller, c.decreases),
-      code_at _ _ _ _ c.in_iteration-inside.ensures c.deref-in-Loop-2.ensures
-          code.1,
-    )
+    let part = loop_within _ _ c.args.spot _ c.args.tree.now _ c.in-Loop.at c.in-Loop.clauses c.in-Loop.nowait
+    c.in-Loop.repeated c.in-Loop.body c.in-Loop.is c.deref-in-Loop-2.ensures c.in_iteration-inside.ensures
+    c.requires.code c.requires.ends in
+    (omega (arith, part.0, c.decreases), (part.1, part.2))
 
 pub statement-statement-requires-in-Construct : goal.statement-statement-requires-in-Construct
 statement-statement-requires-in-Construct t c =
-    let smaller = construct_inside c.args.tree.now c.deref-in-Construct.result.now c.in-Construct.at
-    c.in-Construct.kind c.in-Construct.clauses c.in-Construct.body c.in-Construct.is c.deref-in-Construct.ensures in
-    let code = construct_code (is_some c.args.spot.jumps.over) (is_some c.args.spot.jumps.next) c.args.tree.now
-    c.in-Construct.at c.in-Construct.kind c.in-Construct.clauses c.in-Construct.body (no_atomic c.in-Construct.kind
-    c.in_default.not-Atomic) c.in-Construct.is c.requires.code in
-    (omega (arith, smaller, c.decreases), code_at _ _ _ _ c.outside-inside.ensures c.deref-in-Construct.ensures code)
+    let part = construct_within _ _ c.args.spot c.args.tree.now _ c.in-Construct.at c.in-Construct.kind
+    c.in-Construct.clauses c.in-Construct.body (no_atomic c.in-Construct.kind c.in_default.not-Atomic) c.in-Construct.is
+    c.deref-in-Construct.ensures c.outside-inside.ensures c.requires.code c.requires.ends in
+    (omega (arith, part.0, c.decreases), (part.1, part.2))
 
 pub statement-begin_if-requires : goal.statement-begin_if-requires
 statement-begin_if-requires t c =
-    (if_code (is_some c.args.spot.jumps.over) (is_some c.args.spot.jumps.next) c.args.tree.now c.in-If.at
-    c.in-If.condition c.in-If.then c.in-If.is c.requires.code).0
+    (if_code _ _ c.args.tree.now c.in-If.at c.in-If.condition c.in-If.then c.in-If.is c.requires.code).0
 
 pub statement-begin_if-requires-in-IfElse : goal.statement-begin_if-requires-in-IfElse
 statement-begin_if-requires-in-IfElse t c =
-    (if_else_code (is_some c.args.spot.jumps.over) (is_some c.args.spot.jumps.next) c.args.tree.now c.in-IfElse.at
-    c.in-IfElse.condition c.in-IfElse.then c.in-IfElse.other c.in-IfElse.is c.requires.code).0
+    (if_else_code _ _ c.args.tree.now c.in-IfElse.at c.in-IfElse.condition c.in-IfElse.then c.in-IfElse.other
+    c.in-IfElse.is c.requires.code).0
 
 pub statement-begin_while-requires : goal.statement-begin_while-requires
 statement-begin_while-requires t c =
-    (while_code (is_some c.args.spot.jumps.over) (is_some c.args.spot.jumps.next) c.args.tree.now c.in-While.at
-    c.in-While.condition c.in-While.body c.in-While.is c.requires.code).0
+    (while_code _ _ c.args.tree.now c.in-While.at c.in-While.condition c.in-While.body c.in-While.is c.requires.code).0
+
+pub statement-parallel-requires-clause-ends : goal.statement-parallel-requires-clause-ends
+statement-parallel-requires-clause-ends t c =
+    parallel_ends _ _ c.args.tree.now _ c.in-Parallel.at c.in-Parallel.clauses c.in-Parallel.captures c.in-Parallel.body
+    c.in-Parallel.is c.deref-in-Parallel.ensures c.requires.ends
+
+pub statement-task-requires : goal.statement-task-requires
+statement-task-requires t c =
+    record {
+      ends = task_ends _ _ c.args.tree.now _ c.in-Task.at c.in-Task.clauses c.in-Task.captures c.in-Task.body c.in-Task.is
+          c.deref-in-Task.ensures c.requires.ends;
+    }
