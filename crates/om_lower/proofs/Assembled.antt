@@ -94,7 +94,7 @@ side_by_side_in tree picked raw [] (body ∷ bodies) stand made = absurd made
 side_by_side_in tree picked raw (b ∷ sites) [] stand made = absurd made
 side_by_side_in tree picked raw (b ∷ sites) (body ∷ bodies) stand made =
     let one = made.0 in (
-      record { code = one.code raw.picks stand; slots = one.slots; given = one.given },
+      record { code = one.code raw.picks stand; slots = one.slots; given = one.given; names = one.names },
       side_by_side_in tree picked raw sites bodies stand made.1,
     )
 

@@ -9,6 +9,7 @@ use Rattle.om_lower.specs.Emitted.{HasLists, HasRow}
 use Rattle.om_emit.specs.Settled.{ListsStand, number_of}
 use Rattle.om_code.specs.declared.raw.Body.{Body}
 use Rattle.om_code.specs.declared.raw.Line.{Line}
+use Rattle.om_code.specs.declared.raw.Names as raws
 use Rattle.om_code.specs.declared.raw.Slot.{Slot}
 use Rattle.om_lower.specs.Frames.{FitsFrame}
 use Rattle.om_lower.specs.Limits.{HasFewSlots, HasManySlots, IsCodeAt, IsOver, long, many_cells, many_slots}
@@ -28,6 +29,7 @@ use Rattle.om_resolved.specs.Uses.{is_main_function}
 use Rattle.om_rows.specs.Bodies.{BodySite, Numbers, behind_function, behind_functions, bodies_from, first_numbers}
 use Rattle.om_rows.specs.Bodies.{function_bodies, variables_of}
 use Rattle.om_rows.specs.Code.{captures_of, given_of, slots_of}
+use Rattle.om_rows.specs.Names.{names_of}
 use Rattle.om_rows.specs.Mentions.{extents_of}
 use Rattle.om_rows.specs.Slots.{Extent, cells_in, slot_with}
 use Rattle.om_tables.specs.Names.{Names, names_in}
@@ -83,17 +85,19 @@ over_code tree b fits = long fits.0 fits.1 fits.2 fits.3
 
 -- or none does
 pub made_body : (tree : ResolvedTree) (b : BodySite) (made : Emitted) (body : LoweredBody) (slots : List Slot)
-    (given : List ℕ)
+    (given : List ℕ) (names : raws.Names)
     → FitsFrame (variables_of b) (slots_of b) (Some slots) → FitsCode tree b (Some made)
-    → given ≡ given_of b → body.body ≡ record { code = made.code; slots = slots; given = given } → body.lists.items
+    → given ≡ given_of b → names ≡ names_of b
+    → body.body ≡ record { code = made.code; slots = slots; given = given; names = names } → body.lists.items
     ≡ made.lists.items
     → FitsBody tree b (Some body)
-made_body tree b made body slots given frame fits same is lists = (
+made_body tree b made body slots given names frame fits same named is lists = (
   subst (λ all. IsMade tree all b body.body) (sym lists)
       (subst (λ x. IsMade tree made.lists.items b x) (sym is) (record {
         code = fits.0;
         slots = frame.0;
         given = same;
+        names = named;
         room = record { slots = frame.1; cells = frame.2 };
         short = fits.1;
       })),

@@ -183,6 +183,7 @@ wider_made tree some all (b ∷ sites) (body ∷ bodies) wider made =
         code = λ picks stand. one.code picks (wider picks stand);
         slots = one.slots;
         given = one.given;
+        names = one.names;
         room = one.room;
         short = one.short;
       },

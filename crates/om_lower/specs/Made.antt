@@ -17,12 +17,14 @@ use Rattle.om_resolved.specs.ResolvedTree.{ResolvedFunctionTree, ResolvedTree}
 use Rattle.om_rows.specs.Bodies.{BodySite, Numbers, behind_function, behind_functions, bodies_from, first_numbers}
 use Rattle.om_rows.specs.Bodies.{function_bodies}
 use Rattle.om_rows.specs.Code.{given_of, slots_of}
+use Rattle.om_rows.specs.Names.{names_of}
 
 -- a body of the tree, in every program that has these lists of PICK
 pub record IsMade (tree : ResolvedTree) (lists : List PickList) (b : BodySite) (body : Body) : Type 0 where
   pub code : (picks : List (List ℕ)) → ListsStand lists picks → IsCodeAt tree picks b body.code
   pub slots : body.slots ≡ slots_of b
   pub given : body.given ≡ given_of b
+  pub names : body.names ≡ names_of b
   pub room : HasRoom b
   pub short : length body.code ≤ 65536
 

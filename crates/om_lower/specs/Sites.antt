@@ -8,10 +8,11 @@ use Rattle.om_lower.specs.declared.sites.BodyPart.TheVariants as parts
 use Rattle.om_lower.specs.declared.sites.Site.{Site}
 use Rattle.om_resolved.specs.ResolvedTree.{ResolvedFunctionTree}
 use Rattle.om_resolved.specs.ResolvedView.{view_resolved_function}
-use Rattle.om_rows.specs.Bodies.{BodySite, BodyTree, FunctionBody, variables_in}
+use Rattle.om_rows.specs.Bodies.{BodySite, BodyTree, FunctionBody, Numbers, variables_in}
 use Rattle.om_rows.specs.Coded.{BodyHasCode}
 use Rattle.om_rows.specs.Mentions.{extents_of}
 use Rattle.om_rows.specs.Slots.{Extent, cells_in}
+use Rattle.om_tables.specs.Ends.{HasSiteEnds}
 use Rattle.om_tables.specs.Numbering.{numbers_of}
 
 abbrev pub part_tree : BodyPart → BodyTree
@@ -70,9 +71,11 @@ IsRound depth variables sites = slice_get (round_behind [] sites) depth ≡ Some
 abbrev pub KeepsRound : (depth : ℕ) → List Site → List Site → Type 0
 KeepsRound depth old new = take (depth + 1) (round_behind [] new) ≡ take (depth + 1) (round_behind [] old)
 
--- a body can be lowered, with this table of the cells of its function's variables
-pub record IsReady (extents : List Extent) (b : BodySite) : Type 0 where
+-- a body can be lowered, with these tables of the numbers behind regions and of the cells of its function's
+-- variables
+pub record IsReady (ends : List Numbers) (extents : List Extent) (b : BodySite) : Type 0 where
   pub cells : (variable : ℕ) → cells_in extents variable ≡ cells_in (extents_of b.function) variable
   pub few : HasFewSlots b
   pub round : length b.outer ≤ 256
   pub code : BodyHasCode b.function b.tree
+  pub known : HasSiteEnds ends b

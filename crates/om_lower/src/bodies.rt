@@ -10,10 +10,12 @@ ghost use Rattle.om_resolved.specs.ResolvedView.{view_resolved, view_resolved_cl
 ghost use Rattle.om_rows.specs.Bodies.{region_variables, variables_of};
 ghost use Rattle.om_rows.specs.Code.{captures_of, given_of, slots_of};
 ghost use Rattle.om_rows.specs.Coded.{BodyHasCode};
+ghost use Rattle.om_rows.specs.Names as named;
 ghost use Rattle.om_rows.specs.Slots.{slot_of};
 ghost use Rattle.om_rows.specs.Statements.{given_copies};
+ghost use Rattle.om_tables.specs.Ends.{HasSiteEnds};
 ghost use Rattle.om_tables.specs.Scopes.{names_of};
-ghost use Rattle.om_tables.specs.Tables.{IsTablesOf};
+ghost use Rattle.om_tables.specs.Tables.{IsTablesOf, ends_in};
 
 use crate::body::{function_body, parallel_body, task_body};
 use crate::emitted::Emitted;
@@ -22,14 +24,16 @@ use crate::functions::{INSTRUCTION_LIMIT, Whole, is_main};
 use crate::region::Region;
 use crate::sites::{BodyPart, Site};
 use om_code::Body;
-use om_code::raw::Slot;
+use om_code::raw::{Names, Slot};
 use om_emit::draft::PickList;
 use om_resolved::Capture;
+use om_rows::VariableScope;
 use om_seq::Seq;
 use om_tables::{
     Extents, Scope, Variables, copy_slots, function_variables, given_copies_in, parameter_slots,
     region_variables,
 };
+use om_visible::{function_names, names_with, parallel_names, task_names};
 use std::alloc::{AllocError, Global};
 
 /// Whether none of these bodies has more than 256 slots.
@@ -84,7 +88,7 @@ pub(crate) fn lower_bodies(
     sites: &[Site<'_>],
 ) -> Result<Option<Bodies>, AllocError>
     requires tables { IsTablesOf (view_resolved whole.now.resolved.now) whole.now.tables.now }
-    requires ready { All (IsReady extents.now) (bodies_in [] sites.now) }
+    requires ready { All (IsReady (ends_in whole.now.tables.now) extents.now) (bodies_in [] sites.now) }
     ensures { let tree = view_resolved whole.now.resolved.now in
         IfOk result (λ made. FitsBodies tree (bodies_in [] sites.now) made) }
 {
@@ -111,7 +115,7 @@ fn add_next(
     site: &Site<'_>,
 ) -> Result<bool, AllocError>
     requires tables { IsTablesOf (view_resolved whole.now.resolved.now) whole.now.tables.now }
-    requires ready { IsReady extents.now (body_round round.old.items site.now) }
+    requires ready { IsReady (ends_in whole.now.tables.now) extents.now (body_round round.old.items site.now) }
     ensures adds { let tree = view_resolved whole.now.resolved.now in
         let b = body_round round.old.items site.now in
         IfOk result (λ fits. AddsBody tree b made.old made.new fits) }
@@ -150,7 +154,7 @@ fn add_body(
     seen: &SeenBody<'_>,
 ) -> Result<bool, AllocError>
     requires tables { IsTablesOf (view_resolved whole.now.resolved.now) whole.now.tables.now }
-    requires ready { IsReady extents.now (seen_body seen.now) }
+    requires ready { IsReady (ends_in whole.now.tables.now) extents.now (seen_body seen.now) }
     requires variables { seen.now.variables.now ≡ variables_of (seen_body seen.now) }
     ensures { let tree = view_resolved whole.now.resolved.now in
         IfOk result (λ fits. AddsBody tree (seen_body seen.now) made.old made.new fits) }
@@ -181,12 +185,12 @@ fn lower_body(
     seen: &SeenBody<'_>,
 ) -> Result<Option<LoweredBody>, AllocError>
     requires tables { IsTablesOf (view_resolved whole.now.resolved.now) whole.now.tables.now }
-    requires ready { IsReady extents.now (seen_body seen.now) }
+    requires ready { IsReady (ends_in whole.now.tables.now) extents.now (seen_body seen.now) }
     requires variables { seen.now.variables.now ≡ variables_of (seen_body seen.now) }
     ensures { let tree = view_resolved whole.now.resolved.now in
         IfOk result (λ made. FitsBody tree (seen_body seen.now) made) }
 {
-    let Some(slots) = frame_in(whole.alloc, extents, seen)? else {
+    let Some(slots) = frame_in(whole, extents, seen)? else {
         return Ok(None);
     };
     body_on(whole, seen, slots)
@@ -200,8 +204,10 @@ fn body_on(
 ) -> Result<Option<LoweredBody>, AllocError>
     requires tables { IsTablesOf (view_resolved whole.now.resolved.now) whole.now.tables.now }
     requires code { BodyHasCode (seen_body seen.now).function (seen_body seen.now).tree }
+    requires ends { HasSiteEnds (ends_in whole.now.tables.now) (seen_body seen.now) }
     requires slots { FitsFrame (variables_of (seen_body seen.now)) (slots_of (seen_body seen.now))
         (Some slots) }
+    requires round { length seen.now.outer.now ≤ 256 }
     requires variables { seen.now.variables.now ≡ variables_of (seen_body seen.now) }
     ensures { let tree = view_resolved whole.now.resolved.now in
         IfOk result (λ made. FitsBody tree (seen_body seen.now) made) }
@@ -210,19 +216,26 @@ fn body_on(
         None => Ok(None),
         Some(emitted) => {
             let given = given_in(whole.alloc, seen)?;
-            Ok(Some(body_of(slots, given, emitted)))
+            let names = names_in(whole.alloc, seen)?;
+            Ok(Some(body_of(slots, given, names, emitted)))
         }
     }
 }
 
 /// A body of these parts.
-fn body_of(slots: Seq<Slot>, given: Seq<u32>, emitted: Emitted) -> LoweredBody
-    ensures body { result.body ≡ record { code = emitted.code; slots = slots; given = given } }
+fn body_of(slots: Seq<Slot>, given: Seq<u32>, names: Names, emitted: Emitted) -> LoweredBody
+    ensures body { result.body
+        ≡ record { code = emitted.code; slots = slots; given = given; names = names } }
     ensures lists { result.lists ≡ emitted.lists }
 {
     let Emitted { code, lists } = emitted;
     LoweredBody {
-        body: Body { code, slots, given },
+        body: Body {
+            code,
+            slots,
+            given,
+            names,
+        },
         lists,
     }
 }
@@ -252,17 +265,17 @@ fn captures_in<'a>(part: &BodyPart<'a>) -> &'a [Capture]
 
 /// The slots of a body; `None` where it passes a limit.
 fn frame_in(
-    alloc: Global,
+    whole: &Whole<'_>,
     extents: &Extents,
     seen: &SeenBody<'_>,
 ) -> Result<Option<Seq<Slot>>, AllocError>
-    requires ready { IsReady extents.now (seen_body seen.now) }
+    requires ready { IsReady (ends_in whole.now.tables.now) extents.now (seen_body seen.now) }
     requires variables { seen.now.variables.now ≡ variables_of (seen_body seen.now) }
     ensures { let b = seen_body seen.now in
         IfOk result (λ frame. FitsFrame (variables_of b) (slots_of b) frame) }
 {
     frame_of(
-        alloc,
+        whole.alloc,
         extents,
         seen.outer,
         captures_in(&seen.site.part),
@@ -274,6 +287,7 @@ fn frame_in(
 fn code_in(whole: &Whole<'_>, seen: &SeenBody<'_>) -> Result<Option<Emitted>, AllocError>
     requires tables { IsTablesOf (view_resolved whole.now.resolved.now) whole.now.tables.now }
     requires code { BodyHasCode (seen_body seen.now).function (seen_body seen.now).tree }
+    requires ends { HasSiteEnds (ends_in whole.now.tables.now) (seen_body seen.now) }
     requires few { HasFewSlots (seen_body seen.now) }
     requires variables { seen.now.variables.now ≡ variables_of (seen_body seen.now) }
     ensures { let tree = view_resolved whole.now.resolved.now in
@@ -291,6 +305,7 @@ fn code_in(whole: &Whole<'_>, seen: &SeenBody<'_>) -> Result<Option<Emitted>, Al
 /// The code of a body, of whatever length.
 fn emitted_in(alloc: Global, scope: &Scope<'_>, site: &Site<'_>) -> Result<Emitted, AllocError>
     requires code { BodyHasCode (body_in [] site.now).function (body_in [] site.now).tree }
+    requires ends { HasSiteEnds (ends_in scope.now.tables.now) (body_in [] site.now) }
     ensures row { let b = body_in [] site.now in
         IfOk result (HasRow (names_of scope.now) b.numbers b.function b.tree) }
     ensures lists { let b = body_in [] site.now in
@@ -322,6 +337,29 @@ fn given_in(alloc: Global, seen: &SeenBody<'_>) -> Result<Seq<u32>, AllocError>
         }
         BodyPart::Parallel(region) => copies_given(alloc, region, seen.variables),
         BodyPart::Task(region) => copies_given(alloc, region, seen.variables),
+    }
+}
+
+/// What names mean in a body.
+fn names_in(alloc: Global, seen: &SeenBody<'_>) -> Result<Names, AllocError>
+    requires few { HasFewSlots (seen_body seen.now) }
+    requires round { length seen.now.outer.now ≤ 256 }
+    requires variables { seen.now.variables.now ≡ variables_of (seen_body seen.now) }
+    ensures { IfOk result (λ names. names ≡ named.names_of (seen_body seen.now)) }
+{
+    let named = scopes_in(alloc, seen.site)?;
+    names_with(alloc, named, seen.variables, seen.outer)
+}
+
+/// The scopes of names in a body, before the slots of its variables are known.
+fn scopes_in(alloc: Global, site: &Site<'_>) -> Result<Vec<VariableScope>, AllocError>
+    ensures { let b = body_in [] site.now in
+        IfOk result (λ scopes. scopes.items ≡ (named.body_names b.function b.tree).closed) }
+{
+    match &site.part {
+        BodyPart::Function => function_names(alloc, site.function),
+        BodyPart::Parallel(region) => parallel_names(alloc, region.clauses, region.statement),
+        BodyPart::Task(region) => task_names(alloc, region.clauses, region.statement),
     }
 }
 

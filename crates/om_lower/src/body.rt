@@ -6,8 +6,10 @@ ghost use Rattle.om_lower.specs.Regions.{parallel_tree, statement_of, task_tree}
 ghost use Rattle.om_resolved.specs.ResolvedView.{view_resolved_function};
 ghost use Rattle.om_rows.specs.Bodies.{FunctionBody};
 ghost use Rattle.om_rows.specs.Coded.{BodyHasCode, StatementHasCode};
+ghost use Rattle.om_tables.specs.Ends.{HasBodyEnds, HasEnds};
 ghost use Rattle.om_tables.specs.Numbering.{numbers_of};
 ghost use Rattle.om_tables.specs.Scopes.{names_of};
+ghost use Rattle.om_tables.specs.Tables.{ends_in};
 
 use crate::emitted::{Emitted, settled};
 use crate::region::Region;
@@ -27,7 +29,9 @@ pub(crate) fn function_body(
     numbers: Numbers,
     function: &ResolvedFunction,
 ) -> Result<Emitted, AllocError>
-    requires { BodyHasCode (view_resolved_function function.now) FunctionBody }
+    requires code { BodyHasCode (view_resolved_function function.now) FunctionBody }
+    requires ends { HasBodyEnds (ends_in scope.now.tables.now) (numbers_of numbers)
+        (view_resolved_function function.now) FunctionBody }
     ensures row { let seen = view_resolved_function function.now in
         IfOk result (HasRow (names_of scope.now) (numbers_of numbers) seen FunctionBody) }
     ensures lists { let seen = view_resolved_function function.now in
@@ -48,7 +52,9 @@ pub(crate) fn parallel_body(
     numbers: Numbers,
     region: &Region<'_>,
 ) -> Result<Emitted, AllocError>
-    requires { StatementHasCode false false (statement_of region.now) }
+    requires code { StatementHasCode false false (statement_of region.now) }
+    requires ends { HasEnds (ends_in scope.now.tables.now) (numbers_of numbers)
+        (statement_of region.now) }
     ensures row { let tree = parallel_tree region.now in
         IfOk result (HasRegionRow (names_of scope.now) (numbers_of numbers) tree) }
     ensures lists { IfOk result (HasRegionLists (numbers_of numbers) (parallel_tree region.now)) }
@@ -68,7 +74,9 @@ pub(crate) fn task_body(
     numbers: Numbers,
     region: &Region<'_>,
 ) -> Result<Emitted, AllocError>
-    requires { StatementHasCode false false (statement_of region.now) }
+    requires code { StatementHasCode false false (statement_of region.now) }
+    requires ends { HasEnds (ends_in scope.now.tables.now) (numbers_of numbers)
+        (statement_of region.now) }
     ensures row { let tree = task_tree region.now in
         IfOk result (HasRegionRow (names_of scope.now) (numbers_of numbers) tree) }
     ensures lists { IfOk result (HasRegionLists (numbers_of numbers) (task_tree region.now)) }

@@ -7,8 +7,9 @@ ghost use Rattle.om_resolved.specs.ResolvedView.{view_resolved, view_resolved_fu
 ghost use Rattle.om_resolved.specs.Uses.{is_main_function};
 ghost use Rattle.om_rows.specs.Bodies.{function_bodies};
 ghost use Rattle.om_rows.specs.Coded.{BodyHasCode, TreeHasCode};
+ghost use Rattle.om_tables.specs.Ends.{HasSiteEnds};
 ghost use Rattle.om_tables.specs.Numbering.{numbers_of};
-ghost use Rattle.om_tables.specs.Tables.{IsTablesOf};
+ghost use Rattle.om_tables.specs.Tables.{IsTablesOf, ends_in};
 
 use crate::bodies::{Bodies, have_few_slots, lower_bodies};
 use crate::sites::{Site, sites_of};
@@ -106,6 +107,8 @@ fn add_function(
     requires tables { IsTablesOf (view_resolved whole.now.resolved.now) whole.now.tables.now }
     requires has_code { let f = view_resolved_function function.now in
         All (λ b. BodyHasCode b.function b.tree) (function_bodies (numbers_of numbers) f) }
+    requires has_ends { let f = view_resolved_function function.now in
+        All (HasSiteEnds (ends_in whole.now.tables.now)) (function_bodies (numbers_of numbers) f) }
     ensures { let tree = view_resolved whole.now.resolved.now in
         let f = view_resolved_function function.now in
         IfOk result
@@ -140,6 +143,8 @@ fn lower_function(
     requires tables { IsTablesOf (view_resolved whole.now.resolved.now) whole.now.tables.now }
     requires has_code { let f = view_resolved_function function.now in
         All (λ b. BodyHasCode b.function b.tree) (function_bodies (numbers_of numbers) f) }
+    requires has_ends { let f = view_resolved_function function.now in
+        All (HasSiteEnds (ends_in whole.now.tables.now)) (function_bodies (numbers_of numbers) f) }
     ensures { let tree = view_resolved_function function.now in
         IfOk result (λ made.
         FitsFunction (view_resolved whole.now.resolved.now) (numbers_of numbers) tree made) }
@@ -160,6 +165,8 @@ fn lower_sites(
         bodies_in [] sites.now ≡ function_bodies (numbers_of numbers) f }
     requires has_code { let f = view_resolved_function function.now in
         All (λ b. BodyHasCode b.function b.tree) (function_bodies (numbers_of numbers) f) }
+    requires has_ends { let f = view_resolved_function function.now in
+        All (HasSiteEnds (ends_in whole.now.tables.now)) (function_bodies (numbers_of numbers) f) }
     ensures { let tree = view_resolved_function function.now in
         IfOk result (λ made.
         FitsFunction (view_resolved whole.now.resolved.now) (numbers_of numbers) tree made) }

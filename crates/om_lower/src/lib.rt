@@ -15,7 +15,9 @@ mod program;
 mod region;
 mod sites;
 pub mod texts;
+mod visible;
 mod whole;
 
 pub use look::{global_named, line_of};
 pub use lowering::lower;
+pub use visible::{Var, variable_at};

@@ -3,6 +3,7 @@
 ghost use Rattle.std.specs.Prelude.{◌≡◌, ◌<◌, IfSome, position, length};
 ghost use Rattle.std.specs.Str.{bytes_eq};
 ghost use Rattle.om_code.specs.Places.{line_at};
+ghost use Rattle.om_lower.specs.Visible.{global_named};
 
 use om_code::Program;
 use om_code::raw::GlobalVariable;
@@ -18,7 +19,7 @@ pub fn line_of(program: &Program, body: u32, at: u32) -> u32
 
 /// The number of the first global variable of this name; `None` exactly where there is none.
 pub fn global_named(program: &Program, name: &[u8]) -> Option<u32>
-    ensures { result ≡ position (λ global. bytes_eq global.name name.now) program.now.globals }
+    ensures { result ≡ global_named program.now name.now }
 {
     let index = index_of(program.globals(), name)?;
     Some(index as u32)

@@ -6,6 +6,7 @@ ghost use Rattle.om_lower.specs.Heights.{AreLevel};
 ghost use Rattle.om_lower.specs.Limits.{AreWithin, IsTooMany};
 ghost use Rattle.om_lower.specs.Made.{IsLowered, IsOverAt};
 ghost use Rattle.om_lower.specs.Refusals.{too_many};
+ghost use Rattle.om_meaning.specs.Laws.{KeepsMeaning};
 ghost use Rattle.om_resolved.specs.Beside.{TreeAtomicsAssign, TreeCopiesBehind};
 ghost use Rattle.om_resolved.specs.ResolvedView.{view_resolved, view_resolved_function};
 ghost use Rattle.om_resolved.specs.Whole.{IsWholeTree};
@@ -20,12 +21,16 @@ use crate::lists::joined;
 use crate::program::program_of;
 use om_code::Program;
 use om_lexer::{FaultCode, SourceFault};
+use om_meaning::laws::serial_meaning;
 use om_resolved::{Resolved, ResolvedFunction};
 use om_rows::laws::{body_is_level, whole_has_code};
 use om_tables::tables_of;
 use std::alloc::{AllocError, Global};
 
 /// The program whose bodies are the code of the tree's functions.
+///
+/// The body of each function without calls and directives does what the function means: it ends with its
+/// value, its globals and its output exactly where the meaning does, and faults exactly where that does.
 ///
 /// Refusals:
 /// - S0 at byte 0: no memory.
@@ -37,11 +42,13 @@ pub fn lower(alloc: Global, resolved: &Resolved) -> Result<Program, SourceFault>
     requires atomics { TreeAtomicsAssign (view_resolved resolved.now) }
     requires copies { TreeCopiesBehind (view_resolved resolved.now) }
     ensures code { IfOk result (λ program. IsCodeOf (view_resolved resolved.now) program) }
+    ensures means { IfOk result (λ program. KeepsMeaning (view_resolved resolved.now) program) }
     ensures within { OnOk result (AreWithin (view_resolved resolved.now)) }
     ensures refused { let tree = view_resolved resolved.now in
         IfErr result (λ fault. fault ≢ no_memory → IsTooMany tree fault) }
 {
     whole_has_code();
+    serial_meaning();
     lower_tree(alloc, resolved)
 }
 

@@ -7,8 +7,10 @@ ghost use Rattle.om_resolved.specs.ResolvedView.{view_resolved_function};
 ghost use Rattle.om_rows.specs.Bodies.{FunctionBody};
 ghost use Rattle.om_rows.specs.Code as codes;
 ghost use Rattle.om_rows.specs.Coded.{BodyHasCode, StatementHasCode};
+ghost use Rattle.om_tables.specs.Ends.{HasBodyEnds, HasEnds};
 ghost use Rattle.om_tables.specs.Numbering.{numbers_of};
 ghost use Rattle.om_tables.specs.Scopes.{names_of};
+ghost use Rattle.om_tables.specs.Tables.{ends_in};
 
 use crate::region::Region;
 use om_code::Instr;
@@ -29,7 +31,9 @@ pub(crate) fn write_function(
     numbers: Numbers,
     function: &ResolvedFunction,
 ) -> Result<(), AllocError>
-    requires { BodyHasCode (view_resolved_function function.now) FunctionBody }
+    requires code { BodyHasCode (view_resolved_function function.now) FunctionBody }
+    requires ends { HasBodyEnds (ends_in scope.now.tables.now) (numbers_of numbers)
+        (view_resolved_function function.now) FunctionBody }
     ensures { let seen = view_resolved_function function.now in
         let names = names_of scope.now in
         OnOk result (EmitsBody names (numbers_of numbers) seen FunctionBody draft.old draft.new) }
@@ -60,7 +64,9 @@ pub(crate) fn write_parallel(
     numbers: Numbers,
     region: &Region<'_>,
 ) -> Result<(), AllocError>
-    requires { StatementHasCode false false (statement_of region.now) }
+    requires code { StatementHasCode false false (statement_of region.now) }
+    requires ends { HasEnds (ends_in scope.now.tables.now) (numbers_of numbers)
+        (statement_of region.now) }
     ensures { let tree = parallel_tree region.now in
         let names = names_of scope.now in
         OnOk result (EmitsRegion names (numbers_of numbers) tree draft.old draft.new) }
@@ -84,7 +90,9 @@ pub(crate) fn write_task(
     numbers: Numbers,
     region: &Region<'_>,
 ) -> Result<(), AllocError>
-    requires { StatementHasCode false false (statement_of region.now) }
+    requires code { StatementHasCode false false (statement_of region.now) }
+    requires ends { HasEnds (ends_in scope.now.tables.now) (numbers_of numbers)
+        (statement_of region.now) }
     ensures { let tree = task_tree region.now in
         let names = names_of scope.now in
         OnOk result (EmitsRegion names (numbers_of numbers) tree draft.old draft.new) }

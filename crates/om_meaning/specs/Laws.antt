@@ -86,12 +86,15 @@ pub record Behaves (raw : Raw) (body : Body) (is_main : Bool) (means : ℕ → W
   pub never_stuck : (w : World) (n : ℕ) → run raw body n (frame 0 [] w) ≢ Stuck
 
 -- The body of each function without calls and directives, run by the frame machine, does what it means.
-abbrev pub SerialMeaning : Type 0
-SerialMeaning =
-    (tree : ResolvedTree) (raw : Raw) → IsCodeOf tree raw →
+abbrev pub KeepsMeaning : ResolvedTree → Raw → Type 0
+KeepsMeaning tree raw =
     (k : ℕ) (f : ResolvedFunctionTree) → slice_get tree.functions k ≡ Some f → AreSerialStatements f.body →
     IsSomeAnd (slice_get raw.bodies (called_body tree.functions k)) (λ body.
     Behaves raw body (is_main_function f) (source (layout_of raw body (function_variables f)) f.body))
+
+-- The code of a tree keeps its meaning so.
+abbrev pub SerialMeaning : Type 0
+SerialMeaning = (tree : ResolvedTree) (raw : Raw) → IsCodeOf tree raw → KeepsMeaning tree raw
 
 -- ---- the old value of `x++` and its like (C17 6.5.2.4p2)
 

@@ -1,17 +1,20 @@
 -- What the code of a whole tree names exists.
 use Rattle.std.proofs.Common.{◌≡◌, ℕ, zero, suc, ◌^◌, ◌≤◌, Bool, true, false, List, [], ◌∷◌, ◌++◌, length, Option, Some}
 use Rattle.std.proofs.Common.{None, refl, sym, ap, ◌∙◌, subst, arith}
-use Rattle.std.specs.Prelude.{slice_get, map, nat_eq, All, IsSomeAnd}
+use Rattle.std.specs.Prelude.{slice_get, map, nat_eq, All, IfSome, IsSomeAnd, position, ◌<◌}
 use Rattle.std.specs.List.{AllZip, flat_map, list_any}
 use Rattle.std.specs.Str.{bytes_eq}
 use Rattle.std.proofs.lemmas.List.{length-map}
 use Rattle.std.proofs.lemmas.Option.{slice_get_within}
+use Rattle.std.proofs.lemmas.List.Quantifiers.{position-Some}
 use Rattle.std.proofs.lemmas.List.Elements.{All-nil, All-cons, All-head, All-tail, All-map}
 use Rattle.om_code.specs.declared.raw.Body.{Body}
 use Rattle.om_code.specs.declared.raw.Line.{Line}
 use Rattle.om_code.specs.declared.raw.Raw.{Raw}
+use Rattle.om_code.specs.declared.raw.Scope.{Scope}
 use Rattle.om_code.specs.declared.raw.Slot.{Slot}
-use Rattle.om_code.specs.Validity.{FitsOuter, CanBegin, IsKnownBody, IsKnown, IsGiven, NamesKnown}
+use Rattle.om_code.specs.Validity.{FitsOuter, CanBegin, IsKnownBody, IsKnown, IsGiven, NamesKnown, HasNames}
+use Rattle.om_code.specs.Validity.{IsScopeOf}
 use Rattle.om_resolved.specs.declared.resolved.LocalVariable.{LocalVariable}
 use Rattle.om_resolved.specs.ResolvedTree.{ResolvedFunctionTree, ResolvedTree}
 use Rattle.om_resolved.specs.Whole.{within, of_parallel}
@@ -19,6 +22,8 @@ use Rattle.om_rows.specs.Bodies.{Numbers, first_numbers, called_body, BodyTree, 
 use Rattle.om_rows.specs.Bodies.{BodySite, variables_of, region_variables, function_variables, bodies_of}
 use Rattle.om_rows.specs.Code.{last_instruction, given_variables, captures_of, slots_of, given_of, site_of, IsBodyOf}
 use Rattle.om_rows.specs.Code.{IsCodeOf}
+use Rattle.om_rows.specs.declared.scope.VariableScope.{VariableScope}
+use Rattle.om_rows.specs.Names.{body_names, scope_in, slot_among}
 use Rattle.om_rows.specs.Mentions.{extents_of, format_mention, formats_of, tree_mentioned}
 use Rattle.om_rows.specs.Laws.{FunctionBodies, FormatsAreNumbered}
 use Rattle.om_rows.specs.Rows.{Site}
@@ -158,6 +163,25 @@ module _ (tree : ResolvedTree) (raw : Raw) (code : IsCodeOf tree raw) where
         (all_of (λ x. 1 ≤ cells_in (extents_of b.function) x) (variables_of b)
         (λ x. cells_there (extents_of b.function) x placed.extents)))
 
+    -- ---- the variables of scopes are slots
+
+    has_names : HasNames body.slots body.names
+    has_names =
+        subst (λ z. HasNames body.slots z) (sym is.names)
+        (record {
+          scopes = All-map (λ (scope : Scope). IsScopeOf body.slots scope) (scope_in (variables_of b))
+              (body_names b.function b.tree).closed
+              (all_of (λ (v : VariableScope). IsScopeOf body.slots (scope_in (variables_of b) v))
+              (body_names b.function b.tree).closed (λ v. slot_within v.variable (position (nat_eq v.variable) (variables_of b))
+              refl));
+          outer = omega (arith, slot_count, length-map (variables_of b) (slot_among b.outer));
+        })
+      where
+        slot_within : (x : ℕ) (found : Option ℕ) → position (nat_eq x) (variables_of b) ≡ found
+            → IfSome found (λ slot. slot < length body.slots)
+        slot_within x None e = tt
+        slot_within x (Some k) e = omega (arith, slot_count, (position-Some (nat_eq x) (variables_of b) k 0 e).0)
+
     all_named : Named raw body.slots body.code 0 (length body.code)
         → All (λ line. NamesKnown raw body.slots line.instruction) body.code
     all_named n = all_from_get (λ (line : Line). NamesKnown raw body.slots line.instruction) body.code
@@ -188,6 +212,7 @@ module _ (tree : ResolvedTree) (raw : Raw) (code : IsCodeOf tree raw) where
             (bodies b body is p) f.body n nowhere p.around p.here p.whole vs
             p.formats p.locks p.inside 0)
             (λ m r. named_ins r (last_known body.slots (at b body is p).is_main) named_end));
+        named = has_names b body is p;
       }
   known_site f (ParallelBody first clauses captures s) outer n body is p small =
       let b : BodySite = record {
@@ -221,6 +246,7 @@ module _ (tree : ResolvedTree) (raw : Raw) (code : IsCodeOf tree raw) where
             (heads.reductions_names tree raw (at b body is p) body.slots (program b body is p) first.line clauses
             p.around of_parallel p.here p.whole.listed vc m) (λ m r.
             named_ins r tt (λ r. named_ins r tt named_end))))));
+        named = has_names b body is p;
       }
   known_site f (TaskBody first clauses captures s) outer n body is p small =
       let b : BodySite = record {
@@ -247,6 +273,7 @@ module _ (tree : ResolvedTree) (raw : Raw) (code : IsCodeOf tree raw) where
             s n nowhere (within p.around clauses) p.here
             p.whole.body vs p.formats p.locks p.inside 0)
             (λ m r. named_ins r tt named_end));
+        named = has_names b body is p;
       }
 
   pub all_known : (bs : List BodySite) (xs : List Body) → AllZip (IsBodyOf tree raw) bs xs → All (IsPlaced tree) bs

@@ -125,7 +125,8 @@ module _ (tree : ResolvedTree) (raw other : Raw) where
       let code : x.code ≡ y.code = same_by_places x.code y.code e.0 (λ k lt. e.1.by k (omega arith) lt) in
       let slots = a.slots ∙ sym b.slots in
       let given = a.given ∙ sym b.given in
-      λ i. record { code = code i; slots = slots i; given = given i }
+      let names = a.names ∙ sym b.names in
+      λ i. record { code = code i; slots = slots i; given = given i; names = names i }
 
   same_bodies : (bs : List BodySite) (xs ys : List Body) → AllZip (IsBodyOf tree raw) bs xs
       → AllZip (IsBodyOf tree other) bs ys → xs ≡ ys

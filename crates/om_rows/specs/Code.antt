@@ -15,6 +15,7 @@ use Rattle.om_resolved.specs.ResolvedTree.{ResolvedFunctionTree, ResolvedTree}
 use Rattle.om_rows.specs.Bodies.{Numbers, BodyTree, FunctionBody, ParallelBody, TaskBody, BodySite, variables_of}
 use Rattle.om_rows.specs.Bodies.{bodies_of, behind_functions, first_numbers, called_body}
 use Rattle.om_rows.specs.Mentions.{extents_of, formats_of, locks_of, IsTextOf}
+use Rattle.om_rows.specs.Names.{names_of}
 use Rattle.om_rows.specs.Rows.{Site, Row, end, ins, part, ◌▸◌}
 use Rattle.om_rows.specs.Slots.{parameter_sight, slot_of, slot_with}
 use Rattle.om_rows.specs.Statements.{nowhere, statement, statements, reduction_starts, reductions, given_copies}
@@ -73,6 +74,7 @@ pub record IsBodyOf (tree : ResolvedTree) (raw : Raw) (b : BodySite) (body : Bod
   pub code : body_row (site_of tree raw b body) b.numbers b.function b.tree 0 (length body.code)
   pub slots : body.slots ≡ slots_of b
   pub given : body.given ≡ given_of b
+  pub names : body.names ≡ names_of b
 
 -- ---- the program
 

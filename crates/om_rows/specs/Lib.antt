@@ -6,6 +6,7 @@ pub mod Bodies
 pub mod Mentions
 pub mod Expressions
 pub mod Statements
+pub mod Names
 pub mod Code
 pub mod Sizes
 pub mod Laws

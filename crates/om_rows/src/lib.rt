@@ -2,3 +2,6 @@
 #![tactic(auto)]
 
 pub mod laws;
+mod scope;
+
+pub use scope::VariableScope;

@@ -1,4 +1,1 @@
-pub mod Meant
-pub mod Scopes
-pub mod Values
 pub mod Walks

@@ -1,9 +1,9 @@
-//! Which variable a name means at an instruction.
+//! Which variable a name means at an instruction of a body.
 #![tactic(auto)]
 
-pub mod names;
+mod names;
 mod size;
 mod statement;
 mod walk;
 
-pub use names::{Local, Names, names_of};
+pub use names::{function_names, names_with, parallel_names, task_names};

@@ -1,155 +1,100 @@
-//! The names of a program, and what they mean.
+//! What names mean in the bodies of a program.
 
-ghost use Rattle.std.specs.Prelude.{◌≡◌, ◌+◌, IfOk, OnOk, length, map, nat_eq, position, slice_get};
-ghost use Rattle.om_resolved.specs.ResolvedTree as trees;
-ghost use Rattle.om_resolved.specs.ResolvedView.{view_resolved, view_resolved_function, view_resolved_statement};
-ghost use Rattle.om_rows.specs.Bodies.{function_variables};
+ghost use Rattle.std.specs.Prelude.{◌≡◌, ◌≤◌, ◌<◌, ◌+◌, IfOk, IfSome, OnOk, length, map, nat_eq, position};
+ghost use Rattle.om_resolved.specs.ResolvedView.{view_resolved_clause, view_resolved_function, view_resolved_statement};
+ghost use Rattle.om_rows.specs.Names.{Found, function_names, opened_at, opening, parallel_names, parallel_size, scope_in, slot_among, task_names, task_size};
 ghost use Rattle.om_rows.specs.Sizes.{statements_size};
-ghost use Rattle.om_visible.specs.Meant.{around_in, innermost, is_visible, local_at, local_in, meant};
-ghost use Rattle.om_visible.specs.Scopes.{function_body_names, function_names, functions_names, opened_at, opening, tree_names};
-ghost use Rattle.om_visible.specs.Walks.{Added, Walked};
+ghost use Rattle.om_visible.specs.Walks.{Walked};
 
-use crate::statement::add_statements;
-use crate::walk::{Around, BodyNames, Scope, Walk, close, open, skip};
-use om_resolved::{LocalVariable, Resolved, ResolvedFunction};
+use crate::statement::{add_inner, add_statements};
+use crate::walk::{Walk, add_region_copies, add_task_copies, close, open, skip, skip_combined};
+use om_code::raw::{Names, Scope};
+use om_resolved::{LocalVariable, ResolvedClause, ResolvedFunction, ResolvedStatement};
+use om_rows::VariableScope;
 use om_seq::Seq;
-use om_tables::function_variables;
+use om_tables::Variables;
 use std::alloc::{AllocError, Global};
-use std::marker::Model;
 
-/// Where the variable of a function that a name means has its cells, in a body.
-#[derive(Clone, Copy, PartialEq, Eq)]
-pub enum Local {
-    /// The name means no variable of the function.
-    NotLocal,
-    /// It means one that this body does not have: no part of it uses that variable.
-    Absent,
-    /// It means the one of this slot, with so many elements where it is an array.
-    At { slot: usize, length: Option<u32> },
-}
-
-/// A variable of a function, and how many elements it has where it is an array.
-#[derive(Clone, Copy)]
-pub(crate) struct Named {
-    pub(crate) variable: u32,
-    pub(crate) length: Option<u32>,
-}
-
-/// The names of a program's bodies: which variable each one means, at which instructions.
-#[derive(Drop)]
-pub struct Names {
-    closed: Vec<Scope>,
-    bodies: Vec<BodyNames>,
-}
-
-impl Model for Names {
-    ghost use Rattle.om_visible.specs.Scopes.{Found};
-    ghost use Rattle.om_visible.specs.Values.{found_with};
-
-    ghost Value = { Found };
-
-    ghost view = { λ n. found_with n.closed.items n.bodies.items };
-}
-
-impl Names {
-    /// What a name means at an instruction of a body (C17 6.2.1): the innermost variable of the
-    /// function that is in scope there. It takes no memory.
-    pub fn local_at(&self, body: u32, place: u32, name: &[u8]) -> Local
-        ensures { result ≡ local_at self.now body place name.now }
-    {
-        let at = Around { body, place };
-        let named = meant(
-            self.closed.as_slice(),
-            self.bodies.as_slice(),
-            self.bodies.len(),
-            at,
-            name,
-        );
-        local_in(self.bodies.as_slice(), body, named)
-    }
-}
-
-/// Whether a scope holds this instruction, and its variable has this name.
-fn is_visible(scope: &Scope, at: Around, name: &[u8]) -> bool
-    ensures { result ≡ is_visible at.body at.place name.now scope.now }
+/// The scopes of names in the own body of a function, the innermost first. Its only error is out of
+/// memory.
+pub fn function_names(
+    alloc: Global,
+    function: &ResolvedFunction,
+) -> Result<Vec<VariableScope>, AllocError>
+    ensures { IfOk result
+        (λ made. made.items ≡ (function_names (view_resolved_function function.now)).closed) }
 {
-    scope.body == at.body
-        && (scope.from <= at.place && (at.place < scope.to && name == scope.name.as_slice()))
+    let mut walk = Walk::new(alloc);
+    add_parameters(&mut walk, function.parameters.as_slice())?;
+    add_statements(&mut walk, function.body.as_slice())?;
+    skip(&mut walk, 1)?;
+    close(&mut walk, 0)?;
+    Ok(walk.closed)
 }
 
-/// The first of these variables that is in scope at an instruction under this name.
-fn innermost(scopes: &[Scope], at: Around, name: &[u8]) -> Option<Named>
-    ensures { result ≡ innermost at.body at.place name.now scopes.now }
+/// The scopes of names in the body of a `parallel`, the innermost first: BEGIN, the starts of
+/// reductions, the statement, what combines them, ARRIVE, LEAVE. Its only error is out of memory.
+pub fn parallel_names(
+    alloc: Global,
+    clauses: &[ResolvedClause],
+    statement: &ResolvedStatement,
+) -> Result<Vec<VariableScope>, AllocError>
+    ensures { let given = map view_resolved_clause clauses.now in
+        let tree = view_resolved_statement statement.now in
+        IfOk result (λ made. made.items ≡ (parallel_names given tree).closed) }
 {
-    for scope in scopes {
-        if is_visible(scope, at, name) {
-            return Some(Named {
-                variable: scope.variable,
-                length: scope.length,
-            });
-        }
-    }
-    None
+    let mut walk = Walk::new(alloc);
+    skip(&mut walk, 1)?;
+    add_region_copies(&mut walk, clauses)?;
+    add_inner(&mut walk, statement)?;
+    skip_combined(&mut walk, clauses)?;
+    skip(&mut walk, 2)?;
+    close(&mut walk, 0)?;
+    Ok(walk.closed)
 }
 
-/// Where the directive of a body stands.
-fn around_in(bodies: &[BodyNames], body: u32) -> Option<Around>
-    ensures { result ≡ around_in (slice_get bodies.now body) }
+/// The scopes of names in the body of a `task`, the innermost first: the statement, TEND. Its only
+/// error is out of memory.
+pub fn task_names(
+    alloc: Global,
+    clauses: &[ResolvedClause],
+    statement: &ResolvedStatement,
+) -> Result<Vec<VariableScope>, AllocError>
+    ensures { let given = map view_resolved_clause clauses.now in
+        let tree = view_resolved_statement statement.now in
+        IfOk result (λ made. made.items ≡ (task_names given tree).closed) }
 {
-    let names = bodies.get(body as usize)?;
-    names.around
+    let mut walk = Walk::new(alloc);
+    add_task_copies(&mut walk, clauses)?;
+    add_inner(&mut walk, statement)?;
+    skip(&mut walk, 1)?;
+    close(&mut walk, 0)?;
+    Ok(walk.closed)
 }
 
-/// What a name means in a body, or at the directive of that body, and so on, so many times.
-fn meant(
-    scopes: &[Scope],
-    bodies: &[BodyNames],
-    steps: usize,
-    at: Around,
-    name: &[u8],
-) -> Option<Named>
-    ensures { result ≡ meant steps scopes.now bodies.now at.body at.place name.now }
+/// What names mean in a body with these scopes and variables, in a body with those: by their slots.
+/// Its only error is out of memory.
+pub fn names_with(
+    alloc: Global,
+    named: Vec<VariableScope>,
+    variables: &Variables,
+    outer: &Variables,
+) -> Result<Names, AllocError>
+    requires few { length variables.now ≤ 256 }
+    requires round { length outer.now ≤ 256 }
+    ensures { let scopes = map (scope_in variables.now) named.items in
+        let slots = map (slot_among outer.now) variables.now in
+        IfOk result (λ names. names ≡ record { scopes = scopes; outer = slots }) }
 {
-    let Some(left) = steps.checked_sub(1) else {
-        return None;
-    };
-    if let Some(named) = innermost(scopes, at, name) {
-        return Some(named);
-    }
-    let around = around_in(bodies, at.body)?;
-    meant(scopes, bodies, left, around, name)
-}
-
-/// The slot of a variable.
-fn slot_in(variables: &[u32], variable: u32) -> Option<usize>
-    ensures { result ≡ position (nat_eq variable) variables.now }
-{
-    variables.iter().position(|other| variable == *other)
-}
-
-/// Where a variable has its cells in a body.
-fn local_in(bodies: &[BodyNames], body: u32, named: Option<Named>) -> Local
-    ensures { result ≡ local_in (slice_get bodies.now body) named }
-{
-    let Some(named) = named else {
-        return Local::NotLocal;
-    };
-    match bodies.get(body as usize) {
-        None => Local::Absent,
-        Some(names) => match slot_in(names.variables.as_slice(), named.variable) {
-            None => Local::Absent,
-            Some(slot) => Local::At {
-                slot,
-                length: named.length,
-            },
-        },
-    }
+    let scopes = scopes_in(alloc, named, variables)?;
+    let outer = slots_among(alloc, outer, variables)?;
+    Ok(Names { scopes, outer })
 }
 
 /// Adds parameters.
 fn add_parameters(walk: &mut Walk, parameters: &[LocalVariable]) -> Result<(), AllocError>
     ensures { OnOk result
-        (Walked walk.old walk.new 0 (λ k. opening (map (opened_at 0) parameters.now))) }
+        (Walked walk.old walk.new 0 (opening (map (opened_at 0) parameters.now))) }
 {
     for parameter in parameters {
         open(walk, parameter, 0)?;
@@ -157,75 +102,65 @@ fn add_parameters(walk: &mut Walk, parameters: &[LocalVariable]) -> Result<(), A
     Ok(())
 }
 
-/// Adds the names in the body of a function.
-fn add_function_body(walk: &mut Walk, function: &ResolvedFunction) -> Result<(), AllocError>
-    requires { walk.old.place ≡ 0 }
-    ensures { OnOk result (Walked walk.old walk.new
-        (statements_size (view_resolved_function function.now).body + 1)
-        (function_body_names (view_resolved_function function.now) walk.old.body)) }
+/// Scopes, by the slots of a body with these variables.
+fn scopes_in(
+    alloc: Global,
+    named: Vec<VariableScope>,
+    variables: &Variables,
+) -> Result<Seq<Scope>, AllocError>
+    requires { length variables.now ≤ 256 }
+    ensures { IfOk result (λ scopes. scopes ≡ map (scope_in variables.now) named.items) }
 {
-    let height = walk.opened.len();
-    add_parameters(walk, function.parameters.as_slice())?;
-    add_statements(walk, function.body.as_slice())?;
-    skip(walk, 1)?;
-    close(walk, height)
+    let mut scopes = Vec::new(alloc);
+    for one in named {
+        scopes.push(scope_in(variables, one))?;
+    }
+    Ok(Seq::of(scopes))
 }
 
-/// The variables of a function's body, by their slots.
-fn slots_of_function(alloc: Global, function: &ResolvedFunction) -> Result<Seq<u32>, AllocError>
-    ensures { IfOk result
-        (λ made. made ≡ function_variables (view_resolved_function function.now)) }
+/// A scope, by the slots of a body with these variables.
+fn scope_in(variables: &Variables, named: VariableScope) -> Scope
+    requires { length variables.now ≤ 256 }
+    ensures { result ≡ scope_in variables.now named }
 {
-    let variables = function_variables(alloc, function)?;
-    let slots = Vec::from_slice(alloc, variables.as_slice())?;
+    Scope {
+        slot: slot_among(variables, named.variable),
+        name: named.name,
+        length: named.length,
+        from: named.from,
+        to: named.to,
+    }
+}
+
+/// For each of these variables its slot in the body round them, where that has it.
+fn slots_among(
+    alloc: Global,
+    outer: &Variables,
+    variables: &Variables,
+) -> Result<Seq<Option<u32>>, AllocError>
+    requires { length outer.now ≤ 256 }
+    ensures { IfOk result (λ slots. slots ≡ map (slot_among outer.now) variables.now) }
+{
+    let mut slots = Vec::new(alloc);
+    for variable in variables.as_slice() {
+        slots.push(slot_among(outer, *variable))?;
+    }
     Ok(Seq::of(slots))
 }
 
-/// Adds a function's body, and the names in it.
-fn add_function(walk: &mut Walk, function: &ResolvedFunction) -> Result<(), AllocError>
-    ensures { OnOk result
-        (Added walk.old walk.new (function_names (view_resolved_function function.now))) }
+/// The slot of a variable, where these have it.
+fn slot_among(variables: &Variables, variable: u32) -> Option<u32>
+    requires { length variables.now ≤ 256 }
+    ensures { result ≡ slot_among variables.now variable }
 {
-    let Ok(number) = u32::try_from(walk.bodies.len()) else {
-        return Err(AllocError);
-    };
-    let variables = slots_of_function(walk.alloc, function)?;
-    walk.bodies.push(BodyNames {
-        around: None,
-        variables,
-    })?;
-    walk.body = number;
-    walk.place = 0;
-    add_function_body(walk, function)?;
-    Ok(())
+    let slot = index_among(variables.as_slice(), variable)?;
+    Some(slot as u32)
 }
 
-/// Adds the bodies of functions.
-fn add_functions(walk: &mut Walk, functions: &[ResolvedFunction]) -> Result<(), AllocError>
-    ensures { OnOk result
-        (Added walk.old walk.new (functions_names (map view_resolved_function functions.now))) }
+/// The index of a variable, where it is among these.
+fn index_among(variables: &[u32], variable: u32) -> Option<usize>
+    ensures index { result ≡ position (nat_eq variable) variables.now }
+    ensures within { IfSome result (λ index. index < length variables.now) }
 {
-    for function in functions {
-        add_function(walk, function)?;
-    }
-    Ok(())
-}
-
-/// The names of a program, for the debugger's questions. Its only error is out of memory.
-pub fn names_of(alloc: Global, tree: &Resolved) -> Result<Names, AllocError>
-    ensures { IfOk result (λ names. names ≡ tree_names (view_resolved tree.now)) }
-{
-    let mut walk = Walk {
-        alloc,
-        body: 0,
-        place: 0,
-        opened: Vec::new(alloc),
-        closed: Vec::new(alloc),
-        bodies: Vec::new(alloc),
-    };
-    add_functions(&mut walk, tree.functions.as_slice())?;
-    Ok(Names {
-        closed: walk.closed,
-        bodies: walk.bodies,
-    })
+    variables.iter().position(|other| variable == *other)
 }

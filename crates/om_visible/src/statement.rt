@@ -1,18 +1,16 @@
-//! The names of statements and of the regions in them.
+//! The names of statements.
 
 ghost use Rattle.std.specs.Prelude.{◌≡◌, ◌+◌, OnOk, length, map, option_map};
 ghost use Rattle.om_resolved.specs.ResolvedTree as trees;
 ghost use Rattle.om_resolved.specs.ResolvedView.{view_resolved_clause, view_resolved_loop, view_resolved_part, view_resolved_statement, view_resolved_update};
-ghost use Rattle.om_rows.specs.Bodies.{region_variables};
 ghost use Rattle.om_rows.specs.Sizes.{alone_size, assignment_size, construct_size, end_size, loop_size, filter_size, parts_size, perhaps_size, statement_size, statements_size, update_size, value_size};
 ghost use Rattle.om_rows.specs.Statements.{clause_value, given_copies};
-ghost use Rattle.om_visible.specs.Scopes.{all_names, block_names, inner_names, kind_names, loop_names, names, nothing, parallel_names, parallel_size, part_names, region, sections_names, sections_size, task_names, task_size};
+ghost use Rattle.om_rows.specs.Names.{all_names, block_names, inner_names, kind_names, loop_names, names, nothing, part_names, sections_names, sections_size};
 ghost use Rattle.om_visible.specs.Walks.{Walked};
 
 use crate::walk::{
-    Walk, add_copies, add_declarators, add_region_copies, add_start, add_task_copies, begin_region,
-    close, end_region, open, skip, skip_combined, skip_effect, skip_given, skip_perhaps, skip_step,
-    skip_test, skip_value,
+    Walk, add_copies, add_declarators, add_start, close, open, skip, skip_combined, skip_effect,
+    skip_given, skip_perhaps, skip_step, skip_test, skip_value,
 };
 use om_resolved::{
     Capture, ConstructKind, ResolvedClause, ResolvedLoop, ResolvedPart, ResolvedStatement,
@@ -24,7 +22,7 @@ use std::alloc::AllocError;
 fn skip_size(walk: &mut Walk, clauses: &[ResolvedClause]) -> Result<(), AllocError>
     ensures { OnOk result (Walked walk.old walk.new
         (perhaps_size value_size (clause_value (map view_resolved_clause clauses.now)))
-        (λ k. nothing)) }
+        nothing) }
 {
     for clause in clauses {
         match clause {
@@ -38,7 +36,7 @@ fn skip_size(walk: &mut Walk, clauses: &[ResolvedClause]) -> Result<(), AllocErr
 /// Goes over the value of `filter`, or the 0 in its place.
 fn skip_filter(walk: &mut Walk, clauses: &[ResolvedClause]) -> Result<(), AllocError>
     ensures { OnOk result (Walked walk.old walk.new
-        (filter_size (clause_value (map view_resolved_clause clauses.now))) (λ k. nothing)) }
+        (filter_size (clause_value (map view_resolved_clause clauses.now))) nothing) }
 {
     for clause in clauses {
         match clause {
@@ -69,7 +67,7 @@ fn alone_own(directive: &StandAlone) -> u32
 /// Goes over an update of an `atomic`.
 fn skip_update(walk: &mut Walk, update: &ResolvedUpdate) -> Result<(), AllocError>
     ensures { OnOk result
-        (Walked walk.old walk.new (update_size (view_resolved_update update.now)) (λ k. nothing)) }
+        (Walked walk.old walk.new (update_size (view_resolved_update update.now)) nothing) }
 {
     skip_perhaps(walk, &update.index)?;
     skip_value(walk, &update.operand)?;
@@ -79,7 +77,7 @@ fn skip_update(walk: &mut Walk, update: &ResolvedUpdate) -> Result<(), AllocErro
 /// Goes over the assignment of an `atomic`.
 fn skip_assignment(walk: &mut Walk, statement: &ResolvedStatement) -> Result<(), AllocError>
     ensures { OnOk result (Walked walk.old walk.new
-        (assignment_size (view_resolved_statement statement.now)) (λ k. nothing)) }
+        (assignment_size (view_resolved_statement statement.now)) nothing) }
 {
     let ResolvedStatement::Expression {
         value: expression,
@@ -96,7 +94,7 @@ fn skip_assignment(walk: &mut Walk, statement: &ResolvedStatement) -> Result<(),
 fn add_statement(walk: &mut Walk, statement: &ResolvedStatement) -> Result<(), AllocError>
     ensures { OnOk result (Walked walk.old walk.new
         (statement_size (view_resolved_statement statement.now))
-        (names (view_resolved_statement statement.now) walk.old.body walk.old.place)) }
+        (names (view_resolved_statement statement.now) walk.old.place)) }
 {
     match statement {
         ResolvedStatement::Declaration { declarators, .. } => {
@@ -167,13 +165,13 @@ fn add_statement(walk: &mut Walk, statement: &ResolvedStatement) -> Result<(), A
             captures,
             body,
             ..
-        } => { add_parallel(walk, clauses.as_slice(), captures.as_slice(), body) }
+        } => { skip_parallel(walk, clauses.as_slice(), captures.as_slice(), body) }
         ResolvedStatement::Task {
             clauses,
             captures,
             body,
             ..
-        } => { add_task(walk, clauses.as_slice(), captures.as_slice(), body) }
+        } => { skip_given(walk, clauses.as_slice(), captures.as_slice(), body) }
         ResolvedStatement::Loop {
             clauses,
             nowait,
@@ -200,10 +198,10 @@ fn add_statement(walk: &mut Walk, statement: &ResolvedStatement) -> Result<(), A
 
 /// Adds the names of a statement that is a block of its own (C17 6.8.4p3, 6.8.5p5).
 #[cycle(statement)]
-fn add_inner(walk: &mut Walk, statement: &ResolvedStatement) -> Result<(), AllocError>
+pub(crate) fn add_inner(walk: &mut Walk, statement: &ResolvedStatement) -> Result<(), AllocError>
     ensures { OnOk result (Walked walk.old walk.new
         (statement_size (view_resolved_statement statement.now))
-        (inner_names (view_resolved_statement statement.now) walk.old.body walk.old.place)) }
+        (inner_names (view_resolved_statement statement.now) walk.old.place)) }
 {
     let height = walk.opened.len();
     add_statement(walk, statement)?;
@@ -215,7 +213,7 @@ fn add_inner(walk: &mut Walk, statement: &ResolvedStatement) -> Result<(), Alloc
 pub(crate) fn add_statements(walk: &mut Walk, items: &[ResolvedStatement]) -> Result<(), AllocError>
     ensures { let tree = trees.statements (map view_resolved_statement items.now) in
         OnOk result (Walked walk.old walk.new (statements_size tree)
-        (all_names tree walk.old.body walk.old.place)) }
+        (all_names tree walk.old.place)) }
 {
     for item in items {
         add_statement(walk, item)?;
@@ -228,7 +226,7 @@ pub(crate) fn add_statements(walk: &mut Walk, items: &[ResolvedStatement]) -> Re
 fn add_block(walk: &mut Walk, items: &[ResolvedStatement]) -> Result<(), AllocError>
     ensures { let tree = trees.statements (map view_resolved_statement items.now) in
         OnOk result (Walked walk.old walk.new (statements_size tree)
-        (block_names tree walk.old.body walk.old.place)) }
+        (block_names tree walk.old.place)) }
 {
     let height = walk.opened.len();
     add_statements(walk, items)?;
@@ -240,7 +238,7 @@ fn add_block(walk: &mut Walk, items: &[ResolvedStatement]) -> Result<(), AllocEr
 fn add_parts(walk: &mut Walk, parts: &[ResolvedPart]) -> Result<(), AllocError>
     ensures { let tree = trees.parts (map view_resolved_part parts.now) in
         OnOk result (Walked walk.old walk.new (parts_size tree)
-        (part_names tree walk.old.body walk.old.place)) }
+        (part_names tree walk.old.place)) }
 {
     for part in parts {
         add_part(walk, part)?;
@@ -254,7 +252,7 @@ fn add_parts(walk: &mut Walk, parts: &[ResolvedPart]) -> Result<(), AllocError>
 fn add_part(walk: &mut Walk, part: &ResolvedPart) -> Result<(), AllocError>
     ensures { OnOk result (Walked walk.old walk.new
         (statements_size (view_resolved_part part.now))
-        (block_names (view_resolved_part part.now) walk.old.body walk.old.place)) }
+        (block_names (view_resolved_part part.now) walk.old.place)) }
 {
     add_block(walk, part.items.as_slice())
 }
@@ -271,7 +269,7 @@ fn add_construct(
         let tree = view_resolved_statement statement.now in
         OnOk result (Walked walk.old walk.new
         (construct_size kind.now given tree (statement_size tree))
-        (kind_names walk.old.body walk.old.place kind.now given tree (names tree))) }
+        (kind_names walk.old.place kind.now given tree (names tree))) }
 {
     match kind {
         ConstructKind::Single { nowait } => {
@@ -302,52 +300,8 @@ fn add_construct(
     }
 }
 
-/// Adds the names in the body of a `parallel`: BEGIN, the starts of reductions, the statement, what
-/// combines them, ARRIVE, LEAVE.
-#[cycle(statement)]
-fn add_parallel_body(
-    walk: &mut Walk,
-    clauses: &[ResolvedClause],
-    statement: &ResolvedStatement,
-) -> Result<(), AllocError>
-    requires { walk.old.place ≡ 0 }
-    ensures { let given = map view_resolved_clause clauses.now in
-        let tree = view_resolved_statement statement.now in
-        OnOk result (Walked walk.old walk.new (parallel_size given tree)
-        (parallel_names given tree (names tree) walk.old.body)) }
-{
-    let height = walk.opened.len();
-    skip(walk, 1)?;
-    add_region_copies(walk, clauses)?;
-    add_inner(walk, statement)?;
-    skip_combined(walk, clauses)?;
-    skip(walk, 2)?;
-    close(walk, height)
-}
-
-/// Adds the names in the body of a `task`: the statement, TEND.
-#[cycle(statement)]
-fn add_task_body(
-    walk: &mut Walk,
-    clauses: &[ResolvedClause],
-    statement: &ResolvedStatement,
-) -> Result<(), AllocError>
-    requires { walk.old.place ≡ 0 }
-    ensures { let given = map view_resolved_clause clauses.now in
-        let tree = view_resolved_statement statement.now in
-        OnOk result (Walked walk.old walk.new (task_size tree)
-        (task_names given tree (names tree) walk.old.body)) }
-{
-    let height = walk.opened.len();
-    add_task_copies(walk, clauses)?;
-    add_inner(walk, statement)?;
-    skip(walk, 1)?;
-    close(walk, height)
-}
-
-/// Adds the names in the body of a `parallel` that stands here, and goes over its own instructions.
-#[cycle(statement)]
-fn add_parallel(
+/// Goes over a `parallel`, whose body is another one.
+fn skip_parallel(
     walk: &mut Walk,
     clauses: &[ResolvedClause],
     captures: &[Capture],
@@ -357,35 +311,9 @@ fn add_parallel(
         let tree = view_resolved_statement statement.now in
         let copies = given_copies given captures.now tree in
         OnOk result (Walked walk.old walk.new
-        (perhaps_size value_size (clause_value given) + length copies + 1)
-        (region walk.old.body walk.old.place (region_variables given tree)
-        (parallel_names given tree (names tree)))) }
+        (perhaps_size value_size (clause_value given) + length copies + 1) nothing) }
 {
-    let here = begin_region(walk, clauses, statement)?;
-    add_parallel_body(walk, clauses, statement)?;
-    end_region(walk, here);
     skip_size(walk, clauses)?;
-    skip_given(walk, clauses, captures, statement)
-}
-
-/// Adds the names in the body of a `task` that stands here, and goes over its own instructions.
-#[cycle(statement)]
-fn add_task(
-    walk: &mut Walk,
-    clauses: &[ResolvedClause],
-    captures: &[Capture],
-    statement: &ResolvedStatement,
-) -> Result<(), AllocError>
-    ensures { let given = map view_resolved_clause clauses.now in
-        let tree = view_resolved_statement statement.now in
-        let copies = given_copies given captures.now tree in
-        OnOk result (Walked walk.old walk.new (length copies + 1)
-        (region walk.old.body walk.old.place (region_variables given tree)
-        (task_names given tree (names tree)))) }
-{
-    let here = begin_region(walk, clauses, statement)?;
-    add_task_body(walk, clauses, statement)?;
-    end_region(walk, here);
     skip_given(walk, clauses, captures, statement)
 }
 
@@ -403,7 +331,7 @@ fn add_loop(
         let repeated = view_resolved_loop head.now in
         OnOk result (Walked walk.old walk.new
         (loop_size given nowait repeated (statement_size tree))
-        (loop_names walk.old.body walk.old.place given nowait repeated tree (names tree))) }
+        (loop_names walk.old.place given nowait repeated tree (names tree))) }
 {
     let height = walk.opened.len();
     skip_value(walk, &head.from)?;
@@ -431,7 +359,7 @@ fn add_sections(
     ensures { let given = map view_resolved_clause clauses.now in
         let tree = trees.parts (map view_resolved_part parts.now) in
         OnOk result (Walked walk.old walk.new (sections_size given nowait tree)
-        (sections_names walk.old.body walk.old.place given nowait tree (part_names tree))) }
+        (sections_names walk.old.place given nowait tree (part_names tree))) }
 {
     let height = walk.opened.len();
     add_copies(walk, clauses)?;

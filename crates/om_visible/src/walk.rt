@@ -2,11 +2,10 @@
 
 ghost use Rattle.std.specs.Prelude.{◌≡◌, ◌≤◌, ◌<◌, ◌+◌, ◌∷◌, [], IfOk, OnOk, length, map, option_map};
 ghost use Rattle.om_resolved.specs.ResolvedView.{view_resolved_clause, view_resolved_declarator, view_resolved_expression, view_resolved_start, view_resolved_statement};
-ghost use Rattle.om_rows.specs.Bodies.{region_variables};
 ghost use Rattle.om_rows.specs.Sizes.{clause_combined_size, clause_start_size, declarator_size, each_size, effect_size, perhaps_size, start_size, test_size, value_size};
 ghost use Rattle.om_rows.specs.Statements.{given_copies};
-ghost use Rattle.om_visible.specs.Scopes.{clause_copies, clause_region_copies, clause_region_start, copied, declared, nothing, opened_at, opened_with, opening, region_copied, region_from, region_start, start_declared, task_clause, task_copied};
-ghost use Rattle.om_visible.specs.Walks.{BeginsRegion, Closes, ClosesLast, Walked};
+ghost use Rattle.om_rows.specs.Names.{clause_copies, clause_region_copies, clause_region_start, closed_at, copied, declared, nothing, opened_at, opened_with, opening, region_copied, region_from, region_start, start_declared, task_clause, task_copied};
+ghost use Rattle.om_visible.specs.Walks.{Closes, ClosesLast, Walked};
 
 use crate::size::{
     combined_own, copy_start_own, pass, pass_effect, pass_perhaps, pass_step, pass_test, pass_value,
@@ -15,71 +14,43 @@ use om_resolved::{
     Capture, CopyKind, LocalVariable, ResolvedClause, ResolvedDeclarator, ResolvedExpression,
     ResolvedStart, ResolvedStatement,
 };
+use om_rows::VariableScope;
 use om_seq::Seq;
-use om_tables::{given_copies, region_variables};
+use om_tables::given_copies;
 use std::alloc::{AllocError, Global};
 
-/// A variable whose scope has begun.
-#[derive(Drop)]
-pub(crate) struct Opened {
-    pub(crate) name: Seq<u8>,
-    pub(crate) variable: u32,
-    /// How many elements it has, where it is an array.
-    pub(crate) length: Option<u32>,
-    /// The place of the first instruction in its scope.
-    pub(crate) from: u32,
-}
-
-/// A variable whose scope has ended.
-#[derive(Drop)]
-pub(crate) struct Scope {
-    /// The number of the body in which it is.
-    pub(crate) body: u32,
-    pub(crate) name: Seq<u8>,
-    pub(crate) variable: u32,
-    /// How many elements it has, where it is an array.
-    pub(crate) length: Option<u32>,
-    /// The place of the first instruction in it.
-    pub(crate) from: u32,
-    /// The place behind the last one.
-    pub(crate) to: u32,
-}
-
-/// Where the directive of a body stands.
-#[derive(Clone, Copy)]
-pub(crate) struct Around {
-    pub(crate) body: u32,
-    pub(crate) place: u32,
-}
-
-/// A body of the program.
-#[derive(Drop)]
-pub(crate) struct BodyNames {
-    /// That of a function stands in no other.
-    pub(crate) around: Option<Around>,
-    /// The variables that it has, in the order of their slots.
-    pub(crate) variables: Seq<u32>,
-}
-
-/// A walk over the tree, in the order of the text.
+/// A walk over the tree of a body, in the order of the text.
 #[derive(Drop)]
 pub(crate) struct Walk {
     pub(crate) alloc: Global,
-    /// The number of the body.
-    pub(crate) body: u32,
-    /// The place of the next instruction in it.
+    /// The place of the next instruction.
     pub(crate) place: u32,
-    /// The variables in scope that the body declares or copies, the last one last.
-    pub(crate) opened: Vec<Opened>,
-    pub(crate) closed: Vec<Scope>,
-    /// All bodies that have begun.
-    pub(crate) bodies: Vec<BodyNames>,
+    /// The scopes that have begun and not ended, the last one last.
+    pub(crate) opened: Vec<VariableScope>,
+    /// The scopes that have ended.
+    pub(crate) closed: Vec<VariableScope>,
+}
+
+impl Walk {
+    /// A walk that has not begun.
+    pub(crate) fn new(alloc: Global) -> Walk
+        ensures place { result.place ≡ 0 }
+        ensures opened { result.opened.items ≡ [] }
+        ensures closed { result.closed.items ≡ [] }
+    {
+        Walk {
+            alloc,
+            place: 0,
+            opened: Vec::new(alloc),
+            closed: Vec::new(alloc),
+        }
+    }
 }
 
 /// Begins the scope of a variable that is no array.
 pub(crate) fn open(walk: &mut Walk, variable: &LocalVariable, from: u32) -> Result<(), AllocError>
     ensures { OnOk result
-        (Walked walk.old walk.new 0 (λ k. opening (opened_at from variable.now ∷ []))) }
+        (Walked walk.old walk.new 0 (opening (opened_at from variable.now ∷ []))) }
 {
     open_with(walk, None, variable, from)
 }
@@ -92,16 +63,24 @@ fn open_with(
     from: u32,
 ) -> Result<(), AllocError>
     ensures { OnOk result
-        (Walked walk.old walk.new 0 (λ k. opening (opened_with length from variable.now ∷ []))) }
+        (Walked walk.old walk.new 0 (opening (opened_with length from variable.now ∷ []))) }
 {
     let name = Seq::of(Vec::from_slice(walk.alloc, variable.name.as_slice())?);
-    walk.opened.push(Opened {
+    walk.opened.push(VariableScope {
         name,
         variable: variable.at,
         length,
         from,
+        to: from,
     })?;
     Ok(())
+}
+
+/// A scope that ends at this place.
+fn closed_at(opened: VariableScope, to: u32) -> VariableScope
+    ensures { result ≡ closed_at to opened }
+{
+    VariableScope { to, ..opened }
 }
 
 /// Ends the scope of the last variable that is open, if one is.
@@ -111,15 +90,7 @@ fn close_last(walk: &mut Walk) -> Result<(), AllocError>
     let Some(opened) = walk.opened.pop() else {
         return Ok(());
     };
-    let scope = Scope {
-        body: walk.body,
-        name: opened.name,
-        variable: opened.variable,
-        length: opened.length,
-        from: opened.from,
-        to: walk.place,
-    };
-    walk.closed.push(scope)?;
+    walk.closed.push(closed_at(opened, walk.place))?;
     Ok(())
 }
 
@@ -136,7 +107,7 @@ pub(crate) fn close(walk: &mut Walk, height: usize) -> Result<(), AllocError>
 
 /// Goes over so many instructions.
 pub(crate) fn skip(walk: &mut Walk, count: u32) -> Result<(), AllocError>
-    ensures { OnOk result (Walked walk.old walk.new count (λ k. nothing)) }
+    ensures { OnOk result (Walked walk.old walk.new count nothing) }
 {
     pass(&mut walk.place, count)
 }
@@ -144,7 +115,7 @@ pub(crate) fn skip(walk: &mut Walk, count: u32) -> Result<(), AllocError>
 /// Goes over the code of an expression that leaves its value.
 pub(crate) fn skip_value(walk: &mut Walk, expression: &ResolvedExpression) -> Result<(), AllocError>
     ensures { OnOk result (Walked walk.old walk.new
-        (value_size (view_resolved_expression expression.now)) (λ k. nothing)) }
+        (value_size (view_resolved_expression expression.now)) nothing) }
 {
     pass_value(&mut walk.place, expression)
 }
@@ -155,7 +126,7 @@ pub(crate) fn skip_effect(
     expression: &ResolvedExpression,
 ) -> Result<(), AllocError>
     ensures { OnOk result (Walked walk.old walk.new
-        (effect_size (view_resolved_expression expression.now)) (λ k. nothing)) }
+        (effect_size (view_resolved_expression expression.now)) nothing) }
 {
     pass_effect(&mut walk.place, expression)
 }
@@ -167,7 +138,7 @@ pub(crate) fn skip_perhaps(
 ) -> Result<(), AllocError>
     ensures { OnOk result (Walked walk.old walk.new
         (perhaps_size value_size (option_map view_resolved_expression expression.now))
-        (λ k. nothing)) }
+        nothing) }
 {
     pass_perhaps(&mut walk.place, expression)
 }
@@ -179,7 +150,7 @@ pub(crate) fn skip_test(
 ) -> Result<(), AllocError>
     ensures { OnOk result (Walked walk.old walk.new
         (perhaps_size test_size (option_map view_resolved_expression condition.now))
-        (λ k. nothing)) }
+        nothing) }
 {
     pass_test(&mut walk.place, condition)
 }
@@ -190,7 +161,7 @@ pub(crate) fn skip_step(
     step: &Option<ResolvedExpression>,
 ) -> Result<(), AllocError>
     ensures { OnOk result (Walked walk.old walk.new
-        (perhaps_size effect_size (option_map view_resolved_expression step.now)) (λ k. nothing)) }
+        (perhaps_size effect_size (option_map view_resolved_expression step.now)) nothing) }
 {
     pass_step(&mut walk.place, step)
 }
@@ -198,7 +169,7 @@ pub(crate) fn skip_step(
 /// Adds a declared variable.
 fn add_declarator(walk: &mut Walk, declarator: &ResolvedDeclarator) -> Result<(), AllocError>
     ensures { OnOk result (Walked walk.old walk.new
-        (declarator_size (view_resolved_declarator declarator.now)) (λ k. opening
+        (declarator_size (view_resolved_declarator declarator.now)) (opening
         (opened_with declarator.now.length walk.old.place declarator.now.variable ∷ []))) }
 {
     let from = walk.place;
@@ -214,7 +185,7 @@ pub(crate) fn add_declarators(
 ) -> Result<(), AllocError>
     ensures { OnOk result (Walked walk.old walk.new
         (each_size declarator_size (map view_resolved_declarator declarators.now))
-        (λ k. opening (declared walk.old.place (map view_resolved_declarator declarators.now)))) }
+        (opening (declared walk.old.place (map view_resolved_declarator declarators.now)))) }
 {
     for declarator in declarators {
         add_declarator(walk, declarator)?;
@@ -225,7 +196,7 @@ pub(crate) fn add_declarators(
 /// Adds what a `for` begins with.
 pub(crate) fn add_start(walk: &mut Walk, start: &ResolvedStart) -> Result<(), AllocError>
     ensures { OnOk result (Walked walk.old walk.new (start_size (view_resolved_start start.now))
-        (λ k. opening (start_declared walk.old.place (view_resolved_start start.now)))) }
+        (opening (start_declared walk.old.place (view_resolved_start start.now)))) }
 {
     match start {
         ResolvedStart::Nothing => Ok(()),
@@ -238,7 +209,7 @@ pub(crate) fn add_start(walk: &mut Walk, start: &ResolvedStart) -> Result<(), Al
 fn add_copy(walk: &mut Walk, clause: &ResolvedClause) -> Result<(), AllocError>
     ensures { OnOk result (Walked walk.old walk.new
         (clause_start_size (view_resolved_clause clause.now))
-        (λ k. opening (clause_copies walk.old.place (view_resolved_clause clause.now)))) }
+        (opening (clause_copies walk.old.place (view_resolved_clause clause.now)))) }
 {
     let ResolvedClause::Copied { kind, copy, .. } = clause else {
         return Ok(());
@@ -252,7 +223,7 @@ fn add_copy(walk: &mut Walk, clause: &ResolvedClause) -> Result<(), AllocError>
 pub(crate) fn add_copies(walk: &mut Walk, clauses: &[ResolvedClause]) -> Result<(), AllocError>
     ensures { OnOk result (Walked walk.old walk.new
         (each_size clause_start_size (map view_resolved_clause clauses.now))
-        (λ k. opening (copied walk.old.place (map view_resolved_clause clauses.now)))) }
+        (opening (copied walk.old.place (map view_resolved_clause clauses.now)))) }
 {
     for clause in clauses {
         add_copy(walk, clause)?;
@@ -284,7 +255,7 @@ fn region_from(place: u32, kind: CopyKind) -> u32
 fn add_region_copy(walk: &mut Walk, clause: &ResolvedClause) -> Result<(), AllocError>
     ensures { OnOk result (Walked walk.old walk.new
         (clause_region_start (view_resolved_clause clause.now))
-        (λ k. opening (clause_region_copies walk.old.place (view_resolved_clause clause.now)))) }
+        (opening (clause_region_copies walk.old.place (view_resolved_clause clause.now)))) }
 {
     let ResolvedClause::Copied { kind, copy, .. } = clause else {
         return Ok(());
@@ -301,7 +272,7 @@ pub(crate) fn add_region_copies(
 ) -> Result<(), AllocError>
     ensures { OnOk result (Walked walk.old walk.new
         (each_size clause_region_start (map view_resolved_clause clauses.now))
-        (λ k. opening (region_copied walk.old.place (map view_resolved_clause clauses.now)))) }
+        (opening (region_copied walk.old.place (map view_resolved_clause clauses.now)))) }
 {
     for clause in clauses {
         add_region_copy(walk, clause)?;
@@ -322,7 +293,7 @@ fn clause_combined(clause: &ResolvedClause) -> u32
 /// Goes over the instructions that combine copies.
 pub(crate) fn skip_combined(walk: &mut Walk, clauses: &[ResolvedClause]) -> Result<(), AllocError>
     ensures { OnOk result (Walked walk.old walk.new
-        (each_size clause_combined_size (map view_resolved_clause clauses.now)) (λ k. nothing)) }
+        (each_size clause_combined_size (map view_resolved_clause clauses.now)) nothing) }
 {
     for clause in clauses {
         skip(walk, clause_combined(clause))?;
@@ -333,7 +304,7 @@ pub(crate) fn skip_combined(walk: &mut Walk, clauses: &[ResolvedClause]) -> Resu
 /// Adds the copies that clauses make in the body of their `task`.
 pub(crate) fn add_task_copies(walk: &mut Walk, clauses: &[ResolvedClause]) -> Result<(), AllocError>
     ensures { OnOk result (Walked walk.old walk.new 0
-        (λ k. opening (task_copied (map view_resolved_clause clauses.now)))) }
+        (opening (task_copied (map view_resolved_clause clauses.now)))) }
 {
     for clause in clauses {
         add_task_copy(walk, clause)?;
@@ -344,61 +315,12 @@ pub(crate) fn add_task_copies(walk: &mut Walk, clauses: &[ResolvedClause]) -> Re
 /// Adds the copy that a clause makes in the body of its `task`.
 fn add_task_copy(walk: &mut Walk, clause: &ResolvedClause) -> Result<(), AllocError>
     ensures { OnOk result (Walked walk.old walk.new 0
-        (λ k. opening (task_clause (view_resolved_clause clause.now)))) }
+        (opening (task_clause (view_resolved_clause clause.now)))) }
 {
     let ResolvedClause::Copied { copy, .. } = clause else {
         return Ok(());
     };
     open(walk, copy, 0)
-}
-
-/// The variables of the body of a `parallel` or a `task`, by their slots.
-fn slots_of_region(
-    alloc: Global,
-    clauses: &[ResolvedClause],
-    statement: &ResolvedStatement,
-) -> Result<Seq<u32>, AllocError>
-    ensures { IfOk result (λ made. made ≡ region_variables
-        (map view_resolved_clause clauses.now) (view_resolved_statement statement.now)) }
-{
-    let variables = region_variables(alloc, clauses, statement)?;
-    let slots = Vec::from_slice(alloc, variables.as_slice())?;
-    Ok(Seq::of(slots))
-}
-
-/// Begins the body of a region that stands here.
-pub(crate) fn begin_region(
-    walk: &mut Walk,
-    clauses: &[ResolvedClause],
-    statement: &ResolvedStatement,
-) -> Result<Around, AllocError>
-    ensures { IfOk result (λ here. BeginsRegion here (region_variables
-        (map view_resolved_clause clauses.now) (view_resolved_statement statement.now)) walk.old
-        walk.new) }
-{
-    let here = Around {
-        body: walk.body,
-        place: walk.place,
-    };
-    let Ok(number) = u32::try_from(walk.bodies.len()) else {
-        return Err(AllocError);
-    };
-    let variables = slots_of_region(walk.alloc, clauses, statement)?;
-    walk.bodies.push(BodyNames {
-        around: Some(here),
-        variables,
-    })?;
-    walk.body = number;
-    walk.place = 0;
-    Ok(here)
-}
-
-/// Goes on in the body round a region.
-pub(crate) fn end_region(walk: &mut Walk, here: Around)
-    ensures { walk.new ≡ record walk.old { body = here.body; place = here.place } }
-{
-    walk.body = here.body;
-    walk.place = here.place;
 }
 
 /// Goes over the values that a region's firstprivate copies begin with, and over FORK or SPAWN.
@@ -410,7 +332,7 @@ pub(crate) fn skip_given(
 ) -> Result<(), AllocError>
     ensures { let trees = map view_resolved_clause clauses.now in
         let copies = given_copies trees captures.now (view_resolved_statement statement.now) in
-        OnOk result (Walked walk.old walk.new (length copies + 1) (λ k. nothing)) }
+        OnOk result (Walked walk.old walk.new (length copies + 1) nothing) }
 {
     let given = given_copies(walk.alloc, clauses, captures, statement)?;
     let Ok(count) = u32::try_from(given.len()) else {

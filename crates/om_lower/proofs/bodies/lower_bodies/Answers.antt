@@ -6,14 +6,17 @@ use Rattle.om_lower.proofs.Items.{all_at, any_at}
 use Rattle.om_lower.proofs.Coding.{body_added}
 use Rattle.om_lower.proofs.SiteBodies.{adds_round, round_next, site_at, taken_bodies}
 use Rattle.om_resolved.specs.ResolvedView.{view_resolved}
+use Rattle.om_tables.specs.Tables.{ends_in}
 use Rattle.om_lower.proofs.bodies.lower_bodies.Goals as goal
 
 pub add_next-requires-clause-ready : goal.add_next-requires-clause-ready
 add_next-requires-clause-ready c =
     let sites = c.args.sites.now in
     let round = round_behind [] (take c.loop-site.site-index sites) in
-    subst (λ all. IsReady c.args.extents.now (body_round all c.site-item.result)) (sym c.loop-site.invariant.2)
-    (all_at (IsReady c.args.extents.now) (bodies_in [] sites) c.loop-site.site-index
+    let ends = ends_in c.args.whole.now.tables.now in
+    subst (λ all. IsReady ends c.args.extents.now (body_round all c.site-item.result))
+    (sym c.loop-site.invariant.2)
+    (all_at (IsReady ends c.args.extents.now) (bodies_in [] sites) c.loop-site.site-index
     (body_round round c.site-item.result) c.requires.ready
     (site_at sites c.loop-site.site-index c.site-item.result c.loop-site-test.true c.site-item.is))
 

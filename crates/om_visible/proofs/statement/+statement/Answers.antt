@@ -3,14 +3,13 @@ use denote.Param.Weighed.{most}
 use Rattle.om_resolved.specs.declared.resolved.ResolvedStatement.TheViews.{size-ResolvedPart, size-ResolvedStatement}
 use Rattle.om_resolved.specs.declared.resolved.ResolvedStatement.TheViews.{sized-Block, sized-Construct, sized-Do}
 use Rattle.om_resolved.specs.declared.resolved.ResolvedStatement.TheViews.{sized-For, sized-If, sized-IfElse}
-use Rattle.om_resolved.specs.declared.resolved.ResolvedStatement.TheViews.{sized-Loop, sized-Parallel, sized-Sections}
-use Rattle.om_resolved.specs.declared.resolved.ResolvedStatement.TheViews.{sized-Task, sized-While}
+use Rattle.om_resolved.specs.declared.resolved.ResolvedStatement.TheViews.{sized-Loop, sized-Sections, sized-While}
 use Rattle.om_resolved.specs.ResolvedTree as trees
 use Rattle.om_resolved.specs.ResolvedView.{view_resolved_clause, view_resolved_loop, view_resolved_part}
 use Rattle.om_resolved.specs.ResolvedView.{view_resolved_statement}
 use Rattle.om_rows.specs.Sizes.{clause_start_size, each_size, loop_size, statement_size, value_size}
-use Rattle.om_visible.specs.Scopes.{all_names, copied, inner_names, opened_at, opening, part_names, sections_size}
-use Rattle.om_visible.specs.Scopes.{◌then◌}
+use Rattle.om_rows.specs.Names.{all_names, copied, inner_names, opened_at, opening, part_names, sections_size}
+use Rattle.om_rows.specs.Names.{◌then◌}
 use Rattle.om_visible.proofs.Walking.{left_item, nothing_left, walked_end_at, walked_next, walked_none, walked_on}
 use Rattle.om_visible.proofs.Walking.{walked_past, walked_size, walked_stay}
 use Rattle.om_visible.proofs.statement.+statement.Goals as goal
@@ -21,7 +20,7 @@ add_statements-loop-item-preserved n c = λ d w.
     c.item-item.result c.loop-item-test.true c.item-item.is) in
     let rest = trees.statements (map view_resolved_statement (drop (c.loop-item.item-index + 1) c.args.items.now)) in
     c.loop-item.invariant d
-    (rw here (walked_next _ _ d _ _ _ (λ body p. all_names rest body p) c.in_ok-add_statement.ensures w))
+    (rw here (walked_next _ _ d _ _ _ (λ p. all_names rest p) c.in_ok-add_statement.ensures w))
 
 pub add_statements-returns : goal.add_statements-returns
 add_statements-returns n c =
@@ -35,8 +34,8 @@ add_parts-loop-part-preserved n c = λ d w.
     c.loop-part-test.true c.part-item.is) in
     let rest = trees.parts (map view_resolved_part (drop (c.loop-part.part-index + 1) c.args.parts.now)) in
     c.loop-part.invariant d (rw here (walked_size _ _ _ _ _ (omega arith)
-    (walked_next _ _ d _ _ _ (λ body p. part_names rest body (p + 1)) c.in_ok-add_part.ensures
-    (walked_past _ _ d _ _ (λ body p. part_names rest body p) c.in_ok-skip.ensures w))))
+    (walked_next _ _ d _ _ _ (λ p. part_names rest (p + 1)) c.in_ok-add_part.ensures
+    (walked_past _ _ d _ _ (λ p. part_names rest p) c.in_ok-skip.ensures w))))
 
 pub add_parts-returns : goal.add_parts-returns
 add_parts-returns n c =
@@ -52,15 +51,15 @@ add_loop-returns n c =
     let starts = each_size clause_start_size clauses in
     let behind = walked_on _ _ _ _ _ _ c.in_ok-add_inner.ensures (walked_on _ _ _ _ _ _ c.in_ok-skip-2.ensures
     (walked_on _ _ _ _ _ _ c.in_ok-skip_combined.ensures c.in_ok-skip-3.ensures)) in
-    let body = walked_past _ _ _ _ _ (λ b p. inner_names s b p) c.in_ok-skip.ensures behind in
-    let iterated = walked_stay _ _ _ _ _ (λ b p. inner_names s b (p + 3)) c.in_ok-open.ensures body in
-    let copies = walked_next _ _ _ _ _ _ (λ b p. (λ k. opening (opened_at p l.variable ∷ [])) then inner_names s b
+    let body = walked_past _ _ _ _ _ (λ p. inner_names s p) c.in_ok-skip.ensures behind in
+    let iterated = walked_stay _ _ _ _ _ (λ p. inner_names s (p + 3)) c.in_ok-open.ensures body in
+    let copies = walked_next _ _ _ _ _ _ (λ p. (opening (opened_at p l.variable ∷ [])) then inner_names s
     (p + 3)) c.in_ok-add_copies.ensures iterated in
-    let second = walked_past _ _ _ _ _ (λ b p. (λ k. opening (copied p clauses)) then
-    ((λ k. opening (opened_at (p + starts) l.variable ∷ [])) then inner_names s b (p + starts + 3)))
+    let second = walked_past _ _ _ _ _ (λ p. (opening (copied p clauses)) then
+    ((opening (opened_at (p + starts) l.variable ∷ [])) then inner_names s (p + starts + 3)))
     c.in_ok-skip_value-2.ensures copies in
-    let first = walked_past _ _ _ _ _ (λ b p. (λ k. opening (copied (p + value_size l.to) clauses)) then
-    ((λ k. opening (opened_at (p + value_size l.to + starts) l.variable ∷ [])) then inner_names s b
+    let first = walked_past _ _ _ _ _ (λ p. (opening (copied (p + value_size l.to) clauses)) then
+    ((opening (opened_at (p + value_size l.to + starts) l.variable ∷ [])) then inner_names s
     (p + value_size l.to + starts + 3))) c.in_ok-skip_value.ensures second in
     walked_end_at _ _ _ _ _ _ (omega (arith, c.len-height.ensures, c.args.walk.now.opened.ok.0))
     (walked_size _ _ _ (loop_size clauses c.args.nowait l (statement_size s)) _
@@ -72,8 +71,8 @@ add_sections-returns n c =
     let parts = trees.parts (map view_resolved_part c.args.parts.now) in
     let behind = walked_on _ _ _ _ _ _ c.in_ok-add_parts.ensures
     (walked_on _ _ _ _ _ _ c.in_ok-skip_combined.ensures c.in_ok-skip-2.ensures) in
-    let body = walked_past _ _ _ _ _ (λ b p. part_names parts b p) c.in_ok-skip.ensures behind in
-    let copies = walked_next _ _ _ _ _ _ (λ b p. part_names parts b (p + 3)) c.in_ok-add_copies.ensures body in
+    let body = walked_past _ _ _ _ _ (λ p. part_names parts p) c.in_ok-skip.ensures behind in
+    let copies = walked_next _ _ _ _ _ _ (λ p. part_names parts (p + 3)) c.in_ok-add_copies.ensures body in
     walked_end_at _ _ _ _ _ _ (omega (arith, c.len-height.ensures, c.args.walk.now.opened.ok.0))
     (walked_size _ _ _ (sections_size clauses c.args.nowait parts) _ (omega (arith, c.end_own.ensures)) copies)
     c.in_ok-close.ensures
@@ -162,30 +161,6 @@ add_statement-add_inner-requires-in-For n c = (
   tt,
 )
 
-pub add_statement-add_parallel-requires : goal.add_statement-add_parallel-requires
-add_statement-add_parallel-requires n c = (
-  omega (
-    arith,
-    ap size-ResolvedStatement c.in-Parallel.is,
-    sized-Parallel c.in-Parallel.at c.in-Parallel.clauses c.in-Parallel.captures c.in-Parallel.body,
-    ap size-ResolvedStatement c.deref-in-Parallel.ensures,
-    c.decreases,
-  ),
-  tt,
-)
-
-pub add_statement-add_task-requires : goal.add_statement-add_task-requires
-add_statement-add_task-requires n c = (
-  omega (
-    arith,
-    ap size-ResolvedStatement c.in-Task.is,
-    sized-Task c.in-Task.at c.in-Task.clauses c.in-Task.captures c.in-Task.body,
-    ap size-ResolvedStatement c.deref-in-Task.ensures,
-    c.decreases,
-  ),
-  tt,
-)
-
 pub add_statement-add_loop-requires : goal.add_statement-add_loop-requires
 add_statement-add_loop-requires n c = (
   omega (
@@ -237,12 +212,6 @@ add_construct-add_inner-requires-in-Critical n c = (omega (arith, c.decreases), 
 pub add_construct-add_inner-requires-in-Taskgroup : goal.add_construct-add_inner-requires-in-Taskgroup
 add_construct-add_inner-requires-in-Taskgroup n c = (omega (arith, c.decreases), tt)
 
-pub add_parallel_body-add_inner-requires : goal.add_parallel_body-add_inner-requires
-add_parallel_body-add_inner-requires n c = (omega (arith, c.decreases), tt)
-
-pub add_task_body-add_inner-requires : goal.add_task_body-add_inner-requires
-add_task_body-add_inner-requires n c = (omega (arith, c.decreases), tt)
-
 pub add_loop-add_inner-requires : goal.add_loop-add_inner-requires
 add_loop-add_inner-requires n c = (omega (arith, c.decreases), tt)
 
@@ -251,9 +220,3 @@ add_sections-add_parts-requires n c = (omega (arith, c.decreases), tt)
 
 pub add_block-add_statements-requires : goal.add_block-add_statements-requires
 add_block-add_statements-requires n c = (omega (arith, c.decreases), tt)
-
-pub add_parallel-add_parallel_body-requires : goal.add_parallel-add_parallel_body-requires
-add_parallel-add_parallel_body-requires n c = (omega (arith, c.decreases), c.in_ok-here.ensures.place)
-
-pub add_task-add_task_body-requires : goal.add_task-add_task_body-requires
-add_task-add_task_body-requires n c = (omega (arith, c.decreases), c.in_ok-here.ensures.place)

@@ -1,6 +1,6 @@
 use Rattle.std.proofs.Common.{◌+◌, drop, map, ap}
 use Rattle.om_resolved.specs.ResolvedView.{view_resolved_declarator}
-use Rattle.om_visible.specs.Scopes.{declared, opening}
+use Rattle.om_rows.specs.Names.{declared, opening}
 use Rattle.om_visible.proofs.Walking.{left_item, nothing_left, walked_next, walked_none}
 use Rattle.om_visible.proofs.walk.add_declarators.Goals as goal
 
@@ -10,7 +10,7 @@ loop-declarator-preserved c = λ d w.
     (left_item c.args.declarators.now c.loop-declarator.declarator-index c.declarator-item.result
     c.loop-declarator-test.true c.declarator-item.is) in
     let rest = map view_resolved_declarator (drop (c.loop-declarator.declarator-index + 1) c.args.declarators.now) in
-    c.loop-declarator.invariant d (rw here (walked_next _ _ d _ _ _ (λ body p k. opening (declared p rest))
+    c.loop-declarator.invariant d (rw here (walked_next _ _ d _ _ _ (λ p. opening (declared p rest))
     c.in_ok-add_declarator.ensures w))
 
 pub returns : goal.returns

@@ -1,6 +1,6 @@
 use Rattle.std.proofs.Common.{◌+◌, drop, map, ap}
 use Rattle.om_resolved.specs.ResolvedView.{view_resolved_clause}
-use Rattle.om_visible.specs.Scopes.{opening, region_copied}
+use Rattle.om_rows.specs.Names.{opening, region_copied}
 use Rattle.om_visible.proofs.Walking.{left_item, nothing_left, walked_next, walked_none}
 use Rattle.om_visible.proofs.walk.add_region_copies.Goals as goal
 
@@ -9,7 +9,7 @@ loop-clause-preserved c = λ d w.
     let here = ap (map view_resolved_clause) (left_item c.args.clauses.now c.loop-clause.clause-index
     c.clause-item.result c.loop-clause-test.true c.clause-item.is) in
     let rest = map view_resolved_clause (drop (c.loop-clause.clause-index + 1) c.args.clauses.now) in
-    c.loop-clause.invariant d (rw here (walked_next _ _ d _ _ _ (λ body p k. opening (region_copied p rest))
+    c.loop-clause.invariant d (rw here (walked_next _ _ d _ _ _ (λ p. opening (region_copied p rest))
     c.in_ok-add_region_copy.ensures w))
 
 pub returns : goal.returns

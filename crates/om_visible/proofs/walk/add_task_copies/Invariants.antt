@@ -1,12 +1,12 @@
 use Rattle.std.proofs.Common.{drop, map}
 use Rattle.om_resolved.specs.ResolvedView.{view_resolved_clause}
 use Rattle.om_visible.specs.declared.walk.Walk.{Walk}
-use Rattle.om_visible.specs.Scopes.{opening, task_copied}
+use Rattle.om_rows.specs.Names.{opening, task_copied}
 use Rattle.om_visible.specs.Walks.{Walked}
 use Rattle.om_visible.proofs.walk.add_task_copies.Given as goal
 
 -- whoever walks over what is left has walked over all
 abbrev pub invariant-loop-clause : goal.invariant-loop-clause
 invariant-loop-clause l = (c : Walk)
-    → Walked l.walk c 0 (λ k. opening (task_copied (map view_resolved_clause (drop l.clause-index l.clauses))))
-    → Walked l.fn.walk c 0 (λ k. opening (task_copied (map view_resolved_clause l.clauses)))
+    → Walked l.walk c 0 (opening (task_copied (map view_resolved_clause (drop l.clause-index l.clauses))))
+    → Walked l.fn.walk c 0 (opening (task_copied (map view_resolved_clause l.clauses)))

@@ -1,7 +1,7 @@
 use Rattle.std.proofs.Common.{◌+◌, drop, map, ap}
 use Rattle.om_resolved.specs.ResolvedView.{view_resolved_clause}
 use Rattle.om_rows.specs.Sizes.{clause_combined_size, each_size}
-use Rattle.om_visible.specs.Scopes.{nothing}
+use Rattle.om_rows.specs.Names.{nothing}
 use Rattle.om_visible.proofs.Walking.{left_item, nothing_left, walked_none, walked_past, walked_size}
 use Rattle.om_visible.proofs.walk.skip_combined.Goals as goal
 
@@ -12,7 +12,7 @@ loop-clause-preserved c = λ d w.
     let rest = map view_resolved_clause (drop (c.loop-clause.clause-index + 1) c.args.clauses.now) in
     c.loop-clause.invariant d
     (rw here (walked_size _ _ _ _ _ (ap (λ n. n + each_size clause_combined_size rest)
-    c.clause_combined.ensures) (walked_past _ _ d _ _ (λ body p k. nothing) c.in_ok-skip.ensures w)))
+    c.clause_combined.ensures) (walked_past _ _ d _ _ (λ p. nothing) c.in_ok-skip.ensures w)))
 
 pub returns : goal.returns
 returns c =
