@@ -3,7 +3,7 @@ use Rattle.std.specs.Prelude.{◌≡◌, ℕ, cond, List, [], ◌∷◌, Result,
 use Rattle.std.specs.List.{AllByRecursion}
 use Rattle.std.proofs.Common.{◌∙◌, ap, sym}
 use Rattle.om_lexer.specs.declared.fault.SourceFault.{SourceFault}
-use Rattle.om_view.specs.declared.debuggee.Debuggee.{Debuggee}
+use Rattle.om_code.specs.declared.raw.Raw.{Raw}
 use Rattle.om_view.specs.declared.debugger.Debugger.{Debugger}
 use Rattle.om_view.specs.Freed.{FreeRun}
 use Rattle.om_view.specs.Views.{Answer, answered, opened}
@@ -23,8 +23,8 @@ session_same d runs (line ∷ more) h =
     ∙ ap (λ (t : Transcript Debugger). after_answer a t) (session_same a.view runs more h.1)
     ∙ ap (λ (rs : List FreeRun). after_answer a (session a.view rs more)) (sym (none_behind d line plain))
 
-pub one_transcript : (verdict : Result Debuggee SourceFault) (workers : ℕ) (runs : List FreeRun) (source : List ℕ)
+pub one_transcript : (verdict : Result Raw SourceFault) (workers : ℕ) (runs : List FreeRun) (source : List ℕ)
     (lines : List (List ℕ)) → AllByRecursion AsksNoFreeRun lines
     → transcript_of verdict workers runs source lines ≡ transcript_of verdict workers [] source lines
-one_transcript (Ok debuggee) workers runs source lines h = session_same (opened debuggee workers) runs lines h
+one_transcript (Ok program) workers runs source lines h = session_same (opened program workers) runs lines h
 one_transcript (Err fault) workers runs source lines h = refl

@@ -4,7 +4,7 @@ use Rattle.std.proofs.Common.{sym, ap, subst, ◌∙◌, append_assoc, append-ni
 use Rattle.std.specs.Io.KnownBytes.{Appends, Consumes, IsAtEnd}
 use Rattle.std.proofs.KnownBytes.{Appends-nil, Consumes-trans}
 use Rattle.om_lexer.specs.declared.fault.SourceFault.{SourceFault}
-use Rattle.om_view.specs.declared.debuggee.Debuggee.{Debuggee}
+use Rattle.om_code.specs.declared.raw.Raw.{Raw}
 use Rattle.om_view.specs.declared.debugger.Debugger.{Debugger}
 use Rattle.om_view.specs.Freed.{FreeRun}
 use Rattle.om_shell.specs.declared.fault.ShellFault.{ShellFault}
@@ -21,7 +21,7 @@ use Rattle.om_shell.proofs.Advances.{Done_then, Breaks_then}
 
 -- reading a source up to behind the mark's line
 abbrev pub Marked_advance : (ra rb w : Option (List ℕ)) (pending source rest : List ℕ) (at after workers : ℕ)
-    (verdict : Result Debuggee SourceFault) (runs : List FreeRun) → Consumes ra rb pending → IsMarked pending at after
+    (verdict : Result Raw SourceFault) (runs : List FreeRun) → Consumes ra rb pending → IsMarked pending at after
     → source ≡ take at pending → rest ≡ drop after pending → Advance ra rb w w [] rest
     (script_by verdict workers runs None) (due_for verdict workers runs source)
 Marked_advance ra rb w pending source rest at after workers verdict runs read p e d = record {
@@ -149,7 +149,7 @@ Breaks_reading ra rb w workers fault p = record {
 
 -- a part of a script that has a verdict
 begun : (ra rb wa wb : Option (List ℕ)) (workers : ℕ) (given : Option (List ℕ)) (fault : ShellFault)
-    (verdict : Result Debuggee SourceFault) (runs : List FreeRun)
+    (verdict : Result Raw SourceFault) (runs : List FreeRun)
     → (part : BreaksOff ra rb wa wb [] (script_by verdict workers runs given) fault)
     → IsVerdict (source_of given part.taken) verdict → BreaksOffRun ra rb wa wb workers given fault
 begun ra rb wa wb workers given fault verdict runs part judged = record {
@@ -224,7 +224,7 @@ Breaks_unmarked ra rb wa wb pending source at workers fault read p e q = alone r
     fault read p e q.no_read q.part
 
 whole_of : (wa wb : Option (List ℕ)) (workers : ℕ) (given : Option (List ℕ)) (input taken rest : List ℕ)
-    (verdict : Result Debuggee SourceFault) (runs : List FreeRun) → input ≡ taken ++ rest
+    (verdict : Result Raw SourceFault) (runs : List FreeRun) → input ≡ taken ++ rest
     → IsVerdict (source_of given taken) verdict
     → Appends wa wb (script_by verdict workers runs given taken).text → source_of given (taken ++ rest)
     ≡ source_of given taken → script_by verdict workers runs given (taken ++ rest) ≡ script_by verdict workers

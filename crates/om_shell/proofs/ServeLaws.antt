@@ -5,7 +5,7 @@ use Rattle.std.proofs.KnownBytes.{Appends-nil, Consumes-nil}
 use Rattle.om_lexer.specs.declared.fault.FaultCode.TheVariants.{Memory}
 use Rattle.om_lexer.specs.declared.fault.SourceFault.{SourceFault}
 use Rattle.om_lexer.specs.Faults.{no_memory}
-use Rattle.om_view.specs.declared.debuggee.Debuggee.{Debuggee}
+use Rattle.om_code.specs.declared.raw.Raw.{Raw}
 use Rattle.om_view.specs.declared.debugger.Debugger.{Debugger}
 use Rattle.om_view.specs.Freed.{FreeRun}
 use Rattle.om_shell.specs.declared.fault.ShellFault.{ShellFault}
@@ -14,7 +14,7 @@ use Rattle.om_shell.specs.Places.{refusal_text}
 use Rattle.om_shell.specs.Progress.{AppendsPart, BreaksOff, IsDone}
 use Rattle.om_shell.specs.Sessions.{due}
 use Rattle.om_view.specs.Views.{opened}
-use Rattle.om_shell.specs.Verdict.{IsDebuggeeOf, IsRefused}
+use Rattle.om_shell.specs.Verdict.{IsProgramOf, IsRefused}
 use Rattle.om_shell.specs.Serving.{due_for, Serves, ServesPart, IsUntouched, ServesAlone, BreaksOffAlone}
 use Rattle.om_shell.proofs.Advances.{Advance_none, Breaks_after, Done_unread}
 
@@ -64,18 +64,18 @@ ServesPart_refused r wa wb pending workers source fault e refused other part = r
 }
 
 pub Serves_accepted : (ra rb wa wb : Option (List ℕ)) (pending : List ℕ) (workers : ℕ) (source : List ℕ)
-    (debuggee : Debuggee) (status : ℕ) (view : Option Debugger) → IsDebuggeeOf source debuggee
-    → status ≡ 0 → ((runs : List FreeRun) × IsDone ra rb wa wb pending (due (opened debuggee workers) runs) view)
+    (program : Raw) (status : ℕ) (view : Option Debugger) → IsProgramOf source program
+    → status ≡ 0 → ((runs : List FreeRun) × IsDone ra rb wa wb pending (due (opened program workers) runs) view)
     → Serves ra rb wa wb pending workers source status view
-Serves_accepted ra rb wa wb pending workers source debuggee status view accepted e done = record
-    { verdict = Ok debuggee; judged = accepted; status_is = e; runs = done.0; done = done.1 }
+Serves_accepted ra rb wa wb pending workers source program status view accepted e done = record
+    { verdict = Ok program; judged = accepted; status_is = e; runs = done.0; done = done.1 }
 
 pub ServesPart_accepted : (ra rb wa wb : Option (List ℕ)) (pending : List ℕ) (workers : ℕ) (source : List ℕ)
-    (debuggee : Debuggee) (fault : ShellFault) → IsDebuggeeOf source debuggee
-    → ((runs : List FreeRun) × BreaksOff ra rb wa wb pending (due (opened debuggee workers) runs) fault)
+    (program : Raw) (fault : ShellFault) → IsProgramOf source program
+    → ((runs : List FreeRun) × BreaksOff ra rb wa wb pending (due (opened program workers) runs) fault)
     → ServesPart ra rb wa wb pending workers source fault
-ServesPart_accepted ra rb wa wb pending workers source debuggee fault accepted part = record
-    { verdict = Ok debuggee; judged = accepted; runs = part.0; part = part.1 }
+ServesPart_accepted ra rb wa wb pending workers source program fault accepted part = record
+    { verdict = Ok program; judged = accepted; runs = part.0; part = part.1 }
 
 pub untouched : (r w : Option (List ℕ)) (fault : ShellFault) → fault ≢ Read → IsUntouched r r w w fault
 untouched r w fault other = record { consumes = Consumes-nil r; appends = Appends-nil w; no_read = other }

@@ -2,7 +2,7 @@
 use Rattle.std.specs.Prelude.{◌≡◌, ◌⊎◌, ℕ, false, List, [], ◌++◌, Option, None, Some, Result, Ok, Err}
 use Rattle.std.specs.Io.KnownBytes.{Consumes, Appends, IsAtEnd}
 use Rattle.om_lexer.specs.declared.fault.SourceFault.{SourceFault}
-use Rattle.om_view.specs.declared.debuggee.Debuggee.{Debuggee}
+use Rattle.om_code.specs.declared.raw.Raw.{Raw}
 use Rattle.om_view.specs.declared.debugger.Debugger.{Debugger}
 use Rattle.om_view.specs.Freed.{FreeRun}
 use Rattle.om_shell.specs.declared.fault.ShellFault.{ShellFault}
@@ -14,12 +14,12 @@ use Rattle.om_shell.specs.Transcript.{Transcript}
 use Rattle.om_shell.specs.Verdict.{IsVerdict}
 
 -- 0, or 1 for a source that is refused
-abbrev pub status_of : Result Debuggee SourceFault → ℕ
-status_of (Ok debuggee) = 0
+abbrev pub status_of : Result Raw SourceFault → ℕ
+status_of (Ok program) = 0
 status_of (Err fault) = 1
 
 -- nothing that could follow changes the source or the script
-pub record IsSettled (verdict : Result Debuggee SourceFault) (workers : ℕ) (runs : List FreeRun)
+pub record IsSettled (verdict : Result Raw SourceFault) (workers : ℕ) (runs : List FreeRun)
     (given : Option (List ℕ)) (taken : List ℕ) : Type 0 where
   pub source : (future : List ℕ) → source_of given (taken ++ future) ≡ source_of given taken
   pub script : (future : List ℕ) → script_by verdict workers runs given (taken ++ future) ≡ script_by verdict
@@ -30,7 +30,7 @@ pub record IsSettled (verdict : Result Debuggee SourceFault) (workers : ℕ) (ru
 pub record RunsToEnd (left_before left_after held_before held_after : Option (List ℕ)) (workers : ℕ)
     (given : Option (List ℕ)) (status : ℕ) (view : Option Debugger) : Type 0 where
   pub taken : List ℕ
-  pub verdict : Result Debuggee SourceFault
+  pub verdict : Result Raw SourceFault
   pub judged : IsVerdict (source_of given taken) verdict
   pub runs : List FreeRun
   pub consumes : Consumes left_before left_after taken
@@ -41,7 +41,7 @@ pub record RunsToEnd (left_before left_after held_before held_after : Option (Li
 
 -- the text is a beginning of a script of the bytes that were taken
 pub record BeginsScript (workers : ℕ) (given : Option (List ℕ)) (taken text : List ℕ) : Type 0 where
-  pub verdict : Result Debuggee SourceFault
+  pub verdict : Result Raw SourceFault
   pub judged : IsVerdict (source_of given taken) verdict
   pub runs : List FreeRun
   pub begins : IsBeginning text (script_by verdict workers runs given taken).text
@@ -53,7 +53,7 @@ HasOpenSource None taken = has_mark (parts_of taken) ≡ false
 
 -- the text is the script of the whole lines that were taken, with the source that they have
 pub record AnswersLines (workers : ℕ) (given : Option (List ℕ)) (taken text : List ℕ) : Type 0 where
-  pub verdict : Result Debuggee SourceFault
+  pub verdict : Result Raw SourceFault
   pub judged : IsVerdict (source_of given taken) verdict
   pub runs : List FreeRun
   pub answers : AnswersWholeLines taken text (script_by verdict workers runs given)

@@ -3,7 +3,7 @@ use Rattle.std.specs.Prelude.{◌≡◌, ℕ, List, [], ◌∷◌, Option, None,
 use Rattle.std.specs.List.{AllByRecursion}
 use Rattle.om_command.specs.Commands.{request_of}
 use Rattle.om_lexer.specs.declared.fault.SourceFault.{SourceFault}
-use Rattle.om_view.specs.declared.debuggee.Debuggee.{Debuggee}
+use Rattle.om_code.specs.declared.raw.Raw.{Raw}
 use Rattle.om_view.specs.Freed.{FreeRun}
 use Rattle.om_view.specs.Views.{rounds_asked}
 use Rattle.om_shell.specs.Script.{commands_of, script_by}
@@ -14,7 +14,7 @@ AsksNoFreeRun line = (workers : ℕ) → rounds_asked (request_of workers line) 
 
 -- where no command is a free run, an input has one script: the list of free runs changes nothing
 abbrev pub OneScript : Type 0
-OneScript = (verdict : Result Debuggee SourceFault) (workers : ℕ) (runs : List FreeRun) (given : Option (List ℕ))
+OneScript = (verdict : Result Raw SourceFault) (workers : ℕ) (runs : List FreeRun) (given : Option (List ℕ))
     (input : List ℕ)
     → AllByRecursion AsksNoFreeRun (commands_of given input)
     → script_by verdict workers runs given input ≡ script_by verdict workers [] given input

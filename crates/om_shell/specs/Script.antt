@@ -8,7 +8,7 @@ use Rattle.om_shell.specs.Places.{refusal_text}
 use Rattle.om_shell.specs.Sessions.{session}
 use Rattle.om_shell.specs.Transcript.{Transcript}
 use Rattle.om_shell.specs.Verdict.{IsVerdict}
-use Rattle.om_view.specs.declared.debuggee.Debuggee.{Debuggee}
+use Rattle.om_code.specs.declared.raw.Raw.{Raw}
 use Rattle.om_view.specs.declared.debugger.Debugger.{Debugger}
 use Rattle.om_view.specs.Freed.{FreeRun}
 use Rattle.om_view.specs.Views.{opened}
@@ -23,21 +23,21 @@ abbrev pub commands_of : Option (List ℕ) → List ℕ → List (List ℕ)
 commands_of (Some source) input = lines input
 commands_of None input = commands_in (parts_of input)
 
--- the replies to the commands, by a source's program and its names; or the one line of its refusal, and then
+-- the replies to the commands, by a source's program; or the one line of its refusal, and then
 -- no command is run
-abbrev pub transcript_of : Result Debuggee SourceFault → ℕ → List FreeRun → List ℕ → List (List ℕ) → Transcript Debugger
-transcript_of (Ok debuggee) workers runs source commands = session (opened debuggee workers) runs commands
+abbrev pub transcript_of : Result Raw SourceFault → ℕ → List FreeRun → List ℕ → List (List ℕ) → Transcript Debugger
+transcript_of (Ok program) workers runs source commands = session (opened program workers) runs commands
 transcript_of (Err fault) workers runs source commands = record { text = refusal_text source fault; view = None }
 
 -- what a verdict on the source makes of a run's input
-abbrev pub script_by : Result Debuggee SourceFault → ℕ → List FreeRun → Option (List ℕ) → List ℕ → Transcript Debugger
+abbrev pub script_by : Result Raw SourceFault → ℕ → List FreeRun → Option (List ℕ) → List ℕ → Transcript Debugger
 script_by verdict workers runs given input = transcript_of verdict workers runs (source_of given input)
     (commands_of given input)
 
 -- a script of a run's input
 pub record IsScript (workers : ℕ) (given : Option (List ℕ)) (input : List ℕ) (script : Transcript Debugger) : Type 0
   where
-    pub verdict : Result Debuggee SourceFault
+    pub verdict : Result Raw SourceFault
     pub judged : IsVerdict (source_of given input) verdict
     pub runs : List FreeRun
     pub is : script ≡ script_by verdict workers runs given input

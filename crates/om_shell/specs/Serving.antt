@@ -3,7 +3,7 @@ use Rattle.std.specs.Prelude.{◌≡◌, ◌≢◌, ◌⊎◌, ℕ, List, [], Op
 use Rattle.std.specs.Io.KnownBytes.{Consumes, Appends}
 use Rattle.std.specs.Str.Lines.{lines}
 use Rattle.om_lexer.specs.declared.fault.SourceFault.{SourceFault}
-use Rattle.om_view.specs.declared.debuggee.Debuggee.{Debuggee}
+use Rattle.om_code.specs.declared.raw.Raw.{Raw}
 use Rattle.om_view.specs.declared.debugger.Debugger.{Debugger}
 use Rattle.om_view.specs.Freed.{FreeRun}
 use Rattle.om_shell.specs.declared.fault.ShellFault.{ShellFault}
@@ -15,13 +15,13 @@ use Rattle.om_shell.specs.Transcript.{Transcript}
 use Rattle.om_shell.specs.Verdict.{IsVerdict}
 
 -- what is due for the bytes behind a source
-abbrev pub due_for : Result Debuggee SourceFault → ℕ → List FreeRun → List ℕ → List ℕ → Transcript Debugger
+abbrev pub due_for : Result Raw SourceFault → ℕ → List FreeRun → List ℕ → List ℕ → Transcript Debugger
 due_for verdict workers runs source bytes = transcript_of verdict workers runs source (lines bytes)
 
 -- by a verdict on the source, all that was due is done
 pub record Serves (left_before left_after held_before held_after : Option (List ℕ)) (pending : List ℕ) (workers : ℕ)
     (source : List ℕ) (status : ℕ) (view : Option Debugger) : Type 0 where
-  pub verdict : Result Debuggee SourceFault
+  pub verdict : Result Raw SourceFault
   pub judged : IsVerdict source verdict
   pub status_is : status ≡ status_of verdict
   pub runs : List FreeRun
@@ -30,7 +30,7 @@ pub record Serves (left_before left_after held_before held_after : Option (List 
 -- by a verdict on the source, a part of what was due is done
 pub record ServesPart (left_before left_after held_before held_after : Option (List ℕ)) (pending : List ℕ)
     (workers : ℕ) (source : List ℕ) (fault : ShellFault) : Type 0 where
-  pub verdict : Result Debuggee SourceFault
+  pub verdict : Result Raw SourceFault
   pub judged : IsVerdict source verdict
   pub runs : List FreeRun
   pub part : BreaksOff left_before left_after held_before held_after pending (due_for verdict workers runs source) fault
@@ -51,14 +51,14 @@ BreaksOffServing left_before left_after held_before held_after pending workers s
 -- a source that no command follows
 pub record ServesAlone (held_before held_after : Option (List ℕ)) (workers : ℕ) (source : List ℕ) (status : ℕ)
     (view : Option Debugger) : Type 0 where
-  pub verdict : Result Debuggee SourceFault
+  pub verdict : Result Raw SourceFault
   pub judged : IsVerdict source verdict
   pub status_is : status ≡ status_of verdict
   pub appends : Appends held_before held_after (transcript_of verdict workers [] source []).text
   pub view_is : view ≡ (transcript_of verdict workers [] source []).view
 
 pub record ServesAlonePart (held_before held_after : Option (List ℕ)) (workers : ℕ) (source : List ℕ) : Type 0 where
-  pub verdict : Result Debuggee SourceFault
+  pub verdict : Result Raw SourceFault
   pub judged : IsVerdict source verdict
   pub part : AppendsPart held_before held_after (transcript_of verdict workers [] source []).text
 

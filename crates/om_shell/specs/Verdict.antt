@@ -1,4 +1,4 @@
--- What a source comes to: its program and its names, or its refusal.
+-- What a source comes to: its program, or its refusal.
 use Rattle.std.specs.Prelude.{◌≡◌, ◌⊎◌, ℕ, List, [], None, Some, Result, Ok, Err}
 use Rattle.om_lexer.specs.declared.fault.FaultCode.TheVariants.{Syntax, TooDeep, UnknownDirective, BadClause}
 use Rattle.om_lexer.specs.declared.fault.SourceFault.{SourceFault}
@@ -16,8 +16,7 @@ use Rattle.om_resolved.specs.ResolvedTree.{ResolvedTree}
 use Rattle.om_rules.specs.UnitResolution.{resolution_of}
 use Rattle.om_lower.specs.Limits.{AreWithin, IsTooMany}
 use Rattle.om_rows.specs.Code.{IsCodeOf}
-use Rattle.om_view.specs.declared.debuggee.Debuggee.{Debuggee}
-use Rattle.om_visible.specs.Scopes.{tree_names}
+use Rattle.om_code.specs.declared.raw.Raw.{Raw}
 
 -- the source has tokens, and they a tree within the limits whose `atomic` constructs have one of their forms
 pub record IsTreeOfSource (source : List ℕ) (tree : UnitTree) : Type 0 where
@@ -34,13 +33,12 @@ pub record IsResolutionOfSource (source : List ℕ) (resolved : ResolvedTree) : 
   pub no_breach : breaches_of tree ≡ []
   pub resolves : resolution_of tree ≡ Some resolved
 
--- and the program is the code of the resolution, which is within the limits of code, and the names are its names
-pub record IsDebuggeeOf (source : List ℕ) (debuggee : Debuggee) : Type 0 where
+-- and the program is the code of the resolution, which is within the limits of code
+pub record IsProgramOf (source : List ℕ) (program : Raw) : Type 0 where
   pub resolved : ResolvedTree
   pub has_resolution : IsResolutionOfSource source resolved
   pub within : AreWithin resolved
-  pub code : IsCodeOf resolved debuggee.program
-  pub names : debuggee.names ≡ tree_names resolved
+  pub code : IsCodeOf resolved program
 
 -- no tree has these tokens, a limit is passed at this place, or a directive is refused there
 abbrev pub IsSyntaxFault : List Token → SourceFault → Type 0
@@ -61,6 +59,6 @@ pub data IsRefused (source : List ℕ) (fault : SourceFault) : Type 0 where
       → IsRefused source fault
 
 -- what a source comes to
-abbrev pub IsVerdict : List ℕ → Result Debuggee SourceFault → Type 0
-IsVerdict source (Ok debuggee) = IsDebuggeeOf source debuggee
+abbrev pub IsVerdict : List ℕ → Result Raw SourceFault → Type 0
+IsVerdict source (Ok program) = IsProgramOf source program
 IsVerdict source (Err fault) = IsRefused source fault

@@ -1,22 +1,18 @@
-//! From a source to its program and its names: lexer, parser, names, code.
+//! From a source to its program: lexer, parser, names, code.
 ghost use Rattle.std.specs.Prelude.{◌≡◌, ◌≢◌, IfOk, IfErr};
 ghost use Rattle.om_lexer.specs.Faults.{no_memory};
-ghost use Rattle.om_lower.specs.Limits.{AreWithin, IsTooMany};
-ghost use Rattle.om_rows.specs.Code.{IsCodeOf};
 ghost use Rattle.om_tree.specs.View.{view_unit};
 ghost use Rattle.om_resolved.specs.ResolvedView.{view_resolved};
 ghost use Rattle.om_resolved.specs.Beside.{TreeAtomicsAssign, TreeCopiesBehind};
 ghost use Rattle.om_resolved.specs.Whole.{IsWholeTree};
-ghost use Rattle.om_visible.specs.Scopes.{tree_names};
-ghost use Rattle.om_shell.specs.Verdict.{IsTreeOfSource, IsResolutionOfSource, IsDebuggeeOf, IsRefused};
+ghost use Rattle.om_shell.specs.Verdict.{IsTreeOfSource, IsResolutionOfSource, IsProgramOf, IsRefused};
 
+use om_code::Program;
 use om_lexer::{SourceFault, lex};
 use om_lower::lower;
 use om_parser::{Unit, parse};
 use om_places::laws::sources_have_copies_behind;
 use om_scope::{Resolved, resolve};
-use om_view::Debuggee;
-use om_visible::names_of;
 use std::alloc::Global;
 
 // The tree of a source.
@@ -42,30 +38,14 @@ fn resolution_of(alloc: Global, source: &[u8]) -> Result<Resolved, SourceFault>
     resolve(alloc, unit)
 }
 
-// The program of a resolved tree, and its names.
-fn debuggee_in(alloc: Global, resolved: &Resolved) -> Result<Debuggee, SourceFault>
-    requires whole { IsWholeTree (view_resolved resolved.now) }
-    requires atomics_assign { TreeAtomicsAssign (view_resolved resolved.now) }
-    requires copies_behind { TreeCopiesBehind (view_resolved resolved.now) }
-    ensures made { let tree = view_resolved resolved.now in
-        IfOk result (λ debuggee. AreWithin tree × IsCodeOf tree debuggee.program
-        × (debuggee.names ≡ tree_names tree)) }
-    ensures refused { let tree = view_resolved resolved.now in
-        IfErr result (λ fault. fault ≢ no_memory → IsTooMany tree fault) }
-{
-    let program = lower(alloc, resolved)?;
-    let names = names_of(alloc, resolved)?;
-    Ok(Debuggee { program, names })
-}
-
-/// The program of a source, and its names.
+/// The program of a source.
 ///
 /// The passes run in turn, and the first that refuses answers; nothing is kept then. Out of memory is S0 in any of
 /// them.
-pub fn debuggee_of(alloc: Global, source: &[u8]) -> Result<Debuggee, SourceFault>
-    ensures debuggee { IfOk result (λ debuggee. IsDebuggeeOf source.now debuggee) }
+pub fn program_of(alloc: Global, source: &[u8]) -> Result<Program, SourceFault>
+    ensures program { IfOk result (λ program. IsProgramOf source.now program) }
     ensures refused { IfErr result (λ fault. fault ≢ no_memory → IsRefused source.now fault) }
 {
     let resolved = resolution_of(alloc, source)?;
-    debuggee_in(alloc, &resolved)
+    lower(alloc, &resolved)
 }

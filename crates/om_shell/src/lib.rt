@@ -19,6 +19,6 @@ mod source;
 
 pub use ended::Ended;
 pub use fault::ShellFault;
-pub use front_end::debuggee_of;
+pub use front_end::program_of;
 pub use options::Options;
 pub use shell::run;

@@ -12,14 +12,15 @@ ghost use Rattle.om_shell.specs.Serving.{Serves, BreaksOffServing, ServesAlone, 
 use crate::conversation::converse;
 use crate::ended::Ended;
 use crate::fault::ShellFault;
-use crate::front_end::debuggee_of;
+use crate::front_end::program_of;
 use crate::host::Host;
 use crate::input::Input;
 use crate::output::send;
 use crate::refusal::push_refusal;
 use crate::session::Session;
+use om_code::Program;
 use om_lexer::{FaultCode, SourceFault};
-use om_view::{Debuggee, Debugger};
+use om_view::Debugger;
 use std::alloc::Global;
 use std::io::{Read, Write};
 use std::sync::Wait;
@@ -46,7 +47,7 @@ fn tell<W: Write>(
 // Answers the commands to a program.
 fn answer_commands<H: Threads + Wait + Sync, R: Read, W: Write>(
     host: &Host<'_, H>,
-    debuggee: Debuggee,
+    program: Program,
     input: &mut Input,
     reader: &mut R,
     writer: &mut W,
@@ -57,13 +58,13 @@ fn answer_commands<H: Threads + Wait + Sync, R: Read, W: Write>(
     ensures done { IfOk result (λ ended. (runs : List FreeRun)
         × IsDone (R.remaining reader.old) (R.remaining reader.new) (W.contents writer.old)
         (W.contents writer.new)
-        input.old.pending.items (due (opened debuggee host.now.workers) runs) ended.debugger) }
+        input.old.pending.items (due (opened program host.now.workers) runs) ended.debugger) }
     ensures broken_off { IfErr result (λ fault. (runs : List FreeRun)
         × BreaksOff (R.remaining reader.old) (R.remaining reader.new) (W.contents writer.old)
         (W.contents writer.new)
-        input.old.pending.items (due (opened debuggee host.now.workers) runs) fault) }
+        input.old.pending.items (due (opened program host.now.workers) runs) fault) }
 {
-    let mut session = Session::new(host.alloc, debuggee, host.workers)?;
+    let mut session = Session::new(host.alloc, program, host.workers)?;
     match converse(host, &mut session, input, reader, writer) {
         Ok(()) => Ok(Ended::accepted(session.into_debugger())),
         Err(fault) => {
@@ -95,8 +96,8 @@ pub(crate) fn serve<H: Threads + Wait + Sync, R: Read, W: Write>(
         input.old.pending.items host.now.workers source.now) }
 {
     let alloc = host.alloc;
-    match debuggee_of(alloc, source) {
-        Ok(debuggee) => answer_commands(host, debuggee, input, reader, writer),
+    match program_of(alloc, source) {
+        Ok(program) => answer_commands(host, program, input, reader, writer),
         Err(fault) => {
             if fault.code == FaultCode::Memory {
                 return Err(ShellFault::Memory);
@@ -122,9 +123,9 @@ pub(crate) fn serve_alone<W: Write>(
     ensures broken_off { IfErr result
         (BreaksOffAlone (W.contents writer.old) (W.contents writer.new) workers source.now) }
 {
-    match debuggee_of(alloc, source) {
-        Ok(debuggee) => {
-            let debugger = Debugger::new(alloc, debuggee, workers)?;
+    match program_of(alloc, source) {
+        Ok(program) => {
+            let debugger = Debugger::new(alloc, program, workers)?;
             Ok(Ended::accepted(debugger))
         }
         Err(fault) => {

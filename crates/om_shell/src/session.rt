@@ -8,7 +8,8 @@ ghost use Rattle.om_view.specs.Views.{answered, opened, IsAnswered};
 use crate::fault::ShellFault;
 use crate::host::Host;
 use crate::output::send;
-use om_view::{Debuggee, Debugger};
+use om_code::Program;
+use om_view::Debugger;
 use std::alloc::{AllocError, Global};
 use std::io::Write;
 use std::sync::Wait;
@@ -23,13 +24,13 @@ pub(crate) struct Session {
 
 impl Session {
     /// A session at the start of a program.
-    pub(crate) fn new(alloc: Global, debuggee: Debuggee, workers: u8) -> Result<Session, AllocError>
+    pub(crate) fn new(alloc: Global, program: Program, workers: u8) -> Result<Session, AllocError>
         requires at_least_one { 0 < workers }
         requires at_most_32 { workers ≤ 32 }
-        ensures { IfOk result (λ session. session.debugger ≡ opened debuggee workers) }
+        ensures { IfOk result (λ session. session.debugger ≡ opened program workers) }
     {
         Ok(Session {
-            debugger: Debugger::new(alloc, debuggee, workers)?,
+            debugger: Debugger::new(alloc, program, workers)?,
             text: Vec::new(alloc),
         })
     }

@@ -1,15 +1,10 @@
 -- The cell of a global variable that a command names.
-use Rattle.std.specs.Prelude.{ℕ, nat_lt, List, if◌then◌else◌, Option, None, Some, option_and_then, option_map, position}
-use Rattle.std.specs.Str.{bytes_eq}
-use Rattle.om_code.specs.declared.raw.GlobalVariable.{GlobalVariable}
+use Rattle.std.specs.Prelude.{ℕ, nat_lt, if◌then◌else◌, Option, None, Some, option_and_then, option_map}
 use Rattle.om_code.specs.declared.raw.Raw.{Raw}
 use Rattle.om_command.specs.declared.command.Variable.{Variable}
+use Rattle.om_lower.specs.Visible.{global_named}
 use Rattle.om_replies.specs.declared.value.GlobalCell.{GlobalCell}
 use Rattle.om_replies.specs.Objects.{length_of}
-
--- the number of the global of a name
-abbrev pub global_named : Raw → List ℕ → Option ℕ
-global_named program name = position (λ (g : GlobalVariable). bytes_eq g.name name) program.globals
 
 -- the element of a variable by its index: an array has one below its length, a scalar none
 abbrev pub element_at : Option ℕ → Option ℕ → Option ℕ

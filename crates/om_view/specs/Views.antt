@@ -15,7 +15,7 @@ use Rattle.om_replies.specs.declared.value.GlobalCell.{GlobalCell}
 use Rattle.om_replies.specs.Steps.{command_fault_text}
 use Rattle.om_replies.specs.Stops.{break_text, deleted_text, watch_text}
 use Rattle.om_undo.specs.Machines.{state_in}
-use Rattle.om_view.specs.declared.debuggee.Debuggee.{Debuggee}
+use Rattle.om_code.specs.declared.raw.Raw.{Raw}
 use Rattle.om_view.specs.declared.debugger.Debugger.{Debugger}
 use Rattle.om_view.specs.declared.local.Seen.{Seen}
 use Rattle.om_view.specs.declared.local.Seen.TheVariants as seen
@@ -44,10 +44,9 @@ pub record Answer : Type 0 where
   pub runs : List FreeRun
 
 -- at the start of a program nothing is marked
-abbrev pub opened : Debuggee → ℕ → Debugger
-opened debuggee workers = record {
-  recorder = started debuggee.program workers;
-  names = debuggee.names;
+abbrev pub opened : Raw → ℕ → Debugger
+opened program workers = record {
+  recorder = started program workers;
   marks =
       record { breaks = []; watches = [] };
 }
@@ -77,9 +76,9 @@ abbrev pub global_told : Debugger → Variable → Told
 global_told d variable = by_cell d (cell_of d.recorder.machine.program variable)
     (λ cell. called d (print_said cell d.recorder))
 
--- `print W VAR`, by what the worker sees: the global of that name where no variable of its function is in scope
+-- `print W VAR`, by what the worker sees
 abbrev pub local_told : Debugger → Variable → Seen → Told
-local_told d variable seen.Global = global_told d variable
+local_told d variable (seen.Global cell) = called d (print_said cell d.recorder)
 local_told d variable (seen.Cell cell) = called d (local_said variable cell d.recorder)
 local_told d variable seen.Nothing = refused d BadArgument
 
@@ -92,7 +91,8 @@ obeyed d run (command.Next worker) = called d (next_said 9999 worker d.recorder)
 obeyed d run (command.Back worker) = called d (back_said 9999 worker d.recorder)
 obeyed d run (command.Print variable) = global_told d variable
 obeyed d run (command.PrintLocal worker variable) =
-    local_told d variable (seen_by d.names variable (control_in (state_in d.recorder.machine (object.Control worker))))
+    local_told d variable
+    (seen_by d.recorder.machine.program variable (control_in (state_in d.recorder.machine (object.Control worker))))
 obeyed d run (command.Where worker) = called d (where_said worker d.recorder)
 obeyed d run command.History = called d (history_said d.recorder)
 obeyed d run (command.Events worker) = called d (events_said worker d.recorder)

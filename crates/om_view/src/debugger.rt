@@ -7,7 +7,6 @@ ghost use Rattle.om_view.specs.Freed.{no_run};
 ghost use Rattle.om_view.specs.Views.{opened, obeyed, answer_to, is_quit, rounds_asked, IsAnswered};
 ghost use Rattle.om_command.specs.declared.command.Command.TheVariants as command;
 
-use crate::debuggee::Debuggee;
 use crate::freed::free;
 use crate::local::{Seen, worker_sees};
 use crate::looks::{events, history, output, place, print, print_local, tasks};
@@ -15,59 +14,46 @@ use crate::marks::Marks;
 use crate::moves::{back, next, roll, step, undo};
 use crate::runs::run;
 use crate::variable::cell_of;
+use om_code::Program;
 use om_command::{Command, CommandFault, Request, Variable, request_of};
 use om_drive::Recorder;
 use om_replies::{push_break, push_command_fault, push_deleted, push_watch};
 use om_seq::Seq;
 use om_task::Choice;
 use om_undo::Machine;
-use om_visible::Names;
 use std::alloc::{AllocError, Global};
 use std::sync::Wait;
 use std::thread::Threads;
 
-/// A machine whose calls are recorded, the names of its program, and where its runs stop.
+/// A machine whose calls are recorded, and where its runs stop.
 #[derive(Drop)]
 pub struct Debugger {
     recorder: Recorder,
-    names: Names,
     marks: Marks,
 }
 
 impl Debugger {
     /// A debugger at the start of a program, with 1 to 32 workers. Its only error is out of memory.
-    pub fn new(alloc: Global, debuggee: Debuggee, workers: u8) -> Result<Debugger, AllocError>
+    pub fn new(alloc: Global, program: Program, workers: u8) -> Result<Debugger, AllocError>
         requires at_least_one { 1 ≤ workers }
         requires at_most_32 { workers ≤ 32 }
-        ensures { IfOk result (λ debugger. debugger ≡ opened debuggee workers) }
+        ensures { IfOk result (λ debugger. debugger ≡ opened program workers) }
     {
-        let Debuggee { program, names } = debuggee;
-        match Recorder::new(alloc, program, workers) {
-            Ok(recorder) => Ok(Debugger {
-                recorder,
-                names,
-                marks: Marks {
-                    breaks: Seq::new(alloc),
-                    watches: Seq::new(alloc),
-                },
-            }),
-            Err(error) => {
-                drop(names);
-                Err(error)
-            }
-        }
+        let recorder = Recorder::new(alloc, program, workers)?;
+        Ok(Debugger {
+            recorder,
+            marks: Marks {
+                breaks: Seq::new(alloc),
+                watches: Seq::new(alloc),
+            },
+        })
     }
 
     /// Its machine.
     pub fn into_machine(self) -> Machine
         ensures { result ≡ self.recorder.machine }
     {
-        let Debugger {
-            recorder,
-            names,
-            marks,
-        } = self;
-        drop(names);
+        let Debugger { recorder, marks } = self;
         drop(marks);
         recorder.into_machine()
     }
@@ -194,8 +180,9 @@ impl Debugger {
             (self.new ≡ (obeyed self.old no_run (command.PrintLocal worker variable.now)).view) }
     {
         let machine = self.recorder.machine();
-        match worker_sees(alloc, machine, &self.names, worker, variable)? {
-            Seen::Global => self.print(alloc, variable, text),
+        let seen = worker_sees(alloc, machine, worker, variable)?;
+        match seen {
+            Seen::Global(cell) => print(alloc, &mut self.recorder, cell, text),
             Seen::Cell(cell) => print_local(alloc, &mut self.recorder, variable, &cell, text),
             Seen::Nothing => push_command_fault(text, CommandFault::BadArgument),
         }

@@ -1,7 +1,6 @@
 //! What each command is answered: a machine whose calls are recorded, with breaks and watches.
 #![tactic(auto)]
 
-mod debuggee;
 mod debugger;
 mod freed;
 mod local;
@@ -12,6 +11,5 @@ mod runs;
 mod stops;
 mod variable;
 
-pub use debuggee::Debuggee;
 pub use debugger::Debugger;
 pub use marks::Marks;

@@ -4,80 +4,92 @@ ghost use Rattle.std.specs.Prelude.{◌≡◌, IfOk};
 ghost use Rattle.om_cells.specs.Values.{control_in};
 ghost use Rattle.om_foot.specs.declared.object.Obj.TheVariants as object;
 ghost use Rattle.om_undo.specs.Machines.{state_in};
-ghost use Rattle.om_view.specs.Locals.{cell_seen, local_seen, seen_by, seen_in};
+ghost use Rattle.om_view.specs.Locals.{cell_seen, global_seen, seen_by, seen_in, var_seen};
 
-use crate::variable::element_at;
+use crate::variable::{cell_at, cell_of, element_at, length_of};
 use om_cells::{Context, Control, Val};
+use om_code::Program;
 use om_code::instruction::Place;
 use om_command::Variable;
 use om_foot::Obj;
+use om_lower::{Var, variable_at};
+use om_replies::GlobalCell;
 use om_row::names::object_of;
 use om_undo::Machine;
-use om_visible::{Local, Names};
 use std::alloc::{AllocError, Global};
 
 /// What a worker sees by the name of a variable.
 #[derive(Clone, Copy)]
 pub(crate) enum Seen {
-    /// The name means no variable of a function: it may be that of a global one.
-    Global,
-    /// This cell.
+    /// This cell of a global variable.
+    Global(GlobalCell),
+    /// This cell of a variable of a function.
     Cell(Obj),
-    /// The body does not have the variable, or an index is missing, one too many or out of range.
+    /// There is no such variable, the body does not have it, or an index is missing, one too many or out of
+    /// range.
     Nothing,
 }
 
-// An element of the variable in a slot of the running frame. Its only error is out of memory.
-fn cell_seen(context: &Context, slot: usize, element: Option<u32>) -> Result<Seen, AllocError>
-    ensures { IfOk result (λ seen. seen ≡ cell_seen context.now slot element) }
+// The cell of a global variable, where there is one.
+fn global_seen(cell: Option<GlobalCell>) -> Seen
+    ensures { result ≡ global_seen cell }
 {
-    let Some(element) = element else {
-        return Ok(Seen::Nothing);
-    };
-    let Ok(slot) = u32::try_from(slot) else {
-        return Err(AllocError);
-    };
-    Ok(Seen::Cell(object_of(context, Place::Slot(slot), element)))
-}
-
-// What a variable is at an index, in the running frame. Its only error is out of memory.
-fn local_seen(context: &Context, index: Option<u64>, local: Local) -> Result<Seen, AllocError>
-    ensures { IfOk result (λ seen. seen ≡ local_seen context.now index local) }
-{
-    match local {
-        Local::NotLocal => Ok(Seen::Global),
-        Local::Absent => Ok(Seen::Nothing),
-        Local::At { slot, length } => cell_seen(context, slot, element_at(length, index)),
+    match cell {
+        None => Seen::Nothing,
+        Some(cell) => Seen::Global(cell),
     }
 }
 
-// What a variable is in a context. Its only error is out of memory.
-fn seen_in(names: &Names, variable: &Variable, context: &Context) -> Result<Seen, AllocError>
-    ensures { IfOk result (λ seen. seen ≡ seen_in names.now variable.now context.now) }
+// An element of the variable in a slot of the running frame.
+fn cell_seen(context: &Context, slot: u32, element: Option<u32>) -> Seen
+    ensures { result ≡ cell_seen context.now slot element }
+{
+    match element {
+        None => Seen::Nothing,
+        Some(element) => Seen::Cell(object_of(context, Place::Slot(slot), element)),
+    }
+}
+
+// What a variable is at an index, in the running frame.
+fn var_seen(program: &Program, context: &Context, index: Option<u64>, variable: Option<Var>) -> Seen
+    ensures { result ≡ var_seen program.now context.now index variable }
+{
+    match variable {
+        None => Seen::Nothing,
+        Some(Var::Global(number)) => {
+            global_seen(cell_at(number, length_of(program, number), index))
+        }
+        Some(Var::Slot { slot, length }) => cell_seen(context, slot, element_at(length, index)),
+    }
+}
+
+// What a variable is in a context.
+fn seen_in(program: &Program, variable: &Variable, context: &Context) -> Seen
+    ensures { result ≡ seen_in program.now variable.now context.now }
 {
     let frame = &context.frame;
-    let local = names.local_at(frame.body, frame.next, variable.name.as_slice());
-    local_seen(context, variable.index, local)
+    let meant = variable_at(program, frame.body, frame.next, variable.name.as_slice());
+    var_seen(program, context, variable.index, meant)
 }
 
-// What a variable is for a worker of this control. Its only error is out of memory.
-fn seen_by(names: &Names, variable: &Variable, control: &Control) -> Result<Seen, AllocError>
-    ensures { IfOk result (λ seen. seen ≡ seen_by names.now variable.now control.now) }
+// What a variable is for a worker of this control.
+fn seen_by(program: &Program, variable: &Variable, control: &Control) -> Seen
+    ensures { result ≡ seen_by program.now variable.now control.now }
 {
     match control {
-        Control::Running(stack) => seen_in(names, variable, &stack.top),
-        Control::Faulted(_, stack) => seen_in(names, variable, &stack.top),
-        Control::Idle | Control::Ended(_) => Ok(Seen::Global),
+        Control::Running(stack) => seen_in(program, variable, &stack.top),
+        Control::Faulted(_, stack) => seen_in(program, variable, &stack.top),
+        Control::Idle | Control::Ended(_) => global_seen(cell_of(program, variable)),
     }
 }
 
-// What a variable is for a worker whose control this value is. Its only error is out of memory.
-fn seen_at(names: &Names, variable: &Variable, value: &Val) -> Result<Seen, AllocError>
-    ensures { IfOk result (λ seen. seen ≡ seen_by names.now variable.now (control_in value.now)) }
+// What a variable is for a worker whose control this value is.
+fn seen_at(program: &Program, variable: &Variable, value: &Val) -> Seen
+    ensures { result ≡ seen_by program.now variable.now (control_in value.now) }
 {
     match value.control() {
-        Some(control) => seen_by(names, variable, control),
-        None => Ok(Seen::Global),
+        Some(control) => seen_by(program, variable, control),
+        None => global_seen(cell_of(program, variable)),
     }
 }
 
@@ -85,16 +97,15 @@ fn seen_at(names: &Names, variable: &Variable, value: &Val) -> Result<Seen, Allo
 pub(crate) fn worker_sees(
     alloc: Global,
     machine: &Machine,
-    names: &Names,
     worker: u8,
     variable: &Variable,
 ) -> Result<Seen, AllocError>
     ensures { IfOk result
-        (λ seen. seen ≡ seen_by names.now variable.now
+        (λ seen. seen ≡ seen_by machine.now.program variable.now
         (control_in (state_in machine.now (object.Control worker)))) }
 {
     let value = machine.look(alloc, &Obj::Control(worker))?;
-    let seen = seen_at(names, variable, &value);
+    let seen = seen_at(machine.program(), variable, &value);
     drop(value);
-    seen
+    Ok(seen)
 }

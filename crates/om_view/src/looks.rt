@@ -177,7 +177,7 @@ fn directive_line(task: Option<&Task>) -> u32
     ensures { result ≡ directive_line (unwrap_or (option_copied task.entry) tasks.Absent) }
 {
     match task {
-        Some(Task::Ready(ready)) => ready.line,
+        Some(Task::Ready(ready)) => ready.get().line,
         Some(Task::Absent) | Some(Task::Running(_)) | Some(Task::Done) | None => 0,
     }
 }

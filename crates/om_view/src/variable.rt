@@ -9,8 +9,8 @@ use om_command::Variable;
 use om_lower::global_named;
 use om_replies::GlobalCell;
 
-// How many cells a global variable has, where it is an array.
-fn length_of(program: &Program, variable: u32) -> Option<u32>
+/// How many cells a global variable has, where it is an array.
+pub(crate) fn length_of(program: &Program, variable: u32) -> Option<u32>
     ensures { result ≡ length_of program.now variable }
 {
     program.globals().get(variable as usize)?.length
@@ -33,8 +33,8 @@ pub(crate) fn element_at(length: Option<u32>, index: Option<u64>) -> Option<u32>
     }
 }
 
-// The cell of a global variable at an index.
-fn cell_at(variable: u32, length: Option<u32>, index: Option<u64>) -> Option<GlobalCell>
+/// The cell of a global variable at an index.
+pub(crate) fn cell_at(variable: u32, length: Option<u32>, index: Option<u64>) -> Option<GlobalCell>
     ensures { result ≡ cell_at variable length index }
 {
     let index = element_at(length, index)?;

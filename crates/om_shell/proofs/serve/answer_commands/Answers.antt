@@ -13,12 +13,12 @@ returns-in_err-session-clause-broken_off g c =
 
 pub returns-in-Err-clause-broken_off : goal.returns-in-Err-clause-broken_off
 returns-in-Err-clause-broken_off g c =
-    let new : c.in_ok-session.session.debugger ≡ opened c.args.debuggee c.args.host.now.workers = search rules in
+    let new : c.in_ok-session.session.debugger ≡ opened c.args.program c.args.host.now.workers = search rules in
     rw new at c.in-Err.ensures.broken_off
 
 pub returns-in-Ok-clause-done : goal.returns-in-Ok-clause-done
 returns-in-Ok-clause-done g c =
-    let new : c.in_ok-session.session.debugger ≡ opened c.args.debuggee c.args.host.now.workers = search rules in
+    let new : c.in_ok-session.session.debugger ≡ opened c.args.program c.args.host.now.workers = search rules in
     let done = rw new at c.in-Ok.ensures.done in
     let left : c.accepted.result.debugger ≡ Some c.converse.new.session.debugger = search rules in
     (done.0, rw left done.1)
