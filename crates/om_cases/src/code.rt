@@ -3,7 +3,7 @@
 use om_code::Program;
 use om_lexer::FaultCode;
 use om_lower::{global_named, line_of};
-use om_shell::debuggee_of;
+use om_shell::program_of;
 use std::alloc::{AllocError, Global};
 
 /// Line 5 becomes `CONST 1` and `STORE x`, and line 6 `FIN 0`.
@@ -11,8 +11,8 @@ const SOURCE: &str = "int w[2],\nx;\n\nint main(void) {\nx = 1;\n}\n";
 
 /// Whether the lines of instructions and the numbers of globals are found, and no others.
 pub(crate) fn lines_and_names_are_found(alloc: Global) -> Result<bool, AllocError> {
-    match debuggee_of(alloc, SOURCE.as_bytes()) {
-        Ok(debuggee) => Ok(has_lines(&debuggee.program) && has_names(&debuggee.program)),
+    match program_of(alloc, SOURCE.as_bytes()) {
+        Ok(program) => Ok(has_lines(&program) && has_names(&program)),
         Err(fault) if fault.code == FaultCode::Memory => Err(AllocError),
         Err(_) => Ok(false),
     }

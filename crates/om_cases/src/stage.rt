@@ -9,7 +9,7 @@ use om_lexer::{SourceFault, Token, lex};
 use om_parser::{Unit, parse};
 use om_pragma::directive;
 use om_scope::resolve;
-use om_shell::debuggee_of;
+use om_shell::program_of;
 use std::alloc::Global;
 
 /// How far a source is taken.
@@ -46,7 +46,7 @@ pub(crate) fn refusal(alloc: Global, stage: Stage, source: &[u8]) -> Option<Sour
         Stage::Line => line_refusal(alloc, source),
         Stage::Parser => parsed(alloc, source).err(),
         Stage::Resolver => resolver_refusal(alloc, source),
-        Stage::Code => debuggee_of(alloc, source).err(),
+        Stage::Code => program_of(alloc, source).err(),
     }
 }
 

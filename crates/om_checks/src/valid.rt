@@ -1,7 +1,7 @@
 //! What the validator says of code.
 
 use om_code::instruction::Place;
-use om_code::raw::{Line, Slot, Source};
+use om_code::raw::{Line, Names, Scope, Slot, Source};
 use om_code::{Body, CodeFault, Instr, Program, Raw, validate};
 use om_seq::Seq;
 use std::alloc::{AllocError, Global};
@@ -13,6 +13,7 @@ pub(crate) fn code_is_judged(alloc: Global) -> Result<bool, AllocError> {
             && refuses_missing_operands(alloc)?
             && refuses_high_stacks(alloc)?
             && refuses_unknown_slots(alloc)?
+            && refuses_names_of_unknown_slots(alloc)?
             && accepts_valid_code(alloc)?,
     )
 }
@@ -49,6 +50,28 @@ fn refuses_unknown_slots(alloc: Global) -> Result<bool, AllocError> {
     Ok(matches!(judged, Err(CodeFault::Unknown)))
 }
 
+/// A scope names slot 2 of two.
+fn refuses_names_of_unknown_slots(alloc: Global) -> Result<bool, AllocError> {
+    let mut body = body_of(alloc, &[END], 2)?;
+    body.names.scopes.push(scope_of(alloc, 1)?)?;
+    let known = judged_body(alloc, body)?;
+    let mut body = body_of(alloc, &[END], 2)?;
+    body.names.scopes.push(scope_of(alloc, 2)?)?;
+    let unknown = judged_body(alloc, body)?;
+    Ok(known.is_ok() && matches!(unknown, Err(CodeFault::Unknown)))
+}
+
+/// A scope of the name `x`, over the first instruction.
+fn scope_of(alloc: Global, slot: u32) -> Result<Scope, AllocError> {
+    Ok(Scope {
+        name: Seq::one(alloc, b'x')?,
+        slot: Some(slot),
+        length: None,
+        from: 0,
+        to: 1,
+    })
+}
+
 fn accepts_valid_code(alloc: Global) -> Result<bool, AllocError> {
     let load = Instr::Load(Place::Slot(1));
     match judged(alloc, &[Instr::Constant(5), Instr::Pop, load, END_WITH], 2)? {
@@ -76,7 +99,11 @@ fn judged(
     code: &[Instr],
     slots: u32,
 ) -> Result<Result<Program, CodeFault>, AllocError> {
-    let body = body_of(alloc, code, slots)?;
+    judged_body(alloc, body_of(alloc, code, slots)?)
+}
+
+/// What the validator says of a program of this body.
+fn judged_body(alloc: Global, body: Body) -> Result<Result<Program, CodeFault>, AllocError> {
     let raw = Raw {
         globals: Seq::new(alloc),
         bodies: Seq::one(alloc, body)?,
@@ -107,5 +134,9 @@ fn body_of(alloc: Global, code: &[Instr], slots: u32) -> Result<Body, AllocError
         code: Seq::of(lines),
         slots: Seq::of(slots),
         given: Seq::new(alloc),
+        names: Names {
+            scopes: Seq::new(alloc),
+            outer: Seq::new(alloc),
+        },
     })
 }
