@@ -1,7 +1,8 @@
 //! The words of the command line.
-ghost use Rattle.std.specs.Prelude.{◌≡◌, ◌<◌, ◌≤◌, IfOk, IfSome, IfNone};
+ghost use Rattle.std.specs.Prelude.{◌<◌, ◌≤◌, IfOk};
+ghost use Rattle.om_words.specs.Workers.{GivesWorkers};
 
-use clap::{Arg, ArgAction, Command, Error};
+use clap::{Arg, ArgAction, ArgMatches, Command, Error};
 use std::alloc::Global;
 
 /// What the words ask for.
@@ -49,6 +50,19 @@ pub fn words_in<'a>(alloc: Global, words: &'a [&'a str]) -> Result<Words<'a>, Er
     ensures least { IfOk result (λ words. 0 < words.workers) }
     ensures most { IfOk result (λ words. words.workers ≤ 32) }
 {
+    let matches = matches_in(alloc, words)?;
+    let asked = Words {
+        workers: workers_in(&matches),
+        file: matches.get_str("file"),
+    };
+    drop(matches);
+    Ok(asked)
+}
+
+// What the words are parsed to: among it a number of workers, 2 where the words give none.
+fn matches_in<'a>(alloc: Global, words: &'a [&'a str]) -> Result<ArgMatches<'a>, Error>
+    ensures { IfOk result GivesWorkers }
+{
     let threads = Arg::new(alloc, "threads")
         .long("threads")
         .value_name("N")
@@ -64,24 +78,18 @@ pub fn words_in<'a>(alloc: Global, words: &'a [&'a str]) -> Result<Words<'a>, Er
         .value_name("FILE")
         .help("The C source")
         .action(ArgAction::Set);
-    let matches = command.arg(file)?.try_get_matches_from(words)?;
-    let asked = Words {
-        workers: workers_or_two(matches.get_one::<u8>("threads")),
-        file: matches.get_str("file"),
-    };
-    drop(matches);
-    Ok(asked)
+    let command = command.arg(file)?;
+    command.try_get_matches_from(words)
 }
 
-// The number of workers that is given, if it is one; it always is, by the parse.
-fn workers_or_two(given: Option<u8>) -> u8
-    ensures given { IfSome given (λ n. 0 < n → n ≤ 32 → result ≡ n) }
-    ensures two { IfNone given (result ≡ 2) }
+// The number of workers, which the parse has found to be one of 1 to 32.
+fn workers_in(matches: &ArgMatches<'_>) -> u8
+    requires { GivesWorkers matches.now }
     ensures least { 0 < result }
     ensures most { result ≤ 32 }
 {
-    match given {
-        Some(n) if 1 <= n && n <= 32 => n,
-        _ => 2,
-    }
+    let Some(workers) = matches.get_one::<u8>("threads") else {
+        unreachable!();
+    };
+    workers
 }
