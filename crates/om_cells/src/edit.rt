@@ -31,7 +31,7 @@ pub enum Edit {
     /// The running frame ends, with a value for the frame that waits for it.
     EndFrame(Operand),
     /// A context begins, and runs.
-    BeginContext(Context),
+    BeginContext(Shared<Context>),
     /// The running context ends. The one below runs on; where there is none, the worker is idle.
     EndContext,
     /// The running context enters a region.
@@ -106,10 +106,10 @@ impl Context {
 
 impl Stack {
     /// Begins a context, which runs.
-    fn begin_context(&mut self, alloc: Global, context: Context) -> Result<(), AllocError>
-        ensures { OnOk result (self.new ≡ context_begun context self.old) }
+    fn begin_context(&mut self, alloc: Global, context: &Context) -> Result<(), AllocError>
+        ensures { OnOk result (self.new ≡ context_begun context.now self.old) }
     {
-        let left = mem::replace(&mut self.top, context);
+        let left = mem::replace(&mut self.top, context.copy(alloc)?);
         let left = Shared::of(alloc, left)?;
         self.below.put(alloc, 0, left)
     }
@@ -160,7 +160,7 @@ fn edit_stack(alloc: Global, stack: &mut Stack, edit: Edit) -> Result<Outlook, A
             stack.top.begin_frame(alloc, body, homes)
         }
         Edit::EndFrame(value) => stack.top.end_frame(alloc, value),
-        Edit::BeginContext(context) => stack.begin_context(alloc, context),
+        Edit::BeginContext(context) => stack.begin_context(alloc, context.get()),
         Edit::EndContext => return Ok(Outlook::Returns),
         Edit::Open(construct) => stack.top.constructs.put(alloc, 0, construct),
         Edit::Close => stack.top.constructs.drop_top(alloc, 1),

@@ -1,6 +1,6 @@
 //! A stack that several owners share, and whose items they share too.
 
-ghost use Rattle.std.specs.Prelude.{◌≡◌, ◌↔◌, [], ◌∷◌, IsTrue, IfOk, OnOk, length, drop, slice_get, option_map};
+ghost use Rattle.std.specs.Prelude.{◌≡◌, ◌↔◌, [], ◌∷◌, IsTrue, IfOk, OnOk, length, drop, reverse, slice_get, option_map};
 
 use crate::shared::Shared;
 use om_seq::Pile;
@@ -33,6 +33,17 @@ impl<T> SharedPile<T> {
     {
         Ok(SharedPile {
             items: Shared::of(alloc, Pile::new(alloc))?,
+        })
+    }
+
+    /// The stack of a vector's items, the last one on top; its only error is out of memory.
+    pub fn of(alloc: Global, items: Vec<Shared<T>>) -> Result<SharedPile<T>, AllocError>
+    where
+        T: Drop,
+        ensures { IfOk result (λ pile. pile ≡ reverse items.items) }
+    {
+        Ok(SharedPile {
+            items: Shared::of(alloc, Pile::of(items))?,
         })
     }
 

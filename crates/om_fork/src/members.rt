@@ -6,8 +6,8 @@ ghost use Rattle.om_cells.specs.declared.value.Val.TheVariants as value;
 ghost use Rattle.om_fork.specs.Teams.{first_frame, member, workers_from, busy_in, member_controls, member_cells, member_puts};
 
 use om_cells::{
-    Construct, Context, Control, Frame, Home, Kind, Shared, SharedPile, Stack, Store, Team, Update,
-    Val,
+    Construct, Context, Control, Frame, Home, Kind, Shared, SharedControl, SharedPile, Stack,
+    Store, Team, Update, Val,
 };
 use om_foot::{Access, Mode, Name, Obj};
 use om_row::names::{name, name_given};
@@ -153,10 +153,10 @@ fn put_member(
 {
     let top = member(alloc, team, frame)?;
     match SharedPile::new(alloc) {
-        Ok(below) => updates.push(Update::Put(Val::Control(Control::Running(Stack {
-            top,
-            below,
-        })))),
+        Ok(below) => {
+            let control = Control::Running(Stack { top, below });
+            updates.push(Update::Put(Val::Control(SharedControl::of(alloc, control)?)))
+        }
         Err(error) => {
             drop(top);
             Err(error)

@@ -142,7 +142,8 @@ fn fork_edits(
     };
     let mut edits = Seq::one(alloc, go)?;
     edits.push(Edit::CountBirth)?;
-    edits.push(Edit::BeginContext(member(alloc, team, frame)?))?;
+    let member = Shared::of(alloc, member(alloc, team, frame)?)?;
+    edits.push(Edit::BeginContext(member))?;
     Ok(edits)
 }
 

@@ -1,6 +1,6 @@
 //! The history of a run, with the store that its entries lead to.
 
-ghost use Rattle.std.specs.Prelude.{◌≡◌, ◌<◌, ◌^◌, [], IfOk, OnOk, OnErr, IsNone, IfSome, ◌↔◌};
+ghost use Rattle.std.specs.Prelude.{◌≡◌, ◌<◌, ◌^◌, [], ◌∷◌, IfOk, OnOk, OnErr, IsNone, IfSome, ◌↔◌};
 ghost use Rattle.om_cells.specs.Stores.{state_of};
 ghost use Rattle.om_cells.specs.Rules.{Rules};
 ghost use Rattle.om_history.specs.Bounds.{IsSteady};
@@ -31,12 +31,22 @@ pub struct History {
     made: u64,
 }
 
+/// The fault that a worker met whose control a value is, if it did.
+fn fault_at(value: &Val) -> Option<Fault>
+    ensures { result ≡ fault_of (Update.Put value.now ∷ []) }
+{
+    match value.control()? {
+        Control::Faulted(fault, _) => Some(*fault),
+        _ => None,
+    }
+}
+
 /// The fault that a step's worker comes to, if it does.
 fn fault_in(updates: &[Update]) -> Option<Fault>
     ensures { result ≡ fault_of updates.now }
 {
     match updates.first()? {
-        Update::Put(Val::Control(Control::Faulted(fault, _))) => Some(*fault),
+        Update::Put(value) => fault_at(value),
         _ => None,
     }
 }

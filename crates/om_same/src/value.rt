@@ -1,7 +1,9 @@
 //! Whether what two objects hold is the same.
 
+ghost use Rattle.std.specs.Prelude.{◌≡◌, ◌↔◌, IsTrue};
+
 use crate::same::Same;
-use om_cells::{Ready, Task, Val};
+use om_cells::{Control, Ready, SharedControl, Task, Val};
 
 impl Same for Ready {
     fn is_same(&self, other: &Ready) -> bool {
@@ -22,6 +24,29 @@ impl Same for Task {
             (Task::Running(one), Task::Running(two)) => *one == *two,
             (Task::Done, Task::Done) => true,
             _ => false,
+        }
+    }
+}
+
+/// Whether a control is an idle one.
+fn is_idle(control: &Control) -> bool
+    ensures { IsTrue result ↔ (control.now ≡ Control.Idle) }
+{
+    match control {
+        Control::Idle => true,
+        Control::Running(_) => false,
+        Control::Faulted(_, _) => false,
+        Control::Ended(_) => false,
+    }
+}
+
+impl Same for SharedControl {
+    fn is_same(&self, other: &SharedControl) -> bool {
+        match (self.get(), other.get()) {
+            (Some(one), Some(two)) => one.is_same(two),
+            (Some(one), None) => is_idle(one),
+            (None, Some(two)) => is_idle(two),
+            (None, None) => true,
         }
     }
 }

@@ -11,6 +11,7 @@ use Rattle.om_cells.specs.contracts.control.Frame as frame
 use Rattle.om_cells.specs.contracts.control.Home as home
 use Rattle.om_cells.specs.contracts.control.Team as team
 use Rattle.om_cells.specs.contracts.shared.Shared as shared
+use Rattle.om_cells.specs.contracts.shared_control.SharedControl as shared_control
 use Rattle.om_cells.specs.contracts.shared_pile.SharedPile as stack
 use Rattle.om_cells.specs.contracts.step.Update as update
 use Rattle.om_cells.specs.contracts.value.Ready as ready
@@ -101,15 +102,33 @@ context_sync =
 below_send : IsSend (stack.the_row context.the_row)
 below_send = stack_send context.the_row (search (context_send, sendable)) (search (context_sync, sendable))
 
+below_sync : IsSync (stack.the_row context.the_row)
+below_sync = stack_sync context.the_row (search (context_send, sendable)) (search (context_sync, sendable))
+
 control_send : IsSend control.the_field.row
 control_send = search (context_send, below_send, sendable) depth 40
+
+control_sync : IsSync control.the_field.row
+control_sync = search (context_sync, below_sync, sendable) depth 40
+
+controls_send : IsSend (shared.the_row control.the_row)
+controls_send = shared_send control.the_row (search (control_send, sendable)) (search (control_sync, sendable))
+
+shared_control_send : IsSend shared_control.the_row
+shared_control_send = search (controls_send, sendable) depth 40
 
 -- ---- what any object holds
 ready_send : IsSend ready.the_field.row
 ready_send = search (homes_send, names_send, groups_send, sendable) depth 40
 
+ready_sync : IsSync ready.the_field.row
+ready_sync = search (homes_sync, names_sync, groups_sync, sendable) depth 40
+
+readies_send : IsSend (shared.the_row ready.the_row)
+readies_send = shared_send ready.the_row (search (ready_send, sendable)) (search (ready_sync, sendable))
+
 pub value_send : IsSend value.the_field.row
-value_send = search (control_send, ready_send, event_send, seq_send, sendable) depth 40
+value_send = search (shared_control_send, readies_send, event_send, seq_send, sendable) depth 40
 
 pub update_send : IsSend update.the_row
 update_send = search (value_send, event_send, seq_send, sendable) depth 40

@@ -144,7 +144,7 @@ fn beginning(
     ensures { IfOk result
         (λ edits. edits ≡ Edit.BeginContext (task_context name.now on.now ready.now) ∷ []) }
 {
-    let context = task_context(alloc, name, on, ready)?;
+    let context = Shared::of(alloc, task_context(alloc, name, on, ready)?)?;
     Seq::one(alloc, Edit::BeginContext(context))
 }
 
@@ -156,6 +156,7 @@ fn ready_for<'a>(store: &'a Store, name: &Name, team: &Name) -> Option<&'a Ready
     let Task::Ready(ready) = store.task(name)? else {
         return None;
     };
+    let ready = ready.get();
     if *ready.team.get() == *team {
         Some(ready)
     } else {

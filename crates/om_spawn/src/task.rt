@@ -107,6 +107,7 @@ fn put_ready(
         (value.Task (task.Ready (ready_of making.now body.now context.now))) ∷ []) }
 {
     let ready = ready_of(alloc, making, body, context)?;
+    let ready = Shared::of(alloc, ready)?;
     Seq::one(alloc, Update::Put(Val::Task(Task::Ready(ready))))
 }
 

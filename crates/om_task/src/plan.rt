@@ -17,7 +17,9 @@ ghost use Rattle.om_spawn.specs.Rows.{start_row};
 
 use crate::admit::{admits, instruction, leaving};
 use crate::table::{Doing, answer};
-use om_cells::{Blocked, Choice, Control, Edit, Label, Outcome, Stack, Step, Store, Update, Val};
+use om_cells::{
+    Blocked, Choice, Control, Edit, Label, Outcome, SharedControl, Stack, Step, Store, Update, Val,
+};
 use om_code::Program;
 use om_foot::{Access, Mode, Obj};
 use om_row::{Answer, Row};
@@ -114,7 +116,7 @@ fn changed(alloc: Global, control: &Control, edits: Seq<Edit>) -> Result<Val, Al
 {
     let mut changed = control.copy(alloc)?;
     match changed.change(alloc, edits) {
-        Ok(()) => Ok(Val::Control(changed)),
+        Ok(()) => Ok(Val::Control(SharedControl::of(alloc, changed)?)),
         Err(error) => {
             drop(changed);
             Err(error)

@@ -10,7 +10,8 @@ ghost use Rattle.om_task.specs.Sites.{body_of};
 ghost use Rattle.om_task.specs.Rules.{first_context, first_control, first_records, initial_in, start_of};
 
 use om_cells::{
-    Construct, Context, Control, Frame, Kind, Shared, SharedPile, Stack, Store, Team, Val,
+    Construct, Context, Control, Frame, Kind, Shared, SharedControl, SharedPile, Stack, Store,
+    Team, Val,
 };
 use om_code::frame::Cell;
 use om_code::raw::GlobalVariable;
@@ -139,7 +140,10 @@ fn first_control(alloc: Global, program: &Program) -> Result<Val, AllocError>
     let frame = first_frame(alloc, program)?;
     let top = first_context(alloc, frame)?;
     match SharedPile::new(alloc) {
-        Ok(below) => Ok(Val::Control(Control::Running(Stack { top, below }))),
+        Ok(below) => {
+            let control = Control::Running(Stack { top, below });
+            Ok(Val::Control(SharedControl::of(alloc, control)?))
+        }
         Err(error) => {
             drop(top);
             Err(error)
