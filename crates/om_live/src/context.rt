@@ -1,0 +1,203 @@
+//! Edits of a context, each with what takes it back.
+
+ghost use Rattle.std.specs.Prelude.{◌≡◌, ◌<◌, ◌+◌, ◌^◌, [], ◌∷◌, None, IfOk, OnOk, OnErr, drop, List};
+ghost use Rattle.om_cells.specs.declared.control.Context as PlainContexts;
+ghost use Rattle.om_cells.specs.declared.control.Control.TheVariants as plain;
+ghost use Rattle.om_cells.specs.Edits.{context_at, frame_begun, value_given, edited, Counts};
+ghost use Rattle.om_live.specs.Plain.{plain_context, stack_of};
+ghost use Rattle.om_live.specs.Inverses.{turned_back, CanTurnBack, TurnsContext};
+
+use crate::control::{Context, Inverse};
+use crate::frame::new_frame;
+use om_cells::{Construct, Edit, Home, Shared};
+use om_code::frame::Operand;
+use om_seq::Seq;
+use std::alloc::{AllocError, Global};
+
+impl Context {
+    /// The running frame goes to a place, with so many operands taken and then one pushed. When out
+    /// of memory, nothing changes.
+    pub fn go(
+        &mut self,
+        to: u32,
+        takes: u32,
+        pushed: Option<Operand>,
+    ) -> Result<Inverse, AllocError>
+        ensures changed { OnOk result (plain_context self.new
+            ≡ context_at to takes pushed (plain_context self.old)) }
+        ensures can { IfOk result (λ i. CanTurnBack i self.new) }
+        ensures back { IfOk result (λ i. turned_back i self.new ≡ self.old) }
+        ensures unchanged_on_error { OnErr result (self.new ≡ self.old) }
+    {
+        match self.frame.go(to, takes, pushed) {
+            Ok(went) => Ok(Inverse::Went(went)),
+            Err(error) => Err(error),
+        }
+    }
+
+    /// The running frame goes to a place, with so many operands taken, and waits there for a new
+    /// frame, which runs. When out of memory, nothing changes.
+    pub fn begin_frame(
+        &mut self,
+        alloc: Global,
+        to: u32,
+        takes: u32,
+        body: u32,
+        homes: Shared<Seq<Home>>,
+    ) -> Result<Inverse, AllocError>
+        requires { self.old.frames + 1 < 2 ^ 64 }
+        ensures changed { OnOk result (plain_context self.new
+            ≡ frame_begun body homes (context_at to takes None (plain_context self.old))) }
+        ensures can { IfOk result (λ i. CanTurnBack i self.new) }
+        ensures back { IfOk result (λ i. turned_back i self.new ≡ self.old) }
+        ensures unchanged_on_error { OnErr result (self.new ≡ self.old) }
+    {
+        let frame = new_frame(alloc, body, self.frames, homes)?;
+        let passed = self.frame.pass(to, takes);
+        match self.callers.push_under(frame, &mut self.frame) {
+            Ok(over) => {
+                self.frames += 1;
+                Ok(Inverse::BeganFrame(passed, over))
+            }
+            Err(error) => {
+                self.frame.pass_back(passed);
+                Err(error)
+            }
+        }
+    }
+
+    /// The running frame ends, with a value for the one that waits for it; where none waits, nothing
+    /// changes. When out of memory, nothing changes.
+    pub fn end_frame(&mut self, value: Operand) -> Result<Inverse, AllocError>
+        ensures changed { OnOk result (plain_context self.new
+            ≡ value_given value (plain_context self.old).callers (plain_context self.old)) }
+        ensures can { IfOk result (λ i. CanTurnBack i self.new) }
+        ensures back { IfOk result (λ i. turned_back i self.new ≡ self.old) }
+        ensures unchanged_on_error { OnErr result (self.new ≡ self.old) }
+    {
+        if self.callers.len() == 0 {
+            return Ok(Inverse::Same);
+        }
+        self.callers.swap_down(&mut self.frame);
+        match self.frame.operands.push(value) {
+            Ok(over) => Ok(Inverse::EndedFrame(over)),
+            Err(error) => {
+                self.callers.swap_up(&mut self.frame);
+                Err(error)
+            }
+        }
+    }
+
+    /// Enters a region. When out of memory, nothing changes.
+    pub fn open(&mut self, construct: Shared<Construct>) -> Result<Inverse, AllocError>
+        ensures changed { OnOk result (plain_context self.new
+            ≡ record (plain_context self.old)
+            { constructs = construct ∷ (plain_context self.old).constructs }) }
+        ensures can { IfOk result (λ i. CanTurnBack i self.new) }
+        ensures back { IfOk result (λ i. turned_back i self.new ≡ self.old) }
+        ensures unchanged_on_error { OnErr result (self.new ≡ self.old) }
+    {
+        match self.constructs.push(construct) {
+            Ok(over) => Ok(Inverse::Opened(over)),
+            Err(error) => Err(error),
+        }
+    }
+
+    /// Leaves the innermost region, if it is in one. It takes no memory.
+    pub fn close(&mut self) -> Inverse
+        ensures changed { plain_context self.new
+            ≡ record (plain_context self.old)
+            { constructs = drop 1 (plain_context self.old).constructs } }
+        ensures can { CanTurnBack result self.new }
+        ensures back { turned_back result self.new ≡ self.old }
+    {
+        if self.constructs.len() == 0 {
+            return Inverse::Same;
+        }
+        self.constructs.lower(1);
+        Inverse::Closed
+    }
+
+    /// Has another region in the place of the innermost one, or enters it where it is in none. When
+    /// out of memory, nothing changes.
+    pub fn replace(&mut self, construct: Shared<Construct>) -> Result<Inverse, AllocError>
+        ensures changed { OnOk result (plain_context self.new
+            ≡ record (plain_context self.old)
+            { constructs = construct ∷ drop 1 (plain_context self.old).constructs }) }
+        ensures can { IfOk result (λ i. CanTurnBack i self.new) }
+        ensures back { IfOk result (λ i. turned_back i self.new ≡ self.old) }
+        ensures unchanged_on_error { OnErr result (self.new ≡ self.old) }
+    {
+        if self.constructs.len() == 0 {
+            return self.open(construct);
+        }
+        Ok(Inverse::Replaced(self.constructs.exchange_top(construct)))
+    }
+
+    /// Makes an edit of the context. When out of memory, nothing changes.
+    pub(crate) fn apply(&mut self, alloc: Global, edit: Edit) -> Result<Inverse, AllocError>
+        requires turns { TurnsContext edit }
+        requires counts { Counts edit (stack_of self.old []) }
+        ensures changed { OnOk result ((below : List PlainContexts.Context)
+            → plain.Running (stack_of self.new below) ≡ edited edit (stack_of self.old below)) }
+        ensures can { IfOk result (λ i. CanTurnBack i self.new) }
+        ensures back { IfOk result (λ i. turned_back i self.new ≡ self.old) }
+        ensures unchanged_on_error { OnErr result (self.new ≡ self.old) }
+    {
+        match edit {
+            Edit::Go { to, takes, pushed } => self.go(to, takes, pushed),
+            Edit::BeginFrame {
+                to,
+                takes,
+                body,
+                homes,
+            } => self.begin_frame(alloc, to, takes, body, homes),
+            Edit::EndFrame(value) => self.end_frame(value),
+            Edit::Open(construct) => self.open(construct),
+            Edit::Close => Ok(self.close()),
+            Edit::Replace(construct) => self.replace(construct),
+            Edit::CountBirth => {
+                self.births += 1;
+                Ok(Inverse::CountedBirth)
+            }
+            Edit::CountRegion => {
+                self.regions += 1;
+                Ok(Inverse::CountedRegion)
+            }
+            Edit::CountPhase => {
+                self.phase += 1;
+                Ok(Inverse::CountedPhase)
+            }
+            Edit::BeginContext(_) | Edit::EndContext | Edit::Fail(_) | Edit::End(_) => {
+                unreachable!()
+            }
+        }
+    }
+
+    /// Takes an edit back. It takes no memory.
+    pub fn turn_back(&mut self, inverse: Inverse)
+        requires { CanTurnBack inverse self.old }
+        ensures { self.new ≡ turned_back inverse self.old }
+    {
+        match inverse {
+            Inverse::Same => {}
+            Inverse::Went(went) => self.frame.go_back(went),
+            Inverse::BeganFrame(passed, over) => {
+                self.frames -= 1;
+                self.callers.unpush_under(over, &mut self.frame);
+                self.frame.pass_back(passed);
+            }
+            Inverse::EndedFrame(over) => {
+                self.frame.operands.unpush(over);
+                self.callers.swap_up(&mut self.frame);
+            }
+            Inverse::Opened(over) => self.constructs.unpush(over),
+            Inverse::Closed => self.constructs.raise(1),
+            Inverse::Replaced(before) => drop(self.constructs.exchange_top(before)),
+            Inverse::CountedBirth => self.births -= 1,
+            Inverse::CountedRegion => self.regions -= 1,
+            Inverse::CountedPhase => self.phase -= 1,
+            _ => unreachable!(),
+        }
+    }
+}

@@ -1,0 +1,104 @@
+//! Plain copies of controls in the form that is changed in place.
+
+ghost use Rattle.std.specs.Prelude.{◌≡◌, IfOk, map};
+ghost use Rattle.om_live.specs.Plain.{plain_frame, plain_box, plain_context, plain_held};
+ghost use Rattle.om_live.specs.Plain.{plain_stack, plain_control};
+
+use crate::control::{Context, Control, Frame, Stack};
+use crate::live::shares_of;
+use om_cells::{
+    Context as PlainContext, Control as PlainControl, Frame as PlainFrame, Shared, SharedPile,
+    Stack as PlainStack,
+};
+use om_seq::Pile;
+use std::alloc::{AllocError, Global};
+
+/// A plain copy of a frame; its only error is out of memory.
+fn plain_frame_of(alloc: Global, frame: &Frame) -> Result<PlainFrame, AllocError>
+    ensures { IfOk result (λ plain. plain ≡ plain_frame frame.now) }
+{
+    let operands = Vec::from_slice(alloc, frame.operands.as_slice())?;
+    Ok(PlainFrame {
+        body: frame.body,
+        next: frame.next,
+        ordinal: frame.ordinal,
+        operands: Pile::of(operands),
+        homes: frame.homes.copy()?,
+    })
+}
+
+/// Plain copies of frames, in their order.
+fn plain_frames_of(
+    alloc: Global,
+    frames: &[Box<Frame>],
+) -> Result<Vec<Shared<PlainFrame>>, AllocError>
+    ensures { IfOk result (λ v. v.items ≡ map plain_box frames.now) }
+{
+    let mut copies = Vec::with_capacity(alloc, frames.len())?;
+    for frame in frames {
+        copies.push(Shared::of(alloc, plain_frame_of(alloc, frame)?)?)?;
+    }
+    Ok(copies)
+}
+
+/// A plain copy of a context; its only error is out of memory.
+fn plain_context_of(alloc: Global, context: &Context) -> Result<PlainContext, AllocError>
+    ensures { IfOk result (λ plain. plain ≡ plain_context context.now) }
+{
+    let constructs = shares_of(alloc, context.constructs.as_slice())?;
+    let callers = plain_frames_of(alloc, context.callers.as_slice())?;
+    Ok(PlainContext {
+        task: context.task.copy()?,
+        kind: context.kind,
+        team: context.team.copy()?,
+        phase: context.phase,
+        births: context.births,
+        regions: context.regions,
+        frames: context.frames,
+        group: context.group.copy()?,
+        constructs: SharedPile::of(alloc, constructs)?,
+        frame: plain_frame_of(alloc, &context.frame)?,
+        callers: SharedPile::of(alloc, callers)?,
+    })
+}
+
+/// Plain copies of contexts, in their order.
+fn plain_contexts_of(
+    alloc: Global,
+    contexts: &[Box<Context>],
+) -> Result<Vec<Shared<PlainContext>>, AllocError>
+    ensures { IfOk result (λ v. v.items ≡ map plain_held contexts.now) }
+{
+    let mut copies = Vec::with_capacity(alloc, contexts.len())?;
+    for context in contexts {
+        copies.push(Shared::of(alloc, plain_context_of(alloc, context)?)?)?;
+    }
+    Ok(copies)
+}
+
+/// A plain copy of a stack.
+fn plain_stack_of(alloc: Global, stack: &Stack) -> Result<PlainStack, AllocError>
+    ensures { IfOk result (λ plain. plain ≡ plain_stack stack.now) }
+{
+    let contexts = plain_contexts_of(alloc, stack.below.as_slice())?;
+    let below = SharedPile::of(alloc, contexts)?;
+    Ok(PlainStack {
+        top: plain_context_of(alloc, &stack.top)?,
+        below,
+    })
+}
+
+/// A plain copy of a control, of which nothing that was taken is a part; its only error is out of
+/// memory.
+pub fn plain_of(alloc: Global, control: &Control) -> Result<PlainControl, AllocError>
+    ensures { IfOk result (λ plain. plain ≡ plain_control control.now) }
+{
+    match control {
+        Control::Idle => Ok(PlainControl::Idle),
+        Control::Running(stack) => Ok(PlainControl::Running(plain_stack_of(alloc, stack)?)),
+        Control::Faulted(fault, stack) => {
+            Ok(PlainControl::Faulted(*fault, plain_stack_of(alloc, stack)?))
+        }
+        Control::Ended(value) => Ok(PlainControl::Ended(*value)),
+    }
+}

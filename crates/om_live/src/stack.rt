@@ -1,0 +1,80 @@
+//! Edits of a stack, each with what takes it back: a context begins or ends, or the one that runs is
+//! edited.
+
+ghost use Rattle.std.specs.Prelude.{◌≡◌, ◌<◌, IfOk, OnOk, OnErr, length, map};
+ghost use Rattle.om_cells.specs.declared.control.Control.TheVariants as plain;
+ghost use Rattle.om_cells.specs.Edits.{context_begun, context_ended, edited, Counts};
+ghost use Rattle.om_live.specs.Plain.{plain_stack, plain_held};
+ghost use Rattle.om_live.specs.Inverses.{stack_back, CanStackBack, StaysRunning};
+
+use crate::control::{Inverse, Stack};
+use crate::live::context_of;
+use om_cells::{Context as PlainContext, Edit};
+use std::alloc::{AllocError, Global};
+
+impl Stack {
+    /// Begins a context, which runs. When out of memory, nothing changes.
+    fn begin_context(
+        &mut self,
+        alloc: Global,
+        context: &PlainContext,
+    ) -> Result<Inverse, AllocError>
+        ensures changed { OnOk result (plain_stack self.new
+            ≡ context_begun context.now (plain_stack self.old)) }
+        ensures can { IfOk result (λ i. CanStackBack i self.new) }
+        ensures back { IfOk result (λ i. stack_back i self.new ≡ self.old) }
+        ensures unchanged_on_error { OnErr result (self.new ≡ self.old) }
+    {
+        let context = context_of(alloc, context)?;
+        match self.below.push_under(context, &mut self.top) {
+            Ok(over) => Ok(Inverse::BeganContext(over)),
+            Err(error) => Err(error),
+        }
+    }
+
+    /// Ends the running context where another one waits below it, which runs on. It takes no
+    /// memory.
+    pub(crate) fn end_context(&mut self) -> Inverse
+        requires { 0 < length self.old.below.items }
+        ensures changed { plain.Running (plain_stack self.new)
+            ≡ context_ended (map plain_held self.old.below.items) }
+        ensures can { CanStackBack result self.new }
+        ensures back { stack_back result self.new ≡ self.old }
+    {
+        self.below.swap_down(&mut self.top);
+        Inverse::EndedContext
+    }
+
+    /// Makes an edit after which the worker runs on with the stack. When out of memory, nothing
+    /// changes.
+    pub(crate) fn apply(&mut self, alloc: Global, edit: Edit) -> Result<Inverse, AllocError>
+        requires stays { StaysRunning edit }
+        requires counts { Counts edit (plain_stack self.old) }
+        ensures changed { OnOk result (plain.Running (plain_stack self.new)
+            ≡ edited edit (plain_stack self.old)) }
+        ensures can { IfOk result (λ i. CanStackBack i self.new) }
+        ensures back { IfOk result (λ i. stack_back i self.new ≡ self.old) }
+        ensures unchanged_on_error { OnErr result (self.new ≡ self.old) }
+    {
+        match edit {
+            Edit::BeginContext(context) => self.begin_context(alloc, context.get()),
+            Edit::EndContext | Edit::Fail(_) | Edit::End(_) => unreachable!(),
+            turn => match self.top.apply(alloc, turn) {
+                Ok(inverse) => Ok(inverse),
+                Err(error) => Err(error),
+            },
+        }
+    }
+
+    /// Takes an edit back. It takes no memory.
+    pub(crate) fn turn_back(&mut self, inverse: Inverse)
+        requires { CanStackBack inverse self.old }
+        ensures { self.new ≡ stack_back inverse self.old }
+    {
+        match inverse {
+            Inverse::BeganContext(over) => self.below.unpush_under(over, &mut self.top),
+            Inverse::EndedContext => self.below.swap_up(&mut self.top),
+            turn => self.top.turn_back(turn),
+        }
+    }
+}

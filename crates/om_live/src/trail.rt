@@ -1,0 +1,200 @@
+//! A worker's control with the trail of its changes, which leads back to its start.
+
+ghost use Rattle.std.specs.Prelude.{◌≡◌, ◌<◌, ◌∷◌, [], IfOk, OnOk, OnErr, length};
+ghost use Rattle.om_cells.specs.declared.control.Control.TheVariants as plain;
+ghost use Rattle.om_cells.specs.Edits.{changed_by, changed, HasRoom, HaveRoom};
+ghost use Rattle.om_live.specs.Plain.{plain_control};
+ghost use Rattle.om_live.specs.Trails.{CanRewind, past_of, stepped, became, undone};
+
+use crate::control::{Control, Inverse};
+use crate::copy::plain_of;
+use crate::edit::{apply, become_control, revert};
+use crate::live::control_of;
+use crate::log::Log;
+use om_cells::{Control as PlainControl, Edit};
+use om_seq::Seq;
+use std::alloc::{AllocError, Global};
+use std::marker::Model;
+
+/// A worker's control, with what takes its changes back.
+///
+/// Contracts see the control now, and what it was before each change that stands, the latest first.
+/// A change that was taken back, or found no memory, is none.
+#[derive(Drop)]
+pub struct Trail {
+    control: Control,
+    inverses: Log<Inverse>,
+}
+
+impl Model for Trail {
+    ghost use Rattle.om_live.specs.Plain.{plain_control};
+    ghost use Rattle.om_live.specs.Trails.{TrailView, CanRewind, past_of};
+
+    ghost Value = { TrailView };
+
+    ghost view = { λ t. record
+        { now = plain_control t.control; past = past_of t.inverses t.control } };
+
+    ghost invariant = { λ t. CanRewind t.inverses t.control };
+}
+
+/// Makes one edit and logs what takes it back. When out of memory, the way back stays.
+fn edit_logged(
+    alloc: Global,
+    control: &mut Control,
+    inverses: &mut Log<Inverse>,
+    edit: Edit,
+) -> Result<(), AllocError>
+    requires room { HasRoom edit (plain_control control.old) }
+    requires can_rewind { CanRewind inverses.old control.old }
+    ensures changed { OnOk result (plain_control control.new
+        ≡ changed_by edit (plain_control control.old)) }
+    ensures past { past_of inverses.new control.new ≡ past_of inverses.old control.old }
+    ensures can_rewind { CanRewind inverses.new control.new }
+{
+    let inverse = apply(alloc, control, edit)?;
+    match inverses.push(inverse) {
+        Ok(()) => Ok(()),
+        Err(failed) => {
+            revert(control, failed.value);
+            Err(AllocError)
+        }
+    }
+}
+
+/// Makes edits in turn. When out of memory, some of them are made, and the way back stays.
+fn edit_all(
+    alloc: Global,
+    control: &mut Control,
+    inverses: &mut Log<Inverse>,
+    edits: Vec<Edit>,
+) -> Result<(), AllocError>
+    requires room { HaveRoom edits.items (plain_control control.old) }
+    requires can_rewind { CanRewind inverses.old control.old }
+    ensures changed { OnOk result (plain_control control.new
+        ≡ changed edits.items (plain_control control.old)) }
+    ensures past { past_of inverses.new control.new ≡ past_of inverses.old control.old }
+    ensures can_rewind { CanRewind inverses.new control.new }
+{
+    for edit in edits {
+        edit_logged(alloc, control, inverses, edit)?;
+    }
+    Ok(())
+}
+
+/// Puts another control and logs what takes that back. When out of memory, the way back stays.
+fn become_logged(
+    alloc: Global,
+    control: &mut Control,
+    inverses: &mut Log<Inverse>,
+    next: Control,
+) -> Result<(), AllocError>
+    requires can_rewind { CanRewind inverses.old control.old }
+    ensures changed { OnOk result (control.new ≡ next) }
+    ensures past { past_of inverses.new control.new ≡ past_of inverses.old control.old }
+    ensures can_rewind { CanRewind inverses.new control.new }
+{
+    let inverse = become_control(alloc, control, next)?;
+    match inverses.push(inverse) {
+        Ok(()) => Ok(()),
+        Err(failed) => {
+            revert(control, failed.value);
+            Err(AllocError)
+        }
+    }
+}
+
+/// Goes back to where the latest change began. It takes no memory.
+fn rewind(control: &mut Control, inverses: &mut Log<Inverse>)
+    requires can_rewind { CanRewind inverses.old control.old }
+    requires stepped { 0 < length (past_of inverses.old control.old) }
+    ensures past { plain_control control.new ∷ past_of inverses.new control.new
+        ≡ past_of inverses.old control.old }
+    ensures can_rewind { CanRewind inverses.new control.new }
+{
+    for _ in 0..inverses.len() {
+        match inverses.pop() {
+            Some(Inverse::Began) => return,
+            Some(inverse) => revert(control, inverse),
+            None => unreachable!(),
+        }
+    }
+    unreachable!()
+}
+
+impl Trail {
+    /// The trail of a worker that is idle and made no step. It takes no memory.
+    pub fn new(alloc: Global) -> Trail
+        ensures { result ≡ record { now = plain.Idle; past = [] } }
+    {
+        Trail {
+            control: Control::Idle,
+            inverses: Log::new(alloc),
+        }
+    }
+
+    /// The trail of a worker that has this control and made no step. It takes no memory.
+    pub fn of(alloc: Global, control: Control) -> Trail
+        ensures { result ≡ record { now = plain_control control; past = [] } }
+    {
+        Trail {
+            control,
+            inverses: Log::new(alloc),
+        }
+    }
+
+    /// A plain copy of the control now; its only error is out of memory.
+    pub fn plain(&self, alloc: Global) -> Result<PlainControl, AllocError>
+        ensures { IfOk result (λ control. control ≡ self.now.now) }
+    {
+        plain_of(alloc, &self.control)
+    }
+
+    /// The control now.
+    pub fn control(&self) -> &Control
+        ensures { plain_control result.now ≡ self.now.now }
+    {
+        &self.control
+    }
+
+    /// Makes a step of edits, in place. When out of memory, nothing changes.
+    pub fn step(&mut self, alloc: Global, edits: Seq<Edit>) -> Result<(), AllocError>
+        requires { HaveRoom edits self.old.now }
+        ensures stepped { OnOk result (self.new ≡ stepped edits self.old) }
+        ensures unchanged_on_error { OnErr result (self.new ≡ self.old) }
+    {
+        self.inverses.push(Inverse::Began)?;
+        let edits = edits.into_vec();
+        match edit_all(alloc, &mut self.control, &mut self.inverses, edits) {
+            Ok(()) => Ok(()),
+            Err(error) => {
+                rewind(&mut self.control, &mut self.inverses);
+                Err(error)
+            }
+        }
+    }
+
+    /// Puts another control, as a FORK does for a member. When out of memory, nothing changes.
+    pub fn become_other(&mut self, alloc: Global, next: &PlainControl) -> Result<(), AllocError>
+        ensures became { OnOk result (self.new ≡ became next.now self.old) }
+        ensures unchanged_on_error { OnErr result (self.new ≡ self.old) }
+    {
+        let next = control_of(alloc, next)?;
+        self.inverses.push(Inverse::Began)?;
+        match become_logged(alloc, &mut self.control, &mut self.inverses, next) {
+            Ok(()) => Ok(()),
+            Err(error) => {
+                rewind(&mut self.control, &mut self.inverses);
+                Err(error)
+            }
+        }
+    }
+
+    /// Takes the latest change that stands back, in place. It takes no memory.
+    pub fn undo(&mut self)
+        requires { 0 < length self.old.past }
+        ensures { self.new ≡ undone self.old }
+    {
+        rewind(&mut self.control, &mut self.inverses);
+    }
+}
