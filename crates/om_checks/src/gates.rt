@@ -4,7 +4,7 @@ ghost use Rattle.std.specs.Prelude.{◌≡◌, ◌++◌, ◌∷◌, [], IfOk, ve
 
 use crate::orders::one_look;
 use om_book::{CallError, Command, Reply};
-use om_drive::{Crew, Debuggee, Gate, Order, drive_over};
+use om_drive::{Debuggee, Gate, Order, drive_over};
 use om_session::Receipt;
 use om_undo::StepReply;
 use std::alloc::{AllocError, Global};
@@ -110,12 +110,10 @@ pub(crate) fn both_are_inside_at_once<R: Threads + Wait + Sync>(
     alloc: Global,
 ) -> Result<bool, AllocError> {
     let (zero, one) = (AtomicBool::new(false), AtomicBool::new(false));
-    let crew = Crew {
-        debuggees: fakes(alloc, &zero, &one)?,
-        gates: gates(alloc, &one)?,
-    };
+    let fakes = fakes(alloc, &zero, &one)?;
+    let gates = gates(alloc, &one)?;
     let orders = orders(alloc)?;
-    let driven = drive_over(rt, alloc, crew, orders.as_slice());
+    let driven = drive_over(rt, fakes, gates, orders.as_slice());
     let in_time = driven.answers.iter().filter(|answer| !answer.late).count();
     let seen = driven.debuggees.iter().filter(|fake| fake.saw).count();
     Ok(driven.fault.is_none() && in_time == 2 && seen == 2)

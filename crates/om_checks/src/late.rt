@@ -4,7 +4,7 @@ ghost use Rattle.std.specs.Prelude.{◌≡◌, IfOk, vec_len};
 
 use crate::gates::Fake;
 use crate::orders::one_look;
-use om_drive::{Crew, Gate, Order, drive_over};
+use om_drive::{Gate, Order, drive_over};
 use std::alloc::{AllocError, Global};
 use std::sync::Wait;
 use std::sync::atomic::{AtomicBool, AtomicU64, Ordering};
@@ -32,12 +32,10 @@ pub(crate) fn answers_may_be_late<R: Threads + Wait + Sync>(
     alloc: Global,
 ) -> Result<bool, AllocError> {
     let (asked, flag) = (AtomicU64::new(0), AtomicBool::new(false));
-    let crew = Crew {
-        debuggees: one_fake(alloc, &flag)?,
-        gates: one_gate(alloc, &asked)?,
-    };
+    let fakes = one_fake(alloc, &flag)?;
+    let gates = one_gate(alloc, &asked)?;
     let orders = one_list(alloc)?;
-    let driven = drive_over(rt, alloc, crew, orders.as_slice());
+    let driven = drive_over(rt, fakes, gates, orders.as_slice());
     let late = driven
         .answers
         .iter()

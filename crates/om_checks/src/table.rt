@@ -3,7 +3,7 @@
 ghost use Rattle.std.specs.Prelude.{◌≡◌, length, vec_len};
 
 use crate::book_of_two::BookOfTwo;
-use om_drive::{Answer, Crew, Driven, Errand, Fault, Freed, Gate, Order, drive, free};
+use om_drive::{Answer, Driven, Errand, Fault, Freed, Gate, Order, drive, free};
 use om_session::{Blank, Closed, Session, Sitting};
 use std::alloc::Global;
 use std::marker::Brand;
@@ -75,15 +75,14 @@ fn drive_in<L: Sitting + Send + Sync, G: Gate + Drop + Send, R: Threads + Wait +
 {
     let Table { book, gates } = table;
     let BookOfTwo { book } = book;
-    let Ok((session, debuggees)) = Session::<L>::new(alloc, blank, book) else {
+    let Ok((session, seats)) = Session::<L>::new(alloc, blank, book) else {
         return None;
     };
-    let crew = Crew { debuggees, gates };
     let Driven {
         seats,
         answers,
         fault,
-    } = drive(rt, alloc, &session, crew, orders);
+    } = drive(&session, rt, seats, gates, orders);
     let Ok(closed) = session.close(seats) else {
         return None;
     };
@@ -117,16 +116,15 @@ fn free_in<L: Sitting + Send + Sync, G: Gate + Drop + Send, R: Threads + Wait + 
 {
     let Table { book, gates } = table;
     let BookOfTwo { book } = book;
-    let Ok((session, debuggees)) = Session::<L>::new(errand.alloc, blank, book) else {
+    let Ok((session, seats)) = Session::<L>::new(errand.alloc, blank, book) else {
         return None;
     };
-    let crew = Crew { debuggees, gates };
     let Freed {
         seats,
         done,
         full,
         fault,
-    } = free(errand.rt, errand.alloc, &session, crew, errand.rounds);
+    } = free(&session, errand.rt, seats, gates, errand.rounds);
     let Ok(closed) = session.close(seats) else {
         return None;
     };

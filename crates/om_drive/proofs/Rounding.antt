@@ -2,7 +2,7 @@
 use Rattle.std.specs.Prelude.{◌≡◌, ◌<◌, ◌+◌, ℕ, suc, ◌-◌, List, [], ◌∷◌, ◌++◌, length, map, take, slice_get, refl}
 use Rattle.std.specs.Prelude.{Result, Ok, Err, OnErr}
 use Rattle.std.proofs.Common.{sym, ◌∙◌, ap, arith, add-one, drop, get_or, drop-cons, append_assoc, append-nil}
-use Rattle.std.proofs.lemmas.List.{take-append-drop, map-append}
+use Rattle.std.proofs.lemmas.List.{take-append-drop, take_all, map-append}
 use Rattle.om_drive.specs.declared.order.Answer.{Answer}
 use Rattle.om_drive.specs.Rounds.{answer_number, listed, round_at, rounds, Part, Begins}
 use Rattle.om_drive.specs.declared.order.Order.{Order}
@@ -75,3 +75,26 @@ begins_taken old new due n e b =
         left = b.1.left ∙ ap (λ xs. xs ++ b.0) (sym b.1.added ∙ parted) ∙ append_assoc (map answer_number new) rest b.0;
       },
     )
+
+-- what was gathered stands behind what was there
+gathered : (old new taken : List Answer) (numbers : List ℕ) (n : ℕ) → new ≡ old ++ taken
+    → map answer_number taken ≡ take n numbers → map answer_number new ≡ map answer_number old ++ take n numbers
+gathered old new taken numbers n e is = ap (λ xs. map answer_number xs) e ∙ map-append answer_number old taken
+    ∙ ap (λ xs. map answer_number old ++ xs) is
+
+pub gathered_all : (old new taken : List Answer) (numbers : List ℕ) (n : ℕ) → new ≡ old ++ taken
+    → map answer_number taken ≡ take n numbers → n ≡ length numbers
+    → map answer_number new ≡ map answer_number old ++ numbers
+gathered_all old new taken numbers n e is all = gathered old new taken numbers n e is
+    ∙ ap (λ xs. map answer_number old ++ xs) (take_all n numbers (omega (arith, all)))
+
+pub gathered_some : (old new taken : List Answer) (numbers : List ℕ) (n : ℕ) → new ≡ old ++ taken
+    → map answer_number taken ≡ take n numbers → Begins (map answer_number old) (map answer_number new) numbers
+gathered_some old new taken numbers n e is = (
+  drop n numbers,
+  record {
+    text = take n numbers;
+    added = gathered old new taken numbers n e is;
+    left = sym (take-append-drop n numbers);
+  },
+)

@@ -1,45 +1,83 @@
-//! The comparison of answers with the receipts of their seats.
+//! The comparison of answers with the receipts of their seats, in one walk.
 
-ghost use Rattle.std.specs.Prelude.{◌≡◌, ◌≤◌, ℕ, IsTrue, All, length, take, vec_len};
-ghost use Rattle.om_drive.specs.Backing.{Has, MadeFrom, IsMade, IsBacked};
+ghost use Rattle.std.specs.Prelude.{◌≡◌, ◌↔◌, ◌≤◌, IsTrue, IfSome, IfNone, Some, false, length, slice_get, take, drop, vec_len};
+ghost use Rattle.om_drive.specs.Backing.{Has, Turn, turn_of, turns_at, in_turns, IsReceipted, IsBacked, Keeps, Passes};
 
 use crate::order::{Answer, Order};
+use crate::rounds::{most_rounds, order_at};
 use om_book::{Command, Reply};
 use om_session::{Receipt, Seat, Sitting};
 
-/// Whether the receipt of a call is among these.
-#[tactic(auto, using(crate::proofs::Backed::has_at))]
-fn has_receipt(receipts: &[Receipt], place: u64, command: &Command, reply: &Reply) -> bool
-    ensures { IsTrue result → Has receipts.now
-        (record { place = place; command = command.now; reply = reply.now }) }
+/// Where the receipt of a call lies; it is looked for at `mark` first.
+#[tactic(auto, using(crate::proofs::Backed::all_more, crate::proofs::Backed::all_of, crate::proofs::Backed::none_there))]
+fn found_at(
+    receipts: &[Receipt],
+    mark: usize,
+    place: u64,
+    command: &Command,
+    reply: &Reply,
+) -> Option<usize>
+    ensures found { IfSome result (λ at. slice_get receipts.now at
+        ≡ Some (record { place = place; command = command.now; reply = reply.now })) }
+    ensures none { IfNone result (¬ Has receipts.now
+        (record { place = place; command = command.now; reply = reply.now })) }
 {
-    for receipt in receipts {
-        if receipt.is_of(place, command, reply) {
-            return true;
+    if mark < receipts.len() && receipts[mark].is_of(place, command, reply) {
+        return Some(mark);
+    }
+    for i in 0..receipts.len() {
+        if receipts[i].is_of(place, command, reply) {
+            return Some(i);
         }
     }
-    false
+    None
 }
 
-/// Whether a seat has the receipt of the call that an order of this number asked for.
-fn is_made_from(
-    orders: &Vec<Order>,
+/// Whether there is the receipt of an order's command with this reply. The mark goes behind it.
+fn is_receipted(
     receipts: &[Receipt],
-    number: u64,
-    place: u64,
+    mark: &mut usize,
+    order: &Order,
+    place: Option<u64>,
     reply: &Reply,
 ) -> bool
-    ensures { IsTrue result → MadeFrom orders.now.items receipts.now number place reply.now }
+    ensures { IsTrue result ↔ IsReceipted (record { receipts = receipts.now; order = order.now })
+        place reply.now }
 {
-    for order in orders {
-        if order.number == number && has_receipt(receipts, place, &order.command, reply) {
-            return true;
-        }
-    }
-    false
+    let Some(place) = place else {
+        return false;
+    };
+    let Some(at) = found_at(receipts, *mark, place, &order.command, reply) else {
+        return false;
+    };
+    *mark = at.saturating_add(1);
+    true
 }
 
-/// What the answers are compared with: the seats, each with the orders of its list.
+/// Whether an answer is that of an order, and has its receipt where it has a reply.
+fn is_backed(receipts: &[Receipt], mark: &mut usize, order: &Order, answer: &Answer) -> bool
+    ensures { IsTrue result
+        ↔ IsBacked (record { receipts = receipts.now; order = order.now }) answer.now }
+{
+    if answer.number != order.number {
+        return false;
+    }
+    match &answer.reply {
+        Ok(reply) => is_receipted(receipts, mark, order, answer.place, reply),
+        Err(_) => true,
+    }
+}
+
+/// Answers that are compared: those in front already, and kept.
+#[derive(Drop)]
+pub(crate) struct Walk {
+    pub(crate) answers: Vec<Answer>,
+    at: usize,
+    /// Whether an answer was left out.
+    pub(crate) strange: bool,
+}
+
+/// What answers are compared with: the seats, each with the orders of its list.
 #[derive(Drop)]
 pub(crate) struct Rows<'a, L: Sitting> {
     pub(crate) seats: &'a [Seat<L>],
@@ -47,53 +85,100 @@ pub(crate) struct Rows<'a, L: Sitting> {
     pub(crate) ghost paired: { length orders.now ≡ length seats.now },
 }
 
-/// Whether some seat has the receipt of such a call.
-#[tactic(auto, using(crate::proofs::Backed::is_made_at))]
-fn is_made<L: Sitting>(rows: &Rows<'_, L>, number: u64, place: u64, reply: &Reply) -> bool
-    ensures { IsTrue result → IsMade (λ o. o.items) rows.now.seats.now rows.now.orders.now
-        number place reply.now }
-{
-    for i in 0..rows.seats.len() {
-        if is_made_from(
-            &rows.orders[i],
-            rows.seats[i].receipts(),
-            number,
-            place,
-            reply,
-        ) {
-            return true;
+impl Walk {
+    /// Compares the next answer with an order and the receipts of its seat, and keeps it or leaves
+    /// it out.
+    #[tactic(auto, using(crate::proofs::Backed::passes_kept, crate::proofs::Backed::passes_without, crate::proofs::Backed::passes_end))]
+    fn take_turn(&mut self, receipts: &[Receipt], mark: &mut usize, order: &Order)
+        requires { self.old.at ≤ vec_len self.old.answers }
+        ensures passes { Passes (turn_of receipts.now (Some order.now))
+            self.old.answers.items self.old.at self.new.answers.items self.new.at }
+        ensures within { self.new.at ≤ vec_len self.new.answers }
+        ensures same { self.new.strange ≡ false → (self.old.strange ≡ false)
+            × (self.new.answers.items ≡ self.old.answers.items) }
+    {
+        if self.at >= self.answers.len() {
+            return;
+        }
+        if is_backed(receipts, mark, order, &self.answers[self.at]) {
+            self.at += 1;
+        } else {
+            drop(self.answers.remove(self.at));
+            self.strange = true;
         }
     }
-    false
-}
 
-/// Whether an answer that has a reply has its receipt.
-fn is_backed<L: Sitting>(rows: &Rows<'_, L>, answer: &Answer) -> bool
-    ensures { IsTrue result
-        → IsBacked (λ o. o.items) rows.now.seats.now rows.now.orders.now answer.now }
-{
-    let Ok(reply) = &answer.reply else {
-        return true;
-    };
-    let Some(place) = answer.place else {
-        return false;
-    };
-    is_made(rows, answer.number, place, reply)
-}
-
-/// Keeps the answers before the first without its receipt, and says whether these are all.
-#[tactic(auto, using(crate::proofs::Backed::all_more, crate::proofs::Backed::all_of))]
-pub(crate) fn keep_backed<L: Sitting>(rows: &Rows<'_, L>, answers: &mut Vec<Answer>) -> bool
-    ensures backed { All (IsBacked (λ o. o.items) rows.now.seats.now rows.now.orders.now)
-        answers.new.items }
-    ensures beginning { (n : ℕ) × (answers.new.items ≡ take n answers.old.items) }
-    ensures all { IsTrue result → answers.new.items ≡ answers.old.items }
-{
-    for i in 0..answers.len() {
-        if !is_backed(rows, &answers[i]) {
-            answers.truncate(i);
-            return false;
+    /// Takes a turn where there is an order.
+    #[tactic(auto, using(crate::proofs::Backed::passes_none))]
+    fn take_turn_if(&mut self, receipts: &[Receipt], mark: &mut usize, order: Option<Order>)
+        requires { self.old.at ≤ vec_len self.old.answers }
+        ensures passes { Passes (turn_of receipts.now order)
+            self.old.answers.items self.old.at self.new.answers.items self.new.at }
+        ensures within { self.new.at ≤ vec_len self.new.answers }
+        ensures same { self.new.strange ≡ false → (self.old.strange ≡ false)
+            × (self.new.answers.items ≡ self.old.answers.items) }
+    {
+        if let Some(order) = order {
+            self.take_turn(receipts, mark, &order);
         }
     }
-    true
+
+    /// Takes the turns of a round. Each seat has a mark, behind its receipt that was found last.
+    fn take_round<L: Sitting>(&mut self, rows: &Rows<'_, L>, marks: &mut [usize], round: usize)
+        requires within { self.old.at ≤ vec_len self.old.answers }
+        requires marks { length marks.old ≡ length rows.now.seats.now }
+        ensures passes { Passes
+            (turns_at (λ o. o.items) round rows.now.seats.now rows.now.orders.now)
+            self.old.answers.items self.old.at self.new.answers.items self.new.at }
+        ensures within { self.new.at ≤ vec_len self.new.answers }
+        ensures same { self.new.strange ≡ false → (self.old.strange ≡ false)
+            × (self.new.answers.items ≡ self.old.answers.items) }
+        ensures marks { length marks.new ≡ length marks.old }
+    {
+        for i in 0..rows.seats.len() {
+            self.take_turn_if(
+                rows.seats[i].receipts(),
+                &mut marks[i],
+                order_at(&rows.orders[i], round),
+            );
+        }
+    }
+
+    /// Leaves out the answers that no order is left for.
+    fn end(&mut self)
+        requires { self.old.at ≤ vec_len self.old.answers }
+        ensures kept { self.new.answers.items ≡ take self.old.at self.old.answers.items }
+        ensures same { self.new.strange ≡ false → (self.old.strange ≡ false)
+            × (self.new.answers.items ≡ self.old.answers.items) }
+    {
+        if self.at < self.answers.len() {
+            self.answers.truncate(self.at);
+            self.strange = true;
+        }
+    }
+}
+
+/// Keeps the answers that have their receipts, and leaves out each other one, and that alone.
+#[tactic(auto, using(crate::proofs::Backed::keeps_all))]
+pub(crate) fn keep_backed<L: Sitting>(
+    rows: &Rows<'_, L>,
+    marks: &mut [usize],
+    answers: Vec<Answer>,
+) -> Walk
+    requires { length marks.old ≡ length rows.now.seats.now }
+    ensures kept { Keeps (in_turns (λ o. o.items) rows.now.seats.now rows.now.orders.now)
+        answers.items result.answers.items }
+    ensures all { result.strange ≡ false → result.answers.items ≡ answers.items }
+{
+    let mut walk = Walk {
+        answers,
+        at: 0,
+        strange: false,
+    };
+    let most = most_rounds(rows.orders);
+    for round in 0..most {
+        walk.take_round(rows, marks, round);
+    }
+    walk.end();
+    walk
 }

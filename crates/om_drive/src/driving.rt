@@ -12,14 +12,6 @@ use std::snapshot::Snapshot;
 use std::sync::Wait;
 use std::thread::{Promise, PromisedHandle, Scope, Threads, scope, scope_env};
 
-/// What is driven, with a gate for each.
-#[derive(Drop)]
-pub struct Crew<D, G> {
-    pub debuggees: Vec<D>,
-    pub gates: Vec<G>,
-    pub ghost paired: { vec_len gates ≡ vec_len debuggees },
-}
-
 /// What was driven, and what came of it.
 #[derive(Drop)]
 pub struct DrivenOver<D: Debuggee + Drop> {
@@ -32,23 +24,25 @@ pub struct DrivenOver<D: Debuggee + Drop> {
 
 /// Carries orders to debuggees, each in a thread of its own, and brings the answers back.
 ///
-/// In a round each debuggee gets the next order of its list, and then one answer comes from each.
+/// There is a gate and a list of orders for each debuggee. In a round each debuggee gets the next
+/// order of its list, and then one answer comes from each.
 /// Without a fault each order has one answer, in this order; with one, those before the fault. The
 /// debuggees always come back in their places.
 pub fn drive_over<G: Gate + Drop + Send, D: Debuggee + Drop + Send, R: Threads + Wait + Sync>(
     rt: &R,
-    alloc: Global,
-    crew: Crew<D, G>,
+    debuggees: Vec<D>,
+    gates: Vec<G>,
     orders: &[Vec<Order>],
 ) -> DrivenOver<D>
-    requires { length orders.now ≡ vec_len crew.debuggees }
-    ensures back { map D.place result.debuggees.items ≡ map D.place crew.debuggees.items }
+    requires gates { vec_len gates ≡ vec_len debuggees }
+    requires lists { length orders.now ≡ vec_len debuggees }
+    ensures back { map D.place result.debuggees.items ≡ map D.place debuggees.items }
     ensures part { Begins [] (map answer_number result.answers.items)
         (in_rounds (λ o. o.items) orders.now) }
     ensures all { result.fault ≡ None → map answer_number result.answers.items
         ≡ in_rounds (λ o. o.items) orders.now }
 {
-    let Crew { debuggees, gates } = crew;
+    let alloc = *debuggees.allocator();
     let Ok(back) = Vec::with_capacity(alloc, debuggees.len()) else {
         return DrivenOver {
             debuggees,

@@ -1,10 +1,11 @@
 //! Free runs: all workers step at once, each in a thread of its own.
 
-ghost use Rattle.std.specs.Prelude.{◌≡◌, ◌≤◌, IfOk, vec_len};
+ghost use Rattle.std.specs.Prelude.{◌≡◌, ◌≤◌, IfOk, IfErr, vec_len};
+ghost use Rattle.om_session.specs.Seats.{seats_below};
 
-use crate::{Crew, Freed, Gate, free};
+use crate::{Freed, Gate, free};
 use om_book::Book;
-use om_session::{Blank, Closed, NotOpened, Session, Sitting};
+use om_session::{Blank, Closed, NotOpened, Seat, Session, Sitting};
 use std::alloc::{AllocError, Global};
 use std::sync::Wait;
 use std::thread::Threads;
@@ -50,6 +51,24 @@ pub(crate) fn open_gates(alloc: Global, workers: u8) -> Result<Vec<Open>, AllocE
     Ok(gates)
 }
 
+/// Opens a session over a book. It has as many seats as parts.
+#[tactic(auto, using(crate::proofs::Freeing::seats_count))]
+fn opened<L: Sitting>(
+    alloc: Global,
+    blank: Blank,
+    book: Book,
+) -> Result<(Session<L>, Vec<Seat<L>>), NotOpened>
+    requires name { blank.ledger.name ≡ L.name }
+    requires parts { blank.ledger.parts ≡ L.parts }
+    requires opened { book ≡ L.opened }
+    requires workers { book.start.workers ≡ L.workers }
+    ensures seats { IfOk result (λ r. r.1.items ≡ seats_below L.parts) }
+    ensures many { IfOk result (λ r. vec_len r.1 ≡ L.parts) }
+    ensures back { IfErr result (λ e. e.book ≡ book) }
+{
+    Session::<L>::new(alloc, blank, book)
+}
+
 /// Runs freely through a session over a book. Whether a worker found no room for a record; or
 /// there was no memory, or no thread.
 #[tactic(auto, using(crate::proofs::Freeing::seats_differ, crate::proofs::Freeing::seats_count, crate::proofs::Freeing::as_many_back))]
@@ -68,17 +87,16 @@ pub(crate) fn run_through<L: Sitting + Send + Sync, R: Threads + Wait + Sync>(
     ensures start { result.0.start ≡ book.start }
     ensures before { result.0.before ≡ book.before }
 {
-    let (session, debuggees) = match Session::<L>::new(errand.alloc, blank, book) {
+    let (session, seats) = match opened::<L>(errand.alloc, blank, book) {
         Ok(opened) => opened,
         Err(NotOpened { book }) => return (book, Err(AllocError)),
     };
-    let crew = Crew { debuggees, gates };
     let Freed {
         seats,
         full,
         fault,
         ..
-    } = free(errand.rt, errand.alloc, &session, crew, errand.rounds);
+    } = free(&session, errand.rt, seats, gates, errand.rounds);
     match session.close(seats) {
         Ok(Closed { book, .. }) => match fault {
             None => (book, Ok(full)),

@@ -4,7 +4,6 @@ ghost use Rattle.std.specs.Prelude.{◌≡◌, ◌<◌, ◌≤◌, ◌+◌, ◌*
 ghost use Rattle.om_session.specs.Standing.{number_of};
 ghost use Rattle.om_drive.specs.Steps.{steps_in, steps_of};
 
-use crate::driving::Crew;
 use crate::order::Fault;
 use crate::rounds::push_within;
 use crate::runner::{Ran, Runner};
@@ -12,7 +11,6 @@ use crate::sitter::{sit_down, stand_up};
 use crate::worker::{Debuggee, Gate};
 use om_book::CallError;
 use om_session::{Seat, Session, Sitting};
-use std::alloc::Global;
 use std::snapshot::Snapshot;
 use std::sync::Wait;
 use std::thread::{Promise, PromisedHandle, Scope, Threads, scope, scope_env};
@@ -31,27 +29,25 @@ pub struct Freed<L: Sitting> {
 }
 
 /// Lets the workers of a session run freely, each in a thread of its own through its seat: the
-/// first seat drives worker 0, and so on.
+/// first seat drives worker 0, and so on. There is a gate for each seat.
 ///
 /// In each of its rounds a worker makes its next step. Where that waits at a barrier or for tasks,
 /// it asks which tasks are ready and starts the first. A worker goes on after a step that is not
 /// made, and stops where the journal is full. The seats always come back in their places.
 pub fn free<L: Sitting + Send + Sync, G: Gate + Drop + Send, R: Threads + Wait + Sync>(
-    rt: &R,
-    alloc: Global,
     session: &Session<L>,
-    crew: Crew<Seat<L>, G>,
+    rt: &R,
+    mut seats: Vec<Seat<L>>,
+    gates: Vec<G>,
     rounds: u32,
 ) -> Freed<L>
-    requires { vec_len crew.debuggees ≤ 64 }
-    ensures back { map number_of result.seats.items ≡ map number_of crew.debuggees.items }
+    requires gates { vec_len gates ≡ vec_len seats }
+    requires few { vec_len seats ≤ 64 }
+    ensures back { map number_of result.seats.items ≡ map number_of seats.items }
     ensures done { sum_by steps_of result.seats.items
-        ≡ sum_by steps_of crew.debuggees.items + result.done }
+        ≡ sum_by steps_of seats.items + result.done }
 {
-    let Crew {
-        debuggees: mut seats,
-        gates,
-    } = crew;
+    let alloc = *seats.allocator();
     let Ok(mut sitters) = Vec::with_capacity(alloc, seats.len()) else {
         return Freed {
             seats,
@@ -61,11 +57,7 @@ pub fn free<L: Sitting + Send + Sync, G: Gate + Drop + Send, R: Threads + Wait +
         };
     };
     sit_down(session, alloc, &mut seats, &mut sitters);
-    let crew = Crew {
-        debuggees: sitters,
-        gates,
-    };
-    let (mut sitters, tally) = free_over(rt, alloc, crew, rounds);
+    let (mut sitters, tally) = free_over(rt, sitters, gates, rounds);
     stand_up(&mut sitters, &mut seats);
     let Tally { done, full, fault } = tally;
     Freed {
@@ -79,22 +71,22 @@ pub fn free<L: Sitting + Send + Sync, G: Gate + Drop + Send, R: Threads + Wait +
 /// Lets a worker of each debuggee run freely, and gives the debuggees back in their places.
 fn free_over<G: Gate + Drop + Send, D: Debuggee + Drop + Send, R: Threads + Wait + Sync>(
     rt: &R,
-    alloc: Global,
-    crew: Crew<D, G>,
+    debuggees: Vec<D>,
+    gates: Vec<G>,
     rounds: u32,
 ) -> (Vec<D>, Tally)
-    requires { vec_len crew.debuggees ≤ 64 }
-    ensures back { map D.place result.0.items ≡ map D.place crew.debuggees.items }
+    requires gates { vec_len gates ≡ vec_len debuggees }
+    requires few { vec_len debuggees ≤ 64 }
+    ensures back { map D.place result.0.items ≡ map D.place debuggees.items }
     ensures done { sum_by (λ d. steps_in (D.made d)) result.0.items
-        ≡ sum_by (λ d. steps_in (D.made d)) crew.debuggees.items + result.1.done }
+        ≡ sum_by (λ d. steps_in (D.made d)) debuggees.items + result.1.done }
 {
-    let Crew { debuggees, gates } = crew;
     let tally = Tally {
         done: 0,
         full: false,
         fault: None,
     };
-    let Ok(back) = Vec::with_capacity(alloc, debuggees.len()) else {
+    let Ok(back) = Vec::with_capacity(*debuggees.allocator(), debuggees.len()) else {
         return (debuggees, tally.broken_off());
     };
     let line = Line {

@@ -14,7 +14,7 @@ mod seats;
 mod sitter;
 mod worker;
 
-pub use driving::{Crew, DrivenOver, drive_over};
+pub use driving::{DrivenOver, drive_over};
 pub use free_run::{Count, Errand};
 pub use freely::{Freed, free};
 pub use order::{Answer, Fault, Order};

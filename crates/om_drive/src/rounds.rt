@@ -5,7 +5,7 @@ ghost use Rattle.om_drive.specs.Rounds.{answer_number, listed, round_at, longest
 
 use crate::order::{Answer, Fault, Order};
 use crossbeam_channel::{Receiver, SendError, Sender};
-use std::alloc::Global;
+use std::alloc::{AllocError, Global};
 use std::sync::Wait;
 
 /// The answers of a round.
@@ -29,6 +29,7 @@ pub fn gather<R: Wait>(
     requires { length receivers.now ≡ length numbers.now }
     ensures answered { map answer_number result.answers.items
         ≡ take (vec_len result.answers) numbers.now }
+    ensures most { vec_len result.answers ≤ length numbers.now }
     ensures all { result.fault ≡ None → vec_len result.answers ≡ length numbers.now }
 {
     let mut answers = Vec::new(alloc);
@@ -84,28 +85,58 @@ pub(crate) fn push_within<T: Drop>(items: &mut Vec<T>, item: T)
     };
 }
 
-/// Takes the answer of an order, where there is one.
-fn await_next<R: Wait>(
-    rt: &R,
-    receiver: &Receiver<Answer>,
-    order: Option<Order>,
-    answers: &mut Vec<Answer>,
-) -> Result<(), Fault>
-    ensures ok { OnOk result (map answer_number answers.new.items
-        ≡ map answer_number answers.old.items ++ listed order) }
-    ensures err { OnErr result (answers.new.items ≡ answers.old.items) }
-{
-    let Some(order) = order else {
-        return Ok(());
-    };
-    await_one(rt, receiver, order.number, answers)
-}
-
 /// The order that a list has in a round.
-fn order_at(list: &Vec<Order>, round: usize) -> Option<Order>
+pub(crate) fn order_at(list: &Vec<Order>, round: usize) -> Option<Order>
     ensures { result ≡ slice_get list.now.items round }
 {
     list.get(round).copied()
+}
+
+/// Where the answers of a round are awaited, and their numbers.
+#[derive(Drop)]
+struct Awaited {
+    receivers: Vec<Receiver<Answer>>,
+    numbers: Vec<u64>,
+}
+
+/// What is awaited of the lists that have an order in this round.
+fn awaited_in(
+    alloc: Global,
+    receivers: &[Receiver<Answer>],
+    orders: &[Vec<Order>],
+    round: usize,
+) -> Result<Awaited, AllocError>
+    requires { length receivers.now ≡ length orders.now }
+    ensures numbers { IfOk result (λ awaited. awaited.numbers.items
+        ≡ round_at (λ o. o.items) round orders.now) }
+    ensures paired { IfOk result (λ awaited. vec_len awaited.receivers
+        ≡ vec_len awaited.numbers) }
+{
+    let mut awaited = Awaited {
+        receivers: Vec::new(alloc),
+        numbers: Vec::new(alloc),
+    };
+    for i in 0..orders.len() {
+        awaited.add(&receivers[i], order_at(&orders[i], round))?;
+    }
+    Ok(awaited)
+}
+
+impl Awaited {
+    /// Awaits the answer of an order, where there is one.
+    fn add(&mut self, receiver: &Receiver<Answer>, order: Option<Order>) -> Result<(), AllocError>
+        requires { vec_len self.old.receivers ≡ vec_len self.old.numbers }
+        ensures numbers { OnOk result (self.new.numbers.items
+            ≡ self.old.numbers.items ++ listed order) }
+        ensures paired { OnOk result (vec_len self.new.receivers ≡ vec_len self.new.numbers) }
+    {
+        let Some(order) = order else {
+            return Ok(());
+        };
+        self.receivers.push(receiver.clone()?)?;
+        self.numbers.push(order.number)?;
+        Ok(())
+    }
 }
 
 /// Takes an answer for each list that has an order in this round.
@@ -123,10 +154,48 @@ fn take_round<R: Wait>(
         (map answer_number answers.new.items)
         (round_at (λ o. o.items) round orders.now)) }
 {
-    for i in 0..orders.len() {
-        await_next(rt, &receivers[i], order_at(&orders[i], round), answers)?;
+    let Ok(awaited) = awaited_in(*answers.allocator(), receivers, orders, round) else {
+        return Err(Fault::Memory);
+    };
+    take_all(rt, awaited, answers)
+}
+
+/// Takes all answers that are awaited.
+#[tactic(auto, using(crate::proofs::Rounding::begins_none, crate::proofs::Rounding::gathered_all, crate::proofs::Rounding::gathered_some))]
+fn take_all<R: Wait>(rt: &R, awaited: Awaited, answers: &mut Vec<Answer>) -> Result<(), Fault>
+    requires { vec_len awaited.receivers ≡ vec_len awaited.numbers }
+    ensures ok { OnOk result (map answer_number answers.new.items
+        ≡ map answer_number answers.old.items ++ awaited.numbers.items) }
+    ensures err { OnErr result (Begins (map answer_number answers.old.items)
+        (map answer_number answers.new.items) awaited.numbers.items) }
+{
+    if answers.reserve(awaited.numbers.len()).is_err() {
+        return Err(Fault::Memory);
     }
-    Ok(())
+    let Gathered {
+        answers: taken,
+        fault,
+    } = gather(
+        rt,
+        *answers.allocator(),
+        awaited.receivers.as_slice(),
+        awaited.numbers.as_slice(),
+    );
+    add_all(answers, taken);
+    match fault {
+        None => Ok(()),
+        Some(fault) => Err(fault),
+    }
+}
+
+/// Adds answers where there is room for them.
+fn add_all(answers: &mut Vec<Answer>, mut taken: Vec<Answer>)
+    requires { vec_len answers.old + vec_len taken ≤ vec_capacity answers.old }
+    ensures { answers.new.items ≡ answers.old.items ++ taken.items }
+{
+    let Ok(()) = answers.append(&mut taken) else {
+        unreachable!();
+    };
 }
 
 /// Sends the order that each list has in this round.
@@ -151,7 +220,7 @@ fn send_round<R: Wait>(
 }
 
 /// The length of the longest list.
-fn most_rounds(orders: &[Vec<Order>]) -> usize
+pub(crate) fn most_rounds(orders: &[Vec<Order>]) -> usize
     ensures { result ≡ longest (λ o. o.items) orders.now }
 {
     let mut most = 0;

@@ -1,17 +1,17 @@
 //! Drives over the seats of a session.
 
-ghost use Rattle.std.specs.Prelude.{◌≡◌, ℕ, [], None, All, length, vec_len, map, take};
+ghost use Rattle.std.specs.Prelude.{◌≡◌, [], None, Some, All, IfOk, length, vec_len, map};
 ghost use Rattle.om_session.specs.Standing.{number_of};
-ghost use Rattle.om_drive.specs.Rounds.{answer_number, in_rounds, Begins};
-ghost use Rattle.om_drive.specs.Backing.{IsBacked};
+ghost use Rattle.om_drive.specs.Rounds.{answer_number, in_rounds};
+ghost use Rattle.om_drive.specs.Backing.{AreKept, in_turns, IsOfOne, Keeps};
 
-use crate::backing::{Rows, keep_backed};
-use crate::driving::{Crew, DrivenOver, drive_over};
+use crate::backing::{Rows, Walk, keep_backed};
+use crate::driving::{DrivenOver, drive_over};
 use crate::order::{Answer, Fault, Order};
 use crate::sitter::{sit_down, stand_up};
 use crate::worker::Gate;
 use om_session::{Seat, Session, Sitting};
-use std::alloc::Global;
+use std::alloc::{AllocError, Global};
 use std::sync::Wait;
 use std::thread::Threads;
 
@@ -26,73 +26,111 @@ pub struct Driven<L: Sitting> {
 }
 
 /// Carries orders to the seats of a session, each in a thread of its own, and brings the answers
-/// back.
+/// back. There is a gate and a list of orders for each seat.
 ///
-/// Without a fault each order has one answer, round by round; with one, those before the fault
-/// have. Each answer with a reply has its receipt: the command of the order of its number, that
-/// reply and its place. The first for which no seat has it, and those behind it, are left out (V1).
+/// Without a fault each order has one answer, round by round. A fault breaks off the answers that
+/// come. Each answer with a reply has its receipt: its seat was told the order of its number, and
+/// has the receipt of the order's command with that reply, at the answer's place. An answer without
+/// its receipt is left out, and that one alone (V1).
+#[tactic(auto, using(crate::proofs::Backed::none_kept, crate::proofs::Backed::none_backed))]
 pub fn drive<L: Sitting + Send + Sync, G: Gate + Drop + Send, R: Threads + Wait + Sync>(
-    rt: &R,
-    alloc: Global,
     session: &Session<L>,
-    crew: Crew<Seat<L>, G>,
+    rt: &R,
+    mut seats: Vec<Seat<L>>,
+    gates: Vec<G>,
     orders: &[Vec<Order>],
 ) -> Driven<L>
-    requires { length orders.now ≡ vec_len crew.debuggees }
-    ensures back { map number_of result.seats.items ≡ map number_of crew.debuggees.items }
-    ensures part { Begins [] (map answer_number result.answers.items)
-        (in_rounds (λ o. o.items) orders.now) }
+    requires gates { vec_len gates ≡ vec_len seats }
+    requires lists { length orders.now ≡ vec_len seats }
+    ensures back { map number_of result.seats.items ≡ map number_of seats.items }
+    ensures kept { AreKept (in_rounds (λ o. o.items) orders.now)
+        (in_turns (λ o. o.items) result.seats.items orders.now) result.answers.items }
     ensures all { result.fault ≡ None → map answer_number result.answers.items
         ≡ in_rounds (λ o. o.items) orders.now }
-    ensures backed { All (IsBacked (λ o. o.items) result.seats.items orders.now)
+    ensures backed { All (IsOfOne (in_turns (λ o. o.items) result.seats.items orders.now))
         result.answers.items }
 {
-    let Crew {
-        debuggees: mut seats,
-        gates,
-    } = crew;
+    let alloc = *seats.allocator();
     let Ok(mut sitters) = Vec::with_capacity(alloc, seats.len()) else {
-        return Driven {
-            seats,
-            answers: Vec::new(alloc),
-            fault: Some(Fault::Memory),
-        };
+        return undriven(seats);
+    };
+    let Ok(marks) = zeros(alloc, seats.len()) else {
+        return undriven(seats);
     };
     sit_down(session, alloc, &mut seats, &mut sitters);
-    let crew = Crew {
-        debuggees: sitters,
-        gates,
-    };
     let DrivenOver {
         debuggees: mut sitters,
-        mut answers,
-        fault,
-    } = drive_over(rt, alloc, crew, orders);
-    stand_up(&mut sitters, &mut seats);
-    let fault = compared(seats.as_slice(), orders, &mut answers, fault);
-    Driven {
-        seats,
         answers,
         fault,
+    } = drive_over(rt, sitters, gates, orders);
+    stand_up(&mut sitters, &mut seats);
+    compared(seats, orders, marks, Came { answers, fault })
+}
+
+/// Seats that were told no order, since there was no memory.
+fn undriven<L: Sitting>(seats: Vec<Seat<L>>) -> Driven<L>
+    ensures seats { result.seats.items ≡ seats.items }
+    ensures none { result.answers.items ≡ [] }
+    ensures fault { result.fault ≡ Some Fault.Memory }
+{
+    let alloc = *seats.allocator();
+    Driven {
+        seats,
+        answers: Vec::new(alloc),
+        fault: Some(Fault::Memory),
     }
 }
 
-/// Compares the answers with the receipts. An answer without its receipt is a fault.
-fn compared<L: Sitting>(
-    seats: &[Seat<L>],
-    orders: &[Vec<Order>],
-    answers: &mut Vec<Answer>,
-    fault: Option<Fault>,
-) -> Option<Fault>
-    requires { length orders.now ≡ length seats.now }
-    ensures backed { All (IsBacked (λ o. o.items) seats.now orders.now) answers.new.items }
-    ensures beginning { (n : ℕ) × (answers.new.items ≡ take n answers.old.items) }
-    ensures none { result ≡ None → fault ≡ None }
-    ensures all { result ≡ None → answers.new.items ≡ answers.old.items }
+/// So many zeros.
+fn zeros(alloc: Global, count: usize) -> Result<Vec<usize>, AllocError>
+    ensures { IfOk result (λ zeros. vec_len zeros ≡ count) }
 {
-    let rows = Rows { seats, orders };
-    if keep_backed(&rows, answers) {
-        return fault;
+    let mut zeros = Vec::new(alloc);
+    while zeros.len() < count {
+        zeros.push(0)?;
     }
-    Some(Fault::Strange)
+    Ok(zeros)
+}
+
+/// The answers that came, and what broke them off, if something did.
+#[derive(Drop)]
+struct Came {
+    answers: Vec<Answer>,
+    fault: Option<Fault>,
+}
+
+/// Compares the answers with the receipts. An answer without its receipt is left out, which is a
+/// fault.
+#[tactic(auto, using(crate::proofs::Backed::kept_backed))]
+fn compared<L: Sitting>(
+    seats: Vec<Seat<L>>,
+    orders: &[Vec<Order>],
+    mut marks: Vec<usize>,
+    came: Came,
+) -> Driven<L>
+    requires lists { length orders.now ≡ vec_len seats }
+    requires marks { vec_len marks ≡ vec_len seats }
+    ensures seats { result.seats.items ≡ seats.items }
+    ensures kept { Keeps (in_turns (λ o. o.items) result.seats.items orders.now) came.answers.items
+        result.answers.items }
+    ensures backed { All (IsOfOne (in_turns (λ o. o.items) result.seats.items orders.now))
+        result.answers.items }
+    ensures none { result.fault ≡ None → came.fault ≡ None }
+    ensures all { result.fault ≡ None → result.answers.items ≡ came.answers.items }
+{
+    let Came { answers, fault } = came;
+    let rows = Rows {
+        seats: seats.as_slice(),
+        orders,
+    };
+    let Walk {
+        answers,
+        strange,
+        ..
+    } = keep_backed(&rows, marks.as_mut_slice(), answers);
+    Driven {
+        seats,
+        answers,
+        fault: if strange { Some(Fault::Strange) } else { fault },
+    }
 }

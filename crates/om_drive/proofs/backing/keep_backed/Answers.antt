@@ -1,28 +1,45 @@
-use Rattle.std.proofs.Common.{rules, ◌≡◌, ◌<◌, ◌≤◌, List, length, All, subst, sym, get_or, IsTrue}
+use Rattle.std.proofs.Common.{rules, ◌≡◌, ◌∙◌, ◌≤◌, ◌+◌, ◌-◌, ℕ, List, [], subst, sym, arith}
 use Rattle.om_drive.specs.declared.order.Answer.{Answer}
-use Rattle.om_drive.specs.Backing.{IsBacked}
-use Rattle.om_drive.proofs.Backed.{all_more, all_of}
+use Rattle.om_drive.specs.Backing.{Turn, turns_at, turns, in_turns, IsUnderway, Keeps}
+use Rattle.om_drive.proofs.Backed.{keeps_all, turns_rest, underway_all, underway_more}
 use Rattle.om_drive.proofs.backing.keep_backed.Goals as goal
 
-pub returns-then-not-is_backed-clause-backed : goal.returns-then-not-is_backed-clause-backed
-returns-then-not-is_backed-clause-backed g c =
-    let P : Answer → Type 0 = λ a. IsBacked (λ o. o.items) c.args.rows.now.seats.now c.args.rows.now.orders.now a in
-    let Q : List Answer → Type 0 = λ ys. All P ys in subst Q (sym c.truncate.ensures.items) c.loop-i.invariant.backed
-
-pub loop-i-preserved : goal.loop-i-preserved
-loop-i-preserved g c =
-    let P : Answer → Type 0 = λ a. IsBacked (λ o. o.items) c.args.rows.now.seats.now c.args.rows.now.orders.now a in
-    let xs = c.loop-i.answers.items in
-    let within : c.loop-i.i < length xs = search rules in
-    let is : c.index.result.now ≡ get_or xs c.loop-i.i c.index.result.now = search rules in
-    let yes : IsTrue c.is_backed.result = search rules in record {
-      same = c.loop-i.invariant.same;
-      backed = all_more P xs c.loop-i.i c.index.result.now within is c.loop-i.invariant.backed
-          (c.is_backed.ensures yes);
+pub loop-round-preserved : goal.loop-round-preserved
+loop-round-preserved g c =
+    let ss = c.args.rows.now.seats.now in
+    let vs = c.args.rows.now.orders.now in
+    let n = c.most_rounds-most.result in
+    let k = c.loop-round.round in
+    let xs = c.args.answers.items in
+    let ys = c.loop-round.walk.answers.items in
+    let at = c.loop-round.walk.at in
+    let zs = c.take_round.new.self.answers.items in
+    let to = c.take_round.new.self.at in
+    let due = in_turns (λ o. o.items) ss vs in
+    let here = turns_at (λ o. o.items) k ss vs in
+    let rest = turns (λ o. o.items) (k + 1) (n - (k + 1)) ss vs in
+    let U : List Turn → Type 0 = λ ts. IsUnderway due ts xs 0 ys at in
+    let next = turns_rest (λ o. o.items) k n ss vs c.loop-round-test.true in record {
+      underway = underway_more due here rest xs ys zs 0 at to (subst U next c.loop-round.invariant.underway)
+          c.take_round.ensures.passes;
+      within = c.take_round.ensures.within;
+      same = λ no. let now = c.take_round.ensures.same no in now.1 ∙ c.loop-round.invariant.same now.0;
+      marks = c.take_round.ensures.marks ∙ c.loop-round.invariant.marks;
     }
 
-pub returns-clause-backed : goal.returns-clause-backed
-returns-clause-backed g c =
-    let P : Answer → Type 0 = λ a. IsBacked (λ o. o.items) c.args.rows.now.seats.now c.args.rows.now.orders.now a in
-    let past : length c.loop-i.answers.items ≤ c.loop-i.i = search rules in all_of P c.loop-i.answers.items
-    c.loop-i.i past c.loop-i.invariant.backed
+pub returns-clause-kept : goal.returns-clause-kept
+returns-clause-kept g c =
+    let ss = c.args.rows.now.seats.now in
+    let vs = c.args.rows.now.orders.now in
+    let n = c.most_rounds-most.result in
+    let k = c.loop-round.round in
+    let xs = c.args.answers.items in
+    let ys = c.loop-round.walk.answers.items in
+    let at = c.loop-round.walk.at in
+    let due = in_turns (λ o. o.items) ss vs in
+    let past : n ≤ k = search rules in
+    let none : n - k ≡ 0 = omega (arith, past) in
+    let U : ℕ → Type 0 = λ m. IsUnderway due (turns (λ o. o.items) k m ss vs) xs 0 ys at in
+    let last : IsUnderway due [] xs 0 ys at = subst U none c.loop-round.invariant.underway in
+    let K : List Answer → Type 0 = λ l. Keeps due xs l in
+    subst K (sym c.end.ensures.kept) (keeps_all due xs ys at (underway_all due xs ys 0 at last))

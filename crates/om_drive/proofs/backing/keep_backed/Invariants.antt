@@ -1,9 +1,13 @@
-use Rattle.std.proofs.Common.{◌≡◌, All, take}
-use Rattle.om_drive.specs.Backing.{IsBacked}
+use Rattle.std.proofs.Common.{◌≡◌, ◌≤◌, ◌-◌, false, length, vec_len}
+use Rattle.om_drive.specs.Backing.{in_turns, turns, IsUnderway}
 use Rattle.om_drive.proofs.backing.keep_backed.Given as goal
 
-abbrev pub invariant-loop-i : goal.invariant-loop-i
-invariant-loop-i g l = record {
-  same : l.answers.items ≡ l.initial.answers.items;
-  backed : All (IsBacked (λ o. o.items) l.rows.seats.now l.rows.orders.now) (take l.i l.answers.items);
+abbrev pub invariant-loop-round : goal.invariant-loop-round
+invariant-loop-round g l = record {
+  underway : IsUnderway (in_turns (λ o. o.items) l.rows.seats.now l.rows.orders.now)
+      (turns (λ o. o.items) l.round (l.most - l.round) l.rows.seats.now l.rows.orders.now)
+      l.initial.walk.answers.items 0 l.walk.answers.items l.walk.at;
+  within : l.walk.at ≤ vec_len l.walk.answers;
+  same : l.walk.strange ≡ false → l.walk.answers.items ≡ l.initial.walk.answers.items;
+  marks : length l.marks ≡ length l.rows.seats.now;
 }

@@ -1,6 +1,5 @@
-use Rattle.std.proofs.Common.{◌≡◌, ◌∙◌, ◌+◌, ◌++◌, List, map, sum_by, ap, sym}
+use Rattle.std.proofs.Common.{◌∙◌, ◌+◌, ◌++◌, map, sum_by, ap, sym}
 use denote.Param.Send.{sendable}
-use Rattle.om_session.specs.Seats.{SeatView}
 use Rattle.om_drive.specs.Calls.{place_of}
 use Rattle.om_drive.specs.Steps.{steps_of}
 use Rattle.om_drive.proofs.Places.{numbers_same}
@@ -19,7 +18,7 @@ pub returns-clause-back : goal.returns-clause-back
 returns-clause-back g c =
     let w = g.L.Sitting.workers in
     let sat = c.free_over-sitters.result.0.items in
-    let here = c.args.crew.debuggees.items in
+    let here = c.args.seats.items in
     let up = c.stand_up.ensures.seats ∙ ap (λ xs. map (place_of w) xs ++ map (λ s. place_of w s.seat) sat)
     c.sit_down.ensures.empty in
     let down = c.sit_down.ensures.sitters ∙ ap (λ xs. map (λ s. place_of w s.seat) xs ++ map (place_of w) here)
@@ -30,7 +29,7 @@ pub returns-clause-done : goal.returns-clause-done
 returns-clause-done g c =
     let sat = c.free_over-sitters.result.0.items in
     let sitting = c.sit_down.new.sitters.items in
-    let here = c.args.crew.debuggees.items in
+    let here = c.args.seats.items in
     let up = c.stand_up.ensures.unseated ∙ ap (λ xs. xs ++ map (λ s. s.seat) sat) c.sit_down.ensures.empty in
     let down = c.sit_down.ensures.seated ∙ ap (λ xs. map (λ s. s.seat) xs ++ here) c.in-Ok.ensures.items in
     let before = seated_steps (λ s. s.seat) sitting ∙ ap (sum_by steps_of) down in
