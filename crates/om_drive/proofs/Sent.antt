@@ -9,4 +9,7 @@ use Rattle.om_drive.specs.contracts.sitter.Sitter as sitter
 
 pub sitter_send : (s : NamedLft) (L : RattleType) (g : sitting.Ghosts L.Denot) (l : ledger.Ghosts L.Denot)
     → IsSend L → IsSync L → IsSend (sitter.the_row s L g l)
-sitter_send s L g l a b = search (session_sync, seat_send, sendable) depth 40
+sitter_send s L g l a b =
+    let shared = session_sync L g l a b in
+    let sent = seat_send L g l a b in
+    search sendable depth 40

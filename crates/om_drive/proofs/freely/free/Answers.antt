@@ -1,5 +1,6 @@
 use Rattle.std.proofs.Common.{◌∙◌, ◌+◌, ◌++◌, map, sum_by, ap, sym}
 use denote.Param.Send.{sendable}
+use denote.Ref.{NamedLft}
 use Rattle.om_drive.specs.Calls.{place_of}
 use Rattle.om_drive.specs.Steps.{steps_of}
 use Rattle.om_drive.proofs.Places.{numbers_same}
@@ -10,9 +11,9 @@ use Rattle.om_drive.proofs.freely.free.Goals as goal
 -- a seat beside its session may go to another thread
 pub free_over-sitters-requires-send-D : goal.free_over-sitters-requires-send-D
 free_over-sitters-requires-send-D g c κs within =
-    let sent = c.type_bounds.send-L in
-    let shared = c.type_bounds.sync-L in
-    search (sitter_send, sendable) depth 40
+    let sent = λ (s : NamedLft).
+    sitter_send s _ g.L.Sitting g.L.Ledger c.type_bounds.send-L c.type_bounds.sync-L in
+    search (sent, sendable) depth 40
 
 pub returns-clause-back : goal.returns-clause-back
 returns-clause-back g c =
