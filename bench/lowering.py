@@ -50,7 +50,8 @@ def source(kind, size):
 
 
 def time_of(program, kind, size):
-    return seconds(program, source(kind, size) + b"\n%%\n", b"")
+    # (the last line break of the source is that in front of the mark)
+    return seconds(program, source(kind, size) + b"%%\n", b"")
 
 
 def main():

@@ -1,4 +1,4 @@
-//! Which variable a name means at an instruction of a body.
+//! The scopes of names in a body, found by a walk over its part of the tree (C17 6.2.1).
 #![tactic(auto)]
 
 mod names;
