@@ -1,6 +1,3 @@
-mod Inserted
-mod Touched
-mod ReadyNames
 pub mod Freeing
 pub mod Rounding
 pub mod Places

@@ -3,7 +3,7 @@
 ghost use Rattle.std.specs.Prelude.{◌≡◌, ◌<◌, ◌≤◌, List, nat_le, IfOk, OnOk};
 ghost use Rattle.om_book.specs.declared.command.Command.{Command};
 ghost use Rattle.om_drive.specs.RecordedCalls.{commands_of, recorded_calls, steps_made};
-ghost use Rattle.om_drive.specs.Ready.{ready_names};
+ghost use Rattle.om_undo.specs.ReadyNames.{ready_names};
 ghost use Rattle.om_drive.specs.Recorded.{started, after_look, is_full, label_of, step_reply_of, undo_reply_of, recorded_step, recorded_undo, recorded_roll};
 ghost use Rattle.om_history.specs.Cones.{reply_to_roll};
 ghost use Rattle.om_undo.specs.Machines.{rules_for, state_in};
@@ -16,7 +16,7 @@ use om_code::Program;
 use om_foot::{Name, Obj};
 use om_session::Blank;
 use om_task::Choice;
-use om_undo::laws::one_ready_list;
+use om_undo::laws::{one_ready_list, ready_names_are_ready};
 use om_undo::{Entry, Machine, RollReply, StepReply, UndoReply};
 use std::alloc::{AllocError, Global};
 use std::marker::{Brand, Model};
@@ -245,5 +245,6 @@ pub fn ready_in(alloc: Global, machine: &Machine) -> Result<Vec<Name>, AllocErro
     ensures { IfOk result (λ names. names.items ≡ ready_names machine.now) }
 {
     one_ready_list();
+    ready_names_are_ready();
     machine.ready(alloc)
 }

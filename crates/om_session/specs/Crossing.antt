@@ -5,10 +5,10 @@ use denote.Param.Send.{IsSend, IsSync, sendable}
 use Rattle.std.specs.declared.sync.ledger.Ledger as ledger
 use Rattle.std.proofs.sync.ledger.Book.TheSendSync as calls
 use Rattle.std.proofs.sync.ledger.Share.TheSendSync as share
-use Rattle.om_session.specs.Machines.{machine_send}
-use Rattle.om_session.specs.Names.{name_send, object_send}
+use Rattle.om_undo.specs.Crossing.{machine_send}
+use Rattle.om_undo.specs.Names.{name_send, object_send}
 use Rattle.om_session.specs.Replies.{step_send, undo_send, roll_send, names_send, entries_send}
-use Rattle.om_session.specs.Values.{value_send}
+use Rattle.om_undo.specs.Values.{value_send}
 use Rattle.om_book.specs.contracts.book.Book as book
 use Rattle.om_book.specs.contracts.book.JournalRecord as kept
 use Rattle.om_book.specs.contracts.command.Command as command

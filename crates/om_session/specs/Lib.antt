@@ -1,10 +1,4 @@
-pub mod Lists
-pub mod Machines
-pub mod Names
-pub mod Programs
 pub mod Replies
-pub mod Shared
-pub mod Values
 pub mod Crossing
 pub mod Seats
 pub mod Standing

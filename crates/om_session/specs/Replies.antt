@@ -6,8 +6,8 @@ use Rattle.om_cells.specs.contracts.step.Entry as entry
 use Rattle.om_history.specs.contracts.reply.RollReply as roll
 use Rattle.om_history.specs.contracts.reply.StepReply as step
 use Rattle.om_history.specs.contracts.reply.UndoReply as undo
-use Rattle.om_session.specs.Lists.{seq_send}
-use Rattle.om_session.specs.Names.{name_send, object_send}
+use Rattle.om_undo.specs.Lists.{seq_send}
+use Rattle.om_undo.specs.Names.{name_send, object_send}
 
 pub step_send : IsSend step.the_field.row
 step_send = search sendable depth 40 fits 20000

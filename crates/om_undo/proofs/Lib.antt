@@ -1,3 +1,6 @@
 mod Calm
 mod Views
 mod OneList
+mod Inserted
+mod Touched
+mod ReadyNames

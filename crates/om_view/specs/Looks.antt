@@ -13,7 +13,7 @@ use Rattle.om_replies.specs.Places.{where_text}
 use Rattle.om_replies.specs.Values.{local_text, print_text}
 use Rattle.om_task.specs.Rules.{line_in}
 use Rattle.om_undo.specs.Machines.{MachineView, state_in}
-use Rattle.om_drive.specs.Ready.{ready_names}
+use Rattle.om_undo.specs.ReadyNames.{ready_names}
 use Rattle.om_drive.specs.Recorded.{Recorded, after_look}
 use Rattle.om_view.specs.Said.{Said, unless_full}
 

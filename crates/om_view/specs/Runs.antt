@@ -15,7 +15,7 @@ use Rattle.om_undo.specs.Machines.{MachineView, state_in}
 use Rattle.om_view.specs.declared.marks.Marks.{Marks}
 use Rattle.om_view.specs.declared.runs.Moved.{Moved}
 use Rattle.om_view.specs.declared.runs.Moved.TheVariants as moved
-use Rattle.om_drive.specs.Ready.{ready_names}
+use Rattle.om_undo.specs.ReadyNames.{ready_names}
 use Rattle.om_drive.specs.Recorded.{Recorded, is_done, is_full, label_of, recorded_step, step_reply_of}
 use Rattle.om_view.specs.Said.{Said}
 use Rattle.om_view.specs.Stops.{stop_behind}

@@ -4,7 +4,7 @@ ghost use Rattle.std.specs.Prelude.{◌≡◌, ◌<◌, ◌≤◌, ◌+◌, ◌+
 ghost use Rattle.std.specs.Option.{option_copied};
 ghost use Rattle.om_cells.specs.declared.control.Control.TheVariants as controls;
 ghost use Rattle.om_cells.specs.Values.{control_in};
-ghost use Rattle.om_drive.specs.Ready.{ready_names};
+ghost use Rattle.om_undo.specs.ReadyNames.{ready_names};
 ghost use Rattle.om_replies.specs.Stops.{ran_text};
 ghost use Rattle.om_undo.specs.Machines.{state_in};
 ghost use Rattle.om_view.specs.Runs.{can_step, start_among, move_of, move_among, first_move, has_ended, stop_without_move, moved_by, left_by, moved_of, after_move, run_within};

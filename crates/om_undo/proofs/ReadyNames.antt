@@ -1,4 +1,4 @@
--- The computed list has the names of all tasks that are ready, ascending; so it is what a machine answers.
+-- The computed list has the names of all tasks that are ready, ascending.
 use Rattle.std.proofs.Common.{◌≡◌, refl, sym, ◌∙◌, ap, subst, Bool, true, false, cond, Option, None, Some, List, []}
 use Rattle.std.proofs.Common.{◌∷◌, ℕ, ◌⊎◌, inl, ⊎_elim, arith}
 use Rattle.std.specs.Prelude.{Contains, map, unwrap_or}
@@ -11,12 +11,11 @@ use Rattle.om_cells.specs.Rules.{Rules, replay_from}
 use Rattle.om_cells.specs.Values.{task_in}
 use Rattle.om_history.specs.Laws.{steps_from}
 use Rattle.om_history.specs.Runs.{label_of}
-use Rattle.om_undo.specs.Laws.{OneReadyList}
 use Rattle.om_undo.specs.Machines.{MachineView, rules_for, state_in}
-use Rattle.om_drive.specs.Ready.{inserted, ready_among, ready_names, tasks_of}
-use Rattle.om_drive.proofs.Inserted.{Ascend, inserted_ascends, inserted_has, inserted_there, inserted_keeps}
-use Rattle.om_drive.proofs.Inserted.{first_or_behind}
-use Rattle.om_drive.proofs.Touched.{replay_at}
+use Rattle.om_undo.specs.ReadyNames.{inserted, ready_among, ready_names, tasks_of}
+use Rattle.om_undo.proofs.Inserted.{Ascend, inserted_ascends, inserted_has, inserted_there, inserted_keeps}
+use Rattle.om_undo.proofs.Inserted.{first_or_behind}
+use Rattle.om_undo.proofs.Touched.{replay_at}
 
 abbrev IsReadyAt : State → List ℕ → Type 0
 IsReadyAt s n = is_ready (task_in (s (obj.Task n))) ≡ true
@@ -80,7 +79,7 @@ ready_is_touched m n ready =
     ⊎_elim (λ same. absurd (none_at_start m n (ap (λ v. is_ready (task_in v)) (sym same) ∙ ready))) (λ there. there)
     (touched_or_start (rules_for m) ls n (replay_from (rules_for m) (rules_for m).start ls) refl)
 
-names_are_ready : (m : MachineView) → AreReady (state_in m) (ready_names m)
+pub names_are_ready : (m : MachineView) → AreReady (state_in m) (ready_names m)
 unfolding ready_names
 names_are_ready m =
     let touched = tasks_of (steps_from (rules_for m) (rules_for m).start (map label_of m.history.entries)) in
@@ -92,7 +91,3 @@ names_are_ready m =
             (ready_is_touched m n ready),
       );
     }
-
-pub the_ready : (m : MachineView) (names : List (List ℕ)) → OneReadyList → AreReady (state_in m) names → names
-    ≡ ready_names m
-the_ready m names one ready = one (state_in m) names (ready_names m) ready (names_are_ready m)

@@ -11,7 +11,7 @@ use Rattle.std.proofs.lemmas.Cmp.{nat_list_cmp_total}
 use Rattle.std.proofs.lemmas.List.Elements.{Contains-append_left, Contains-append_right, Contains-append_cases}
 use Rattle.std.proofs.lemmas.List.Elements.{Contains-push, Contains-push_cases}
 use Rattle.std.proofs.lemmas.Map.Lookups.{exact_bytes}
-use Rattle.om_drive.specs.Ready.{placed, inserted}
+use Rattle.om_undo.specs.ReadyNames.{placed, inserted}
 
 abbrev compared : List ℕ → List ℕ → Ordering
 compared a b = slice_cmp nat_cmp a b

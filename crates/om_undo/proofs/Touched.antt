@@ -15,8 +15,8 @@ use Rattle.om_cells.specs.declared.value.Val.{Val}
 use Rattle.om_cells.specs.State.{State, state_after, updated, value_after}
 use Rattle.om_cells.specs.Rules.{Rules, step_at, state_after_outcome, next_state, and_then, replay_from}
 use Rattle.om_history.specs.Laws.{steps_from, steps_then}
-use Rattle.om_drive.specs.Ready.{with_task, tasks_in, tasks_of}
-use Rattle.om_drive.proofs.Inserted.{stands_first, stands_behind}
+use Rattle.om_undo.specs.ReadyNames.{with_task, tasks_in, tasks_of}
+use Rattle.om_undo.proofs.Inserted.{stands_first, stands_behind}
 
 with_task_keeps : (q : Obj) (names : List (List ℕ)) (n : List ℕ) → Contains names n → Contains (with_task q names) n
 with_task_keeps (obj.Task m) names n h = stands_behind m n names h

@@ -10,7 +10,7 @@ use Rattle.om_code.specs.contracts.raw.Raw as raw
 use Rattle.om_code.specs.contracts.raw.Scope as scope
 use Rattle.om_code.specs.contracts.raw.Slot as slot
 use Rattle.om_code.specs.contracts.program.Program as program
-use Rattle.om_session.specs.Lists.{seq_send}
+use Rattle.om_undo.specs.Lists.{seq_send}
 
 instr_send : IsSend instr.the_field.row
 instr_send = search sendable depth 60 fits 20000

@@ -16,9 +16,9 @@ use Rattle.om_cells.specs.contracts.shared_pile.SharedPile as stack
 use Rattle.om_cells.specs.contracts.step.Update as update
 use Rattle.om_cells.specs.contracts.value.Ready as ready
 use Rattle.om_cells.specs.contracts.value.Val as value
-use Rattle.om_session.specs.Lists.{seq_send, seq_sync, pile_send, pile_sync}
-use Rattle.om_session.specs.Names.{name_send, name_sync}
-use Rattle.om_session.specs.Shared.{shared_send, shared_sync, stack_send, stack_sync}
+use Rattle.om_undo.specs.Lists.{seq_send, seq_sync, pile_send, pile_sync}
+use Rattle.om_undo.specs.Names.{name_send, name_sync}
+use Rattle.om_undo.specs.Shared.{shared_send, shared_sync, stack_send, stack_sync}
 
 event_send : IsSend event.the_row
 event_send = search (name_send, seq_send, sendable) depth 60 fits 20000

@@ -1,4 +1,4 @@
--- Matter of proofs: a machine may cross threads.
+-- Matter of proofs: a machine may cross threads, so that it may be sent to another one.
 use Rattle.std.proofs.Crossing.{crosses}
 use Rattle.std.proofs.MapsCrossingOver.{crosses as maps}
 use denote.Param.Send.{IsSend, sendable}
@@ -6,10 +6,10 @@ use Rattle.om_cells.specs.contracts.store.Store as store
 use Rattle.om_history.specs.contracts.history.History as history
 use Rattle.om_history.specs.contracts.kept.Kept as kept
 use Rattle.om_undo.specs.contracts.machine.Machine as machine
-use Rattle.om_session.specs.Lists.{seq_send}
-use Rattle.om_session.specs.Names.{name_send, object_send, access_send}
-use Rattle.om_session.specs.Programs.{program_send}
-use Rattle.om_session.specs.Values.{value_send, update_send}
+use Rattle.om_undo.specs.Lists.{seq_send}
+use Rattle.om_undo.specs.Names.{name_send, object_send, access_send}
+use Rattle.om_undo.specs.Programs.{program_send}
+use Rattle.om_undo.specs.Values.{value_send, update_send}
 
 store_send : IsSend store.the_field.row
 store_send = search (object_send, value_send, maps, crosses, sendable) depth 40

@@ -8,7 +8,7 @@ use Rattle.om_seq.specs.contracts.pile.Pile as pile
 use Rattle.om_cells.specs.contracts.shared.Shared as shared
 use Rattle.om_cells.specs.contracts.shared_pile.SharedPile as stack
 use Rattle.om_cells.specs.contracts.shared_pile.SharedPile.TheInside as inside
-use Rattle.om_session.specs.Lists.{pile_send, pile_sync}
+use Rattle.om_undo.specs.Lists.{pile_send, pile_sync}
 
 module _ (T : RattleType) (s : IsSend T) (y : IsSync T) where
   pub shared_send : IsSend (shared.the_row T)
