@@ -1,3 +1,2 @@
-pub mod Growing
-pub mod Rolls
-pub mod Answering
+pub mod Counting
+pub mod Pigeons

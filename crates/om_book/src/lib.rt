@@ -1,11 +1,10 @@
-//! The book of a machine: the journal of its calls, beside the machine that they leave.
+//! The book that seats share: its journal's items, a session that keeps it under one lock, and
+//! the receipts of its calls.
 #![tactic(auto)]
 
-mod book;
-mod command;
-mod replies;
-mod reply;
+mod receipt;
+mod session;
 
-pub use book::{Book, CallError, JournalRecord, MAX_RECORDS};
-pub use command::{Command, Query};
-pub use reply::Reply;
+pub use om_journal::{Book, CallError, Command, JournalRecord, Query, Reply, MAX_RECORDS};
+pub use receipt::Receipt;
+pub use session::{Blank, Closed, NotOpened, Seat, Session, Sitting, Unclosed};

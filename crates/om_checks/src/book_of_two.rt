@@ -1,10 +1,10 @@
 //! A book over a machine of two workers.
 
 ghost use Rattle.std.specs.Prelude.{◌≡◌};
-ghost use Rattle.om_book.specs.Runs.{IsInRange};
+ghost use Rattle.om_journal.specs.Runs.{IsInRange};
 
 use crate::program::program_of;
-use om_book::{Book, CallError, Command, Reply};
+use om_journal::{Book, CallError, Command, Reply};
 use std::alloc::{AllocError, Global};
 
 /// A book over a machine of two workers.

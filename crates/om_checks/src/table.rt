@@ -4,7 +4,7 @@ ghost use Rattle.std.specs.Prelude.{◌≡◌, length, vec_len};
 
 use crate::book_of_two::BookOfTwo;
 use om_drive::{Answer, Driven, Errand, Fault, Freed, Gate, Order, drive, free};
-use om_session::{Blank, Closed, Session, Sitting};
+use om_book::{Blank, Closed, Session, Sitting};
 use std::alloc::Global;
 use std::marker::Brand;
 use std::sync::Wait;

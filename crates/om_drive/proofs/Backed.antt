@@ -6,7 +6,7 @@ use Rattle.std.proofs.Math.Seq.{take-append_seam, drop-append_seam}
 use Rattle.std.proofs.lemmas.List.{take_all, take_more, length-take-le, drop_all}
 use Rattle.std.proofs.lemmas.List.Elements.{All-more, All-nil, All-cons}
 use Rattle.std.proofs.lemmas.Option.{get_or_from_slice_get, slice_get_within}
-use Rattle.om_session.specs.Seats.{SeatView}
+use Rattle.om_book.specs.Seats.{SeatView}
 use Rattle.om_drive.specs.declared.order.Answer.{Answer}
 use Rattle.om_drive.specs.declared.order.Order.{Order}
 use Rattle.om_drive.specs.Backing.{Has, Turn, turn_of, turns_at, turns, IsBacked, Keeps, AreKept, IsOfOne, Passes, IsUnderway}

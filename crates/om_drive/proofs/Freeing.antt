@@ -3,20 +3,20 @@ use Rattle.std.specs.Prelude.{◌≡◌, ◌≢◌, ◌<◌, ◌+◌, ℕ, zero,
 use Rattle.std.specs.List.{AllByRecursion}
 use Rattle.std.proofs.Common.{sym, ◌∙◌, ap, subst, arith, length-append}
 use Rattle.std.proofs.lemmas.List.{length-map, map-append}
-use Rattle.om_book.specs.Runs.{IsAnswer, IsReply, after}
-use Rattle.om_book.specs.Runs as runs
-use Rattle.om_book.specs.Journals as journals
-use Rattle.om_book.specs.Books.{BookView, machine_of, records_of}
-use Rattle.om_session.specs.Seats.{SeatView, seats_below}
-use Rattle.om_session.specs.Standing.{AllDiffer, number_of}
-use Rattle.om_book.specs.declared.book.JournalRecord.{JournalRecord}
-use Rattle.om_book.specs.declared.command.Command.{Command}
-use Rattle.om_book.specs.declared.command.Command.TheVariants as command
-use Rattle.om_book.specs.declared.command.Query.TheVariants as query
-use Rattle.om_book.specs.declared.reply.Reply.{Reply}
+use Rattle.om_journal.specs.Runs.{IsAnswer, IsReply, after}
+use Rattle.om_journal.specs.Runs as runs
+use Rattle.om_journal.specs.Journals as journals
+use Rattle.om_journal.specs.Books.{BookView, machine_of, records_of}
+use Rattle.om_book.specs.Seats.{SeatView, seats_below}
+use Rattle.om_book.specs.Standing.{AllDiffer, number_of}
+use Rattle.om_journal.specs.declared.book.JournalRecord.{JournalRecord}
+use Rattle.om_journal.specs.declared.command.Command.{Command}
+use Rattle.om_journal.specs.declared.command.Command.TheVariants as command
+use Rattle.om_journal.specs.declared.command.Query.TheVariants as query
+use Rattle.om_journal.specs.declared.reply.Reply.{Reply}
 use Rattle.om_history.specs.declared.reply.StepReply.{StepReply}
 use Rattle.om_history.specs.declared.reply.StepReply.TheVariants as step_reply
-use Rattle.om_book.specs.declared.reply.Reply.TheVariants as reply
+use Rattle.om_journal.specs.declared.reply.Reply.TheVariants as reply
 use Rattle.om_undo.specs.Machines.{MachineView}
 use Rattle.om_drive.specs.RecordedCalls.{left_by, makes_step, steps_made, commands_of, recorded_calls}
 use Rattle.om_drive.specs.Recorded.{is_done}

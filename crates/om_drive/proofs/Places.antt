@@ -1,9 +1,9 @@
 -- The place of the last call, and the numbers of seats.
 use Rattle.std.specs.Prelude.{◌≡◌, ◌+◌, ℕ, zero, suc, List, [], ◌∷◌, ◌++◌, length, map, slice_get, Some, refl}
 use Rattle.std.proofs.Common.{◌∙◌, ap, sym, arith}
-use Rattle.om_session.specs.Seats.{SeatView}
-use Rattle.om_session.specs.Standing.{number_of}
-use Rattle.om_session.specs.declared.receipt.Receipt.{Receipt}
+use Rattle.om_book.specs.Seats.{SeatView}
+use Rattle.om_book.specs.Standing.{number_of}
+use Rattle.om_book.specs.declared.receipt.Receipt.{Receipt}
 use Rattle.om_drive.specs.Calls.{Place, place_of, last_place_in}
 
 last_of : (rs : List Receipt) (r : Receipt) → last_place_in (rs ++ r ∷ []) ≡ Some r.place

@@ -3,8 +3,8 @@ use denote.RattleType.{RattleType}
 use denote.Ref.{NamedLft}
 use denote.Param.Send.{IsSend, IsSync, sendable}
 use Rattle.std.specs.declared.sync.ledger.Ledger as ledger
-use Rattle.om_session.specs.declared.session.Sitting as sitting
-use Rattle.om_session.specs.Crossing.{session_sync, seat_send}
+use Rattle.om_book.specs.declared.session.Sitting as sitting
+use Rattle.om_book.specs.Crossing.{session_sync, seat_send}
 use Rattle.om_drive.specs.contracts.sitter.Sitter as sitter
 
 pub sitter_send : (s : NamedLft) (L : RattleType) (g : sitting.Ghosts L.Denot) (l : ledger.Ghosts L.Denot)

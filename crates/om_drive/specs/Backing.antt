@@ -1,8 +1,8 @@
 -- Answers that a receipt backs.
 use Rattle.std.specs.Prelude.{◌≡◌, ◌⊎◌, ◌+◌, ◌++◌, ℕ, zero, suc, List, [], ◌∷◌, map, take, drop, slice_get, Option, None, Some, Ok}
-use Rattle.om_session.specs.Seats.{SeatView}
-use Rattle.om_book.specs.declared.reply.Reply.{Reply}
-use Rattle.om_session.specs.declared.receipt.Receipt.{Receipt}
+use Rattle.om_book.specs.Seats.{SeatView}
+use Rattle.om_journal.specs.declared.reply.Reply.{Reply}
+use Rattle.om_book.specs.declared.receipt.Receipt.{Receipt}
 use Rattle.om_drive.specs.declared.order.Answer.{Answer}
 use Rattle.om_drive.specs.declared.order.Order.{Order}
 use Rattle.om_drive.specs.Rounds.{answer_number, longest, Begins}

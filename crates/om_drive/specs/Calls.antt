@@ -1,7 +1,7 @@
 -- What a debuggee is, and the calls that it answered.
 use Rattle.std.specs.Prelude.{ℕ, List, [], ◌∷◌, Option, None, Some}
-use Rattle.om_session.specs.Seats.{SeatView}
-use Rattle.om_session.specs.declared.receipt.Receipt.{Receipt}
+use Rattle.om_book.specs.Seats.{SeatView}
+use Rattle.om_book.specs.declared.receipt.Receipt.{Receipt}
 
 -- what no call changes: a debuggee's number, and how many workers its commands may name
 pub record Place : Type 0 where

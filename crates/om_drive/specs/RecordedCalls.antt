@@ -1,9 +1,9 @@
 -- The calls of a free run, in the order in which they come to the lock.
 use Rattle.std.specs.Prelude.{ℕ, suc, Bool, false, cond, ◌+◌, List, [], ◌∷◌, length, map}
-use Rattle.om_book.specs.Runs.{after}
-use Rattle.om_book.specs.declared.book.JournalRecord.{JournalRecord}
-use Rattle.om_book.specs.declared.command.Command.{Command}
-use Rattle.om_book.specs.declared.command.Command.TheVariants as command
+use Rattle.om_journal.specs.Runs.{after}
+use Rattle.om_journal.specs.declared.book.JournalRecord.{JournalRecord}
+use Rattle.om_journal.specs.declared.command.Command.{Command}
+use Rattle.om_journal.specs.declared.command.Command.TheVariants as command
 use Rattle.om_undo.specs.Machines.{MachineView}
 use Rattle.om_drive.specs.Recorded.{Recorded, is_done, label_of, step_reply_of}
 

@@ -2,13 +2,13 @@
 use Rattle.std.specs.Prelude.{ℕ, suc, Bool, true, false, cond, List, [], ◌∷◌}
 use Rattle.om_cells.specs.declared.step.Blocked.TheVariants as blocked
 use Rattle.om_history.specs.declared.reply.StepReply.TheVariants as step_reply
-use Rattle.om_book.specs.Runs.{is_done}
-use Rattle.om_session.specs.Seats.{SeatView}
-use Rattle.om_book.specs.declared.command.Command.{Command}
-use Rattle.om_book.specs.declared.command.Command.TheVariants as command
-use Rattle.om_session.specs.declared.receipt.Receipt.{Receipt}
-use Rattle.om_book.specs.declared.reply.Reply.{Reply}
-use Rattle.om_book.specs.declared.reply.Reply.TheVariants as reply
+use Rattle.om_journal.specs.Runs.{is_done}
+use Rattle.om_book.specs.Seats.{SeatView}
+use Rattle.om_journal.specs.declared.command.Command.{Command}
+use Rattle.om_journal.specs.declared.command.Command.TheVariants as command
+use Rattle.om_book.specs.declared.receipt.Receipt.{Receipt}
+use Rattle.om_journal.specs.declared.reply.Reply.{Reply}
+use Rattle.om_journal.specs.declared.reply.Reply.TheVariants as reply
 
 -- the call asked for a step, and it was made
 abbrev pub makes_step : Command → Reply → Bool

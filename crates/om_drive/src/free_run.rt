@@ -1,11 +1,11 @@
 //! Free runs: all workers step at once, each in a thread of its own.
 
 ghost use Rattle.std.specs.Prelude.{◌≡◌, ◌≤◌, IfOk, IfErr, vec_len};
-ghost use Rattle.om_session.specs.Seats.{seats_below};
+ghost use Rattle.om_book.specs.Seats.{seats_below};
 
 use crate::{Freed, Gate, free};
-use om_book::Book;
-use om_session::{Blank, Closed, NotOpened, Seat, Session, Sitting};
+use om_journal::Book;
+use om_book::{Blank, Closed, NotOpened, Seat, Session, Sitting};
 use std::alloc::{AllocError, Global};
 use std::sync::Wait;
 use std::thread::Threads;

@@ -1,7 +1,7 @@
 //! Free runs: each worker of a session makes its rounds in a thread of its own.
 
 ghost use Rattle.std.specs.Prelude.{◌≡◌, ◌<◌, ◌≤◌, ◌+◌, ◌*◌, ◌^◌, ◌++◌, ◌∷◌, [], IfOk, IfErr, vec_len, vec_capacity, map, sum_by};
-ghost use Rattle.om_session.specs.Standing.{number_of};
+ghost use Rattle.om_book.specs.Standing.{number_of};
 ghost use Rattle.om_drive.specs.Steps.{steps_in, steps_of};
 
 use crate::order::Fault;
@@ -9,8 +9,8 @@ use crate::rounds::push_within;
 use crate::runner::{Ran, Runner};
 use crate::sitter::{sit_down, stand_up};
 use crate::worker::{Debuggee, Gate};
-use om_book::CallError;
-use om_session::{Seat, Session, Sitting};
+use om_journal::CallError;
+use om_book::{Seat, Session, Sitting};
 use std::snapshot::Snapshot;
 use std::sync::Wait;
 use std::thread::{Promise, PromisedHandle, Scope, Threads, scope, scope_env};

@@ -1,7 +1,7 @@
 //! A machine whose calls are recorded.
 
 ghost use Rattle.std.specs.Prelude.{◌≡◌, ◌<◌, ◌≤◌, List, nat_le, IfOk, OnOk};
-ghost use Rattle.om_book.specs.declared.command.Command.{Command};
+ghost use Rattle.om_journal.specs.declared.command.Command.{Command};
 ghost use Rattle.om_drive.specs.RecordedCalls.{commands_of, recorded_calls, steps_made};
 ghost use Rattle.om_undo.specs.ReadyNames.{ready_names};
 ghost use Rattle.om_drive.specs.Recorded.{started, after_look, is_full, label_of, step_reply_of, undo_reply_of, recorded_step, recorded_undo, recorded_roll};
@@ -10,11 +10,11 @@ ghost use Rattle.om_undo.specs.Machines.{rules_for, state_in};
 
 use crate::free_run::{Count, Errand, open_gates, run_through};
 use core::mem::replace_with;
-use om_book::Book;
+use om_journal::Book;
 use om_cells::Val;
 use om_code::Program;
 use om_foot::{Name, Obj};
-use om_session::Blank;
+use om_book::Blank;
 use om_task::Choice;
 use om_undo::laws::{one_ready_list, ready_names_are_ready};
 use om_undo::{Entry, Machine, RollReply, StepReply, UndoReply};

@@ -1,11 +1,11 @@
 //! A worker that runs freely: it makes its rounds over one debuggee, behind a gate.
 
 ghost use Rattle.std.specs.Prelude.{◌≡◌, ◌<◌, ◌≤◌, ◌+◌, cond, IfOk, OnErr};
-ghost use Rattle.om_book.specs.Runs.{IsInRange};
+ghost use Rattle.om_journal.specs.Runs.{IsInRange};
 ghost use Rattle.om_drive.specs.Steps.{makes_step, steps_in, waits_for_tasks};
 
 use crate::worker::{Debuggee, Gate, says_yes};
-use om_book::{CallError, Command, Query, Reply};
+use om_journal::{CallError, Command, Query, Reply};
 use om_cells::Blocked;
 use om_foot::Name;
 use om_task::Choice;

@@ -1,7 +1,7 @@
 //! Drives over the seats of a session.
 
 ghost use Rattle.std.specs.Prelude.{◌≡◌, [], None, Some, All, IfOk, length, vec_len, map};
-ghost use Rattle.om_session.specs.Standing.{number_of};
+ghost use Rattle.om_book.specs.Standing.{number_of};
 ghost use Rattle.om_drive.specs.Rounds.{answer_number, in_rounds};
 ghost use Rattle.om_drive.specs.Backing.{AreKept, in_turns, IsOfOne, Keeps};
 
@@ -10,7 +10,7 @@ use crate::driving::{DrivenOver, drive_over};
 use crate::order::{Answer, Fault, Order};
 use crate::sitter::{sit_down, stand_up};
 use crate::worker::Gate;
-use om_session::{Seat, Session, Sitting};
+use om_book::{Seat, Session, Sitting};
 use std::alloc::{AllocError, Global};
 use std::sync::Wait;
 use std::thread::Threads;

@@ -1,13 +1,13 @@
 //! Workers: each answers orders over one debuggee, behind a gate.
 
 ghost use Rattle.std.specs.Prelude.{◌≡◌, ℕ, ◌++◌, ◌∷◌, [], List, IfOk, OnErr, None, Some};
-ghost use Rattle.om_book.specs.Runs.{IsInRange};
-ghost use Rattle.om_session.specs.declared.receipt.Receipt.{Receipt};
+ghost use Rattle.om_journal.specs.Runs.{IsInRange};
+ghost use Rattle.om_book.specs.declared.receipt.Receipt.{Receipt};
 ghost use Rattle.om_drive.specs.Calls.{Place, last_place_in};
 
 use crate::order::{Answer, Order};
 use crossbeam_channel::{Receiver, Sender};
-use om_book::{CallError, Command, Reply};
+use om_journal::{CallError, Command, Reply};
 use std::sync::Wait;
 
 /// What is driven: a session with a seat, or a fake.

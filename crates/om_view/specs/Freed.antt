@@ -1,6 +1,6 @@
 -- Free runs: all workers step at once, in whatever order they come to the lock.
 use Rattle.std.specs.Prelude.{Bool, false, cond, List, []}
-use Rattle.om_book.specs.declared.command.Command.{Command}
+use Rattle.om_journal.specs.declared.command.Command.{Command}
 use Rattle.om_drive.specs.RecordedCalls.{recorded_calls, steps_made}
 use Rattle.om_drive.specs.Recorded.{Recorded}
 use Rattle.om_replies.specs.Steps.{full_text}

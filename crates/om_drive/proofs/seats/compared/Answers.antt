@@ -1,5 +1,5 @@
 use Rattle.std.proofs.Common.{List, subst}
-use Rattle.om_session.specs.Seats.{SeatView}
+use Rattle.om_book.specs.Seats.{SeatView}
 use Rattle.om_drive.specs.Backing.{in_turns, Keeps}
 use Rattle.om_drive.proofs.Backed.{kept_backed}
 use Rattle.om_drive.proofs.seats.compared.Goals as goal

@@ -1,7 +1,7 @@
 use Rattle.std.proofs.Common.{◌∙◌, ◌++◌, map, ap}
 use denote.Param.Send.{sendable}
 use denote.Ref.{NamedLft}
-use Rattle.om_session.specs.Standing.{number_of}
+use Rattle.om_book.specs.Standing.{number_of}
 use Rattle.om_drive.specs.Calls.{place_of}
 use Rattle.om_drive.proofs.Places.{numbers_same}
 use Rattle.om_drive.proofs.Sent.{sitter_send}

@@ -1,0 +1,44 @@
+-- What contracts see of a book.
+use Rattle.std.specs.Prelude.{◌≡◌, ◌+◌, ℕ, List, [], ◌∷◌, ◌++◌, length, take}
+use Rattle.om_undo.specs.Machines.{MachineView}
+use Rattle.om_journal.specs.Runs.{fresh}
+use Rattle.om_journal.specs.Journals.{left_by}
+use Rattle.om_journal.specs.declared.command.Command.{Command}
+use Rattle.om_journal.specs.declared.reply.Reply.{Reply}
+use Rattle.om_journal.specs.declared.book.JournalRecord.{JournalRecord}
+
+-- the machine at the opening, how many calls had been recorded before it, and the calls since
+pub record BookView : Type 0 where
+  pub start : MachineView
+  pub before : ℕ
+  pub journal : List JournalRecord
+
+-- the machine that the journal leaves
+abbrev pub machine_of : BookView → MachineView
+machine_of b = left_by b.start b.journal
+
+-- how many calls were recorded
+abbrev pub records_of : BookView → ℕ
+records_of b = b.before + length b.journal
+
+-- how many of them are in the journal
+abbrev pub calls_in : BookView → ℕ
+calls_in b = length b.journal
+
+-- the book with one more record
+abbrev pub with_record : BookView → ℕ → Command → Reply → BookView
+with_record b seat command reply =
+    record b { journal = b.journal ++ record { seat = seat; command = command; reply = reply } ∷ [] }
+
+-- so many records were added to a book, and nothing else of it changed
+abbrev pub IsGrown : BookView → BookView → ℕ → Type 0
+IsGrown old new n = (new.start ≡ old.start) × (new.before ≡ old.before)
+    × (length new.journal ≡ length old.journal + n) × (take (length old.journal) new.journal ≡ old.journal)
+
+-- a book without records, over a machine of no program
+abbrev pub no_book : BookView
+no_book = record {
+  start = fresh (record { globals = []; bodies = []; main = 0; texts = []; picks = []; locks = [] }) 0;
+  before = 0;
+  journal = [];
+}

@@ -1,0 +1,82 @@
+//! What a seat asks of the machine.
+
+ghost use Rattle.std.specs.Prelude.{◌≡◌, ◌↔◌, IsTrue};
+ghost use Rattle.om_journal.specs.Runs.{IsInRange};
+
+use om_foot::Obj;
+use om_same::Same;
+use om_task::Choice;
+
+/// What is asked about the state where the machine stands.
+#[derive(Clone, Copy)]
+pub enum Query {
+    /// What an object holds.
+    Value(Obj),
+    /// The names of the tasks that are ready to be begun, ascending.
+    Ready,
+    /// The entries that stand in the history, in their order.
+    Entries,
+}
+
+/// One call. Workers are numbered from 0.
+#[derive(Clone, Copy)]
+pub enum Command {
+    /// The step of a worker by its choice.
+    Step { worker: u8, choice: Choice },
+    /// The undo of a worker's last step.
+    Undo(u8),
+    /// The roll of the entry with this serial.
+    Roll(u64),
+    /// A question, which changes nothing.
+    Look(Query),
+}
+
+impl Command {
+    /// The same command once more.
+    pub(crate) fn again(&self) -> Command
+        ensures { result ≡ self.now }
+    {
+        *self
+    }
+
+    /// Whether the worker that it names, if it names one, is below so many.
+    pub fn is_in_range(&self, workers: u8) -> bool
+        ensures { IsTrue result ↔ IsInRange workers self.now }
+    {
+        match self {
+            Command::Step { worker, choice: _ } => *worker < workers,
+            Command::Undo(worker) => *worker < workers,
+            Command::Roll(_) => true,
+            Command::Look(_) => true,
+        }
+    }
+}
+
+impl Same for Query {
+    fn is_same(&self, other: &Query) -> bool {
+        match (self, other) {
+            (Query::Value(one), Query::Value(two)) => one.is_same(two),
+            (Query::Ready, Query::Ready) => true,
+            (Query::Entries, Query::Entries) => true,
+            _ => false,
+        }
+    }
+}
+
+impl Same for Command {
+    fn is_same(&self, other: &Command) -> bool {
+        match (self, other) {
+            (
+                Command::Step { worker, choice },
+                Command::Step {
+                    worker: other_worker,
+                    choice: other_choice,
+                },
+            ) => *worker == *other_worker && choice.is_same(other_choice),
+            (Command::Undo(one), Command::Undo(two)) => *one == *two,
+            (Command::Roll(one), Command::Roll(two)) => *one == *two,
+            (Command::Look(one), Command::Look(two)) => one.is_same(two),
+            _ => false,
+        }
+    }
+}

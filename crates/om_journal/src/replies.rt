@@ -1,0 +1,135 @@
+//! The machine's reply to a command, three times: all copies are made before anything changes.
+
+ghost use Rattle.std.specs.Prelude.{◌≡◌, ◌<◌, ◌^◌, IfOk, OnOk, OnErr};
+ghost use Rattle.om_journal.specs.Runs.{IsInRange, IsAnswer, IsReply, after};
+
+use crate::command::{Command, Query};
+use crate::reply::Reply;
+use om_seq::Seq;
+use om_undo::{Machine, RollReply, StepReply, UndoReply};
+use std::alloc::{AllocError, Global};
+
+/// One reply, three times.
+#[derive(Drop)]
+pub(crate) struct Replies {
+    /// For the caller.
+    pub(crate) answer: Reply,
+    /// For the receipt of its seat.
+    pub(crate) receipt: Reply,
+    /// For the journal.
+    pub(crate) kept: Reply,
+}
+
+/// Does what a command asks. Its only error is out of memory, and then nothing changes.
+pub(crate) fn done(
+    alloc: Global,
+    machine: &mut Machine,
+    command: Command,
+) -> Result<Replies, AllocError>
+    requires in_range { IsInRange machine.old.workers command }
+    requires few_made { machine.old.history.made < 2 ^ 63 }
+    ensures reply { IfOk result (λ x. IsReply machine.old command x.answer) }
+    ensures same { IfOk result (λ x. (x.receipt ≡ x.answer) × (x.kept ≡ x.answer)) }
+    ensures after { OnOk result (machine.new ≡ after machine.old command) }
+    ensures unchanged_on_error { OnErr result (machine.new ≡ machine.old) }
+{
+    match command {
+        Command::Step { worker, choice } => Ok(stepped(&machine.step(alloc, worker, choice)?)),
+        Command::Undo(worker) => Ok(undone(&machine.undo(worker))),
+        Command::Roll(serial) => roll(alloc, machine, serial),
+        Command::Look(query) => look(alloc, machine, &query),
+    }
+}
+
+/// A step's reply three times.
+fn stepped(reply: &StepReply) -> Replies
+    ensures reply { result.answer ≡ Reply.Step reply.now }
+    ensures same { (result.receipt ≡ result.answer) × (result.kept ≡ result.answer) }
+{
+    Replies {
+        answer: Reply::Step(*reply),
+        receipt: Reply::Step(*reply),
+        kept: Reply::Step(*reply),
+    }
+}
+
+/// An undo's reply three times.
+fn undone(reply: &UndoReply) -> Replies
+    ensures reply { result.answer ≡ Reply.Undo reply.now }
+    ensures same { (result.receipt ≡ result.answer) × (result.kept ≡ result.answer) }
+{
+    Replies {
+        answer: Reply::Undo(*reply),
+        receipt: Reply::Undo(*reply),
+        kept: Reply::Undo(*reply),
+    }
+}
+
+/// Rolls the entry with a serial. What it takes out is found beforehand for the copies.
+#[tactic(auto, using(crate::proofs::Rolls::rolled_same))]
+fn roll(alloc: Global, machine: &mut Machine, serial: u64) -> Result<Replies, AllocError>
+    ensures reply { IfOk result (λ x. IsReply machine.old (Command.Roll serial) x.answer) }
+    ensures same { IfOk result (λ x. (x.receipt ≡ x.answer) × (x.kept ≡ x.answer)) }
+    ensures after { OnOk result (machine.new ≡ after machine.old (Command.Roll serial)) }
+    ensures unchanged_on_error { OnErr result (machine.new ≡ machine.old) }
+{
+    let receipt = machine.cone(alloc, serial)?;
+    let kept = machine.cone(alloc, serial)?;
+    match (machine.roll(alloc, serial)?, receipt, kept) {
+        (RollReply::NoEntry, _, _) => Ok(Replies {
+            answer: Reply::Roll(RollReply::NoEntry),
+            receipt: Reply::Roll(RollReply::NoEntry),
+            kept: Reply::Roll(RollReply::NoEntry),
+        }),
+        (RollReply::Rolled(taken), Some(receipt), Some(kept)) => Ok(Replies {
+            answer: Reply::Roll(RollReply::Rolled(taken)),
+            receipt: Reply::Roll(RollReply::Rolled(Seq::of(receipt))),
+            kept: Reply::Roll(RollReply::Rolled(Seq::of(kept))),
+        }),
+        _ => unreachable!(),
+    }
+}
+
+/// Answers a question three times.
+fn look(alloc: Global, machine: &Machine, query: &Query) -> Result<Replies, AllocError>
+    ensures reply { IfOk result (λ x. IsAnswer machine.now query.now x.answer) }
+    ensures same { IfOk result (λ x. (x.receipt ≡ x.answer) × (x.kept ≡ x.answer)) }
+{
+    let answer = looked(alloc, machine, query)?;
+    match two_copies(alloc, &answer) {
+        Ok((receipt, kept)) => Ok(Replies {
+            answer,
+            receipt,
+            kept,
+        }),
+        Err(error) => {
+            drop(answer);
+            Err(error)
+        }
+    }
+}
+
+/// A reply twice. The only error is out of memory.
+fn two_copies(alloc: Global, reply: &Reply) -> Result<(Reply, Reply), AllocError>
+    ensures { IfOk result (λ copies. (copies.0 ≡ reply.now) × (copies.1 ≡ reply.now)) }
+{
+    let one = reply.copy(alloc)?;
+    match reply.copy(alloc) {
+        Ok(other) => Ok((one, other)),
+        Err(error) => {
+            drop(one);
+            Err(error)
+        }
+    }
+}
+
+/// Answers a question.
+fn looked(alloc: Global, machine: &Machine, query: &Query) -> Result<Reply, AllocError>
+    ensures { IfOk result (λ x. IsAnswer machine.now query.now x) }
+{
+    match query {
+        Query::Value(object) => Ok(Reply::Value(machine.look(alloc, object)?)),
+        Query::Ready => Ok(Reply::Ready(Seq::of(machine.ready(alloc)?))),
+        Query::Entries => Ok(Reply::Entries(Seq::of(machine.history(alloc)?))),
+    }
+}

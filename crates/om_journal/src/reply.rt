@@ -1,0 +1,79 @@
+//! What the machine answers to a call.
+
+ghost use Rattle.std.specs.Prelude.{◌≡◌, IfOk};
+ghost use Rattle.om_journal.specs.Runs.{is_done};
+
+use om_cells::Val;
+use om_foot::Name;
+use om_same::Same;
+use om_seq::Seq;
+use om_undo::{Entry, RollReply, StepReply, UndoReply};
+use std::alloc::{AllocError, Global};
+
+/// What is answered to a command: to each kind its own kind of reply.
+#[derive(Drop)]
+pub enum Reply {
+    Step(StepReply),
+    Undo(UndoReply),
+    Roll(RollReply),
+    /// What the object holds.
+    Value(Val),
+    /// The names of the tasks that are ready to be begun, ascending.
+    Ready(Seq<Name>),
+    /// The entries that stand in the history, in their order.
+    Entries(Seq<Entry>),
+}
+
+impl Reply {
+    /// Whether it is that of a step that was made.
+    pub fn is_done(&self) -> bool
+        ensures { result ≡ is_done self.now }
+    {
+        matches!(self, Reply::Step(StepReply::Done { .. }))
+    }
+
+    /// A copy; its only error is out of memory.
+    pub fn copy(&self, alloc: Global) -> Result<Reply, AllocError>
+        ensures { IfOk result (λ reply. reply ≡ self.now) }
+    {
+        match self {
+            Reply::Step(reply) => Ok(Reply::Step(*reply)),
+            Reply::Undo(reply) => Ok(Reply::Undo(*reply)),
+            Reply::Roll(reply) => Ok(Reply::Roll(copy_roll(alloc, reply)?)),
+            Reply::Value(value) => Ok(Reply::Value(value.copy(alloc)?)),
+            Reply::Ready(names) => Ok(Reply::Ready(copied(alloc, names)?)),
+            Reply::Entries(entries) => Ok(Reply::Entries(copied(alloc, entries)?)),
+        }
+    }
+}
+
+/// A copy of a list; its only error is out of memory.
+fn copied<T: Copy>(alloc: Global, items: &Seq<T>) -> Result<Seq<T>, AllocError>
+    ensures { IfOk result (λ copy. copy ≡ items.now) }
+{
+    Ok(Seq::of(Vec::from_slice(alloc, items.as_slice())?))
+}
+
+/// A copy of a roll's reply; its only error is out of memory.
+fn copy_roll(alloc: Global, reply: &RollReply) -> Result<RollReply, AllocError>
+    ensures { IfOk result (λ copy. copy ≡ reply.now) }
+{
+    match reply {
+        RollReply::Rolled(taken) => Ok(RollReply::Rolled(copied(alloc, taken)?)),
+        RollReply::NoEntry => Ok(RollReply::NoEntry),
+    }
+}
+
+impl Same for Reply {
+    fn is_same(&self, other: &Reply) -> bool {
+        match (self, other) {
+            (Reply::Step(one), Reply::Step(two)) => one.is_same(two),
+            (Reply::Undo(one), Reply::Undo(two)) => one.is_same(two),
+            (Reply::Roll(one), Reply::Roll(two)) => one.is_same(two),
+            (Reply::Value(one), Reply::Value(two)) => one.is_same(two),
+            (Reply::Ready(one), Reply::Ready(two)) => one.is_same(two),
+            (Reply::Entries(one), Reply::Entries(two)) => one.is_same(two),
+            _ => false,
+        }
+    }
+}

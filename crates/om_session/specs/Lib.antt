@@ -1,4 +1,0 @@
-pub mod Replies
-pub mod Crossing
-pub mod Seats
-pub mod Standing
