@@ -2,8 +2,8 @@
 
 /// Calls each law.
 pub(crate) fn call_laws() {
-    om_share::laws::partition();
-    om_share::laws::shares();
+    om_team::laws::partition();
+    om_team::laws::shares();
     om_task::laws::low_counters();
     om_task::laws::calm_rules();
     om_history::laws::dependence();

@@ -1,7 +1,7 @@
 -- Lists and tests that count down: the first one, and what is left.
-use Rattle.std.proofs.Common.{◌≡◌, refl, sym, ◌∙◌, ap, ℕ, ℤ, pos, zero, suc, ◌+◌, ◌-◌, ◌<◌, arith, List, [], ◌∷◌, ◌++◌}
+use Rattle.std.proofs.Common.{◌≡◌, refl, sym, ◌∙◌, ap, ℕ, ℤ, zero, suc, ◌+◌, ◌-◌, ◌<◌, arith, List, [], ◌∷◌, ◌++◌}
 use Rattle.std.proofs.Common.{false, if◌then◌else◌, Some, replicate, append_assoc, length, length-append, ◌≤◌}
-use Rattle.std.specs.Prelude.{nat_lt, unwrap_or}
+use Rattle.std.specs.Prelude.{nat_lt}
 use Rattle.std.proofs.lemmas.Bool.Decides.{nat_tests}
 use Rattle.om_foot.specs.declared.object.Obj.TheVariants as obj
 use Rattle.om_foot.specs.declared.footprint.Access.{Access}
@@ -14,8 +14,8 @@ use Rattle.om_cells.specs.declared.step.Update.TheVariants.{Put}
 use Rattle.om_cells.specs.declared.value.Val.{Val}
 use Rattle.om_cells.specs.declared.value.Val.TheVariants as value
 use Rattle.om_cells.specs.State.{State, values_read}
-use Rattle.om_cells.specs.Values.{number_in, count_in, count_of, control_in, is_idle}
-use Rattle.om_row.specs.Objects.{read, write, given_cells, puts}
+use Rattle.om_cells.specs.Values.{number_in, control_in, is_idle}
+use Rattle.om_steps.specs.Objects.{read, write, given_cells, puts}
 use Rattle.om_fork.specs.Barriers.{arrivals, barrier, is_open, open_in}
 use Rattle.om_fork.specs.Teams.{workers_from, first_busy, busy_in, member, member_cells, member_controls, member_puts}
 
@@ -49,17 +49,6 @@ arrivals_past names team n size h = append_assoc names _ _ ∙ ap (λ k. names +
 pub replicate_past : (us : List Update) (u : Update) (n size : ℕ) → n < size → (us ++ u ∷ [])
     ++ replicate (size - (n + 1)) u ≡ us ++ replicate (size - n) u
 replicate_past us u n size h = append_assoc us _ _ ∙ ap (λ k. us ++ replicate k u) (sym (one_less n size h))
-
--- the count that a value is
-pub count_read : (v : Val) → unwrap_or (count_of v) (pos 0) ≡ count_in v
-count_read (value.Count n) = refl
-count_read (value.Control c) = refl
-count_read (value.Cell c) = refl
-count_read (value.Task t) = refl
-count_read (value.Number n) = refl
-count_read (value.Lock h) = refl
-count_read (value.Output bytes) = refl
-count_read (value.Events records) = refl
 
 pub regrouped : (a b : List Access) (e : Access) → (a ++ b) ++ e ∷ [] ≡ a ++ (b ++ e ∷ [])
 regrouped a b e = append_assoc a b (e ∷ [])

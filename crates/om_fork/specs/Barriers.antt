@@ -1,5 +1,5 @@
 -- Barriers: how far each member came, and the tasks of the phase (OpenMP 5.2, 15.3).
-use Rattle.std.specs.Prelude.{ℕ, zero, suc, ◌+◌, ℤ, pos, negsuc, Bool, true, false, nat_lt, if◌then◌else◌, List, []}
+use Rattle.std.specs.Prelude.{ℕ, zero, suc, ◌+◌, Bool, false, nat_lt, if◌then◌else◌, List, []}
 use Rattle.std.specs.Prelude.{◌∷◌, ◌++◌}
 use Rattle.om_foot.specs.declared.object.Obj.TheVariants as obj
 use Rattle.om_foot.specs.declared.footprint.Access.{Access}
@@ -7,7 +7,8 @@ use Rattle.om_cells.specs.declared.control.Team.{Team}
 use Rattle.om_cells.specs.declared.value.Val.{Val}
 use Rattle.om_cells.specs.State.{State}
 use Rattle.om_cells.specs.Values.{number_in, count_in}
-use Rattle.om_row.specs.Objects.{read}
+use Rattle.om_steps.specs.Objects.{read}
+use Rattle.om_steps.specs.Rows.{is_zero}
 
 -- how many barriers the members reached, from this thread number on
 abbrev pub arrivals : List ℕ → ℕ → ℕ → List Access
@@ -17,11 +18,6 @@ arrivals team number (suc count) = read (obj.Arrived team number) ∷ arrivals t
 -- what a member that goes on from the barrier of a phase reads
 abbrev pub barrier : Team → ℕ → List Access
 barrier team phase = arrivals team.name 0 team.size ++ read (obj.Pending team.name phase) ∷ []
-
-abbrev pub is_zero : ℤ → Bool
-is_zero (pos zero) = true
-is_zero (pos (suc n)) = false
-is_zero (negsuc n) = false
 
 -- whether all members have reached the barrier of this phase, and no task of it is unfinished
 abbrev pub is_open : ℕ → ℕ → List Val → Bool

@@ -1,4 +1,4 @@
--- The rows of parallel regions and barriers.
+-- The rows of parallel regions and barriers, and of the end of the program.
 use Rattle.std.specs.Prelude.{ℕ, zero, suc, ◌+◌, ◌-◌, ℤ, pos, negsuc, Bool, true, false, nat_lt, if◌then◌else◌, Option}
 use Rattle.std.specs.Prelude.{None, Some, List, [], ◌∷◌, ◌++◌, length, replicate}
 use Rattle.om_foot.specs.declared.footprint.Access.{Access}
@@ -8,6 +8,7 @@ use Rattle.om_code.specs.declared.instruction.Barrier as barriers
 use Rattle.om_code.specs.declared.instruction.Barrier.TheVariants as barrier_kind
 use Rattle.om_code.specs.declared.raw.Body.{Body}
 use Rattle.om_code.specs.declared.raw.Slot.{Slot}
+use Rattle.om_code.specs.Frames.{int_at}
 use Rattle.om_events.specs.declared.event.Record.TheVariants as event_record
 use Rattle.om_events.specs.declared.kind.Endpoint.TheVariants as endpoint
 use Rattle.om_events.specs.declared.kind.Sync as syncs
@@ -20,18 +21,21 @@ use Rattle.om_cells.specs.declared.control.Context.{Context}
 use Rattle.om_cells.specs.declared.control.Kind.{Kind}
 use Rattle.om_cells.specs.declared.control.Kind.TheVariants as kind
 use Rattle.om_cells.specs.declared.edit.Edit.TheVariants.{Go, BeginContext, EndContext, CountBirth, CountPhase}
+use Rattle.om_cells.specs.declared.edit.Edit.TheVariants.{End}
 use Rattle.om_cells.specs.declared.step.Blocked.TheVariants as blocked
 use Rattle.om_cells.specs.declared.step.Tail.TheVariants.{Events}
 use Rattle.om_cells.specs.declared.step.Update.{Update}
 use Rattle.om_cells.specs.declared.step.Update.TheVariants.{Put, Keep, Append}
 use Rattle.om_cells.specs.declared.value.Val.TheVariants as value
-use Rattle.om_row.specs.declared.row.Launch.{Launch}
-use Rattle.om_row.specs.declared.row.Row.{Row}
-use Rattle.om_row.specs.declared.row.Row.TheVariants.{Goes, Faults, Blocked, Lacks}
-use Rattle.om_row.specs.Rows.{Asked, decided, goes}
-use Rattle.om_row.specs.Objects.{write, events, event, homes_in, own_cells, deaths, is_misplaced}
+use Rattle.om_cells.specs.Values.{count_in}
+use Rattle.om_steps.specs.declared.row.Launch.{Launch}
+use Rattle.om_steps.specs.declared.row.Row.{Row}
+use Rattle.om_steps.specs.declared.row.Row.TheVariants.{Goes, Faults, Blocked, Lacks}
+use Rattle.om_steps.specs.Rows.{Asked, decided, goes, first_of, is_zero}
+use Rattle.om_steps.specs.Objects.{read, write, events, event, homes_in, own_cells, deaths, is_misplaced}
+use Rattle.om_steps.specs.Begins.{first_frame}
 use Rattle.om_fork.specs.Barriers.{barrier, is_open}
-use Rattle.om_fork.specs.Teams.{first_frame, member, member_cells, member_controls, member_puts, workers_from}
+use Rattle.om_fork.specs.Teams.{member, member_cells, member_controls, member_puts, workers_from}
 use Rattle.om_fork.specs.Teams.{first_busy, size_of, level_of}
 
 -- what is put where a team is made: the controls of its other members, the firstprivate values, and the begin
@@ -168,3 +172,27 @@ leave_row worker c below slots kind.Initial number = decided Lacks
 leave_row worker c below slots kind.Explicit number = decided Lacks
 leave_row worker c [] slots kind.Implicit zero = decided Lacks
 leave_row worker c below slots kind.Implicit number = left_row worker c below (own_cells c slots)
+
+-- C17 5.1.2.2.3: the value with which the program ends
+abbrev pub value_of : Context → Bool → Option ℤ
+value_of c true = int_at 0 c.frame.operands
+value_of c false = Some (pos 0)
+
+-- it ends once all tasks of the initial task's team have ended
+abbrev pub finished : Context → ℤ → Bool → Row
+finished c n true = Goes (End n ∷ [])
+    (Keep ∷ event (event_record.ImplicitTask endpoint.End [] c.task 0 1 flag.Initial) ∷ [])
+finished c n false = Blocked blocked.Children
+
+-- only an initial task has such an end
+abbrev pub finished_row : ℕ → Context → Kind → Option ℤ → Asked
+finished_row worker c kind.Implicit n = decided Lacks
+finished_row worker c kind.Explicit n = decided Lacks
+finished_row worker c kind.Initial None = decided Lacks
+finished_row worker c kind.Initial (Some n) = record {
+  names = read (obj.Pending c.team.name c.phase) ∷ events worker ∷ [];
+  row = λ values. finished c n (is_zero (count_in (first_of values)));
+}
+
+abbrev pub finish_row : ℕ → Context → Bool → Asked
+finish_row worker c has_value = finished_row worker c c.kind (value_of c has_value)

@@ -2,7 +2,6 @@
 use Rattle.std.specs.Prelude.{ℕ, zero, suc, ◌+◌, ℤ, nat_lt, if◌then◌else◌, min, Option, None, Some, List, [], ◌∷◌, ◌++◌}
 use Rattle.om_foot.specs.declared.object.Obj.TheVariants as obj
 use Rattle.om_foot.specs.declared.footprint.Access.{Access}
-use Rattle.om_cells.specs.declared.control.Home.{Home}
 use Rattle.om_cells.specs.declared.control.Frame.{Frame}
 use Rattle.om_cells.specs.declared.control.Team.{Team}
 use Rattle.om_cells.specs.declared.control.Context.{Context}
@@ -14,28 +13,12 @@ use Rattle.om_cells.specs.declared.value.Val.{Val}
 use Rattle.om_cells.specs.declared.value.Val.TheVariants as value
 use Rattle.om_cells.specs.State.{State}
 use Rattle.om_cells.specs.Values.{control_in, is_idle}
-use Rattle.om_row.specs.Objects.{write, given_cells, puts}
-
--- the frame with which a task begins on a body
-abbrev pub first_frame : ℕ → List Home → Frame
-first_frame body homes = record { body = body; next = 0; ordinal = 0; operands = []; homes = homes }
+use Rattle.om_steps.specs.Objects.{write, given_cells, puts}
+use Rattle.om_steps.specs.Begins.{new_context}
 
 -- a member of a team, at the start of its region's body
 abbrev pub member : Team → Frame → Context
-member team frame = record {
-  task = team.name ++ team.number ∷ [];
-  kind = kind.Implicit;
-  team = team;
-  phase =
-      0;
-  births = 0;
-  regions = 0;
-  frames = 1;
-  group = None;
-  constructs = [];
-  frame = frame;
-  callers = [];
-}
+member team frame = new_context kind.Implicit 0 (team.name ++ team.number ∷ []) team None frame
 
 -- the controls of workers, from this one on
 abbrev pub workers_from : ℕ → ℕ → List Access

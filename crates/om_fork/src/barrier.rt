@@ -2,13 +2,13 @@
 
 ghost use Rattle.std.specs.Prelude.{◌≡◌, ◌++◌, ◌+◌, OnOk, replicate};
 ghost use Rattle.om_cells.specs.Stores.{state_of};
-ghost use Rattle.om_cells.specs.Values.{count_in};
-ghost use Rattle.om_fork.specs.Barriers.{arrivals, barrier, is_zero, open_in};
+ghost use Rattle.om_fork.specs.Barriers.{arrivals, barrier, open_in};
 
 use om_cells::{Store, Team, Update};
 use om_foot::{Access, Mode, Name, Obj};
-use om_row::names::name;
 use om_seq::Seq;
+use om_steps::counts::is_zero;
+use om_steps::names::name;
 use std::alloc::{AllocError, Global};
 
 /// Appends how far each member of a team of this size came, as what is read.
@@ -41,17 +41,6 @@ pub(crate) fn name_barrier(
     name(names, pending, Mode::Read)
 }
 
-/// Whether the count at an object is 0; one that holds no count has 0.
-#[tactic(auto, using(crate::proofs::Counting::count_read))]
-pub fn is_zero_at(alloc: Global, store: &Store, object: &Obj) -> bool
-    ensures { result ≡ is_zero (count_in (state_of store.now object.now)) }
-{
-    match store.count(alloc, object) {
-        Some(count) => count == 0,
-        None => true,
-    }
-}
-
 /// Whether all members have reached the barrier of a phase, and no task of it is unfinished.
 #[tactic(auto, using(crate::proofs::Counting::open_in_next))]
 pub(crate) fn is_open(alloc: Global, store: &Store, team: &Team, phase: u64) -> bool
@@ -70,7 +59,7 @@ pub(crate) fn is_open(alloc: Global, store: &Store, team: &Team, phase: u64) -> 
         team: team.name,
         phase,
     };
-    is_zero_at(alloc, store, pending)
+    is_zero(alloc, store, pending)
 }
 
 /// Appends that what a member of a team of this size reads at a barrier stays.

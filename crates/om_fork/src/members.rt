@@ -1,32 +1,19 @@
 //! The members of a team: the workers that they need, and what they begin with.
 
-ghost use Rattle.std.specs.Prelude.{◌≡◌, ◌++◌, ◌∷◌, [], ◌-◌, ◌≤◌, IfOk, OnOk, None, length};
+ghost use Rattle.std.specs.Prelude.{◌≡◌, ◌++◌, ◌∷◌, [], ◌-◌, ◌≤◌, IfOk, OnOk, length};
 ghost use Rattle.om_cells.specs.Stores.{state_of};
 ghost use Rattle.om_cells.specs.declared.value.Val.TheVariants as value;
-ghost use Rattle.om_fork.specs.Teams.{first_frame, member, workers_from, busy_in, member_controls, member_cells, member_puts};
+ghost use Rattle.om_fork.specs.Teams.{member, workers_from, busy_in, member_controls, member_cells, member_puts};
 
 use om_cells::{
-    Construct, Context, Control, Frame, Home, Kind, Shared, SharedControl, SharedPile, Stack,
-    Store, Team, Update, Val,
+    Context, Control, Frame, Kind, SharedControl, SharedPile, Stack, Store, Team, Update, Val,
 };
 use om_foot::{Access, Mode, Name, Obj};
-use om_row::names::{name, name_given};
-use om_row::updates::put_ints;
-use om_seq::{Pile, Seq};
+use om_seq::Seq;
+use om_steps::begin::{in_no_group, new_context};
+use om_steps::names::{name, name_given};
+use om_steps::updates::put_ints;
 use std::alloc::{AllocError, Global};
-
-/// The frame with which a task begins on a body. It takes no memory.
-pub fn first_frame(alloc: Global, body: u32, homes: Shared<Seq<Home>>) -> Frame
-    ensures { result ≡ first_frame body homes }
-{
-    Frame {
-        body,
-        next: 0,
-        ordinal: 0,
-        operands: Pile::new(alloc),
-        homes,
-    }
-}
 
 /// The name of the task of a team's member.
 #[tactic(auto, using(crate::proofs::Counting::has_child))]
@@ -81,61 +68,14 @@ pub(crate) fn name_members(
     Ok(())
 }
 
-/// What a member of a team stands in: its name, its team and its group.
-#[derive(Drop)]
-struct Standing {
-    task: Shared<Name>,
-    team: Shared<Team>,
-    group: Shared<Option<Name>>,
-}
-
-/// Where a member of a team stands: in no group.
-fn member_standing(alloc: Global, team: &Team) -> Result<Standing, AllocError>
-    requires { length team.now.name ≤ 63 }
-    ensures { IfOk result
-        (λ s. s ≡ record {
-          task = team.now.name ++ team.now.number ∷ [];
-          team = team.now;
-          group = None;
-        }) }
-{
-    Ok(Standing {
-        task: Shared::of(alloc, member_name(&team.name, team.number))?,
-        team: Shared::of(alloc, *team)?,
-        group: Shared::of(alloc, None)?,
-    })
-}
-
-/// The regions and the waiting frames of a task that begins: none.
-fn nothing_open(alloc: Global) -> Result<(SharedPile<Construct>, SharedPile<Frame>), AllocError>
-    ensures { IfOk result (λ piles. (piles.0 ≡ []) × (piles.1 ≡ [])) }
-{
-    let constructs = SharedPile::new(alloc)?;
-    let callers = SharedPile::new(alloc)?;
-    Ok((constructs, callers))
-}
-
 /// A member of a team, at the start of a frame.
 pub(crate) fn member(alloc: Global, team: &Team, frame: &Frame) -> Result<Context, AllocError>
     requires { length team.now.name ≤ 63 }
     ensures { IfOk result (λ context. context ≡ member team.now frame.now) }
 {
+    let standing = in_no_group(alloc, &member_name(&team.name, team.number), team)?;
     let frame = frame.copy(alloc)?;
-    let Standing { task, team, group } = member_standing(alloc, team)?;
-    let (constructs, callers) = nothing_open(alloc)?;
-    Ok(Context {
-        task,
-        kind: Kind::Implicit,
-        team,
-        phase: 0,
-        births: 0,
-        regions: 0,
-        frames: 1,
-        group,
-        constructs,
-        frame,
-        callers,
-    })
+    new_context(alloc, Kind::Implicit, 0, standing, frame)
 }
 
 /// Appends the control that another worker becomes: a member of a team.

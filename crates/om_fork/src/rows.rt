@@ -3,8 +3,8 @@
 ghost use Rattle.std.specs.Prelude.{◌≡◌, ◌++◌, ◌∷◌, [], ◌≤◌, ◌<◌, ◌+◌, ◌^◌, IfOk, OnOk, length, None};
 ghost use Rattle.om_cells.specs.State.{State};
 ghost use Rattle.om_cells.specs.Stores.{state_of};
-ghost use Rattle.om_row.specs.Rows.{answered, goes};
-ghost use Rattle.om_row.specs.Objects.{deaths, event, events, own_cells, write};
+ghost use Rattle.om_steps.specs.Rows.{answered, goes};
+ghost use Rattle.om_steps.specs.Objects.{deaths, event, events, own_cells, write};
 ghost use Rattle.om_foot.specs.declared.object.Obj.TheVariants as obj;
 ghost use Rattle.om_cells.specs.declared.value.Val.TheVariants as value;
 ghost use Rattle.om_fork.specs.Barriers.{barrier};
@@ -18,42 +18,23 @@ use om_code::raw::Slot;
 use om_events::Record;
 use om_events::kind::{Endpoint, Sync, TaskFlag};
 use om_foot::{Access, Mode, Name, Obj};
-use om_row::names::{is_misplaced, name, name_events, own_cells};
-use om_row::updates::{put_deaths, put_event};
-use om_row::{Answer, Row};
 use om_seq::Seq;
+use om_steps::names::{is_misplaced, name, name_events, own_cells};
+use om_steps::parts::{go_and, go_on, recorded};
+use om_steps::updates::{put_deaths, put_event};
+use om_steps::{Answer, At, Row};
 use std::alloc::{AllocError, Global};
 
-/// A worker that carries out an instruction, and the place in the body at which it goes on.
-#[derive(Clone, Copy)]
-pub struct Going {
-    /// The worker, from 0.
-    pub worker: u8,
-    /// The place.
-    pub to: u32,
-}
-
-/// The row that goes on with one event record.
-fn recorded(alloc: Global, to: u32, entry: Record) -> Result<Row, AllocError>
-    ensures { IfOk result (λ row. row ≡ goes to 0 None (event entry ∷ [])) }
-{
-    let mut updates = Seq::new(alloc);
-    put_event(alloc, &mut updates, entry)?;
-    Row::goes(alloc, to, 0, None, updates)
-}
-
 /// BEGIN: the begin of a member's task is recorded. The only error is out of memory.
-pub fn begin(alloc: Global, going: Going, context: &Context) -> Result<Answer, AllocError>
+pub fn begin(alloc: Global, at: At, context: &Context) -> Result<Answer, AllocError>
     ensures { IfOk result
         (λ answer. answer
         ≡ record {
-          names = (begin_row going.worker going.to context.now).names;
+          names = (begin_row at.worker at.to context.now).names;
           row =
-              (begin_row going.worker going.to context.now).row [];
+              (begin_row at.worker at.to context.now).row [];
         }) }
 {
-    let mut names = Seq::new(alloc);
-    name_events(&mut names, going.worker)?;
     let begun = Record::ImplicitTask {
         endpoint: Endpoint::Begin,
         team: context.team.get().name,
@@ -62,8 +43,8 @@ pub fn begin(alloc: Global, going: Going, context: &Context) -> Result<Answer, A
         number: context.team.get().number,
         flag: TaskFlag::Implicit,
     };
-    let row = recorded(alloc, going.to, begun)?;
-    Ok(Answer { names, row })
+    let edits = go_on(alloc, at.to)?;
+    recorded(alloc, at.worker, edits, begun)
 }
 
 /// The kind of synchronization that a barrier is.
@@ -140,18 +121,13 @@ fn reached_turn(
 }
 
 /// The answer of a member that reaches a barrier.
-fn reached(
-    alloc: Global,
-    going: Going,
-    barrier: Barrier,
-    context: &Context,
-) -> Result<Answer, AllocError>
+fn reached(alloc: Global, at: At, barrier: Barrier, context: &Context) -> Result<Answer, AllocError>
     requires { context.now.phase + 1 < 2 ^ 64 }
     ensures { (s : State) → IfOk result
-        (λ answer. answer ≡ answered (reached_row going.worker going.to barrier context.now) s) }
+        (λ answer. answer ≡ answered (reached_row at.worker at.to barrier context.now) s) }
 {
-    let names = reached_names(alloc, going.worker, context.team.get())?;
-    let row = reached_turn(alloc, going.to, barrier, context)?;
+    let names = reached_names(alloc, at.worker, context.team.get())?;
+    let row = reached_turn(alloc, at.to, barrier, context)?;
     Ok(Answer { names, row })
 }
 
@@ -159,18 +135,18 @@ fn reached(
 /// The only error is out of memory.
 pub fn arrive(
     alloc: Global,
-    going: Going,
+    at: At,
     barrier: Barrier,
     context: &Context,
 ) -> Result<Answer, AllocError>
     requires { context.now.phase + 1 < 2 ^ 64 }
     ensures { (s : State) → IfOk result
-        (λ answer. answer ≡ answered (arrive_row going.worker going.to barrier context.now) s) }
+        (λ answer. answer ≡ answered (arrive_row at.worker at.to barrier context.now) s) }
 {
     if is_misplaced_barrier(barrier, context) {
         return Ok(Answer::decided(alloc, Row::Faults(Fault::Nesting)));
     }
-    reached(alloc, going, barrier, context)
+    reached(alloc, at, barrier, context)
 }
 
 /// The names of a member at a barrier, with these cells of its own.
@@ -229,13 +205,7 @@ fn departed(
     if !opens {
         return Ok(Row::Blocked(Blocked::Barrier));
     }
-    let go = Edit::Go {
-        to,
-        takes: 0,
-        pushed: None,
-    };
-    let mut edits = Seq::one(alloc, go)?;
-    edits.push(Edit::CountPhase)?;
+    let edits = go_and(alloc, to, 0, Edit::CountPhase)?;
     let updates = departed_updates(alloc, barrier, context)?;
     Ok(Row::Goes { edits, updates })
 }
@@ -246,17 +216,17 @@ fn departed(
 pub fn depart(
     alloc: Global,
     store: &Store,
-    going: Going,
+    at: At,
     barrier: Barrier,
     context: &Context,
 ) -> Result<Answer, AllocError>
     ensures { IfOk result
-        (λ answer. answer ≡ answered (depart_row going.worker going.to barrier context.now)
+        (λ answer. answer ≡ answered (depart_row at.worker at.to barrier context.now)
         (state_of store.now)) }
 {
-    let names = barrier_names(alloc, going.worker, context, &[])?;
+    let names = barrier_names(alloc, at.worker, context, &[])?;
     let opens = is_open(alloc, store, context.team.get(), context.phase);
-    let row = departed(alloc, going.to, barrier, context, opens)?;
+    let row = departed(alloc, at.to, barrier, context, opens)?;
     Ok(Answer { names, row })
 }
 

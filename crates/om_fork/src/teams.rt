@@ -4,14 +4,13 @@ ghost use Rattle.std.specs.Prelude.{◌≡◌, ◌++◌, ◌∷◌, [], ◌+◌,
 ghost use Rattle.om_cells.specs.Stores.{state_of};
 ghost use Rattle.om_code.specs.Frames.{int_at};
 ghost use Rattle.om_code.specs.Printing.{ints_on};
-ghost use Rattle.om_row.specs.Rows.{answered};
-ghost use Rattle.om_row.specs.Objects.{events, homes_in};
-ghost use Rattle.om_fork.specs.Teams.{first_frame, member, workers_from, member_cells, size_of, level_of};
+ghost use Rattle.om_steps.specs.Rows.{answered};
+ghost use Rattle.om_steps.specs.Objects.{events, homes_in};
+ghost use Rattle.om_fork.specs.Teams.{member, workers_from, member_cells, size_of, level_of};
+ghost use Rattle.om_steps.specs.Begins.{first_frame};
 ghost use Rattle.om_fork.specs.Rows.{team_updates, forked, team_row, team_of, named_row, sized_row, fork_row};
 
-use crate::members::{
-    busy, first_frame, member, name_members, name_workers, put_given, put_members,
-};
+use crate::members::{busy, member, name_members, name_workers, put_given, put_members};
 use om_cells::{Blocked, Context, Edit, Frame, Shared, Store, Team, Update};
 use om_code::Body;
 use om_code::frame::Fault;
@@ -19,10 +18,11 @@ use om_code::print::ints_on;
 use om_code::serial::int_at;
 use om_events::Record;
 use om_foot::{Access, Name};
-use om_row::names::{homes_in, name_events};
-use om_row::updates::put_event;
-use om_row::{Answer, Launch, Row};
 use om_seq::Seq;
+use om_steps::begin::first_frame;
+use om_steps::names::{homes_in, name_events};
+use om_steps::updates::put_event;
+use om_steps::{Answer, Launch, Row};
 use std::alloc::{AllocError, Global};
 
 /// A worker that carries out a FORK.

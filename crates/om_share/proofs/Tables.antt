@@ -10,8 +10,8 @@ use Rattle.om_cells.specs.declared.control.Context.{Context}
 use Rattle.om_cells.specs.declared.control.Share.{Share}
 use Rattle.om_events.specs.declared.kind.Work.{Work}
 use Rattle.om_cells.specs.State.{State}
-use Rattle.om_row.specs.declared.row.Answer.{Answer}
-use Rattle.om_row.specs.Rows.{Asked, answered}
+use Rattle.om_steps.specs.declared.row.Answer.{Answer}
+use Rattle.om_steps.specs.Rows.{Asked, answered}
 use Rattle.om_share.specs.Rows.{end_worksharing_row, closed_row, work_of, single_work, is_right_form, loop_of, open_row}
 use Rattle.om_share.specs.Rows.{loop_row, is_loop, iteration_row, iterate_row, grab_row, static_row}
 

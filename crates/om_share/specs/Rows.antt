@@ -28,10 +28,10 @@ use Rattle.om_cells.specs.declared.step.Blocked.TheVariants as blocked
 use Rattle.om_cells.specs.declared.step.Update.TheVariants.{Put, Keep}
 use Rattle.om_cells.specs.declared.value.Val.TheVariants as value
 use Rattle.om_cells.specs.Values.{number_in, holder_in}
-use Rattle.om_row.specs.declared.row.Row.{Row}
-use Rattle.om_row.specs.declared.row.Row.TheVariants.{Goes, Faults, Blocked, Lacks}
-use Rattle.om_row.specs.Rows.{Asked, decided, goes, first_of}
-use Rattle.om_row.specs.Objects.{write, events, event, object_of, innermost, is_misplaced}
+use Rattle.om_steps.specs.declared.row.Row.{Row}
+use Rattle.om_steps.specs.declared.row.Row.TheVariants.{Goes, Faults, Blocked, Lacks}
+use Rattle.om_steps.specs.Rows.{Asked, decided, goes, first_of}
+use Rattle.om_steps.specs.Objects.{write, events, event, object_of, innermost, is_misplaced}
 use Rattle.om_share.specs.declared.chunk.Chunk.{Chunk}
 use Rattle.om_share.specs.Chunks.{step_size, count_of, value_of, static_chunk, chunk_within}
 

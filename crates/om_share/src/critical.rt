@@ -3,17 +3,18 @@
 ghost use Rattle.std.specs.Prelude.{◌≡◌, IfOk};
 ghost use Rattle.om_cells.specs.State.{State};
 ghost use Rattle.om_cells.specs.Stores.{state_of};
-ghost use Rattle.om_row.specs.Objects.{innermost};
-ghost use Rattle.om_row.specs.Rows.{answered};
+ghost use Rattle.om_steps.specs.Objects.{innermost};
+ghost use Rattle.om_steps.specs.Rows.{answered};
 ghost use Rattle.om_share.specs.Rows.{ask_critical_row, lock_row, enter_critical_row, is_critical, unlock_row, leave_critical_row};
 
-use crate::parts::{At, edits, opened, recorded, update_and_event, written_and_events};
+use crate::parts::opened;
 use om_cells::{Blocked, Construct, Context, Edit, Store, Update, Val};
 use om_events::Record;
-use om_foot::Obj;
-use om_row::names::innermost;
-use om_row::{Answer, Row};
+use om_foot::{Mode, Obj};
 use om_seq::Seq;
+use om_steps::names::innermost;
+use om_steps::parts::{go_and, go_on, name_with_events, recorded, update_with_event};
+use om_steps::{Answer, At, Row};
 use std::alloc::{AllocError, Global};
 
 /// The name of a lock, for a record.
@@ -29,12 +30,7 @@ pub fn ask_critical(alloc: Global, at: At, name: &[u8]) -> Result<Answer, AllocE
         (λ answer. answer ≡ answered (ask_critical_row at.worker at.to name.now) s) }
 {
     let lock = copied(alloc, name)?;
-    let go = Edit::Go {
-        to: at.to,
-        takes: 0,
-        pushed: None,
-    };
-    let edits = Seq::one(alloc, go)?;
+    let edits = go_on(alloc, at.to)?;
     recorded(alloc, at.worker, edits, Record::MutexAcquire { lock })
 }
 
@@ -53,7 +49,7 @@ fn lock(
     }
     let lock = copied(alloc, name)?;
     let put = Update::Put(Val::Lock(Some(at.worker)));
-    let updates = update_and_event(alloc, put, Record::MutexAcquired { lock })?;
+    let updates = update_with_event(alloc, put, Record::MutexAcquired { lock })?;
     let edits = opened(alloc, at.to, 0, &Construct::Critical(number))?;
     Ok(Row::Goes { edits, updates })
 }
@@ -70,7 +66,7 @@ pub fn enter_critical(
         (λ answer. answer ≡ answered (enter_critical_row at.worker at.to number name.now)
         (state_of store.now)) }
 {
-    let names = written_and_events(alloc, &Obj::Lock(number), at.worker)?;
+    let names = name_with_events(alloc, &Obj::Lock(number), Mode::Write, at.worker)?;
     let row = lock(alloc, at, number, name, store.holder(number))?;
     Ok(Answer { names, row })
 }
@@ -94,8 +90,8 @@ fn unlock(alloc: Global, to: u32, name: &[u8]) -> Result<Row, AllocError>
 {
     let lock = copied(alloc, name)?;
     let put = Update::Put(Val::Lock(None));
-    let updates = update_and_event(alloc, put, Record::MutexReleased { lock })?;
-    let edits = edits(alloc, to, 0, Edit::Close)?;
+    let updates = update_with_event(alloc, put, Record::MutexReleased { lock })?;
+    let edits = go_and(alloc, to, 0, Edit::Close)?;
     Ok(Row::Goes { edits, updates })
 }
 
@@ -114,7 +110,7 @@ pub fn leave_critical(
     if !is_critical(context, number) {
         return Ok(Answer::decided(alloc, Row::Lacks));
     }
-    let names = written_and_events(alloc, &Obj::Lock(number), at.worker)?;
+    let names = name_with_events(alloc, &Obj::Lock(number), Mode::Write, at.worker)?;
     let row = unlock(alloc, at.to, name)?;
     Ok(Answer { names, row })
 }

@@ -15,6 +15,6 @@ mod singles;
 pub use chunk::Chunk;
 pub use critical::{ask_critical, enter_critical, leave_critical};
 pub use masking::{end_masked, masked};
-pub use parts::{At, Branch};
+pub use parts::Branch;
 pub use shares::{Bounds, grab, iterate, open_loop, open_sections, pick};
 pub use singles::{end_worksharing, single};

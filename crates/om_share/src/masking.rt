@@ -3,15 +3,16 @@
 ghost use Rattle.std.specs.Prelude.{◌≡◌, pos, IfOk};
 ghost use Rattle.std.specs.Ordering.{int_eq};
 ghost use Rattle.om_cells.specs.State.{State};
-ghost use Rattle.om_row.specs.Objects.{innermost};
-ghost use Rattle.om_row.specs.Rows.{answered};
+ghost use Rattle.om_steps.specs.Objects.{innermost};
+ghost use Rattle.om_steps.specs.Rows.{answered};
 ghost use Rattle.om_share.specs.Rows.{filtered_row, masked_row, is_masked, end_masked_row};
 
-use crate::parts::{At, Branch, edits, jump, opened, own_events, recorded};
+use crate::parts::{Branch, jump, opened};
 use om_cells::{Construct, Context, Edit};
 use om_events::{Endpoint, Record};
-use om_row::names::innermost;
-use om_row::{Answer, Row};
+use om_steps::names::innermost;
+use om_steps::parts::{go_and, own_events, recorded};
+use om_steps::{Answer, At, Row};
 use std::alloc::{AllocError, Global};
 
 /// The record that a masked region begins or ends.
@@ -92,7 +93,7 @@ pub fn end_masked(alloc: Global, context: &Context, at: At) -> Result<Answer, Al
     if !is_masked(context) {
         return Ok(Answer::decided(alloc, Row::Lacks));
     }
-    let edits = edits(alloc, at.to, 0, Edit::Close)?;
+    let edits = go_and(alloc, at.to, 0, Edit::Close)?;
     let entry = masked_record(context, Endpoint::End);
     recorded(alloc, at.worker, edits, entry)
 }

@@ -6,21 +6,22 @@ ghost use Rattle.om_cells.specs.Stores.{state_of};
 ghost use Rattle.om_foot.specs.declared.object.Obj.TheVariants as obj;
 ghost use Rattle.om_code.specs.declared.frame.Cell.TheVariants as cell;
 ghost use Rattle.om_cells.specs.declared.value.Val.TheVariants as values;
-ghost use Rattle.om_row.specs.Objects.{write};
-ghost use Rattle.om_row.specs.Rows.{answered};
+ghost use Rattle.om_steps.specs.Objects.{write};
+ghost use Rattle.om_steps.specs.Rows.{answered};
 ghost use Rattle.om_share.specs.Chunks.{value_of};
 ghost use Rattle.om_share.specs.Rows.{edits, is_right_schedule, is_right_form, loop_of, is_loop, work_of, open_row, loop_row, sections_row, share_in, in_chunk, taken_row, given_row, static_row, grab_row, int_of, iteration_row, iterate_row, is_section, section_row, pick_row};
 
 use crate::chunk::{Chunk, chunk_within, count_of, static_chunk, step_size};
-use crate::parts::{At, Branch, begun, edits, jump, recorded, share_in, work_record, written};
+use crate::parts::{Branch, begun, jump, share_in, work_record};
 use om_cells::{Construct, Context, Edit, Share, Shared, Sharing, Store, Update, Val};
 use om_code::frame::{Cell, Fault};
 use om_code::instruction::{LoopForm, Place, Schedule};
 use om_events::{Endpoint, Work};
-use om_foot::Obj;
-use om_row::names::{is_misplaced, object_of};
-use om_row::{Answer, Row};
+use om_foot::{Mode, Obj};
 use om_seq::Seq;
+use om_steps::names::{is_misplaced, object_of};
+use om_steps::parts::{go_and, name_one, recorded};
+use om_steps::{Answer, At, Row};
 use std::alloc::{AllocError, Global};
 
 /// The bounds of a loop, where they are ints.
@@ -168,7 +169,7 @@ fn replaced(alloc: Global, to: u32, share: &Construct) -> Result<Seq<Edit>, Allo
     ensures { IfOk result (λ es. es ≡ edits to 0 (Edit.Replace share.now)) }
 {
     let share = Shared::of(alloc, *share)?;
-    edits(alloc, to, 0, Edit::Replace(share))
+    go_and(alloc, to, 0, Edit::Replace(share))
 }
 
 /// What comes of a member's next chunk under a static schedule.
@@ -242,7 +243,7 @@ fn grab_dynamic(
         ≡ record
         { names = write work.now ∷ []; row = given_row branch.to branch.otherwise share chunk }) }
 {
-    let names = written(alloc, work)?;
+    let names = name_one(alloc, work, Mode::Write)?;
     let row = give(alloc, branch, share, chunk)?;
     Ok(Answer { names, row })
 }
@@ -341,7 +342,7 @@ fn next_iteration(
         return Ok(Answer::decided(alloc, Row::Lacks));
     };
     let variable = &object_of(context, Place::Slot(slot), 0);
-    let names = written(alloc, variable)?;
+    let names = name_one(alloc, variable, Mode::Write)?;
     let row = iterated(alloc, branch.to, share, value)?;
     Ok(Answer { names, row })
 }

@@ -3,20 +3,19 @@
 ghost use Rattle.std.specs.Prelude.{◌≡◌, true, false, IfOk};
 ghost use Rattle.om_cells.specs.State.{State};
 ghost use Rattle.om_cells.specs.Stores.{state_of};
-ghost use Rattle.om_row.specs.Objects.{innermost};
-ghost use Rattle.om_row.specs.Rows.{answered};
+ghost use Rattle.om_steps.specs.Objects.{innermost};
+ghost use Rattle.om_steps.specs.Rows.{answered};
 ghost use Rattle.om_share.specs.Rows.{single_work, chosen_row, single_row, closed_row, end_worksharing_row};
 
-use crate::parts::{
-    At, Branch, begun, edits, recorded, update_and_event, work_record, written_and_events,
-};
+use crate::parts::{Branch, begun, work_record};
 use crate::shares::work_of;
 use om_cells::{Construct, Context, Edit, Store, Update, Val};
 use om_code::frame::Fault;
 use om_events::{Endpoint, Work};
-use om_foot::Obj;
-use om_row::names::{innermost, is_misplaced};
-use om_row::{Answer, Row};
+use om_foot::{Mode, Obj};
+use om_steps::names::{innermost, is_misplaced};
+use om_steps::parts::{go_and, name_with_events, recorded, update_with_event};
+use om_steps::{Answer, At, Row};
 use std::alloc::{AllocError, Global};
 
 /// The kind of a single region in its records, for the thread that runs it and for any other.
@@ -37,7 +36,7 @@ fn run(alloc: Global, context: &Context, to: u32) -> Result<Row, AllocError>
     let region = &Construct::Single { runs: true };
     let edits = begun(alloc, to, 0, region)?;
     let entry = work_record(context, single_work(true), Endpoint::Begin, 1);
-    let updates = update_and_event(alloc, Update::Put(Val::Number(1)), entry)?;
+    let updates = update_with_event(alloc, Update::Put(Val::Number(1)), entry)?;
     Ok(Row::Goes { edits, updates })
 }
 
@@ -48,7 +47,7 @@ fn pass(alloc: Global, context: &Context, otherwise: u32) -> Result<Row, AllocEr
     let region = &Construct::Single { runs: false };
     let edits = begun(alloc, otherwise, 0, region)?;
     let entry = work_record(context, single_work(false), Endpoint::Begin, 1);
-    let updates = update_and_event(alloc, Update::Keep, entry)?;
+    let updates = update_with_event(alloc, Update::Keep, entry)?;
     Ok(Row::Goes { edits, updates })
 }
 
@@ -89,7 +88,7 @@ pub fn single(
         region: context.regions,
     };
     let is_first = store.number(alloc, work) == 0;
-    let names = written_and_events(alloc, work, worker)?;
+    let names = name_with_events(alloc, work, Mode::Write, worker)?;
     let row = choose(alloc, context, branch, is_first)?;
     Ok(Answer { names, row })
 }
@@ -105,7 +104,7 @@ fn close(
     ensures { (s : State) → IfOk result
         (λ answer. answer ≡ answered (closed_row at.worker at.to context.now work count) s) }
 {
-    let edits = edits(alloc, at.to, 0, Edit::Close)?;
+    let edits = go_and(alloc, at.to, 0, Edit::Close)?;
     let entry = work_record(context, work, Endpoint::End, count);
     recorded(alloc, at.worker, edits, entry)
 }

@@ -1,23 +1,9 @@
--- Counts as numbers, and additions to them.
-use Rattle.std.proofs.Common.{◌≡◌, refl, sym, ◌∙◌, ap, ℕ, ℤ, pos, List, [], ◌∷◌, ◌++◌, Option, Some, append_assoc}
-use Rattle.std.specs.Prelude.{unwrap_or, Result, Ok, Err, OnOk}
+-- Additions to counts.
+use Rattle.std.proofs.Common.{◌≡◌, sym, ◌∙◌, ap, ℕ, ℤ, List, [], ◌∷◌, ◌++◌, Option, Some, append_assoc}
+use Rattle.std.specs.Prelude.{Result, Ok, Err, OnOk}
 use Rattle.om_cells.specs.declared.step.Update.{Update}
 use Rattle.om_cells.specs.declared.step.Update.TheVariants.{Add}
-use Rattle.om_cells.specs.declared.value.Val.{Val}
-use Rattle.om_cells.specs.declared.value.Val.TheVariants as value
-use Rattle.om_cells.specs.Values.{count_of, count_in}
 use Rattle.om_spawn.specs.Tasks.{additions}
-
--- what is no count counts as 0
-pub count_is : (v : Val) → unwrap_or (count_of v) (pos 0) ≡ count_in v
-count_is (value.Count n) = refl
-count_is (value.Control c) = refl
-count_is (value.Cell c) = refl
-count_is (value.Task t) = refl
-count_is (value.Number n) = refl
-count_is (value.Lock l) = refl
-count_is (value.Output bytes) = refl
-count_is (value.Events records) = refl
 
 three : (us a b new : List Update) (u : Update) → a ≡ us ++ u ∷ [] → b ≡ a ++ u ∷ [] → new ≡ b ++ u ∷ [] → new ≡ us
     ++ u ∷ u ∷ u ∷ []

@@ -1,4 +1,4 @@
--- The rows of tasks, task groups, and the end of the program.
+-- The rows of tasks and task groups.
 use Rattle.std.specs.Prelude.{ℕ, ℤ, pos, negsuc, Bool, true, false, if◌then◌else◌, nat_eq, Option, None, Some, List, []}
 use Rattle.std.specs.Prelude.{◌∷◌, ◌++◌}
 use Rattle.std.specs.Cmp.Lexicographic.{pointwise}
@@ -8,7 +8,6 @@ use Rattle.om_foot.specs.declared.footprint.Access.{Access}
 use Rattle.om_code.specs.declared.frame.Fault.TheVariants as fault
 use Rattle.om_code.specs.declared.raw.Body.{Body}
 use Rattle.om_code.specs.declared.raw.Slot.{Slot}
-use Rattle.om_code.specs.Frames.{int_at}
 use Rattle.om_code.specs.Printing.{ints_on}
 use Rattle.om_events.specs.declared.event.Record.{Record}
 use Rattle.om_events.specs.declared.event.Record.TheVariants as event_record
@@ -16,7 +15,6 @@ use Rattle.om_events.specs.declared.kind.Endpoint as endpoints
 use Rattle.om_events.specs.declared.kind.Endpoint.TheVariants as endpoint
 use Rattle.om_events.specs.declared.kind.Sync as syncs
 use Rattle.om_events.specs.declared.kind.Sync.TheVariants as sync
-use Rattle.om_events.specs.declared.kind.TaskFlag.TheVariants as flag
 use Rattle.om_events.specs.declared.kind.TaskStatus as statuses
 use Rattle.om_events.specs.declared.kind.TaskStatus.TheVariants as status
 use Rattle.om_cells.specs.declared.control.Context.{Context}
@@ -24,7 +22,7 @@ use Rattle.om_cells.specs.declared.control.Construct.TheVariants as construct
 use Rattle.om_cells.specs.declared.control.Kind.{Kind}
 use Rattle.om_cells.specs.declared.control.Kind.TheVariants as kind
 use Rattle.om_cells.specs.declared.control.Stack.{Stack}
-use Rattle.om_cells.specs.declared.edit.Edit.TheVariants.{Go, BeginContext, EndContext, Open, Close, CountBirth, End}
+use Rattle.om_cells.specs.declared.edit.Edit.TheVariants.{Go, BeginContext, EndContext, Open, Close, CountBirth}
 use Rattle.om_cells.specs.declared.step.Blocked.TheVariants as blocked
 use Rattle.om_cells.specs.declared.step.Update.{Update}
 use Rattle.om_cells.specs.declared.step.Update.TheVariants.{Put, Keep}
@@ -33,13 +31,13 @@ use Rattle.om_cells.specs.declared.value.Task as tasks
 use Rattle.om_cells.specs.declared.value.Task.TheVariants as task
 use Rattle.om_cells.specs.declared.value.Val.TheVariants as value
 use Rattle.om_cells.specs.Values.{task_in, count_in}
-use Rattle.om_row.specs.declared.row.Row.{Row}
-use Rattle.om_row.specs.declared.row.Row.TheVariants.{Goes, Faults, Blocked, Lacks}
-use Rattle.om_row.specs.Rows.{Asked, decided, goes, first_of}
-use Rattle.om_row.specs.Objects.{read, write, events, event, given_cells, own_cells, puts, deaths, innermost}
+use Rattle.om_steps.specs.declared.row.Row.{Row}
+use Rattle.om_steps.specs.declared.row.Row.TheVariants.{Goes, Faults, Blocked, Lacks}
+use Rattle.om_steps.specs.Rows.{Asked, decided, goes, first_of, is_zero}
+use Rattle.om_steps.specs.Objects.{read, write, events, event, given_cells, own_cells, puts, deaths, innermost}
 use Rattle.om_spawn.specs.declared.task.Making.{Making}
 use Rattle.om_spawn.specs.declared.start.Starting.{Starting}
-use Rattle.om_spawn.specs.Tasks.{is_zero, born, group_of, innermost_group, counts, additions, ready_of, task_context}
+use Rattle.om_spawn.specs.Tasks.{born, group_of, innermost_group, counts, additions, ready_of, task_context}
 
 -- OpenMP 5.2, 12.5: a task of this name is made, with its firstprivate values
 abbrev pub made_names : ℕ → Body → Context → List ℕ → List Access
@@ -149,30 +147,6 @@ closed_row worker to c (Some group) = record {
 
 abbrev pub group_end_row : ℕ → ℕ → Context → Asked
 group_end_row worker to c = closed_row worker to c (innermost_group (innermost c.constructs))
-
--- C17 5.1.2.2.3: the value with which the program ends
-abbrev pub value_of : Context → Bool → Option ℤ
-value_of c true = int_at 0 c.frame.operands
-value_of c false = Some (pos 0)
-
--- it ends once all tasks of the initial task's team have ended
-abbrev pub finished : Context → ℤ → Bool → Row
-finished c n true = Goes (End n ∷ [])
-    (Keep ∷ event (event_record.ImplicitTask endpoint.End [] c.task 0 1 flag.Initial) ∷ [])
-finished c n false = Blocked blocked.Children
-
--- only an initial task has such an end
-abbrev pub finished_row : ℕ → Context → Kind → Option ℤ → Asked
-finished_row worker c kind.Implicit n = decided Lacks
-finished_row worker c kind.Explicit n = decided Lacks
-finished_row worker c kind.Initial None = decided Lacks
-finished_row worker c kind.Initial (Some n) = record {
-  names = read (obj.Pending c.team.name c.phase) ∷ events worker ∷ [];
-  row = λ values. finished c n (is_zero (count_in (first_of values)));
-}
-
-abbrev pub finish_row : ℕ → Context → Bool → Asked
-finish_row worker c has_value = finished_row worker c c.kind (value_of c has_value)
 
 -- what a task waits with, where it is ready and of this team
 abbrev pub ready_for : List ℕ → tasks.Task → Option Ready

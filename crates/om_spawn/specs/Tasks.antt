@@ -1,28 +1,18 @@
 -- Explicit tasks: their names, what they wait and begin with, and the counts in which they stand (OpenMP 5.2, 12.5).
-use Rattle.std.specs.Prelude.{ℕ, ◌+◌, ℤ, pos, Bool, Option, None, Some, List, [], ◌∷◌, ◌++◌}
-use Rattle.std.specs.Ordering.{int_eq}
+use Rattle.std.specs.Prelude.{ℕ, ◌+◌, ℤ, Option, None, Some, List, [], ◌∷◌, ◌++◌}
 use Rattle.om_foot.specs.Names.{name_of}
 use Rattle.om_foot.specs.declared.object.Obj.TheVariants as obj
 use Rattle.om_foot.specs.declared.footprint.Access.{Access}
 use Rattle.om_code.specs.declared.raw.Body.{Body}
-use Rattle.om_cells.specs.declared.control.Home.{Home}
-use Rattle.om_cells.specs.declared.control.Frame.{Frame}
 use Rattle.om_cells.specs.declared.control.Context.{Context}
 use Rattle.om_cells.specs.declared.control.Construct.{Construct}
 use Rattle.om_cells.specs.declared.control.Kind.TheVariants as kind
 use Rattle.om_cells.specs.declared.step.Update.{Update}
 use Rattle.om_cells.specs.declared.step.Update.TheVariants.{Add}
 use Rattle.om_cells.specs.declared.value.Ready.{Ready}
-use Rattle.om_row.specs.Objects.{add, homes_in, group_name, group_in}
+use Rattle.om_steps.specs.Objects.{add, homes_in, group_name, group_in}
+use Rattle.om_steps.specs.Begins.{first_frame, new_context}
 use Rattle.om_spawn.specs.declared.task.Making.{Making}
-
--- whether a count is 0
-abbrev pub is_zero : ℤ → Bool
-is_zero count = int_eq count (pos 0)
-
--- the frame with which a task begins on a body
-abbrev pub first_frame : ℕ → List Home → Frame
-first_frame body homes = record { body = body; next = 0; ordinal = 0; operands = []; homes = homes }
 
 -- the name of what is born next of a context's task, unless it has more than 64 numbers
 abbrev pub born : Context → Option (List ℕ)
@@ -67,17 +57,5 @@ ready_of m body c = record {
 
 -- the context of a task that is started on another context: its place in the team is that of the context below
 abbrev pub task_context : List ℕ → Context → Ready → Context
-task_context name c ready = record {
-  task = name;
-  kind = kind.Explicit;
-  team = c.team;
-  phase = ready.phase;
-  births =
-      0;
-  regions = 0;
-  frames = 1;
-  group = ready.group;
-  constructs = [];
-  frame = first_frame ready.body ready.homes;
-  callers = [];
-}
+task_context name c ready = new_context kind.Explicit ready.phase name c.team ready.group
+    (first_frame ready.body ready.homes)

@@ -2,31 +2,14 @@
 
 ghost use Rattle.std.specs.Prelude.{◌≡◌, ◌++◌, ◌∷◌, [], OnOk};
 ghost use Rattle.om_foot.specs.declared.object.Obj.TheVariants as obj;
-ghost use Rattle.om_cells.specs.Values.{count_in};
-ghost use Rattle.om_cells.specs.Stores.{state_of};
-ghost use Rattle.om_row.specs.Objects.{add};
-ghost use Rattle.om_spawn.specs.Tasks.{is_zero, group_count, counts, additions};
+ghost use Rattle.om_steps.specs.Objects.{add};
+ghost use Rattle.om_spawn.specs.Tasks.{group_count, counts, additions};
 
-use om_cells::{Context, Store, Update};
+use om_cells::{Context, Update};
 use om_foot::{Access, Mode, Name, Obj};
-use om_row::names::name;
 use om_seq::Seq;
-use std::alloc::{AllocError, Global};
-
-/// The count that an object holds, or 0.
-#[tactic(auto, using(crate::proofs::Counts::count_is))]
-fn count_at(alloc: Global, store: &Store, object: &Obj) -> i128
-    ensures { result ≡ count_in (state_of store.now object.now) }
-{
-    store.count(alloc, object).unwrap_or(0)
-}
-
-/// Whether the count that an object holds is 0.
-pub(crate) fn is_zero(alloc: Global, store: &Store, object: &Obj) -> bool
-    ensures { result ≡ is_zero (count_in (state_of store.now object.now)) }
-{
-    count_at(alloc, store, object) == 0
-}
+use om_steps::names::name;
+use std::alloc::AllocError;
 
 /// Appends the count of a task group, where there is a group.
 fn name_group(names: &mut Seq<Access>, group: &Option<Name>) -> Result<(), AllocError>

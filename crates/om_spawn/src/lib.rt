@@ -1,8 +1,7 @@
-//! The rows of tasks, task groups and the end of the program.
+//! The rows of tasks and task groups.
 #![tactic(auto)]
 
 mod count;
-mod part;
 pub mod start;
 pub mod task;
 pub mod wait;

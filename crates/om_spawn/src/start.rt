@@ -4,19 +4,17 @@ ghost use Rattle.std.specs.Prelude.{◌≡◌, ◌∷◌, [], IfOk, option_map};
 ghost use Rattle.om_foot.specs.declared.object.Obj.TheVariants as obj;
 ghost use Rattle.om_cells.specs.Stores.{state_of};
 ghost use Rattle.om_cells.specs.Values.{task_in};
-ghost use Rattle.om_row.specs.Rows.{answered};
-ghost use Rattle.om_spawn.specs.Tasks.{first_frame, task_context};
+ghost use Rattle.om_steps.specs.Rows.{answered};
+ghost use Rattle.om_spawn.specs.Tasks.{task_context};
 ghost use Rattle.om_spawn.specs.Rows.{begun_updates, ready_for, start_row};
 
-use crate::part::{name_with_events, update_with_event};
-use om_cells::{
-    Blocked, Construct, Context, Edit, Frame, Home, Kind, Ready, Shared, SharedPile, Store, Task,
-    Team, Update, Val,
-};
+use om_cells::{Blocked, Context, Edit, Kind, Ready, Shared, Store, Task, Update, Val};
 use om_events::{Record, TaskStatus};
 use om_foot::{Mode, Name, Obj};
-use om_row::{Answer, Row};
-use om_seq::{Pile, Seq};
+use om_seq::Seq;
+use om_steps::begin::{Standing, first_frame, new_context};
+use om_steps::parts::{name_with_events, update_with_event};
+use om_steps::{Answer, Row};
 use std::alloc::{AllocError, Global};
 
 /// Where a task is to be started.
@@ -31,28 +29,6 @@ pub struct Starting {
     pub admits: bool,
 }
 
-/// The frame with which a task begins on a body. It takes no memory.
-fn first_frame(alloc: Global, body: u32, homes: Shared<Seq<Home>>) -> Frame
-    ensures { result ≡ first_frame body homes }
-{
-    Frame {
-        body,
-        next: 0,
-        ordinal: 0,
-        operands: Pile::new(alloc),
-        homes,
-    }
-}
-
-/// What a started task stands in: its name, its team and its group, and the homes of its frame.
-#[derive(Drop)]
-struct Standing {
-    task: Shared<Name>,
-    team: Shared<Team>,
-    group: Shared<Option<Name>>,
-    homes: Shared<Seq<Home>>,
-}
-
 /// Where the task of a name stands that is started on another context.
 fn task_standing(
     alloc: Global,
@@ -65,24 +41,13 @@ fn task_standing(
           task = name.now;
           team = on.now.team;
           group = ready.now.group;
-          homes = ready.now.homes;
         }) }
 {
     Ok(Standing {
         task: Shared::of(alloc, *name)?,
         team: on.team.copy()?,
         group: ready.group.copy()?,
-        homes: ready.homes.copy()?,
     })
-}
-
-/// The regions and the waiting frames of a task that begins: none.
-fn nothing_open(alloc: Global) -> Result<(SharedPile<Construct>, SharedPile<Frame>), AllocError>
-    ensures { IfOk result (λ piles. (piles.0 ≡ []) × (piles.1 ≡ [])) }
-{
-    let constructs = SharedPile::new(alloc)?;
-    let callers = SharedPile::new(alloc)?;
-    Ok((constructs, callers))
 }
 
 /// The context of a task that is started on another context.
@@ -94,26 +59,9 @@ fn task_context(
 ) -> Result<Context, AllocError>
     ensures { IfOk result (λ context. context ≡ task_context name.now on.now ready.now) }
 {
-    let Standing {
-        task,
-        team,
-        group,
-        homes,
-    } = task_standing(alloc, name, on, ready)?;
-    let (constructs, callers) = nothing_open(alloc)?;
-    Ok(Context {
-        task,
-        kind: Kind::Explicit,
-        team,
-        phase: ready.phase,
-        births: 0,
-        regions: 0,
-        frames: 1,
-        group,
-        constructs,
-        frame: first_frame(alloc, ready.body, homes),
-        callers,
-    })
+    let standing = task_standing(alloc, name, on, ready)?;
+    let frame = first_frame(alloc, ready.body, ready.homes.copy()?);
+    new_context(alloc, Kind::Explicit, ready.phase, standing, frame)
 }
 
 /// What the start of a task puts and records.

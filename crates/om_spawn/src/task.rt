@@ -5,12 +5,11 @@ ghost use Rattle.om_foot.specs.Names.{parent_of};
 ghost use Rattle.om_cells.specs.State.{State};
 ghost use Rattle.om_cells.specs.declared.value.Task.TheVariants as task;
 ghost use Rattle.om_cells.specs.declared.value.Val.TheVariants as value;
-ghost use Rattle.om_row.specs.Rows.{answered};
+ghost use Rattle.om_steps.specs.Rows.{answered};
 ghost use Rattle.om_spawn.specs.Tasks.{born, ready_of};
 ghost use Rattle.om_spawn.specs.Rows.{made_names, values_given, made_row, spawn_row, ended_names, ended_updates, task_end_row, task_yield_row};
 
 use crate::count::{add_to_counts, name_counts};
-use crate::part::{go_and, name_one};
 use om_cells::{Context, Edit, Kind, Ready, Shared, Stack, Task, Update, Val};
 use om_code::Body;
 use om_code::frame::Fault;
@@ -18,10 +17,11 @@ use om_code::print::ints_on;
 use om_code::raw::Slot;
 use om_events::{Record, TaskStatus};
 use om_foot::{Access, Mode, Name, Obj};
-use om_row::names::{group_of, homes_in, name_events, name_given, own_cells};
-use om_row::updates::{put_deaths, put_event, put_ints};
-use om_row::{Answer, Launch, Row};
 use om_seq::Seq;
+use om_steps::names::{group_of, homes_in, name_events, name_given, own_cells};
+use om_steps::parts::{go_and, name_one};
+use om_steps::updates::{put_deaths, put_event, put_ints};
+use om_steps::{Answer, Launch, Row};
 use std::alloc::{AllocError, Global};
 
 /// How a task is made.

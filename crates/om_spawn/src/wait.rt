@@ -1,26 +1,24 @@
-//! The rows that wait for tasks, and the end of the program.
+//! The rows that wait for tasks.
 
 ghost use Rattle.std.specs.Prelude.{◌≡◌, ◌∷◌, [], ◌+◌, ◌<◌, ◌^◌, IfOk};
 ghost use Rattle.om_events.specs.declared.kind.Endpoint.TheVariants as endpoint;
 ghost use Rattle.om_events.specs.declared.kind.Sync.TheVariants as sync;
 ghost use Rattle.om_cells.specs.State.{State};
 ghost use Rattle.om_cells.specs.Stores.{state_of};
-ghost use Rattle.om_row.specs.Rows.{answered};
-ghost use Rattle.om_row.specs.Objects.{events, event, innermost};
+ghost use Rattle.om_steps.specs.Rows.{answered};
+ghost use Rattle.om_steps.specs.Objects.{innermost};
 ghost use Rattle.om_spawn.specs.Tasks.{born, innermost_group};
-ghost use Rattle.om_spawn.specs.Rows.{sync_event, wait_begin_row, waited, wait_end_row, group_begin_row, closed, group_end_row, value_of, finished, finish_row};
+ghost use Rattle.om_spawn.specs.Rows.{sync_event, wait_begin_row, waited, wait_end_row, group_begin_row, closed, group_end_row};
 
-use crate::count::is_zero;
-use crate::part::{go_and, name_with_events, update_with_event};
-use om_cells::{Blocked, Construct, Context, Edit, Kind, Shared, Store, Update};
+use om_cells::{Blocked, Construct, Context, Edit, Shared, Store, Update};
 use om_code::frame::Fault;
-use om_code::serial::int_at;
-use om_events::{Endpoint, Record, Sync, TaskFlag};
-use om_foot::{Access, Mode, Name, Obj};
-use om_row::names::{innermost, name_events};
-use om_row::updates::put_event;
-use om_row::{Answer, Row};
+use om_events::{Endpoint, Record, Sync};
+use om_foot::{Mode, Name, Obj};
 use om_seq::Seq;
+use om_steps::counts::is_zero;
+use om_steps::names::innermost;
+use om_steps::parts::{go_and, go_on, name_with_events, recorded, update_with_event};
+use om_steps::{Answer, Row};
 use std::alloc::{AllocError, Global};
 
 /// What a context's task records where it begins and ends to wait.
@@ -35,24 +33,6 @@ fn sync_event(sync: Sync, endpoint: Endpoint, context: &Context) -> Record
     }
 }
 
-/// The event records of a worker alone, as what is written.
-fn events_of(alloc: Global, worker: u8) -> Result<Seq<Access>, AllocError>
-    ensures { IfOk result (λ names. names ≡ events worker ∷ []) }
-{
-    let mut names = Seq::new(alloc);
-    name_events(&mut names, worker)?;
-    Ok(names)
-}
-
-/// The updates that append an event record alone.
-fn recorded(alloc: Global, entry: Record) -> Result<Seq<Update>, AllocError>
-    ensures { IfOk result (λ updates. updates ≡ event entry ∷ []) }
-{
-    let mut updates = Seq::new(alloc);
-    put_event(alloc, &mut updates, entry)?;
-    Ok(updates)
-}
-
 /// TWB: a task begins to wait for its children, and goes on to a place.
 ///
 /// The only error is out of memory.
@@ -65,10 +45,9 @@ pub fn wait_begin(
     ensures { IfOk result
         (λ answer. (s : State) → answer ≡ answered (wait_begin_row worker to context.now) s) }
 {
-    let names = events_of(alloc, worker)?;
-    let updates = recorded(alloc, sync_event(Sync::TaskWait, Endpoint::Begin, context))?;
-    let row = Row::goes(alloc, to, 0, None, updates)?;
-    Ok(Answer { names, row })
+    let edits = go_on(alloc, to)?;
+    let entry = sync_event(Sync::TaskWait, Endpoint::Begin, context);
+    recorded(alloc, worker, edits, entry)
 }
 
 /// What comes of a task that waits for its children.
@@ -130,11 +109,9 @@ pub fn group_begin(
     let Some(group) = &context.task.get().child(context.births + 1) else {
         return Ok(Answer::decided(alloc, Row::Faults(Fault::Name)));
     };
-    let names = events_of(alloc, worker)?;
-    let updates = recorded(alloc, sync_event(Sync::TaskGroup, Endpoint::Begin, context))?;
     let edits = opening(alloc, to, group)?;
-    let row = Row::Goes { edits, updates };
-    Ok(Answer { names, row })
+    let entry = sync_event(Sync::TaskGroup, Endpoint::Begin, context);
+    recorded(alloc, worker, edits, entry)
 }
 
 /// What comes of a task that waits for the tasks of a group.
@@ -181,62 +158,5 @@ pub fn group_end(
     let count = &Obj::Group(*group);
     let row = closed(alloc, to, context, is_zero(alloc, store, count))?;
     let names = name_with_events(alloc, count, Mode::Read, worker)?;
-    Ok(Answer { names, row })
-}
-
-/// What comes of an initial task that is at its end, with this value.
-fn finished(alloc: Global, context: &Context, value: i32, is_over: bool) -> Result<Row, AllocError>
-    ensures { IfOk result (λ row. row ≡ finished context.now value is_over) }
-{
-    if !is_over {
-        return Ok(Row::Blocked(Blocked::Children));
-    }
-    let entry = Record::ImplicitTask {
-        endpoint: Endpoint::End,
-        team: Name::empty(),
-        task: *context.task.get(),
-        size: 0,
-        number: 1,
-        flag: TaskFlag::Initial,
-    };
-    let updates = update_with_event(alloc, Update::Keep, entry)?;
-    let edits = Seq::one(alloc, Edit::End(value))?;
-    Ok(Row::Goes { edits, updates })
-}
-
-/// The value with which the program ends: the operand on top where it has one, else 0.
-fn value_of(context: &Context, has_value: bool) -> Option<i32>
-    ensures { result ≡ value_of context.now has_value }
-{
-    if has_value {
-        return int_at(&context.frame.operands, 0);
-    }
-    Some(0)
-}
-
-/// FIN: the program ends, with the operand on top as its value or with 0, once all tasks of the
-/// initial task's team have ended.
-///
-/// The only error is out of memory.
-pub fn finish(
-    alloc: Global,
-    store: &Store,
-    worker: u8,
-    context: &Context,
-    has_value: bool,
-) -> Result<Answer, AllocError>
-    ensures { IfOk result
-        (λ answer. answer ≡ answered (finish_row worker context.now has_value)
-        (state_of store.now)) }
-{
-    let (Kind::Initial, Some(value)) = (context.kind, value_of(context, has_value)) else {
-        return Ok(Answer::decided(alloc, Row::Lacks));
-    };
-    let pending = &Obj::Pending {
-        team: context.team.get().name,
-        phase: context.phase,
-    };
-    let row = finished(alloc, context, value, is_zero(alloc, store, pending))?;
-    let names = name_with_events(alloc, pending, Mode::Read, worker)?;
     Ok(Answer { names, row })
 }

@@ -1,22 +1,16 @@
--- Answers at a state, and of equal bodies.
-use Rattle.std.proofs.Common.{◌≡◌, subst, sym, ap, ℕ, [], Some}
-use Rattle.std.specs.Prelude.{Result, Ok, Err, IfOk, slice_get, unwrap_or}
+-- Answers of equal bodies.
+use Rattle.std.proofs.Common.{◌≡◌, subst, sym, ap, ℕ, Some}
+use Rattle.std.specs.Prelude.{Result, IfOk, slice_get, unwrap_or}
 use Rattle.om_code.specs.declared.raw.Body.{Body}
 use Rattle.om_code.specs.declared.raw.Raw.{Raw}
 use Rattle.om_code.specs.Places.{no_body}
 use Rattle.om_cells.specs.declared.control.Context.{Context}
 use Rattle.om_cells.specs.State.{State}
-use Rattle.om_row.specs.declared.row.Answer.{Answer}
-use Rattle.om_row.specs.Rows.{Asked, answered}
+use Rattle.om_steps.specs.declared.row.Answer.{Answer}
+use Rattle.om_steps.specs.Rows.{answered}
 use Rattle.om_spawn.specs.declared.task.Making.{Making}
 use Rattle.om_spawn.specs.Rows.{spawn_row}
-use Rattle.om_task.specs.Sites.{body_of}
-
--- an answer at every state is one at this state
-pub at_state : {E : Type 0} (r : Result Answer E) (a : Asked) (s : State) → IfOk r (λ answer. (t : State) → answer
-    ≡ answered a t) → IfOk r (λ answer. answer ≡ answered a s)
-at_state (Ok answer) a s h = h s
-at_state (Err e) a s h = tt
+use Rattle.om_team.specs.Sites.{body_of}
 
 -- the body that is found is that of the number
 pub body_is : (raw : Raw) (n : ℕ) (b : Body) → slice_get raw.bodies n ≡ Some b → b ≡ body_of raw n

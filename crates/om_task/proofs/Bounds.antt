@@ -7,10 +7,10 @@ use Rattle.om_cells.specs.declared.edit.Edit.TheVariants.{BeginFrame, BeginConte
 use Rattle.om_cells.specs.declared.step.Update.{Update}
 use Rattle.om_cells.specs.declared.step.Update.TheVariants.{Put, Add}
 use Rattle.om_cells.specs.declared.value.Val.{Val}
-use Rattle.om_row.specs.declared.row.Row.{Row}
-use Rattle.om_row.specs.declared.row.Row.TheVariants.{Goes}
-use Rattle.om_row.specs.Rows.{Asked}
-use Rattle.om_task.specs.Counters.{IsWithin, ValueWithin}
+use Rattle.om_steps.specs.declared.row.Row.{Row}
+use Rattle.om_steps.specs.declared.row.Row.TheVariants.{Goes}
+use Rattle.om_steps.specs.Rows.{Asked}
+use Rattle.om_team.specs.Counters.{IsWithin, ValueWithin}
 use Rattle.om_task.specs.Steps.{IsNoCount, AddOnce}
 
 -- how much an edit counts up

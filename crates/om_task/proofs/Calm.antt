@@ -18,11 +18,12 @@ use Rattle.om_cells.specs.declared.value.Val.{Val}
 use Rattle.om_cells.specs.declared.value.Val.TheVariants as value
 use Rattle.om_cells.specs.Edits.{changed}
 use Rattle.om_cells.specs.Values.{control_in}
-use Rattle.om_row.specs.declared.row.Row.{Row}
-use Rattle.om_row.specs.declared.row.Row.TheVariants as row
-use Rattle.om_task.specs.Counters.{IsWithin, AreWithin, ControlWithin, TaskWithin, ValueWithin}
+use Rattle.om_steps.specs.declared.row.Row.{Row}
+use Rattle.om_steps.specs.declared.row.Row.TheVariants as row
+use Rattle.om_team.specs.Counters.{IsWithin, AreWithin, ControlWithin, TaskWithin, ValueWithin}
 use Rattle.om_task.specs.Laws.{CalmRules}
-use Rattle.om_task.specs.Rules.{site, start_of, further_in, row_in, outcome_of, outcome_after}
+use Rattle.om_team.specs.Sites.{site}
+use Rattle.om_task.specs.Rules.{start_of, further_in, row_in, outcome_of, outcome_after}
 use Rattle.om_task.specs.Steps.{AddOnce, AreModest}
 use Rattle.om_task.proofs.Bounds.{AreGentle, RowWithin, ValuesWithin}
 use Rattle.om_task.proofs.Counters.{context_more, contexts_more, control_more}

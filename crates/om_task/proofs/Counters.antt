@@ -11,7 +11,7 @@ use Rattle.om_cells.specs.declared.edit.Edit.TheVariants.{Go, BeginFrame, EndFra
 use Rattle.om_cells.specs.declared.edit.Edit.TheVariants.{Close, Replace, CountBirth, CountRegion, CountPhase, Fail}
 use Rattle.om_cells.specs.declared.edit.Edit.TheVariants.{End}
 use Rattle.om_cells.specs.Edits.{changed_by, changed, edited, HasRoom, HaveRoom, context_ended, value_given}
-use Rattle.om_task.specs.Counters.{IsWithin, AreWithin, ControlWithin}
+use Rattle.om_team.specs.Counters.{IsWithin, AreWithin, ControlWithin}
 use Rattle.om_task.proofs.Bounds.{counted, counts, BeginsWithin, BeginWithin}
 
 pub context_more : (n m : ℕ) (c : Context) → n ≤ m → IsWithin n c → IsWithin m c

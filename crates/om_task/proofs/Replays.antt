@@ -24,14 +24,15 @@ use Rattle.om_cells.specs.Rules.{step_at, next_state, state_after_outcome, and_t
 use Rattle.om_cells.specs.State.{State, values_read, value_after, state_after, updated}
 use Rattle.om_cells.specs.Values.{control_in, value_plus, value_with}
 use Rattle.std.specs.Prelude.{ℤ, if◌then◌else◌, nat_eq}
-use Rattle.om_row.specs.declared.row.Row.{Row}
-use Rattle.om_row.specs.declared.row.Row.TheVariants as row
-use Rattle.om_task.specs.Counters.{ControlWithin, TaskWithin, ValueWithin, StateWithin}
+use Rattle.om_steps.specs.declared.row.Row.{Row}
+use Rattle.om_steps.specs.declared.row.Row.TheVariants as row
+use Rattle.om_team.specs.Counters.{ControlWithin, TaskWithin, ValueWithin, StateWithin}
 use Rattle.om_task.specs.Laws.{LowCounters}
 use Rattle.om_task.specs.Rules.{rules_of, start_of, first_context, further_in, row_in, outcome_after}
 use Rattle.om_task.proofs.Bounds.{counts, AreGentle, IsGentle, RowWithin}
 use Rattle.om_task.proofs.Counters.{control_more, changed_within}
-use Rattle.om_task.proofs.Plans.{control_within, values_within}
+use Rattle.om_team.proofs.Within.{control_within}
+use Rattle.om_task.proofs.Plans.{values_within}
 use Rattle.om_task.proofs.Walk.{row_within}
 
 task_more : (n m : ℕ) (t : tasks.Task) → n ≤ m → TaskWithin n t → TaskWithin m t

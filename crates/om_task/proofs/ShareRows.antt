@@ -16,9 +16,9 @@ use Rattle.om_cells.specs.declared.edit.Edit.{Edit}
 use Rattle.om_cells.specs.declared.edit.Edit.TheVariants.{Go, Open, Close}
 use Rattle.om_cells.specs.declared.value.Val.{Val}
 use Rattle.om_cells.specs.Values.{number_in, holder_in}
-use Rattle.om_row.specs.declared.row.Row.TheVariants.{Faults}
-use Rattle.om_row.specs.Rows.{goes, first_of}
-use Rattle.om_row.specs.Objects.{is_misplaced}
+use Rattle.om_steps.specs.declared.row.Row.TheVariants.{Faults}
+use Rattle.om_steps.specs.Rows.{goes, first_of}
+use Rattle.om_steps.specs.Objects.{is_misplaced}
 use Rattle.om_share.specs.declared.chunk.Chunk.{Chunk}
 use Rattle.om_share.specs.Chunks.{static_chunk, chunk_within, value_of}
 use Rattle.om_share.specs.Rows.{edits, begun, recorded, open_row, loop_row, loop_of, sections_row, taken_row, given_row}

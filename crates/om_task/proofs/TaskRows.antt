@@ -39,24 +39,26 @@ use Rattle.om_cells.specs.declared.value.Task.TheVariants as task
 use Rattle.om_cells.specs.declared.value.Val.{Val}
 use Rattle.om_cells.specs.declared.value.Val.TheVariants as value
 use Rattle.om_cells.specs.Values.{cell_in, task_in, count_in}
-use Rattle.om_row.specs.declared.row.Launch.{Launch}
-use Rattle.om_row.specs.declared.row.Row.TheVariants.{Faults}
-use Rattle.om_row.specs.Rows.{first_of, rest_of}
-use Rattle.om_row.specs.Objects.{own_cells, deaths, puts, events, given_cells, innermost}
-use Rattle.om_row.specs.SerialRows.{put_of, row_of, unsets, cells_of_slot, touch_row, serial_row, slots_in, number_row}
-use Rattle.om_row.specs.SerialRows.{call_row, return_row, combined, reduced, reduce_row}
+use Rattle.om_steps.specs.declared.row.Launch.{Launch}
+use Rattle.om_steps.specs.declared.row.Row.TheVariants.{Faults}
+use Rattle.om_steps.specs.Rows.{first_of, rest_of}
+use Rattle.om_steps.specs.Objects.{own_cells, deaths, puts, events, given_cells, innermost}
+use Rattle.om_steps.specs.SerialRows.{put_of, row_of, unsets, cells_of_slot, touch_row, serial_row, slots_in, number_row}
+use Rattle.om_steps.specs.SerialRows.{call_row, return_row, combined, reduced, reduce_row}
 use Rattle.om_fork.specs.Barriers.{barrier, is_open}
 use Rattle.om_fork.specs.Teams.{first_busy, member_controls, member_puts}
 use Rattle.om_fork.specs.Rows.{forked, team_row, team_of, named_row, sized_row, fork_row, begin_row, reached_row}
 use Rattle.om_fork.specs.Rows.{is_misplaced_barrier, arrive_row, kept, departed, depart_row, left, left_row, leave_row}
 use Rattle.om_spawn.specs.declared.start.Starting.{Starting}
 use Rattle.om_spawn.specs.declared.task.Making.{Making}
-use Rattle.om_spawn.specs.Tasks.{is_zero, born, group_of, innermost_group, counts, additions, task_context}
+use Rattle.om_steps.specs.Rows.{is_zero}
+use Rattle.om_spawn.specs.Tasks.{born, group_of, innermost_group, counts, additions, task_context}
 use Rattle.om_spawn.specs.Rows.{made_row, given_row, spawn_row, ended_row, end_row_of, task_end_row, wait_begin_row}
 use Rattle.om_spawn.specs.Rows.{waited, wait_end_row, task_yield_row, opened_row, group_begin_row, closed, closed_row}
-use Rattle.om_spawn.specs.Rows.{group_end_row, value_of, finished, finished_row, finish_row, ready_for, started}
+use Rattle.om_spawn.specs.Rows.{group_end_row, ready_for, started}
+use Rattle.om_fork.specs.Rows.{value_of, finished, finished_row, finish_row}
 use Rattle.om_spawn.specs.Rows.{started_row, start_row}
-use Rattle.om_task.specs.Counters.{IsWithin, TaskWithin, ValueWithin}
+use Rattle.om_team.specs.Counters.{IsWithin, TaskWithin, ValueWithin}
 use Rattle.om_task.specs.Steps.{AddOnce}
 use Rattle.om_task.proofs.Bounds.{AreGentle, RowWithin, AskedWithin, ValuesWithin}
 use Rattle.om_task.proofs.Gentle.{AddNone, none_append, once_append, slot_none, given_none, own_none, arrivals_none}

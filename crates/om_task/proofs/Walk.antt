@@ -13,13 +13,15 @@ use Rattle.om_cells.specs.declared.step.Choice.{Choice}
 use Rattle.om_cells.specs.declared.step.Choice.TheVariants.{Next, Start}
 use Rattle.om_cells.specs.declared.step.Label.{Label}
 use Rattle.om_cells.specs.declared.value.Val.{Val}
-use Rattle.om_row.specs.Objects.{innermost}
+use Rattle.om_steps.specs.Objects.{innermost}
 use Rattle.om_share.specs.Rows.{share_in}
-use Rattle.om_task.specs.Counters.{IsWithin, ControlWithin}
-use Rattle.om_task.specs.Rules.{site, choice_row, next_row, leaving, admits_all, row_in}
-use Rattle.om_task.specs.Sites.{Site, context, operands, next, slots, line, launch, body_of, lock_of, targets_of}
+use Rattle.om_team.specs.Counters.{IsWithin, ControlWithin}
+use Rattle.om_team.specs.Sites.{site}
+use Rattle.om_task.specs.Rules.{choice_row, next_row, leaving, admits_all, row_in}
+use Rattle.om_team.specs.Sites.{Site, context, operands, next, slots, line, launch, body_of, lock_of, targets_of}
 use Rattle.om_task.proofs.Bounds.{RowWithin, AskedWithin, ValuesWithin}
-use Rattle.om_task.specs.Table.{row_of, fork_takes}
+use Rattle.om_task.specs.Table.{row_of}
+use Rattle.om_team.specs.Table.{fork_takes}
 use Rattle.om_task.proofs.Gentle.{lacks}
 use Rattle.om_task.proofs.ShareRows.{loop_within, sections_within, grab_within, iterate_within, pick_within}
 use Rattle.om_task.proofs.ShareRows.{single_within, end_worksharing_within, masked_within, end_masked_within}

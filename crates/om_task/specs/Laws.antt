@@ -12,7 +12,7 @@ use Rattle.om_cells.specs.State.{State}
 use Rattle.om_cells.specs.Values.{control_in}
 use Rattle.om_foot.specs.declared.object.Obj.{Obj}
 use Rattle.om_foot.specs.declared.object.Obj.TheVariants as obj
-use Rattle.om_task.specs.Counters.{StateWithin}
+use Rattle.om_team.specs.Counters.{StateWithin}
 use Rattle.om_task.specs.Rules.{rules_of, is_at_scheduling_point}
 use Rattle.om_task.specs.Steps.{AddOnce, AreModest}
 

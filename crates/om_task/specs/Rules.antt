@@ -36,30 +36,19 @@ use Rattle.om_cells.specs.Edits.{changed}
 use Rattle.om_cells.specs.Values.{default_of, control_in}
 use Rattle.om_cells.specs.State.{State}
 use Rattle.om_cells.specs.Rules.{Rules}
-use Rattle.om_row.specs.declared.row.Row.{Row}
-use Rattle.om_row.specs.declared.row.Row.TheVariants as row
-use Rattle.om_row.specs.Rows.{Asked, decided}
-use Rattle.om_row.specs.Objects.{homes_for}
+use Rattle.om_steps.specs.declared.row.Row.{Row}
+use Rattle.om_steps.specs.declared.row.Row.TheVariants as row
+use Rattle.om_steps.specs.Rows.{Asked, decided}
+use Rattle.om_steps.specs.Objects.{homes_for}
 use Rattle.om_spawn.specs.Rows.{start_row}
-use Rattle.om_spawn.specs.Tasks.{first_frame}
-use Rattle.om_task.specs.Sites.{Site, body_of}
+use Rattle.om_steps.specs.Begins.{first_frame, new_context}
+use Rattle.om_team.specs.Sites.{Site, site, body_of}
 use Rattle.om_task.specs.Table.{row_of}
 
 -- the initial task, whose frame is at the first instruction of `main`
 abbrev pub first_context : Raw → Context
-first_context program = record {
-  task = 0 ∷ [];
-  kind = kind.Initial;
-  team = record { name = []; number = 0; size = 1; level = 0 };
-  phase = 0;
-  births = 0;
-  regions = 0;
-  frames = 1;
-  group = None;
-  constructs = [];
-  frame = first_frame program.main (homes_for (0 ∷ []) 0 [] (body_of program program.main).slots);
-  callers = [];
-}
+first_context program = new_context kind.Initial 0 (0 ∷ []) (record { name = []; number = 0; size = 1; level = 0 })
+    None (first_frame program.main (homes_for (0 ∷ []) 0 [] (body_of program program.main).slots))
 
 abbrev pub first_control : Raw → ℕ → controls.Control
 first_control program worker = if nat_eq worker 0 then Running (record { top = first_context program; below = [] })
@@ -135,9 +124,6 @@ choice_row s instr (Start name) = start_row (record {
 
 abbrev pub asked : Site → Choice → Asked
 asked s choice = choice_row s (instruction_at s.program s.stack.top.frame.body s.stack.top.frame.next) choice
-
-abbrev pub site : Raw → ℕ → ℕ → Stack → Site
-site program workers worker stack = record { program = program; workers = workers; worker = worker; stack = stack }
 
 -- what comes of a row. A fault leaves the stack as it was; where something lacks, the worker has ended
 abbrev pub outcome_after : controls.Control → Row → Outcome

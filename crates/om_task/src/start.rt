@@ -6,20 +6,21 @@ ghost use Rattle.om_events.specs.declared.kind.Thread.TheVariants as thread;
 ghost use Rattle.om_events.specs.declared.event.Record.TheVariants as event_record;
 ghost use Rattle.om_cells.specs.declared.value.Val.TheVariants as value;
 ghost use Rattle.om_cells.specs.Stores.{state_of};
-ghost use Rattle.om_task.specs.Sites.{body_of};
+ghost use Rattle.om_steps.specs.Begins.{new_context};
+ghost use Rattle.om_team.specs.Sites.{body_of};
 ghost use Rattle.om_task.specs.Rules.{first_context, first_control, first_records, initial_in, start_of};
 
 use om_cells::{
-    Construct, Context, Control, Frame, Kind, Shared, SharedControl, SharedPile, Stack, Store,
-    Team, Val,
+    Context, Control, Frame, Kind, Shared, SharedControl, SharedPile, Stack, Store, Team, Val,
 };
 use om_code::frame::Cell;
 use om_code::raw::GlobalVariable;
 use om_code::{Body, Program};
 use om_events::{Endpoint, Record, TaskFlag, Thread};
 use om_foot::{Name, Obj};
-use om_row::names::homes_for;
-use om_seq::{Pile, Seq};
+use om_seq::Seq;
+use om_steps::begin::{first_frame, in_no_group, new_context};
+use om_steps::names::homes_for;
 use std::alloc::{AllocError, Global};
 
 /// The body of `main`.
@@ -44,100 +45,36 @@ fn first_task() -> Name
 }
 
 /// The frame of the initial task, at the first instruction of `main`.
-fn first_frame(alloc: Global, program: &Program) -> Result<Frame, AllocError>
+fn main_frame(alloc: Global, program: &Program) -> Result<Frame, AllocError>
     ensures { IfOk result (λ frame. frame ≡ (first_context program.now).frame) }
 {
     let slots = main_body(program).slots.as_slice();
     let homes = homes_for(alloc, &first_task(), 0, &[], slots)?;
-    Ok(Frame {
-        body: program.main(),
-        next: 0,
-        ordinal: 0,
-        operands: Pile::new(alloc),
-        homes: Shared::of(alloc, homes)?,
-    })
+    let homes = Shared::of(alloc, homes)?;
+    Ok(first_frame(alloc, program.main(), homes))
 }
 
-/// What the initial task stands in: its name, its team and its group.
-#[derive(Drop)]
-struct Standing {
-    task: Shared<Name>,
-    team: Shared<Team>,
-    group: Shared<Option<Name>>,
-}
-
-/// Where the initial task stands: alone in a team, and in no group.
-fn first_standing(alloc: Global) -> Result<Standing, AllocError>
+/// The context of the initial task, with its frame: it is alone in a team, and in no group.
+fn first_context(alloc: Global, frame: Frame) -> Result<Context, AllocError>
     ensures { IfOk result
-        (λ s. s ≡ record {
-          task = 0 ∷ [];
-          team = record { name = []; number = 0; size = 1; level = 0 };
-          group = None;
-        }) }
+        (λ context. context ≡ new_context Kind.Initial 0 (0 ∷ [])
+        (record { name = []; number = 0; size = 1; level = 0 }) None frame) }
 {
-    let team = Team {
+    let team = &Team {
         name: Name::empty(),
         number: 0,
         size: 1,
         level: 0,
     };
-    Ok(Standing {
-        task: Shared::of(alloc, first_task())?,
-        team: Shared::of(alloc, team)?,
-        group: Shared::of(alloc, None)?,
-    })
-}
-
-/// The regions and the waiting frames of a task that begins: none.
-fn nothing_open(alloc: Global) -> Result<(SharedPile<Construct>, SharedPile<Frame>), AllocError>
-    ensures { IfOk result (λ piles. (piles.0 ≡ []) × (piles.1 ≡ [])) }
-{
-    let constructs = SharedPile::new(alloc)?;
-    let callers = SharedPile::new(alloc)?;
-    Ok((constructs, callers))
-}
-
-/// The context of the initial task, with its frame.
-fn first_context(alloc: Global, frame: Frame) -> Result<Context, AllocError>
-    ensures { IfOk result
-        (λ context. context ≡ record {
-          task = 0 ∷ [];
-          kind = Kind.Initial;
-          team = record
-              { name = []; number = 0; size = 1; level = 0 };
-          phase = 0;
-          births = 0;
-          regions = 0;
-          frames =
-              1;
-          group = None;
-          constructs = [];
-          frame = frame;
-          callers = [];
-        }) }
-{
-    let Standing { task, team, group } = first_standing(alloc)?;
-    let (constructs, callers) = nothing_open(alloc)?;
-    Ok(Context {
-        task,
-        kind: Kind::Initial,
-        team,
-        phase: 0,
-        births: 0,
-        regions: 0,
-        frames: 1,
-        group,
-        constructs,
-        frame,
-        callers,
-    })
+    let standing = in_no_group(alloc, &first_task(), team)?;
+    new_context(alloc, Kind::Initial, 0, standing, frame)
 }
 
 /// The control of the worker that runs the initial task.
 fn first_control(alloc: Global, program: &Program) -> Result<Val, AllocError>
     ensures { IfOk result (λ v. v ≡ value.Control (first_control program.now 0)) }
 {
-    let frame = first_frame(alloc, program)?;
+    let frame = main_frame(alloc, program)?;
     let top = first_context(alloc, frame)?;
     match SharedPile::new(alloc) {
         Ok(below) => {

@@ -11,7 +11,7 @@ use Rattle.om_lower.specs.declared.visible.Var.TheVariants as var
 use Rattle.om_lower.specs.Visible.{variable_at}
 use Rattle.om_replies.specs.declared.value.GlobalCell.{GlobalCell}
 use Rattle.om_replies.specs.Objects.{length_of}
-use Rattle.om_row.specs.Objects.{object_of}
+use Rattle.om_steps.specs.Objects.{object_of}
 use Rattle.om_view.specs.declared.local.Seen.{Seen}
 use Rattle.om_view.specs.declared.local.Seen.TheVariants as seen
 use Rattle.om_view.specs.Variables.{cell_at, cell_of, element_at}

@@ -14,7 +14,7 @@ use om_command::Variable;
 use om_foot::Obj;
 use om_lower::{Var, variable_at};
 use om_replies::GlobalCell;
-use om_row::names::object_of;
+use om_steps::names::object_of;
 use om_undo::Machine;
 use std::alloc::{AllocError, Global};
 

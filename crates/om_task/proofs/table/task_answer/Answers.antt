@@ -1,11 +1,12 @@
 use Rattle.std.proofs.Common.{◌≡◌, subst, sym, ◌+◌, ap, ◌∙◌}
 use Rattle.std.specs.Prelude.{IfOk}
 use Rattle.om_cells.specs.Stores.{state_of}
-use Rattle.om_row.specs.Rows.{answered}
+use Rattle.om_steps.specs.Rows.{answered}
 use Rattle.om_spawn.specs.Rows.{spawn_row, wait_begin_row, task_yield_row}
-use Rattle.om_task.specs.Rules.{site}
+use Rattle.om_team.specs.Sites.{site}
 use Rattle.om_task.specs.Table.{task_row}
-use Rattle.om_task.proofs.Answers.{at_state, body_is, same_spawn}
+use Rattle.om_team.proofs.AtStates.{at_state}
+use Rattle.om_task.proofs.Answers.{body_is, same_spawn}
 use Rattle.om_task.proofs.table.task_answer.Goals as goal
 
 pub returns-in-Spawn : goal.returns-in-Spawn

@@ -1,0 +1,4 @@
+pub mod SerialRows
+pub mod Rows
+pub mod Objects
+pub mod Begins

@@ -1,0 +1,203 @@
+//! The rows of the frame machine: objects for its variables, updates for what it puts.
+
+ghost use Rattle.std.specs.Prelude.{◌≡◌, ◌++◌, ◌<◌, ◌+◌, ◌^◌, ◌∷◌, [], IfOk, OnOk, slice_get, unwrap_or, option_map};
+ghost use Rattle.om_foot.specs.declared.object.Obj.TheVariants as obj;
+ghost use Rattle.om_code.specs.Places.{slots_of};
+ghost use Rattle.om_code.specs.Validity.{NamesKnown};
+ghost use Rattle.om_cells.specs.Stores.{state_of};
+ghost use Rattle.om_steps.specs.Rows.{answered};
+ghost use Rattle.om_steps.specs.Objects.{read, write};
+ghost use Rattle.om_steps.specs.SerialRows.{row_of, unsets, cleared, serial_row, slots_in};
+
+use crate::names::{name, name_slot, object_of};
+use crate::updates::put_cell;
+use crate::{Answer, Row};
+use om_cells::{Context, Edit, Store, Tail, Update, Val};
+use om_code::frame::Cell;
+use om_code::print::print_bytes;
+use om_code::raw::Slot;
+use om_code::serial::{Touch, Turn, touch_of, turn_of};
+use om_code::{Instr, Raw};
+use om_foot::{Access, Mode, Obj};
+use om_seq::Seq;
+use std::alloc::{AllocError, Global};
+
+/// The slots of a body, by its number; none where there is no such body.
+pub(crate) fn slots_of(raw: &Raw, body: u32) -> &[Slot]
+    ensures { result.now ≡ slots_of raw.now body }
+{
+    match raw.bodies.as_slice().get(body as usize) {
+        Some(body) => body.slots.as_slice(),
+        None => &[],
+    }
+}
+
+/// What a turn makes of its worker, with these updates behind what it puts.
+fn row_of(alloc: Global, next: u32, updates: Seq<Update>, turn: Turn) -> Result<Row, AllocError>
+    requires { next + 1 < 2 ^ 32 }
+    ensures { IfOk result (λ row. row ≡ row_of (next + 1) updates turn) }
+{
+    match turn {
+        Turn::Goes {
+            jump,
+            takes,
+            pushed,
+            puts,
+        } => {
+            let mut updates = updates;
+            if let Some(value) = puts {
+                updates.push_front(Update::Put(Val::Cell(Cell::Int(value))))?;
+            }
+            let to = jump.unwrap_or(next + 1);
+            let edits = Seq::one(alloc, Edit::Go { to, takes, pushed })?;
+            Ok(Row::Goes { edits, updates })
+        }
+        Turn::Faults(fault) => Ok(Row::Faults(fault)),
+        Turn::Lacks | Turn::Returns(_) | Turn::Finishes(_) => Ok(Row::Lacks),
+    }
+}
+
+/// How many cells a slot has; none where there is no such slot.
+fn cells_of(slots: &[Slot], slot: u32) -> u32
+    ensures { result ≡ unwrap_or (option_map (λ s. s.cells) (slice_get slots.now slot)) 0 }
+{
+    match slots.get(slot as usize) {
+        Some(slot) => slot.cells,
+        None => 0,
+    }
+}
+
+/// Appends that cells become unset, one for each of these accesses.
+fn put_unset(updates: &mut Seq<Update>, cells: &[Access]) -> Result<(), AllocError>
+    ensures { OnOk result (updates.new ≡ updates.old ++ unsets cells.now) }
+{
+    for _cell in cells {
+        put_cell(updates, Cell::Unset)?;
+    }
+    Ok(())
+}
+
+/// The answer where one object is named, and the turn is this one.
+fn naming(alloc: Global, next: u32, access: &Access, turn: Turn) -> Result<Answer, AllocError>
+    requires { next + 1 < 2 ^ 32 }
+    ensures { IfOk result
+        (λ answer. answer ≡ record { names = access.now ∷ []; row = row_of (next + 1) [] turn }) }
+{
+    let mut names = Seq::of(Vec::with_capacity(alloc, 1)?);
+    name(&mut names, access.object, access.mode)?;
+    let row = row_of(alloc, next, Seq::new(alloc), turn)?;
+    Ok(Answer { names, row })
+}
+
+/// The answer where a slot becomes unset, and the turn is this one.
+fn clearing(
+    alloc: Global,
+    raw: &Raw,
+    context: &Context,
+    slot: u32,
+    turn: Turn,
+) -> Result<Answer, AllocError>
+    requires { context.now.frame.next + 1 < 2 ^ 32 }
+    ensures { IfOk result (λ answer. answer ≡ cleared raw.now context.now slot turn) }
+{
+    let cells = cells_of(slots_of(raw, context.frame.body), slot);
+    let mut names = Seq::new(alloc);
+    name_slot(&mut names, context, slot, cells)?;
+    let mut updates = Seq::new(alloc);
+    put_unset(&mut updates, names.as_slice())?;
+    let row = row_of(alloc, context.frame.next, updates, turn)?;
+    Ok(Answer { names, row })
+}
+
+/// The answer where bytes are printed, and the turn is this one.
+fn printing(alloc: Global, next: u32, bytes: Seq<u8>, turn: Turn) -> Result<Answer, AllocError>
+    requires { next + 1 < 2 ^ 32 }
+    ensures { IfOk result
+        (λ answer. answer
+        ≡ record {
+          names = write obj.Output ∷ [];
+          row = row_of (next + 1)
+              (Update.Append (Tail.Bytes bytes) ∷ []) turn;
+        }) }
+{
+    let mut names = Seq::new(alloc);
+    name(&mut names, Obj::Output, Mode::Write)?;
+    let updates = Seq::one(alloc, Update::Append(Tail::Bytes(bytes)))?;
+    let row = row_of(alloc, next, updates, turn)?;
+    Ok(Answer { names, row })
+}
+
+/// The answer to an instruction of the frame machine that goes on in its frame: what it names, and
+/// what comes of the values there. Its only error is out of memory.
+pub fn serial(
+    alloc: Global,
+    raw: &Raw,
+    store: &Store,
+    context: &Context,
+    instr: Instr,
+) -> Result<Answer, AllocError>
+    requires names { NamesKnown raw.now (slots_in raw.now context.now) instr }
+    requires next { context.now.frame.next + 1 < 2 ^ 32 }
+    ensures { IfOk result
+        (λ answer. answer ≡ answered (serial_row raw.now context.now instr) (state_of store.now)) }
+{
+    let slots = slots_of(raw, context.frame.body);
+    let operands = &context.frame.operands;
+    let next = context.frame.next;
+    match touch_of(raw, slots, instr, operands) {
+        Touch::Nothing => {
+            let turn = turn_of(raw, slots, instr, operands, Cell::Unset);
+            let row = row_of(alloc, next, Seq::new(alloc), turn)?;
+            Ok(Answer::decided(alloc, row))
+        }
+        Touch::Reads { place, index } => {
+            let access = &read(object_of(context, place, index));
+            let cell = store.cell(alloc, &access.object);
+            naming(
+                alloc,
+                next,
+                access,
+                turn_of(raw, slots, instr, operands, cell),
+            )
+        }
+        Touch::Writes { place, index } => {
+            let access = &write(object_of(context, place, index));
+            let cell = store.cell(alloc, &access.object);
+            naming(
+                alloc,
+                next,
+                access,
+                turn_of(raw, slots, instr, operands, cell),
+            )
+        }
+        Touch::Clears(slot) => {
+            let turn = turn_of(raw, slots, instr, operands, Cell::Unset);
+            clearing(alloc, raw, context, slot, turn)
+        }
+        Touch::Prints { text, values } => {
+            let bytes = Seq::of(print_bytes(alloc, raw, text, values, operands)?);
+            let turn = turn_of(raw, slots, instr, operands, Cell::Unset);
+            printing(alloc, next, bytes, turn)
+        }
+    }
+}
+
+/// That an object is read.
+pub(crate) fn read(object: Obj) -> Access
+    ensures { result ≡ read object }
+{
+    Access {
+        object,
+        mode: Mode::Read,
+    }
+}
+
+/// That an object is read and may be put.
+pub(crate) fn write(object: Obj) -> Access
+    ensures { result ≡ write object }
+{
+    Access {
+        object,
+        mode: Mode::Write,
+    }
+}

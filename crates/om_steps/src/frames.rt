@@ -1,0 +1,157 @@
+//! Calls, returns, reductions, and the numbers of threads.
+
+ghost use Rattle.std.specs.Prelude.{◌≡◌, ◌<◌, ◌≤◌, ◌+◌, ◌^◌, IfOk, length, option_map};
+ghost use Rattle.om_cells.specs.State.{State};
+ghost use Rattle.om_cells.specs.Stores.{state_of};
+ghost use Rattle.om_steps.specs.Rows.{answered};
+ghost use Rattle.om_steps.specs.SerialRows.{number_row, call_row, return_row, reduced, reduce_row};
+
+use crate::acts::{read, write};
+use crate::names::{homes_in, name, name_given, object_of, own_cells};
+use crate::updates::{put_cell, put_deaths, put_ints};
+use crate::{Answer, Launch, Row};
+use om_cells::{Context, Edit, Shared, Store, Update};
+use om_code::Body;
+use om_code::arithmetic::combine;
+use om_code::frame::{Cell, Fault, Operand};
+use om_code::instruction::{Place, Reduction};
+use om_code::raw::Slot;
+use om_seq::Seq;
+use std::alloc::{AllocError, Global};
+
+// How many frames of a task wait, at most, for the one that runs.
+const MAX_CALLERS: usize = 999;
+
+/// TNUM, TSIZE: a number of threads is pushed.
+pub fn number(alloc: Global, context: &Context, number: u8) -> Result<Answer, AllocError>
+    requires { context.now.frame.next + 1 < 2 ^ 32 }
+    ensures { IfOk result
+        (λ answer. (s : State) → answer ≡ answered (number_row context.now number) s) }
+{
+    let to = context.frame.next + 1;
+    let pushed = Some(Operand::Int(i32::from(number)));
+    let row = Row::goes(alloc, to, 0, pushed, Seq::new(alloc))?;
+    Ok(Answer::decided(alloc, row))
+}
+
+/// CALL: the values go into the parameters of a new frame of the body.
+pub fn call(
+    alloc: Global,
+    launch: Launch,
+    body: &Body,
+    context: &Context,
+    values: Option<Vec<i32>>,
+) -> Result<Answer, AllocError>
+    ensures { IfOk result
+        (λ answer. (s : State) → answer
+        ≡ answered (call_row launch body.now context.now (option_map (λ v. v.items) values)) s) }
+{
+    let Some(values) = values else {
+        return Ok(Answer::decided(alloc, Row::Lacks));
+    };
+    if context.callers.len() >= MAX_CALLERS {
+        return Ok(Answer::decided(alloc, Row::Faults(Fault::Frames)));
+    }
+    let homes = homes_in(alloc, context, body.slots.as_slice())?;
+    let mut names = Seq::new(alloc);
+    name_given(
+        &mut names,
+        context.task.get(),
+        context.frames,
+        body.given.as_slice(),
+    )?;
+    let mut updates = Seq::new(alloc);
+    put_ints(&mut updates, values.as_slice())?;
+    let homes = Shared::of(alloc, homes)?;
+    let begin = Edit::BeginFrame {
+        to: launch.to,
+        takes: launch.takes,
+        body: launch.body,
+        homes,
+    };
+    let edits = Seq::one(alloc, begin)?;
+    Ok(Answer {
+        names,
+        row: Row::Goes { edits, updates },
+    })
+}
+
+/// RET, RETN: the frame ends, with a value for the one that called it.
+pub fn give_back(
+    alloc: Global,
+    context: &Context,
+    slots: &[Slot],
+    value: Option<Operand>,
+) -> Result<Answer, AllocError>
+    requires { length slots.now ≤ 2 ^ 32 }
+    ensures { IfOk result
+        (λ answer. (s : State) → answer
+        ≡ answered (return_row context.now slots.now context.now.callers value) s) }
+{
+    let (Some(value), false) = (value, context.callers.is_empty()) else {
+        return Ok(Answer::decided(alloc, Row::Lacks));
+    };
+    let names = own_cells(alloc, context, slots)?;
+    let mut updates = Seq::new(alloc);
+    put_deaths(&mut updates, names.as_slice())?;
+    let edits = Seq::one(alloc, Edit::EndFrame(value))?;
+    Ok(Answer {
+        names,
+        row: Row::Goes { edits, updates },
+    })
+}
+
+/// What comes of a copy of a reduction and its original.
+fn reduced(
+    alloc: Global,
+    to: u32,
+    reduction: Reduction,
+    copy: Cell,
+    original: Cell,
+) -> Result<Row, AllocError>
+    ensures { IfOk result (λ row. row ≡ reduced to reduction copy original) }
+{
+    let (copy, original) = match (copy, original) {
+        (Cell::Dead, _) | (_, Cell::Dead) => return Ok(Row::Faults(Fault::Dead)),
+        (Cell::Unset, _) | (_, Cell::Unset) => return Ok(Row::Faults(Fault::Unset)),
+        (Cell::Int(copy), Cell::Int(original)) => (copy, original),
+    };
+    match combine(reduction, original, copy) {
+        Ok(value) => {
+            let mut updates = Seq::one(alloc, Update::Keep)?;
+            put_cell(&mut updates, Cell::Int(value))?;
+            Row::goes(alloc, to, 0, None, updates)
+        }
+        Err(fault) => Ok(Row::Faults(fault)),
+    }
+}
+
+/// RED: the copy in a slot is combined with its original, in one step.
+pub fn reduce(
+    alloc: Global,
+    store: &Store,
+    context: &Context,
+    reduction: Reduction,
+    operands: (u32, Place),
+) -> Result<Answer, AllocError>
+    requires { context.now.frame.next + 1 < 2 ^ 32 }
+    ensures { IfOk result
+        (λ answer. answer ≡ answered (reduce_row context.now reduction operands.0 operands.1)
+        (state_of store.now)) }
+{
+    let (copy, place) = operands;
+    let copy = &read(object_of(context, Place::Slot(copy), 0));
+    let original = &write(object_of(context, place, 0));
+    let to = context.frame.next + 1;
+    let row = reduced(
+        alloc,
+        to,
+        reduction,
+        store.cell(alloc, &copy.object),
+        store.cell(alloc, &original.object),
+    )?;
+    let mut names = Seq::new(alloc);
+    name(&mut names, copy.object, copy.mode)?;
+    name(&mut names, original.object, original.mode)?;
+    Ok(Answer { names, row })
+}

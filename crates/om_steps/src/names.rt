@@ -1,0 +1,241 @@
+//! The objects that instructions name.
+
+ghost use Rattle.std.specs.Prelude.{◌≡◌, ◌++◌, ◌∷◌, [], ◌≤◌, ◌^◌, IfOk, OnOk, length};
+ghost use Rattle.om_steps.specs.Objects.{read, write, object_of, slot_cells, given_cells, own_slot, own_cells, home_at, home_from, home_for, homes_for, homes_in, innermost, group_name, group_in, is_in_region, is_misplaced_in, is_misplaced};
+ghost use Rattle.om_foot.specs.declared.object.Obj.TheVariants as obj;
+
+use om_cells::{Construct, Context, Home, Kind, SharedPile};
+use om_code::instruction::Place;
+use om_code::raw::{Slot, Source};
+use om_foot::{Access, Mode, Name, Obj};
+use om_seq::Seq;
+use std::alloc::{AllocError, Global};
+
+/// Appends an access.
+pub fn name(names: &mut Seq<Access>, object: Obj, mode: Mode) -> Result<(), AllocError>
+    ensures { OnOk result (names.new ≡ names.old ++ record { object = object; mode = mode } ∷ []) }
+{
+    names.push(Access { object, mode })
+}
+
+/// Appends the event records of a worker, as what is written.
+pub fn name_events(names: &mut Seq<Access>, worker: u8) -> Result<(), AllocError>
+    ensures { OnOk result (names.new ≡ names.old ++ write (obj.Events worker) ∷ []) }
+{
+    name(names, Obj::Events(worker), Mode::Write)
+}
+
+/// The object of a variable's cell, in the running frame of a context.
+pub fn object_of(context: &Context, place: Place, index: u32) -> Obj
+    ensures { result ≡ object_of context.now place index }
+{
+    match place {
+        Place::Global(variable) => Obj::Global { variable, index },
+        Place::Slot(slot) => {
+            let frame = &context.frame;
+            let task = context.task.get();
+            match frame.homes.get().as_slice().get(slot as usize) {
+                Some(home) => home.cell(task, frame.ordinal, slot, index),
+                None => Home::Own.cell(task, frame.ordinal, slot, index),
+            }
+        }
+    }
+}
+
+/// Where the cells of a slot lie.
+fn home_at(homes: &[Home], slot: u32) -> Home
+    ensures { result ≡ home_at homes.now slot }
+{
+    match homes.get(slot as usize) {
+        Some(home) => *home,
+        None => Home::Own,
+    }
+}
+
+/// Appends the cells of a slot of the running frame, as what is written.
+pub fn name_slot(
+    names: &mut Seq<Access>,
+    context: &Context,
+    slot: u32,
+    cells: u32,
+) -> Result<(), AllocError>
+    ensures { OnOk result
+        (names.new ≡ names.old ++ slot_cells context.now.task context.now.frame.ordinal slot
+        (home_at context.now.frame.homes slot) 0 cells) }
+{
+    let home = &home_at(context.frame.homes.get().as_slice(), slot);
+    for index in 0..cells {
+        let cell = home.cell(context.task.get(), context.frame.ordinal, slot, index);
+        name(names, cell, Mode::Write)?;
+    }
+    Ok(())
+}
+
+/// Appends the first cells of these slots, in the frame of a task with this ordinal, as what is written.
+pub fn name_given(
+    names: &mut Seq<Access>,
+    task: &Name,
+    frame: u64,
+    slots: &[u32],
+) -> Result<(), AllocError>
+    ensures { OnOk result (names.new ≡ names.old ++ given_cells task.now frame slots.now) }
+{
+    for slot in slots {
+        let cell = Obj::Cell {
+            task: *task,
+            frame,
+            slot: *slot,
+            index: 0,
+        };
+        name(names, cell, Mode::Write)?;
+    }
+    Ok(())
+}
+
+/// Appends the cells of a slot of the running frame, where they lie in the frame itself.
+fn name_own(
+    own: &mut Seq<Access>,
+    context: &Context,
+    slot: u32,
+    cells: u32,
+) -> Result<(), AllocError>
+    ensures { OnOk result
+        (own.new ≡ own.old ++ own_slot context.now slot cells
+        (home_at context.now.frame.homes slot)) }
+{
+    let Home::Own = home_at(context.frame.homes.get().as_slice(), slot) else {
+        return Ok(());
+    };
+    name_slot(own, context, slot, cells)
+}
+
+/// The cells of the running frame's own slots, as what is written.
+pub fn own_cells(
+    alloc: Global,
+    context: &Context,
+    slots: &[Slot],
+) -> Result<Seq<Access>, AllocError>
+    requires { length slots.now ≤ 2 ^ 32 }
+    ensures { IfOk result (λ own. own ≡ own_cells context.now slots.now) }
+{
+    let mut own = Seq::new(alloc);
+    for (number, slot) in slots.iter().enumerate() {
+        name_own(&mut own, context, number as u32, slot.cells)?;
+    }
+    Ok(own)
+}
+
+/// Where the cells of a slot lie, for a frame that is begun from another one.
+fn home_from(task: &Name, frame: u64, slot: u32, home: &Home) -> Home
+    ensures { result ≡ home_from task.now frame slot home.now }
+{
+    match home {
+        Home::Own => Home::Elsewhere {
+            task: *task,
+            frame,
+            slot,
+        },
+        Home::Elsewhere { .. } => *home,
+    }
+}
+
+/// Where the cells of a slot lie, for a frame that is begun from one with these homes.
+fn home_for(task: &Name, frame: u64, homes: &[Home], source: Source) -> Home
+    ensures { result ≡ home_for task.now frame homes.now source }
+{
+    match source {
+        Source::Own => Home::Own,
+        Source::Outer(slot) => home_from(task, frame, slot, &home_at(homes, slot)),
+    }
+}
+
+/// Where the cells of a body's slots lie, for a frame that is begun from the frame of a task with
+/// this ordinal and these homes.
+pub fn homes_for(
+    alloc: Global,
+    task: &Name,
+    frame: u64,
+    homes: &[Home],
+    slots: &[Slot],
+) -> Result<Seq<Home>, AllocError>
+    ensures { IfOk result (λ all. all ≡ homes_for task.now frame homes.now slots.now) }
+{
+    let mut all = Seq::new(alloc);
+    for slot in slots {
+        all.push(home_for(task, frame, homes, slot.source))?;
+    }
+    Ok(all)
+}
+
+/// The same from the running frame of a context.
+pub fn homes_in(alloc: Global, context: &Context, slots: &[Slot]) -> Result<Seq<Home>, AllocError>
+    ensures { IfOk result (λ all. all ≡ homes_in context.now slots.now) }
+{
+    let frame = &context.frame;
+    homes_for(
+        alloc,
+        context.task.get(),
+        frame.ordinal,
+        frame.homes.get().as_slice(),
+        slots,
+    )
+}
+
+/// The innermost open region of a context.
+pub fn innermost(context: &Context) -> Option<Construct>
+    ensures { result ≡ innermost context.now.constructs }
+{
+    context.constructs.top().copied()
+}
+
+/// The name of the task group that a region is, if it is one.
+fn group_name(construct: &Construct) -> Option<Name>
+    ensures { result ≡ group_name construct.now }
+{
+    let Construct::Group(name) = construct else {
+        return None;
+    };
+    Some(*name)
+}
+
+/// The innermost task group of a context.
+pub fn group_of(context: &Context) -> Option<Name>
+    ensures { result ≡ group_in context.now.constructs context.now.group }
+{
+    for depth in 0..context.constructs.len() {
+        let Some(construct) = context.constructs.get(depth) else {
+            unreachable!();
+        };
+        let name = &group_name(construct);
+        if name.is_some() {
+            return *name;
+        }
+    }
+    *context.group.get()
+}
+
+/// Whether a worksharing, masked or critical region is open.
+fn is_in_region(constructs: &SharedPile<Construct>) -> bool
+    ensures { result ≡ is_in_region constructs.now }
+{
+    for depth in 0..constructs.len() {
+        let Some(construct) = constructs.get(depth) else {
+            unreachable!();
+        };
+        let Some(_group) = group_name(construct) else {
+            return true;
+        };
+    }
+    false
+}
+
+/// Whether no barrier or worksharing region may be met in a context.
+pub fn is_misplaced(context: &Context) -> bool
+    ensures { result ≡ is_misplaced context.now }
+{
+    match context.kind {
+        Kind::Explicit => true,
+        Kind::Initial => is_in_region(&context.constructs),
+        Kind::Implicit => is_in_region(&context.constructs),
+    }
+}

@@ -1,0 +1,127 @@
+//! What rows are made of: edits, names and updates that many of them have.
+
+ghost use Rattle.std.specs.Prelude.{◌≡◌, ◌∷◌, [], None, IfOk};
+ghost use Rattle.om_steps.specs.Objects.{events, event};
+
+use crate::names::name_events;
+use crate::updates::put_event;
+use crate::{Answer, Row};
+use om_cells::{Edit, Update};
+use om_events::Record;
+use om_foot::{Access, Mode, Obj};
+use om_seq::Seq;
+use std::alloc::{AllocError, Global};
+
+/// The worker that takes a step, from 0, and the place in its body at which it goes on.
+#[derive(Clone, Copy)]
+pub struct At {
+    pub worker: u8,
+    pub to: u32,
+}
+
+/// An item, and the others behind it. They are kept as long as a step stands, so they have no room
+/// to spare.
+pub fn before<T: Drop>(alloc: Global, item: T, others: Seq<T>) -> Result<Seq<T>, AllocError>
+    ensures { IfOk result (λ all. all ≡ item ∷ others) }
+{
+    let mut all = Seq::of(Vec::with_capacity(alloc, others.len().saturating_add(1))?);
+    all.push(item)?;
+    all.append(others)?;
+    Ok(all)
+}
+
+/// The edits that go to a place, and do nothing else.
+pub fn go_on(alloc: Global, to: u32) -> Result<Seq<Edit>, AllocError>
+    ensures { IfOk result (λ edits. edits ≡ Edit.Go to 0 None ∷ []) }
+{
+    let go = Edit::Go {
+        to,
+        takes: 0,
+        pushed: None,
+    };
+    Seq::one(alloc, go)
+}
+
+/// The edits that go to a place with so many operands taken, and then make one more.
+pub fn go_and(alloc: Global, to: u32, takes: u32, then: Edit) -> Result<Seq<Edit>, AllocError>
+    ensures { IfOk result (λ edits. edits ≡ Edit.Go to takes None ∷ then ∷ []) }
+{
+    let pushed = None;
+    let mut edits = Seq::one(alloc, then)?;
+    edits.push_front(Edit::Go { to, takes, pushed })?;
+    Ok(edits)
+}
+
+/// An object alone.
+pub fn name_one(alloc: Global, object: &Obj, mode: Mode) -> Result<Seq<Access>, AllocError>
+    ensures { IfOk result (λ names. names ≡ record { object = object.now; mode = mode } ∷ []) }
+{
+    let access = Access {
+        object: *object,
+        mode,
+    };
+    Seq::one(alloc, access)
+}
+
+/// An object, and behind it the event records of a worker, as what is written.
+pub fn name_with_events(
+    alloc: Global,
+    object: &Obj,
+    mode: Mode,
+    worker: u8,
+) -> Result<Seq<Access>, AllocError>
+    ensures { IfOk result
+        (λ names. names ≡ record { object = object.now; mode = mode } ∷ events worker ∷ []) }
+{
+    let mut names = name_one(alloc, object, mode)?;
+    name_events(&mut names, worker)?;
+    Ok(names)
+}
+
+/// The event records of a worker alone, as what is written.
+pub fn own_events(alloc: Global, worker: u8) -> Result<Seq<Access>, AllocError>
+    ensures { IfOk result (λ names. names ≡ events worker ∷ []) }
+{
+    let mut names = Seq::new(alloc);
+    name_events(&mut names, worker)?;
+    Ok(names)
+}
+
+/// An update, and behind it that an event record is appended.
+pub fn update_with_event(
+    alloc: Global,
+    update: Update,
+    entry: Record,
+) -> Result<Seq<Update>, AllocError>
+    ensures { IfOk result (λ updates. updates ≡ update ∷ event entry ∷ []) }
+{
+    let mut updates = Seq::one(alloc, update)?;
+    put_event(alloc, &mut updates, entry)?;
+    Ok(updates)
+}
+
+/// That an event record is appended, alone.
+fn one_event(alloc: Global, entry: Record) -> Result<Seq<Update>, AllocError>
+    ensures { IfOk result (λ updates. updates ≡ event entry ∷ []) }
+{
+    let mut updates = Seq::new(alloc);
+    put_event(alloc, &mut updates, entry)?;
+    Ok(updates)
+}
+
+/// The answer that names a worker's event records alone, and appends one.
+pub fn recorded(
+    alloc: Global,
+    worker: u8,
+    edits: Seq<Edit>,
+    entry: Record,
+) -> Result<Answer, AllocError>
+    ensures { IfOk result
+        (λ answer. answer
+        ≡ record { names = events worker ∷ []; row = Row.Goes edits (event entry ∷ []) }) }
+{
+    let updates = one_event(alloc, entry)?;
+    let names = own_events(alloc, worker)?;
+    let row = Row::Goes { edits, updates };
+    Ok(Answer { names, row })
+}

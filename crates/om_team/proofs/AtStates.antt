@@ -1,0 +1,12 @@
+-- Answers at a state.
+use Rattle.std.proofs.Common.{◌≡◌}
+use Rattle.std.specs.Prelude.{Result, Ok, Err, IfOk}
+use Rattle.om_cells.specs.State.{State}
+use Rattle.om_steps.specs.declared.row.Answer.{Answer}
+use Rattle.om_steps.specs.Rows.{Asked, answered}
+
+-- an answer at every state is one at this state
+pub at_state : {E : Type 0} (r : Result Answer E) (a : Asked) (s : State) → IfOk r (λ answer. (t : State) → answer
+    ≡ answered a t) → IfOk r (λ answer. answer ≡ answered a s)
+at_state (Ok answer) a s h = h s
+at_state (Err e) a s h = tt

@@ -1,0 +1,209 @@
+//! What the choice of a worker names, and what comes of it, but for the rows of tasks.
+
+ghost use Rattle.std.specs.Prelude.{◌≡◌, ◌∷◌, ◌^◌, IfOk, Some};
+ghost use Rattle.om_code.specs.Places.{instruction_at};
+ghost use Rattle.om_cells.specs.Rules.{control_access};
+ghost use Rattle.om_cells.specs.Stores.{state_of};
+ghost use Rattle.om_team.specs.Asked.{next_asked, choice_asked, asked_in, answer_in, names_in, row_in, effect_at};
+ghost use Rattle.om_team.specs.Counters.{IsWithin, ControlWithin, StateWithin};
+ghost use Rattle.om_team.specs.Sites.{site};
+
+use crate::table::{Doing, answer, instruction_of, is_of_tasks};
+use om_cells::{Blocked, Choice, Control, Label, Stack, Store};
+use om_code::Program;
+use om_foot::{Access, Mode, Obj};
+use om_seq::Seq;
+use om_steps::parts::before;
+use om_steps::{Answer, Row};
+use std::alloc::{AllocError, Global};
+
+/// One of a program's workers.
+#[derive(Clone, Copy)]
+pub struct Worker {
+    /// Its number, from 0.
+    pub number: u8,
+    /// How many workers there are, 1 to 32.
+    pub workers: u8,
+}
+
+/// A choice of one of so many workers.
+#[derive(Clone, Copy)]
+pub struct Planning {
+    pub label: Label,
+    pub workers: u8,
+}
+
+impl Planning {
+    /// The choice of a worker.
+    pub fn of(worker: Worker, choice: Choice) -> Planning
+        ensures { result
+            ≡ record {
+              label = record { worker = worker.number; choice = choice };
+              workers = worker.workers;
+            } }
+    {
+        Planning {
+            label: Label {
+                worker: worker.number,
+                choice,
+            },
+            workers: worker.workers,
+        }
+    }
+}
+
+/// What a worker's step touches that names these objects beside its control.
+pub fn footprint(alloc: Global, worker: u8, names: Seq<Access>) -> Result<Seq<Access>, AllocError>
+    ensures { IfOk result
+        (λ footprint. footprint ≡ record { object = Obj.Control worker; mode = Mode.Write }
+        ∷ names) }
+{
+    let object = Obj::Control(worker);
+    let mode = Mode::Write;
+    before(alloc, Access { object, mode }, names)
+}
+
+/// The answer of the instruction at which a stack stands.
+fn next_answer(
+    alloc: Global,
+    program: &Program,
+    store: &Store,
+    stack: &Stack,
+    planning: &Planning,
+) -> Result<Option<Answer>, AllocError>
+    requires { IsWithin (2 ^ 63) stack.now.top }
+    ensures { IfOk result
+        (λ answer. answer ≡ answer_in (state_of store.now)
+        (next_asked (site program.now planning.now.workers planning.now.label.worker stack.now)
+        (instruction_at program.now stack.now.top.frame.body stack.now.top.frame.next))) }
+{
+    let Some(instruction) = instruction_of(program, stack) else {
+        return Ok(Some(Answer::decided(alloc, Row::Lacks)));
+    };
+    if is_of_tasks(instruction) {
+        return Ok(None);
+    }
+    let doing = Doing {
+        worker: planning.label.worker,
+        workers: planning.workers,
+        instruction,
+    };
+    Ok(Some(answer(alloc, store, program, stack, doing)?))
+}
+
+/// The answer of a choice on a stack.
+fn choice_answer(
+    alloc: Global,
+    program: &Program,
+    store: &Store,
+    stack: &Stack,
+    planning: &Planning,
+) -> Result<Option<Answer>, AllocError>
+    requires { IsWithin (2 ^ 63) stack.now.top }
+    ensures { IfOk result
+        (λ answer. answer ≡ answer_in (state_of store.now)
+        (choice_asked (site program.now planning.now.workers planning.now.label.worker stack.now)
+        planning.now.label.choice)) }
+{
+    match planning.label.choice {
+        Choice::Next => next_answer(alloc, program, store, stack, planning),
+        Choice::Start(_) => Ok(None),
+    }
+}
+
+/// The answer of a worker that has this control.
+fn control_answer(
+    alloc: Global,
+    program: &Program,
+    store: &Store,
+    control: &Control,
+    planning: &Planning,
+) -> Result<Option<Answer>, AllocError>
+    requires { ControlWithin (2 ^ 63) control.now }
+    ensures { IfOk result
+        (λ answer. answer ≡ answer_in (state_of store.now)
+        (asked_in program.now planning.now.workers planning.now.label control.now)) }
+{
+    match control {
+        Control::Running(stack) => choice_answer(alloc, program, store, stack, planning),
+        Control::Idle => Ok(Some(Answer::decided(alloc, Row::Blocked(Blocked::Idle)))),
+        Control::Faulted(_, _) => Ok(Some(Answer::decided(alloc, Row::Lacks))),
+        Control::Ended(_) => Ok(Some(Answer::decided(alloc, Row::Lacks))),
+    }
+}
+
+/// What the choice of a worker touches that has this control, which comes first. `None` where the
+/// row is one of tasks: the start of one, or an instruction of them.
+///
+/// It looks at the program, the control and the choice alone. No counter of the control is above
+/// 2^63, as after fewer steps. The only error is out of memory.
+pub fn names(
+    alloc: Global,
+    program: &Program,
+    worker: Worker,
+    control: &Control,
+    choice: Choice,
+) -> Result<Option<Seq<Access>>, AllocError>
+    requires { ControlWithin (2 ^ 63) control.now }
+    ensures { IfOk result
+        (λ names. names ≡ names_in (record { worker = worker.number; choice = choice })
+        (asked_in program.now worker.workers
+        (record { worker = worker.number; choice = choice }) control.now)) }
+{
+    let planning = &Planning::of(worker, choice);
+    let store = &Store::new(alloc);
+    match control_answer(alloc, program, store, control, planning)? {
+        Some(Answer { names, row }) => {
+            drop(row);
+            Ok(Some(footprint(alloc, worker.number, names)?))
+        }
+        None => Ok(None),
+    }
+}
+
+/// What comes of the choice of a worker that has this control.
+fn control_row(
+    alloc: Global,
+    program: &Program,
+    store: &Store,
+    control: &Control,
+    planning: &Planning,
+) -> Result<Option<Row>, AllocError>
+    requires { ControlWithin (2 ^ 63) control.now }
+    ensures { IfOk result
+        (λ row. row ≡ row_in (state_of store.now)
+        (asked_in program.now planning.now.workers planning.now.label control.now)) }
+{
+    match control_answer(alloc, program, store, control, planning)? {
+        Some(Answer { names, row }) => {
+            drop(names);
+            Ok(Some(row))
+        }
+        None => Ok(None),
+    }
+}
+
+/// What comes of the choice of a worker at a store's state: edits of its control and updates, a
+/// fault, that it is blocked, or that its code lacks something. `None` where the row is one of
+/// tasks.
+///
+/// It looks at the values alone that `names` says are read or written. No counter there is above
+/// 2^63, as after fewer steps. Nothing changes; the only error is out of memory.
+pub fn effect(
+    alloc: Global,
+    program: &Program,
+    store: &Store,
+    worker: Worker,
+    choice: Choice,
+) -> Result<Option<Row>, AllocError>
+    requires { StateWithin (2 ^ 63) (state_of store.now) }
+    ensures { IfOk result
+        (λ row. row ≡ effect_at program.now worker.workers
+        (record { worker = worker.number; choice = choice }) (state_of store.now)) }
+{
+    let planning = &Planning::of(worker, choice);
+    match store.control(worker.number) {
+        Some(control) => control_row(alloc, program, store, control, planning),
+        None => control_row(alloc, program, store, &Control::Idle, planning),
+    }
+}

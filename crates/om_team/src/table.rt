@@ -1,0 +1,341 @@
+//! The table of all instructions but those of tasks: each with its row.
+
+ghost use Rattle.std.specs.Prelude.{◌≡◌, ◌<◌, ◌+◌, ◌^◌, IfOk, IfSome};
+ghost use Rattle.om_cells.specs.Stores.{state_of};
+ghost use Rattle.om_code.specs.Places.{instruction_at, slots_of};
+ghost use Rattle.om_steps.specs.Rows.{answered};
+ghost use Rattle.om_steps.specs.SerialRows.{serial_row};
+ghost use Rattle.om_team.specs.Counters.{IsWithin};
+ghost use Rattle.om_team.specs.Ready.{IsReady};
+ghost use Rattle.om_team.specs.Sites.{site, lock_of, targets_of};
+ghost use Rattle.om_team.specs.Table.{is_of_tasks, frame_row, team_row, share_row, region_row, row_of};
+
+use om_cells::{Stack, Store};
+use om_code::frame::Operand;
+use om_code::print::ints_on;
+use om_code::raw::Slot;
+use om_code::serial::int_at;
+use om_code::{Instr, Program};
+use om_fork::ends::finish;
+use om_fork::rows::{arrive, begin, depart, leave};
+use om_fork::teams::{Forking, fork};
+use om_share::{
+    Bounds, Branch, ask_critical, end_masked, end_worksharing, enter_critical, grab, iterate,
+    leave_critical, masked, open_loop, open_sections, pick, single,
+};
+use om_steps::{Answer, At, Launch, Row};
+use std::alloc::{AllocError, Global};
+
+/// A worker of so many that carries out an instruction.
+#[derive(Clone, Copy)]
+pub struct Doing {
+    /// The worker, from 0.
+    pub worker: u8,
+    /// How many workers there are.
+    pub workers: u8,
+    pub instruction: Instr,
+}
+
+/// The instruction at which a stack stands, with what its row relies on; `None` where there is none.
+pub fn instruction_of(program: &Program, stack: &Stack) -> Option<Instr>
+    requires { IsWithin (2 ^ 63) stack.now.top }
+    ensures same { result
+        ≡ instruction_at program.now stack.now.top.frame.body stack.now.top.frame.next }
+    ensures ready { IfSome result (λ instr. IsReady program.now stack.now instr) }
+{
+    program.instruction(stack.top.frame.body, stack.top.frame.next)
+}
+
+/// Whether an instruction is one of tasks and task groups, whose rows stand elsewhere.
+pub fn is_of_tasks(instruction: Instr) -> bool
+    ensures { result ≡ is_of_tasks instruction }
+{
+    match instruction {
+        Instr::Spawn { .. } | Instr::TaskEnd | Instr::WaitBegin | Instr::WaitEnd => true,
+        Instr::Yield | Instr::GroupBegin | Instr::GroupEnd => true,
+        _ => false,
+    }
+}
+
+/// How an instruction that takes so many operands begins a body.
+pub fn launch(stack: &Stack, takes: u32, body: u32) -> Launch
+    requires { stack.now.top.frame.next + 1 < 2 ^ 32 }
+    ensures { result ≡ record { to = stack.now.top.frame.next + 1; takes = takes; body = body } }
+{
+    Launch {
+        to: stack.top.frame.next + 1,
+        takes,
+        body,
+    }
+}
+
+/// The slots of the body that runs.
+pub fn slots<'a>(program: &'a Program, stack: &Stack) -> &'a [Slot]
+    ensures { result.now ≡ slots_of program.now stack.now.top.frame.body }
+{
+    match program.bodies().get(stack.top.frame.body as usize) {
+        Some(body) => body.slots.as_slice(),
+        None => &[],
+    }
+}
+
+/// Calls, returns, reductions and the numbers of threads.
+fn frame_answer(
+    alloc: Global,
+    store: &Store,
+    program: &Program,
+    stack: &Stack,
+    doing: Doing,
+) -> Result<Answer, AllocError>
+    requires { IsReady program.now stack.now doing.instruction }
+    ensures { IfOk result
+        (λ answer. answer ≡ answered
+        (frame_row (site program.now doing.workers doing.worker stack.now) doing.instruction)
+        (state_of store.now)) }
+{
+    let context = &stack.top;
+    let operands = &context.frame.operands;
+    match doing.instruction {
+        Instr::ThreadNumber => om_steps::number(alloc, context, context.team.get().number),
+        Instr::TeamSize => om_steps::number(alloc, context, context.team.get().size),
+        Instr::Call { body, values } => {
+            let ints = ints_on(alloc, usize::from(values), operands)?;
+            let launch = launch(stack, u32::from(values), body);
+            om_steps::call(alloc, launch, program.body(body), context, ints)
+        }
+        Instr::Return => {
+            let value = int_at(operands, 0).map(Operand::Int);
+            om_steps::give_back(alloc, context, slots(program, stack), value)
+        }
+        Instr::ReturnNothing => {
+            let value = Some(Operand::NoValue);
+            om_steps::give_back(alloc, context, slots(program, stack), value)
+        }
+        Instr::Reduce {
+            reduction,
+            copy,
+            place,
+        } => om_steps::reduce(alloc, store, context, reduction, (copy, place)),
+        _ => Ok(Answer::decided(alloc, Row::Lacks)),
+    }
+}
+
+/// The instructions of the frame machine that go on in their frame.
+fn serial_answer(
+    alloc: Global,
+    store: &Store,
+    program: &Program,
+    stack: &Stack,
+    doing: Doing,
+) -> Result<Answer, AllocError>
+    requires { IsReady program.now stack.now doing.instruction }
+    ensures { IfOk result
+        (λ answer. answer ≡ answered (serial_row program.now stack.now.top doing.instruction)
+        (state_of store.now)) }
+{
+    let raw = program.raw();
+    om_steps::serial(alloc, raw, store, &stack.top, doing.instruction)
+}
+
+/// Parallel regions and barriers, and the end of the program.
+fn team_answer(
+    alloc: Global,
+    store: &Store,
+    program: &Program,
+    stack: &Stack,
+    doing: Doing,
+) -> Result<Answer, AllocError>
+    requires { IsReady program.now stack.now doing.instruction }
+    ensures { IfOk result
+        (λ answer. answer ≡ answered
+        (team_row (site program.now doing.workers doing.worker stack.now) doing.instruction)
+        (state_of store.now)) }
+{
+    let context = &stack.top;
+    let worker = doing.worker;
+    let at = At {
+        worker,
+        to: context.frame.next + 1,
+    };
+    match doing.instruction {
+        Instr::Fork {
+            body,
+            sized,
+            values,
+        } => {
+            let takes = u32::from(values) + u32::from(sized);
+            let forking = Forking {
+                worker,
+                workers: doing.workers,
+                launch: launch(stack, takes, body),
+                body: program.body(body),
+                context,
+            };
+            fork(alloc, store, &forking, sized, values)
+        }
+        Instr::Begin => begin(alloc, at, context),
+        Instr::Arrive(barrier) => arrive(alloc, at, barrier, context),
+        Instr::Depart(barrier) => depart(alloc, store, at, barrier, context),
+        Instr::Leave => leave(alloc, store, worker, stack, slots(program, stack)),
+        Instr::Finish { has_value } => finish(alloc, store, worker, context, has_value),
+        _ => Ok(Answer::decided(alloc, Row::Lacks)),
+    }
+}
+
+/// The targets of a PICK.
+fn targets(program: &Program, list: u32) -> &[u32]
+    ensures { result.now ≡ targets_of program.now list }
+{
+    match program.raw().picks.as_slice().get(list as usize) {
+        Some(targets) => targets.as_slice(),
+        None => &[],
+    }
+}
+
+/// The name of a lock.
+fn lock_name(program: &Program, lock: u32) -> &[u8]
+    ensures { result.now ≡ lock_of program.now lock }
+{
+    match program.raw().locks.as_slice().get(lock as usize) {
+        Some(name) => name.as_slice(),
+        None => &[],
+    }
+}
+
+/// Worksharing regions.
+fn share_answer(
+    alloc: Global,
+    store: &Store,
+    program: &Program,
+    stack: &Stack,
+    doing: Doing,
+) -> Result<Answer, AllocError>
+    requires { IsReady program.now stack.now doing.instruction }
+    ensures { IfOk result
+        (λ answer. answer ≡ answered
+        (share_row (site program.now doing.workers doing.worker stack.now) doing.instruction)
+        (state_of store.now)) }
+{
+    let context = &stack.top;
+    let operands = &context.frame.operands;
+    let worker = doing.worker;
+    let to = context.frame.next + 1;
+    let at = At { worker, to };
+    match doing.instruction {
+        Instr::Loop(form) => {
+            let bounds = Bounds {
+                lower: int_at(operands, 1),
+                upper: int_at(operands, 0),
+            };
+            open_loop(alloc, context, at, form, bounds)
+        }
+        Instr::Sections(count) => open_sections(alloc, context, at, count),
+        Instr::Grab(otherwise) => grab(alloc, store, context, Branch { to, otherwise }),
+        Instr::Iterate { slot, otherwise } => {
+            iterate(alloc, context, Branch { to, otherwise }, slot)
+        }
+        Instr::Pick(list) => pick(alloc, context, targets(program, list)),
+        Instr::Single(otherwise) => {
+            single(alloc, store, context, worker, Branch { to, otherwise })
+        }
+        Instr::EndWorksharing => end_worksharing(alloc, context, at),
+        _ => Ok(Answer::decided(alloc, Row::Lacks)),
+    }
+}
+
+/// Masked and critical regions.
+fn region_answer(
+    alloc: Global,
+    store: &Store,
+    program: &Program,
+    stack: &Stack,
+    doing: Doing,
+) -> Result<Answer, AllocError>
+    requires { IsReady program.now stack.now doing.instruction }
+    ensures { IfOk result
+        (λ answer. answer ≡ answered
+        (region_row (site program.now doing.workers doing.worker stack.now) doing.instruction)
+        (state_of store.now)) }
+{
+    let context = &stack.top;
+    let worker = doing.worker;
+    let to = context.frame.next + 1;
+    let at = At { worker, to };
+    match doing.instruction {
+        Instr::Masked(otherwise) => {
+            let number = int_at(&context.frame.operands, 0);
+            masked(alloc, context, worker, Branch { to, otherwise }, number)
+        }
+        Instr::EndMasked => end_masked(alloc, context, at),
+        Instr::AskCritical(lock) => ask_critical(alloc, at, lock_name(program, lock)),
+        Instr::EnterCritical(lock) => {
+            enter_critical(alloc, store, at, lock, lock_name(program, lock))
+        }
+        Instr::LeaveCritical(lock) => {
+            leave_critical(alloc, context, at, lock, lock_name(program, lock))
+        }
+        _ => Ok(Answer::decided(alloc, Row::Lacks)),
+    }
+}
+
+/// What an instruction that is none of tasks names beside its worker's control, and what comes of
+/// the values there.
+///
+/// Nothing changes. The only error is out of memory.
+pub fn answer(
+    alloc: Global,
+    store: &Store,
+    program: &Program,
+    stack: &Stack,
+    doing: Doing,
+) -> Result<Answer, AllocError>
+    requires { IsReady program.now stack.now doing.instruction }
+    ensures { IfOk result
+        (λ answer. answer ≡ answered
+        (row_of (site program.now doing.workers doing.worker stack.now) doing.instruction)
+        (state_of store.now)) }
+{
+    match doing.instruction {
+        Instr::ThreadNumber | Instr::TeamSize | Instr::Call { .. } | Instr::Reduce { .. } => {
+            frame_answer(alloc, store, program, stack, doing)
+        }
+        Instr::Return | Instr::ReturnNothing => frame_answer(alloc, store, program, stack, doing),
+        Instr::Fork { .. } | Instr::Begin | Instr::Leave => {
+            team_answer(alloc, store, program, stack, doing)
+        }
+        Instr::Arrive(_) | Instr::Depart(_) | Instr::Finish { .. } => {
+            team_answer(alloc, store, program, stack, doing)
+        }
+        Instr::Loop(_) | Instr::Sections(_) | Instr::Grab(_) | Instr::Iterate { .. } => {
+            share_answer(alloc, store, program, stack, doing)
+        }
+        Instr::Pick(_) | Instr::Single(_) | Instr::EndWorksharing => {
+            share_answer(alloc, store, program, stack, doing)
+        }
+        Instr::Masked(_) | Instr::EndMasked | Instr::AskCritical(_) => {
+            region_answer(alloc, store, program, stack, doing)
+        }
+        Instr::EnterCritical(_) | Instr::LeaveCritical(_) => {
+            region_answer(alloc, store, program, stack, doing)
+        }
+        Instr::Spawn { .. } | Instr::TaskEnd | Instr::WaitBegin | Instr::WaitEnd => {
+            serial_answer(alloc, store, program, stack, doing)
+        }
+        Instr::Yield | Instr::GroupBegin | Instr::GroupEnd => {
+            serial_answer(alloc, store, program, stack, doing)
+        }
+        Instr::Constant(_) | Instr::Duplicate | Instr::Pop | Instr::Nop | Instr::Use => {
+            serial_answer(alloc, store, program, stack, doing)
+        }
+        Instr::Unary(_) | Instr::Binary(_) | Instr::Jump(_) | Instr::JumpIfZero(_) => {
+            serial_answer(alloc, store, program, stack, doing)
+        }
+        Instr::Load(_) | Instr::Store { .. } | Instr::LoadElement(_) | Instr::Clear(_) => {
+            serial_answer(alloc, store, program, stack, doing)
+        }
+        Instr::StoreElement { .. } | Instr::Print { .. } | Instr::Atomic { .. } => {
+            serial_answer(alloc, store, program, stack, doing)
+        }
+        Instr::AtomicElement { .. } => serial_answer(alloc, store, program, stack, doing),
+    }
+}
