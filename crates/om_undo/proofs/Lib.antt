@@ -4,3 +4,4 @@ mod OneList
 mod Inserted
 mod Touched
 mod ReadyNames
+mod Planned

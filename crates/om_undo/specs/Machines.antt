@@ -1,12 +1,16 @@
 -- What contracts see of a machine, and what is true of its fields.
-use Rattle.std.specs.Prelude.{ℕ, ◌≤◌}
+use Rattle.std.specs.Prelude.{◌≡◌, ℕ, ◌≤◌}
 use Rattle.om_code.specs.declared.raw.Raw.{Raw}
 use Rattle.om_cells.specs.State.{State}
-use Rattle.om_cells.specs.Rules.{Rules}
+use Rattle.om_cells.specs.declared.step.Label.{Label}
+use Rattle.om_cells.specs.Rules.{Rules, step_at}
+use Rattle.om_task.specs.declared.planned.Plan.{Plan}
+use Rattle.om_task.specs.Plans.{plan_of}
 use Rattle.om_task.specs.Rules.{rules_of}
 use Rattle.om_history.specs.declared.history.History as kept
-use Rattle.om_history.specs.Runs.{History, state_of_entries}
-use Rattle.om_history.specs.Pasts.{IsHeld}
+use Rattle.om_history.specs.declared.reply.StepReply.{StepReply}
+use Rattle.om_history.specs.Runs.{History, state_of_entries, reply_to_step, after_step}
+use Rattle.om_history.specs.Pasts.{past_in, history_in, IsHeld}
 
 -- a machine's program, its number of workers, and its history
 pub record MachineView : Type 0 where
@@ -27,3 +31,18 @@ pub record IsSound (program : Raw) (workers : ℕ) (history : kept.History) : Ty
   pub at_least_one : 1 ≤ workers
   pub at_most_32 : workers ≤ 32
   pub held : IsHeld (rules_of program workers) history
+
+-- rules under which a history is held, and the plan of a label's step by them: at its state, which is the replay of
+-- its entries
+pub record IsPlan (r : Rules) (h : kept.History) (l : Label) (p : Plan) : Type 0 where
+  pub held : IsHeld r h
+  pub planned : p ≡ plan_of (step_at r (past_in h).state l)
+  pub replayed : p ≡ plan_of (step_at r (state_of_entries r (history_in h).entries) l)
+
+-- what such a plan replies, and what it leaves
+abbrev pub RepliesToPlan : Label → Plan → kept.History → StepReply → Type 0
+RepliesToPlan l p h reply = (r : Rules) → IsPlan r h l p → reply ≡ reply_to_step r (history_in h) l
+
+abbrev pub TakesPlan : Label → Plan → kept.History → kept.History → Type 0
+TakesPlan l p old new = (r : Rules) → IsPlan r old l p → (history_in new ≡ after_step r (history_in old) l)
+    × IsHeld r new

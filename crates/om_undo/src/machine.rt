@@ -3,25 +3,25 @@
 ghost use Rattle.std.specs.Prelude.{◌≡◌, ◌<◌, ◌≤◌, ◌^◌, ℕ, IfOk, OnOk, OnErr, IsNone, IfSome, ◌↔◌, Some, map};
 ghost use Rattle.om_foot.specs.declared.object.Obj.TheVariants as obj;
 ghost use Rattle.om_cells.specs.Ready.{AreReady};
-ghost use Rattle.om_cells.specs.Rules.{replay, step_at};
+ghost use Rattle.om_cells.specs.Rules.{Rules, replay};
 ghost use Rattle.om_cells.specs.Values.{control_in};
 ghost use Rattle.om_task.specs.Rules.{rules_of, line_in, is_at_scheduling_point};
 ghost use Rattle.om_history.specs.Runs.{no_history, label_of, reply_to_step, after_step, reply_to_undo, after_undo};
 ghost use Rattle.om_history.specs.Cones.{taken_by_roll, reply_to_roll, after_roll};
 ghost use Rattle.om_history.specs.Commands.{IsRun, IsGone, Rise, TakesCone};
-ghost use Rattle.om_history.specs.Pasts.{past_in, IsHeld};
+ghost use Rattle.om_history.specs.Pasts.{past_in, IsHeld, Stays};
 ghost use Rattle.om_undo.specs.Headline.{Headline};
-ghost use Rattle.om_undo.specs.Machines.{rules_for, state_in};
+ghost use Rattle.om_undo.specs.Machines.{rules_for, state_in, IsPlan, RepliesToPlan, TakesPlan};
 
 use crate::laws::{headline, steady_rules};
-use om_cells::{Control, Entry, Label, Step, Val};
+use om_cells::{Control, Entry, Label, Outcome, Step, Val};
 use om_code::Program;
 use om_foot::{Name, Obj};
 use om_history::{History, RollReply, StepReply, Taken, UndoReply};
-use om_task::Choice;
 use om_task::laws::low_counters;
-use om_task::plan::{is_at_scheduling_point, line, plan};
+use om_task::planning::{is_at_scheduling_point, line};
 use om_task::start::started;
+use om_task::{Choice, Plan, Worker, plan};
 use std::alloc::{AllocError, Global};
 use std::marker::Model;
 
@@ -67,13 +67,69 @@ fn planned(
     workers: u8,
     history: &History,
     label: Label,
-) -> Result<Step, AllocError>
+) -> Result<Plan, AllocError>
     requires { IsHeld (rules_of program.now workers) history.now }
-    ensures { IfOk result
-        (λ step. step ≡ step_at (rules_of program.now workers) (past_in history.now).state label) }
+    ensures { IfOk result (λ plan. IsPlan (rules_of program.now workers) history.now label plan) }
 {
     low_counters();
-    plan(alloc, program, workers, history.store(), &label)
+    let worker = Worker {
+        number: label.worker,
+        workers,
+    };
+    plan(alloc, program, history.store(), worker, label.choice)
+}
+
+/// What `taken` of a plan would answer now: the reply of the definition of a run. Nothing changes.
+fn replied(history: &History, plan: Plan) -> StepReply
+    requires { (r : Rules) × IsHeld r history.now }
+    ensures { (label : Label) → RepliesToPlan label plan history.now result }
+{
+    match plan {
+        Plan::Updates {
+            footprint,
+            updates,
+            line,
+        } => history.reply(&Step {
+            footprint,
+            outcome: Outcome::Updates(updates),
+            line,
+        }),
+        Plan::Blocked(why) => StepReply::Blocked(why),
+        Plan::Ended => StepReply::Ended,
+    }
+}
+
+/// Takes the step of a plan for a label, or says why it can't be taken: the reply of the definition
+/// of a run. When out of memory, nothing changes.
+fn taken(
+    history: &mut History,
+    alloc: Global,
+    label: Label,
+    plan: Plan,
+) -> Result<StepReply, AllocError>
+    requires few_made { (past_in history.old).made < 2 ^ 63 }
+    requires planned { (r : Rules) × IsPlan r history.old label plan }
+    ensures reply { IfOk result (RepliesToPlan label plan history.old) }
+    ensures after { OnOk result (TakesPlan label plan history.old history.new) }
+    ensures unchanged_on_error { OnErr result (Stays history.old history.new) }
+{
+    match plan {
+        Plan::Updates {
+            footprint,
+            updates,
+            line,
+        } => {
+            let outcome = Outcome::Updates(updates);
+            let step = Step {
+                footprint,
+                outcome,
+                line,
+            };
+            history.take(alloc, label, step)
+        }
+        Plan::Blocked(why) => Ok(StepReply::Blocked(why)),
+        Plan::Ended => Ok(StepReply::Ended),
+    }
 }
 
 impl Machine {
@@ -115,14 +171,14 @@ impl Machine {
             }) }
         ensures unchanged_on_error { OnErr result (self.new ≡ self.old) }
     {
-        let step = planned(
+        let plan = planned(
             alloc,
             &self.program,
             self.workers,
             &self.history,
             label(worker, &choice),
         )?;
-        self.history.take(alloc, label(worker, &choice), step)
+        taken(&mut self.history, alloc, label(worker, &choice), plan)
     }
 
     /// What `step` would answer now. Nothing changes; the only error is out of memory.
@@ -132,14 +188,14 @@ impl Machine {
             (λ x. x ≡ reply_to_step (rules_for self.now) self.now.history
             (record { worker = worker; choice = choice })) }
     {
-        let step = planned(
+        let plan = planned(
             alloc,
             &self.program,
             self.workers,
             &self.history,
             label(worker, &choice),
         )?;
-        Ok(self.history.reply(&step))
+        Ok(replied(&self.history, plan))
     }
 
     /// Takes a worker's last step out of the history, wherever it stands, unless a later step

@@ -8,6 +8,8 @@ use Rattle.om_task.specs.Rules.{rules_of}
 use Rattle.om_history.specs.declared.records.UndoRecord.{UndoRecord}
 use Rattle.om_history.specs.Runs.{label_of}
 use Rattle.om_history.specs.Pasts.{history_in}
+use Rattle.std.proofs.lemmas.Result.{IfOk-weaker}
+use Rattle.om_undo.proofs.Planned.{is_plan}
 use Rattle.om_undo.proofs.machine.planned.Goals as goal
 
 pub plan-requires : goal.plan-requires
@@ -24,3 +26,8 @@ plan-requires c =
       length-map records
           (λ (k : UndoRecord). k.entry),
     ))
+
+pub returns : goal.returns
+returns c = IfOk-weaker c.plan.result _ _
+    (λ p is. is_plan (rules_of c.args.program.now c.args.workers) c.args.history.now c.args.label
+    (state_of c.store.result.now) p c.requires c.store.ensures.state c.store.ensures.replayed is) c.plan.ensures
