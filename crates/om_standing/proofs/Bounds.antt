@@ -1,5 +1,6 @@
 -- What every row keeps to: behind its edits the worker stands, and so does what it puts.
-use Rattle.std.proofs.Common.{subst, ℕ, arith, Bool, true, false, if◌then◌else◌, List, [], ◌∷◌, ◌++◌, Option}
+use Rattle.std.specs.Prelude.{◌⊎◌}
+use Rattle.std.proofs.Common.{◌≡◌, subst, ℕ, arith, Bool, true, false, if◌then◌else◌, List, [], ◌∷◌, ◌++◌, Option}
 use Rattle.om_code.specs.declared.frame.Operand.{Operand}
 use Rattle.om_code.specs.declared.raw.Raw.{Raw}
 use Rattle.om_code.specs.Ways.{Way}
@@ -14,13 +15,18 @@ use Rattle.om_cells.specs.declared.edit.Edit.TheVariants.{Close, Replace, CountB
 use Rattle.om_cells.specs.declared.edit.Edit.TheVariants.{End}
 use Rattle.om_cells.specs.declared.step.Update.{Update}
 use Rattle.om_cells.specs.declared.step.Update.TheVariants.{Put}
+use Rattle.om_foot.specs.declared.footprint.Access.{Access}
+use Rattle.om_foot.specs.declared.object.Obj.TheVariants as obj
+use Rattle.om_cells.specs.declared.value.Task as tasks
 use Rattle.om_cells.specs.declared.value.Val.{Val}
+use Rattle.om_cells.specs.declared.value.Val.TheVariants as value
 use Rattle.om_cells.specs.Edits.{changed_by, changed, edited, context_ended, value_given}
-use Rattle.om_row.specs.declared.row.Row.{Row}
-use Rattle.om_row.specs.declared.row.Row.TheVariants.{Goes}
-use Rattle.om_row.specs.Rows.{Asked}
+use Rattle.om_steps.specs.declared.row.Row.{Row}
+use Rattle.om_steps.specs.declared.row.Row.TheVariants.{Goes}
+use Rattle.om_steps.specs.Rows.{Asked}
+use Rattle.om_steps.specs.Objects.{write}
 use Rattle.om_standing.specs.Standing.{Owned, AreWaiting, IsStandingContext, AreStanding, IsStandingControl}
-use Rattle.om_standing.specs.Standing.{IsStandingValue}
+use Rattle.om_standing.specs.Standing.{IsStandingTask, IsNotReady, HasParent}
 
 -- an edit that leaves frames where they are, or begins a context that stands
 abbrev pub Keeps : Raw → Owned → Edit → Type 0
@@ -33,23 +39,50 @@ abbrev pub AllKeep : Raw → Owned → List Edit → Type 0
 AllKeep program owned [] = Unit {0}
 AllKeep program owned (edit ∷ edits) = Keeps program owned edit × AllKeep program owned edits
 
--- an update puts what stands
+-- an update puts what stands wherever it is put: no task that is ready
+abbrev pub StandsAnywhere : Raw → Owned → Val → Type 0
+StandsAnywhere program owned (value.Control control) = IsStandingControl program owned control
+StandsAnywhere program owned (value.Task t) = IsNotReady t
+StandsAnywhere program owned _ = Unit {0}
+
 abbrev pub PutsStanding : Raw → Owned → Update → Type 0
-PutsStanding program owned (Put v) = IsStandingValue program owned v
+PutsStanding program owned (Put v) = StandsAnywhere program owned v
 PutsStanding program owned _ = Unit {0}
 
 abbrev pub AllPutStanding : Raw → Owned → List Update → Type 0
 AllPutStanding program owned [] = Unit {0}
 AllPutStanding program owned (u ∷ us) = PutsStanding program owned u × AllPutStanding program owned us
 
-abbrev pub ValuesStand : Raw → Owned → List Val → Type 0
-ValuesStand program owned [] = Unit {0}
-ValuesStand program owned (v ∷ values) = IsStandingValue program owned v × ValuesStand program owned values
-
 abbrev pub RowStands : Raw → Owned → Stack → Row → Type 0
 RowStands program owned stack (Goes edits us) =
     IsStandingControl program owned (changed edits (Running stack)) × AllPutStanding program owned us
 RowStands program owned stack _ = Unit {0}
+
+-- edits and updates that make a task of this name ready, and put what stands besides
+pub record MakesTask (program : Raw) (owned : Owned) (c : controls.Control) (names : List Access) (edits : List Edit)
+    (us : List Update) : Type 0 where
+  pub name : List ℕ
+  pub rest : List Access
+  pub task : tasks.Task
+  pub others : List Update
+  pub first : names ≡ write (obj.Task name) ∷ rest
+  pub puts : us ≡ Put (value.Task task) ∷ others
+  pub named : HasParent name
+  pub stands : IsStandingTask program owned task
+  pub control : IsStandingControl program owned (changed edits c)
+  pub besides : AllPutStanding program owned others
+
+abbrev pub RowMakes : Raw → Owned → controls.Control → List Access → Row → Type 0
+RowMakes program owned c names (Goes edits us) = MakesTask program owned c names edits us
+RowMakes program owned c names _ = Unit {0}
+
+-- what a row is that names these objects
+abbrev pub RowBehind : Raw → Owned → Stack → List Access → Row → Type 0
+RowBehind program owned stack names r = RowStands program owned stack r
+    ⊎ RowMakes program owned (Running stack) names r
+
+abbrev pub Behind : Raw → Owned → Stack → Asked → List Val → Type 0
+Behind program owned stack a values = RowBehind program owned stack a.names (a.row values)
 
 abbrev pub AskedStands : Raw → Owned → Stack → Asked → List Val → Type 0
 AskedStands program owned stack a values = RowStands program owned stack (a.row values)
@@ -73,6 +106,8 @@ given_frame program owned v (frame ∷ callers) c w h = record {
         homes = w.0.homes;
       };
   callers = w.1;
+  member = h.member;
+  named = h.named;
 }
 
 ended_stands : (program : Raw) (owned : Owned) (below : List Context) → AreStanding program owned below
@@ -88,12 +123,12 @@ edit_stands program owned (EndFrame v) stack k h =
     (given_frame program owned v stack.top.callers stack.top h.0.callers h.0, h.1)
 edit_stands program owned (BeginContext c) stack k h = (k, h)
 edit_stands program owned EndContext stack k h = ended_stands program owned stack.below h.1
-edit_stands program owned (Open c) stack k h = (record { frame = h.0.frame; callers = h.0.callers }, h.1)
-edit_stands program owned Close stack k h = (record { frame = h.0.frame; callers = h.0.callers }, h.1)
-edit_stands program owned (Replace c) stack k h = (record { frame = h.0.frame; callers = h.0.callers }, h.1)
-edit_stands program owned CountBirth stack k h = (record { frame = h.0.frame; callers = h.0.callers }, h.1)
-edit_stands program owned CountRegion stack k h = (record { frame = h.0.frame; callers = h.0.callers }, h.1)
-edit_stands program owned CountPhase stack k h = (record { frame = h.0.frame; callers = h.0.callers }, h.1)
+edit_stands program owned (Open c) stack k h = (record { frame = h.0.frame; callers = h.0.callers; member = h.0.member; named = h.0.named }, h.1)
+edit_stands program owned Close stack k h = (record { frame = h.0.frame; callers = h.0.callers; member = h.0.member; named = h.0.named }, h.1)
+edit_stands program owned (Replace c) stack k h = (record { frame = h.0.frame; callers = h.0.callers; member = h.0.member; named = h.0.named }, h.1)
+edit_stands program owned CountBirth stack k h = (record { frame = h.0.frame; callers = h.0.callers; member = h.0.member; named = h.0.named }, h.1)
+edit_stands program owned CountRegion stack k h = (record { frame = h.0.frame; callers = h.0.callers; member = h.0.member; named = h.0.named }, h.1)
+edit_stands program owned CountPhase stack k h = (record { frame = h.0.frame; callers = h.0.callers; member = h.0.member; named = h.0.named }, h.1)
 edit_stands program owned (Fail f) stack k h = h
 edit_stands program owned (End v) stack k h = tt
 

@@ -18,8 +18,8 @@ use Rattle.om_code.specs.Ways.{starts}
 use Rattle.om_cells.specs.declared.control.Home.{Home}
 use Rattle.om_cells.specs.declared.control.Home.TheVariants as home
 use Rattle.om_cells.specs.declared.control.Frame.{Frame}
-use Rattle.om_row.specs.Objects.{home_at, home_from, home_for, homes_for}
-use Rattle.om_task.specs.Sites.{body_of}
+use Rattle.om_steps.specs.Objects.{home_at, home_from, home_for, homes_for}
+use Rattle.om_team.specs.Sites.{body_of}
 use Rattle.om_standing.specs.Standing.{Owned, FitsHome, FitHomes, IsStandingFrame}
 
 -- the own slots of the frame that runs in a context have their cells

@@ -23,16 +23,18 @@ use Rattle.om_cells.specs.declared.value.Val.TheVariants as value
 use Rattle.om_cells.specs.Rules.{step_at}
 use Rattle.om_cells.specs.State.{State, values_read}
 use Rattle.om_cells.specs.Values.{control_in}
-use Rattle.om_row.specs.declared.row.Row.{Row}
-use Rattle.om_row.specs.declared.row.Row.TheVariants as row
-use Rattle.om_row.specs.Objects.{innermost}
+use Rattle.om_steps.specs.declared.row.Row.{Row}
+use Rattle.om_steps.specs.declared.row.Row.TheVariants as row
+use Rattle.om_steps.specs.Objects.{innermost}
 use Rattle.om_share.specs.Rows.{share_in}
-use Rattle.om_spawn.specs.Rows.{value_of}
+use Rattle.om_fork.specs.Rows.{value_of}
 use Rattle.om_spawn.specs.Tasks.{innermost_group}
-use Rattle.om_task.specs.Rules.{rules_of, site, choice_row, leaving, admits_all, further_in, row_in, outcome_after}
-use Rattle.om_task.specs.Sites.{Site, context, operands, next, slots, line, launch, body_of, lock_of, targets_of}
+use Rattle.om_task.specs.Rules.{rules_of, choice_row, leaving, admits_all, further_in, row_in, outcome_after}
+use Rattle.om_team.specs.Sites.{site}
+use Rattle.om_team.specs.Sites.{Site, context, operands, next, slots, line, launch, body_of, lock_of, targets_of}
 use Rattle.om_task.specs.Table.{row_of}
 use Rattle.om_standing.specs.Reasons.{HasNoValue, MayLack}
+use Rattle.om_standing.specs.Standing.{IsMember, HasParent}
 use Rattle.om_standing.proofs.Operands.{no_int, no_ints, no_ints_below}
 use Rattle.om_standing.proofs.Reasons.{Only, serial_only}
 use Rattle.om_standing.proofs.RowReasons.{call_only, return_only, reduce_only, fork_only, arrive_only, depart_only}
@@ -66,102 +68,105 @@ finished s false values le =
     finish_only (MayLack s.program s.stack (i.Finish false)) s.worker (context s) (context s).kind
     (value_of (context s) false) values inl (λ e. cc)
 
-instruction_only : (s : Site) (instr : Instr) (values : List Val) → pops instr ≤ length (operands s)
+instruction_only : (s : Site) (instr : Instr) (values : List Val) → IsMember s.stack.top.team
+    → HasParent s.stack.top.task
+    → pops instr ≤ length (operands s)
     → Only (MayLack s.program s.stack instr) ((row_of s instr).row values)
-instruction_only s i.ThreadNumber values le = tt
-instruction_only s i.TeamSize values le = tt
-instruction_only s (i.Call body count) values le =
+instruction_only s i.ThreadNumber values m p le = tt
+instruction_only s i.TeamSize values m p le = tt
+instruction_only s (i.Call body count) values m p le =
     call_only (HasNoValue count (operands s)) (launch s count body) (body_of s.program body) (context s)
     (ints_on count (operands s)) values (no_ints count (operands s) le)
-instruction_only s i.Return values le =
+instruction_only s i.Return values m p le =
     return_only (MayLack s.program s.stack i.Return) (context s) (slots s) (context s).callers
     (option_map Int (int_at 0 (operands s))) values
     (λ e. inl (no_int (operands s) 0 1 (omega arith) le (no_operand (int_at 0 (operands s)) e))) inr
-instruction_only s i.ReturnNothing values le =
+instruction_only s i.ReturnNothing values m p le =
     return_only (MayLack s.program s.stack i.ReturnNothing) (context s) (slots s) (context s).callers
     (Some NoValue) values (λ e. cc) (λ e. e)
-instruction_only s (i.Reduce reduction copy place) values le =
+instruction_only s (i.Reduce reduction copy place) values m p le =
     reduce_only (MayLack s.program s.stack (i.Reduce reduction copy place)) (context s) reduction copy place values
-instruction_only s (i.Fork body sized count) values le = forked s body count sized values le
-instruction_only s i.Begin values le = tt
-instruction_only s (i.Arrive barrier) values le =
+instruction_only s (i.Fork body sized count) values m p le = forked s body count sized values le
+instruction_only s i.Begin values m p le = tt
+instruction_only s (i.Arrive barrier) values m p le =
     arrive_only (MayLack s.program s.stack (i.Arrive barrier)) s.worker (next s) barrier (context s) values
-instruction_only s (i.Depart barrier) values le =
+instruction_only s (i.Depart barrier) values m p le =
     depart_only (MayLack s.program s.stack (i.Depart barrier)) s.worker (next s) barrier (context s) values
-instruction_only s i.Leave values le =
+instruction_only s i.Leave values m p le =
     leave_only (MayLack s.program s.stack i.Leave) s.worker (context s) s.stack.below (slots s) (context s).kind
     (context s).team.number values inl inr
-instruction_only s (i.Loop form) values le =
+instruction_only s (i.Loop form) values m p le =
     loop_only (MayLack s.program s.stack (i.Loop form)) s.worker (next s) (context s) form (int_at 1 (operands s))
     (int_at 0 (operands s)) values (λ e. inl (no_int (operands s) 1 2 (omega arith) le e))
     (λ e. inl (no_int (operands s) 0 2 (omega arith) le e)) inr
-instruction_only s (i.Sections count) values le =
+instruction_only s (i.Sections count) values m p le =
     sections_only (MayLack s.program s.stack (i.Sections count)) s.worker (next s) (context s) count values
-instruction_only s (i.Grab otherwise) values le =
+instruction_only s (i.Grab otherwise) values m p le =
     grab_only (MayLack s.program s.stack (i.Grab otherwise)) (next s) otherwise (context s)
-    (share_in (context s)) values inl inr
-instruction_only s (i.Iterate slot otherwise) values le =
+    (share_in (context s)) values (λ e. e) m
+instruction_only s (i.Iterate slot otherwise) values m p le =
     iterate_only (next s) otherwise (context s) slot (share_in (context s)) values
-instruction_only s (i.Pick list) values le = pick_only (targets_of s.program list) (share_in (context s)) values
-instruction_only s (i.Single otherwise) values le =
+instruction_only s (i.Pick list) values m p le = pick_only (targets_of s.program list) (share_in (context s)) values
+instruction_only s (i.Single otherwise) values m p le =
     single_only (MayLack s.program s.stack (i.Single otherwise)) s.worker (next s) otherwise (context s) values
-instruction_only s i.EndWorksharing values le =
+instruction_only s i.EndWorksharing values m p le =
     end_worksharing_only s.worker (next s) (context s) (innermost (context s).constructs) values
-instruction_only s (i.Masked otherwise) values le =
+instruction_only s (i.Masked otherwise) values m p le =
     masked_only (MayLack s.program s.stack (i.Masked otherwise)) s.worker (next s) otherwise (context s)
     (int_at 0 (operands s)) values (no_int (operands s) 0 1 (omega arith) le)
-instruction_only s i.EndMasked values le =
+instruction_only s i.EndMasked values m p le =
     end_masked_only (MayLack s.program s.stack i.EndMasked) s.worker (next s) (context s)
     (innermost (context s).constructs) values (λ e. e)
-instruction_only s (i.AskCritical lock) values le = tt
-instruction_only s (i.EnterCritical lock) values le =
+instruction_only s (i.AskCritical lock) values m p le = tt
+instruction_only s (i.EnterCritical lock) values m p le =
     enter_critical_only (MayLack s.program s.stack (i.EnterCritical lock)) s.worker (next s) lock
     (lock_of s.program lock) values
-instruction_only s (i.LeaveCritical lock) values le =
+instruction_only s (i.LeaveCritical lock) values m p le =
     leave_critical_only (MayLack s.program s.stack (i.LeaveCritical lock)) s.worker (next s) lock
     (lock_of s.program lock) (innermost (context s).constructs) values (λ e. e)
-instruction_only s (i.Spawn body count) values le =
+instruction_only s (i.Spawn body count) values m p le =
     spawn_only (HasNoValue count (operands s))
     (record { worker = s.worker; line = line s; launch = launch s count body }) (body_of s.program body)
     (context s) values (no_ints count (operands s) le)
-instruction_only s i.TaskEnd values le =
-    task_end_only (MayLack s.program s.stack i.TaskEnd) s.worker s.stack (slots s) values inl (λ e. inr (inl e))
-    (λ e. inr (inr e))
-instruction_only s i.WaitBegin values le = tt
-instruction_only s i.WaitEnd values le =
+instruction_only s i.TaskEnd values m p le =
+    task_end_only (MayLack s.program s.stack i.TaskEnd) s.worker s.stack (slots s) values inl inr p
+instruction_only s i.WaitBegin values m p le = tt
+instruction_only s i.WaitEnd values m p le =
     wait_end_only (MayLack s.program s.stack i.WaitEnd) s.worker (next s) (context s) values
-instruction_only s i.Yield values le = tt
-instruction_only s i.GroupBegin values le =
+instruction_only s i.Yield values m p le = tt
+instruction_only s i.GroupBegin values m p le =
     group_begin_only (MayLack s.program s.stack i.GroupBegin) s.worker (next s) (context s) values
-instruction_only s i.GroupEnd values le =
+instruction_only s i.GroupEnd values m p le =
     group_end_only (MayLack s.program s.stack i.GroupEnd) s.worker (next s) (context s)
     (innermost_group (innermost (context s).constructs)) values (λ e. e)
-instruction_only s (i.Finish has_value) values le = finished s has_value values le
-instruction_only s (i.Constant k) values le = serial_only s.program s.stack (i.Constant k) values tt le
-instruction_only s i.Duplicate values le = serial_only s.program s.stack i.Duplicate values tt le
-instruction_only s i.Pop values le = serial_only s.program s.stack i.Pop values tt le
-instruction_only s i.Nop values le = serial_only s.program s.stack i.Nop values tt le
-instruction_only s i.Use values le = serial_only s.program s.stack i.Use values tt le
-instruction_only s (i.Unary operator) values le = serial_only s.program s.stack (i.Unary operator) values tt le
-instruction_only s (i.Binary operator) values le = serial_only s.program s.stack (i.Binary operator) values tt le
-instruction_only s (i.Jump target) values le = serial_only s.program s.stack (i.Jump target) values tt le
-instruction_only s (i.JumpIfZero target) values le = serial_only s.program s.stack (i.JumpIfZero target) values tt le
-instruction_only s (i.Load place) values le = serial_only s.program s.stack (i.Load place) values tt le
-instruction_only s (i.Store place keeps) values le = serial_only s.program s.stack (i.Store place keeps) values tt le
-instruction_only s (i.LoadElement place) values le = serial_only s.program s.stack (i.LoadElement place) values tt le
-instruction_only s (i.StoreElement place keeps) values le =
+instruction_only s (i.Finish has_value) values m p le = finished s has_value values le
+instruction_only s (i.Constant k) values m p le = serial_only s.program s.stack (i.Constant k) values tt le
+instruction_only s i.Duplicate values m p le = serial_only s.program s.stack i.Duplicate values tt le
+instruction_only s i.Pop values m p le = serial_only s.program s.stack i.Pop values tt le
+instruction_only s i.Nop values m p le = serial_only s.program s.stack i.Nop values tt le
+instruction_only s i.Use values m p le = serial_only s.program s.stack i.Use values tt le
+instruction_only s (i.Unary operator) values m p le = serial_only s.program s.stack (i.Unary operator) values tt le
+instruction_only s (i.Binary operator) values m p le = serial_only s.program s.stack (i.Binary operator) values tt le
+instruction_only s (i.Jump target) values m p le = serial_only s.program s.stack (i.Jump target) values tt le
+instruction_only s (i.JumpIfZero target) values m p le = serial_only s.program s.stack (i.JumpIfZero target) values tt le
+instruction_only s (i.Load place) values m p le = serial_only s.program s.stack (i.Load place) values tt le
+instruction_only s (i.Store place keeps) values m p le = serial_only s.program s.stack (i.Store place keeps) values tt le
+instruction_only s (i.LoadElement place) values m p le = serial_only s.program s.stack (i.LoadElement place) values tt le
+instruction_only s (i.StoreElement place keeps) values m p le =
     serial_only s.program s.stack (i.StoreElement place keeps) values tt le
-instruction_only s (i.Clear slot) values le = serial_only s.program s.stack (i.Clear slot) values tt le
-instruction_only s (i.Print text count) values le = serial_only s.program s.stack (i.Print text count) values tt le
-instruction_only s (i.Atomic operator side place) values le =
+instruction_only s (i.Clear slot) values m p le = serial_only s.program s.stack (i.Clear slot) values tt le
+instruction_only s (i.Print text count) values m p le = serial_only s.program s.stack (i.Print text count) values tt le
+instruction_only s (i.Atomic operator side place) values m p le =
     serial_only s.program s.stack (i.Atomic operator side place) values tt le
-instruction_only s (i.AtomicElement operator side place) values le =
+instruction_only s (i.AtomicElement operator side place) values m p le =
     serial_only s.program s.stack (i.AtomicElement operator side place) values tt le
 
-choice_only : (s : Site) (instr : Instr) (choice : Choice) (values : List Val) → pops instr ≤ length (operands s)
+choice_only : (s : Site) (instr : Instr) (choice : Choice) (values : List Val) → IsMember s.stack.top.team
+    → HasParent s.stack.top.task
+    → pops instr ≤ length (operands s)
     → Only (MayLack s.program s.stack instr) ((choice_row s (Some instr) choice).row values)
-choice_only s instr Next values le = instruction_only s instr values le
-choice_only s instr (Start name) values le =
+choice_only s instr Next values m p le = instruction_only s instr values m p le
+choice_only s instr (Start name) values m p le =
     start_only (MayLack s.program s.stack instr)
     (record {
       worker = s.worker;
@@ -171,13 +176,14 @@ choice_only s instr (Start name) values le =
     }) name s.stack.top values
 
 row_only : (program : Raw) (workers : ℕ) (l : Label) (stack : Stack) (instr : Instr) (values : List Val)
-    → instruction_at program stack.top.frame.body stack.top.frame.next ≡ Some instr
+    → instruction_at program stack.top.frame.body stack.top.frame.next ≡ Some instr → IsMember stack.top.team
+    → HasParent stack.top.task
     → pops instr ≤ length stack.top.frame.operands
     → Only (MayLack program stack instr) (row_in program workers l (Running stack) values)
-row_only program workers l stack instr values is le =
+row_only program workers l stack instr values is m p le =
     let s : Site = site program workers l.worker stack in
     subst (λ (o : Option Instr). Only (MayLack program stack instr) ((choice_row s o l.choice).row values)) (sym is)
-    (choice_only s instr l.choice values le)
+    (choice_only s instr l.choice values m p le)
 
 ended_only : (reason : Type 0) (c : controls.Control) (r : Row) → Only reason r → outcome_after c r ≡ outcome.Ended
     → reason
@@ -189,14 +195,15 @@ ended_only reason c (row.Blocked b) h e = cc
 -- a worker whose instruction has its operands ends only where this may lack something
 pub ends_only : (program : Raw) (workers : ℕ) (s : State) (l : Label) (stack : Stack) (instr : Instr)
     → s (obj.Control l.worker) ≡ value.Control (Running stack)
-    → instruction_at program stack.top.frame.body stack.top.frame.next ≡ Some instr
+    → instruction_at program stack.top.frame.body stack.top.frame.next ≡ Some instr → IsMember stack.top.team
+    → HasParent stack.top.task
     → pops instr ≤ length stack.top.frame.operands → (step_at (rules_of program workers) s l).outcome ≡ outcome.Ended
     → MayLack program stack instr
 unfolding step_at
-ends_only program workers s l stack instr runs is le e =
+ends_only program workers s l stack instr runs is m p le e =
     let c : controls.Control = control_in (s (obj.Control l.worker)) in
     let values : List Val = values_read (further_in program workers l c) s in
     let same : c ≡ Running stack = ap control_in runs in
     ended_only (MayLack program stack instr) c (row_in program workers l c values)
     (subst (λ (d : controls.Control). Only (MayLack program stack instr) (row_in program workers l d values))
-    (sym same) (row_only program workers l stack instr values is le)) e
+    (sym same) (row_only program workers l stack instr values is m p le)) e

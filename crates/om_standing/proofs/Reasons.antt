@@ -23,15 +23,15 @@ use Rattle.om_code.specs.Frames.{Act, act, on_operand, on_int, on_ints, at_index
 use Rattle.om_code.specs.Frames.{updated, cells_in, index_in, used, jump_if, left_by, kept, print}
 use Rattle.om_code.specs.Printing.{ints_on}
 use Rattle.om_code.specs.Ways.{pops}
-use Rattle.om_row.specs.declared.row.Row.{Row}
-use Rattle.om_row.specs.declared.row.Row.TheVariants as row
+use Rattle.om_steps.specs.declared.row.Row.{Row}
+use Rattle.om_steps.specs.declared.row.Row.TheVariants as row
 use Rattle.om_cells.specs.declared.step.Update.{Update}
 use Rattle.om_cells.specs.declared.control.Context.{Context}
 use Rattle.om_cells.specs.declared.control.Stack.{Stack}
 use Rattle.om_cells.specs.declared.value.Val.{Val}
 use Rattle.om_cells.specs.Values.{cell_in}
-use Rattle.om_row.specs.Rows.{first_of}
-use Rattle.om_row.specs.SerialRows.{row_of, touch_row, serial_row, slots_in, unsets, cells_of_slot}
+use Rattle.om_steps.specs.Rows.{first_of}
+use Rattle.om_steps.specs.SerialRows.{row_of, touch_row, serial_row, slots_in, unsets, cells_of_slot}
 use Rattle.om_standing.specs.Reasons.{HasNoValue, MayLack}
 use Rattle.om_standing.proofs.Operands.{no_int, no_ints}
 

@@ -1,5 +1,5 @@
 -- Every state of a run stands, with the cells of frames that ran.
-use Rattle.std.proofs.Common.{◌≡◌, refl, sym, ◌∙◌, ap, subst, ℕ, List, [], ◌∷◌, ◌++◌, Option, None, Some, append_assoc}
+use Rattle.std.proofs.Common.{◌≡◌, refl, sym, ◌∙◌, ap, subst, ℕ, ◌≤◌, List, [], ◌∷◌, ◌++◌, Option, None, Some, append_assoc}
 use Rattle.std.specs.Prelude.{IsSomeAnd}
 use Rattle.om_foot.specs.declared.object.Obj.TheVariants as obj
 use Rattle.om_code.specs.declared.raw.Raw.{Raw}
@@ -79,13 +79,14 @@ module _ (program : Raw) (workers : ℕ) (all : List Label) where
   then_stands (Some u) f t h e = h u refl e
 
   -- the state after the rest of a run
-  pub rest_stands : StepsStand → (before rest : List Label) (s t : State) → IsValid program → before ++ rest ≡ all
+  pub rest_stands : StepsStand → (before rest : List Label) (s t : State) → IsValid program → 1 ≤ workers
+      → before ++ rest ≡ all
       → replay (rules_of program workers) before ≡ Some s → IsStanding program (HasRun program workers all) s
       → replay_from (rules_of program workers) s rest ≡ Some t → IsStanding program (HasRun program workers all) t
-  rest_stands steps before [] s t valid parts reached h e =
+  rest_stands steps before [] s t valid some parts reached h e =
       let same : s ≡ t = cc in subst (IsStanding program (HasRun program workers all)) same h
-  rest_stands steps before (l ∷ rest) s t valid parts reached h e =
+  rest_stands steps before (l ∷ rest) s t valid some parts reached h e =
       then_stands (next_state (rules_of program workers) s l) (λ u. replay_from (rules_of program workers) u rest) t
-      (λ u is left. rest_stands steps (before ++ l ∷ []) rest u t valid (append_assoc before (l ∷ []) rest ∙ parts)
+      (λ u is left. rest_stands steps (before ++ l ∷ []) rest u t valid some (append_assoc before (l ∷ []) rest ∙ parts)
       (replay_more (rules_of program workers) before l (rules_of program workers).start s u reached is)
-      (steps program workers all before rest l s u valid parts reached h is) left) e
+      (steps program workers all before rest l s u valid some parts reached h is) left) e

@@ -1,6 +1,7 @@
 -- The other rows lack something for their reasons alone.
 use Rattle.std.proofs.Common.{◌≡◌, inl, inr, refl, ℕ, zero, suc, ◌+◌, ◌-◌, ℤ, pos, negsuc, Bool, true, false}
-use Rattle.std.proofs.Common.{if◌then◌else◌, List, [], ◌∷◌, Option, None, Some, length}
+use Rattle.std.proofs.Common.{if◌then◌else◌, cond, take, List, [], ◌∷◌, Option, None, Some, length, arith}
+use Rattle.std.proofs.lemmas.Bool.Decides.{nat_tests}
 use Rattle.std.specs.Ordering.{int_eq}
 use Rattle.std.specs.Prelude.{◌≢◌, Result, Ok, Err, slice_get, nat_lt, nat_le, nat_eq}
 use Rattle.om_foot.specs.Names.{parent_of}
@@ -27,17 +28,19 @@ use Rattle.om_cells.specs.declared.control.Frame.{Frame}
 use Rattle.om_cells.specs.declared.control.Kind.{Kind}
 use Rattle.om_cells.specs.declared.control.Kind.TheVariants as kind
 use Rattle.om_cells.specs.declared.control.Share.{Share}
+use Rattle.om_cells.specs.declared.control.Team.{Team}
 use Rattle.om_cells.specs.declared.control.Stack.{Stack}
 use Rattle.om_cells.specs.declared.value.Ready.{Ready}
 use Rattle.om_cells.specs.declared.value.Val.{Val}
 use Rattle.om_cells.specs.Values.{cell_in, number_in, count_in, holder_in, task_in}
-use Rattle.om_row.specs.declared.row.Launch.{Launch}
-use Rattle.om_row.specs.declared.row.Row.{Row}
-use Rattle.om_row.specs.Rows.{Asked, first_of, rest_of}
-use Rattle.om_row.specs.Objects.{own_cells, homes_in, is_misplaced}
-use Rattle.om_row.specs.SerialRows.{call_row, return_row, combined, reduced, reduce_row}
+use Rattle.om_steps.specs.declared.row.Launch.{Launch}
+use Rattle.om_steps.specs.declared.row.Row.{Row}
+use Rattle.om_steps.specs.Rows.{Asked, first_of, rest_of}
+use Rattle.om_steps.specs.Objects.{own_cells, homes_in, is_misplaced}
+use Rattle.om_steps.specs.SerialRows.{call_row, return_row, combined, reduced, reduce_row}
 use Rattle.om_fork.specs.Barriers.{is_open}
-use Rattle.om_fork.specs.Teams.{first_frame, first_busy}
+use Rattle.om_steps.specs.Begins.{first_frame}
+use Rattle.om_fork.specs.Teams.{first_busy}
 use Rattle.om_fork.specs.Rows.{forked, team_of, named_row, sized_row, fork_row, is_misplaced_barrier, arrive_row}
 use Rattle.om_fork.specs.Rows.{departed, depart_row, left, leave_row}
 use Rattle.om_share.specs.declared.chunk.Chunk.{Chunk}
@@ -49,12 +52,27 @@ use Rattle.om_share.specs.Rows.{chosen_row, single_row, end_worksharing_row, fil
 use Rattle.om_share.specs.Rows.{lock_row, enter_critical_row, leave_critical_row}
 use Rattle.om_spawn.specs.declared.start.Starting.{Starting}
 use Rattle.om_spawn.specs.declared.task.Making.{Making}
-use Rattle.om_spawn.specs.Tasks.{is_zero, born}
+use Rattle.om_steps.specs.Rows.{is_zero}
+use Rattle.om_spawn.specs.Tasks.{born}
 use Rattle.om_spawn.specs.Rows.{made_row, given_row, spawn_row, ended_row, end_row_of, task_end_row, waited}
-use Rattle.om_spawn.specs.Rows.{wait_end_row, opened_row, group_begin_row, closed, closed_row, finished, finished_row}
+use Rattle.om_spawn.specs.Rows.{wait_end_row, opened_row, group_begin_row, closed, closed_row}
+use Rattle.om_fork.specs.Rows.{finished, finished_row}
 use Rattle.om_spawn.specs.Rows.{ready_for, started, started_row, start_row}
 use Rattle.om_standing.specs.Reasons.{HasNoIteration, HasNoSection, is_worksharing}
+use Rattle.om_standing.specs.Standing.{IsMember, HasParent}
 use Rattle.om_standing.proofs.Reasons.{Only}
+
+no_none : (b : Bool) (xs : List ℕ) → b ≡ false → cond b None (Some xs) ≢ None
+no_none true xs h e = cc (h)
+no_none false xs h e = let no : Some xs ≡ None = e in cc
+
+has_parent : (name : List ℕ) → HasParent name → parent_of name ≢ None
+has_parent [] h e = h refl
+has_parent (x ∷ name) h e =
+    no_none (nat_eq (length (x ∷ name)) 0) (take (length (x ∷ name) - 1) (x ∷ name)) (grind (arith, nat_tests)) e
+
+no_member : (team : Team) → IsMember team → is_member team ≡ false → ⊥
+no_member team m e = let is : is_member team ≡ true = grind (arith, nat_tests, m) in cc
 
 module _ (reason : Type 0) where
   only_if : (b : Bool) (x y : Asked) (values : List Val) → Only reason (x.row values)
@@ -188,13 +206,14 @@ module _ (reason : Type 0) where
   given_only to otherwise share None = tt
 
   static_only : (to otherwise : ℕ) (c : Context) (share : Share) (size : Option ℕ) (values : List Val)
-      → (is_member c.team ≡ false → reason) → Only reason ((static_row to otherwise c share size).row values)
-  static_only to otherwise c share size values n =
+      → IsMember c.team → Only reason ((static_row to otherwise c share size).row values)
+  static_only to otherwise c share size values m =
       only_row (is_member c.team) _ _
-      (taken_only to otherwise share (static_chunk size share.count c.team.size c.team.number share.taken)) n
+      (taken_only to otherwise share (static_chunk size share.count c.team.size c.team.number share.taken))
+      (λ e. absurd (no_member c.team m e))
 
   chunk_only : (to otherwise : ℕ) (c : Context) (share : Share) (s : Schedule) (values : List Val)
-      → (is_member c.team ≡ false → reason) → Only reason ((chunk_row to otherwise c share s).row values)
+      → IsMember c.team → Only reason ((chunk_row to otherwise c share s).row values)
   chunk_only to otherwise c share schedule.Static values n = static_only to otherwise c share None values n
   chunk_only to otherwise c share (schedule.StaticChunk size) values n =
       static_only to otherwise c share (Some size) values n
@@ -202,8 +221,7 @@ module _ (reason : Type 0) where
       given_only to otherwise share (chunk_within share.count (number_in (first_of values)) size)
 
   pub grab_only : (to otherwise : ℕ) (c : Context) (share : Option Share) (values : List Val)
-      → (share ≡ None → reason) → (is_member c.team ≡ false → reason)
-      → Only reason ((grab_row to otherwise c share).row values)
+      → (share ≡ None → reason) → IsMember c.team → Only reason ((grab_row to otherwise c share).row values)
   grab_only to otherwise c (Some share) values n m = chunk_only to otherwise c share share.schedule values m
   grab_only to otherwise c None values n m = n refl
 
@@ -279,22 +297,22 @@ module _ (reason : Type 0) where
   spawn_only m body c values n = given_ints_only m body c (ints_on m.launch.takes c.frame.operands) values n
 
   ended_only : (worker : ℕ) (c : Context) (below : List Context) (own : List Access) (parent : Option (List ℕ))
-      (values : List Val) → (below ≡ [] → reason) → (parent ≡ None → reason)
+      (values : List Val) → (below ≡ [] → reason) → (parent ≢ None)
       → Only reason ((ended_row worker c below own parent).row values)
-  ended_only worker c below own None values n m = m refl
+  ended_only worker c below own None values n m = absurd (m refl)
   ended_only worker c [] own (Some parent) values n m = n refl
   ended_only worker c (b ∷ below) own (Some parent) values n m = tt
 
   end_only : (worker : ℕ) (s : Stack) (slots : List Slot) (k : Kind) (values : List Val)
-      → ((k ≢ kind.Explicit) → reason) → (s.below ≡ [] → reason) → (parent_of s.top.task ≡ None → reason)
+      → ((k ≢ kind.Explicit) → reason) → (s.below ≡ [] → reason) → HasParent s.top.task
       → Only reason ((end_row_of worker s slots k).row values)
   end_only worker s slots kind.Initial values h n m = h (λ e. cc)
   end_only worker s slots kind.Implicit values h n m = h (λ e. cc)
   end_only worker s slots kind.Explicit values h n m =
-      ended_only worker s.top s.below (own_cells s.top slots) (parent_of s.top.task) values n m
+      ended_only worker s.top s.below (own_cells s.top slots) (parent_of s.top.task) values n (has_parent s.top.task m)
 
   pub task_end_only : (worker : ℕ) (s : Stack) (slots : List Slot) (values : List Val)
-      → ((s.top.kind ≢ kind.Explicit) → reason) → (s.below ≡ [] → reason) → (parent_of s.top.task ≡ None → reason)
+      → ((s.top.kind ≢ kind.Explicit) → reason) → (s.below ≡ [] → reason) → HasParent s.top.task
       → Only reason ((task_end_row worker s slots).row values)
   task_end_only worker s slots values h n m = end_only worker s slots s.top.kind values h n m
 

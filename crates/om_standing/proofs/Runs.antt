@@ -1,7 +1,8 @@
 -- A step leads from a state that stands to one that stands, and the start stands.
-use Rattle.std.proofs.Common.{◌≡◌, sym, subst, ℕ, arith, Bool, true, false, cond, List, [], ◌∷◌, Some}
-use Rattle.std.specs.Prelude.{ℤ, if◌then◌else◌, nat_eq}
+use Rattle.std.proofs.Common.{◌≡◌, refl, inl, inr, sym, subst, ℕ, ◌≤◌, arith, Bool, true, false, cond, List, [], ◌∷◌, Some}
+use Rattle.std.specs.Prelude.{◌⊎◌, ℤ, if◌then◌else◌, nat_eq}
 use Rattle.om_foot.specs.Footprint.{obj_eq}
+use Rattle.om_foot.specs.declared.object.Obj.{Obj}
 use Rattle.om_foot.specs.declared.object.Obj.TheVariants as obj
 use Rattle.om_foot.specs.declared.footprint.Access.{Access}
 use Rattle.om_foot.specs.declared.footprint.Mode.{Mode}
@@ -11,43 +12,33 @@ use Rattle.om_code.specs.Validity.{IsValid, NamesKnown}
 use Rattle.om_cells.specs.declared.control.Control as controls
 use Rattle.om_cells.specs.declared.control.Control.TheVariants.{Idle, Running, Faulted, Ended}
 use Rattle.om_cells.specs.declared.control.Stack.{Stack}
+use Rattle.om_cells.specs.declared.edit.Edit.{Edit}
 use Rattle.om_cells.specs.declared.edit.Edit.TheVariants.{Fail}
 use Rattle.om_cells.specs.declared.step.Label.{Label}
 use Rattle.om_cells.specs.declared.step.Tail.{Tail}
 use Rattle.om_cells.specs.declared.step.Tail.TheVariants as tail
 use Rattle.om_cells.specs.declared.step.Update.{Update}
 use Rattle.om_cells.specs.declared.step.Update.TheVariants.{Keep, Put, Add, Append, Cut}
+use Rattle.om_cells.specs.declared.value.Task as tasks
+use Rattle.om_cells.specs.declared.value.Task.TheVariants as task
 use Rattle.om_cells.specs.declared.value.Val.{Val}
 use Rattle.om_cells.specs.declared.value.Val.TheVariants as value
 use Rattle.om_cells.specs.Edits.{changed}
-use Rattle.om_cells.specs.Rules.{step_at, next_state, state_after_outcome}
-use Rattle.om_cells.specs.State.{State, values_read, read_by, value_after, state_after, updated}
-use Rattle.om_cells.specs.Values.{control_in, value_plus, value_with}
-use Rattle.om_row.specs.declared.row.Row.{Row}
-use Rattle.om_row.specs.declared.row.Row.TheVariants as row
+use Rattle.om_cells.specs.Rules.{control_access, step_at, next_state, state_after_outcome}
+use Rattle.om_cells.specs.State.{State, values_read, value_after, state_after, updated}
+use Rattle.om_cells.specs.Values.{control_in, task_in, value_plus, value_with}
+use Rattle.om_steps.specs.Objects.{write}
+use Rattle.om_steps.specs.declared.row.Row.{Row}
+use Rattle.om_steps.specs.declared.row.Row.TheVariants as row
 use Rattle.om_task.specs.Rules.{rules_of, start_of, first_context, further_in, row_in, outcome_after}
 use Rattle.om_standing.specs.Laws.{HasItsNeeds}
-use Rattle.om_standing.specs.Standing.{Owned, FitHomes, IsStandingControl, IsStandingValue, IsStanding}
-use Rattle.om_standing.proofs.Bounds.{AllPutStanding, PutsStanding, ValuesStand, RowStands, changed_stands}
+use Rattle.om_standing.specs.Standing.{Owned, FitHomes, IsStandingControl, IsStandingTask, IsStandingValue, IsStanding}
+use Rattle.om_standing.specs.Standing.{IsNotReady, HasParent}
+use Rattle.om_standing.proofs.Bounds.{StandsAnywhere, AllPutStanding, PutsStanding, RowStands, MakesTask, RowMakes}
+use Rattle.om_standing.proofs.Bounds.{RowBehind, changed_stands}
 use Rattle.om_standing.proofs.Going.{stands_at, found_slots}
 use Rattle.om_standing.proofs.Homes.{WorkerHasOwn, WorkersHaveOwn, around_none, begins}
 use Rattle.om_standing.proofs.Walk.{row_stands}
-
--- ---- what is read of a state that stands
-
-read_stands : (program : Raw) (owned : Owned) (m : Mode) (v : Val) (values : List Val)
-    → IsStandingValue program owned v → ValuesStand program owned values
-    → ValuesStand program owned (read_by m v values)
-read_stands program owned mode.Add v values h k = k
-read_stands program owned mode.Read v values h k = (h, k)
-read_stands program owned mode.Write v values h k = (h, k)
-
-values_stand : (program : Raw) (owned : Owned) (names : List Access) (s : State) → IsStanding program owned s
-    → ValuesStand program owned (values_read names s)
-values_stand program owned [] s h = tt
-values_stand program owned (a ∷ names) s h =
-    read_stands program owned a.mode (s a.object) (values_read names s) (h a.object)
-    (values_stand program owned names s h)
 
 control_stands : (program : Raw) (owned : Owned) (v : Val) → IsStandingValue program owned v
     → IsStandingControl program owned (control_in v)
@@ -92,9 +83,86 @@ with_stands program owned (tail.Events records) (value.Cell c) h = tt
 with_stands program owned (tail.Events records) (value.Number k) h = tt
 with_stands program owned (tail.Events records) (value.Lock k) h = tt
 
+-- what stands wherever it is put stands, and is no task that is ready
+anywhere_stands : (program : Raw) (owned : Owned) (v : Val) → StandsAnywhere program owned v
+    → IsStandingValue program owned v
+anywhere_stands program owned (value.Control c) h = h
+anywhere_stands program owned (value.Task (task.Ready r)) h = absurd h
+anywhere_stands program owned (value.Task task.Absent) h = tt
+anywhere_stands program owned (value.Task (task.Running w)) h = tt
+anywhere_stands program owned (value.Task task.Done) h = tt
+anywhere_stands program owned (value.Cell c) h = tt
+anywhere_stands program owned (value.Count k) h = tt
+anywhere_stands program owned (value.Number k) h = tt
+anywhere_stands program owned (value.Lock k) h = tt
+anywhere_stands program owned (value.Output k) h = tt
+anywhere_stands program owned (value.Events k) h = tt
+
+anywhere_unready : (program : Raw) (owned : Owned) (v : Val) → StandsAnywhere program owned v
+    → IsNotReady (task_in v)
+anywhere_unready program owned (value.Control c) h = tt
+anywhere_unready program owned (value.Task t) h = h
+anywhere_unready program owned (value.Cell c) h = tt
+anywhere_unready program owned (value.Count k) h = tt
+anywhere_unready program owned (value.Number k) h = tt
+anywhere_unready program owned (value.Lock k) h = tt
+anywhere_unready program owned (value.Output k) h = tt
+anywhere_unready program owned (value.Events k) h = tt
+
+plus_unready : (d : ℤ) (v : Val) → IsNotReady (task_in v) → IsNotReady (task_in (value_plus d v))
+plus_unready d (value.Count k) h = tt
+plus_unready d (value.Control c) h = h
+plus_unready d (value.Task t) h = h
+plus_unready d (value.Cell c) h = tt
+plus_unready d (value.Number k) h = tt
+plus_unready d (value.Lock k) h = tt
+plus_unready d (value.Output k) h = tt
+plus_unready d (value.Events k) h = tt
+
+with_unready : (t : Tail) (v : Val) → IsNotReady (task_in v) → IsNotReady (task_in (value_with t v))
+with_unready (tail.Bytes bytes) (value.Output k) h = tt
+with_unready (tail.Bytes bytes) (value.Events k) h = tt
+with_unready (tail.Bytes bytes) (value.Count k) h = tt
+with_unready (tail.Bytes bytes) (value.Control c) h = tt
+with_unready (tail.Bytes bytes) (value.Task t) h = h
+with_unready (tail.Bytes bytes) (value.Cell c) h = tt
+with_unready (tail.Bytes bytes) (value.Number k) h = tt
+with_unready (tail.Bytes bytes) (value.Lock k) h = tt
+with_unready (tail.Events records) (value.Output k) h = tt
+with_unready (tail.Events records) (value.Events k) h = tt
+with_unready (tail.Events records) (value.Count k) h = tt
+with_unready (tail.Events records) (value.Control c) h = tt
+with_unready (tail.Events records) (value.Task t) h = h
+with_unready (tail.Events records) (value.Cell c) h = tt
+with_unready (tail.Events records) (value.Number k) h = tt
+with_unready (tail.Events records) (value.Lock k) h = tt
+
+after_unready : (program : Raw) (owned : Owned) (m : Mode) (u : Update) (old : Val) → PutsStanding program owned u
+    → IsNotReady (task_in old) → IsNotReady (task_in (value_after m u old))
+after_unready program owned mode.Write (Put v) old p h = anywhere_unready program owned v p
+after_unready program owned mode.Write (Append t) old p h = with_unready t old h
+after_unready program owned mode.Write (Add d) old p h = h
+after_unready program owned mode.Write Keep old p h = h
+after_unready program owned mode.Write (Cut k) old p h = h
+after_unready program owned mode.Add (Add d) old p h = plus_unready d old h
+after_unready program owned mode.Add (Put v) old p h = h
+after_unready program owned mode.Add (Append t) old p h = h
+after_unready program owned mode.Add Keep old p h = h
+after_unready program owned mode.Add (Cut k) old p h = h
+after_unready program owned mode.Read (Put v) old p h = h
+after_unready program owned mode.Read (Append t) old p h = h
+after_unready program owned mode.Read (Add d) old p h = h
+after_unready program owned mode.Read Keep old p h = h
+after_unready program owned mode.Read (Cut k) old p h = h
+
+unready_of : (b : Bool) (v w : Val) → IsNotReady (task_in v) → IsNotReady (task_in w)
+    → IsNotReady (task_in (cond b v w))
+unready_of true v w h k = h
+unready_of false v w h k = k
+
 after_stands : (program : Raw) (owned : Owned) (m : Mode) (u : Update) (old : Val) → PutsStanding program owned u
     → IsStandingValue program owned old → IsStandingValue program owned (value_after m u old)
-after_stands program owned mode.Write (Put v) old p h = p
+after_stands program owned mode.Write (Put v) old p h = anywhere_stands program owned v p
 after_stands program owned mode.Write (Append t) old p h = with_stands program owned t old h
 after_stands program owned mode.Write (Add d) old p h = h
 after_stands program owned mode.Write Keep old p h = h
@@ -121,62 +189,109 @@ updated_stands program owned [] us s p h = h
 updated_stands program owned (a ∷ rest) [] s p h = h
 updated_stands program owned (a ∷ rest) (u ∷ us) s p h =
     updated_stands program owned rest us (state_after a u s) p.1
-    (λ q. one_of program owned (obj_eq a.object q) (value_after a.mode u (s q)) (s q)
-    (after_stands program owned a.mode u (s q) p.0 (h q)) (h q))
+    (record {
+      values = λ q. one_of program owned (obj_eq a.object q) (value_after a.mode u (s q)) (s q)
+          (after_stands program owned a.mode u (s q) p.0 (h.values q)) (h.values q);
+      root = unready_of (obj_eq a.object (obj.Task [])) (value_after a.mode u (s (obj.Task []))) (s (obj.Task []))
+          (after_unready program owned a.mode u (s (obj.Task [])) p.0 h.root) h.root;
+    })
+
+-- a task that becomes ready under a name with a number
+ready_root : (name : List ℕ) (v : Val) (s : State) → HasParent name → IsNotReady (task_in (s (obj.Task [])))
+    → IsNotReady (task_in (state_after (write (obj.Task name)) (Put v) s (obj.Task [])))
+ready_root [] v s n h = absurd (n refl)
+ready_root (k ∷ name) v s n h = h
+
+made_stands : (program : Raw) (owned : Owned) (name : List ℕ) (t : tasks.Task) (s : State) → HasParent name
+    → IsStandingTask program owned t → IsStanding program owned s
+    → IsStanding program owned (state_after (write (obj.Task name)) (Put (value.Task t)) s)
+made_stands program owned name t s n k h = record {
+  values = λ q. one_of program owned (obj_eq (obj.Task name) q) (value.Task t) (s q) k (h.values q);
+  root = ready_root name (value.Task t) s n h.root;
+}
 
 -- ---- a step
 
 -- behind the row of a control the worker stands, and so does what is put
-abbrev Leaves : Raw → Owned → controls.Control → Row → Type 0
-Leaves program owned c (row.Goes edits us) =
+abbrev Stands : Raw → Owned → controls.Control → Row → Type 0
+Stands program owned c (row.Goes edits us) =
     IsStandingControl program owned (changed edits c) × AllPutStanding program owned us
-Leaves program owned c _ = Unit {0}
+Stands program owned c _ = Unit {0}
 
-leaves : (program : Raw) (owned : Owned) (stack : Stack) (r : Row) → RowStands program owned stack r
-    → Leaves program owned (Running stack) r
-leaves program owned stack (row.Goes edits us) h = h
-leaves program owned stack (row.Faults f) h = tt
-leaves program owned stack (row.Blocked b) h = tt
-leaves program owned stack row.Lacks h = tt
+abbrev Leaves : Raw → Owned → controls.Control → List Access → Row → Type 0
+Leaves program owned c names r = Stands program owned c r ⊎ RowMakes program owned c names r
 
-row_leaves : (program : Raw) (owned : Owned) (workers : ℕ) (l : Label) (c : controls.Control) (values : List Val)
-    → IsValid program → WorkerHasOwn program owned c → IsStandingControl program owned c
-    → ValuesStand program owned values → Leaves program owned c (row_in program workers l c values)
-row_leaves program owned workers l (Running stack) values valid own h v =
-    leaves program owned stack (row_in program workers l (Running stack) values)
-    (row_stands owned program workers l stack values valid own h v)
-row_leaves program owned workers l Idle values valid own h v = tt
-row_leaves program owned workers l (Faulted fault stack) values valid own h v = tt
-row_leaves program owned workers l (Ended result) values valid own h v = tt
+stands : (program : Raw) (owned : Owned) (stack : Stack) (r : Row) → RowStands program owned stack r
+    → Stands program owned (Running stack) r
+stands program owned stack (row.Goes edits us) h = h
+stands program owned stack (row.Faults f) h = tt
+stands program owned stack (row.Blocked b) h = tt
+stands program owned stack row.Lacks h = tt
 
-outcome_stands : (program : Raw) (owned : Owned) (c : controls.Control) (r : Row) (accesses : List Access)
-    (s t : State) → IsStandingControl program owned c → Leaves program owned c r → IsStanding program owned s
-    → state_after_outcome accesses (outcome_after c r) s ≡ Some t → IsStanding program owned t
-outcome_stands program owned c (row.Goes edits us) accesses s t w k h e =
-    let new : updated accesses (Put (value.Control (changed edits c)) ∷ us) s ≡ t = cc in
+leaves : (program : Raw) (owned : Owned) (stack : Stack) (names : List Access) (r : Row)
+    → RowBehind program owned stack names r → Leaves program owned (Running stack) names r
+leaves program owned stack names r (inl h) = inl (stands program owned stack r h)
+leaves program owned stack names r (inr h) = inr h
+
+row_leaves : (program : Raw) (owned : Owned) (workers : ℕ) (l : Label) (c : controls.Control) (s : State)
+    → IsValid program → 1 ≤ workers → WorkerHasOwn program owned c → IsStandingControl program owned c
+    → IsStanding program owned s → Leaves program owned c (further_in program workers l c)
+    (row_in program workers l c (values_read (further_in program workers l c) s))
+row_leaves program owned workers l (Running stack) s valid some own h v =
+    leaves program owned stack (further_in program workers l (Running stack))
+    (row_in program workers l (Running stack) (values_read (further_in program workers l (Running stack)) s))
+    (row_stands owned program workers l stack s valid some own h v)
+row_leaves program owned workers l Idle s valid some own h v = inl tt
+row_leaves program owned workers l (Faulted fault stack) s valid some own h v = inl tt
+row_leaves program owned workers l (Ended result) s valid some own h v = inl tt
+
+-- the state behind a step that makes a task ready
+makes_stands : (program : Raw) (owned : Owned) (c : controls.Control) (edits : List Edit) (us : List Update)
+    (l : Label) (names : List Access) (s : State) → MakesTask program owned c names edits us
+    → IsStanding program owned s
+    → IsStanding program owned
+    (updated (control_access l ∷ names) (Put (value.Control (changed edits c)) ∷ us) s)
+makes_stands program owned c edits us l names s m h =
+    let v : Val = value.Control (changed edits c) in
+    let first : IsStanding program owned (state_after (control_access l) (Put v) s) =
+    updated_stands program owned (control_access l ∷ []) (Put v ∷ []) s (m.control, tt) h in
+    let t : State = state_after (control_access l) (Put v) s in
+    subst (λ (ns : List Access). IsStanding program owned (updated ns us t)) (sym m.first)
+    (subst (λ (ws : List Update). IsStanding program owned (updated (write (obj.Task m.name) ∷ m.rest) ws t))
+    (sym m.puts)
+    (updated_stands program owned m.rest m.others
+    (state_after (write (obj.Task m.name)) (Put (value.Task m.task)) t) m.besides
+    (made_stands program owned m.name m.task t m.named m.stands first)))
+
+outcome_stands : (program : Raw) (owned : Owned) (c : controls.Control) (r : Row) (l : Label) (names : List Access)
+    (s t : State) → IsStandingControl program owned c → Leaves program owned c names r → IsStanding program owned s
+    → state_after_outcome (control_access l ∷ names) (outcome_after c r) s ≡ Some t → IsStanding program owned t
+outcome_stands program owned c (row.Goes edits us) l names s t w (inl k) h e =
+    let new : updated (control_access l ∷ names) (Put (value.Control (changed edits c)) ∷ us) s ≡ t = cc in
     subst (IsStanding program owned) new
-    (updated_stands program owned accesses (Put (value.Control (changed edits c)) ∷ us) s k h)
-outcome_stands program owned c (row.Faults f) accesses s t w k h e =
-    let new : updated accesses (Put (value.Control (changed (Fail f ∷ []) c)) ∷ []) s ≡ t = cc in
+    (updated_stands program owned (control_access l ∷ names) (Put (value.Control (changed edits c)) ∷ us) s k h)
+outcome_stands program owned c (row.Goes edits us) l names s t w (inr k) h e =
+    let new : updated (control_access l ∷ names) (Put (value.Control (changed edits c)) ∷ us) s ≡ t = cc in
+    subst (IsStanding program owned) new (makes_stands program owned c edits us l names s k h)
+outcome_stands program owned c (row.Faults f) l names s t w k h e =
+    let new : updated (control_access l ∷ names) (Put (value.Control (changed (Fail f ∷ []) c)) ∷ []) s ≡ t = cc in
     subst (IsStanding program owned) new
-    (updated_stands program owned accesses (Put (value.Control (changed (Fail f ∷ []) c)) ∷ []) s
+    (updated_stands program owned (control_access l ∷ names) (Put (value.Control (changed (Fail f ∷ []) c)) ∷ []) s
     (changed_stands program owned (Fail f ∷ []) c (tt, tt) w, tt) h)
-outcome_stands program owned c (row.Blocked b) accesses s t w k h e = cc
-outcome_stands program owned c row.Lacks accesses s t w k h e = cc
+outcome_stands program owned c (row.Blocked b) l names s t w k h e = cc
+outcome_stands program owned c row.Lacks l names s t w k h e = cc
 
 pub step_stands : (program : Raw) (owned : Owned) (workers : ℕ) (s t : State) (l : Label) → IsValid program
-    → WorkersHaveOwn program owned s → IsStanding program owned s → next_state (rules_of program workers) s l ≡ Some t
-    → IsStanding program owned t
+    → 1 ≤ workers → WorkersHaveOwn program owned s → IsStanding program owned s
+    → next_state (rules_of program workers) s l ≡ Some t → IsStanding program owned t
 unfolding step_at
-step_stands program owned workers s t l valid own h e =
+step_stands program owned workers s t l valid some own h e =
     let c : controls.Control = control_in (s (obj.Control l.worker)) in
     let names : List Access = further_in program workers l c in
     let w : IsStandingControl program owned c =
-    control_stands program owned (s (obj.Control l.worker)) (h (obj.Control l.worker)) in
-    outcome_stands program owned c (row_in program workers l c (values_read names s))
-    (step_at (rules_of program workers) s l).footprint s t w
-    (row_leaves program owned workers l c (values_read names s) valid (own l.worker) w
-    (values_stand program owned names s h)) h e
+    control_stands program owned (s (obj.Control l.worker)) (h.values (obj.Control l.worker)) in
+    outcome_stands program owned c (row_in program workers l c (values_read names s)) l names s t w
+    (row_leaves program owned workers l c s valid some (own l.worker) w h) h e
 
 -- ---- the start
 
@@ -188,25 +303,31 @@ first_stands program owned true valid = (
     frame = begins program owned [] [] (0 ∷ []) 0 program.main 0 0
         (around_none owned (0 ∷ []) 0 []) valid.tables.main;
     callers = tt;
+    member = omega arith;
+    named = λ e. cc;
   },
   tt,
 )
 first_stands program owned false valid = tt
 
+start_values : (program : Raw) (owned : Owned) (workers : ℕ) → IsValid program → (q : Obj)
+    → IsStandingValue program owned (start_of program workers q)
+start_values program owned workers valid (obj.Control worker) = first_stands program owned (nat_eq worker 0) valid
+start_values program owned workers valid (obj.Global v i) = tt
+start_values program owned workers valid (obj.Cell t f s i) = tt
+start_values program owned workers valid (obj.Task t) = tt
+start_values program owned workers valid (obj.Kids t) = tt
+start_values program owned workers valid (obj.Pending t p) = tt
+start_values program owned workers valid (obj.Arrived t n) = tt
+start_values program owned workers valid (obj.Work t n) = tt
+start_values program owned workers valid (obj.Lock n) = tt
+start_values program owned workers valid (obj.Group t) = tt
+start_values program owned workers valid obj.Output = tt
+start_values program owned workers valid (obj.Events w) = tt
+
 pub start_stands : (program : Raw) (owned : Owned) (workers : ℕ) → IsValid program
     → IsStanding program owned (start_of program workers)
-start_stands program owned workers valid (obj.Control worker) = first_stands program owned (nat_eq worker 0) valid
-start_stands program owned workers valid (obj.Global v i) = tt
-start_stands program owned workers valid (obj.Cell t f s i) = tt
-start_stands program owned workers valid (obj.Task t) = tt
-start_stands program owned workers valid (obj.Kids t) = tt
-start_stands program owned workers valid (obj.Pending t p) = tt
-start_stands program owned workers valid (obj.Arrived t n) = tt
-start_stands program owned workers valid (obj.Work t n) = tt
-start_stands program owned workers valid (obj.Lock n) = tt
-start_stands program owned workers valid (obj.Group t) = tt
-start_stands program owned workers valid obj.Output = tt
-start_stands program owned workers valid (obj.Events w) = tt
+start_stands program owned workers valid = record { values = start_values program owned workers valid; root = tt }
 
 -- ---- what a stack that stands has
 
@@ -221,4 +342,6 @@ has_its_needs program owned stack valid h =
       operands = omega (arith, f.2.operands);
       names = subst (λ slots. NamesKnown program slots f.0) same f.2.names;
       homes = subst (λ slots. FitHomes owned slots stack.top.frame.homes) same f.2.homes;
+      member = h.0.member;
+      named = h.0.named;
     }

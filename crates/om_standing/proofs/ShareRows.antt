@@ -13,8 +13,8 @@ use Rattle.om_cells.specs.declared.control.Share.{Share}
 use Rattle.om_cells.specs.declared.control.Stack.{Stack}
 use Rattle.om_cells.specs.declared.value.Val.{Val}
 use Rattle.om_cells.specs.Values.{number_in, holder_in}
-use Rattle.om_row.specs.Rows.{first_of}
-use Rattle.om_row.specs.Objects.{is_misplaced}
+use Rattle.om_steps.specs.Rows.{first_of}
+use Rattle.om_steps.specs.Objects.{is_misplaced}
 use Rattle.om_share.specs.declared.chunk.Chunk.{Chunk}
 use Rattle.om_share.specs.Chunks.{static_chunk, chunk_within, value_of}
 use Rattle.om_share.specs.Rows.{open_row, loop_row, loop_of, sections_row, taken_row, given_row, static_row, chunk_row}
@@ -31,7 +31,7 @@ module _ (program : Raw) (owned : Owned) (stack : Stack) where
       → AskedStands program owned stack (open_row worker to takes c share) values
   open_stands worker to takes c share values h =
       if_asked program owned stack (is_misplaced c) _ _ values tt
-      (((record { frame = h.0.frame; callers = h.0.callers }, h.1), (tt, tt)))
+      (((record { frame = h.0.frame; callers = h.0.callers; member = h.0.member; named = h.0.named }, h.1), (tt, tt)))
 
   pub loop_stands : (worker to : ℕ) (c : Context) (form : LoopForm) (lower upper : Option ℤ) (values : List Val)
       → Leads program owned stack to 2 None
@@ -49,14 +49,14 @@ module _ (program : Raw) (owned : Owned) (stack : Stack) where
   taken_stands : (to otherwise : ℕ) (share : Share) (chunk : Option Chunk) → Leads program owned stack to 0 None
       → Leads program owned stack otherwise 0 None
       → RowStands program owned stack (taken_row to otherwise share chunk)
-  taken_stands to otherwise share (Some chunk) h k = ((record { frame = h.0.frame; callers = h.0.callers }, h.1), tt)
+  taken_stands to otherwise share (Some chunk) h k = ((record { frame = h.0.frame; callers = h.0.callers; member = h.0.member; named = h.0.named }, h.1), tt)
   taken_stands to otherwise share None h k = (k, tt)
 
   given_stands : (to otherwise : ℕ) (share : Share) (chunk : Option Chunk) → Leads program owned stack to 0 None
       → Leads program owned stack otherwise 0 None
       → RowStands program owned stack (given_row to otherwise share chunk)
   given_stands to otherwise share (Some chunk) h k =
-      ((record { frame = h.0.frame; callers = h.0.callers }, h.1), (tt, tt))
+      ((record { frame = h.0.frame; callers = h.0.callers; member = h.0.member; named = h.0.named }, h.1), (tt, tt))
   given_stands to otherwise share None h k = (k, tt)
 
   static_stands : (to otherwise : ℕ) (c : Context) (share : Share) (size : Option ℕ) (values : List Val)
@@ -84,7 +84,7 @@ module _ (program : Raw) (owned : Owned) (stack : Stack) where
   value_stands : (to : ℕ) (c : Context) (slot : ℕ) (share : Share) (value : Option ℤ) (values : List Val)
       → Leads program owned stack to 0 None → AskedStands program owned stack (value_row to c slot share value) values
   value_stands to c slot share (Some n) values h =
-      ((record { frame = h.0.frame; callers = h.0.callers }, h.1), (tt, tt))
+      ((record { frame = h.0.frame; callers = h.0.callers; member = h.0.member; named = h.0.named }, h.1), (tt, tt))
   value_stands to c slot share None values h = tt
 
   iteration_stands : (to otherwise : ℕ) (c : Context) (slot : ℕ) (share : Share) (values : List Val)
@@ -117,9 +117,9 @@ module _ (program : Raw) (owned : Owned) (stack : Stack) where
 
   chosen_stands : (to otherwise : ℕ) (c : Context) (first : Bool) → Leads program owned stack to 0 None
       → Leads program owned stack otherwise 0 None → RowStands program owned stack (chosen_row to otherwise c first)
-  chosen_stands to otherwise c true h k = ((record { frame = h.0.frame; callers = h.0.callers }, h.1), (tt, (tt, tt)))
+  chosen_stands to otherwise c true h k = ((record { frame = h.0.frame; callers = h.0.callers; member = h.0.member; named = h.0.named }, h.1), (tt, (tt, tt)))
   chosen_stands to otherwise c false h k =
-      ((record { frame = k.0.frame; callers = k.0.callers }, k.1), (tt, (tt, tt)))
+      ((record { frame = k.0.frame; callers = k.0.callers; member = k.0.member; named = k.0.named }, k.1), (tt, (tt, tt)))
 
   pub single_stands : (worker to otherwise : ℕ) (c : Context) (values : List Val)
       → Leads program owned stack to 0 None → Leads program owned stack otherwise 0 None
@@ -132,9 +132,9 @@ module _ (program : Raw) (owned : Owned) (stack : Stack) where
       → Leads program owned stack to 0 None
       → AskedStands program owned stack (end_worksharing_row worker to c region) values
   end_worksharing_stands worker to c (Some (construct.Share share)) values h =
-      ((record { frame = h.0.frame; callers = h.0.callers }, h.1), (tt, tt))
+      ((record { frame = h.0.frame; callers = h.0.callers; member = h.0.member; named = h.0.named }, h.1), (tt, tt))
   end_worksharing_stands worker to c (Some (construct.Single runs)) values h =
-      ((record { frame = h.0.frame; callers = h.0.callers }, h.1), (tt, tt))
+      ((record { frame = h.0.frame; callers = h.0.callers; member = h.0.member; named = h.0.named }, h.1), (tt, tt))
   end_worksharing_stands worker to c (Some construct.Masked) values h = tt
   end_worksharing_stands worker to c (Some (construct.Critical lock)) values h = tt
   end_worksharing_stands worker to c (Some (construct.Group name)) values h = tt
@@ -144,7 +144,7 @@ module _ (program : Raw) (owned : Owned) (stack : Stack) where
       → Leads program owned stack to 1 None → Leads program owned stack otherwise 1 None
       → AskedStands program owned stack (filtered_row worker to otherwise c own) values
   filtered_stands worker to otherwise c true values h k =
-      ((record { frame = h.0.frame; callers = h.0.callers }, h.1), (tt, tt))
+      ((record { frame = h.0.frame; callers = h.0.callers; member = h.0.member; named = h.0.named }, h.1), (tt, tt))
   filtered_stands worker to otherwise c false values h k = (k, tt)
 
   pub masked_stands : (worker to otherwise : ℕ) (c : Context) (number : Option ℤ) (values : List Val)
@@ -159,7 +159,7 @@ module _ (program : Raw) (owned : Owned) (stack : Stack) where
       → AskedStands program owned stack (end_masked_row worker to c region) values
   end_masked_stands worker to c region values h =
       if_asked program owned stack (is_masked region) _ _ values
-      (((record { frame = h.0.frame; callers = h.0.callers }, h.1), (tt, tt))) tt
+      (((record { frame = h.0.frame; callers = h.0.callers; member = h.0.member; named = h.0.named }, h.1), (tt, tt))) tt
 
   pub ask_critical_stands : (worker to : ℕ) (lock : List ℕ) (values : List Val) → Leads program owned stack to 0 None
       → AskedStands program owned stack (ask_critical_row worker to lock) values
@@ -168,7 +168,7 @@ module _ (program : Raw) (owned : Owned) (stack : Stack) where
   lock_stands : (worker to number : ℕ) (lock : List ℕ) (holder : Option ℕ) → Leads program owned stack to 0 None
       → RowStands program owned stack (lock_row worker to number lock holder)
   lock_stands worker to number lock None h =
-      ((record { frame = h.0.frame; callers = h.0.callers }, h.1), (tt, (tt, tt)))
+      ((record { frame = h.0.frame; callers = h.0.callers; member = h.0.member; named = h.0.named }, h.1), (tt, (tt, tt)))
   lock_stands worker to number lock (Some holder) h = tt
 
   pub enter_critical_stands : (worker to number : ℕ) (lock : List ℕ) (values : List Val)
@@ -182,4 +182,4 @@ module _ (program : Raw) (owned : Owned) (stack : Stack) where
       → AskedStands program owned stack (leave_critical_row worker to number lock region) values
   leave_critical_stands worker to number lock region values h =
       if_asked program owned stack (is_critical number region) _ _ values
-      (((record { frame = h.0.frame; callers = h.0.callers }, h.1), (tt, (tt, tt)))) tt
+      (((record { frame = h.0.frame; callers = h.0.callers; member = h.0.member; named = h.0.named }, h.1), (tt, (tt, tt)))) tt

@@ -1,8 +1,8 @@
 -- The rows of serial instructions, calls, parallel regions, barriers and tasks lead from a stack that stands to one
 -- that does.
-use Rattle.std.proofs.Common.{◌≡◌, refl, subst, ℕ, zero, suc, ◌+◌, ◌-◌, ℤ, pos, negsuc, Bool, true, false}
-use Rattle.std.proofs.Common.{if◌then◌else◌, List, [], ◌∷◌, ◌++◌, Option, None, Some, length, replicate}
-use Rattle.std.specs.Prelude.{Result, Ok, Err, nat_lt, nat_le, nat_eq, unwrap_or}
+use Rattle.std.proofs.Common.{◌≡◌, refl, subst, ℕ, zero, suc, ◌+◌, ◌-◌, ◌≤◌, arith, ℤ, pos, negsuc, Bool, true, false}
+use Rattle.std.proofs.Common.{if◌then◌else◌, cond, List, [], ◌∷◌, ◌++◌, Option, None, Some, length, replicate}
+use Rattle.std.specs.Prelude.{Result, Ok, Err, IfSome, min, nat_lt, nat_le, nat_eq, unwrap_or}
 use Rattle.std.specs.Cmp.Lexicographic.{pointwise}
 use Rattle.om_foot.specs.Names.{parent_of}
 use Rattle.om_foot.specs.declared.footprint.Access.{Access}
@@ -40,27 +40,32 @@ use Rattle.om_cells.specs.declared.value.Task as tasks
 use Rattle.om_cells.specs.declared.value.Task.TheVariants as task
 use Rattle.om_cells.specs.declared.value.Val.{Val}
 use Rattle.om_cells.specs.declared.value.Val.TheVariants as value
+use Rattle.om_foot.specs.declared.object.Obj.TheVariants as obj
 use Rattle.om_cells.specs.Edits.{edited}
+use Rattle.om_cells.specs.State.{State, values_read}
 use Rattle.om_cells.specs.Values.{cell_in, task_in, count_in}
-use Rattle.om_row.specs.declared.row.Launch.{Launch}
-use Rattle.om_row.specs.Rows.{first_of, rest_of}
-use Rattle.om_row.specs.Objects.{own_cells, deaths, puts, homes_in, innermost}
-use Rattle.om_row.specs.SerialRows.{put_of, row_of, unsets, cells_of_slot, touch_row, serial_row, slots_in, call_row}
-use Rattle.om_row.specs.SerialRows.{return_row, combined, reduced, reduce_row}
+use Rattle.om_steps.specs.declared.row.Launch.{Launch}
+use Rattle.om_steps.specs.Rows.{first_of, rest_of}
+use Rattle.om_steps.specs.Objects.{own_cells, deaths, puts, homes_in, innermost}
+use Rattle.om_steps.specs.SerialRows.{put_of, row_of, unsets, cells_of_slot, touch_row, serial_row, slots_in, call_row}
+use Rattle.om_steps.specs.SerialRows.{return_row, combined, reduced, reduce_row}
 use Rattle.om_fork.specs.Barriers.{is_open}
-use Rattle.om_fork.specs.Teams.{first_frame, first_busy, member, member_controls, member_puts}
+use Rattle.om_steps.specs.Begins.{first_frame}
+use Rattle.om_fork.specs.Teams.{first_busy, member, member_controls, member_puts, size_of}
 use Rattle.om_fork.specs.Rows.{forked, team_of, named_row, sized_row, fork_row, begin_row, is_misplaced_barrier}
 use Rattle.om_fork.specs.Rows.{arrive_row, kept, departed, depart_row, left, leave_row}
 use Rattle.om_spawn.specs.declared.start.Starting.{Starting}
 use Rattle.om_spawn.specs.declared.task.Making.{Making}
-use Rattle.om_spawn.specs.Tasks.{is_zero, born, group_of, innermost_group, additions, ready_of}
+use Rattle.om_steps.specs.Rows.{is_zero}
+use Rattle.om_spawn.specs.Tasks.{born, group_of, innermost_group, additions, ready_of}
 use Rattle.om_spawn.specs.Rows.{made_row, given_row, spawn_row, ended_row, end_row_of, task_end_row, wait_begin_row}
 use Rattle.om_spawn.specs.Rows.{waited, wait_end_row, opened_row, group_begin_row, closed, closed_row, group_end_row}
-use Rattle.om_spawn.specs.Rows.{value_of, finished, finished_row, finish_row, ready_for, started, started_row}
+use Rattle.om_fork.specs.Rows.{value_of, finished, finished_row, finish_row}
+use Rattle.om_spawn.specs.Rows.{ready_for, started, started_row}
 use Rattle.om_spawn.specs.Rows.{start_row}
 use Rattle.om_standing.specs.Standing.{Owned, IsStandingFrame, IsStandingContext, IsStandingControl, IsStandingTask}
-use Rattle.om_standing.specs.Standing.{IsStandingValue}
-use Rattle.om_standing.proofs.Bounds.{AllPutStanding, ValuesStand, RowStands, AskedStands, Leads, changed_stands}
+use Rattle.om_standing.specs.Standing.{IsStandingValue, IsStanding, IsMember, HasParent, IsNotReady}
+use Rattle.om_standing.proofs.Bounds.{AllPutStanding, RowStands, RowMakes, AskedStands, Leads, changed_stands}
 use Rattle.om_standing.proofs.Bounds.{if_asked, puts_append}
 
 -- ---- what is put
@@ -86,17 +91,44 @@ keeps_stand : (program : Raw) (owned : Owned) (k : ℕ) → AllPutStanding progr
 keeps_stand program owned zero = tt
 keeps_stand program owned (suc k) = (tt, keeps_stand program owned k)
 
-member_stands : (program : Raw) (owned : Owned) (team : Team) (frame : Frame) → IsStandingFrame program owned frame
-    → IsStandingContext program owned (member team frame)
-member_stands program owned team frame h = record { frame = h; callers = tt }
+-- a name that a number ends has a number
+last_named : (xs : List ℕ) (x : ℕ) → HasParent (xs ++ x ∷ [])
+last_named [] x e = cc
+last_named (y ∷ xs) x e = cc
+
+named_if : (b : Bool) (xs x : List ℕ) → HasParent xs → cond b (Some xs) None ≡ Some x → HasParent x
+named_if true xs x h e = let same : xs ≡ x = cc in subst HasParent same h
+named_if false xs x h e = cc
+
+born_named : (c : Context) (x : List ℕ) → born c ≡ Some x → HasParent x
+born_named c x e = named_if (nat_le (length (c.task ++ (c.births + 1) ∷ [])) 64) (c.task ++ (c.births + 1) ∷ []) x
+    (last_named c.task (c.births + 1)) e
+
+member_stands : (program : Raw) (owned : Owned) (team : Team) (frame : Frame) → IsMember team
+    → IsStandingFrame program owned frame → IsStandingContext program owned (member team frame)
+member_stands program owned team frame m h =
+    record { frame = h; callers = tt; member = m; named = last_named team.name team.number }
 
 controls_stand : (program : Raw) (owned : Owned) (team : Team) (frame : Frame) (number count : ℕ)
-    → IsStandingFrame program owned frame → AllPutStanding program owned (member_controls team frame number count)
-controls_stand program owned team frame number zero h = tt
-controls_stand program owned team frame number (suc count) h = (
-  (member_stands program owned (record team { number = number }) frame h, tt),
-  controls_stand program owned team frame (number + 1) count h,
+    → number + count ≤ team.size → IsStandingFrame program owned frame
+    → AllPutStanding program owned (member_controls team frame number count)
+controls_stand program owned team frame number zero m h = tt
+controls_stand program owned team frame number (suc count) m h = (
+  (member_stands program owned (record team { number = number }) frame (omega (arith, m)) h, tt),
+  controls_stand program owned team frame (number + 1) count (omega (arith, m)) h,
 )
+
+min_some : (a b : ℕ) → 1 ≤ a → 1 ≤ b → 1 ≤ min a b
+min_some zero b h k = omega (arith, h)
+min_some (suc a) zero h k = omega (arith, k)
+min_some (suc a) (suc b) h k = omega arith
+
+-- a team that is made has a member at least
+size_some : (workers level : ℕ) (asked : Option ℕ) → 1 ≤ workers → IfSome asked (λ n. 1 ≤ n)
+    → 1 ≤ size_of workers level asked
+size_some workers zero None some h = some
+size_some workers zero (Some n) some h = min_some n workers h some
+size_some workers (suc level) asked some h = omega arith
 
 values_stand : (program : Raw) (owned : Owned) (ns : List ℤ) (count : ℕ)
     → AllPutStanding program owned (member_puts ns count)
@@ -189,45 +221,47 @@ module _ (program : Raw) (owned : Owned) (stack : Stack) where
       reduced_stands (c.frame.next + 1) r (cell_in (first_of values)) (cell_in (first_of (rest_of values))) h
 
   forked_stands : (launch : Launch) (name : List ℕ) (team : Team) (frame : Frame) (ns : List ℤ) (busy : Option ℕ)
-      → Leads program owned stack launch.to launch.takes None → IsStandingFrame program owned frame
+      → IsMember team → Leads program owned stack launch.to launch.takes None → IsStandingFrame program owned frame
       → RowStands program owned stack (forked launch name team frame ns busy)
-  forked_stands launch name team frame ns (Some worker) h f = tt
-  forked_stands launch name team frame ns None h f = (
-    (member_stands program owned team frame f, (record { frame = h.0.frame; callers = h.0.callers }, h.1)),
+  forked_stands launch name team frame ns (Some worker) m h f = tt
+  forked_stands launch name team frame ns None m h f = (
+    (member_stands program owned team frame m f, (record { frame = h.0.frame; callers = h.0.callers; member = h.0.member; named = h.0.named }, h.1)),
     (puts_append program owned (member_controls team frame 1 (team.size - 1)) _
-        (controls_stand program owned team frame 1 (team.size - 1) f)
+        (controls_stand program owned team frame 1 (team.size - 1) (omega (arith, m)) f)
         (puts_append program owned (member_puts ns team.size) _ (values_stand program owned ns team.size) (tt, tt))),
   )
 
   named_stands : (worker workers : ℕ) (launch : Launch) (body : Body) (c : Context) (asked : Option ℕ) (ns : List ℤ)
-      (values : List Val) → Leads program owned stack launch.to launch.takes None
+      (values : List Val) → 1 ≤ workers → IfSome asked (λ n. 1 ≤ n)
+      → Leads program owned stack launch.to launch.takes None
       → IsStandingFrame program owned (first_frame launch.body (homes_in c body.slots))
       → AskedStands program owned stack (named_row worker workers launch body c asked ns) values
-  named_stands worker workers launch body c asked ns values h f =
+  named_stands worker workers launch body c asked ns values some k h f =
       if_asked program owned stack (nat_lt 62 (length c.task)) _ _ values tt
       (forked_stands launch c.task (team_of workers c asked) (first_frame launch.body (homes_in c body.slots)) ns
-      (first_busy 1 ((team_of workers c asked).size - 1) values) h f)
+      (first_busy 1 ((team_of workers c asked).size - 1) values)
+      (size_some workers c.team.level asked some k) h f)
 
   sized_stands : (worker workers : ℕ) (launch : Launch) (body : Body) (c : Context) (size : Option ℤ) (ns : List ℤ)
-      (values : List Val) → Leads program owned stack launch.to launch.takes None
+      (values : List Val) → 1 ≤ workers → Leads program owned stack launch.to launch.takes None
       → IsStandingFrame program owned (first_frame launch.body (homes_in c body.slots))
       → AskedStands program owned stack (sized_row worker workers launch body c size ns) values
-  sized_stands worker workers launch body c None ns values h f = tt
-  sized_stands worker workers launch body c (Some (pos zero)) ns values h f = tt
-  sized_stands worker workers launch body c (Some (pos (suc k))) ns values h f =
-      named_stands worker workers launch body c (Some (suc k)) ns values h f
-  sized_stands worker workers launch body c (Some (negsuc k)) ns values h f = tt
+  sized_stands worker workers launch body c None ns values some h f = tt
+  sized_stands worker workers launch body c (Some (pos zero)) ns values some h f = tt
+  sized_stands worker workers launch body c (Some (pos (suc k))) ns values some h f =
+      named_stands worker workers launch body c (Some (suc k)) ns values some (omega arith) h f
+  sized_stands worker workers launch body c (Some (negsuc k)) ns values some h f = tt
 
   pub fork_stands : (worker workers : ℕ) (launch : Launch) (body : Body) (c : Context) (sized : Bool)
-      (size : Option ℤ) (ints : Option (List ℤ)) (values : List Val)
+      (size : Option ℤ) (ints : Option (List ℤ)) (values : List Val) → 1 ≤ workers
       → Leads program owned stack launch.to launch.takes None
       → IsStandingFrame program owned (first_frame launch.body (homes_in c body.slots))
       → AskedStands program owned stack (fork_row worker workers launch body c sized size ints) values
-  fork_stands worker workers launch body c sized size None values h f = tt
-  fork_stands worker workers launch body c false size (Some ns) values h f =
-      named_stands worker workers launch body c None ns values h f
-  fork_stands worker workers launch body c true size (Some ns) values h f =
-      sized_stands worker workers launch body c size ns values h f
+  fork_stands worker workers launch body c sized size None values some h f = tt
+  fork_stands worker workers launch body c false size (Some ns) values some h f =
+      named_stands worker workers launch body c None ns values some tt h f
+  fork_stands worker workers launch body c true size (Some ns) values some h f =
+      sized_stands worker workers launch body c size ns values some h f
 
   pub begin_stands : (worker to : ℕ) (c : Context) (values : List Val) → Leads program owned stack to 0 None
       → AskedStands program owned stack (begin_row worker to c) values
@@ -242,7 +276,7 @@ module _ (program : Raw) (owned : Owned) (stack : Stack) where
       → RowStands program owned stack (departed to b c opens)
   departed_stands to b c false h = tt
   departed_stands to b c true h = (
-    (record { frame = h.0.frame; callers = h.0.callers }, h.1),
+    (record { frame = h.0.frame; callers = h.0.callers; member = h.0.member; named = h.0.named }, h.1),
     (puts_append program owned (kept c.team.size) _ (keeps_stand program owned (c.team.size + 1)) (tt, tt)),
   )
 
@@ -274,30 +308,35 @@ module _ (program : Raw) (owned : Owned) (stack : Stack) where
       left_stands c (b ∷ below) (own_cells c slots) (is_open c.phase c.team.size values) h
 
   made_stands : (m : Making) (body : Body) (c : Context) (ns : List ℤ) (new : Option (List ℕ)) (values : List Val)
-      → Leads program owned stack m.launch.to m.launch.takes None
+      → ((x : List ℕ) → new ≡ Some x → HasParent x) → Leads program owned stack m.launch.to m.launch.takes None
       → IsStandingTask program owned (task.Ready (ready_of m body c))
-      → AskedStands program owned stack (made_row m body c ns new) values
-  made_stands m body c ns None values h t = tt
-  made_stands m body c ns (Some new) values h t = (
-    (record { frame = h.0.frame; callers = h.0.callers }, h.1),
-    (
-      t,
-      puts_append program owned (puts ns) _ (puts_stand program owned ns)
-          (sums_stand program owned (pos 1) (group_of c) _ (tt, tt)),
-    ),
-  )
+      → RowMakes program owned (Running stack) (made_row m body c ns new).names ((made_row m body c ns new).row values)
+  made_stands m body c ns None values n h t = tt
+  made_stands m body c ns (Some new) values n h t = record {
+    name = new;
+    rest = _;
+    task = task.Ready (ready_of m body c);
+    others = _;
+    first = refl;
+    puts = refl;
+    named = n new refl;
+    stands = t;
+    control = (record { frame = h.0.frame; callers = h.0.callers; member = h.0.member; named = h.0.named }, h.1);
+    besides = puts_append program owned (puts ns) _ (puts_stand program owned ns)
+        (sums_stand program owned (pos 1) (group_of c) _ (tt, tt));
+  }
 
   given_ints_stand : (m : Making) (body : Body) (c : Context) (ints : Option (List ℤ)) (values : List Val)
       → Leads program owned stack m.launch.to m.launch.takes None
       → IsStandingTask program owned (task.Ready (ready_of m body c))
-      → AskedStands program owned stack (given_row m body c ints) values
+      → RowMakes program owned (Running stack) (given_row m body c ints).names ((given_row m body c ints).row values)
   given_ints_stand m body c None values h t = tt
-  given_ints_stand m body c (Some ns) values h t = made_stands m body c ns (born c) values h t
+  given_ints_stand m body c (Some ns) values h t = made_stands m body c ns (born c) values (born_named c) h t
 
   pub spawn_stands : (m : Making) (body : Body) (c : Context) (values : List Val)
       → Leads program owned stack m.launch.to m.launch.takes None
       → IsStandingTask program owned (task.Ready (ready_of m body c))
-      → AskedStands program owned stack (spawn_row m body c) values
+      → RowMakes program owned (Running stack) (spawn_row m body c).names ((spawn_row m body c).row values)
   spawn_stands m body c values h t = given_ints_stand m body c (ints_on m.launch.takes c.frame.operands) values h t
 
   ended_stands : (worker : ℕ) (c : Context) (below : List Context) (own : List Access) (parent : Option (List ℕ))
@@ -344,7 +383,7 @@ module _ (program : Raw) (owned : Owned) (stack : Stack) where
       → Leads program owned stack to 0 None → AskedStands program owned stack (opened_row worker to c group) values
   opened_stands worker to c None values h = tt
   opened_stands worker to c (Some group) values h =
-      ((record { frame = h.0.frame; callers = h.0.callers }, h.1), (tt, tt))
+      ((record { frame = h.0.frame; callers = h.0.callers; member = h.0.member; named = h.0.named }, h.1), (tt, tt))
 
   pub group_begin_stands : (worker to : ℕ) (c : Context) (values : List Val) → Leads program owned stack to 0 None
       → AskedStands program owned stack (group_begin_row worker to c) values
@@ -352,7 +391,7 @@ module _ (program : Raw) (owned : Owned) (stack : Stack) where
 
   closed_stands : (to : ℕ) (c : Context) (over : Bool) → Leads program owned stack to 0 None
       → RowStands program owned stack (closed to c over)
-  closed_stands to c true h = ((record { frame = h.0.frame; callers = h.0.callers }, h.1), (tt, (tt, tt)))
+  closed_stands to c true h = ((record { frame = h.0.frame; callers = h.0.callers; member = h.0.member; named = h.0.named }, h.1), (tt, (tt, tt)))
   closed_stands to c false h = tt
 
   closed_row_stands : (worker to : ℕ) (c : Context) (group : Option (List ℕ)) (values : List Val)
@@ -385,10 +424,11 @@ module _ (program : Raw) (owned : Owned) (stack : Stack) where
 
   started_stands : (worker : ℕ) (name : List ℕ) (c : Context) (s : statuses.TaskStatus) (r : Option Ready)
       → ((x : Ready) → r ≡ Some x → IsStandingTask program owned (task.Ready x))
+      → ((x : Ready) → r ≡ Some x → HasParent name) → IsMember c.team
       → IsStandingControl program owned (Running stack) → RowStands program owned stack (started worker name c s r)
-  started_stands worker name c s None t h = tt
-  started_stands worker name c s (Some ready) t h =
-      ((record { frame = t ready refl; callers = tt }, h), (tt, (tt, tt)))
+  started_stands worker name c s None t n m h = tt
+  started_stands worker name c s (Some ready) t n m h =
+      ((record { frame = t ready refl; callers = tt; member = m; named = n ready refl }, h), (tt, (tt, tt)))
 
 ready_if : (program : Raw) (owned : Owned) (b : Bool) (r x : Ready) → IsStandingTask program owned (task.Ready r)
     → (if b then Some r else None) ≡ Some x → IsStandingTask program owned (task.Ready x)
@@ -414,24 +454,33 @@ task_read program owned (value.Lock k) h = tt
 task_read program owned (value.Output k) h = tt
 task_read program owned (value.Events k) h = tt
 
-first_read : (program : Raw) (owned : Owned) (values : List Val) → ValuesStand program owned values
-    → IsStandingTask program owned (task_in (first_of values))
-first_read program owned [] h = tt
-first_read program owned (v ∷ values) h = task_read program owned v h.0
+-- a task that is ready has a name with a number
+none_ready : (team : List ℕ) (t : tasks.Task) (x : Ready) → IsNotReady t → ready_for team t ≡ Some x → ⊥
+none_ready team (task.Ready r) x h e = h
+none_ready team task.Absent x h e = cc
+none_ready team (task.Running w) x h e = cc
+none_ready team task.Done x h e = cc
+
+ready_named : (s : State) (team name : List ℕ) (x : Ready) → IsNotReady (task_in (s (obj.Task [])))
+    → ready_for team (task_in (s (obj.Task name))) ≡ Some x → HasParent name
+ready_named s team [] x h e = absurd (none_ready team (task_in (s (obj.Task []))) x h e)
+ready_named s team (k ∷ name) x h e = λ same. cc
 
 started_row_stands : (program : Raw) (owned : Owned) (stack : Stack) (worker : ℕ) (name : List ℕ) (c : Context)
-    (admits : Bool) (s : Option statuses.TaskStatus) (values : List Val) → ValuesStand program owned values
+    (admits : Bool) (status : Option statuses.TaskStatus) (s : State) → IsStanding program owned s → IsMember c.team
     → IsStandingControl program owned (Running stack)
-    → AskedStands program owned stack (started_row worker name c admits s) values
-started_row_stands program owned stack worker name c admits None values t h = tt
-started_row_stands program owned stack worker name c false (Some s) values t h = tt
-started_row_stands program owned stack worker name c true (Some s) values t h =
-    started_stands program owned stack worker name c s (ready_for c.team.name (task_in (first_of values)))
-    (λ x e. ready_stands program owned c.team.name (task_in (first_of values)) x
-    (first_read program owned values t) e) h
+    → AskedStands program owned stack (started_row worker name c admits status)
+    (values_read (started_row worker name c admits status).names s)
+started_row_stands program owned stack worker name c admits None s t m h = tt
+started_row_stands program owned stack worker name c false (Some status) s t m h = tt
+started_row_stands program owned stack worker name c true (Some status) s t m h =
+    started_stands program owned stack worker name c status (ready_for c.team.name (task_in (s (obj.Task name))))
+    (λ x e. ready_stands program owned c.team.name (task_in (s (obj.Task name))) x
+    (task_read program owned (s (obj.Task name)) (t.values (obj.Task name))) e)
+    (λ x e. ready_named s c.team.name name x t.root e) m h
 
-pub start_stands : (program : Raw) (owned : Owned) (stack : Stack) (s : Starting) (name : List ℕ) (c : Context)
-    (values : List Val) → ValuesStand program owned values → IsStandingControl program owned (Running stack)
-    → AskedStands program owned stack (start_row s name c) values
-start_stands program owned stack s name c values t h =
-    started_row_stands program owned stack s.worker name c s.admits s.status values t h
+pub start_stands : (program : Raw) (owned : Owned) (stack : Stack) (starting : Starting) (name : List ℕ) (c : Context)
+    (s : State) → IsStanding program owned s → IsMember c.team → IsStandingControl program owned (Running stack)
+    → AskedStands program owned stack (start_row starting name c) (values_read (start_row starting name c).names s)
+start_stands program owned stack starting name c s t m h =
+    started_row_stands program owned stack starting.worker name c starting.admits starting.status s t m h

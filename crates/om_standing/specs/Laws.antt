@@ -16,7 +16,7 @@ use Rattle.om_cells.specs.State.{State}
 use Rattle.om_task.specs.Rules.{rules_of, start_of}
 use Rattle.om_standing.specs.Reasons.{MayLack}
 use Rattle.om_standing.specs.Running.{HasRun}
-use Rattle.om_standing.specs.Standing.{Owned, FitHomes, IsStanding}
+use Rattle.om_standing.specs.Standing.{Owned, FitHomes, IsMember, HasParent, IsStanding}
 
 -- a valid program stands where it starts
 abbrev pub StartStands : Type 0
@@ -26,33 +26,36 @@ StartStands = (program : Raw) (workers : ℕ) (ls : List Label) → IsValid prog
 -- each step of a run of a valid program leads from a state that stands to one that stands
 abbrev pub StepsStand : Type 0
 StepsStand = (program : Raw) (workers : ℕ) (ls before after : List Label) (l : Label) (s t : State) → IsValid program
-    → before ++ l ∷ after ≡ ls → replay (rules_of program workers) before ≡ Some s
+    → 1 ≤ workers → before ++ l ∷ after ≡ ls → replay (rules_of program workers) before ≡ Some s
     → IsStanding program (HasRun program workers ls) s → next_state (rules_of program workers) s l ≡ Some t
     → IsStanding program (HasRun program workers ls) t
 
 -- so each state of its runs stands
 abbrev pub RunsStand : Type 0
-RunsStand = (program : Raw) (workers : ℕ) (ls : List Label) (s : State) → IsValid program
+RunsStand = (program : Raw) (workers : ℕ) (ls : List Label) (s : State) → IsValid program → 1 ≤ workers
     → replay (rules_of program workers) ls ≡ Some s → IsStanding program (HasRun program workers ls) s
 
--- what the next instruction of a stack needs: itself, its operands, all that it names, and a home for each slot
+-- what the next instruction of a stack needs: itself, its operands, all that it names, a home for each slot, a thread of
+-- its team, and a task with a parent
 pub record HasItsNeeds (program : Raw) (owned : Owned) (stack : Stack) : Type 0 where
   pub instruction : Instr
   pub there : instruction_at program stack.top.frame.body stack.top.frame.next ≡ Some instruction
   pub operands : pops instruction ≤ length stack.top.frame.operands
   pub names : NamesKnown program (slots_of program stack.top.frame.body) instruction
   pub homes : FitHomes owned (slots_of program stack.top.frame.body) stack.top.frame.homes
+  pub member : IsMember stack.top.team
+  pub named : HasParent stack.top.task
 
 -- in each state of its runs, each worker that runs has what its next instruction needs
 abbrev pub WorkersHaveNeeds : Type 0
 WorkersHaveNeeds = (program : Raw) (workers : ℕ) (ls : List Label) (s : State) (worker : ℕ) (stack : Stack)
-    → IsValid program → replay (rules_of program workers) ls ≡ Some s
+    → IsValid program → 1 ≤ workers → replay (rules_of program workers) ls ≡ Some s
     → s (obj.Control worker) ≡ Control (Running stack) → HasItsNeeds program (HasRun program workers ls) stack
 
 -- and the step of such a worker ends only where its instruction may lack something else
 abbrev pub LacksHaveReasons : Type 0
 LacksHaveReasons = (program : Raw) (workers : ℕ) (ls : List Label) (s : State) (l : Label) (stack : Stack)
-    (instr : Instr) → IsValid program → replay (rules_of program workers) ls ≡ Some s
+    (instr : Instr) → IsValid program → 1 ≤ workers → replay (rules_of program workers) ls ≡ Some s
     → s (obj.Control l.worker) ≡ Control (Running stack)
     → instruction_at program stack.top.frame.body stack.top.frame.next ≡ Some instr
     → (step_at (rules_of program workers) s l).outcome ≡ Ended → MayLack program stack instr

@@ -1,7 +1,6 @@
 -- Why an instruction of valid code may still lack what it needs: no operand, place or name is missing then.
 use Rattle.std.specs.Prelude.{◌≡◌, ◌≢◌, ◌⊎◌, ℕ, Bool, true, false, Option, None, Some, List, [], slice_get, take}
 use Rattle.std.specs.Prelude.{Contains}
-use Rattle.om_foot.specs.Names.{parent_of}
 use Rattle.om_code.specs.declared.frame.Operand.{Operand}
 use Rattle.om_code.specs.declared.frame.Operand.TheVariants.{NoValue}
 use Rattle.om_code.specs.declared.instruction.Instr.{Instr}
@@ -13,11 +12,11 @@ use Rattle.om_cells.specs.declared.control.Construct.TheVariants as construct
 use Rattle.om_cells.specs.declared.control.Kind.TheVariants.{Initial, Implicit, Explicit}
 use Rattle.om_cells.specs.declared.control.Share.{Share}
 use Rattle.om_cells.specs.declared.control.Stack.{Stack}
-use Rattle.om_row.specs.Objects.{innermost}
+use Rattle.om_steps.specs.Objects.{innermost}
 use Rattle.om_share.specs.Chunks.{value_of}
-use Rattle.om_share.specs.Rows.{share_in, int_of, is_loop, is_section, is_right_form, is_member, is_masked, is_critical}
+use Rattle.om_share.specs.Rows.{share_in, int_of, is_loop, is_section, is_right_form, is_masked, is_critical}
 use Rattle.om_spawn.specs.Tasks.{innermost_group}
-use Rattle.om_task.specs.Sites.{targets_of}
+use Rattle.om_team.specs.Sites.{targets_of}
 
 -- one of so many operands on top is what a call gave whose function returned no value
 abbrev pub HasNoValue : ℕ → List Operand → Type 0
@@ -40,7 +39,7 @@ is_worksharing (Some (construct.Single runs)) = true
 is_worksharing _ = false
 
 -- what an instruction may lack on a stack: an int among its operands, an open region of its kind, a frame or a
--- context to go back to, a context of its kind, a right step or chunk, a member's number, a section, a parent
+-- context to go back to, a context of its kind, a right step or chunk, a section
 abbrev pub MayLack : Raw → Stack → Instr → Type 0
 MayLack program stack i.Duplicate = ⊥
 MayLack program stack i.Pop = ⊥
@@ -49,14 +48,14 @@ MayLack program stack i.Return = HasNoValue 1 stack.top.frame.operands ⊎ (stac
 MayLack program stack i.ReturnNothing = stack.top.callers ≡ []
 MayLack program stack i.Leave = (stack.top.kind ≢ Implicit) ⊎ (stack.below ≡ [])
 MayLack program stack (i.Loop form) = HasNoValue 2 stack.top.frame.operands ⊎ (is_right_form form ≡ false)
-MayLack program stack (i.Grab otherwise) = (share_in stack.top ≡ None) ⊎ (is_member stack.top.team ≡ false)
+MayLack program stack (i.Grab otherwise) = share_in stack.top ≡ None
 MayLack program stack (i.Iterate slot otherwise) = HasNoIteration (share_in stack.top)
 MayLack program stack (i.Pick list) = HasNoSection (targets_of program list) (share_in stack.top)
 MayLack program stack i.EndWorksharing = is_worksharing (innermost stack.top.constructs) ≡ false
 MayLack program stack i.EndMasked = is_masked (innermost stack.top.constructs) ≡ false
 MayLack program stack (i.LeaveCritical lock) = is_critical lock (innermost stack.top.constructs) ≡ false
 MayLack program stack i.GroupEnd = innermost_group (innermost stack.top.constructs) ≡ None
-MayLack program stack i.TaskEnd = (stack.top.kind ≢ Explicit) ⊎ ((stack.below ≡ []) ⊎ (parent_of stack.top.task ≡ None))
+MayLack program stack i.TaskEnd = (stack.top.kind ≢ Explicit) ⊎ (stack.below ≡ [])
 MayLack program stack (i.Finish has_value) =
     (stack.top.kind ≢ Initial) ⊎ HasNoValue (pops (i.Finish has_value)) stack.top.frame.operands
 MayLack program stack instr = HasNoValue (pops instr) stack.top.frame.operands

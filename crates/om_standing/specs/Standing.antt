@@ -1,6 +1,8 @@
--- What stands: each frame at a place of its body, with its operands, and with a home for each slot.
-use Rattle.std.specs.Prelude.{◌≡◌, ℕ, ◌+◌, List, [], ◌∷◌, Some, slice_get, length}
+-- What stands: each frame at a place of its body, with its operands, and with a home for each slot, and each thread in
+-- its team.
+use Rattle.std.specs.Prelude.{◌≡◌, ◌≢◌, ℕ, ◌+◌, ◌<◌, List, [], ◌∷◌, Some, slice_get, length}
 use Rattle.om_foot.specs.declared.object.Obj.{Obj}
+use Rattle.om_foot.specs.declared.object.Obj.TheVariants as obj
 use Rattle.om_code.specs.declared.raw.Body.{Body}
 use Rattle.om_code.specs.declared.raw.Raw.{Raw}
 use Rattle.om_code.specs.declared.raw.Slot.{Slot}
@@ -11,6 +13,7 @@ use Rattle.om_cells.specs.declared.control.Home.{Home}
 use Rattle.om_cells.specs.declared.control.Home.TheVariants as home
 use Rattle.om_cells.specs.declared.control.Frame.{Frame}
 use Rattle.om_cells.specs.declared.control.Context.{Context}
+use Rattle.om_cells.specs.declared.control.Team.{Team}
 use Rattle.om_cells.specs.declared.control.Control as controls
 use Rattle.om_cells.specs.declared.control.Control.TheVariants.{Idle, Running, Faulted, Ended}
 use Rattle.om_cells.specs.declared.value.Task as tasks
@@ -18,7 +21,8 @@ use Rattle.om_cells.specs.declared.value.Task.TheVariants as task
 use Rattle.om_cells.specs.declared.value.Val.{Val}
 use Rattle.om_cells.specs.declared.value.Val.TheVariants as value
 use Rattle.om_cells.specs.State.{State}
-use Rattle.om_spawn.specs.Tasks.{first_frame}
+use Rattle.om_cells.specs.Values.{task_in}
+use Rattle.om_steps.specs.Begins.{first_frame}
 
 -- which slots of which frames have how many cells: by the name of a task, the ordinal of a frame of it, the number of
 -- a slot of that frame, and the number of cells
@@ -57,9 +61,19 @@ abbrev pub AreWaiting : Raw → Owned → List Frame → Type 0
 AreWaiting program owned [] = Unit {0}
 AreWaiting program owned (frame ∷ frames) = IsWaitingFrame program owned frame × AreWaiting program owned frames
 
+-- a thread that is one of as many as its team has
+abbrev pub IsMember : Team → Type 0
+IsMember team = team.number < team.size
+
+-- a task whose name has a number, so that it is the child of another one
+abbrev pub HasParent : List ℕ → Type 0
+HasParent task = task ≢ []
+
 pub record IsStandingContext (program : Raw) (owned : Owned) (context : Context) : Type 0 where
   pub frame : IsStandingFrame program owned context.frame
   pub callers : AreWaiting program owned context.callers
+  pub member : IsMember context.team
+  pub named : HasParent context.task
 
 abbrev pub AreStanding : Raw → Owned → List Context → Type 0
 AreStanding program owned [] = Unit {0}
@@ -84,6 +98,12 @@ IsStandingValue program owned (value.Control control) = IsStandingControl progra
 IsStandingValue program owned (value.Task t) = IsStandingTask program owned t
 IsStandingValue program owned _ = Unit {0}
 
--- a state in which each worker and each ready task stands
-abbrev pub IsStanding : Raw → Owned → State → Type 0
-IsStanding program owned s = (q : Obj) → IsStandingValue program owned (s q)
+-- a task that isn't ready
+abbrev pub IsNotReady : tasks.Task → Type 0
+IsNotReady (task.Ready ready) = ⊥
+IsNotReady _ = Unit {0}
+
+-- a state in which each worker and each ready task stands, and no task is ready whose name has no number
+pub record IsStanding (program : Raw) (owned : Owned) (s : State) : Type 0 where
+  pub values : (q : Obj) → IsStandingValue program owned (s q)
+  pub root : IsNotReady (task_in (s (obj.Task [])))

@@ -4,9 +4,9 @@ use Rattle.om_standing.proofs.Lacking.{ends_only}
 use Rattle.om_standing.proofs.laws.lacks_have_reasons.Goals as goal
 
 pub returns : goal.returns
-returns c = λ program workers ls s l stack instr valid e runs is ends.
-    let n = c.workers_have_needs.ensures program workers ls s l.worker stack valid e runs in
+returns c = λ program workers ls s l stack instr valid some e runs is ends.
+    let n = c.workers_have_needs.ensures program workers ls s l.worker stack valid some e runs in
     let found : Some n.instruction ≡ Some instr = sym n.there ∙ is in
     let same : n.instruction ≡ instr = cc in
-    ends_only program workers s l stack instr runs is
+    ends_only program workers s l stack instr runs is n.member n.named
     (subst (λ i. pops i ≤ length stack.top.frame.operands) same n.operands) ends

@@ -5,6 +5,6 @@ use Rattle.om_standing.proofs.Runs.{step_stands}
 use Rattle.om_standing.proofs.laws.steps_stand.Goals as goal
 
 pub returns : goal.returns
-returns c = λ program workers ls before after l s t valid parts reached h e.
-    step_stands program (HasRun program workers ls) workers s t l valid
+returns c = λ program workers ls before after l s t valid some parts reached h e.
+    step_stands program (HasRun program workers ls) workers s t l valid some
     (have_own program workers ls before (l ∷ after) s parts reached) h e

@@ -6,7 +6,7 @@ use Rattle.om_standing.proofs.Runs.{has_its_needs}
 use Rattle.om_standing.proofs.laws.workers_have_needs.Goals as goal
 
 pub returns : goal.returns
-returns c = λ program workers ls s worker stack valid e runs.
+returns c = λ program workers ls s worker stack valid some e runs.
     has_its_needs program (HasRun program workers ls) stack valid
     (subst (IsStandingValue program (HasRun program workers ls)) runs
-    (c.runs_stand.ensures program workers ls s valid e (obj.Control worker)))
+    ((c.runs_stand.ensures program workers ls s valid some e).values (obj.Control worker)))
