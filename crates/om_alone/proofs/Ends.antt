@@ -32,10 +32,10 @@ use Rattle.om_cells.specs.declared.value.Val.TheVariants as value
 use Rattle.om_cells.specs.Edits.{value_given}
 use Rattle.om_cells.specs.Rules.{control_access}
 use Rattle.om_cells.specs.State.{State, state_after, updated}
-use Rattle.om_row.specs.Objects.{read, events, event, own_slot, own_from, own_cells, home_at, deaths}
-use Rattle.om_row.specs.SerialRows.{return_row}
-use Rattle.om_spawn.specs.Rows.{finished_row, finished}
-use Rattle.om_spawn.specs.Tasks.{is_zero}
+use Rattle.om_steps.specs.Objects.{read, events, event, own_slot, own_from, own_cells, home_at, deaths}
+use Rattle.om_steps.specs.SerialRows.{return_row}
+use Rattle.om_fork.specs.Rows.{finished_row, finished}
+use Rattle.om_steps.specs.Rows.{is_zero}
 use Rattle.om_meaning.specs.Running.{world_of}
 use Rattle.om_alone.specs.Alone.{Shows, Keeps, OwnsCells, dead, next_of}
 use Rattle.om_alone.proofs.Showing.{each, events_put, keeps_on, beside_events, beside_cell, cells_from, all_written}

@@ -20,7 +20,8 @@ use Rattle.om_cells.specs.declared.value.Val.TheVariants as value
 use Rattle.om_cells.specs.Rules.{step_at, next_state, state_after_outcome, and_then, control_access, replay_from}
 use Rattle.om_cells.specs.State.{State, values_read}
 use Rattle.om_cells.specs.Values.{control_in, count_in}
-use Rattle.om_task.specs.Rules.{rules_of, further_in, outcome_of, next_row, site}
+use Rattle.om_task.specs.Rules.{rules_of, further_in, outcome_of, next_row}
+use Rattle.om_team.specs.Sites.{site}
 use Rattle.om_meaning.specs.Running.{on_from, run, world_of}
 use Rattle.om_meaning.specs.Worlds.{World}
 use Rattle.om_alone.specs.Alone.{Shows, Keeps, OwnsCells, next_of, stack_at}

@@ -25,7 +25,7 @@ use Rattle.om_cells.specs.declared.value.Val.TheVariants as value
 use Rattle.om_cells.specs.Rules.{step_at, next_state, state_after_outcome, and_then, control_access}
 use Rattle.om_cells.specs.State.{State, values_read}
 use Rattle.om_cells.specs.Values.{control_in}
-use Rattle.om_row.specs.Objects.{home_for, homes_for}
+use Rattle.om_steps.specs.Objects.{home_for, homes_for}
 use Rattle.std.proofs.lemmas.Bool.{cases_lt}
 use Rattle.std.proofs.lemmas.List.Elements.{All-head, All-tail}
 use Rattle.std.proofs.lemmas.List.Quantifiers.{position-Some}

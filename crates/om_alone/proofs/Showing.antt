@@ -31,8 +31,8 @@ use Rattle.om_cells.specs.declared.value.Val.TheVariants as value
 use Rattle.om_cells.specs.Rules.{control_access}
 use Rattle.om_cells.specs.State.{State, state_after, updated, value_after}
 use Rattle.om_cells.specs.Values.{value_with}
-use Rattle.om_row.specs.Objects.{write, slot_cells}
-use Rattle.om_row.specs.SerialRows.{unsets}
+use Rattle.om_steps.specs.Objects.{write, slot_cells}
+use Rattle.om_steps.specs.SerialRows.{unsets}
 use Rattle.om_meaning.specs.Worlds.{World, with_held}
 use Rattle.om_alone.specs.Alone.{Shows, Keeps, IsApart, next_of}
 

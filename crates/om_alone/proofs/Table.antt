@@ -13,9 +13,9 @@ use Rattle.om_code.specs.Validity.{NamesKnown}
 use Rattle.om_cells.specs.declared.control.Control.TheVariants.{Running}
 use Rattle.om_cells.specs.declared.control.Stack.{Stack}
 use Rattle.om_cells.specs.State.{State}
-use Rattle.om_task.specs.Rules.{site}
+use Rattle.om_team.specs.Sites.{site}
 use Rattle.om_task.specs.Table.{row_of}
-use Rattle.om_row.specs.SerialRows.{act_row}
+use Rattle.om_steps.specs.SerialRows.{act_row}
 use Rattle.om_meaning.specs.Running.{world_of}
 use Rattle.om_alone.specs.Alone.{Shows, Keeps, OwnsCells}
 use Rattle.om_alone.proofs.Turns.{Fits, Leaves, here, behind_asked, act_leaves, clear_leaves, print_leaves}

@@ -30,11 +30,11 @@ use Rattle.om_cells.specs.Homes.{cell_of}
 use Rattle.om_cells.specs.Rules.{control_access, state_after_outcome}
 use Rattle.om_cells.specs.State.{State, state_after, values_read}
 use Rattle.om_cells.specs.Values.{cell_in}
-use Rattle.om_row.specs.declared.row.Row.{Row}
-use Rattle.om_row.specs.declared.row.Row.TheVariants as row
-use Rattle.om_row.specs.Rows.{Asked}
-use Rattle.om_row.specs.Objects.{read, write, object_of, slot_cells}
-use Rattle.om_row.specs.SerialRows.{row_of, touch_row, unsets}
+use Rattle.om_steps.specs.declared.row.Row.{Row}
+use Rattle.om_steps.specs.declared.row.Row.TheVariants as row
+use Rattle.om_steps.specs.Rows.{Asked}
+use Rattle.om_steps.specs.Objects.{read, write, object_of, slot_cells}
+use Rattle.om_steps.specs.SerialRows.{row_of, touch_row, unsets}
 use Rattle.om_task.specs.Rules.{outcome_after}
 use Rattle.om_meaning.specs.Running.{world_of}
 use Rattle.om_meaning.specs.Worlds.{World, with_held}
