@@ -16,7 +16,12 @@ pub mod RunLaws
 pub mod Exactly
 pub mod Changes
 pub mod Rooms
-pub mod Apart
-pub mod Borrowed
+pub mod Searches
+pub mod Touched
+pub mod BySerial
+pub mod Lists
+pub mod Replies
+pub mod Members
+pub mod Indexed
 pub mod Soundness
 pub mod Rolling

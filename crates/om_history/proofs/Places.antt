@@ -8,7 +8,7 @@ use Rattle.std.proofs.lemmas.List.{take-map, drop-map}
 use Rattle.om_cells.specs.declared.step.Entry.{Entry}
 use Rattle.om_history.specs.Runs.{Place, last_or_first, last_place}
 use Rattle.om_history.specs.declared.records.UndoRecord.{UndoRecord}
-use Rattle.om_history.specs.Records.{entries_of}
+use Rattle.om_history.specs.Records.{entries_of, IsLastOf}
 
 -- none of these entries is the worker's
 abbrev pub NoneOwn : ℕ → List Entry → Type 0
@@ -47,12 +47,6 @@ slice_get-entries (x ∷ xs) (suc i) k h = slice_get-entries xs i k h
 abbrev pub place_at : List UndoRecord → ℕ → UndoRecord → Place
 place_at ks i k = record { earlier = entries_of (take i ks); entry = k.entry; later = entries_of (drop (suc i) ks) }
 
--- the record at an index is the worker's last
-pub record IsLastOf (w : ℕ) (ks : List UndoRecord) (i : ℕ) (k : UndoRecord) : Type 0 where
-  pub at : slice_get ks i ≡ Some k
-  pub own : k.entry.worker ≡ w
-  pub none_later : All (λ (x : UndoRecord). x.entry.worker ≢ w) (drop (i + 1) ks)
-
 pub last_place-at : (w : ℕ) (ks : List UndoRecord) (i : ℕ) (k : UndoRecord) → IsLastOf w ks i k
     → last_place w (entries_of ks) ≡ Some (place_at ks i k)
 last_place-at w ks i k h =
@@ -73,32 +67,7 @@ pub last_place-none : (w : ℕ) (ks : List UndoRecord) → All (λ (k : UndoReco
     → last_place w (entries_of ks) ≡ None
 last_place-none w ks h = last_place-none_own w (entries_of ks) (NoneOwn-entries w ks h)
 
--- an index within the records has a record
-pub record IsThere (ks : List UndoRecord) (i : ℕ) : Type 0 where
-  pub made : UndoRecord
-  pub at : slice_get ks i ≡ Some made
-
-pub is_there : (ks : List UndoRecord) (i : ℕ) → i < length ks → IsThere ks i
-is_there [] i h = absurd (omega arith)
-is_there (x ∷ xs) zero h = record { made = x; at = refl }
-is_there (x ∷ xs) (suc i) h = let rest : IsThere xs i =
-    is_there xs i (omega arith) in record { made = rest.made; at = rest.at }
-
 -- the records have one at an index that is the worker's last
 pub record HasLast (w : ℕ) (ks : List UndoRecord) (i : ℕ) : Type 0 where
   pub made : UndoRecord
   pub is_last : IsLastOf w ks i made
-
-pub has_last : (w : ℕ) (ks slice : List UndoRecord) (i : ℕ) → slice ≡ ks → i < length slice
-    → IfSome (slice_get slice i) (λ (k : UndoRecord). k.entry.worker ≡ w)
-    → All (λ (k : UndoRecord). k.entry.worker ≢ w) (drop (i + 1) slice) → HasLast w ks i
-has_last w ks slice i same within own last =
-    let there : IsThere slice i = is_there slice i within in
-    record {
-      made = there.made;
-      is_last = record {
-        at = subst (λ xs. slice_get xs i ≡ Some there.made) same there.at;
-        own = subst (λ o. IfSome o (λ (k : UndoRecord). k.entry.worker ≡ w)) there.at own;
-        none_later = subst (λ xs. All (λ (k : UndoRecord). k.entry.worker ≢ w) (drop (i + 1) xs)) same last;
-      };
-    }

@@ -4,7 +4,7 @@ use Rattle.std.specs.Prelude.{Contains}
 use Rattle.std.proofs.lemmas.List.{map-append}
 use Rattle.om_cells.specs.declared.step.Entry.{Entry}
 use Rattle.om_history.specs.declared.records.UndoRecord.{UndoRecord}
-use Rattle.om_history.specs.Records.{entries_of}
+use Rattle.om_history.specs.Records.{entries_of, AreBelow}
 use Rattle.om_history.specs.Commands.{Rise}
 use Rattle.om_history.proofs.Membership.{Contains-cases, Contains-none, Contains-first, Contains-rest}
 
@@ -27,6 +27,17 @@ pub Rise-pushed : (high : ℕ) (ks : List UndoRecord) (k : UndoRecord) → Rise 
     → k.entry.serial ≡ high + 1 → Rise 0 (entries_of (ks ++ k ∷ [])) (high + 1)
 Rise-pushed high ks k h is = subst (λ es. Rise 0 es (high + 1))
     (sym (map-append (λ (x : UndoRecord). x.entry) ks (k ∷ []))) (Rise-push 0 high (entries_of ks) k.entry h is)
+
+rise_end : (low high : ℕ) (es : List Entry) → Rise low es high → low ≤ high
+rise_end low high [] h = h
+rise_end low high (e ∷ es) h = let more : e.serial ≤ high = rise_end e.serial high es h.1 in omega (arith, h.0)
+
+-- so a serial above the greatest is above all
+pub rise_below : (low high : ℕ) (ks : List UndoRecord) → Rise low (entries_of ks) high → AreBelow (high + 1) ks
+rise_below low high [] h = tt
+rise_below low high (k ∷ ks) h =
+    let more : k.entry.serial ≤ high = rise_end k.entry.serial high (entries_of ks) h.1 in
+    (omega (arith, more), rise_below k.entry.serial high ks h.1)
 
 -- keys rise above a number
 abbrev pub Ascends : {X : Type 0} → (X → ℕ) → ℕ → List X → Type 0

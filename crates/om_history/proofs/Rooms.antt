@@ -106,6 +106,16 @@ FitsBack-front (suc i) (a ∷ rest) (u ∷ us) s h f = (
   FitsBack-front i rest us s (omega arith) f.1,
 )
 
+pub FitsBack-whole : (i : ℕ) (footprint : List Access) (us : List Update) (s : State)
+    → min (length footprint) (length us) ≤ i → FitsBack (take i footprint) (take i us) s → FitsBack footprint us s
+FitsBack-whole i [] us s h f = tt
+FitsBack-whole i (a ∷ rest) [] s h f = tt
+FitsBack-whole zero (a ∷ rest) (u ∷ us) s h f = absurd (omega arith)
+FitsBack-whole (suc i) (a ∷ rest) (u ∷ us) s h f = (
+  subst (λ (t : State). FitsAtBack a.mode u (t a.object)) (taken_back-front i rest us s (omega arith)) f.0,
+  FitsBack-whole i rest us s (omega arith) f.1,
+)
+
 -- one turn of taking back
 pub record BackStep (i : ℕ) (footprint : List Access) (us : List Update) (s : State) (a : Access)
     (u : Update) : Type 0 where

@@ -24,7 +24,7 @@ use Rattle.om_history.specs.declared.reply.UndoReply.{UndoReply}
 use Rattle.om_history.specs.declared.reply.UndoReply.TheVariants.{Undone}
 use Rattle.om_history.specs.declared.records.UndoRecord.{UndoRecord}
 use Rattle.om_history.specs.Records.{entries_of, IsRight, HasRoom, first_kept_conflict, reply_before, kept_reply}
-use Rattle.om_history.specs.Records.{is_done}
+use Rattle.om_history.specs.Records.{is_done, IsLastOf}
 use Rattle.om_history.specs.Commands.{IsRun, ToStep, ToUndo}
 use Rattle.om_history.specs.Bounds.{AreSteady, AreSmall, FitsAll, FitsBack}
 use Rattle.om_history.specs.Pasts.{Past, entries_in, IsPast, past_of, IsKept}
@@ -32,7 +32,7 @@ use Rattle.om_history.proofs.Exchange.{Made, made}
 use Rattle.om_history.proofs.Bounds.{AreSteady-more, steady_step, steady_record, FitsAll-small, FitsBack-small}
 use Rattle.om_history.proofs.Bounds.{now-small}
 use Rattle.om_history.proofs.Logs.{ReplaysTo-now, ReplaysTo-push, NoneConflicts, Split, split, ReplaysTo-removed}
-use Rattle.om_history.proofs.Places.{HasLast, place_at, IsLastOf, last_place-at}
+use Rattle.om_history.proofs.Places.{HasLast, place_at, last_place-at}
 use Rattle.om_history.proofs.Undos.{history_of, none_conflicts, history_without-done, history_without-refused}
 use Rattle.om_history.proofs.Undos.{reply_at-split}
 use Rattle.om_history.proofs.RunLaws.{IsRun-more}
@@ -230,11 +230,6 @@ pub past_taken : (r : Rules) (p next : Past) (i w : ℕ) → IsPast r p → HasL
     → is_done (kept_reply p.records i) ≡ true → TakenFrom p i next → IsPast r next
 past_taken r p next i w is x done taken = subst (IsPast r) (taken-is p next i x.made x.is_last.at taken)
     (past-removed r p i w x.made is x.is_last done)
-
-pub undone_fits : (r : Rules) (p : Past) (i w : ℕ) → IsPast r p → p.made ≤ 2 ^ 63 → HasLast w p.records i
-    → IfSome (slice_get p.records i) (λ k. FitsBack k.footprint k.back p.state)
-undone_fits r p i w is few x = subst (λ o. IfSome o (λ k. FitsBack k.footprint k.back p.state)) (sym x.is_last.at)
-    (fits_out r p i x.made is few x.is_last.at)
 
 pub undo_replies : (r : Rules) (p : Past) (i w : ℕ) (reply : UndoReply) → IsPast r p → HasLast w p.records i
     → reply ≡ kept_reply p.records i → reply ≡ reply_to_undo r (entries_in p) w

@@ -6,4 +6,4 @@ pub mod Records
 pub mod Undos
 pub mod Bounds
 pub mod Pasts
-pub mod Reaches
+pub mod Touches

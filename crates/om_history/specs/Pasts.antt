@@ -48,14 +48,14 @@ pub record IsKept (r : Rules) (store : Store) (records : List UndoRecord) (made 
 
 -- the past that a history holds, and its entries
 abbrev pub past_in : History → Past
-past_in h = past_of h.store h.records.items h.made
+past_in h = past_of h.store h.records h.made
 
 abbrev pub history_in : History → Entries
 history_in h = entries_in (past_in h)
 
 -- a history under rules: what every call keeps
 abbrev pub IsHeld : Rules → History → Type 0
-IsHeld r h = IsKept r h.store h.records.items h.made
+IsHeld r h = IsKept r h.store h.records h.made
 
 -- whatever rules a history is held under, this state is the replay of its entries
 abbrev pub IsReplay : History → State → Type 0

@@ -1,8 +1,12 @@
 -- Undo records against the replay of their entries.
-use Rattle.std.specs.Prelude.{◌≡◌, Bool, true, false, Option, None, Some, List, [], ◌∷◌, map, All, ℕ, ◌+◌, drop}
+use Rattle.std.specs.Prelude.{◌≡◌, ◌≢◌, Bool, true, false, Option, None, Some, List, [], ◌∷◌, map, All, ℕ, ◌+◌, ◌<◌, drop}
 use Rattle.std.specs.Prelude.{slice_get}
+use Rattle.std.specs.List.{AllByRecursion}
+use Rattle.std.specs.Global.{Box}
 use Rattle.om_foot.specs.declared.footprint.Access.{Access}
 use Rattle.om_foot.specs.Footprint.{conflict_of}
+use Rattle.om_cells.specs.declared.step.Choice.{Choice}
+use Rattle.om_cells.specs.declared.step.Choice.TheVariants.{Next, Start}
 use Rattle.om_cells.specs.declared.step.Update.{Update}
 use Rattle.om_cells.specs.declared.step.Step.{Step}
 use Rattle.om_cells.specs.declared.step.Entry.{Entry}
@@ -16,6 +20,11 @@ use Rattle.om_history.specs.declared.reply.UndoReply.TheVariants.{Undone, Confli
 use Rattle.om_history.specs.Laws.{updates_of}
 use Rattle.om_history.specs.Runs.{label_of, conflict_or}
 use Rattle.om_history.specs.Cones.{Transition}
+
+-- the choice that starts the task of this name, if there is one
+abbrev pub choice_of : Option (Box (List ℕ)) → Choice
+choice_of None = Next
+choice_of (Some name) = Start name.value
 
 abbrev pub entries_of : List UndoRecord → List Entry
 entries_of ks = map (λ (k : UndoRecord). k.entry) ks
@@ -64,3 +73,23 @@ abbrev pub is_done : UndoReply → Bool
 is_done (Undone serial line) = true
 is_done (Conflict serial worker q) = false
 is_done Nothing = false
+
+-- the record at an index is the worker's last
+pub record IsLastOf (w : ℕ) (ks : List UndoRecord) (i : ℕ) (k : UndoRecord) : Type 0 where
+  pub at : slice_get ks i ≡ Some k
+  pub own : k.entry.worker ≡ w
+  pub none_later : All (λ (x : UndoRecord). x.entry.worker ≢ w) (drop (i + 1) ks)
+
+-- the worker's last record has this serial
+pub record LastHasSerial (w : ℕ) (ks : List UndoRecord) (serial : ℕ) : Type 0 where
+  pub i : ℕ
+  pub made : UndoRecord
+  pub is_last : IsLastOf w ks i made
+  pub serial_is : made.entry.serial ≡ serial
+
+-- all serials are below one, or above
+abbrev pub AreBelow : ℕ → List UndoRecord → Type 0
+AreBelow serial ks = AllByRecursion (λ (k : UndoRecord). k.entry.serial < serial) ks
+
+abbrev pub AreAbove : ℕ → List UndoRecord → Type 0
+AreAbove serial ks = AllByRecursion (λ (k : UndoRecord). serial < k.entry.serial) ks

@@ -10,8 +10,7 @@ ghost use Rattle.om_history.specs.Commands.{IsGone};
 ghost use Rattle.om_history.specs.Records.{is_done};
 ghost use Rattle.om_history.specs.Pasts.{past_in, history_in, IsHeld, IsPlanned, IsReplay, AreNumbered, Replies, RepliesToStep, Becomes, TakesStep, TakesOut, TakesItsCone, Stays};
 
-use crate::kept::Kept;
-use crate::records::{UndoRecord, append, cone_of, entries, last_index, reply_at, take_out};
+use crate::records::{Records, UndoRecord, append, take_out};
 use crate::reply::{RollReply, StepReply, Taken, UndoReply};
 use om_cells::{Control, Entry, Label, Outcome, Step, Store, Update, Val};
 use om_code::frame::Fault;
@@ -27,7 +26,7 @@ use std::alloc::{AllocError, Global};
 #[derive(Drop)]
 pub struct History {
     store: Store,
-    records: Vec<Kept>,
+    records: Records,
     made: u64,
 }
 
@@ -82,7 +81,7 @@ impl History {
     {
         History {
             store,
-            records: Vec::new(alloc),
+            records: Records::new(alloc),
             made: 0,
         }
     }
@@ -108,7 +107,7 @@ impl History {
         ensures entries { IfOk result (λ v. v.items ≡ (history_in self.now).entries) }
         ensures numbered { AreNumbered self.now }
     {
-        entries(alloc, self.records.as_slice())
+        self.records.entries(alloc)
     }
 
     /// Takes a worker's last step out, wherever it stands, unless a later step conflicts with it:
@@ -121,11 +120,11 @@ impl History {
         ensures reply { Replies (λ r h. reply_to_undo r h worker) self.old result }
         ensures after { Becomes (λ r h. after_undo r h worker) self.old self.new }
     {
-        match last_index(self.records.as_slice(), worker) {
-            Some(at) => {
-                let reply = reply_at(self.records.as_slice(), at);
+        match self.records.last(worker) {
+            Some(serial) => {
+                let reply = self.records.reply_to(serial);
                 if is_undone(&reply) {
-                    take_out(&mut self.store, &mut self.records, at);
+                    take_out(&mut self.store, &mut self.records, serial);
                 }
                 reply
             }
@@ -192,7 +191,7 @@ impl History {
         ensures members { IfOk result
             (λ o. IfSome o (λ v. Replies (λ r h. taken_by_roll r h serial) self.now v.items)) }
     {
-        let taken = cone_of(alloc, self.records.as_slice(), serial)?;
+        let taken = self.records.cone(alloc, serial)?;
         if taken.is_empty() {
             Ok(None)
         } else {
@@ -226,7 +225,7 @@ impl History {
             (λ x. x ≡ RollReply.NoEntry → Stays self.old self.new) }
         ensures unchanged_on_error { OnErr result (Stays self.old self.new) }
     {
-        let taken = cone_of(alloc, self.records.as_slice(), serial)?;
+        let taken = self.records.cone(alloc, serial)?;
         if taken.is_empty() {
             return Ok(RollReply::NoEntry);
         }

@@ -1,13 +1,11 @@
-//! Undo records as the history keeps them: small, so that they are sought and moved fast.
+//! Undo records as the history keeps them: small, so that they are sought fast.
 
-ghost use Rattle.std.specs.Prelude.{◌≡◌, IfOk, is_some};
-ghost use Rattle.om_foot.specs.Footprint.{conflict_of};
-ghost use Rattle.om_history.specs.Reaches.{choice_of};
+ghost use Rattle.std.specs.Prelude.{◌≡◌, IfOk};
+ghost use Rattle.om_history.specs.Records.{choice_of};
 
-use crate::reach::Reach;
 use crate::records::UndoRecord;
 use om_cells::{Choice, Update};
-use om_foot::{Access, Name, conflict};
+use om_foot::{Access, Name};
 use om_seq::Seq;
 use std::alloc::{AllocError, Global};
 use std::marker::Model;
@@ -16,35 +14,32 @@ use std::marker::Model;
 #[derive(Drop)]
 struct Parts {
     serial: u64,
+    worker: u8,
     line: u32,
     start: Option<Box<Name>>,
     footprint: Seq<Access>,
     back: Seq<Update>,
 }
 
-/// An undo record, beside what it is sought by.
+/// An undo record behind one pointer.
 ///
 /// Contracts see the record alone.
 #[derive(Drop)]
 pub struct Kept {
     parts: Box<Parts>,
-    reach: Reach,
-    worker: u8,
 }
 
 impl Model for Kept {
     ghost use Rattle.om_history.specs.declared.records.UndoRecord.{UndoRecord};
-    ghost use Rattle.om_history.specs.Reaches.{Covers, choice_of};
+    ghost use Rattle.om_history.specs.Records.{choice_of};
 
     ghost Value = { UndoRecord };
 
     ghost view = { λ k. record {
-      entry = record { serial = k.parts.value.serial; worker = k.worker; choice = choice_of k.parts.value.start; line = k.parts.value.line };
+      entry = record { serial = k.parts.value.serial; worker = k.parts.value.worker; choice = choice_of k.parts.value.start; line = k.parts.value.line };
       footprint = k.parts.value.footprint;
       back = k.parts.value.back;
     } };
-
-    ghost invariant = { λ k. Covers k.reach k.parts.value.footprint };
 }
 
 /// The name of the task that a choice starts, if it does. Its only error is out of memory.
@@ -67,14 +62,6 @@ fn choice(start: &Option<Box<Name>>) -> Choice
     }
 }
 
-/// Whether two footprints conflict. It is apart from `Kept::meets`, which would make room for an
-/// object at each call.
-fn is_conflict(first: &[Access], others: &[Access]) -> bool
-    ensures { result ≡ is_some (conflict_of first.now others.now) }
-{
-    conflict(first, others).is_some()
-}
-
 impl Kept {
     /// A record, to be kept; its only error is out of memory.
     pub fn of(alloc: Global, made: UndoRecord) -> Result<Kept, AllocError>
@@ -86,9 +73,9 @@ impl Kept {
             back,
         } = made;
         let start = start(alloc, &entry.choice)?;
-        let reach = Reach::of(footprint.as_slice());
         let parts = Parts {
             serial: entry.serial,
+            worker: entry.worker,
             line: entry.line,
             start,
             footprint,
@@ -96,8 +83,6 @@ impl Kept {
         };
         Ok(Kept {
             parts: Box::new(alloc, parts)?,
-            reach,
-            worker: entry.worker,
         })
     }
 
@@ -112,7 +97,7 @@ impl Kept {
     pub fn worker(&self) -> u8
         ensures { result ≡ self.now.entry.worker }
     {
-        self.worker
+        self.parts.worker
     }
 
     /// The choice of its entry.
@@ -141,13 +126,10 @@ impl Kept {
         ensures footprint { result.0 ≡ self.footprint }
         ensures back { result.1 ≡ self.back }
     {
-        let Kept {
-            parts,
-            reach: _,
-            worker: _,
-        } = self;
+        let Kept { parts } = self;
         let Parts {
             serial: _,
+            worker: _,
             line: _,
             start: _,
             footprint,
@@ -161,16 +143,5 @@ impl Kept {
         ensures { self.new ≡ record self.old { back = back } }
     {
         self.parts.back = back;
-    }
-
-    /// Whether its footprint conflicts with that of another record.
-    #[tactic(auto, using(crate::proofs::Apart::no_conflict))]
-    pub fn meets(&self, other: &Kept) -> bool
-        ensures { result ≡ is_some (conflict_of self.now.footprint other.now.footprint) }
-    {
-        if self.reach.is_apart(other.reach) {
-            return false;
-        }
-        is_conflict(self.footprint(), other.footprint())
     }
 }

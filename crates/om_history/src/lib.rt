@@ -5,9 +5,9 @@
 pub mod history;
 mod kept;
 pub mod laws;
-mod reach;
 pub mod records;
 pub mod reply;
+mod touches;
 mod updates;
 
 pub use history::{History, reply_to};

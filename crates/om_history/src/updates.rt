@@ -163,6 +163,10 @@ pub(crate) fn make_all(
         (state_of store.new ≡ updated footprint.now updates.old.items (state_of store.old)) }
     ensures undo { OnOk result
         (updates.new.items ≡ undo_record footprint.now updates.old.items (state_of store.old)) }
+    ensures way_back { OnOk result
+        (taken_back footprint.now updates.new.items (state_of store.new) ≡ state_of store.old) }
+    ensures fits_back { OnOk result
+        (FitsBack footprint.now updates.new.items (state_of store.new)) }
     ensures unchanged_on_error { OnErr result (state_of store.new ≡ state_of store.old) }
     ensures kept { (q : Obj) → is_kept store.new q ≡ is_kept store.old q }
 {

@@ -5,6 +5,9 @@ use denote.Param.Send.{IsSend, sendable}
 use Rattle.om_cells.specs.contracts.store.Store as store
 use Rattle.om_history.specs.contracts.history.History as history
 use Rattle.om_history.specs.contracts.kept.Kept as kept
+use Rattle.om_history.specs.contracts.touches.Touches as touches
+use Rattle.om_history.specs.contracts.touches.TouchLists as lists
+use Rattle.om_history.specs.contracts.records.Records as records
 use Rattle.om_undo.specs.contracts.machine.Machine as machine
 use Rattle.om_undo.specs.Lists.{seq_send}
 use Rattle.om_undo.specs.Names.{name_send, object_send, access_send}
@@ -17,8 +20,17 @@ store_send = search (object_send, value_send, maps, crosses, sendable) depth 40
 kept_send : IsSend kept.the_row
 kept_send = search (name_send, access_send, update_send, seq_send, crosses, sendable) depth 40
 
+touches_send : IsSend touches.the_field.row
+touches_send = search (maps, crosses, sendable) depth 40
+
+lists_send : IsSend lists.the_field.row
+lists_send = search (object_send, touches_send, maps, crosses, sendable) depth 40
+
+records_send : IsSend records.the_row
+records_send = search (kept_send, lists_send, maps, crosses, sendable) depth 40
+
 history_send : IsSend history.the_field.row
-history_send = search (store_send, kept_send, crosses, sendable) depth 40
+history_send = search (store_send, records_send, crosses, sendable) depth 40
 
 pub machine_send : IsSend machine.the_row
 machine_send = search (program_send, history_send, sendable) depth 40

@@ -1,25 +1,26 @@
-use Rattle.std.proofs.Common.{◌∙◌, sym, ap, subst, ◌+◌, List, Bor}
-use Rattle.om_history.specs.Cones.{is_member}
-use Rattle.om_history.specs.Records.{transition_of}
-use Rattle.om_history.specs.declared.records.UndoRecord.{UndoRecord}
-use Rattle.om_history.proofs.Borrowed.{borrowed, FoundTo, found_with, found_without}
+use Rattle.std.proofs.Common.{◌∙◌, sym, ap, subst, ◌∷◌, [], ◌++◌}
+use Rattle.std.specs.Map.{values_of}
+use Rattle.om_history.specs.Touches.{AreWith}
+use Rattle.om_history.proofs.BySerial.{above_zero}
+use Rattle.om_history.proofs.Members.{MembersTo, members_start, member_with}
 use Rattle.om_history.proofs.records.members.Goals as goal
-use Rattle.om_history.proofs.records.members.Goals.{then-is_member+in_ok-push, else-is_member}
 
-pub loop-candidate-preserved : goal.loop-candidate-preserved
-loop-candidate-preserved c =
-    let found : List (Bor UndoRecord)
-    → Type 0 = λ ms. FoundTo c.args.serial c.args.records.now (c.loop-candidate.candidate-index + 1) ms in
-    let tested = sym c.is_member.ensures in
-    let test = ap (λ ks. is_member c.args.serial (borrowed ks) (transition_of c.candidate-item.result))
-    (sym c.as_slice.ensures.value) in
-    elim c.if-is_member.branch [
-      | then-is_member+in_ok-push w ↦ subst found (sym (ap (λ v. v.items) w.members-is ∙ w.in_ok-push.ensures.items))
-          (found_with c.args.serial c.loop-candidate.candidate-index c.args.records.now c.loop-candidate.members.items
-          _ c.loop-candidate-test.true c.candidate-item.is (test ∙ tested ∙ w.if-is_member.true)
-          c.loop-candidate.invariant)
-      | else-is_member w ↦ subst found (sym (ap (λ v. v.items) w.members-is))
-          (found_without c.args.serial c.loop-candidate.candidate-index c.args.records.now
-          c.loop-candidate.members.items c.candidate-item.result c.loop-candidate-test.true c.candidate-item.is
-          (test ∙ tested ∙ w.if-is_member.false) c.loop-candidate.invariant)
-    ]
+pub loop-candidate-init : goal.loop-candidate-init
+loop-candidate-init c = members_start c.args.serial (values_of c.args.kept.now.entries)
+    c.into_iter-candidate-iterator.result c.new-names.result.items c.new-members.result
+    (c.into_iter-candidate-iterator.ensures.into_iter_gives ∙ c.values-candidate-items.ensures.rest)
+    c.new-names.ensures.items c.new-members.ensures (above_zero 0 c.args.kept.now.entries c.requires)
+
+pub loop-candidate-preserved-in-Continue-branch-2 : goal.loop-candidate-preserved-in-Continue-branch-2
+loop-candidate-preserved-in-Continue-branch-2 c =
+    let k = c.in-Some.candidate.now in
+    let x = c.loop-candidate.invariant in
+    let added : AreWith k.footprint k.entry.serial c.loop-candidate.members c.add_each.new.self =
+    subst (λ n. AreWith k.footprint n c.loop-candidate.members c.add_each.new.self) c.serial.ensures
+    (subst (λ xs. AreWith xs c.serial.result c.loop-candidate.members c.add_each.new.self) c.footprint.ensures
+    c.in_ok-add_each.ensures.added) in
+    subst (λ ns. MembersTo c.args.serial (values_of c.args.kept.now.entries) c.next.new.self ns c.add_each.new.self)
+    (sym (c.in_ok-push.ensures.items ∙ ap (λ n. c.loop-candidate.names.items ++ n ∷ []) c.name.ensures))
+    (member_with c.args.serial (values_of c.args.kept.now.entries) c.loop-candidate.candidate-iterator
+    c.next.new.self k c.loop-candidate.names.items c.loop-candidate.members c.add_each.new.self
+    c.in-Some.ensures.steps x (sym (c.is_member.ensures x.ms x.lists x.above) ∙ c.if-is_member.true) added)

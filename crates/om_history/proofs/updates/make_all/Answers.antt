@@ -5,6 +5,7 @@ use Rattle.om_cells.specs.declared.step.Update.{Update}
 use Rattle.om_cells.specs.State.{State}
 use Rattle.om_cells.specs.Stores.{state_of}
 use Rattle.om_history.proofs.Rooms.{updated-past, undo_record-past, Onward, onward, fits_here, WayBack, way_back}
+use Rattle.om_history.proofs.Rooms.{taken_back-front, FitsBack-whole}
 use Rattle.om_history.proofs.updates.make_all.Goals as goal
 
 pub returns-clause-state : goal.returns-clause-state
@@ -14,6 +15,14 @@ returns-clause-state c = sym (updated-past c.loop-i.i c.args.footprint.now c.loo
 pub returns-clause-undo : goal.returns-clause-undo
 returns-clause-undo c = sym (undo_record-past c.loop-i.i c.args.footprint.now c.loop-i.updates.items
     (state_of c.loop-i.store) (omega arith)) ∙ c.loop-i.invariant.undo
+
+pub returns-clause-way_back : goal.returns-clause-way_back
+returns-clause-way_back c = sym (taken_back-front c.loop-i.i c.args.footprint.now c.loop-i.updates.items
+    (state_of c.loop-i.store) (omega arith)) ∙ c.loop-i.invariant.way_back
+
+pub returns-clause-fits_back : goal.returns-clause-fits_back
+returns-clause-fits_back c = FitsBack-whole c.loop-i.i c.args.footprint.now c.loop-i.updates.items
+    (state_of c.loop-i.store) (omega arith) c.loop-i.invariant.fits_back
 
 pub loop-i-preserved : goal.loop-i-preserved
 loop-i-preserved c =

@@ -14,7 +14,7 @@ use Rattle.om_undo.proofs.machine.planned.Goals as goal
 
 pub plan-requires : goal.plan-requires
 plan-requires c =
-    let records : List UndoRecord = c.args.history.now.records.items in
+    let records : List UndoRecord = c.args.history.now.records in
     let es : List Entry = (history_in c.args.history.now).entries in
     c.low_counters.ensures c.args.program.now c.args.workers (2 ^ 63) (map label_of es) (state_of c.store.result.now)
     (c.store.ensures.replayed (rules_of c.args.program.now c.args.workers) c.requires)

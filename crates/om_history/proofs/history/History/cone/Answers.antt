@@ -7,8 +7,8 @@ use Rattle.om_history.proofs.history.History.cone.Goals as goal
 pub returns-then-is_empty-clause-none : goal.returns-then-is_empty-clause-none
 returns-then-is_empty-clause-none c =
     let members = c.in_ok-taken.ensures
-    ∙ taken_by-is c.requires.0 (past_in c.args.self.now) c.args.serial c.as_slice.result.now c.requires.1.past
-    c.as_slice.ensures.value in
+    ∙ taken_by-is c.requires.0 (past_in c.args.self.now) c.args.serial (past_in c.args.self.now).records c.requires.1.past
+    refl in
     let empty = no_items c.in_ok-taken.taken.len c.in_ok-taken.taken.items c.is_empty.result c.in_ok-taken.taken.ok.0
     c.is_empty.ensures c.if-is_empty.true in (
       λ _. (none_taken-is c.requires.0 (past_in c.args.self.now) c.args.serial c.requires.1.past).0
@@ -19,8 +19,8 @@ returns-then-is_empty-clause-none c =
 pub returns-else-is_empty-clause-none : goal.returns-else-is_empty-clause-none
 returns-else-is_empty-clause-none c =
     let members = c.in_ok-taken.ensures
-    ∙ taken_by-is c.requires.0 (past_in c.args.self.now) c.args.serial c.as_slice.result.now c.requires.1.past
-    c.as_slice.ensures.value in
+    ∙ taken_by-is c.requires.0 (past_in c.args.self.now) c.args.serial (past_in c.args.self.now).records c.requires.1.past
+    refl in
     let filled = some_items c.in_ok-taken.taken.len c.in_ok-taken.taken.items c.is_empty.result
     c.in_ok-taken.taken.ok.0 c.is_empty.ensures c.if-is_empty.false in (
       λ e. absurd (true≢false e),
@@ -31,4 +31,4 @@ returns-else-is_empty-clause-none c =
 
 pub returns-else-is_empty-clause-members : goal.returns-else-is_empty-clause-members
 returns-else-is_empty-clause-members c = λ r held. c.in_ok-taken.ensures
-    ∙ taken_by-is r (past_in c.args.self.now) c.args.serial c.as_slice.result.now held.past c.as_slice.ensures.value
+    ∙ taken_by-is r (past_in c.args.self.now) c.args.serial (past_in c.args.self.now).records held.past refl
