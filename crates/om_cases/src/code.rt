@@ -2,7 +2,7 @@
 
 use om_code::Program;
 use om_lexer::FaultCode;
-use om_lower::{global_named, line_of};
+use om_lower::{Var, global_named, line_of, variable_at};
 use om_shell::program_of;
 use std::alloc::{AllocError, Global};
 
@@ -12,7 +12,7 @@ const SOURCE: &str = "int w[2],\nx;\n\nint main(void) {\nx = 1;\n}\n";
 /// Whether the lines of instructions and the numbers of globals are found, and no others.
 pub(crate) fn lines_and_names_are_found(alloc: Global) -> Result<bool, AllocError> {
     match program_of(alloc, SOURCE.as_bytes()) {
-        Ok(program) => Ok(has_lines(&program) && has_names(&program)),
+        Ok(program) => Ok(has_lines(&program) && has_names(&program) && has_meanings(&program)),
         Err(fault) if fault.code == FaultCode::Memory => Err(AllocError),
         Err(_) => Ok(false),
     }
@@ -38,4 +38,13 @@ fn has_names(program: &Program) -> bool {
         global_named(program, b"main"),
     ];
     numbers == [Some(0), Some(1), None]
+}
+
+/// Whether a name means the global variable of that name at an instruction of `main`, and no other name means one.
+fn has_meanings(program: &Program) -> bool {
+    let meant = [
+        variable_at(program, 0, 0, b"x"),
+        variable_at(program, 0, 0, b"main"),
+    ];
+    meant == [Some(Var::Global(1)), None]
 }

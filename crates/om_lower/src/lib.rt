@@ -1,4 +1,6 @@
-//! Lowering: a resolved tree to its code, and what the code still knows of the source.
+//! Lowering: a resolved tree to its code.
+//!
+//! What a program still knows of its source is answered by om_lookup, whose calls stand here too.
 #![tactic(auto)]
 
 mod bodies;
@@ -9,15 +11,12 @@ mod functions;
 mod heights;
 pub mod laws;
 mod lists;
-mod look;
 mod lowering;
 mod program;
 mod region;
 mod sites;
 pub mod texts;
-mod visible;
 mod whole;
 
-pub use look::{global_named, line_of};
 pub use lowering::lower;
-pub use visible::{Var, variable_at};
+pub use om_lookup::{Var, global_named, line_of, variable_at};

@@ -6,9 +6,9 @@ use Rattle.om_cells.specs.declared.control.Control.TheVariants as control
 use Rattle.om_code.specs.declared.instruction.Place.TheVariants as place
 use Rattle.om_code.specs.declared.raw.Raw.{Raw}
 use Rattle.om_command.specs.declared.command.Variable.{Variable}
-use Rattle.om_lower.specs.declared.visible.Var.{Var}
-use Rattle.om_lower.specs.declared.visible.Var.TheVariants as var
-use Rattle.om_lower.specs.Visible.{variable_at}
+use Rattle.om_lookup.specs.declared.visible.Var.{Var}
+use Rattle.om_lookup.specs.declared.visible.Var.TheVariants as var
+use Rattle.om_lookup.specs.Visible.{variable_at}
 use Rattle.om_replies.specs.declared.value.GlobalCell.{GlobalCell}
 use Rattle.om_replies.specs.Objects.{length_of}
 use Rattle.om_steps.specs.Objects.{object_of}

@@ -2,7 +2,7 @@
 use Rattle.std.specs.Prelude.{ℕ, nat_lt, if◌then◌else◌, Option, None, Some, option_and_then, option_map}
 use Rattle.om_code.specs.declared.raw.Raw.{Raw}
 use Rattle.om_command.specs.declared.command.Variable.{Variable}
-use Rattle.om_lower.specs.Visible.{global_named}
+use Rattle.om_lookup.specs.Visible.{global_named}
 use Rattle.om_replies.specs.declared.value.GlobalCell.{GlobalCell}
 use Rattle.om_replies.specs.Objects.{length_of}
 

@@ -12,7 +12,7 @@ use om_code::Program;
 use om_code::instruction::Place;
 use om_command::Variable;
 use om_foot::Obj;
-use om_lower::{Var, variable_at};
+use om_lookup::{Var, variable_at};
 use om_replies::GlobalCell;
 use om_steps::names::object_of;
 use om_undo::Machine;

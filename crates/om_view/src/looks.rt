@@ -16,7 +16,7 @@ use om_code::Program;
 use om_command::Variable;
 use om_drive::Recorder;
 use om_foot::{Name, Obj};
-use om_lower::line_of;
+use om_lookup::line_of;
 use om_replies::{
     GlobalCell, push_events, push_full, push_history, push_local, push_no_tasks, push_output,
     push_print, push_task, push_where,

@@ -6,7 +6,7 @@ ghost use Rattle.om_view.specs.Variables.{cell_at, cell_of, element_at};
 
 use om_code::Program;
 use om_command::Variable;
-use om_lower::global_named;
+use om_lookup::global_named;
 use om_replies::GlobalCell;
 
 /// How many cells a global variable has, where it is an array.

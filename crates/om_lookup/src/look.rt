@@ -3,7 +3,7 @@
 ghost use Rattle.std.specs.Prelude.{◌≡◌, ◌<◌, IfSome, position, length};
 ghost use Rattle.std.specs.Str.{bytes_eq};
 ghost use Rattle.om_code.specs.Places.{line_at};
-ghost use Rattle.om_lower.specs.Visible.{global_named};
+ghost use Rattle.om_lookup.specs.Visible.{global_named};
 
 use om_code::Program;
 use om_code::raw::GlobalVariable;

@@ -1,7 +1,7 @@
 //! Which variable a name means at an instruction of a program.
 
 ghost use Rattle.std.specs.Prelude.{◌≡◌, ◌≤◌, ◌<◌, ◌^◌, IfSome, Some, length, position};
-ghost use Rattle.om_lower.specs.Visible.{around_below, as_inner, global_named, global_var, holds, innermost, is_slot, meant, slot_var, start_in, starts, starts_body, variable_at};
+ghost use Rattle.om_lookup.specs.Visible.{around_below, as_inner, global_named, global_var, holds, innermost, is_slot, meant, slot_var, start_in, starts, starts_body, variable_at};
 
 use crate::look::global_named;
 use om_code::instruction::Instr;

@@ -1,6 +1,6 @@
 use Rattle.std.proofs.Common.{◌≡◌, ◌≤◌}
-use Rattle.om_lower.specs.Visible.{around_below}
-use Rattle.om_lower.proofs.visible.around_below.Given as goal
+use Rattle.om_lookup.specs.Visible.{around_below}
+use Rattle.om_lookup.proofs.visible.around_below.Given as goal
 
 -- no body at or above this one starts it
 abbrev pub invariant-loop-below : goal.invariant-loop-below

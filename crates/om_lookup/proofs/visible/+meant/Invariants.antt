@@ -1,4 +1,4 @@
-use Rattle.om_lower.proofs.visible.+meant.Given as goal
+use Rattle.om_lookup.proofs.visible.+meant.Given as goal
 
 abbrev pub decreases-meant : goal.decreases-meant
 decreases-meant l = l.steps

@@ -14,10 +14,10 @@ use Rattle.om_code.specs.declared.raw.GlobalVariable.{GlobalVariable}
 use Rattle.om_code.specs.declared.raw.Line.{Line}
 use Rattle.om_code.specs.declared.raw.Raw.{Raw}
 use Rattle.om_code.specs.declared.raw.Scope.{Scope}
-use Rattle.om_lower.specs.declared.visible.Around.{Around}
-use Rattle.om_lower.specs.declared.visible.Local.{Local}
-use Rattle.om_lower.specs.declared.visible.Var.{Var}
-use Rattle.om_lower.specs.declared.visible.Var.TheVariants as var
+use Rattle.om_lookup.specs.declared.visible.Around.{Around}
+use Rattle.om_lookup.specs.declared.visible.Local.{Local}
+use Rattle.om_lookup.specs.declared.visible.Var.{Var}
+use Rattle.om_lookup.specs.declared.visible.Var.TheVariants as var
 
 -- the number of the global variable of a name
 abbrev pub global_named : Raw → List ℕ → Option ℕ
