@@ -1,7 +1,7 @@
 //! A journal without room for another record.
 
 use crate::book_of_two::BookOfTwo;
-use om_journal::{CallError, Command, Query, Reply};
+use om_book::{CallError, Command, Query, Reply};
 use om_cells::Val;
 use om_foot::Obj;
 use om_task::Choice;

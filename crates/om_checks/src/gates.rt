@@ -3,9 +3,8 @@
 ghost use Rattle.std.specs.Prelude.{◌≡◌, ◌++◌, ◌∷◌, [], IfOk, vec_len};
 
 use crate::orders::one_look;
-use om_journal::{CallError, Command, Reply};
+use om_book::{CallError, Command, Receipt, Reply};
 use om_drive::{Debuggee, Gate, Order, drive_over};
-use om_book::Receipt;
 use om_undo::StepReply;
 use std::alloc::{AllocError, Global};
 use std::mem;

@@ -3,7 +3,7 @@
 ghost use Rattle.std.specs.Prelude.{◌≡◌, length};
 
 use crossbeam_channel::{Receiver, bounded};
-use om_journal::Reply;
+use om_book::Reply;
 use om_drive::{Answer, Fault, Gathered, gather};
 use om_undo::StepReply;
 use std::alloc::{AllocError, Global};

@@ -1,6 +1,6 @@
 //! Orders for the seats of a session.
 
-use om_journal::{Command, Query};
+use om_book::{Command, Query};
 use om_drive::Order;
 use om_foot::Obj;
 use om_task::Choice;

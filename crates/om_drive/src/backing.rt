@@ -5,8 +5,7 @@ ghost use Rattle.om_drive.specs.Backing.{Has, Turn, turn_of, turns_at, in_turns,
 
 use crate::order::{Answer, Order};
 use crate::rounds::{most_rounds, order_at};
-use om_journal::{Command, Reply};
-use om_book::{Receipt, Seat, Sitting};
+use om_book::{Command, Receipt, Reply, Seat, Sitting};
 
 /// Where the receipt of a call lies; it is looked for at `mark` first.
 #[tactic(auto, using(crate::proofs::Backed::all_more, crate::proofs::Backed::all_of, crate::proofs::Backed::none_there))]

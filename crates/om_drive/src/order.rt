@@ -2,7 +2,7 @@
 
 ghost use Rattle.std.specs.Prelude.{◌↔◌, IsSome, IsOk};
 
-use om_journal::{CallError, Command, Reply};
+use om_book::{CallError, Command, Reply};
 
 /// A call that a worker is told to make.
 #[derive(Clone, Copy)]

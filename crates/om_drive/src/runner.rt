@@ -5,7 +5,7 @@ ghost use Rattle.om_journal.specs.Runs.{IsInRange};
 ghost use Rattle.om_drive.specs.Steps.{makes_step, steps_in, waits_for_tasks};
 
 use crate::worker::{Debuggee, Gate, says_yes};
-use om_journal::{CallError, Command, Query, Reply};
+use om_book::{CallError, Command, Query, Reply};
 use om_cells::Blocked;
 use om_foot::Name;
 use om_task::Choice;

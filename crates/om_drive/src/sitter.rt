@@ -5,8 +5,7 @@ ghost use Rattle.om_drive.specs.Calls.{place_of, last_place_in};
 
 use crate::rounds::push_within;
 use crate::worker::Debuggee;
-use om_journal::{CallError, Command, Reply};
-use om_book::{Receipt, Seat, Session, Sitting};
+use om_book::{CallError, Command, Receipt, Reply, Seat, Session, Sitting};
 use std::alloc::Global;
 use std::sync::Wait;
 

@@ -7,7 +7,7 @@ ghost use Rattle.om_drive.specs.Calls.{Place, last_place_in};
 
 use crate::order::{Answer, Order};
 use crossbeam_channel::{Receiver, Sender};
-use om_journal::{CallError, Command, Reply};
+use om_book::{CallError, Command, Reply};
 use std::sync::Wait;
 
 /// What is driven: a session with a seat, or a fake.
