@@ -11,7 +11,7 @@ use Rattle.om_book.specs.Replies.{step_send, undo_send, roll_send, names_send, e
 use Rattle.om_undo.specs.Values.{value_send}
 use Rattle.om_journal.specs.contracts.book.Book as book
 use Rattle.om_journal.specs.contracts.book.JournalRecord as kept
-use Rattle.om_journal.specs.contracts.command.Command as command
+use Rattle.om_journal.specs.contracts.kept.KeptCommand as command
 use Rattle.om_journal.specs.contracts.reply.Reply as reply
 use Rattle.om_book.specs.declared.session.Sitting as sitting
 use Rattle.om_book.specs.contracts.receipt.Receipt as receipt
@@ -19,8 +19,8 @@ use Rattle.om_book.specs.contracts.session.Desk as desk
 use Rattle.om_book.specs.contracts.session.Seat as seat
 use Rattle.om_book.specs.contracts.session.Session as session
 
-command_send : IsSend command.the_field.row
-command_send = search (name_send, object_send, sendable) depth 40
+command_send : IsSend command.the_row
+command_send = search (name_send, object_send, crosses, sendable) depth 40
 
 reply_send : IsSend reply.the_field.row
 reply_send =

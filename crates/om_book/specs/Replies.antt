@@ -1,19 +1,20 @@
 -- Matter of proofs: what a machine answers may cross threads.
+use Rattle.std.proofs.Crossing.{crosses}
 use denote.Param.Send.{IsSend, sendable}
 use Rattle.om_seq.specs.contracts.Seq as seq
 use Rattle.om_foot.specs.contracts.name.Name as name
 use Rattle.om_cells.specs.contracts.step.Entry as entry
 use Rattle.om_history.specs.contracts.reply.RollReply as roll
 use Rattle.om_history.specs.contracts.reply.StepReply as step
-use Rattle.om_history.specs.contracts.reply.UndoReply as undo
+use Rattle.om_journal.specs.contracts.kept.KeptUndoReply as undo
 use Rattle.om_undo.specs.Lists.{seq_send}
 use Rattle.om_undo.specs.Names.{name_send, object_send}
 
 pub step_send : IsSend step.the_field.row
 step_send = search sendable depth 40 fits 20000
 
-pub undo_send : IsSend undo.the_field.row
-undo_send = search (object_send, sendable) depth 40
+pub undo_send : IsSend undo.the_row
+undo_send = search (object_send, crosses, sendable) depth 40
 
 pub roll_send : IsSend roll.the_field.row
 roll_send = search (seq_send, sendable) depth 40

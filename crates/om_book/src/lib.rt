@@ -5,6 +5,8 @@
 mod receipt;
 mod session;
 
-pub use om_journal::{Book, CallError, Command, JournalRecord, Query, Reply, MAX_RECORDS};
+pub use om_journal::{
+    Book, CallError, Command, JournalRecord, KeptCommand, KeptUndoReply, MAX_RECORDS, Query, Reply,
+};
 pub use receipt::Receipt;
 pub use session::{Blank, Closed, NotOpened, Seat, Session, Sitting, Unclosed};

@@ -3,17 +3,21 @@
 ghost use Rattle.std.specs.Prelude.{◌≡◌, ◌≤◌, ◌↔◌, IsTrue, length};
 ghost use Rattle.om_book.specs.Standing.{Stands, Counts};
 
-use om_journal::{Command, JournalRecord, Reply};
+use om_journal::{Command, JournalRecord, KeptCommand, Reply};
 use om_same::Same;
+use std::mem::size_of;
 
 /// A call of a seat that was answered.
 #[derive(Drop)]
 pub struct Receipt {
     /// The place of its record in the whole journal, from 0.
     pub place: u64,
-    pub command: Command,
+    pub command: KeptCommand,
     pub reply: Reply,
 }
+
+// A seat has one for each of its calls.
+const _: () = prove!(size_of::<Receipt>() <= 100);
 
 impl Receipt {
     /// Whether it says that this command was answered this reply, with its record at this place.
@@ -21,7 +25,7 @@ impl Receipt {
         ensures { IsTrue result
             ↔ (self.now ≡ record { place = place; command = command.now; reply = reply.now }) }
     {
-        self.place == place && self.command.is_same(command) && self.reply.is_same(reply)
+        self.place == place && self.command.get().is_same(command) && self.reply.is_same(reply)
     }
 }
 

@@ -8,7 +8,7 @@ ghost use Rattle.om_book.specs.Seats.{seats_below, with_receipt};
 ghost use Rattle.om_book.specs.Standing.{CountsAll, Covers, AllDiffer, receipts_in};
 
 use crate::receipt::{Receipt, standing};
-use om_journal::{Book, CallError, Command, JournalRecord, Reply};
+use om_journal::{Book, CallError, Command, JournalRecord, KeptCommand, Reply};
 use std::alloc::{AllocError, Global};
 use std::marker::{Brand, Model};
 use std::sync::ledger::{Ledger, Share};
@@ -145,7 +145,9 @@ impl<L: Sitting> Desk<L> {
         if seat.receipts.reserve(1).is_err() {
             return Err(CallError::OutOfMemory);
         }
-        let asked = again(&command);
+        let Ok(asked) = KeptCommand::of(alloc, &command) else {
+            return Err(CallError::OutOfMemory);
+        };
         let (reply, copy) = book.apply_with_copy(alloc, seat.number, command)?;
         calls.add(&mut seat.share, 1);
         match seat.receipts.push(Receipt {
@@ -157,13 +159,6 @@ impl<L: Sitting> Desk<L> {
             Err(_) => unreachable!(),
         }
     }
-}
-
-/// The same command once more.
-fn again(command: &Command) -> Command
-    ensures { result ≡ command.now }
-{
-    *command
 }
 
 /// A book that threads call through seats, one call at a time.

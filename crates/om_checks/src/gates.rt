@@ -3,7 +3,7 @@
 ghost use Rattle.std.specs.Prelude.{◌≡◌, ◌++◌, ◌∷◌, [], IfOk, vec_len};
 
 use crate::orders::one_look;
-use om_book::{CallError, Command, Receipt, Reply};
+use om_book::{CallError, Command, KeptCommand, Receipt, Reply};
 use om_drive::{Debuggee, Gate, Order, drive_over};
 use om_undo::StepReply;
 use std::alloc::{AllocError, Global};
@@ -18,6 +18,7 @@ const LOOKS: u32 = 1_000_000;
 /// A debuggee that raises its flag inside its call, and waits there for the other's.
 #[derive(Drop)]
 pub(crate) struct Fake<'a> {
+    alloc: Global,
     mine: &'a AtomicBool,
     other: &'a AtomicBool,
     /// Whether it saw the other's flag in time.
@@ -28,8 +29,9 @@ pub(crate) struct Fake<'a> {
 
 impl<'a> Fake<'a> {
     /// A debuggee that has made no call.
-    pub(crate) fn new(mine: &'a AtomicBool, other: &'a AtomicBool) -> Fake<'a> {
+    pub(crate) fn new(alloc: Global, mine: &'a AtomicBool, other: &'a AtomicBool) -> Fake<'a> {
         Fake {
+            alloc,
             mine,
             other,
             saw: false,
@@ -54,6 +56,9 @@ impl<'a> Debuggee for Fake<'a> {
         if self.made.is_some() {
             return Err(CallError::Full);
         }
+        let Ok(command) = KeptCommand::of(self.alloc, &command) else {
+            return Err(CallError::OutOfMemory);
+        };
         self.mine.store(true, Ordering::SeqCst);
         self.saw = is_raised(self.other);
         let receipt = Receipt {
@@ -126,8 +131,8 @@ fn fakes<'a>(
     ensures { IfOk result (λ fakes. vec_len fakes ≡ 2) }
 {
     let mut fakes = Vec::new(alloc);
-    fakes.push(Fake::new(zero, one))?;
-    fakes.push(Fake::new(one, zero))?;
+    fakes.push(Fake::new(alloc, zero, one))?;
+    fakes.push(Fake::new(alloc, one, zero))?;
     Ok(fakes)
 }
 

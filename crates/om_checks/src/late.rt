@@ -50,7 +50,7 @@ fn one_fake<'a>(alloc: Global, flag: &'a AtomicBool) -> Result<Vec<Fake<'a>>, Al
     ensures { IfOk result (λ fakes. vec_len fakes ≡ 1) }
 {
     let mut fakes = Vec::new(alloc);
-    fakes.push(Fake::new(flag, flag))?;
+    fakes.push(Fake::new(alloc, flag, flag))?;
     Ok(fakes)
 }
 

@@ -1,3 +1,4 @@
 pub mod Growing
 pub mod Rolls
+pub mod Undos
 pub mod Answering

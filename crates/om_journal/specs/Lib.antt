@@ -1,3 +1,4 @@
 pub mod Runs
 pub mod Journals
 pub mod Books
+pub mod Kept

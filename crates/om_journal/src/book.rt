@@ -6,12 +6,14 @@ ghost use Rattle.om_journal.specs.Journals.{IsLegal, IsSound, done_in};
 ghost use Rattle.om_journal.specs.Books.{machine_of, records_of, with_record};
 
 use crate::command::Command;
+use crate::kept::KeptCommand;
 use crate::replies::done;
 use crate::reply::Reply;
 use om_code::Program;
 use om_undo::Machine;
 use std::alloc::{AllocError, Global};
 use std::marker::Model;
+use std::mem::size_of;
 use std::snapshot::Snapshot;
 
 /// How many records there are at most, those before the book among them.
@@ -22,9 +24,12 @@ pub const MAX_RECORDS: u64 = 200_000;
 pub struct JournalRecord {
     /// The number of the seat that made it, from 0.
     pub seat: u8,
-    pub command: Command,
+    pub command: KeptCommand,
     pub reply: Reply,
 }
+
+// There are up to 200,000 of them.
+const _: () = prove!(size_of::<JournalRecord>() <= 100);
 
 /// Why a call was not made. It has then changed nothing.
 #[derive(Clone, Copy)]
@@ -202,7 +207,7 @@ fn append(
     ensures unchanged_journal { OnErr result (journal.new.items ≡ journal.old.items) }
 {
     journal.reserve(1)?;
-    let asked = command.again();
+    let asked = KeptCommand::of(alloc, &command)?;
     let replies = done(alloc, machine, command)?;
     match journal.push(JournalRecord {
         seat,

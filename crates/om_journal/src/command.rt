@@ -1,6 +1,6 @@
 //! What a seat asks of the machine.
 
-ghost use Rattle.std.specs.Prelude.{◌≡◌, ◌↔◌, IsTrue};
+ghost use Rattle.std.specs.Prelude.{◌↔◌, IsTrue};
 ghost use Rattle.om_journal.specs.Runs.{IsInRange};
 
 use om_foot::Obj;
@@ -32,13 +32,6 @@ pub enum Command {
 }
 
 impl Command {
-    /// The same command once more.
-    pub(crate) fn again(&self) -> Command
-        ensures { result ≡ self.now }
-    {
-        *self
-    }
-
     /// Whether the worker that it names, if it names one, is below so many.
     pub fn is_in_range(&self, workers: u8) -> bool
         ensures { IsTrue result ↔ IsInRange workers self.now }

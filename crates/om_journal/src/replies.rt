@@ -1,9 +1,11 @@
 //! The machine's reply to a command, three times: all copies are made before anything changes.
 
-ghost use Rattle.std.specs.Prelude.{◌≡◌, ◌<◌, ◌^◌, IfOk, OnOk, OnErr};
+ghost use Rattle.std.specs.Prelude.{◌≡◌, ◌<◌, ◌^◌, IfOk, OnOk, OnErr, true};
+ghost use Rattle.om_journal.specs.Kept.{is_conflict};
 ghost use Rattle.om_journal.specs.Runs.{IsInRange, IsAnswer, IsReply, after};
 
 use crate::command::{Command, Query};
+use crate::kept::KeptUndoReply;
 use crate::reply::Reply;
 use om_seq::Seq;
 use om_undo::{Machine, RollReply, StepReply, UndoReply};
@@ -35,7 +37,7 @@ pub(crate) fn done(
 {
     match command {
         Command::Step { worker, choice } => Ok(stepped(&machine.step(alloc, worker, choice)?)),
-        Command::Undo(worker) => Ok(undone(&machine.undo(worker))),
+        Command::Undo(worker) => undo(alloc, machine, worker),
         Command::Roll(serial) => roll(alloc, machine, serial),
         Command::Look(query) => look(alloc, machine, &query),
     }
@@ -53,16 +55,36 @@ fn stepped(reply: &StepReply) -> Replies
     }
 }
 
-/// An undo's reply three times.
-fn undone(reply: &UndoReply) -> Replies
-    ensures reply { result.answer ≡ Reply.Undo reply.now }
-    ensures same { (result.receipt ≡ result.answer) × (result.kept ≡ result.answer) }
+/// Takes a worker's last step back. Only an undo that is refused, and so changes nothing, asks for memory.
+#[tactic(auto, using(crate::proofs::Undos::refused_same))]
+fn undo(alloc: Global, machine: &mut Machine, worker: u8) -> Result<Replies, AllocError>
+    requires { worker < machine.old.workers }
+    ensures reply { IfOk result (λ x. IsReply machine.old (Command.Undo worker) x.answer) }
+    ensures same { IfOk result (λ x. (x.receipt ≡ x.answer) × (x.kept ≡ x.answer)) }
+    ensures after { OnOk result (machine.new ≡ after machine.old (Command.Undo worker)) }
+    ensures unchanged_on_error { OnErr result (machine.new ≡ machine.old) }
 {
-    Replies {
-        answer: Reply::Undo(*reply),
-        receipt: Reply::Undo(*reply),
-        kept: Reply::Undo(*reply),
+    let reply = machine.undo(worker);
+    match undone(alloc, &reply) {
+        Ok(replies) => Ok(replies),
+        Err(error) => Err(error),
     }
+}
+
+/// An undo's reply three times. Its only error is out of memory, at an undo that was refused.
+fn undone(alloc: Global, reply: &UndoReply) -> Result<Replies, AllocError>
+    ensures reply { IfOk result (λ x. x.answer ≡ Reply.Undo reply.now) }
+    ensures same { IfOk result (λ x. (x.receipt ≡ x.answer) × (x.kept ≡ x.answer)) }
+    ensures only_conflicts { OnErr result (is_conflict reply.now ≡ true) }
+{
+    let answer = KeptUndoReply::of(alloc, reply)?;
+    let receipt = KeptUndoReply::of(alloc, reply)?;
+    let kept = KeptUndoReply::of(alloc, reply)?;
+    Ok(Replies {
+        answer: Reply::Undo(answer),
+        receipt: Reply::Undo(receipt),
+        kept: Reply::Undo(kept),
+    })
 }
 
 /// Rolls the entry with a serial. What it takes out is found beforehand for the copies.

@@ -3,18 +3,19 @@
 ghost use Rattle.std.specs.Prelude.{◌≡◌, IfOk};
 ghost use Rattle.om_journal.specs.Runs.{is_done};
 
+use crate::kept::KeptUndoReply;
 use om_cells::Val;
 use om_foot::Name;
 use om_same::Same;
 use om_seq::Seq;
-use om_undo::{Entry, RollReply, StepReply, UndoReply};
+use om_undo::{Entry, RollReply, StepReply};
 use std::alloc::{AllocError, Global};
 
 /// What is answered to a command: to each kind its own kind of reply.
 #[derive(Drop)]
 pub enum Reply {
     Step(StepReply),
-    Undo(UndoReply),
+    Undo(KeptUndoReply),
     Roll(RollReply),
     /// What the object holds.
     Value(Val),
@@ -38,7 +39,7 @@ impl Reply {
     {
         match self {
             Reply::Step(reply) => Ok(Reply::Step(*reply)),
-            Reply::Undo(reply) => Ok(Reply::Undo(*reply)),
+            Reply::Undo(reply) => Ok(Reply::Undo(KeptUndoReply::of(alloc, &reply.get())?)),
             Reply::Roll(reply) => Ok(Reply::Roll(copy_roll(alloc, reply)?)),
             Reply::Value(value) => Ok(Reply::Value(value.copy(alloc)?)),
             Reply::Ready(names) => Ok(Reply::Ready(copied(alloc, names)?)),

@@ -1,0 +1,33 @@
+-- Commands and replies of undos as a journal keeps them.
+use Rattle.std.specs.Prelude.{Bool, true, false}
+use Rattle.om_cells.specs.declared.step.Choice.TheVariants as choice
+use Rattle.om_history.specs.declared.reply.UndoReply.{UndoReply}
+use Rattle.om_history.specs.declared.reply.UndoReply.TheVariants as undo_reply
+use Rattle.om_journal.specs.declared.command.Query.TheVariants as query
+use Rattle.om_journal.specs.declared.command.Command.{Command}
+use Rattle.om_journal.specs.declared.command.Command.TheVariants as command
+use Rattle.om_journal.specs.declared.kept.CommandParts.{CommandParts}
+use Rattle.om_journal.specs.declared.kept.CommandParts.TheVariants as parts
+use Rattle.om_journal.specs.declared.kept.UndoParts.{UndoParts}
+use Rattle.om_journal.specs.declared.kept.UndoParts.TheVariants as undo_parts
+
+-- the command of these parts
+abbrev pub command_in : CommandParts → Command
+command_in (parts.Next worker) = command.Step worker choice.Next
+command_in (parts.Start worker task) = command.Step worker (choice.Start task.value)
+command_in (parts.Undo worker) = command.Undo worker
+command_in (parts.Roll serial) = command.Roll serial
+command_in (parts.Value object) = command.Look (query.Value object.value)
+command_in parts.Ready = command.Look query.Ready
+command_in parts.Entries = command.Look query.Entries
+
+-- the reply of these parts
+abbrev pub undo_reply_in : UndoParts → UndoReply
+undo_reply_in (undo_parts.Undone serial line) = undo_reply.Undone serial line
+undo_reply_in (undo_parts.Conflict serial worker object) = undo_reply.Conflict serial worker object.value
+undo_reply_in undo_parts.Nothing = undo_reply.Nothing
+
+-- the undo was refused
+abbrev pub is_conflict : UndoReply → Bool
+is_conflict (undo_reply.Conflict serial worker object) = true
+is_conflict _ = false

@@ -1,0 +1,201 @@
+//! Commands and replies as a journal keeps them: what is large and rare lies apart, so that records are small.
+
+ghost use Rattle.std.specs.Prelude.{◌≡◌, IfOk, OnErr, true};
+ghost use Rattle.om_journal.specs.Kept.{command_in, undo_reply_in, is_conflict};
+
+use crate::command::{Command, Query};
+use om_foot::{Name, Obj};
+use om_same::Same;
+use om_task::Choice;
+use om_undo::UndoReply;
+use std::alloc::{AllocError, Global};
+use std::marker::Model;
+
+/// The parts of a command. Few start a task or ask what an object holds, so names and objects lie apart.
+#[derive(Drop)]
+enum CommandParts {
+    Next(u8),
+    Start { worker: u8, task: Box<Name> },
+    Undo(u8),
+    Roll(u64),
+    Value(Box<Obj>),
+    Ready,
+    Entries,
+}
+
+/// A command that is kept: as small for a command of any kind.
+///
+/// Contracts see the command alone.
+#[derive(Drop)]
+pub struct KeptCommand {
+    parts: CommandParts,
+}
+
+impl Model for KeptCommand {
+    ghost use Rattle.om_journal.specs.declared.command.Command.{Command};
+    ghost use Rattle.om_journal.specs.Kept.{command_in};
+
+    ghost Value = { Command };
+
+    ghost view = { λ k. command_in k.parts };
+}
+
+/// The parts of a command, to be kept. Its only error is out of memory.
+fn parts_of(alloc: Global, command: &Command) -> Result<CommandParts, AllocError>
+    ensures { IfOk result (λ parts. command_in parts ≡ command.now) }
+{
+    match command {
+        Command::Step {
+            worker,
+            choice: Choice::Next,
+        } => Ok(CommandParts::Next(*worker)),
+        Command::Step {
+            worker,
+            choice: Choice::Start(task),
+        } => Ok(CommandParts::Start {
+            worker: *worker,
+            task: Box::new(alloc, *task)?,
+        }),
+        Command::Undo(worker) => Ok(CommandParts::Undo(*worker)),
+        Command::Roll(serial) => Ok(CommandParts::Roll(*serial)),
+        Command::Look(Query::Value(object)) => {
+            Ok(CommandParts::Value(Box::new(alloc, *object)?))
+        }
+        Command::Look(Query::Ready) => Ok(CommandParts::Ready),
+        Command::Look(Query::Entries) => Ok(CommandParts::Entries),
+    }
+}
+
+impl KeptCommand {
+    /// A command, to be kept; its only error is out of memory.
+    pub fn of(alloc: Global, command: &Command) -> Result<KeptCommand, AllocError>
+        ensures { IfOk result (λ kept. kept ≡ command.now) }
+    {
+        Ok(KeptCommand {
+            parts: parts_of(alloc, command)?,
+        })
+    }
+
+    /// The command.
+    pub fn get(&self) -> Command
+        ensures { result ≡ self.now }
+    {
+        match &self.parts {
+            CommandParts::Next(worker) => Command::Step {
+                worker: *worker,
+                choice: Choice::Next,
+            },
+            CommandParts::Start { worker, task } => Command::Step {
+                worker: *worker,
+                choice: Choice::Start(**task),
+            },
+            CommandParts::Undo(worker) => Command::Undo(*worker),
+            CommandParts::Roll(serial) => Command::Roll(*serial),
+            CommandParts::Value(object) => Command::Look(Query::Value(**object)),
+            CommandParts::Ready => Command::Look(Query::Ready),
+            CommandParts::Entries => Command::Look(Query::Entries),
+        }
+    }
+}
+
+impl Same for KeptCommand {
+    fn is_same(&self, other: &KeptCommand) -> bool {
+        self.get().is_same(&other.get())
+    }
+}
+
+/// The parts of what an undo is answered. Few are refused, so the object of a conflict lies apart.
+#[derive(Drop)]
+enum UndoParts {
+    Undone {
+        serial: u64,
+        line: u32,
+    },
+    Conflict {
+        serial: u64,
+        worker: u8,
+        object: Box<Obj>,
+    },
+    Nothing,
+}
+
+/// What an undo is answered, to be kept: as small for an undo that is refused.
+///
+/// Contracts see the reply alone.
+#[derive(Drop)]
+pub struct KeptUndoReply {
+    parts: UndoParts,
+}
+
+impl Model for KeptUndoReply {
+    ghost use Rattle.om_history.specs.declared.reply.UndoReply.{UndoReply};
+    ghost use Rattle.om_journal.specs.Kept.{undo_reply_in};
+
+    ghost Value = { UndoReply };
+
+    ghost view = { λ k. undo_reply_in k.parts };
+}
+
+/// The parts of an undo's reply, to be kept.
+fn undo_parts_of(alloc: Global, reply: &UndoReply) -> Result<UndoParts, AllocError>
+    ensures parts { IfOk result (λ parts. undo_reply_in parts ≡ reply.now) }
+    ensures only_conflicts { OnErr result (is_conflict reply.now ≡ true) }
+{
+    match reply {
+        UndoReply::Undone { serial, line } => Ok(UndoParts::Undone {
+            serial: *serial,
+            line: *line,
+        }),
+        UndoReply::Conflict {
+            serial,
+            worker,
+            object,
+        } => Ok(UndoParts::Conflict {
+            serial: *serial,
+            worker: *worker,
+            object: Box::new(alloc, *object)?,
+        }),
+        UndoReply::Nothing => Ok(UndoParts::Nothing),
+    }
+}
+
+impl KeptUndoReply {
+    /// What an undo was answered, to be kept. Its only error is out of memory, at an undo that was refused.
+    pub fn of(alloc: Global, reply: &UndoReply) -> Result<KeptUndoReply, AllocError>
+        ensures kept { IfOk result (λ kept. kept ≡ reply.now) }
+        ensures only_conflicts { OnErr result (is_conflict reply.now ≡ true) }
+    {
+        match undo_parts_of(alloc, reply) {
+            Ok(parts) => Ok(KeptUndoReply { parts }),
+            Err(error) => Err(error),
+        }
+    }
+
+    /// The reply.
+    pub fn get(&self) -> UndoReply
+        ensures { result ≡ self.now }
+    {
+        match &self.parts {
+            UndoParts::Undone { serial, line } => UndoReply::Undone {
+                serial: *serial,
+                line: *line,
+            },
+            UndoParts::Conflict {
+                serial,
+                worker,
+                object,
+            } => UndoReply::Conflict {
+                serial: *serial,
+                worker: *worker,
+                object: **object,
+            },
+            UndoParts::Nothing => UndoReply::Nothing,
+        }
+    }
+}
+
+impl Same for KeptUndoReply {
+    fn is_same(&self, other: &KeptUndoReply) -> bool {
+        self.get().is_same(&other.get())
+    }
+}
