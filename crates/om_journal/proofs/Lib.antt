@@ -1,4 +1,5 @@
 pub mod Growing
 pub mod Rolls
 pub mod Undos
+pub mod Histories
 pub mod Answering

@@ -2,3 +2,4 @@ pub mod Runs
 pub mod Journals
 pub mod Books
 pub mod Kept
+pub mod Histories

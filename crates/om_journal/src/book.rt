@@ -4,6 +4,9 @@ ghost use Rattle.std.specs.Prelude.{◌≡◌, ◌<◌, ◌≤◌, ◌+◌, ◌^
 ghost use Rattle.om_journal.specs.Runs.{IsInRange, IsReply, after, fresh};
 ghost use Rattle.om_journal.specs.Journals.{IsLegal, IsSound, done_in};
 ghost use Rattle.om_journal.specs.Books.{machine_of, records_of, with_record};
+ghost use Rattle.om_journal.specs.Histories.{told_in};
+ghost use Rattle.om_history.specs.Commands.{run};
+ghost use Rattle.om_undo.specs.Machines.{rules_for};
 
 use crate::command::Command;
 use crate::kept::KeptCommand;
@@ -96,9 +99,12 @@ impl Book {
         }
     }
 
-    /// The machine that the commands of the journal leave.
+    /// The machine that the commands of the journal leave. Its history is the run of the journal's
+    /// steps, undos and rolls, the refused ones among them.
     pub fn machine(&self) -> &Machine
         ensures left { result.now ≡ machine_of self.now }
+        ensures run { result.now.history
+            ≡ run (rules_for self.now.start) self.now.start.history (told_in self.now.journal) }
         ensures program { result.now.program ≡ self.now.start.program }
         ensures workers { result.now.workers ≡ self.now.start.workers }
     {
