@@ -9,6 +9,7 @@ use crate::gathered::faults_are_told;
 use crate::holding::{drives_are_side_by_side, free_runs_are_side_by_side};
 use crate::late::answers_may_be_late;
 use crate::laws::call_laws;
+use crate::unbacked::unbacked_answers_are_left_out;
 use crate::undos::long_history_is_undone;
 use crate::valid::code_is_judged;
 use std::alloc::{AllocError, Global};
@@ -58,6 +59,10 @@ fn add_drive_checks<R: Threads + Wait + Sync>(
 ) -> Result<(), AllocError> {
     let checks = [
         ("faults of a round are told", faults_are_told(rt, alloc)?),
+        (
+            "answers without receipts are left out alone",
+            unbacked_answers_are_left_out(rt, alloc)?,
+        ),
         ("all orders are answered", all_are_answered(rt, alloc)?),
         (
             "the places of answers are those of the journal",

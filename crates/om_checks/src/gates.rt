@@ -2,7 +2,7 @@
 
 ghost use Rattle.std.specs.Prelude.{◌≡◌, ◌++◌, ◌∷◌, [], IfOk, vec_len};
 
-use crate::orders::one_look;
+use crate::orders::looks;
 use om_book::{CallError, Command, KeptCommand, Receipt, Reply};
 use om_drive::{Debuggee, Gate, Order, drive_over};
 use om_undo::StepReply;
@@ -150,7 +150,7 @@ fn orders(alloc: Global) -> Result<Vec<Vec<Order>>, AllocError>
     ensures { IfOk result (λ lists. vec_len lists ≡ 2) }
 {
     let mut lists = Vec::new(alloc);
-    lists.push(one_look(alloc, 0)?)?;
-    lists.push(one_look(alloc, 1)?)?;
+    lists.push(looks(alloc, &[0])?)?;
+    lists.push(looks(alloc, &[1])?)?;
     Ok(lists)
 }

@@ -4,7 +4,7 @@ ghost use Rattle.std.specs.Prelude.{◌≡◌, IfOk, vec_len};
 
 use crate::book_of_two::BookOfTwo;
 use crate::driven::ADDING;
-use crate::orders::one_look;
+use crate::orders::looks;
 use crate::table::{Drove, Ran, Table};
 use om_drive::{Errand, Gate, Order};
 use std::alloc::{AllocError, Global};
@@ -132,8 +132,8 @@ fn orders(alloc: Global) -> Result<Vec<Vec<Order>>, AllocError>
     ensures { IfOk result (λ lists. vec_len lists ≡ 2) }
 {
     let mut lists = Vec::new(alloc);
-    lists.push(one_look(alloc, 1)?)?;
-    lists.push(one_look(alloc, 2)?)?;
+    lists.push(looks(alloc, &[1])?)?;
+    lists.push(looks(alloc, &[2])?)?;
     Ok(lists)
 }
 

@@ -3,7 +3,7 @@
 ghost use Rattle.std.specs.Prelude.{◌≡◌, IfOk, vec_len};
 
 use crate::gates::Fake;
-use crate::orders::one_look;
+use crate::orders::looks;
 use om_drive::{Gate, Order, drive_over};
 use std::alloc::{AllocError, Global};
 use std::sync::Wait;
@@ -66,6 +66,6 @@ fn one_list(alloc: Global) -> Result<Vec<Vec<Order>>, AllocError>
     ensures { IfOk result (λ lists. vec_len lists ≡ 1) }
 {
     let mut lists = Vec::new(alloc);
-    lists.push(one_look(alloc, 0)?)?;
+    lists.push(looks(alloc, &[0])?)?;
     Ok(lists)
 }

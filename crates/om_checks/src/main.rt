@@ -19,6 +19,7 @@ mod orders;
 mod places;
 mod program;
 mod table;
+mod unbacked;
 mod undos;
 mod valid;
 

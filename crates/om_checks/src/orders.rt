@@ -6,12 +6,12 @@ use om_foot::Obj;
 use om_task::Choice;
 use std::alloc::{AllocError, Global};
 
-/// A list of one order: a look at what was printed.
-pub(crate) fn one_look(alloc: Global, number: u64) -> Result<Vec<Order>, AllocError> {
-    [number]
-        .into_iter()
+/// Looks at what was printed, as orders of these numbers.
+pub(crate) fn looks(alloc: Global, numbers: &[u64]) -> Result<Vec<Order>, AllocError> {
+    numbers
+        .iter()
         .map(|number| Order {
-            number,
+            number: *number,
             command: Command::Look(Query::Value(Obj::Output)),
         })
         .collect(alloc)

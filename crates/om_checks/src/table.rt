@@ -1,10 +1,12 @@
 //! Sessions of two seats over a machine of two workers.
 
-ghost use Rattle.std.specs.Prelude.{◌≡◌, length, vec_len};
+ghost use Rattle.std.specs.Prelude.{◌≡◌, ◌≢◌, length, vec_len};
+ghost use Rattle.std.specs.List.{AllPairs};
+ghost use Rattle.om_orders.specs.Rounds.{in_rounds};
 
 use crate::book_of_two::BookOfTwo;
-use om_drive::{Answer, Driven, Errand, Fault, Freed, Gate, Order, drive, free};
 use om_book::{Blank, Closed, Session, Sitting};
+use om_drive::{Answer, Driven, Errand, Fault, Freed, Gate, Order, drive, free, numbers_differ};
 use std::alloc::Global;
 use std::marker::Brand;
 use std::sync::Wait;
@@ -39,7 +41,8 @@ pub(crate) struct Ran {
 }
 
 impl<G: Gate + Drop + Send> Table<G> {
-    /// Drives both seats; `None` where the session can't be opened or closed.
+    /// Drives both seats; `None` where the session can't be opened or closed, or two orders have one
+    /// number.
     pub(crate) fn drive<R: Threads + Wait + Sync>(
         self,
         rt: &R,
@@ -48,6 +51,9 @@ impl<G: Gate + Drop + Send> Table<G> {
     ) -> Option<Drove>
         requires { length orders.now ≡ 2 }
     {
+        let Ok(true) = numbers_differ(alloc, orders) else {
+            return None;
+        };
         drive_in::<Brand, _, _>(rt, alloc, Blank::new(2), self, orders)
     }
 
@@ -72,6 +78,7 @@ fn drive_in<L: Sitting + Send + Sync, G: Gate + Drop + Send, R: Threads + Wait +
     requires workers { L.workers ≡ 2 }
     requires two { blank.seats ≡ 2 }
     requires lists { length orders.now ≡ 2 }
+    requires differ { AllPairs (λ n m. n ≢ m) (in_rounds (λ o. o.items) orders.now) }
 {
     let Table { book, gates } = table;
     let BookOfTwo { book } = book;

@@ -1,6 +1,5 @@
 pub mod Freeing
 pub mod Rounding
 pub mod Places
-pub mod Backed
 pub mod Stepping
 pub mod Sent

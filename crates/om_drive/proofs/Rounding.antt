@@ -1,11 +1,11 @@
 -- A round, one seat after the other.
-use Rattle.std.specs.Prelude.{◌≡◌, ◌<◌, ◌+◌, ℕ, suc, ◌-◌, List, [], ◌∷◌, ◌++◌, length, map, take, slice_get, refl}
+use Rattle.std.specs.Prelude.{◌≡◌, ◌<◌, ◌+◌, ℕ, List, [], ◌∷◌, ◌++◌, length, map, take, slice_get, refl}
 use Rattle.std.specs.Prelude.{Result, Ok, Err, OnErr}
 use Rattle.std.proofs.Common.{sym, ◌∙◌, ap, arith, add-one, drop, get_or, drop-cons, append_assoc, append-nil}
 use Rattle.std.proofs.lemmas.List.{take-append-drop, take_all, map-append}
-use Rattle.om_drive.specs.declared.order.Answer.{Answer}
-use Rattle.om_drive.specs.Rounds.{answer_number, listed, round_at, rounds, Part, Begins}
-use Rattle.om_drive.specs.declared.order.Order.{Order}
+use Rattle.om_orders.specs.declared.order.Answer.{Answer}
+use Rattle.om_orders.specs.Rounds.{answer_number, listed, round_at, Part, Begins}
+use Rattle.om_orders.specs.declared.order.Order.{Order}
 
 pub round_next : {V : Type 0} (items : V → List Order) (k : ℕ) (vs : List V) (i : ℕ) (v : V) → i < length vs → v
     ≡ get_or vs i v
@@ -42,10 +42,6 @@ part_begins old new more due ns rest p b = (
 
 pub begins_same : (old new more due rest : List ℕ) → Part old new due rest → more ≡ new → Begins old more due
 begins_same old new more due rest p e = (rest, record { text = p.text; added = e ∙ p.added; left = p.left })
-
-pub rounds_next : {V : Type 0} (items : V → List Order) (k n : ℕ) (vs : List V) → k < n → rounds items k (n - k) vs
-    ≡ round_at items k vs ++ rounds items (k + 1) (n - (k + 1)) vs
-rounds_next items k n vs h = let e : n - k ≡ suc (n - (k + 1)) = omega arith in ap (λ m. rounds items k m vs) e
 
 pub on_err : {A B : Type 0} (r : Result A B) (P : Type 0) → P → OnErr r P
 on_err (Ok a) P p = tt

@@ -4,12 +4,12 @@ ghost use Rattle.std.specs.Prelude.{◌≡◌, ◌<◌, ◌≤◌, ◌+◌, ◌*
 ghost use Rattle.om_book.specs.Standing.{number_of};
 ghost use Rattle.om_drive.specs.Steps.{steps_in, steps_of};
 
-use crate::order::Fault;
 use crate::rounds::push_within;
 use crate::runner::{Ran, Runner};
 use crate::sitter::{sit_down, stand_up};
 use crate::worker::{Debuggee, Gate};
 use om_book::{CallError, Seat, Session, Sitting};
+use om_orders::Fault;
 use std::snapshot::Snapshot;
 use std::sync::Wait;
 use std::thread::{Promise, PromisedHandle, Scope, Threads, scope, scope_env};

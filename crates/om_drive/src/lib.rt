@@ -2,11 +2,9 @@
 //! are recorded, those of one thread and those of free runs.
 #![tactic(auto)]
 
-mod backing;
 mod driving;
 mod free_run;
 mod freely;
-mod order;
 mod recorder;
 mod rounds;
 mod runner;
@@ -17,7 +15,7 @@ mod worker;
 pub use driving::{DrivenOver, drive_over};
 pub use free_run::{Count, Errand};
 pub use freely::{Freed, free};
-pub use order::{Answer, Fault, Order};
+pub use om_orders::{Answer, Fault, KeptAnswers, Order, Rows, keep_backed, numbers_differ};
 pub use recorder::{Recorder, ready_in};
 pub use rounds::{Gathered, gather};
 pub use seats::{Driven, drive};

@@ -1,10 +1,10 @@
 //! Rounds: in each, every list that still has an order gets its next one asked and answered.
 
-ghost use Rattle.std.specs.Prelude.{◌≡◌, ℕ, ◌<◌, ◌≤◌, ◌+◌, ◌++◌, ◌∷◌, [], IfOk, OnOk, OnErr, None, Some, length, vec_len, vec_capacity, map, take, drop, slice_get};
-ghost use Rattle.om_drive.specs.Rounds.{answer_number, listed, round_at, longest, in_rounds, Begins};
+ghost use Rattle.std.specs.Prelude.{◌≡◌, ℕ, ◌<◌, ◌≤◌, ◌+◌, ◌++◌, ◌∷◌, [], IfOk, OnOk, OnErr, None, length, vec_len, vec_capacity, map, take};
+ghost use Rattle.om_orders.specs.Rounds.{answer_number, listed, round_at, in_rounds, Begins};
 
-use crate::order::{Answer, Fault, Order};
 use crossbeam_channel::{Receiver, SendError, Sender};
+use om_orders::{Answer, Fault, Order, most_rounds, order_at};
 use std::alloc::{AllocError, Global};
 use std::sync::Wait;
 
@@ -83,13 +83,6 @@ pub(crate) fn push_within<T: Drop>(items: &mut Vec<T>, item: T)
     let Ok(()) = items.push(item) else {
         unreachable!();
     };
-}
-
-/// The order that a list has in a round.
-pub(crate) fn order_at(list: &Vec<Order>, round: usize) -> Option<Order>
-    ensures { result ≡ slice_get list.now.items round }
-{
-    list.get(round).copied()
 }
 
 /// Where the answers of a round are awaited, and their numbers.
@@ -217,17 +210,6 @@ fn send_round<R: Wait>(
         }
     }
     Ok(())
-}
-
-/// The length of the longest list.
-pub(crate) fn most_rounds(orders: &[Vec<Order>]) -> usize
-    ensures { result ≡ longest (λ o. o.items) orders.now }
-{
-    let mut most = 0;
-    for list in orders {
-        most = most.max(list.len());
-    }
-    most
 }
 
 /// Asks round by round, until all orders are answered or something breaks off.

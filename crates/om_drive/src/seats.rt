@@ -1,16 +1,16 @@
 //! Drives over the seats of a session.
 
-ghost use Rattle.std.specs.Prelude.{◌≡◌, [], None, Some, All, IfOk, length, vec_len, map};
+ghost use Rattle.std.specs.Prelude.{◌≡◌, ◌≢◌, [], None, Some, All, IfOk, length, vec_len, map};
+ghost use Rattle.std.specs.List.{AllPairs};
 ghost use Rattle.om_book.specs.Standing.{number_of};
-ghost use Rattle.om_drive.specs.Rounds.{answer_number, in_rounds};
-ghost use Rattle.om_drive.specs.Backing.{AreKept, in_turns, IsOfOne, Keeps};
+ghost use Rattle.om_orders.specs.Rounds.{answer_number, in_rounds};
+ghost use Rattle.om_orders.specs.Backing.{AreKept, in_turns, IsOfOne, Keeps};
 
-use crate::backing::{Rows, Walk, keep_backed};
 use crate::driving::{DrivenOver, drive_over};
-use crate::order::{Answer, Fault, Order};
 use crate::sitter::{sit_down, stand_up};
 use crate::worker::Gate;
 use om_book::{Seat, Session, Sitting};
+use om_orders::{Answer, Fault, KeptAnswers, Order, Rows, keep_backed};
 use std::alloc::{AllocError, Global};
 use std::sync::Wait;
 use std::thread::Threads;
@@ -26,13 +26,14 @@ pub struct Driven<L: Sitting> {
 }
 
 /// Carries orders to the seats of a session, each in a thread of its own, and brings the answers
-/// back. There is a gate and a list of orders for each seat.
+/// back. There is a gate and a list of orders for each seat, and no two orders have one number
+/// (`numbers_differ`).
 ///
 /// Without a fault each order has one answer, round by round. A fault breaks off the answers that
 /// come. Each answer with a reply has its receipt: its seat was told the order of its number, and
 /// has the receipt of the order's command with that reply, at the answer's place. An answer without
 /// its receipt is left out, and that one alone (V1).
-#[tactic(auto, using(crate::proofs::Backed::none_kept, crate::proofs::Backed::none_backed))]
+#[tactic(auto, using(om_orders::proofs::Backed::none_kept, om_orders::proofs::Backed::none_backed))]
 pub fn drive<L: Sitting + Send + Sync, G: Gate + Drop + Send, R: Threads + Wait + Sync>(
     session: &Session<L>,
     rt: &R,
@@ -42,6 +43,7 @@ pub fn drive<L: Sitting + Send + Sync, G: Gate + Drop + Send, R: Threads + Wait 
 ) -> Driven<L>
     requires gates { vec_len gates ≡ vec_len seats }
     requires lists { length orders.now ≡ vec_len seats }
+    requires differ { AllPairs (λ n m. n ≢ m) (in_rounds (λ o. o.items) orders.now) }
     ensures back { map number_of result.seats.items ≡ map number_of seats.items }
     ensures kept { AreKept (in_rounds (λ o. o.items) orders.now)
         (in_turns (λ o. o.items) result.seats.items orders.now) result.answers.items }
@@ -101,7 +103,7 @@ struct Came {
 
 /// Compares the answers with the receipts. An answer without its receipt is left out, which is a
 /// fault.
-#[tactic(auto, using(crate::proofs::Backed::kept_backed))]
+#[tactic(auto, using(om_orders::proofs::Backed::kept_backed))]
 fn compared<L: Sitting>(
     seats: Vec<Seat<L>>,
     orders: &[Vec<Order>],
@@ -123,11 +125,7 @@ fn compared<L: Sitting>(
         seats: seats.as_slice(),
         orders,
     };
-    let Walk {
-        answers,
-        strange,
-        ..
-    } = keep_backed(&rows, marks.as_mut_slice(), answers);
+    let KeptAnswers { answers, strange } = keep_backed(&rows, marks.as_mut_slice(), answers);
     Driven {
         seats,
         answers,

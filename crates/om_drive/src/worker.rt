@@ -5,9 +5,9 @@ ghost use Rattle.om_journal.specs.Runs.{IsInRange};
 ghost use Rattle.om_book.specs.declared.receipt.Receipt.{Receipt};
 ghost use Rattle.om_drive.specs.Calls.{Place, last_place_in};
 
-use crate::order::{Answer, Order};
 use crossbeam_channel::{Receiver, Sender};
 use om_book::{CallError, Command, Reply};
+use om_orders::{Answer, Order};
 use std::sync::Wait;
 
 /// What is driven: a session with a seat, or a fake.

@@ -1,6 +1,7 @@
 use Rattle.std.proofs.Common.{rules, refl, ◌≡◌, ℕ, ◌+◌, ◌-◌, ◌++◌, List, map, subst}
-use Rattle.om_drive.specs.Rounds.{answer_number, in_rounds, rounds, round_at, Part, Begins}
-use Rattle.om_drive.proofs.Rounding.{rounds_next, part_more, part_begins, begins_same, on_err}
+use Rattle.om_orders.specs.Rounds.{answer_number, in_rounds, rounds, round_at, Part, Begins}
+use Rattle.om_orders.proofs.Backed.{rounds_next}
+use Rattle.om_drive.proofs.Rounding.{part_more, part_begins, begins_same, on_err}
 use Rattle.om_drive.proofs.rounds.ask_all.Goals as goal
 
 pub returns-in_err-send_round-clause-err : goal.returns-in_err-send_round-clause-err

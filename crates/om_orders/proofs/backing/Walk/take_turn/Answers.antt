@@ -1,7 +1,7 @@
 use Rattle.std.proofs.Common.{rules, ◌≡◌, ◌<◌, length, get_or, IsTrue, false}
-use Rattle.om_drive.specs.Backing.{Turn}
-use Rattle.om_drive.proofs.Backed.{not_true, passes_kept, passes_without}
-use Rattle.om_drive.proofs.backing.Walk.take_turn.Goals as goal
+use Rattle.om_orders.specs.Backing.{Turn}
+use Rattle.om_orders.proofs.Backed.{not_true, passes_kept, passes_without}
+use Rattle.om_orders.proofs.backing.Walk.take_turn.Goals as goal
 
 pub returns-then-is_backed-clause-passes : goal.returns-then-is_backed-clause-passes
 returns-then-is_backed-clause-passes c =

@@ -3,9 +3,9 @@ use Rattle.std.specs.Prelude.{◌≡◌, ◌⊎◌, ◌+◌, ◌++◌, ℕ, zero
 use Rattle.om_book.specs.Seats.{SeatView}
 use Rattle.om_journal.specs.declared.reply.Reply.{Reply}
 use Rattle.om_book.specs.declared.receipt.Receipt.{Receipt}
-use Rattle.om_drive.specs.declared.order.Answer.{Answer}
-use Rattle.om_drive.specs.declared.order.Order.{Order}
-use Rattle.om_drive.specs.Rounds.{answer_number, longest, Begins}
+use Rattle.om_orders.specs.declared.order.Answer.{Answer}
+use Rattle.om_orders.specs.declared.order.Order.{Order}
+use Rattle.om_orders.specs.Rounds.{answer_number, longest, Begins}
 
 -- x is one of them
 abbrev pub Has : {A : Type 0} → List A → A → Type 0

@@ -1,5 +1,5 @@
 use Rattle.std.proofs.Common.{◌≢◌, All, take}
-use Rattle.om_drive.proofs.backing.found_at.Given as goal
+use Rattle.om_orders.proofs.backing.found_at.Given as goal
 
 abbrev pub invariant-loop-i : goal.invariant-loop-i
 invariant-loop-i l =

@@ -1,6 +1,6 @@
 use Rattle.std.proofs.Common.{◌≡◌, ◌≤◌, false, length, drop, vec_len}
-use Rattle.om_drive.specs.Backing.{turns_at, IsUnderway}
-use Rattle.om_drive.proofs.backing.Walk.take_round.Given as goal
+use Rattle.om_orders.specs.Backing.{turns_at, IsUnderway}
+use Rattle.om_orders.proofs.backing.Walk.take_round.Given as goal
 
 abbrev pub invariant-loop-i : goal.invariant-loop-i
 invariant-loop-i g l = record {

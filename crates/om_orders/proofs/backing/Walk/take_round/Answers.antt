@@ -1,7 +1,7 @@
 use Rattle.std.proofs.Common.{rules, ◌≡◌, ◌∙◌, ◌<◌, ◌+◌, length, drop, slice_get, subst, List}
-use Rattle.om_drive.specs.Backing.{Turn, turn_of, turns_at, IsUnderway, Passes}
-use Rattle.om_drive.proofs.Backed.{turns_next, underway_more}
-use Rattle.om_drive.proofs.backing.Walk.take_round.Goals as goal
+use Rattle.om_orders.specs.Backing.{Turn, turn_of, turns_at, IsUnderway, Passes}
+use Rattle.om_orders.proofs.Backed.{turns_next, underway_more}
+use Rattle.om_orders.proofs.backing.Walk.take_round.Goals as goal
 
 pub loop-i-preserved : goal.loop-i-preserved
 loop-i-preserved g c =

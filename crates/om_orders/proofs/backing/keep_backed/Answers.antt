@@ -1,8 +1,8 @@
 use Rattle.std.proofs.Common.{rules, ◌≡◌, ◌∙◌, ◌≤◌, ◌+◌, ◌-◌, ℕ, List, [], subst, sym, arith}
-use Rattle.om_drive.specs.declared.order.Answer.{Answer}
-use Rattle.om_drive.specs.Backing.{Turn, turns_at, turns, in_turns, IsUnderway, Keeps}
-use Rattle.om_drive.proofs.Backed.{keeps_all, turns_rest, underway_all, underway_more}
-use Rattle.om_drive.proofs.backing.keep_backed.Goals as goal
+use Rattle.om_orders.specs.declared.order.Answer.{Answer}
+use Rattle.om_orders.specs.Backing.{Turn, turns_at, turns, in_turns, IsUnderway, Keeps}
+use Rattle.om_orders.proofs.Backed.{keeps_all, turns_rest, underway_all, underway_more}
+use Rattle.om_orders.proofs.backing.keep_backed.Goals as goal
 
 pub loop-round-preserved : goal.loop-round-preserved
 loop-round-preserved g c =

@@ -1,7 +1,7 @@
 //! The comparison of answers with the receipts of their seats, in one walk.
 
 ghost use Rattle.std.specs.Prelude.{◌≡◌, ◌↔◌, ◌≤◌, IsTrue, IfSome, IfNone, Some, false, length, slice_get, take, drop, vec_len};
-ghost use Rattle.om_drive.specs.Backing.{Has, Turn, turn_of, turns_at, in_turns, IsReceipted, IsBacked, Keeps, Passes};
+ghost use Rattle.om_orders.specs.Backing.{Has, Turn, turn_of, turns_at, in_turns, IsReceipted, IsBacked, Keeps, Passes};
 
 use crate::order::{Answer, Order};
 use crate::rounds::{most_rounds, order_at};
@@ -69,19 +69,28 @@ fn is_backed(receipts: &[Receipt], mark: &mut usize, order: &Order, answer: &Ans
 
 /// Answers that are compared: those in front already, and kept.
 #[derive(Drop)]
-pub(crate) struct Walk {
-    pub(crate) answers: Vec<Answer>,
+struct Walk {
+    answers: Vec<Answer>,
     at: usize,
     /// Whether an answer was left out.
-    pub(crate) strange: bool,
+    strange: bool,
 }
 
 /// What answers are compared with: the seats, each with the orders of its list.
 #[derive(Drop)]
-pub(crate) struct Rows<'a, L: Sitting> {
-    pub(crate) seats: &'a [Seat<L>],
-    pub(crate) orders: &'a [Vec<Order>],
-    pub(crate) ghost paired: { length orders.now ≡ length seats.now },
+pub struct Rows<'a, L: Sitting> {
+    pub seats: &'a [Seat<L>],
+    pub orders: &'a [Vec<Order>],
+    pub ghost paired: { length orders.now ≡ length seats.now },
+}
+
+/// What came of a comparison of answers with the receipts of their seats.
+#[derive(Drop)]
+pub struct KeptAnswers {
+    /// The answers that are kept, in their order.
+    pub answers: Vec<Answer>,
+    /// Whether one was left out.
+    pub strange: bool,
 }
 
 impl Walk {
@@ -157,13 +166,18 @@ impl Walk {
     }
 }
 
-/// Keeps the answers that have their receipts, and leaves out each other one, and that alone.
+/// Compares answers with the orders of the seats, round by round, and with the receipts of the seats.
+///
+/// An answer is kept where it has the number of its order and, if it has a reply, its seat has the receipt of the
+/// order's command with that reply, at the answer's place. Each other one is left out, and that one alone. The marks,
+/// one for each seat, say where its next receipt is sought first. They are 0 at first; whatever they are, the same
+/// answers are kept.
 #[tactic(auto, using(crate::proofs::Backed::keeps_all))]
-pub(crate) fn keep_backed<L: Sitting>(
+pub fn keep_backed<L: Sitting>(
     rows: &Rows<'_, L>,
     marks: &mut [usize],
     answers: Vec<Answer>,
-) -> Walk
+) -> KeptAnswers
     requires { length marks.old ≡ length rows.now.seats.now }
     ensures kept { Keeps (in_turns (λ o. o.items) rows.now.seats.now rows.now.orders.now)
         answers.items result.answers.items }
@@ -179,5 +193,10 @@ pub(crate) fn keep_backed<L: Sitting>(
         walk.take_round(rows, marks, round);
     }
     walk.end();
-    walk
+    let Walk {
+        answers,
+        at: _,
+        strange,
+    } = walk;
+    KeptAnswers { answers, strange }
 }

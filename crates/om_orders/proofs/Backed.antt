@@ -7,10 +7,10 @@ use Rattle.std.proofs.lemmas.List.{take_all, take_more, length-take-le, drop_all
 use Rattle.std.proofs.lemmas.List.Elements.{All-more, All-nil, All-cons}
 use Rattle.std.proofs.lemmas.Option.{get_or_from_slice_get, slice_get_within}
 use Rattle.om_book.specs.Seats.{SeatView}
-use Rattle.om_drive.specs.declared.order.Answer.{Answer}
-use Rattle.om_drive.specs.declared.order.Order.{Order}
-use Rattle.om_drive.specs.Backing.{Has, Turn, turn_of, turns_at, turns, IsBacked, Keeps, AreKept, IsOfOne, Passes, IsUnderway}
-use Rattle.om_drive.proofs.Rounding.{begins_none}
+use Rattle.om_orders.specs.declared.order.Answer.{Answer}
+use Rattle.om_orders.specs.declared.order.Order.{Order}
+use Rattle.om_orders.specs.Rounds.{round_at, rounds}
+use Rattle.om_orders.specs.Backing.{Has, Turn, turn_of, turns_at, turns, IsBacked, Keeps, AreKept, IsOfOne, Passes, IsUnderway}
 
 -- one more has it
 pub all_more : {A : Type 0} (P : A → Type 0) (xs : List A) (i : ℕ) (x : A) → i < length xs → x ≡ get_or xs i x
@@ -116,6 +116,10 @@ pub turns_rest : {V : Type 0} (items : V → List Order) (k n : ℕ) (ss : List 
 turns_rest items k n ss vs h =
     let e : n - k ≡ suc (n - (k + 1)) = omega arith in ap (λ m. turns items k m ss vs) e
 
+pub rounds_next : {V : Type 0} (items : V → List Order) (k n : ℕ) (vs : List V) → k < n → rounds items k (n - k) vs
+    ≡ round_at items k vs ++ rounds items (k + 1) (n - (k + 1)) vs
+rounds_next items k n vs h = let e : n - k ≡ suc (n - (k + 1)) = omega arith in ap (λ m. rounds items k m vs) e
+
 -- behind the last turn, what is kept is kept of all
 pub keeps_all : (due : List Turn) (xs ys : List Answer) (j : ℕ) → Passes due xs 0 ys j → Keeps due xs (take j ys)
 keeps_all due xs ys j p =
@@ -143,7 +147,8 @@ keeps_nothing (t ∷ ts) = refl
 
 -- where none came, none is kept
 pub none_kept : (due : List ℕ) (ts : List Turn) (kept : List Answer) → kept ≡ [] → AreKept due ts kept
-none_kept due ts kept e = subst (λ l. AreKept due ts l) (sym e) ([], begins_none [] due, keeps_nothing ts)
+none_kept due ts kept e = subst (λ l. AreKept due ts l) (sym e)
+    ([], (due, record { text = []; added = refl; left = refl }), keeps_nothing ts)
 
 pub none_backed : (ts : List Turn) (kept : List Answer) → kept ≡ [] → All (IsOfOne ts) kept
 none_backed ts kept e = subst (λ l. All (IsOfOne ts) l) (sym e) (All-nil (IsOfOne ts))

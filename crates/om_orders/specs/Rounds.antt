@@ -1,7 +1,7 @@
 -- Rounds: in each, every list that still has an order gives its next.
 use Rattle.std.specs.Prelude.{◌≡◌, ℕ, zero, suc, ◌+◌, max, List, [], ◌∷◌, ◌++◌, length, slice_get, Option, None, Some}
-use Rattle.om_drive.specs.declared.order.Answer.{Answer}
-use Rattle.om_drive.specs.declared.order.Order.{Order}
+use Rattle.om_orders.specs.declared.order.Answer.{Answer}
+use Rattle.om_orders.specs.declared.order.Order.{Order}
 
 abbrev pub answer_number : Answer → ℕ
 answer_number a = a.number

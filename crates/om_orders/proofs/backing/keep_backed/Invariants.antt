@@ -1,6 +1,6 @@
 use Rattle.std.proofs.Common.{◌≡◌, ◌≤◌, ◌-◌, false, length, vec_len}
-use Rattle.om_drive.specs.Backing.{in_turns, turns, IsUnderway}
-use Rattle.om_drive.proofs.backing.keep_backed.Given as goal
+use Rattle.om_orders.specs.Backing.{in_turns, turns, IsUnderway}
+use Rattle.om_orders.proofs.backing.keep_backed.Given as goal
 
 abbrev pub invariant-loop-round : goal.invariant-loop-round
 invariant-loop-round g l = record {

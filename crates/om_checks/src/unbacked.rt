@@ -1,0 +1,129 @@
+//! Answers of two seats that are compared with the receipts of the seats.
+
+ghost use Rattle.std.specs.Prelude.{◌≡◌, IfOk, length, vec_len};
+
+use crate::book_of_two::BookOfTwo;
+use crate::driven::ADDING;
+use crate::orders::looks;
+use om_book::{Blank, Command, Query, Reply, Seat, Session, Sitting};
+use om_drive::{Answer, KeptAnswers, Order, Rows, keep_backed};
+use om_foot::Obj;
+use std::alloc::{AllocError, Global};
+use std::marker::Brand;
+use std::sync::Wait;
+
+/// Whether four answers are kept that tell the places of their records; and of four answers, of which the third tells
+/// the place of the other seat's record, the three others.
+pub(crate) fn unbacked_answers_are_left_out<R: Wait>(
+    rt: &R,
+    alloc: Global,
+) -> Result<bool, AllocError> {
+    let all = compared(rt, alloc, [0, 1, 2, 3])?;
+    let fewer = compared(rt, alloc, [0, 1, 1, 3])?;
+    Ok(
+        are_kept(&all, &[10, 20, 11, 21])
+            && !all.strange
+            && are_kept(&fewer, &[10, 20, 21])
+            && fewer.strange,
+    )
+}
+
+/// Whether the answers to the orders of these numbers were kept, in this order.
+fn are_kept(backed: &KeptAnswers, numbers: &[u64]) -> bool {
+    backed.answers.len() == numbers.len()
+        && backed
+            .answers
+            .iter()
+            .zip(numbers)
+            .all(|(answer, number)| answer.number == *number)
+}
+
+/// What is kept of the answers to two orders for each of two seats, where the answers tell these places.
+fn compared<R: Wait>(rt: &R, alloc: Global, places: [u64; 4]) -> Result<KeptAnswers, AllocError> {
+    let Some(book) = BookOfTwo::of(alloc, ADDING) else {
+        return Err(AllocError);
+    };
+    let orders = orders(alloc)?;
+    compared_in::<Brand, _>(rt, alloc, Blank::new(2), book, (orders.as_slice(), places))
+}
+
+/// Two looks for each of two seats.
+fn orders(alloc: Global) -> Result<Vec<Vec<Order>>, AllocError>
+    ensures { IfOk result (λ lists. vec_len lists ≡ 2) }
+{
+    let mut lists = Vec::new(alloc);
+    lists.push(looks(alloc, &[10, 11])?)?;
+    lists.push(looks(alloc, &[20, 21])?)?;
+    Ok(lists)
+}
+
+/// Compares the answers to the orders of the session that is meant.
+#[tactic(auto, using(om_drive::proofs::Freeing::seats_count))]
+fn compared_in<L: Sitting, R: Wait>(
+    rt: &R,
+    alloc: Global,
+    blank: Blank,
+    book: BookOfTwo,
+    told: (&[Vec<Order>], [u64; 4]),
+) -> Result<KeptAnswers, AllocError>
+    requires name { blank.ledger.name ≡ L.name }
+    requires parts { blank.ledger.parts ≡ L.parts }
+    requires opened { book.book ≡ L.opened }
+    requires workers { L.workers ≡ 2 }
+    requires two { blank.seats ≡ 2 }
+    requires lists { length told.0.now ≡ 2 }
+{
+    let BookOfTwo { book } = book;
+    let Ok((session, mut seats)) = Session::<L>::new(alloc, blank, book) else {
+        return Err(AllocError);
+    };
+    let (orders, places) = told;
+    let answers = answered(rt, alloc, &session, seats.as_mut_slice(), &places)?;
+    let rows = Rows {
+        seats: seats.as_slice(),
+        orders,
+    };
+    Ok(keep_backed(&rows, &mut [0, 0], answers))
+}
+
+/// The answers to the orders, round by round: each seat looks in its turn.
+fn answered<L: Sitting, R: Wait>(
+    rt: &R,
+    alloc: Global,
+    session: &Session<L>,
+    seats: &mut [Seat<L>],
+    places: &[u64; 4],
+) -> Result<Vec<Answer>, AllocError>
+    requires { length seats.old ≡ 2 }
+    ensures { length seats.new ≡ 2 }
+{
+    let mut answers = Vec::new(alloc);
+    answers.push(answer(10, places[0], look(rt, alloc, session, &mut seats[0])?))?;
+    answers.push(answer(20, places[1], look(rt, alloc, session, &mut seats[1])?))?;
+    answers.push(answer(11, places[2], look(rt, alloc, session, &mut seats[0])?))?;
+    answers.push(answer(21, places[3], look(rt, alloc, session, &mut seats[1])?))?;
+    Ok(answers)
+}
+
+/// What a seat is answered that looks at what was printed.
+fn look<L: Sitting, R: Wait>(
+    rt: &R,
+    alloc: Global,
+    session: &Session<L>,
+    seat: &mut Seat<L>,
+) -> Result<Reply, AllocError> {
+    match session.call(rt, alloc, seat, Command::Look(Query::Value(Obj::Output))) {
+        Ok(reply) => Ok(reply),
+        Err(_) => Err(AllocError),
+    }
+}
+
+/// An answer in time.
+fn answer(number: u64, place: u64, reply: Reply) -> Answer {
+    Answer {
+        number,
+        reply: Ok(reply),
+        late: false,
+        place: Some(place),
+    }
+}
