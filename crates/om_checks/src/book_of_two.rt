@@ -3,8 +3,8 @@
 ghost use Rattle.std.specs.Prelude.{◌≡◌};
 ghost use Rattle.om_journal.specs.Runs.{IsInRange};
 
-use crate::program::program_of;
 use om_book::{Book, CallError, Command, Reply};
+use om_shell::program_of;
 use std::alloc::{AllocError, Global};
 
 /// A book over a machine of two workers.
@@ -26,7 +26,7 @@ pub(crate) struct Lengths {
 impl BookOfTwo {
     /// The book at the start of a source; `None` where it is refused, or there is no memory.
     pub(crate) fn of(alloc: Global, source: &str) -> Option<BookOfTwo> {
-        let program = program_of(alloc, source).ok()?;
+        let program = program_of(alloc, source.as_bytes()).ok()?;
         let book = Book::new(alloc, program, 2).ok()?;
         Some(BookOfTwo { book })
     }

@@ -2,9 +2,9 @@
 
 ghost use Rattle.std.specs.Prelude.{◌≡◌, ◌<◌, ◌≤◌, IfOk};
 
-use crate::program::program_of;
 use om_cells::Val;
 use om_foot::Obj;
+use om_shell::program_of;
 use om_task::Choice;
 use om_undo::{Machine, StepReply, UndoReply};
 use std::alloc::{AllocError, Global};
@@ -25,7 +25,7 @@ pub(crate) struct MachineOfTwo {
 impl MachineOfTwo {
     /// The machine at the start of a source; `None` where it is refused, or there is no memory.
     pub(crate) fn of(alloc: Global, source: &str) -> Option<MachineOfTwo> {
-        let program = program_of(alloc, source).ok()?;
+        let program = program_of(alloc, source.as_bytes()).ok()?;
         let machine = Machine::new(alloc, program, 2).ok()?;
         Some(MachineOfTwo { machine, asked: 0 })
     }

@@ -17,7 +17,6 @@ mod laws;
 mod machine_of_two;
 mod orders;
 mod places;
-mod program;
 mod table;
 mod unbacked;
 mod undos;
