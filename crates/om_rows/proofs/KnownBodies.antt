@@ -23,7 +23,7 @@ use Rattle.om_rows.specs.Bodies.{BodySite, variables_of, region_variables, funct
 use Rattle.om_rows.specs.Code.{last_instruction, given_variables, captures_of, slots_of, given_of, site_of, IsBodyOf}
 use Rattle.om_rows.specs.Code.{IsCodeOf}
 use Rattle.om_rows.specs.declared.scope.VariableScope.{VariableScope}
-use Rattle.om_rows.specs.Names.{body_names, scope_in, slot_among}
+use Rattle.om_rows.specs.Scopes.{scope_in, slot_among}
 use Rattle.om_rows.specs.Mentions.{extents_of, format_mention, formats_of, tree_mentioned}
 use Rattle.om_rows.specs.Laws.{FunctionBodies, FormatsAreNumbered}
 use Rattle.om_rows.specs.Rows.{Site}
@@ -167,12 +167,12 @@ module _ (tree : ResolvedTree) (raw : Raw) (code : IsCodeOf tree raw) where
 
     has_names : HasNames body.slots body.names
     has_names =
-        subst (λ z. HasNames body.slots z) (sym is.names)
+        subst (λ z. HasNames body.slots z) (sym is.names.named)
         (record {
           scopes = All-map (λ (scope : Scope). IsScopeOf body.slots scope) (scope_in (variables_of b))
-              (body_names b.function b.tree).closed
+              is.names.scopes
               (all_of (λ (v : VariableScope). IsScopeOf body.slots (scope_in (variables_of b) v))
-              (body_names b.function b.tree).closed (λ v. slot_within v.variable (position (nat_eq v.variable) (variables_of b))
+              is.names.scopes (λ v. slot_within v.variable (position (nat_eq v.variable) (variables_of b))
               refl));
           outer = omega (arith, slot_count, length-map (variables_of b) (slot_among b.outer));
         })

@@ -2,7 +2,6 @@ pub mod Twins
 pub mod ExpressionTwins
 pub mod HeadTwins
 pub mod StatementTwins
-pub mod OneCode
 pub mod Levels
 pub mod ExpressionLevels
 pub mod StatementLevels
@@ -11,6 +10,9 @@ pub mod Named
 pub mod NamedExpressions
 pub mod Sized
 pub mod StatementSized
+pub mod ScopeSizes
+pub mod ScopesFound
+pub mod OneCode
 pub mod WholeCode
 pub mod RowsCode
 pub mod WholeMentions

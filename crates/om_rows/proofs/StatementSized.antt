@@ -38,10 +38,10 @@ module _ (at : Site) where
   abbrev Has : Row → ℕ → Type 0
   Has r n = (p q : ℕ) → r p q → q ≡ p + n
 
-  abbrev value_sized : (l : ℕ) (e : ResolvedExpressionTree) → Has (value at l e) (value_size e)
+  abbrev pub value_sized : (l : ℕ) (e : ResolvedExpressionTree) → Has (value at l e) (value_size e)
   value_sized l e = expressions.value_sized at l e
 
-  abbrev effect_sized : (l : ℕ) (e : ResolvedExpressionTree) → Has (effect at l e) (effect_size e)
+  abbrev pub effect_sized : (l : ℕ) (e : ResolvedExpressionTree) → Has (effect at l e) (effect_size e)
   effect_sized l e = expressions.effect_sized at l e
 
   each_sized : {A : Type 0} (row : A → Row) (size : A → ℕ) (xs : List A) → ((x : A) → Has (row x) (size x))
@@ -50,7 +50,7 @@ module _ (at : Site) where
   each_sized row size (x ∷ xs) f p q r = let a = f x p r.0 r.1 in let b = each_sized row size xs f r.0 q r.2 in
       omega arith
 
-  perhaps_sized : {A : Type 0} (row : A → Row) (size : A → ℕ) (x : Option A) → ((x : A) → Has (row x) (size x))
+  pub perhaps_sized : {A : Type 0} (row : A → Row) (size : A → ℕ) (x : Option A) → ((x : A) → Has (row x) (size x))
       → Has (perhaps row x) (perhaps_size size x)
   perhaps_sized row size None f p q r = omega arith
   perhaps_sized row size (Some x) f p q r = f x p q r
@@ -59,7 +59,7 @@ module _ (at : Site) where
   given_sized row n None f p q r = absurd r
   given_sized row n (Some x) f p q r = f x p q r
 
-  declared_sized : (l : ℕ) (x : LocalVariable) (e : Option ResolvedExpressionTree) → Has (declared at l x e)
+  pub declared_sized : (l : ℕ) (x : LocalVariable) (e : Option ResolvedExpressionTree) → Has (declared at l x e)
       (perhaps_size value_size e + 1)
   declared_sized l x None p q r = omega arith
   declared_sized l x (Some e) p q r = let a = value_sized l e p r.0 r.1 in omega arith
@@ -73,7 +73,7 @@ module _ (at : Site) where
   start_sized l (StartExpression e) p q r = effect_sized l e p q r
   start_sized l (StartDeclaration ds) p q r = declarators_sized l ds p q r
 
-  test_sized : (l f : ℕ) (e : ResolvedExpressionTree) → Has (test at l f e) (test_size e)
+  pub test_sized : (l f : ℕ) (e : ResolvedExpressionTree) → Has (test at l f e) (test_size e)
   test_sized l f e p q r = let a = value_sized l e p r.0 r.1 in omega arith
 
   returned_sized : (l : ℕ) (is_main : Bool) (e : Option ResolvedExpressionTree) → Has (returned at l is_main e)
@@ -83,7 +83,7 @@ module _ (at : Site) where
   returned_sized l false None p q r = omega arith
   returned_sized l false (Some e) p q r = let a = value_sized l e p r.0 r.1 in omega arith
 
-  copy_start_sized : (l : ℕ) (kind : CopyKind) (x : variables.Variable) (copy : LocalVariable)
+  pub copy_start_sized : (l : ℕ) (kind : CopyKind) (x : variables.Variable) (copy : LocalVariable)
       → Has (copy_start at l kind x copy) (copy_start_size kind)
   copy_start_sized l copies.Private x copy p q r = omega arith
   copy_start_sized l copies.Firstprivate x copy p q r = omega arith
@@ -110,7 +110,7 @@ module _ (at : Site) where
   clause_combined_sized l (Shared x) p q r = omega arith
   clause_combined_sized l (Copied kind x copy) p q r = combined_sized l kind x copy p q r
 
-  reductions_sized : (l : ℕ) (clauses : List ResolvedClauseTree) → Has (reductions at l clauses)
+  pub reductions_sized : (l : ℕ) (clauses : List ResolvedClauseTree) → Has (reductions at l clauses)
       (each_size clause_combined_size clauses)
   reductions_sized l clauses = each_sized (clause_combined at l) clause_combined_size clauses (clause_combined_sized l)
 
@@ -118,11 +118,11 @@ module _ (at : Site) where
   loads_sized l [] p q r = omega arith
   loads_sized l (x ∷ xs) p q r = let a = loads_sized l xs r.0 q r.2 in omega arith
 
-  end_sized : (l : ℕ) (nowait : Bool) → Has (worksharing_end at l nowait) (end_size nowait)
+  pub end_sized : (l : ℕ) (nowait : Bool) → Has (worksharing_end at l nowait) (end_size nowait)
   end_sized l true p q r = omega arith
   end_sized l false p q r = omega arith
 
-  filter_sized : (l : ℕ) (e : Option ResolvedExpressionTree) → Has (filter_row at l e) (filter_size e)
+  pub filter_sized : (l : ℕ) (e : Option ResolvedExpressionTree) → Has (filter_row at l e) (filter_size e)
   filter_sized l None p q r = omega arith
   filter_sized l (Some e) p q r = value_sized l e p q r
 
@@ -139,7 +139,7 @@ module _ (at : Site) where
   updated_sized l x (Some j) o side e p q r = let a = value_sized l j p r.0 r.1 in let b = value_sized l e r.0 r.2.0
       r.2.1 in omega arith
 
-  assignment_sized : (l : ℕ) (s : ResolvedStatementTree) → Has (assignment_row at l s) (assignment_size s)
+  pub assignment_sized : (l : ℕ) (s : ResolvedStatementTree) → Has (assignment_row at l s) (assignment_size s)
   assignment_sized l (Expression first e) p q r = effect_sized l e p q r
   assignment_sized l _ p q r = absurd r
 

@@ -6,17 +6,19 @@ use Rattle.om_code.specs.declared.instruction.Instr.{Instr}
 use Rattle.om_code.specs.declared.instruction.Instr.TheVariants as i
 use Rattle.om_code.specs.declared.raw.Body.{Body}
 use Rattle.om_code.specs.declared.raw.GlobalVariable as raws
+use Rattle.om_code.specs.declared.raw.Names.{Names}
 use Rattle.om_code.specs.declared.raw.Raw.{Raw}
 use Rattle.om_code.specs.declared.raw.Slot.{Slot}
 use Rattle.om_resolved.specs.declared.resolved.Capture.{Capture}
 use Rattle.om_resolved.specs.declared.resolved.GlobalVariable.{GlobalVariable}
 use Rattle.om_resolved.specs.Uses.{is_main_function}
 use Rattle.om_resolved.specs.ResolvedTree.{ResolvedFunctionTree, ResolvedTree}
+use Rattle.om_rows.specs.declared.scope.VariableScope.{VariableScope}
 use Rattle.om_rows.specs.Bodies.{Numbers, BodyTree, FunctionBody, ParallelBody, TaskBody, BodySite, variables_of}
 use Rattle.om_rows.specs.Bodies.{bodies_of, behind_functions, first_numbers, called_body}
 use Rattle.om_rows.specs.Mentions.{extents_of, formats_of, locks_of, IsTextOf}
-use Rattle.om_rows.specs.Names.{names_of}
 use Rattle.om_rows.specs.Rows.{Site, Row, end, ins, part, ◌▸◌}
+use Rattle.om_rows.specs.Scopes.{body_scopes, names_with}
 use Rattle.om_rows.specs.Slots.{parameter_sight, slot_of, slot_with}
 use Rattle.om_rows.specs.Statements.{nowhere, statement, statements, reduction_starts, reductions, given_copies}
 
@@ -69,12 +71,18 @@ site_of tree raw b body = record {
   is_main = is_main_function b.function;
 }
 
+-- what names mean in a body: its scopes are those of its code, all of which end with it, by its slots
+pub record HasScopes (at : Site) (b : BodySite) (names : Names) : Type 0 where
+  pub scopes : List VariableScope
+  pub stand : body_scopes at b.function b.tree 0 (length at.code) (record { opened = []; closed = scopes })
+  pub named : names ≡ names_with (variables_of b) b.outer scopes
+
 -- a body of the program is the code of this one of the tree
 pub record IsBodyOf (tree : ResolvedTree) (raw : Raw) (b : BodySite) (body : Body) : Type 0 where
   pub code : body_row (site_of tree raw b body) b.numbers b.function b.tree 0 (length body.code)
   pub slots : body.slots ≡ slots_of b
   pub given : body.given ≡ given_of b
-  pub names : body.names ≡ names_of b
+  pub names : HasScopes (site_of tree raw b body) b body.names
 
 -- ---- the program
 

@@ -17,7 +17,9 @@ use Rattle.om_rows.specs.Code.{body_row, IsBodyOf, IsCodeOf}
 use Rattle.om_rows.specs.Coded.{ValueHasCode, EffectHasCode, StatementHasCode, TreeHasCode}
 use Rattle.om_rows.specs.Expressions.{value, effect}
 use Rattle.om_rows.specs.Mentions.{format_mention, formats_of, tree_mentioned}
+use Rattle.om_rows.specs.Names.{body_names}
 use Rattle.om_rows.specs.Rows.{Site}
+use Rattle.om_rows.specs.Scopes.{body_scopes}
 use Rattle.om_rows.specs.Sizes.{value_size, effect_size, statement_size}
 use Rattle.om_rows.specs.Statements.{Jumps, statement}
 
@@ -75,6 +77,13 @@ abbrev pub CodeFaults : Type 0
 CodeFaults =
     (tree : ResolvedTree) (raw : Raw) → IsWholeTree tree → TreeCopiesBehind tree → IsCodeOf tree raw →
     AreNumbered raw → (fault : CodeFault) → Breaks fault raw → MayBreak fault
+
+-- Where the code of a body stands, its scopes are those that the sizes of its parts tell.
+abbrev pub ScopesFound : Type 0
+ScopesFound =
+    (at : Site) (n : Numbers) (f : ResolvedFunctionTree) (tree : BodyTree) →
+    body_row at n f tree 0 (length at.code) →
+    body_scopes at f tree 0 (length at.code) (record { opened = []; closed = (body_names f tree).closed })
 
 -- The body of a function, by its number, is the code of that function.
 abbrev pub FunctionBodies : Type 0

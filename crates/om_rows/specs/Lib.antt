@@ -6,6 +6,7 @@ pub mod Bodies
 pub mod Mentions
 pub mod Expressions
 pub mod Statements
+pub mod Scopes
 pub mod Names
 pub mod Code
 pub mod Sizes

@@ -1,21 +1,12 @@
--- In which instructions of a body a variable of the function is in scope (C17 6.2.1p4, p7; OpenMP API 5.2,
--- section 5.1).
---
--- A declared variable is in scope from the first instruction of its declarator to the last of its block, or
--- of its `for`; what stands at a closing brace belongs to the block that it closes. A parameter is in scope in
--- the whole of its function. A copy is in scope from the first instruction of its start to the last of its
--- construct, and the variable that a loop's iterations have from LOOP. Private and firstprivate copies of a
--- `parallel` or a `task` are in scope in the whole of its body. A region is a body of its own, so nothing of it
--- is in scope round it.
-use Rattle.std.specs.Prelude.{ℕ, ◌+◌, List, [], ◌∷◌, ◌++◌, Option, None, Some, map, nat_eq, position, reverse, Bool}
+-- The scopes of a part of the tree by how many instructions the parts in it have: what whoever walks the tree
+-- without its code finds. That they are those of the code is `om_rows::laws::scopes_found`.
+use Rattle.std.specs.Prelude.{ℕ, ◌+◌, List, [], ◌∷◌, ◌++◌, map, Bool}
 use Rattle.std.specs.List.{flat_map}
 use Rattle.om_code.specs.declared.raw.Names.{Names}
-use Rattle.om_code.specs.declared.raw.Scope.{Scope}
 use Rattle.om_resolved.specs.declared.resolved.ConstructKind.{ConstructKind}
 use Rattle.om_resolved.specs.declared.resolved.ConstructKind.TheVariants as constructs
 use Rattle.om_resolved.specs.declared.resolved.CopyKind.{CopyKind}
 use Rattle.om_resolved.specs.declared.resolved.CopyKind.TheVariants as copies
-use Rattle.om_resolved.specs.declared.resolved.LocalVariable.{LocalVariable}
 use Rattle.om_resolved.specs.ResolvedTree.{ResolvedDeclaratorTree, ResolvedClauseTree, ClauseValue, Shared, Copied}
 use Rattle.om_resolved.specs.ResolvedTree.{ResolvedLoopTree, ResolvedStartTree, StartNothing, StartExpression}
 use Rattle.om_resolved.specs.ResolvedTree.{StartDeclaration, ResolvedStatementTree, Declaration, Block, Empty}
@@ -25,51 +16,13 @@ use Rattle.om_resolved.specs.ResolvedTree.{NoStatements, Statement, ResolvedPart
 use Rattle.om_resolved.specs.ResolvedTree.{ResolvedFunctionTree}
 use Rattle.om_rows.specs.declared.scope.VariableScope.{VariableScope}
 use Rattle.om_rows.specs.Bodies.{BodySite, BodyTree, FunctionBody, ParallelBody, TaskBody, variables_of}
+use Rattle.om_rows.specs.Scopes.{Found, nothing, opening, ◌then◌, ending, opened_with, opened_at, names_with}
 use Rattle.om_rows.specs.Sizes.{value_size, perhaps_size, each_size, declarator_size, start_size, test_size}
 use Rattle.om_rows.specs.Sizes.{clause_start_size, clause_combined_size, construct_size, end_size, filter_size}
 use Rattle.om_rows.specs.Sizes.{loop_size, parts_size, statement_size, statements_size}
 use Rattle.om_rows.specs.Statements.{clause_value}
 
--- what a part of the tree gives: variables whose scopes go on behind it, and those whose scopes end in it, the
--- innermost first
-pub record Found : Type 0 where
-  pub opened : List VariableScope
-  pub closed : List VariableScope
-
-abbrev pub nothing : Found
-nothing = record { opened = []; closed = [] }
-
-abbrev pub opening : List VariableScope → Found
-opening opened = record { opened = opened; closed = [] }
-
--- one part behind another
-infixr 4 ◌then◌
-abbrev pub ◌then◌ : Found → Found → Found
-first then second = record { opened = first.opened ++ second.opened; closed = first.closed ++ second.closed }
-
--- a scope that ends here
-abbrev pub closed_at : (to : ℕ) → VariableScope → VariableScope
-closed_at to v = record { name = v.name; variable = v.variable; length = v.length; from = v.from; to = to }
-
--- the end of a block, a loop or a construct: all that it opened is closed, the last one first
-abbrev pub ending : (to : ℕ) → Found → Found
-ending to found = record { opened = []; closed = found.closed ++ map (closed_at to) (reverse found.opened) }
-
 -- Below, p is the place of the first instruction of a part.
-
--- a scope that begins here; while it is open it holds nothing
-abbrev pub opened_with : Option ℕ → ℕ → LocalVariable → VariableScope
-opened_with length p variable = record {
-  name = variable.name;
-  variable = variable.at;
-  length = length;
-  from = p;
-  to = p;
-}
-
--- parameters and copies are no arrays
-abbrev pub opened_at : ℕ → LocalVariable → VariableScope
-opened_at p variable = opened_with None p variable
 
 abbrev pub declared : ℕ → List ResolvedDeclaratorTree → List VariableScope
 declared p [] = []
@@ -236,25 +189,5 @@ body_names f (TaskBody first clauses captures s) = task_names clauses s
 
 -- ---- by the slots of a body
 
--- the slot of a variable, where these have it
-abbrev pub slot_among : List ℕ → ℕ → Option ℕ
-slot_among variables variable = position (nat_eq variable) variables
-
-abbrev pub scope_in : List ℕ → VariableScope → Scope
-scope_in variables v = record {
-  name = v.name;
-  slot = slot_among variables v.variable;
-  length = v.length;
-  from = v.from;
-  to = v.to;
-}
-
--- what names mean in a body with these variables, in a body with those
-abbrev pub names_in : (variables outer : List ℕ) → ResolvedFunctionTree → BodyTree → Names
-names_in variables outer f tree = record {
-  scopes = map (scope_in variables) (body_names f tree).closed;
-  outer = map (slot_among outer) variables;
-}
-
 abbrev pub names_of : BodySite → Names
-names_of b = names_in (variables_of b) b.outer b.function b.tree
+names_of b = names_with (variables_of b) b.outer (body_names b.function b.tree).closed

@@ -1,6 +1,6 @@
 //! Laws of the code of a tree, whoever made it.
 
-ghost use Rattle.om_rows.specs.Laws.{BodyIsLevel, CodeFaults, CodeIsLevel, CodeIsValid, EffectRowsHaveCode, EffectSizes, FormatsAreNumbered, FunctionBodies, OneCode, RowsHaveCode, StatementRowsHaveCode, StatementSizes, ValueRowsHaveCode, ValueSizes, WholeHasCode};
+ghost use Rattle.om_rows.specs.Laws.{BodyIsLevel, CodeFaults, CodeIsLevel, CodeIsValid, EffectRowsHaveCode, EffectSizes, FormatsAreNumbered, FunctionBodies, OneCode, RowsHaveCode, ScopesFound, StatementRowsHaveCode, StatementSizes, ValueRowsHaveCode, ValueSizes, WholeHasCode};
 
 /// A tree has one code.
 pub fn one_code()
@@ -55,4 +55,10 @@ pub fn sized()
     ensures value { ValueSizes }
     ensures effect { EffectSizes }
     ensures statement { StatementSizes }
+{}
+
+/// Where the code of a body stands, its scopes are those that the sizes of its parts tell: so whoever walks
+/// the tree of a body without its code finds them.
+pub fn scopes_found()
+    ensures { ScopesFound }
 {}

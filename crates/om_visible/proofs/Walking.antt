@@ -4,7 +4,7 @@ use Rattle.std.proofs.Common.{refl, sym, ◌∙◌, ap, subst, arith, length-app
 use Rattle.std.specs.Prelude.{reverse}
 use Rattle.std.proofs.lemmas.List.{append_assoc, append-nil, drop_all, drop-append-le, reverse-append, take-append-le}
 use Rattle.std.proofs.Math.Seq.{drop-append_seam, drop-cons, take-append_seam, take-length}
-use Rattle.om_rows.specs.Names.{Found, nothing, ending, ◌then◌, closed_at}
+use Rattle.om_rows.specs.Scopes.{Found, nothing, ending, ◌then◌, closed_at}
 use Rattle.om_visible.specs.declared.walk.Walk.{Walk}
 use Rattle.om_visible.specs.Walks.{Closes, ClosesLast, Walked}
 

@@ -2,7 +2,7 @@
 use Rattle.std.specs.Prelude.{◌≡◌, ℕ, ◌+◌, List, [], ◌∷◌, ◌++◌, drop, length, map, reverse, take}
 use Rattle.om_visible.specs.declared.walk.Walk.{Walk}
 use Rattle.om_rows.specs.declared.scope.VariableScope.{VariableScope}
-use Rattle.om_rows.specs.Names.{Found, closed_at}
+use Rattle.om_rows.specs.Scopes.{Found, closed_at}
 
 -- it passes so many instructions, and adds what it finds
 pub record Walked (old new : Walk) (size : ℕ) (found : Found) : Type 0 where

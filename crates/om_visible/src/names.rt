@@ -2,7 +2,8 @@
 
 ghost use Rattle.std.specs.Prelude.{◌≡◌, ◌≤◌, ◌<◌, ◌+◌, IfOk, IfSome, OnOk, length, map, nat_eq, position};
 ghost use Rattle.om_resolved.specs.ResolvedView.{view_resolved_clause, view_resolved_function, view_resolved_statement};
-ghost use Rattle.om_rows.specs.Names.{Found, function_names, opened_at, opening, parallel_names, parallel_size, scope_in, slot_among, task_names, task_size};
+ghost use Rattle.om_rows.specs.Names.{function_names, parallel_names, parallel_size, task_names, task_size};
+ghost use Rattle.om_rows.specs.Scopes.{Found, opened_at, opening, scope_in, slot_among};
 ghost use Rattle.om_rows.specs.Sizes.{statements_size};
 ghost use Rattle.om_visible.specs.Walks.{Walked};
 

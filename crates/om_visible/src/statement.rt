@@ -5,7 +5,8 @@ ghost use Rattle.om_resolved.specs.ResolvedTree as trees;
 ghost use Rattle.om_resolved.specs.ResolvedView.{view_resolved_clause, view_resolved_loop, view_resolved_part, view_resolved_statement, view_resolved_update};
 ghost use Rattle.om_rows.specs.Sizes.{alone_size, assignment_size, construct_size, end_size, loop_size, filter_size, parts_size, perhaps_size, statement_size, statements_size, update_size, value_size};
 ghost use Rattle.om_rows.specs.Statements.{clause_value, given_copies};
-ghost use Rattle.om_rows.specs.Names.{all_names, block_names, inner_names, kind_names, loop_names, names, nothing, part_names, sections_names, sections_size};
+ghost use Rattle.om_rows.specs.Names.{all_names, block_names, inner_names, kind_names, loop_names, names, part_names, sections_names, sections_size};
+ghost use Rattle.om_rows.specs.Scopes.{nothing};
 ghost use Rattle.om_visible.specs.Walks.{Walked};
 
 use crate::walk::{

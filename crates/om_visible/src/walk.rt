@@ -4,7 +4,8 @@ ghost use Rattle.std.specs.Prelude.{◌≡◌, ◌≤◌, ◌<◌, ◌+◌, ◌�
 ghost use Rattle.om_resolved.specs.ResolvedView.{view_resolved_clause, view_resolved_declarator, view_resolved_expression, view_resolved_start, view_resolved_statement};
 ghost use Rattle.om_rows.specs.Sizes.{clause_combined_size, clause_start_size, declarator_size, each_size, effect_size, perhaps_size, start_size, test_size, value_size};
 ghost use Rattle.om_rows.specs.Statements.{given_copies};
-ghost use Rattle.om_rows.specs.Names.{clause_copies, clause_region_copies, clause_region_start, closed_at, copied, declared, nothing, opened_at, opened_with, opening, region_copied, region_from, region_start, start_declared, task_clause, task_copied};
+ghost use Rattle.om_rows.specs.Names.{clause_copies, clause_region_copies, clause_region_start, copied, declared, region_copied, region_from, region_start, start_declared, task_clause, task_copied};
+ghost use Rattle.om_rows.specs.Scopes.{closed_at, nothing, opened_at, opened_with, opening};
 ghost use Rattle.om_visible.specs.Walks.{Closes, ClosesLast, Walked};
 
 use crate::size::{

@@ -1,5 +1,5 @@
 use Rattle.std.proofs.Common.{◌+◌, drop, map}
-use Rattle.om_rows.specs.Names.{opened_at, opening}
+use Rattle.om_rows.specs.Scopes.{opened_at, opening}
 use Rattle.om_visible.proofs.Walking.{left_item, nothing_left, walked_none, walked_stay}
 use Rattle.om_visible.proofs.names.add_parameters.Goals as goal
 

@@ -1,6 +1,6 @@
 use Rattle.std.proofs.Common.{drop, map}
 use Rattle.om_visible.specs.declared.walk.Walk.{Walk}
-use Rattle.om_rows.specs.Names.{opened_at, opening}
+use Rattle.om_rows.specs.Scopes.{opened_at, opening}
 use Rattle.om_visible.specs.Walks.{Walked}
 use Rattle.om_visible.proofs.names.add_parameters.Given as goal
 

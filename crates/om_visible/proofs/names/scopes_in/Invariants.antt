@@ -1,5 +1,5 @@
 use Rattle.std.proofs.Common.{◌≡◌, ◌++◌, map}
-use Rattle.om_rows.specs.Names.{scope_in}
+use Rattle.om_rows.specs.Scopes.{scope_in}
 use Rattle.om_visible.proofs.names.scopes_in.Given as goal
 
 -- with what is left of the list the scopes are all

@@ -1,4 +1,4 @@
-use Rattle.om_rows.specs.Names.{slot_among}
+use Rattle.om_rows.specs.Scopes.{slot_among}
 use Rattle.om_visible.proofs.Walking.{mapped_next}
 use Rattle.om_visible.proofs.names.slots_among.Goals as goal
 

@@ -8,8 +8,9 @@ use Rattle.om_resolved.specs.ResolvedTree as trees
 use Rattle.om_resolved.specs.ResolvedView.{view_resolved_clause, view_resolved_loop, view_resolved_part}
 use Rattle.om_resolved.specs.ResolvedView.{view_resolved_statement}
 use Rattle.om_rows.specs.Sizes.{clause_start_size, each_size, loop_size, statement_size, value_size}
-use Rattle.om_rows.specs.Names.{all_names, copied, inner_names, opened_at, opening, part_names, sections_size}
-use Rattle.om_rows.specs.Names.{◌then◌}
+use Rattle.om_rows.specs.Names.{all_names, copied, inner_names, part_names, sections_size}
+use Rattle.om_rows.specs.Scopes.{opened_at, opening}
+use Rattle.om_rows.specs.Scopes.{◌then◌}
 use Rattle.om_visible.proofs.Walking.{left_item, nothing_left, walked_end_at, walked_next, walked_none, walked_on}
 use Rattle.om_visible.proofs.Walking.{walked_past, walked_size, walked_stay}
 use Rattle.om_visible.proofs.statement.+statement.Goals as goal

@@ -1,6 +1,7 @@
 use Rattle.std.proofs.Common.{◌+◌, drop, map, ap}
 use Rattle.om_resolved.specs.ResolvedView.{view_resolved_clause}
-use Rattle.om_rows.specs.Names.{copied, opening}
+use Rattle.om_rows.specs.Names.{copied}
+use Rattle.om_rows.specs.Scopes.{opening}
 use Rattle.om_visible.proofs.Walking.{left_item, nothing_left, walked_next, walked_none}
 use Rattle.om_visible.proofs.walk.add_copies.Goals as goal
 

@@ -2,7 +2,8 @@ use Rattle.std.proofs.Common.{drop, map}
 use Rattle.om_resolved.specs.ResolvedView.{view_resolved_clause}
 use Rattle.om_rows.specs.Sizes.{clause_start_size, each_size}
 use Rattle.om_visible.specs.declared.walk.Walk.{Walk}
-use Rattle.om_rows.specs.Names.{copied, opening}
+use Rattle.om_rows.specs.Names.{copied}
+use Rattle.om_rows.specs.Scopes.{opening}
 use Rattle.om_visible.specs.Walks.{Walked}
 use Rattle.om_visible.proofs.walk.add_copies.Given as goal
 

@@ -2,7 +2,8 @@ use Rattle.std.proofs.Common.{drop, map}
 use Rattle.om_resolved.specs.ResolvedView.{view_resolved_declarator}
 use Rattle.om_rows.specs.Sizes.{declarator_size, each_size}
 use Rattle.om_visible.specs.declared.walk.Walk.{Walk}
-use Rattle.om_rows.specs.Names.{declared, opening}
+use Rattle.om_rows.specs.Names.{declared}
+use Rattle.om_rows.specs.Scopes.{opening}
 use Rattle.om_visible.specs.Walks.{Walked}
 use Rattle.om_visible.proofs.walk.add_declarators.Given as goal
 

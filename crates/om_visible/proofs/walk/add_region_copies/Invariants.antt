@@ -2,7 +2,8 @@ use Rattle.std.proofs.Common.{drop, map}
 use Rattle.om_resolved.specs.ResolvedView.{view_resolved_clause}
 use Rattle.om_rows.specs.Sizes.{each_size}
 use Rattle.om_visible.specs.declared.walk.Walk.{Walk}
-use Rattle.om_rows.specs.Names.{clause_region_start, opening, region_copied}
+use Rattle.om_rows.specs.Names.{clause_region_start, region_copied}
+use Rattle.om_rows.specs.Scopes.{opening}
 use Rattle.om_visible.specs.Walks.{Walked}
 use Rattle.om_visible.proofs.walk.add_region_copies.Given as goal
 

@@ -1,7 +1,8 @@
 use Rattle.std.proofs.Common.{drop, map}
 use Rattle.om_resolved.specs.ResolvedView.{view_resolved_clause}
 use Rattle.om_visible.specs.declared.walk.Walk.{Walk}
-use Rattle.om_rows.specs.Names.{opening, task_copied}
+use Rattle.om_rows.specs.Names.{task_copied}
+use Rattle.om_rows.specs.Scopes.{opening}
 use Rattle.om_visible.specs.Walks.{Walked}
 use Rattle.om_visible.proofs.walk.add_task_copies.Given as goal
 

@@ -1,7 +1,7 @@
 use Rattle.std.proofs.Common.{◌+◌, drop, map, ap}
 use Rattle.om_resolved.specs.ResolvedView.{view_resolved_clause}
 use Rattle.om_rows.specs.Sizes.{clause_combined_size, each_size}
-use Rattle.om_rows.specs.Names.{nothing}
+use Rattle.om_rows.specs.Scopes.{nothing}
 use Rattle.om_visible.proofs.Walking.{left_item, nothing_left, walked_none, walked_past, walked_size}
 use Rattle.om_visible.proofs.walk.skip_combined.Goals as goal
 
