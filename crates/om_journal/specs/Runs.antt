@@ -1,11 +1,11 @@
 -- What a machine of one thread replies to a command, and what the command leaves.
-use Rattle.std.specs.Prelude.{◌≡◌, ◌<◌, ℕ, Bool, true, false, List}
+use Rattle.std.specs.Prelude.{◌≡◌, ◌<◌, ℕ, Bool, true, false}
 use Rattle.om_code.specs.declared.raw.Raw.{Raw}
-use Rattle.om_cells.specs.Ready.{AreReady}
 use Rattle.om_history.specs.declared.reply.StepReply.TheVariants as step_reply
 use Rattle.om_history.specs.Runs.{History, no_history, reply_to_step, after_step, reply_to_undo, after_undo}
 use Rattle.om_history.specs.Cones.{reply_to_roll, after_roll}
 use Rattle.om_undo.specs.Machines.{MachineView, rules_for, state_in}
+use Rattle.om_undo.specs.ReadyNames.{ready_names}
 use Rattle.om_journal.specs.declared.command.Query.{Query}
 use Rattle.om_journal.specs.declared.command.Query.TheVariants as query
 use Rattle.om_journal.specs.declared.command.Command.{Command}
@@ -24,19 +24,22 @@ IsInRange workers (command.Undo worker) = worker < workers
 IsInRange workers (command.Roll serial) = Unit {0}
 IsInRange workers (command.Look question) = Unit {0}
 
--- this is answered to a question
-abbrev pub IsAnswer : MachineView → Query → Reply → Type 0
-IsAnswer m (query.Value object) x = x ≡ reply.Value (state_in m object)
-IsAnswer m query.Ready x = (names : List (List ℕ)) × (x ≡ reply.Ready names) × AreReady (state_in m) names
-IsAnswer m query.Entries x = x ≡ reply.Entries m.history.entries
+-- what is answered to a question
+abbrev pub answer_to : MachineView → Query → Reply
+answer_to m (query.Value object) = reply.Value (state_in m object)
+answer_to m query.Ready = reply.Ready (ready_names m)
+answer_to m query.Entries = reply.Entries m.history.entries
 
--- this is replied to a command: by the definition of a run, and to a question its answer
+-- what is replied to a command: by the definition of a run, and to a question its answer
+abbrev pub reply_to : MachineView → Command → Reply
+reply_to m (command.Step worker choice) =
+    reply.Step (reply_to_step (rules_for m) m.history (record { worker = worker; choice = choice }))
+reply_to m (command.Undo worker) = reply.Undo (reply_to_undo (rules_for m) m.history worker)
+reply_to m (command.Roll serial) = reply.Roll (reply_to_roll (rules_for m) m.history serial)
+reply_to m (command.Look question) = answer_to m question
+
 abbrev pub IsReply : MachineView → Command → Reply → Type 0
-IsReply m (command.Step worker choice) x =
-    x ≡ reply.Step (reply_to_step (rules_for m) m.history (record { worker = worker; choice = choice }))
-IsReply m (command.Undo worker) x = x ≡ reply.Undo (reply_to_undo (rules_for m) m.history worker)
-IsReply m (command.Roll serial) x = x ≡ reply.Roll (reply_to_roll (rules_for m) m.history serial)
-IsReply m (command.Look question) x = IsAnswer m question x
+IsReply m c x = x ≡ reply_to m c
 
 abbrev pub history_after : MachineView → Command → History
 history_after m (command.Step worker choice) =

@@ -2,12 +2,13 @@
 
 ghost use Rattle.std.specs.Prelude.{◌≡◌, ◌<◌, ◌^◌, IfOk, OnOk, OnErr, true};
 ghost use Rattle.om_journal.specs.Kept.{is_conflict};
-ghost use Rattle.om_journal.specs.Runs.{IsInRange, IsAnswer, IsReply, after};
+ghost use Rattle.om_journal.specs.Runs.{IsInRange, IsReply, after, answer_to};
 
 use crate::command::{Command, Query};
 use crate::kept::KeptUndoReply;
 use crate::reply::Reply;
 use om_seq::Seq;
+use om_undo::laws::{one_ready_list, ready_names_are_ready};
 use om_undo::{Machine, RollReply, StepReply, UndoReply};
 use std::alloc::{AllocError, Global};
 
@@ -114,7 +115,7 @@ fn roll(alloc: Global, machine: &mut Machine, serial: u64) -> Result<Replies, Al
 
 /// Answers a question three times.
 fn look(alloc: Global, machine: &Machine, query: &Query) -> Result<Replies, AllocError>
-    ensures reply { IfOk result (λ x. IsAnswer machine.now query.now x.answer) }
+    ensures reply { IfOk result (λ x. x.answer ≡ answer_to machine.now query.now) }
     ensures same { IfOk result (λ x. (x.receipt ≡ x.answer) × (x.kept ≡ x.answer)) }
 {
     let answer = looked(alloc, machine, query)?;
@@ -147,8 +148,10 @@ fn two_copies(alloc: Global, reply: &Reply) -> Result<(Reply, Reply), AllocError
 
 /// Answers a question.
 fn looked(alloc: Global, machine: &Machine, query: &Query) -> Result<Reply, AllocError>
-    ensures { IfOk result (λ x. IsAnswer machine.now query.now x) }
+    ensures { IfOk result (λ x. x ≡ answer_to machine.now query.now) }
 {
+    one_ready_list();
+    ready_names_are_ready();
     match query {
         Query::Value(object) => Ok(Reply::Value(machine.look(alloc, object)?)),
         Query::Ready => Ok(Reply::Ready(Seq::of(machine.ready(alloc)?))),

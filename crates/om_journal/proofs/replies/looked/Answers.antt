@@ -4,5 +4,5 @@ use Rattle.om_journal.proofs.replies.looked.Goals as goal
 
 pub returns-in_ok-ready-in-Ready : goal.returns-in_ok-ready-in-Ready
 returns-in_ok-ready-in-Ready c =
-    ready_answer c.args.machine.now c.args.query.now c.of.result c.in_ok-ready-in-Ready.field-0.items (search rules)
-    (search rules) (search rules)
+    ready_answer c.one_ready_list.ensures c.ready_names_are_ready.ensures c.args.machine.now c.args.query.now
+    c.of.result c.in_ok-ready-in-Ready.field-0.items (search rules) (search rules) (search rules)
